@@ -1,0 +1,5 @@
+pub mod Global
+pub mod Ingress
+pub mod Keys
+pub mod Ordered
+pub mod TestSignatures
