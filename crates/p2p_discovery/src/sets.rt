@@ -1,19 +1,23 @@
-//! A sorted list of keys without repeats.
-ghost use Rattle.std.specs.Prelude.{◌≡◌, ℕ, ◌<◌, ◌↔◌, length, IfOk, IsOk, IfSome, IfNone, slice_index_or, ◌≢◌};
+//! Sorted sets of peers.
+
+ghost use Rattle.std.specs.Prelude.{◌≡◌, ℕ, ◌<◌, ◌↔◌, [], length, IfOk, IsOk, IsTrue, IfSome, IfNone, slice_get, Some};
 ghost use Rattle.std.specs.List.{Contains, IsDistinct};
 ghost use Rattle.std.specs.List.Sorted.{IsStrictlySortedBy, IsPermutation};
 ghost use Rattle.std.specs.Ordering.{eq_by_cmp};
 ghost use Rattle.std.specs.Iterator.{IsFinite};
 ghost use Rattle.std.specs.Iterator.Runs.{WholeRun};
+ghost use Rattle.std.specs.Slice.Iter.{iter_rest};
 ghost use Rattle.p2p_discovery.specs.Ordered.{IsPlaceOf};
 
 use crate::codec::PublicKey;
 use std::alloc::{AllocError, Global};
-use std::convert::TryFrom;
 use std::marker::Model;
+use std::ops::Index;
+use std::slice;
+use thiserror::Error;
 
-/// Keys in order, none of them twice.
-#[derive(Drop)]
+/// Peers in ascending order, each once. A contract sees the list of them.
+#[derive(Debug, Drop)]
 pub struct OrderedSet<P: PublicKey> {
     items: Vec<P>,
 }
@@ -29,14 +33,20 @@ impl<P: PublicKey> Model for OrderedSet<P> {
     ghost invariant = { λ set. IsStrictlySortedBy P.cmp set.items.items };
 }
 
-/// Why a list of keys is no set.
-#[derive(Clone, Copy, Debug, PartialEq, Eq)]
+/// Why a list of peers is no set.
+#[derive(Clone, Copy, Debug, PartialEq, Eq, Error)]
 pub enum SetError {
+    /// A peer stands in the list more than once.
+    #[error("duplicate")]
     Duplicate,
 }
 
 impl<P: PublicKey> OrderedSet<P> {
-    /// The set of the items.
+    /// The set of the items, in whatever order and however often each of them comes.
+    ///
+    /// # Errors
+    ///
+    /// `AllocError` where memory is refused.
     pub fn from_iter_dedup<I: Iterator<Item = P> + Drop>(
         alloc: Global,
         items: I,
@@ -52,34 +62,11 @@ impl<P: PublicKey> OrderedSet<P> {
         Ok(OrderedSet { items })
     }
 
-    /// The number of its keys.
-    pub fn len(&self) -> usize
-        ensures { result ≡ length self.now }
-    {
-        self.items.len()
-    }
-
-    /// Its keys in order.
-    pub fn as_slice(&self) -> &[P]
-        ensures all { result.now ≡ self.now }
-        ensures sorted { IsStrictlySortedBy P.cmp self.now }
-    {
-        &self.items
-    }
-
-    /// The place of the key.
-    pub fn position(&self, key: &P) -> Option<usize>
-        ensures found { IfSome result (IsPlaceOf key.now self.now) }
-        ensures sorted { IsStrictlySortedBy P.cmp self.now }
-        ensures absent { IfNone result ((k : ℕ) → ¬ (IsPlaceOf key.now self.now k)) }
-    {
-        match self.items.binary_search(key) {
-            Ok(place) => Some(place),
-            Err(_) => None,
-        }
-    }
-
-    /// The set of the items, sorted in place, where none comes twice.
+    /// The set of the items, sorted in place: it takes no memory.
+    ///
+    /// # Errors
+    ///
+    /// `SetError::Duplicate` exactly where an item comes more than once.
     pub fn try_from(mut items: Vec<P>) -> Result<Self, SetError>
         ensures ok { IsOk result ↔ IsDistinct (eq_by_cmp P.cmp) items.items }
         ensures same { IfOk result (IsPermutation items.items) }
@@ -92,5 +79,84 @@ impl<P: PublicKey> OrderedSet<P> {
             }
         }
         Ok(OrderedSet { items })
+    }
+
+    /// The number of peers.
+    pub fn len(&self) -> usize
+        ensures { result ≡ length self.now }
+    {
+        self.items.len()
+    }
+
+    /// Whether there is no peer.
+    pub fn is_empty(&self) -> bool
+        ensures { IsTrue result ↔ (self.now ≡ []) }
+    {
+        self.items.is_empty()
+    }
+
+    /// The place of the peer, counted from 0, or `None` where it is not in the set. Takes time
+    /// logarithmic in the number of peers.
+    pub fn position(&self, key: &P) -> Option<usize>
+        ensures found { IfSome result (IsPlaceOf key.now self.now) }
+        ensures sorted { IsStrictlySortedBy P.cmp self.now }
+        ensures absent { IfNone result ((k : ℕ) → ¬ (IsPlaceOf key.now self.now k)) }
+    {
+        match self.items.binary_search(key) {
+            Ok(place) => Some(place),
+            Err(_) => None,
+        }
+    }
+
+    /// The peers in ascending order.
+    pub fn iter(&self) -> slice::Iter<'_, P>
+        ensures { iter_rest result ≡ self.now }
+    {
+        self.items.iter()
+    }
+
+    /// The peers in ascending order, as a slice.
+    pub fn as_slice(&self) -> &[P]
+        ensures all { result.now ≡ self.now }
+        ensures sorted { IsStrictlySortedBy P.cmp self.now }
+    {
+        &self.items
+    }
+
+    /// An equal set.
+    ///
+    /// # Errors
+    ///
+    /// `AllocError` where memory is refused.
+    pub fn clone(&self) -> Result<Self, AllocError>
+        ensures { IfOk result (λ copy. copy ≡ self.now) }
+    {
+        let mut items = Vec::new(*self.items.allocator());
+        items.extend_from_slice(&self.items)?;
+        Ok(OrderedSet { items })
+    }
+}
+
+impl<P: PublicKey> Index<usize> for OrderedSet<P> {
+    type Output = P;
+
+    ghost can_index = { λ set place. place < length set };
+
+    ghost index_gives = { λ set place key. slice_get set place ≡ Some key };
+
+    fn index(&self, place: usize) -> &P {
+        &self.items[place]
+    }
+}
+
+impl<'a, P: PublicKey> IntoIterator for &'a OrderedSet<P> {
+    type Item = &'a P;
+
+    type IntoIter = slice::Iter<'a, P>;
+
+    ghost into_iter_gives = { λ set it. iter_rest it ≡ set.now };
+
+    fn into_iter(self) -> slice::Iter<'a, P> {
+        self.iter()
     }
 }
