@@ -1,0 +1,259 @@
+//! What is known of one peer.
+
+ghost use Rattle.std.specs.Prelude.{◌≡◌, ◌+◌, ◌-◌, ◌<◌, ◌^◌, false, true};
+ghost use Rattle.std.specs.Duration.{as_nanos};
+ghost use Rattle.p2p_directory.specs.Records.{new_record, cap, jitter, is_inert, reserve_answer, after_reserve, is_eligible, is_deletable, needs_teardown, is_outbound_target, after_failure};
+
+use p2p_discovery::codec::PublicKey;
+use p2p_discovery::discovery::Info;
+use p2p_discovery::types::Ingress;
+use std::marker::Model;
+use std::time::Duration;
+
+/// What is known of a peer's address.
+#[derive(Drop)]
+pub enum Address<C: PublicKey> {
+    /// Nothing is known yet.
+    Unknown,
+    /// The peer is the local node.
+    Myself(Info<C>),
+    /// The address was given when the directory was made.
+    Bootstrapper(Ingress),
+    /// The peer's own info, and how often a dial at its ingress has failed since.
+    Discovered(Info<C>, usize),
+}
+
+/// Whether a peer is connected.
+#[derive(Clone, Copy, Debug, PartialEq, Eq)]
+pub enum Status {
+    /// Neither reserved nor connected.
+    Inert,
+    /// Reserved by whoever is about to connect.
+    Reserved,
+    /// Connected.
+    Active,
+}
+
+/// The answer to a request for a reservation.
+#[derive(Clone, Copy, Debug, PartialEq, Eq)]
+pub enum ReserveResult {
+    /// The peer is reserved now.
+    Reserved,
+    /// The last reservation was too short a time ago.
+    RateLimited,
+    /// The peer is the local node, or is reserved or connected already.
+    Unavailable,
+}
+
+/// What is known of one peer: its address, its connection, in how many retained sets it is, and
+/// when it may be reserved and dialled again.
+#[derive(Drop)]
+pub struct Record<C: PublicKey> {
+    address: Address<C>,
+    status: Status,
+    primary_sets: usize,
+    secondary_sets: usize,
+    persistent: bool,
+    next_reservable_at: Duration,
+    next_dial_at: Duration,
+}
+
+impl<C: PublicKey> Model for Record<C> {
+    ghost use Rattle.std.specs.Duration.{as_nanos};
+    ghost use Rattle.p2p_directory.specs.Records.{RecordView};
+
+    ghost Value = { RecordView C C.Signature };
+
+    ghost view = { λ r. record {
+        address = r.address;
+        status = r.status;
+        primary_sets = r.primary_sets;
+        secondary_sets = r.secondary_sets;
+        persistent = r.persistent;
+        next_reservable_at = as_nanos r.next_reservable_at;
+        next_dial_at = as_nanos r.next_dial_at;
+    } };
+}
+
+impl<C: PublicKey> Record<C> {
+    /// The record of a peer of which nothing is known: in no set, not persistent, inert, and free
+    /// to be reserved and dialled from the epoch on.
+    pub fn unknown() -> Self
+        ensures { result ≡ new_record Address.Unknown false }
+    {
+        Record::new(Address::Unknown, false)
+    }
+
+    /// The persistent record of the local node.
+    pub fn myself(info: Info<C>) -> Self
+        ensures { result ≡ new_record (Address.Myself info) true }
+    {
+        Record::new(Address::Myself(info), true)
+    }
+
+    /// The persistent record of a peer whose address is known from the start.
+    pub fn bootstrapper(ingress: Ingress) -> Self
+        ensures { result ≡ new_record (Address.Bootstrapper ingress) true }
+    {
+        Record::new(Address::Bootstrapper(ingress), true)
+    }
+
+    fn new(address: Address<C>, persistent: bool) -> Self
+        ensures { result ≡ new_record address persistent }
+    {
+        Record {
+            address,
+            status: Status::Inert,
+            primary_sets: 0,
+            secondary_sets: 0,
+            persistent,
+            next_reservable_at: Duration::ZERO,
+            next_dial_at: Duration::ZERO,
+        }
+    }
+
+    /// Counts one more primary set. Condition: the count is below the greatest `usize`.
+    pub fn increment_primary(&mut self)
+        requires { self.old.primary_sets < 2 ^ 64 - 1 }
+        ensures { self.new ≡ record self.old { primary_sets = self.old.primary_sets + 1 } }
+    {
+        self.primary_sets += 1;
+    }
+
+    /// Counts one primary set less. Condition: the count is above 0.
+    pub fn decrement_primary(&mut self)
+        requires { 0 < self.old.primary_sets }
+        ensures { self.new ≡ record self.old { primary_sets = self.old.primary_sets - 1 } }
+    {
+        self.primary_sets -= 1;
+    }
+
+    /// Counts one more secondary set. Condition: the count is below the greatest `usize`.
+    pub fn increment_secondary(&mut self)
+        requires { self.old.secondary_sets < 2 ^ 64 - 1 }
+        ensures { self.new ≡ record self.old { secondary_sets = self.old.secondary_sets + 1 } }
+    {
+        self.secondary_sets += 1;
+    }
+
+    /// Counts one secondary set less. Condition: the count is above 0.
+    pub fn decrement_secondary(&mut self)
+        requires { 0 < self.old.secondary_sets }
+        ensures { self.new ≡ record self.old { secondary_sets = self.old.secondary_sets - 1 } }
+    {
+        self.secondary_sets -= 1;
+    }
+
+    /// Asks for a reservation at the moment `now`.
+    ///
+    /// `Unavailable` for the local node or a peer that is not inert; else `RateLimited` where `now`
+    /// is before the reservable moment; else `Reserved`. Then the peer is reserved, it is reservable
+    /// again at `now + interval`, and may be dialled from that moment and the jitter on: the draw, at
+    /// most twice half the interval, the halving rounded down to nanoseconds. Both sums are capped at
+    /// the greatest `Duration`. Nothing changes unless the answer is `Reserved`.
+    pub fn reserve(&mut self, now: Duration, draw: Duration, interval: Duration) -> ReserveResult
+        ensures answer { result ≡ reserve_answer (as_nanos now) self.old }
+        ensures after { self.new ≡ after_reserve result (as_nanos now) (as_nanos draw) (as_nanos interval) self.old }
+    {
+        if let Address::Myself(_) = &self.address {
+            return ReserveResult::Unavailable;
+        }
+        if self.status != Status::Inert {
+            return ReserveResult::Unavailable;
+        }
+        if now.as_nanos() < self.next_reservable_at.as_nanos() {
+            return ReserveResult::RateLimited;
+        }
+        self.status = Status::Reserved;
+        self.next_reservable_at = now.saturating_add(interval);
+        self.next_dial_at = jittered(self.next_reservable_at, draw, interval);
+        ReserveResult::Reserved
+    }
+
+    /// Ends the reservation or the connection: the peer is inert. Condition: it was not.
+    pub fn release(&mut self)
+        requires { is_inert self.old.status ≡ false }
+        ensures { self.new ≡ record self.old { status = Status.Inert } }
+    {
+        self.status = Status::Inert;
+    }
+
+    /// Counts one more failure, capped at the greatest `usize`, where the peer's own info is known
+    /// with this ingress. Nothing else changes.
+    pub fn dial_failure(&mut self, ingress: &Ingress)
+        ensures { self.new ≡ record self.old { address = after_failure ingress.now self.old.address } }
+    {
+        if let Address::Discovered(info, fails) = &mut self.address {
+            if info.ingress == *ingress {
+                *fails = fails.saturating_add(1);
+            }
+        }
+    }
+
+    /// Whether the peer may be connected: it is not the local node, and in a set or persistent.
+    pub fn eligible(&self) -> bool
+        ensures { result ≡ is_eligible self.now }
+    {
+        match &self.address {
+            Address::Myself(_) => false,
+            _ => self.primary_sets > 0 || self.secondary_sets > 0 || self.persistent,
+        }
+    }
+
+    /// Whether the connection has to end: the peer is not inert and not eligible.
+    pub fn needs_teardown(&self) -> bool
+        ensures { result ≡ needs_teardown self.now }
+    {
+        self.status != Status::Inert && !self.eligible()
+    }
+
+    /// Whether the record may go: the peer is in no set, not persistent and inert.
+    pub fn deletable(&self) -> bool
+        ensures { result ≡ is_deletable self.now }
+    {
+        self.primary_sets == 0
+            && self.secondary_sets == 0
+            && !self.persistent
+            && self.status == Status::Inert
+    }
+
+    /// Whether the peer is to be dialled: it is in a primary set or persistent.
+    pub fn is_outbound_target(&self) -> bool
+        ensures { result ≡ is_outbound_target self.now }
+    {
+        self.primary_sets > 0 || self.persistent
+    }
+
+    /// In how many primary sets the peer is.
+    pub fn primary_sets(&self) -> usize
+        ensures { result ≡ self.now.primary_sets }
+    {
+        self.primary_sets
+    }
+
+    /// In how many secondary sets the peer is.
+    pub fn secondary_sets(&self) -> usize
+        ensures { result ≡ self.now.secondary_sets }
+    {
+        self.secondary_sets
+    }
+
+    /// Whether the peer is connected.
+    pub fn status(&self) -> Status
+        ensures { result ≡ self.now.status }
+    {
+        self.status
+    }
+}
+
+// The moment with the jitter added.
+fn jittered(moment: Duration, draw: Duration, cooldown: Duration) -> Duration
+    ensures { as_nanos result ≡ cap (as_nanos moment + jitter (as_nanos draw) (as_nanos cooldown)) }
+{
+    let width = (cooldown / 2).saturating_mul(2);
+    if draw.as_nanos() < width.as_nanos() {
+        moment.saturating_add(draw)
+    } else {
+        moment.saturating_add(width)
+    }
+}
