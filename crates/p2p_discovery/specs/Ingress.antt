@@ -19,7 +19,7 @@ abbrev pub same_socket : SocketAddr → SocketAddr → Bool
 same_socket a b = same_ip a.ip b.ip && (a.port == b.port)
 
 -- the same socket, or the same name and port
-unfoldable pub same_ingress : Ingress → Ingress → Bool
+abbrev pub same_ingress : Ingress → Ingress → Bool
 same_ingress (Socket a) (Socket b) = same_socket a b
 same_ingress (Dns host port) (Dns host2 port2) = pointwise nat_eq host host2 && (port == port2)
 same_ingress _ _ = false

@@ -1,9 +1,8 @@
 -- The laws of the keys for tests: numbers that compare alike are one number.
-use Rattle.std.specs.Prelude.{ℕ, ◌≡◌, true, ◌==◌, refl}
-use Rattle.std.specs.declared.cmp.Ordering.{Ordering}
+use Rattle.std.specs.Prelude.{ℕ, ◌≡◌, true, ◌==◌}
 use Rattle.std.specs.declared.cmp.Ordering.TheVariants.{Equal}
 use Rattle.std.specs.Ordering.{nat_cmp}
-use Rattle.std.proofs.Common.{ap, eqb}
+use Rattle.std.proofs.Common.{ap}
 use Rattle.std.proofs.lemmas.Map.Lookups.{exact_unsigned}
 use borrow.Author.Tests.{eqb-true}
 use Rattle.p2p_discovery.specs.declared.codec.test_key.TestKey.{TestKey}

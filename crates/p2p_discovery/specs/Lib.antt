@@ -2,4 +2,5 @@ pub mod Global
 pub mod Ingress
 pub mod Keys
 pub mod Ordered
+pub mod SameLaws
 pub mod TestSignatures

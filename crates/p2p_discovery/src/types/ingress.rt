@@ -1,13 +1,15 @@
 //! Where a peer is reached.
 
-ghost use Rattle.std.specs.Prelude.{◌≡◌, IfOk};
+ghost use Rattle.std.specs.Prelude.{◌≡◌, ◌↔◌, IfOk, IsTrue};
+ghost use Rattle.p2p_discovery.specs.Ingress.{same_ingress};
+ghost use Rattle.p2p_discovery.specs.SameLaws.{ingress_equivalence, ingress_laws};
 
 use crate::types::{Hostname, SocketAddr};
 use std::alloc::AllocError;
 
 /// What is dialled to reach a peer: a socket address, or a name to be resolved and a port.
 /// Sockets come before names.
-#[derive(Debug, PartialEq, Eq, PartialOrd, Ord, Drop)]
+#[derive(Debug, PartialOrd, Ord, Drop)]
 pub enum Ingress {
     /// A socket address.
     Socket(SocketAddr),
@@ -33,4 +35,31 @@ impl Ingress {
             }),
         }
     }
+}
+
+impl PartialEq for Ingress {
+    ghost eq = { same_ingress };
+
+    ghost laws = { ingress_laws };
+
+    fn eq(&self, other: &Ingress) -> bool
+        ensures same { result ≡ same_ingress self.now other.now }
+        ensures exact { IsTrue result ↔ self.now ≡ other.now }
+    {
+        match (self, other) {
+            (Ingress::Socket(socket), Ingress::Socket(other_socket)) => socket == other_socket,
+            (
+                Ingress::Dns { host, port },
+                Ingress::Dns {
+                    host: other_host,
+                    port: other_port,
+                },
+            ) => host == other_host && port == other_port,
+            _ => false,
+        }
+    }
+}
+
+impl Eq for Ingress {
+    ghost laws = { ingress_equivalence };
 }
