@@ -1,4 +1,5 @@
 //! The directory of peers: who may be dialled or listened for, and what is known of each.
 #![tactic(auto)]
 
+mod kept;
 pub mod record;

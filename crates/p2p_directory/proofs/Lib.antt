@@ -1,0 +1,4 @@
+pub mod MadeRoom
+pub mod Naming
+pub mod Tracked
+pub mod Sound

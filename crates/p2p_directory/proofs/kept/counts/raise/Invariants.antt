@@ -1,0 +1,10 @@
+use Rattle.std.proofs.Common.{◌≡◌, take, cond}
+use Rattle.std.specs.BTreeMap.{get}
+use Rattle.std.specs.Option.{option_map}
+use Rattle.p2p_directory.specs.View.{raised}
+use Rattle.p2p_directory.specs.View.{names}
+use Rattle.p2p_directory.proofs.kept.counts.raise.Given as goal
+
+-- the keys so far are counted
+abbrev pub invariant-loop-key : goal.invariant-loop-key
+invariant-loop-key g l = (q : g.row.C.Denot) → get g.C.Ord.cmp l.records q ≡ cond (names g.C.Ord.cmp (take l.key-index l.keys) q) (option_map (raised l.role) (get g.C.Ord.cmp l.initial.records q)) (get g.C.Ord.cmp l.initial.records q)
