@@ -1,0 +1,2 @@
+//! The directory of peers: whom to know, whom to reach, and whom to keep away.
+#![tactic(auto)]
