@@ -52,9 +52,12 @@ module _ {C S : Type 0} (s : Setup C S) where
   abbrev pub status_in : World C S → C → Option Status
   status_in w p = if is_present_in w p then Some (w.peer p).status else None
 
+  abbrev pub is_tracked : World C S → C → Bool
+  is_tracked w p = is_present_in w p && not (is_own s p)
+
   -- `tracked`: the number of present keys other than the own
   abbrev pub IsNumberTracked : World C S → ℕ → Type 0
-  IsNumberTracked w n = (ps : List C) × Lists (λ p. is_present_in w p && not (is_own s p)) ps × (n ≡ length ps)
+  IsNumberTracked w n = (ps : List C) × Lists (is_tracked w) ps × (n ≡ length ps)
 
   -- `connect` is done, else it finds nothing reserved
   abbrev pub may_connect : World C S → C → Bool
@@ -81,11 +84,16 @@ module _ {C S : Type 0} (s : Setup C S) where
   abbrev pub latest_index : World C S → Option ℕ
   latest_index w = option_map (λ x. x.index) (latest_set w)
 
-  -- `all`: a key with a primary membership is primary only
+  abbrev pub is_primary_in : World C S → C → Bool
+  is_primary_in w p = nat_lt 0 (primary_count s p w.sets)
+
+  -- a key with a primary membership is primary only
+  abbrev pub is_secondary_in : World C S → C → Bool
+  is_secondary_in w p = nat_lt 0 (secondary_count s p w.sets) && not (is_primary_in w p)
+
+  -- `all`
   abbrev pub AreAll : World C S → List C → List C → Type 0
-  AreAll w primary secondary =
-      Lists (λ p. nat_lt 0 (primary_count s p w.sets)) primary
-      × Lists (λ p. nat_lt 0 (secondary_count s p w.sets) && not (nat_lt 0 (primary_count s p w.sets))) secondary
+  AreAll w primary secondary = Lists (is_primary_in w) primary × Lists (is_secondary_in w) secondary
 
   -- `latest_update`: the last retained set, and the primary and secondary of all
   abbrev pub IsLatestUpdate : World C S → Option (SetAt C × List C × List C) → Type 0
@@ -94,9 +102,13 @@ module _ {C S : Type 0} (s : Setup C S) where
 
   -- TEARDOWN
 
+  -- p isn't inert, and was entitled in the world w before a track, and isn't in the world v after it
+  abbrev pub is_torn_down : World C S → World C S → C → Bool
+  is_torn_down w v p = not (is_inert (w.peer p).status) && is_entitled s p w.sets && not (is_entitled s p v.sets)
+
   -- what a track that was taken tears down: w before it, v after it
   abbrev pub IsTeardown : World C S → World C S → List C → Type 0
-  IsTeardown w v = Lists (λ p. not (is_inert (w.peer p).status) && is_entitled s p w.sets && not (is_entitled s p v.sets))
+  IsTeardown w v = Lists (is_torn_down w v)
 
   -- `track`, where it did e
   abbrev pub IsTrackAnswer : Event C S → World C S → Option (List C) → Type 0
@@ -105,9 +117,12 @@ module _ {C S : Type 0} (s : Setup C S) where
 
   -- BLOCKS
 
+  abbrev pub is_blocked_at : World C S → ℕ → C → Bool
+  is_blocked_at w t p = is_blocked (w.unblock p) t
+
   -- `blocked_peers`
   abbrev pub AreBlocked : World C S → ℕ → List C → Type 0
-  AreBlocked w t = Lists (λ p. is_blocked (w.unblock p) t)
+  AreBlocked w t = Lists (is_blocked_at w t)
 
   -- `next_unblock`
   abbrev pub IsNextUnblock : World C S → Option ℕ → Type 0

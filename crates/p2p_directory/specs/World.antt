@@ -134,10 +134,14 @@ module _ {C S : Type 0} (s : Setup C S) where
   does sets w (UnblockExpired t) = Expired t
   does sets w (Ask question) = Nothing
 
-  -- the past that calls make, both the newest first: what each did at the point before it; a track is held against every set taken before
+  -- a past with one more call: what it does in the world at that point; a track is held against every set taken before
+  abbrev pub past_after : List (Event C S) → Call C S → List (Event C S)
+  past_after h c = does (taken_sets s h) (world_at h) c ∷ h
+
+  -- the past that calls make, both the newest first
   abbrev pub past : List (Call C S) → List (Event C S)
   past [] = []
-  past (c ∷ cs) = does (taken_sets s (past cs)) (world_at (past cs)) c ∷ past cs
+  past (c ∷ cs) = past_after (past cs) c
 
   -- THE STEP
 
