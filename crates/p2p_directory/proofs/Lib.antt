@@ -2,3 +2,8 @@ pub mod MadeRoom
 pub mod Naming
 pub mod Tracked
 pub mod Sound
+pub mod Steps
+pub mod Knowledge
+pub mod Law
+pub mod Listed
+mod Rows

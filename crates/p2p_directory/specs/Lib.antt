@@ -1,3 +1,6 @@
 pub mod Calls
+pub mod Past
+pub mod World
+pub mod Answers
 pub mod Records
 pub mod View

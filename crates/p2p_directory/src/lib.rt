@@ -2,4 +2,5 @@
 #![tactic(auto)]
 
 mod kept;
+pub mod laws;
 pub mod record;
