@@ -1,4 +1,5 @@
 pub mod MadeRoom
+pub mod Members
 pub mod Naming
 pub mod Tracked
 pub mod Sound
@@ -6,4 +7,5 @@ pub mod Steps
 pub mod Knowledge
 pub mod Law
 pub mod Listed
+pub mod Retained
 mod Rows

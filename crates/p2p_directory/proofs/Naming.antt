@@ -14,6 +14,7 @@ use Rattle.std.proofs.lemmas.List.Folds.{list_any_none, list_any_at, list_any_mo
 use Rattle.std.proofs.lemmas.Map.Keys.{Less-from_sorted}
 use Rattle.std.proofs.lemmas.Map.Lookups.{CmpEqualImpliesEq}
 use Rattle.std.proofs.lemmas.Map.Views.{tells_apart}
+use Rattle.p2p_discovery.specs.Ordered.{IsPlaceOf}
 use Rattle.p2p_directory.specs.View.{names}
 
 step : {X : Type 0} (a b : Bool) → (b ≡ true → a ≡ false) → (f : Option X → Option X) (new now old : Option X) → new ≡ cond b (f now) now → now ≡ cond a (f old) old → new ≡ cond (a || b) (f old) old
@@ -64,3 +65,18 @@ module _ {C : Type 0} {cmp : C → C → Ordering} (o : IsTotalOrder cmp) where
   -- what two lists add to a third
   pub added_both : (t2 t1 t0 P S P' S' : List C) (p q r : C → Bool) → P' ≡ P → S' ≡ S → t1 ≡ t0 ++ filter p P' → t2 ≡ t1 ++ filter r S' → ((x : C) → names cmp S x ≡ true → r x ≡ q x) → t2 ≡ t0 ++ filter p P ++ filter q S
   added_both t2 t1 t0 P S P' S' p q r e f d1 d2 h = rw (d2, d1, e, f, filter_agree_on r q S h) refl
+
+-- a key that has a place is one of the keys
+pub at_place : {C : Type 0} {cmp : C → C → Ordering} → IsTotalOrder cmp → (keys : List C) (k : ℕ) (key : C) → IsPlaceOf key keys k → names cmp keys key ≡ true
+at_place {cmp = cmp} o keys k key place = list_any_at (λ x. is_at (cmp x) key) keys k key place.in_range (rw place.at_place (ap is_eq (tied_itself o key)))
+
+either : (b : Bool) → (b ≡ true → ⊥) → b ≡ false
+either true h = absurd (h refl)
+either false h = refl
+
+-- and one that has no place is none of them
+pub nowhere : {C : Type 0} {cmp : C → C → Ordering} → CmpEqualImpliesEq cmp → (keys : List C) (key : C) → ((k : ℕ) → IsPlaceOf key keys k → ⊥) → names cmp keys key ≡ false
+nowhere {cmp = cmp} exact keys key absent = list_any_none (λ x. is_at (cmp x) key) keys (λ j d below.
+    either (is_at (cmp (get_or keys j d)) key) (λ same.
+        let here : get_or keys j key ≡ key = get_or_default keys j key d below ∙ tells_apart exact (get_or keys j d) key same in
+        absent j (record { in_range = below; at_place = here })))

@@ -1,6 +1,6 @@
 -- What contracts see of a directory, and how its parts change.
 use Rattle.std.specs.Prelude.{ℕ, ◌≡◌, ◌<◌, ◌≤◌, ◌+◌, ◌-◌, ◌^◌, Bool, true, false, not, ◌&&◌, ◌||◌, ◌==◌, if◌then◌else◌, List, [], ◌∷◌, ◌++◌, length, drop, map, nat_lt, Option, Some, None, IfSome}
-use Rattle.std.specs.List.{list_any, count_by, All}
+use Rattle.std.specs.List.{list_any, count_by, last_or, All}
 use Rattle.std.specs.List.Sorted.{IsStrictlyIncreasing}
 use Rattle.std.specs.Option.{option_map, option_or}
 use Rattle.std.specs.declared.cmp.Ordering.{Ordering}
@@ -40,9 +40,7 @@ newest max sets = if nat_lt max (length sets) then drop 1 sets else sets
 
 -- the index of the last set
 abbrev pub latest_index : {C : Type 0} → List (SetAt C) → Option ℕ
-latest_index [] = None
-latest_index (set ∷ []) = Some set.index
-latest_index (set ∷ next ∷ sets) = latest_index (next ∷ sets)
+latest_index sets = option_map (λ set. set.index) (last_or None sets)
 
 -- the index is above that one, if there is one
 abbrev pub is_above : ℕ → Option ℕ → Bool

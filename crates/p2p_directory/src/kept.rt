@@ -11,7 +11,7 @@ use crate::kept::counts::{lower, raise};
 use crate::kept::room::{drop_deletable, make_room};
 use crate::record::Record;
 use p2p_discovery::codec::PublicKey;
-use p2p_discovery::sets::OrderedSet;
+use p2p_discovery::sets::{OrderedSet, SetError};
 use std::alloc::{AllocError, Global};
 use std::collections::{BTreeMap, VecDeque};
 use std::marker::Model;
@@ -69,6 +69,33 @@ impl<C: PublicKey> KeptSet<C> {
     }
 }
 
+// Whether the peer is in the set.
+fn contains<C: PublicKey>(set: &OrderedSet<C>, peer: &C) -> bool
+    ensures { result ≡ names C.cmp set.now peer.now }
+{
+    match set.position(peer) {
+        Some(_) => true,
+        None => false,
+    }
+}
+
+// Those of the peers that are not in the set.
+fn peers_outside<C: PublicKey>(
+    alloc: Global,
+    peers: &[C],
+    set: &OrderedSet<C>,
+) -> Result<Vec<C>, AllocError>
+    ensures { IfOk result (λ rest. rest.items ≡ filter (λ q. not (names C.cmp set.now q)) peers.now) }
+{
+    let mut rest = Vec::new(alloc);
+    for peer in peers {
+        if !contains(set, peer) {
+            rest.push(*peer)?;
+        }
+    }
+    Ok(rest)
+}
+
 // The peers of one set that are not in another.
 fn without<C: PublicKey>(
     alloc: Global,
@@ -77,12 +104,11 @@ fn without<C: PublicKey>(
 ) -> Result<OrderedSet<C>, AllocError>
     ensures { IfOk result (λ rest. rest ≡ filter (λ q. not (names C.cmp other.now q)) set.now) }
 {
-    OrderedSet::from_iter_dedup(
-        alloc,
-        set.iter()
-            .filter(|peer| other.position(peer).is_none())
-            .copied(),
-    )
+    let rest = peers_outside(alloc, set.as_slice(), other)?;
+    match OrderedSet::try_from(rest) {
+        Ok(rest) => Ok(rest),
+        Err(SetError::Duplicate) => unreachable!(),
+    }
 }
 
 /// Whether the index is above that of the latest set, if there is one.
