@@ -2,3 +2,4 @@ pub mod Steps
 pub mod Knowledge
 pub mod Law
 pub mod Listed
+mod Rows
