@@ -1,3 +1,4 @@
+pub mod Keys
 pub mod Steps
 pub mod Knowledge
 pub mod Law

@@ -167,9 +167,13 @@ module _ {C S : Type 0} (s : Setup C S) where
   active_info Active info = info
   active_info _ info = None
 
-  -- `info`: the own info, and the info of an active peer
+  -- the own info, and the info of an active peer
+  abbrev pub sharable_with : C → Peer C S → Option (Info C S)
+  sharable_with p peer = if is_own s p then Some s.own else active_info peer.status peer.known.info
+
+  -- `info`
   abbrev pub sharable : World C S → C → Option (Info C S)
-  sharable w p = if is_own s p then Some s.own else active_info (w.peer p).status (w.peer p).known.info
+  sharable w p = sharable_with p (w.peer p)
 
   -- of a peer with its bit: its sharable info, where the bit is 0 and the timestamp isn't above these milliseconds
   abbrev pub shared_at : World C S → ℕ → C × Bool → Option (Info C S)
