@@ -7,7 +7,7 @@ use Rattle.p2p_directory.specs.Calls.{Setup, SetAt, Status, Event}
 use Rattle.p2p_directory.specs.Calls.Status.{Active}
 use Rattle.p2p_directory.specs.Calls.Event.{Tracked, Granted, Blocked}
 use Rattle.p2p_directory.specs.Past.{is_own, is_in, is_entitled, is_inert, is_reserved, is_present_with, primary_count, secondary_count}
-use Rattle.p2p_directory.specs.World.{World, Peer, is_blocked, address_with, is_valid_address, is_outbound_target, after}
+use Rattle.p2p_directory.specs.World.{World, Peer, is_blocked, address_with, is_valid_address, is_outbound_target}
 
 -- the whole milliseconds of a moment, rounded down, at most the greatest `u64`
 abbrev pub epoch_millis : ℕ → ℕ
@@ -110,10 +110,10 @@ module _ {C S : Type 0} (s : Setup C S) where
   abbrev pub IsTeardown : World C S → World C S → List C → Type 0
   IsTeardown w v = Lists (is_torn_down w v)
 
-  -- `track`, where it did e
-  abbrev pub IsTrackAnswer : Event C S → World C S → Option (List C) → Type 0
-  IsTrackAnswer e w None = was_taken e ≡ false
-  IsTrackAnswer e w (Some ps) = (was_taken e ≡ true) × IsTeardown w (after s e w) ps
+  -- `track`, where it did e: w before it, v after it
+  abbrev pub IsTrackAnswer : Event C S → World C S → World C S → Option (List C) → Type 0
+  IsTrackAnswer e w v None = was_taken e ≡ false
+  IsTrackAnswer e w v (Some ps) = (was_taken e ≡ true) × IsTeardown w v ps
 
   -- BLOCKS
 
@@ -187,9 +187,9 @@ module _ {C S : Type 0} (s : Setup C S) where
   -- `infos`: no infos for an index that isn't retained, none at all for another number of bits
   abbrev pub infos_for : World C S → ℕ → List Bool → ℕ → Option (List (Info C S))
   infos_for w index bits t = elim (set_with_index w index) [
-      None ↦ Some []
-      | Some x ↦ if length bits == length x.primary then Some (shared w (epoch_millis t) x.primary bits) else None
-    ]
+    | None ↦ Some []
+    | Some x ↦ if length bits == length x.primary then Some (shared w (epoch_millis t) x.primary bits) else None
+  ]
 
   -- DIALABLE
 

@@ -13,8 +13,7 @@ use p2p_discovery::codec::PublicKey;
 pub fn recomputed_is_one_step<C: PublicKey>()
     ensures { (s : Setup C C.Signature) → s.cmp ≡ C.cmp → 1 ≤ s.max_sets → (cs : List (Call C C.Signature)) (c : Call C C.Signature) →
         world_at s (past s (c ∷ cs)) ≡ step s (world_at s (past s cs)) c }
-{
-}
+{}
 
 /// An answer that lists the keys with a property, tells the least moment of some keys, or counts
 /// the tracked keys of a world, is the only one.
@@ -22,5 +21,4 @@ pub fn answers_are_determined<C: PublicKey>()
     ensures lists { (s : Setup C C.Signature) → s.cmp ≡ C.cmp → (test : C → Bool) (xs ys : List C) → Lists s test xs → Lists s test ys → xs ≡ ys }
     ensures moments { (s : Setup C C.Signature) (moment : C → Option ℕ) (a b : Option ℕ) → IsLeastOf s moment a → IsLeastOf s moment b → a ≡ b }
     ensures numbers { (s : Setup C C.Signature) → s.cmp ≡ C.cmp → (w : World C C.Signature) (m n : ℕ) → IsNumberTracked s w m → IsNumberTracked s w n → m ≡ n }
-{
-}
+{}
