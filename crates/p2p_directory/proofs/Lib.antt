@@ -7,5 +7,6 @@ pub mod Steps
 pub mod Knowledge
 pub mod Law
 pub mod Listed
+pub mod Keys
 pub mod Retained
 mod Rows

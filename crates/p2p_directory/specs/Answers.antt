@@ -7,7 +7,7 @@ use Rattle.p2p_directory.specs.Calls.{Setup, SetAt, Status, Event}
 use Rattle.p2p_directory.specs.Calls.Status.{Active}
 use Rattle.p2p_directory.specs.Calls.Event.{Tracked, Granted, Blocked}
 use Rattle.p2p_directory.specs.Past.{is_own, is_in, is_entitled, is_inert, is_reserved, is_present_with, primary_count, secondary_count}
-use Rattle.p2p_directory.specs.World.{World, Peer, is_blocked, address_with, is_valid_address, is_outbound_target, after}
+use Rattle.p2p_directory.specs.World.{World, Peer, is_blocked, address_with, is_valid_address, is_outbound_target}
 
 -- the whole milliseconds of a moment, rounded down, at most the greatest `u64`
 abbrev pub epoch_millis : ℕ → ℕ
@@ -110,10 +110,10 @@ module _ {C S : Type 0} (s : Setup C S) where
   abbrev pub IsTeardown : World C S → World C S → List C → Type 0
   IsTeardown w v = Lists (is_torn_down w v)
 
-  -- `track`, where it did e
-  abbrev pub IsTrackAnswer : Event C S → World C S → Option (List C) → Type 0
-  IsTrackAnswer e w None = was_taken e ≡ false
-  IsTrackAnswer e w (Some ps) = (was_taken e ≡ true) × IsTeardown w (after s e w) ps
+  -- `track`, where it did e: w before it, v after it
+  abbrev pub IsTrackAnswer : Event C S → World C S → World C S → Option (List C) → Type 0
+  IsTrackAnswer e w v None = was_taken e ≡ false
+  IsTrackAnswer e w v (Some ps) = (was_taken e ≡ true) × IsTeardown w v ps
 
   -- BLOCKS
 
@@ -167,9 +167,13 @@ module _ {C S : Type 0} (s : Setup C S) where
   active_info Active info = info
   active_info _ info = None
 
-  -- `info`: the own info, and the info of an active peer
+  -- the own info, and the info of an active peer
+  abbrev pub sharable_with : C → Peer C S → Option (Info C S)
+  sharable_with p peer = if is_own s p then Some s.own else active_info peer.status peer.known.info
+
+  -- `info`
   abbrev pub sharable : World C S → C → Option (Info C S)
-  sharable w p = if is_own s p then Some s.own else active_info (w.peer p).status (w.peer p).known.info
+  sharable w p = sharable_with p (w.peer p)
 
   -- of a peer with its bit: its sharable info, where the bit is 0 and the timestamp isn't above these milliseconds
   abbrev pub shared_at : World C S → ℕ → C × Bool → Option (Info C S)
@@ -183,9 +187,9 @@ module _ {C S : Type 0} (s : Setup C S) where
   -- `infos`: no infos for an index that isn't retained, none at all for another number of bits
   abbrev pub infos_for : World C S → ℕ → List Bool → ℕ → Option (List (Info C S))
   infos_for w index bits t = elim (set_with_index w index) [
-      None ↦ Some []
-      | Some x ↦ if length bits == length x.primary then Some (shared w (epoch_millis t) x.primary bits) else None
-    ]
+    | None ↦ Some []
+    | Some x ↦ if length bits == length x.primary then Some (shared w (epoch_millis t) x.primary bits) else None
+  ]
 
   -- DIALABLE
 

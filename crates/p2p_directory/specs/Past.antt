@@ -39,7 +39,7 @@ lasting gives ends h = unless_ended ends (last_with gives h)
 
 -- MOMENTS AND STATUS
 
--- the sum of a moment and a duration, or the greatest moment
+-- a moment, or the greatest moment where it is above that
 abbrev pub cap : ℕ → ℕ
 cap moment = min moment max_nanos
 
@@ -163,7 +163,7 @@ module _ {C S : Type 0} (s : Setup C S) where
   abbrev pub is_present : C → List (Event C S) → Bool
   is_present p h = is_present_with p (retained h) (status_at p h)
 
-  -- what the calls did after the last point at which p was absent
+  -- what the calls did after the last point at which p was absent; all of it where there is no such point
   unfoldable pub life : C → List (Event C S) → List (Event C S)
   life p [] = []
   life p (e ∷ h) = if is_present p (e ∷ h) then e ∷ life p h else []
@@ -237,7 +237,7 @@ module _ {C S : Type 0} (s : Setup C S) where
   block_by p (Blocked q t) = if same q p then Some (cap (t + s.block_duration)) else None
   block_by p _ = None
 
-  -- the event ends the blocks up to a moment that is at or after this one
+  -- the event ends each block that holds until this moment
   abbrev pub expires : ℕ → Event C S → Bool
   expires moment (Expired t) = nat_le moment t
   expires moment _ = false
