@@ -6,7 +6,7 @@ use Rattle.std.specs.Duration.{max_nanos}
 use Rattle.p2p_discovery.specs.declared.discovery.Info.{Info}
 use Rattle.p2p_discovery.specs.declared.types.ingress.Ingress.TheVariants.{Socket}
 use Rattle.p2p_discovery.specs.declared.types.socket.IpAddr.TheVariants.{V4}
-use Rattle.p2p_discovery.specs.Ingress.{same_ingress, is_valid}
+use Rattle.p2p_discovery.specs.Ingress.{is_valid}
 use Rattle.p2p_directory.specs.Calls.{Setup, Call, Event}
 use Rattle.p2p_directory.specs.Calls.Call.{Track, Dial, Listen, Connect, Release, Update, Block, UnblockExpired}
 use Rattle.p2p_directory.specs.Calls.Status.{Reserved}
@@ -182,7 +182,7 @@ row9 :
     × (those (is_dialable setup (world_at setup row9_b) (sec 115)) ≡ [])
     × (moments (query_moment setup (world_at setup row9_b) (sec 115)) ≡ sec 120 ∷ [])
     × (granted setup row9_b (dial 1 115) ≡ true)
-unfolding Past.life same_ingress is_valid
+unfolding Past.life is_valid
 row9 = (refl, refl, refl, refl)
 
 -- ROW 10: an odd cooldown is halved and rounded down; sums stop at the greatest moment
@@ -203,7 +203,7 @@ row10 :
     × (moments (query_moment setup10 (world_at setup10 row10_a) (sec 100 + 9)) ≡ [])
     × (granted setup10 row10_a (Listen 1 max_nanos 9) ≡ true)
     × (granted setup10 row10_b (Listen 1 max_nanos 9) ≡ true)
-unfolding Past.life same_ingress is_valid
+unfolding Past.life is_valid
 row10 = (refl, refl, refl, refl, refl, refl)
 
 -- ROW 11: a block with duration zero is taken, though nobody is then blocked
@@ -281,7 +281,7 @@ row13 :
     × (((world_at setup row13_c).peer 1).known.fails ≡ 1)
     × (bits_at setup (world_at setup row13_c) 0 ≡ Some (0, false ∷ []))
     × (bits_at setup13 (world_at setup13 row13_d) 0 ≡ Some (0, false ∷ []))
-unfolding Past.life same_ingress is_valid
+unfolding Past.life is_valid
 row13 = (refl, refl, refl, refl, refl, refl)
 
 -- ROW 14: the first of greatest timestamp; a newer info at the same ingress forgets the failures
@@ -313,7 +313,7 @@ row14 :
     × (((world_at setup row14_e).peer 1).known.fails ≡ 1)
     × (bits_at setup (world_at setup row14_f) 0 ≡ Some (0, true ∷ []))
     × (((world_at setup row14_f).peer 1).known.fails ≡ 0)
-unfolding Past.life same_ingress is_valid
+unfolding Past.life is_valid
 row14 = (refl, refl, refl, refl, refl, refl, refl, refl)
 
 -- ROW 15: what is shared
@@ -403,5 +403,5 @@ row20 :
     × (those (is_dialable setup (world_at setup row20_b) (sec 160)) ≡ 1 ∷ [])
     × (moments (query_moment setup (world_at setup row20_b) (sec 160)) ≡ [])
     × (moments (world_at setup row20_b).unblock ≡ sec 160 ∷ [])
-unfolding Past.life same_ingress is_valid
+unfolding Past.life is_valid
 row20 = (refl, refl, refl, refl, refl, refl)

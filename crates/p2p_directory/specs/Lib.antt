@@ -4,3 +4,5 @@ pub mod World
 pub mod Answers
 pub mod Records
 pub mod View
+pub mod Configs
+pub mod Directories

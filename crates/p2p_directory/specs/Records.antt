@@ -1,5 +1,5 @@
 -- What contracts see of a record, and what its calls answer and change. Moments are nanoseconds since the epoch.
-use Rattle.std.specs.Prelude.{ℕ, ◌+◌, ◌*◌, ◌/◌, ◌-◌, ◌^◌, Bool, true, false, not, ◌&&◌, ◌||◌, if◌then◌else◌, min, nat_lt}
+use Rattle.std.specs.Prelude.{ℕ, ◌+◌, ◌*◌, ◌/◌, ◌-◌, ◌^◌, Bool, true, false, not, ◌&&◌, ◌||◌, if◌then◌else◌, min, nat_lt, nat_le, ◌==◌}
 use Rattle.std.specs.Duration.{max_nanos}
 use Rattle.p2p_discovery.specs.Ingress.{same_ingress}
 use Rattle.p2p_discovery.specs.declared.types.ingress.Ingress.{Ingress}
@@ -94,3 +94,11 @@ module _ {C S : Type 0} where
   after_failure ingress Unknown = Unknown
   after_failure ingress (Myself info) = Myself info
   after_failure ingress (Bootstrapper before) = Bootstrapper before
+
+  -- a reservation would be granted
+  abbrev pub is_reservable : ℕ → RecordView C S → Bool
+  is_reservable now r = not (is_myself r.address) && is_inert r.status && nat_le r.next_reservable_at now
+
+  -- reserved or connected, and in just one set, without which it were not eligible
+  abbrev pub rests_on_one_set : RecordView C S → Bool
+  rests_on_one_set r = not (is_inert r.status) && is_eligible r && not r.persistent && (r.primary_sets + r.secondary_sets == 1)

@@ -10,7 +10,7 @@ use Rattle.p2p_directory.specs.declared.kept.Role.{Role}
 use Rattle.p2p_directory.specs.declared.kept.Role.TheVariants.{Primary, Secondary}
 use Rattle.p2p_directory.specs.declared.record.Address.TheVariants.{Unknown}
 use Rattle.p2p_directory.specs.Calls.{SetAt}
-use Rattle.p2p_directory.specs.Records.{RecordView, new_record, is_deletable, is_eligible, is_inert}
+use Rattle.p2p_directory.specs.Records.{RecordView, new_record, is_deletable, rests_on_one_set}
 
 -- the configuration, with durations in nanoseconds
 pub record ConfigView : Type 0 where
@@ -63,6 +63,11 @@ module _ {C : Type 0} (cmp : C → C → Ordering) where
   -- how many of the sets have the peer in the role
   abbrev pub set_count : Role → C → List (SetAt C) → ℕ
   set_count role q sets = count_by (λ set. names (members role set) q) sets
+
+  -- q is in the oldest set, and that goes when one more comes
+  abbrev pub is_leaving : ℕ → List (SetAt C) → C → Bool
+  is_leaving max [] q = false
+  is_leaving max (oldest ∷ sets) q = (length (oldest ∷ sets) == max) && has oldest q
 
 -- RECORDS
 
@@ -136,6 +141,11 @@ module _ {C S : Type 0} where
   abbrev pub after_oldest : (C → C → Ordering) → ℕ → List (SetAt C) → C → Option (RecordView C S) → Option (RecordView C S)
   after_oldest cmp max [] q o = o
   after_oldest cmp max (oldest ∷ sets) q o = changed_if (nat_lt max (length (oldest ∷ sets))) (left cmp oldest q) o
+
+  -- q's connection has to end once it left one set for another
+  abbrev pub is_torn_by : (C → C → Ordering) → SetAt C → C → Option (RecordView C S) → Bool
+  is_torn_by cmp next q None = false
+  is_torn_by cmp next q (Some r) = rests_on_one_set r && not (has cmp next q)
 
   -- WHAT HOLDS BETWEEN CALLS: a record is not deletable, its counts are those of the retained sets, which are few, in ascending order of index and name no peer in both roles
   pub record IsConsistent (cmp : C → C → Ordering) (max : ℕ) (sets : List (SetAt C)) (record_at : C → Option (RecordView C S)) : Type 0 where

@@ -1,6 +1,8 @@
 -- The world that a past makes, what a call does in it, and the step of one accepted call.
 use Rattle.std.specs.Prelude.{ℕ, suc, ◌+◌, Bool, false, not, ◌&&◌, ◌||◌, if◌then◌else◌, List, [], ◌∷◌, ◌++◌, Option, Some, None, nat_lt, nat_le, filter}
 use Rattle.std.specs.List.{list_all}
+use Rattle.std.specs.Ordering.{is_eq}
+use Rattle.std.specs.declared.cmp.Ordering.{Ordering}
 use Rattle.p2p_discovery.specs.declared.discovery.Info.{Info}
 use Rattle.p2p_discovery.specs.declared.types.ingress.Ingress.{Ingress}
 use Rattle.p2p_discovery.specs.Ingress.{is_valid}
@@ -41,6 +43,11 @@ abbrev pub is_blocked : Option ℕ → ℕ → Bool
 is_blocked None t = false
 is_blocked (Some moment) t = nat_lt t moment
 
+-- the last of these ingresses that is given for p, in this order of keys
+abbrev pub last_ingress_by : {C : Type 0} → (C → C → Ordering) → C → List (C × Ingress) → Option Ingress
+last_ingress_by cmp p [] = None
+last_ingress_by cmp p (b ∷ bs) = elim (last_ingress_by cmp p bs) [ None ↦ (if is_eq (cmp b.0 p) then Some b.1 else None) | Some a ↦ Some a ]
+
 module _ {C S : Type 0} (s : Setup C S) where
   -- THE WORLD THAT A PAST MAKES
 
@@ -65,8 +72,7 @@ module _ {C S : Type 0} (s : Setup C S) where
 
   -- the last bootstrapper ingress of p
   abbrev pub last_ingress : C → List (C × Ingress) → Option Ingress
-  last_ingress p [] = None
-  last_ingress p (b ∷ bs) = elim (last_ingress p bs) [ None ↦ (if same s b.0 p then Some b.1 else None) | Some a ↦ Some a ]
+  last_ingress p bootstrappers = last_ingress_by s.cmp p bootstrappers
 
   -- the info's ingress, else the last bootstrapper ingress of p
   abbrev pub address_with : C → Option (Info C S) → Option Ingress

@@ -1,11 +1,12 @@
 //! Retained sets, and the records of their peers.
 
-ghost use Rattle.std.specs.Prelude.{◌≡◌, ℕ, ◌<◌, ◌^◌, ◌-◌, ◌++◌, ◌∷◌, [], true, false, not, IfSome, IfOk, Some, None, OnOk, OnErr, if◌then◌else◌, IsSomeAnd, is_ok, length};
+ghost use Rattle.std.specs.Prelude.{◌≡◌, ℕ, ◌<◌, ◌^◌, ◌-◌, ◌++◌, ◌∷◌, [], true, false, not, IfSome, IfOk, Some, None, OnOk, OnErr, if◌then◌else◌, IsSomeAnd, is_ok, length, ◌≤◌, ◌&&◌};
 ghost use Rattle.std.specs.Option.{option_or};
 ghost use Rattle.std.specs.BTreeMap.{get};
 ghost use Rattle.std.specs.List.{All, filter};
+ghost use Rattle.std.specs.List.Sorted.{IsStrictlySortedBy};
 ghost use Rattle.p2p_directory.specs.Records.{is_deletable};
-ghost use Rattle.p2p_directory.specs.View.{names, has, blank, kept, joined, left, count_of, IsApart, AreCounted, IsCountable, newest, after_oldest, latest_index, is_above};
+ghost use Rattle.p2p_directory.specs.View.{names, has, blank, kept, joined, left, count_of, IsApart, AreCounted, IsCountable, newest, after_oldest, latest_index, is_above, is_torn_by, is_leaving};
 
 use crate::kept::counts::{lower, raise};
 use crate::kept::room::{drop_deletable, make_room};
@@ -17,7 +18,7 @@ use std::collections::{BTreeMap, VecDeque};
 use std::marker::Model;
 
 mod counts;
-mod room;
+pub mod room;
 
 /// The part that a peer has in a set.
 #[derive(Clone, Copy, Debug, PartialEq, Eq)]
@@ -221,5 +222,75 @@ pub fn drop_oldest<C: PublicKey>(
     }
     if let Some(oldest) = sets.pop_front() {
         retire(records, &oldest);
+    }
+}
+
+// Adds those of the peers to a list whose connections have to end once they left one set for another.
+fn add_torn_down<C: PublicKey>(
+    torn: &mut Vec<C>,
+    peers: &[C],
+    next: &KeptSet<C>,
+    records: &BTreeMap<C, Record<C>>,
+) -> Result<(), AllocError>
+    ensures { OnOk result (torn.new.items ≡ torn.old.items ++ filter (λ q. is_torn_by C.cmp next.now q (get C.cmp records.now q)) peers.now) }
+{
+    for peer in peers {
+        if is_torn_down(peer, next, records) {
+            torn.push(*peer)?;
+        }
+    }
+    Ok(())
+}
+
+// Whether the peer's connection has to end once it left one set for another.
+fn is_torn_down<C: PublicKey>(
+    peer: &C,
+    next: &KeptSet<C>,
+    records: &BTreeMap<C, Record<C>>,
+) -> bool
+    ensures { result ≡ is_torn_by C.cmp next.now peer.now (get C.cmp records.now peer.now) }
+{
+    match records.get(peer) {
+        Some(found) => {
+            found.rests_on_one_set()
+                && !contains(&next.primary, peer)
+                && !contains(&next.secondary, peer)
+        }
+        None => false,
+    }
+}
+
+// The peers whose connections have to end once a set went and another came.
+fn torn_down_by<C: PublicKey>(
+    alloc: Global,
+    oldest: &KeptSet<C>,
+    next: &KeptSet<C>,
+    records: &BTreeMap<C, Record<C>>,
+) -> Result<OrderedSet<C>, AllocError>
+    ensures sorted { IfOk result (IsStrictlySortedBy C.cmp) }
+    ensures members { IfOk result (λ torn. (q : C) → names C.cmp torn q ≡ (has C.cmp oldest.now q && is_torn_by C.cmp next.now q (get C.cmp records.now q))) }
+{
+    let mut torn = Vec::new(alloc);
+    add_torn_down(&mut torn, oldest.primary.as_slice(), next, records)?;
+    add_torn_down(&mut torn, oldest.secondary.as_slice(), next, records)?;
+    OrderedSet::from_iter_dedup(alloc, torn.into_iter())
+}
+
+/// The peers whose connections have to end once a set came, and the oldest went where there is
+/// one too many then.
+pub fn torn_down<C: PublicKey>(
+    alloc: Global,
+    sets: &VecDeque<KeptSet<C>>,
+    max_sets: usize,
+    next: &KeptSet<C>,
+    records: &BTreeMap<C, Record<C>>,
+) -> Result<OrderedSet<C>, AllocError>
+    requires { length sets.now.items ≤ max_sets }
+    ensures sorted { IfOk result (IsStrictlySortedBy C.cmp) }
+    ensures members { IfOk result (λ torn. (q : C) → names C.cmp torn q ≡ (is_leaving C.cmp max_sets sets.now.items q && is_torn_by C.cmp next.now q (get C.cmp records.now q))) }
+{
+    match sets.front() {
+        Some(oldest) if sets.len() == max_sets => torn_down_by(alloc, oldest, next, records),
+        _ => OrderedSet::from_iter_dedup(alloc, Vec::new(alloc).into_iter()),
     }
 }

@@ -2,7 +2,7 @@
 
 ghost use Rattle.std.specs.Prelude.{◌≡◌, ◌+◌, ◌-◌, ◌<◌, ◌^◌, false, true};
 ghost use Rattle.std.specs.Duration.{as_nanos};
-ghost use Rattle.p2p_directory.specs.Records.{new_record, cap, jitter, is_inert, reserve_answer, after_reserve, is_eligible, is_deletable, needs_teardown, is_outbound_target, after_failure};
+ghost use Rattle.p2p_directory.specs.Records.{new_record, cap, jitter, is_inert, reserve_answer, after_reserve, is_eligible, is_deletable, needs_teardown, is_outbound_target, after_failure, is_reservable, rests_on_one_set};
 
 use p2p_discovery::codec::PublicKey;
 use p2p_discovery::discovery::Info;
@@ -222,6 +222,30 @@ impl<C: PublicKey> Record<C> {
         ensures { result ≡ is_outbound_target self.now }
     {
         self.primary_sets > 0 || self.persistent
+    }
+
+    // Whether a reservation would be granted: the peer is inert and not the local node, and `now`
+    // is not before the reservable moment.
+    pub(crate) fn is_reservable(&self, now: Duration) -> bool
+        ensures { result ≡ is_reservable (as_nanos now) self.now }
+    {
+        match &self.address {
+            Address::Myself(_) => false,
+            _ => {
+                self.status == Status::Inert
+                    && self.next_reservable_at.as_nanos() <= now.as_nanos()
+            }
+        }
+    }
+
+    // Whether the connection would have to end if the peer left one set.
+    pub(crate) fn rests_on_one_set(&self) -> bool
+        ensures { result ≡ rests_on_one_set self.now }
+    {
+        self.status != Status::Inert
+            && self.eligible()
+            && !self.persistent
+            && self.primary_sets.checked_add(self.secondary_sets) == Some(1)
     }
 
     /// In how many primary sets the peer is.
