@@ -45,6 +45,7 @@ module _ {C S : Type 0} (s : Setup C S) where
 
   -- PRESENCE AND STATUS
 
+  -- p is present in the world
   abbrev pub is_present_in : World C S → C → Bool
   is_present_in w p = is_present_with s p w.sets (w.peer p).status
 
@@ -52,6 +53,7 @@ module _ {C S : Type 0} (s : Setup C S) where
   abbrev pub status_in : World C S → C → Option Status
   status_in w p = if is_present_in w p then Some (w.peer p).status else None
 
+  -- p is present, and not the own key
   abbrev pub is_tracked : World C S → C → Bool
   is_tracked w p = is_present_in w p && not (is_own s p)
 
@@ -77,6 +79,7 @@ module _ {C S : Type 0} (s : Setup C S) where
   abbrev pub set_at_place : World C S → ℕ → Option (SetAt C)
   set_at_place w place = slice_get w.sets place
 
+  -- the retained set with the greatest index
   abbrev pub latest_set : World C S → Option (SetAt C)
   latest_set w = last_or None w.sets
 
@@ -84,6 +87,7 @@ module _ {C S : Type 0} (s : Setup C S) where
   abbrev pub latest_index : World C S → Option ℕ
   latest_index w = option_map (λ x. x.index) (latest_set w)
 
+  -- p has a primary membership
   abbrev pub is_primary_in : World C S → C → Bool
   is_primary_in w p = nat_lt 0 (primary_count s p w.sets)
 
@@ -117,6 +121,7 @@ module _ {C S : Type 0} (s : Setup C S) where
 
   -- BLOCKS
 
+  -- p is blocked at t
   abbrev pub is_blocked_at : World C S → ℕ → C → Bool
   is_blocked_at w t p = is_blocked (w.unblock p) t
 
@@ -150,6 +155,7 @@ module _ {C S : Type 0} (s : Setup C S) where
   wants_with Active fails (Some i) = false
   wants_with status fails (Some i) = nat_le s.dial_fail_limit fails
 
+  -- p's info is wanted: never the own one
   abbrev pub wants : C → Peer C S → Bool
   wants p peer = not (is_own s p) && wants_with peer.status peer.known.fails peer.known.info
 
@@ -163,6 +169,7 @@ module _ {C S : Type 0} (s : Setup C S) where
 
   -- SHARABLE
 
+  -- the info, if active
   abbrev pub active_info : Status → Option (Info C S) → Option (Info C S)
   active_info Active info = info
   active_info _ info = None
@@ -201,6 +208,7 @@ module _ {C S : Type 0} (s : Setup C S) where
   abbrev pub is_dialable_with : C → ℕ → List (SetAt C) → Peer C S → Option ℕ → Bool
   is_dialable_with p t sets peer unblock = is_target p sets peer && not (is_blocked unblock t) && nat_le peer.known.dial_at t
 
+  -- .. in the world at t
   abbrev pub is_dialable : World C S → ℕ → C → Bool
   is_dialable w t p = is_dialable_with p t w.sets (w.peer p) (w.unblock p)
 

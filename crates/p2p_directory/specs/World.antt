@@ -44,6 +44,7 @@ is_blocked (Some moment) t = nat_lt t moment
 module _ {C S : Type 0} (s : Setup C S) where
   -- THE WORLD THAT A PAST MAKES
 
+  -- what is known of p by its life
   abbrev pub known_in : C → List (Event C S) → Known C S
   known_in p l = record {
     info = info_in s p l;
@@ -52,12 +53,15 @@ module _ {C S : Type 0} (s : Setup C S) where
     dial_at = dial_moment_in s p l;
   }
 
+  -- p at the end of a past
   abbrev pub peer_at : C → List (Event C S) → Peer C S
   peer_at p h = record { status = status_at s p h; known = known_in p (life s p h) }
 
+  -- the state at the end of a past
   abbrev pub state_at : List (Event C S) → State C S
   state_at h = record { sets = retained s h; peer = λ p. peer_at p h; unblock = λ p. unblock_at s p h }
 
+  -- the world at the end of a past
   abbrev pub world_at : List (Event C S) → World C S
   world_at h = record { state = state_at h; held = λ p. held_at s p h }
 
@@ -73,6 +77,7 @@ module _ {C S : Type 0} (s : Setup C S) where
   address_with p None = last_ingress p s.bootstrappers
   address_with p (Some i) = Some i.ingress
 
+  -- the address is known and valid
   abbrev pub is_valid_address : Option Ingress → Bool
   is_valid_address None = false
   is_valid_address (Some a) = is_valid s.allow_private_ips s.allow_dns a
@@ -93,9 +98,11 @@ module _ {C S : Type 0} (s : Setup C S) where
 
   -- WHAT A CALL DOES, in a world
 
+  -- a listen of p: a grant, or nothing
   abbrev pub listened : C → ℕ → ℕ → Bool → Event C S
   listened p t draw granted = if granted then Granted p (record { t = t; draw = draw; direction = Listener }) else Nothing
 
+  -- a dial of p at an address: a grant, or nothing
   abbrev pub dialled : C → ℕ → ℕ → Bool → Option Ingress → Event C S
   dialled p t draw granted None = Nothing
   dialled p t draw granted (Some a) = if granted then Granted p (record { t = t; draw = draw; direction = Dialer a }) else Nothing
@@ -145,6 +152,7 @@ module _ {C S : Type 0} (s : Setup C S) where
 
   -- THE STEP
 
+  -- a set that is taken is the latest, and at most so many of the latest stay
   abbrev pub sets_after : Event C S → List (SetAt C) → List (SetAt C)
   sets_after (Tracked taken) sets = last_of s.max_sets (sets ++ taken ∷ [])
   sets_after _ sets = sets
@@ -154,12 +162,14 @@ module _ {C S : Type 0} (s : Setup C S) where
   status_connected Inert = Inert
   status_connected _ = Active
 
+  -- what an event makes of the status of p
   abbrev pub status_after : C → Event C S → Status → Status
   status_after p (Granted q grant) status = if same s q p then Reserved else status
   status_after p (Connected q dialer) status = if same s q p then status_connected status else status
   status_after p (Released q direction) status = if same s q p then Inert else status
   status_after p _ status = status
 
+  -- what an event makes of the grant that is held of p
   abbrev pub held_after : C → Event C S → Option Grant → Option Grant
   held_after p (Granted q grant) held = if same s q p then Some grant else held
   held_after p (Released q direction) held = if same s q p then None else held
@@ -180,6 +190,7 @@ module _ {C S : Type 0} (s : Setup C S) where
   is_failed_dial None direction = false
   is_failed_dial (Some i) direction = is_dial_at i.ingress direction
 
+  -- what an event makes of what is known of p, if it stays present
   abbrev pub known_after : C → Event C S → Known C S → Known C S
   known_after p (Updated infos) k = if is_own s p then k else updated_all k (filter (λ i. same s i.public_key p) infos)
   known_after p (Granted q grant) k =
@@ -201,6 +212,7 @@ module _ {C S : Type 0} (s : Setup C S) where
     known = if is_present_with s p sets (status_after p e peer.status) then known_after p e peer.known else fresh p;
   }
 
+  -- what an event makes of the unblock moment of p
   abbrev pub unblock_after : C → Event C S → Option ℕ → Option ℕ
   unblock_after p (Blocked q t) moment = if same s q p then Some (cap (t + s.block_duration)) else moment
   unblock_after p (Expired t) None = None
@@ -215,6 +227,7 @@ module _ {C S : Type 0} (s : Setup C S) where
     unblock = λ p. unblock_after p e (d.unblock p);
   }
 
+  -- what an event changes of a world
   abbrev pub after : Event C S → World C S → World C S
   after e w = record { state = state_after e w.state; held = λ p. held_after p e (w.held p) }
 
