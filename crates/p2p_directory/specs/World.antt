@@ -20,6 +20,7 @@ pub record Known (C S : Type 0) : Type 0 where
   -- from when it is dialable
   pub dial_at : ℕ
 
+-- a peer: how it stands, and what is known of it
 pub record Peer (C S : Type 0) : Type 0 where
   pub status : Status
   pub known : Known C S
