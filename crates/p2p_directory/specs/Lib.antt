@@ -6,3 +6,4 @@ pub mod Records
 pub mod View
 pub mod Configs
 pub mod Directories
+pub mod Stands
