@@ -12,5 +12,6 @@ pub mod Counts
 pub mod Listed
 pub mod Keys
 pub mod Retained
+pub mod TornDown
 pub mod Bootstrapped
 mod Rows
