@@ -12,6 +12,9 @@ pub mod Counts
 pub mod Listed
 pub mod Keys
 pub mod Retained
+pub mod TrackTie
+pub mod Ties
+pub mod Shown
 pub mod TornDown
 pub mod Bootstrapped
 mod Rows

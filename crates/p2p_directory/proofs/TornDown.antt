@@ -71,10 +71,10 @@ module _ {C S : Type 0} where
   stays : (r : RecordView C S) → is_inert r.status ≡ false → unless_deletable r ≡ Some r
   stays r busy = ap (λ b. if not (is_wanted r) && b then None else Some r) busy ∙ ap (λ b. if b then None else Some r) (and_false (not (is_wanted r)))
 
-  abbrev recounted : ℕ → ℕ → RecordView C S → RecordView C S
+  abbrev pub recounted : ℕ → ℕ → RecordView C S → RecordView C S
   recounted p s r = record r { primary_sets = p; secondary_sets = s }
 
-  joined_some : (c d : Bool) (r : RecordView C S) →
+  pub joined_some : (c d : Bool) (r : RecordView C S) →
       changed_if d (option_map (raised Secondary)) (changed_if c (option_map (raised Primary)) (Some r)) ≡ Some (recounted (r.primary_sets + one c) (r.secondary_sets + one d) r)
   joined_some true true r = refl
   joined_some true false r = let e : r.secondary_sets ≡ r.secondary_sets + 0 = omega arith in ap (λ n. Some (recounted (r.primary_sets + 1) n r)) e
