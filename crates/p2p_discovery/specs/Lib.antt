@@ -1,6 +1,15 @@
+pub mod Counted
+pub mod Fields
+pub mod FieldsLaws
+pub mod Fixed
+pub mod FixedLaws
 pub mod Global
 pub mod Ingress
-pub mod Keys
+pub mod KeysLaws
 pub mod Ordered
+pub mod Reading
+pub mod ReadingLaws
 pub mod SameLaws
 pub mod TestSignatures
+pub mod Varint
+pub mod VarintLaws
