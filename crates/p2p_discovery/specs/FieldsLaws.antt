@@ -7,7 +7,7 @@ use Rattle.std.proofs.lemmas.List.{take_at, drop_at, take-append-drop, length-ap
 use Rattle.std.proofs.lemmas.Nat.{be_bytes_2, from_be_bytes-to_be_bytes_2}
 use Rattle.p2p_discovery.specs.declared.codec.error.CodecError.{CodecError}
 use Rattle.p2p_discovery.specs.declared.codec.error.CodecError.TheVariants.{EndOfBuffer, InvalidEnum}
-use Rattle.p2p_discovery.specs.Reading.{Reading, ◌>>=◌, reads, refuses, counted_at, Lawful, IsBytes}
+use Rattle.p2p_discovery.specs.Reading.{Reading, ◌>>=◌, reads, refuses, outcome_then, checked, takes_memory, counted_at, Lawful, IsBytes}
 use Rattle.p2p_discovery.specs.ReadingLaws.{bind_ok, ok_is, guard_ok, done}
 use Rattle.p2p_discovery.specs.Fields.{◌&◌, choice, IsSized, port_at}
 
@@ -154,4 +154,46 @@ lawful_sized {r = r} {sp = sp} {IsSize = IsSize} {part = part} {sq = sq} {P = P}
       ((u.0.0, subst IsSize (sym u.0.1) t.0), t.1 ∙ rw (u.1, ← u.0.1) (sym (append_assoc (sp (size v)) (sq v) rest)));
   again = λ v rest a.
       rw (append_assoc (sp (size v)) (sq v) rest, l.again (size v) (sq v ++ rest) a.1) ((m (size v) a.1).again v rest (a.0, refl));
+}
+
+-- ---- values that pass a test, and values that take memory
+
+pub lawful_checked : {A : Type 0} {r : List ℕ → Reading A} {sp : A → List ℕ} {P : A → Type 0} (grows : Bool) (test : A → Bool) (fault : A → CodecError) → Lawful r sp P → Lawful (r >>= checked grows test fault) sp (λ v. (test v ≡ true) × P v)
+lawful_checked {A = A} {r = r} {sp = sp} {P = P} grows test fault l = record {
+  takes = λ bytes v rest fits e.
+      let a = bind_ok (r bytes).outcome (checked grows test fault) (v, rest) e in
+      let t = l.takes bytes a.0.0 a.0.1 fits a.1 in
+      elim (chosen (test a.0.0) (takes_memory grows a.0.0 a.0.1) (refuses (fault a.0.0) a.0.1) (Ok (v, rest)) a.2) [
+        | inl h ↦ subst (λ (w : A × List ℕ). ((test w.0 ≡ true) × P w.0) × (bytes ≡ sp w.0 ++ w.1)) (ok_is (a.0.0, a.0.1) (v, rest) h.1) ((h.0, t.0), t.1)
+        | inr h ↦ absurd (let i = h.1 in cc)
+      ];
+  again = λ v rest a.
+      ap (λ o. outcome_then o (checked grows test fault)) (l.again v rest a.1) ∙ ap (λ (b : Bool). (cond b (takes_memory grows v rest) (refuses (fault v) rest)).outcome) a.0;
+}
+
+pub lawful_kept : {A : Type 0} {r : List ℕ → Reading A} {sp : A → List ℕ} {P : A → Type 0} (grows : Bool) → Lawful r sp P → Lawful (r >>= takes_memory grows) sp P
+lawful_kept {A = A} {r = r} {sp = sp} {P = P} grows l = record {
+  takes = λ bytes v rest fits e.
+      let a = bind_ok (r bytes).outcome (takes_memory grows) (v, rest) e in
+      let t = l.takes bytes a.0.0 a.0.1 fits a.1 in
+      subst (λ (w : A × List ℕ). P w.0 × (bytes ≡ sp w.0 ++ w.1)) (ok_is (a.0.0, a.0.1) (v, rest) a.2) t;
+  again = λ v rest a. rw (l.again v rest a) refl;
+}
+
+-- ---- bytes of which nothing else is asked than how many they are
+
+pub lawful_part : (n : ℕ) → Lawful (counted_at n) (λ b. b) (λ b. Unit {0} × (length b ≡ n))
+lawful_part n = record {
+  takes = λ bytes v rest fits e. let t = (lawful_counted n).takes bytes v rest fits e in ((tt, t.0.0), t.1);
+  again = λ v rest a.
+      let long : ltb (length (v ++ rest)) n ≡ false = le-ltb _ _ (omega (arith, length-append v rest, a.1)) in
+      rw (long, take_at v rest n a.1, drop_at v rest n a.1) refl;
+}
+
+-- ---- the same values in other words
+
+pub lawful_same : {A : Type 0} {r : List ℕ → Reading A} {sp : A → List ℕ} {P Q : A → Type 0} → ((v : A) → P v → Q v) → ((v : A) → Q v → P v) → Lawful r sp P → Lawful r sp Q
+lawful_same there back l = record {
+  takes = λ bytes v rest fits e. let t = l.takes bytes v rest fits e in (there v t.0, t.1);
+  again = λ v rest a. l.again v rest (back v a);
 }

@@ -1,7 +1,7 @@
 //! Bytes behind their length, and the limit of a length.
 
-ghost use Rattle.std.specs.Prelude.{◌≡◌, ◌+◌, ◌<◌, ◌≤◌, ◌^◌, ◌++◌, length};
-ghost use Rattle.p2p_discovery.specs.Reading.{Gives};
+ghost use Rattle.std.specs.Prelude.{◌≡◌, ◌+◌, ◌<◌, ◌≤◌, ◌^◌, ◌++◌, length, true, IfOk};
+ghost use Rattle.p2p_discovery.specs.Reading.{Gives, is_within};
 ghost use Rattle.p2p_discovery.specs.Counted.{counted_spelling, length_at};
 
 use crate::codec::{CodecError, EncodeSize, RangeCfg, Read, Reader, Write};
@@ -15,7 +15,8 @@ pub(crate) fn read_length(
     reader: &mut Reader<'_>,
     limit: &RangeCfg,
 ) -> Result<usize, CodecError>
-    ensures { Gives result reader.new (length_at limit.now reader.old) }
+    ensures exact { Gives result reader.new (length_at limit.now reader.old) }
+    ensures allowed { IfOk result (λ n. is_within limit.now n ≡ true) }
 {
     let length = u32::read(alloc, reader, &())? as usize;
     if !limit.contains(length) {
