@@ -12,6 +12,7 @@ pub mod HostnameLaws
 pub mod Ingress
 pub mod IngressLaws
 pub mod KeysLaws
+pub mod Order
 pub mod Ordered
 pub mod Reading
 pub mod ReadingLaws
