@@ -22,3 +22,6 @@ pub use laws::{bounded_size, one_spelling, read_back, varint_grammar};
 pub use reader::Reader;
 pub(crate) use reader::are_bytes;
 pub use test_key::{TestKey, TestSignature};
+
+#[cfg(test)]
+pub(crate) mod tests;

@@ -3,5 +3,9 @@
 
 pub mod codec;
 pub mod discovery;
+#[cfg(test)]
+mod famine;
+#[cfg(test)]
+mod refused;
 pub mod sets;
 pub mod types;
