@@ -2,6 +2,8 @@ pub mod Address
 pub mod AddressLaws
 pub mod Counted
 pub mod CountedLaws
+pub mod Data
+pub mod DataLaws
 pub mod Fields
 pub mod FieldsLaws
 pub mod Fixed

@@ -2,6 +2,7 @@
 #![tactic(auto)]
 
 pub mod codec;
+pub mod data;
 pub mod discovery;
 #[cfg(test)]
 mod famine;
