@@ -5,3 +5,5 @@ pub mod directory;
 mod kept;
 pub mod laws;
 pub mod record;
+#[cfg(test)]
+mod tests;
