@@ -7,3 +7,4 @@ pub mod View
 pub mod Configs
 pub mod Directories
 pub mod Stands
+pub mod Reserved

@@ -5,3 +5,4 @@ pub mod directory;
 mod kept;
 pub mod laws;
 pub mod record;
+pub mod run;

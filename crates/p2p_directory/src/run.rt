@@ -1,0 +1,79 @@
+//! Commands to a directory, served one after the other, and their replies.
+
+use crate::directory::{Config, Directory};
+use p2p_discovery::codec::PublicKey;
+use p2p_discovery::discovery::Info;
+use p2p_discovery::types::Ingress;
+use std::alloc::{AllocError, Global};
+
+pub use crate::run::commands::{Command, Reply, Run};
+pub use crate::run::held::Held;
+
+mod commands;
+mod held;
+
+/// Makes a directory and serves the commands in turn.
+///
+/// Room for all replies and all reservations is taken before the first command, so that only a
+/// `Track` may be answered `OutOfMemory`.
+///
+/// Condition: that of [`Directory::init`].
+///
+/// # Errors
+///
+/// `AllocError` where memory is refused before the first command.
+pub fn run<C: PublicKey>(
+    alloc: Global,
+    bootstrappers: Vec<(C, Ingress)>,
+    myself: Info<C>,
+    cfg: Config,
+    commands: Vec<Command<C>>,
+) -> Result<Run<C>, AllocError> {
+    let mut replies = Vec::with_capacity(alloc, commands.len())?;
+    let mut held = Held::with_room(alloc, commands.len())?;
+    let mut directory = match Directory::init(alloc, bootstrappers, myself, cfg) {
+        Ok(directory) => directory,
+        Err(refused) => {
+            held.close();
+            return Err(refused);
+        }
+    };
+    for command in commands {
+        replies.push_reserved(serve(&mut directory, &mut held, command));
+    }
+    Ok(Run {
+        directory,
+        held,
+        replies,
+    })
+}
+
+// Serves one command.
+fn serve<C: PublicKey>(
+    directory: &mut Directory<C>,
+    held: &mut Held<C>,
+    command: Command<C>,
+) -> Reply<C> {
+    match command {
+        Command::Track { index, peers } => match directory.track(index, peers) {
+            Ok(torn) => Reply::Track(torn),
+            Err(_) => Reply::OutOfMemory,
+        },
+        Command::Listen { peer, now, draw } => match directory.listen(&peer, now, draw) {
+            Some(reservation) => {
+                held.put(reservation);
+                Reply::Listen(true)
+            }
+            None => Reply::Listen(false),
+        },
+        Command::Release(peer) => match held.take(&peer) {
+            Some(reservation) => {
+                directory.release(reservation);
+                Reply::Release
+            }
+            None => Reply::NotHeld,
+        },
+        Command::Status(peer) => Reply::Status(directory.status(&peer)),
+        Command::LatestSetIndex => Reply::LatestSetIndex(directory.latest_set_index()),
+    }
+}
