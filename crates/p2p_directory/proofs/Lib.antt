@@ -12,4 +12,5 @@ pub mod Counts
 pub mod Listed
 pub mod Keys
 pub mod Retained
+pub mod Placed
 mod Rows

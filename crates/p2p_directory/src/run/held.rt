@@ -3,11 +3,13 @@
 ghost use Rattle.std.specs.Prelude.{◌≡◌, ◌<◌, ◌≤◌, ◌+◌, [], None, Some, IfOk, IfErr, IfNone, length, map, slice_get, if◌then◌else◌};
 ghost use Rattle.std.specs.Option.{option_map};
 ghost use Rattle.std.specs.BTreeMap.{is_at};
-ghost use Rattle.std.specs.List.Sorted.{IsStrictlySortedBy};
+ghost use Rattle.std.specs.List.{HoldsAt};
+ghost use Rattle.std.specs.List.Sorted.{IsStrictlySortedBy, IsSearchInRange, IsPartitionPoint};
 
 use crate::directory::Reservation;
 use p2p_discovery::codec::PublicKey;
 use std::alloc::{AllocError, Global};
+use std::cmp::Ordering;
 use std::marker::Model;
 
 /// The reservations that are held, in ascending order of their peers. A contract sees the list of
@@ -85,7 +87,11 @@ impl<C: PublicKey> Held<C> {
     }
 
     // Where the reservation of the peer stands, or where it would go.
-    fn search(&self, peer: &C) -> Result<usize, usize> {
+    fn search(&self, peer: &C) -> Result<usize, usize>
+        ensures range { IsSearchInRange result (length self.now.reservations) }
+        ensures found { IfOk result (HoldsAt (λ m. C.cmp (key_of m) peer.now ≡ Ordering.Equal) self.now.reservations) }
+        ensures gap { IfErr result (IsPartitionPoint (λ m. C.cmp (key_of m) peer.now ≡ Ordering.Less) (λ m. C.cmp (key_of m) peer.now ≡ Ordering.Greater) self.now.reservations) }
+    {
         self.reservations
             .binary_search_by_key(peer, |reservation| *reservation.metadata().public_key())
     }
