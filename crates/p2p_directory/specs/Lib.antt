@@ -8,3 +8,5 @@ pub mod Configs
 pub mod Directories
 pub mod Stands
 pub mod Reserved
+pub mod Serving
+pub mod Runs

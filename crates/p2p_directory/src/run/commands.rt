@@ -11,7 +11,10 @@ use std::time::Duration;
 #[derive(Drop)]
 pub enum Command<C: PublicKey> {
     /// [`Directory::track`].
-    Track { index: u64, peers: TrackedPeers<C> },
+    Track {
+        index: u64,
+        peers: TrackedPeers<C>,
+    },
     /// [`Directory::listen`]; the reservation is held.
     Listen {
         peer: C,
