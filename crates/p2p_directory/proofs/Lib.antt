@@ -13,4 +13,5 @@ pub mod Listed
 pub mod Keys
 pub mod Retained
 pub mod Placed
+pub mod Holding
 mod Rows

@@ -167,3 +167,20 @@ module _ {K M : Type 0} (key : M → K) {cmp : K → K → Ordering} (total : Is
       go : (c : Bool) → is_at (cmp (key m)) q ≡ c → cond (at q x) (Some x) (cond c (Some m) (find (at q) xs)) ≡ cond c (Some m) (cond (at q x) (Some x) (find (at q) xs))
       go true e = ap (λ b. cond b (Some x) (Some m)) (ap (λ k. at k x) (sym (tells_apart exact (key m) q e)) ∙ none 0 x (omega arith))
       go false e = refl
+
+  -- what is found has the key
+  pub found_key : (q : K) (xs : List M) (m : M) → find (at q) xs ≡ Some m → key m ≡ q
+  found_key q [] m e = absurd cc
+  found_key q (x ∷ xs) m e = go (at q x) refl e (found_key q xs m)
+    where
+      go : (b : Bool) → at q x ≡ b → cond b (Some x) (find (at q) xs) ≡ Some m → (find (at q) xs ≡ Some m → key m ≡ q) → key m ≡ q
+      go true f h later = let one : x ≡ m = cc in ap key (sym one) ∙ sym (tells_apart exact q (key x) f)
+      go false f h later = later h
+
+pub filter_shorter : {M : Type 0} (test : M → Bool) (xs : List M) → length (filter test xs) ≤ length xs
+filter_shorter test [] = omega arith
+filter_shorter {M} test (x ∷ xs) = go (test x) (filter_shorter test xs)
+  where
+    go : (b : Bool) → length (filter test xs) ≤ length xs → length (cond {A = List M} b (x ∷ filter test xs) (filter test xs)) ≤ length (x ∷ xs)
+    go true h = omega arith
+    go false h = omega arith
