@@ -14,4 +14,6 @@ pub mod Keys
 pub mod Retained
 pub mod Placed
 pub mod Holding
+pub mod Ties
+pub mod Served
 mod Rows
