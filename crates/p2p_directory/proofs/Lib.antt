@@ -12,8 +12,12 @@ pub mod Counts
 pub mod Listed
 pub mod Keys
 pub mod Retained
+pub mod TrackTie
+pub mod Ties
+pub mod Shown
+pub mod TornDown
+pub mod Bootstrapped
 pub mod Placed
 pub mod Holding
-pub mod Ties
 pub mod Served
 mod Rows

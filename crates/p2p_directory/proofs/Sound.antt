@@ -7,8 +7,15 @@ use Rattle.std.proofs.lemmas.List.Sums.{sum_by-append}
 use Rattle.std.proofs.lemmas.Bool.Decides.{nat_tests}
 use Rattle.p2p_directory.specs.declared.kept.Role.{Role}
 use Rattle.p2p_directory.specs.declared.kept.Role.TheVariants.{Primary, Secondary}
+use Rattle.std.specs.BTreeMap.{is_at}
+use Rattle.p2p_discovery.specs.declared.discovery.Info.{Info}
+use Rattle.p2p_discovery.specs.declared.types.ingress.Ingress.{Ingress}
+use Rattle.p2p_directory.specs.declared.record.Address.TheVariants.{Myself, Bootstrapper}
+use Rattle.p2p_directory.specs.Past.{last_of}
+use Rattle.p2p_directory.specs.World.{last_ingress_by}
+use Rattle.p2p_directory.specs.Directories.{first_record}
 use Rattle.p2p_directory.specs.Calls.{SetAt}
-use Rattle.p2p_directory.specs.Records.{RecordView, is_deletable, is_inert, is_wanted}
+use Rattle.p2p_directory.specs.Records.{RecordView, new_record, is_deletable, is_inert, is_wanted}
 use Rattle.p2p_directory.specs.View.{names, blank, changed_if, counted, unless_deletable, dropped, left, set_count, AreCounted, newest, after_oldest, joined, lowered, raised, IsConsistent, IsApart}
 use Rattle.p2p_directory.proofs.Tracked.{joined_counts}
 use Rattle.std.proofs.lemmas.List.Elements.{All-push, All-tail}
@@ -83,7 +90,7 @@ both_nil : {X : Type 0} (b : Bool) → (let none : List X = [] in cond b none no
 both_nil true = refl
 both_nil false = refl
 
-count_cons : {X : Type 0} (f : X → Bool) (x : X) (xs : List X) → count_by f (x ∷ xs) ≡ cond (f x) 1 0 + count_by f xs
+pub count_cons : {X : Type 0} (f : X → Bool) (x : X) (xs : List X) → count_by f (x ∷ xs) ≡ cond (f x) 1 0 + count_by f xs
 count_cons f x xs = let e = sum_by-append (λ y. cond {A = ℕ} (f y) 1 0) (x ∷ []) xs in omega (arith, e)
 
 module _ {C S : Type 0} (cmp : C → C → Ordering) where
@@ -118,3 +125,55 @@ all_by P [] true h = h
 all_by P (x ∷ sets) true h = All-tail P x sets h
 all_by P sets false h = h
 
+
+-- with room for one more at most, the newest sets are the last ones
+pub newest_last : {C : Type 0} (max : ℕ) (sets : List (SetAt C)) (set : SetAt C) → length sets ≤ max → newest max (sets ++ set ∷ []) ≡ last_of max (sets ++ set ∷ [])
+newest_last {C = C} max sets set few = go (nat_lt max (length (sets ++ set ∷ []))) refl
+  where
+    all : List (SetAt C)
+    all = sets ++ set ∷ []
+
+    go : (b : Bool) → nat_lt max (length all) ≡ b → cond b (drop 1 all) all ≡ drop (length all - max) all
+    go true e = let n : length all - max ≡ 1 = grind (arith, nat_tests, length-append sets (set ∷ [])) in ap (λ k. drop k all) (sym n)
+    go false e = let n : length all - max ≡ 0 = grind (arith, nat_tests) in ap (λ k. drop k all) (sym n)
+
+All-nil : {X : Type 0} (P : X → Type 0) → All P []
+All-nil P k d low = absurd (omega (arith, low))
+
+-- what holds of the records at first
+pub first_consistent : {C S : Type 0} (cmp : C → C → Ordering) (max : ℕ) (bootstrappers : List (C × Ingress)) (own : Info C S) (record_at : C → Option (RecordView C S)) → 0 < max → max < 2 ^ 64 - 1 →
+    ((q : C) → record_at q ≡ first_record cmp bootstrappers own q) → IsConsistent cmp max [] record_at
+first_consistent {C} {S} cmp max bootstrappers own record_at some small first = record {
+  held = λ q. rw (first q) (held_first (is_at (cmp own.public_key) q) (last_ingress_by cmp q bootstrappers));
+  counts = λ q. rw (first q) (counts_first (is_at (cmp own.public_key) q) (last_ingress_by cmp q bootstrappers));
+  apart = All-nil (IsApart cmp);
+  few = omega arith;
+  some = some;
+  small = small;
+}
+  where
+    made : Bool → Option Ingress → Option (RecordView C S)
+    made b o = cond b (Some (new_record (Myself own) true)) (option_map (λ ingress. new_record (Bootstrapper ingress) true) o)
+
+    held_first : (b : Bool) (o : Option Ingress) → IfSome (made b o) (λ r. is_deletable r ≡ false)
+    held_first true o = refl
+    held_first false None = tt
+    held_first false (Some a) = refl
+
+    counts_first : (b : Bool) (o : Option Ingress) → AreCounted cmp [] own.public_key (made b o)
+    counts_first true o = (refl, refl)
+    counts_first false None = (refl, refl)
+    counts_first false (Some a) = (refl, refl)
+
+-- what holds of the records after a set was taken
+pub tracked_consistent : {C S : Type 0} (cmp : C → C → Ordering) (max : ℕ) (sets sets' : List (SetAt C)) (set : SetAt C) (old new : C → Option (RecordView C S)) →
+    IsConsistent cmp max sets old → IsApart cmp set → sets' ≡ newest max (sets ++ set ∷ []) → ((q : C) → new q ≡ after_oldest cmp max (sets ++ set ∷ []) q (joined cmp set q (old q))) → IsConsistent cmp max sets' new
+tracked_consistent cmp max sets sets' set old new was apart left_sets left_records =
+    let all = sets ++ set ∷ [] in record {
+      held = λ q. rw (left_records q) (newest_held cmp max all q (joined cmp set q (old q)) (joined_held (names cmp set.primary q) (names cmp set.secondary q) (old q) (was.held q)));
+      counts = λ q. rw (left_sets, left_records q) (newest_counts cmp max all q (joined cmp set q (old q)) (joined_counts cmp sets set q (old q) (was.counts q)));
+      apart = rw left_sets (all_by (IsApart cmp) all (nat_lt max (length all)) (All-push (IsApart cmp) sets set was.apart apart));
+      few = rw left_sets (few_by max all (nat_lt max (length all)) refl (omega (arith, length-append sets (set ∷ []), was.few)));
+      some = was.some;
+      small = was.small;
+    }

@@ -1,7 +1,6 @@
 -- What contracts see of a directory, and how its parts change.
 use Rattle.std.specs.Prelude.{ℕ, ◌≡◌, ◌<◌, ◌≤◌, ◌+◌, ◌-◌, ◌^◌, Bool, true, false, not, ◌&&◌, ◌||◌, ◌==◌, if◌then◌else◌, List, [], ◌∷◌, ◌++◌, length, drop, map, nat_lt, Option, Some, None, IfSome}
 use Rattle.std.specs.List.{list_any, count_by, last_or, All}
-use Rattle.std.specs.List.Sorted.{IsStrictlyIncreasing}
 use Rattle.std.specs.Option.{option_map, option_or}
 use Rattle.std.specs.declared.cmp.Ordering.{Ordering}
 use Rattle.std.specs.BTreeMap.{is_at}
@@ -147,12 +146,11 @@ module _ {C S : Type 0} where
   is_torn_by cmp next q None = false
   is_torn_by cmp next q (Some r) = rests_on_one_set r && not (has cmp next q)
 
-  -- WHAT HOLDS BETWEEN CALLS: a record is not deletable, its counts are those of the retained sets, which are few, in ascending order of index and name no peer in both roles
+  -- WHAT HOLDS BETWEEN CALLS: a record is not deletable, its counts are those of the retained sets, which are few and name no peer in both roles
   pub record IsConsistent (cmp : C → C → Ordering) (max : ℕ) (sets : List (SetAt C)) (record_at : C → Option (RecordView C S)) : Type 0 where
     pub held : (q : C) → IfSome (record_at q) (λ r. is_deletable r ≡ false)
     pub counts : (q : C) → AreCounted cmp sets q (record_at q)
     pub apart : All (IsApart cmp) sets
-    pub ascending : IsStrictlyIncreasing (map (λ set. set.index) sets)
     pub few : length sets ≤ max
     pub some : 0 < max
     pub small : max < 2 ^ 64 - 1

@@ -178,7 +178,7 @@ impl<C: PublicKey> Directory<C> {
     ) -> Result<Option<OrderedSet<C>>, AllocError>
         ensures config { self.new.config ≡ self.old.config }
         ensures err { OnErr result (self.new ≡ self.old) }
-        ensures memory { OnErr result (is_above index (latest_index self.old.sets) ≡ true) }
+        ensures untaken { is_above index (latest_index self.old.sets) ≡ false → result ≡ Ok None }
         ensures answer { IfOk result (λ torn. is_some torn ≡ is_above index (latest_index self.old.sets)) }
         ensures refused { IfOk result (λ torn. IfNone torn (self.new ≡ self.old)) }
         ensures taken { IfOk result (λ torn. IfSome torn (λ _. self.new.sets ≡ last_of self.old.config.max_sets (self.old.sets ++ set_of C.cmp index peers.primary peers.secondary ∷ []))) }

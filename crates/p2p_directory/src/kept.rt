@@ -273,7 +273,17 @@ fn torn_down_by<C: PublicKey>(
     let mut torn = Vec::new(alloc);
     add_torn_down(&mut torn, oldest.primary.as_slice(), next, records)?;
     add_torn_down(&mut torn, oldest.secondary.as_slice(), next, records)?;
-    OrderedSet::from_iter_dedup(alloc, torn.into_iter())
+    let torn = set_of(alloc, torn)?;
+    Ok(torn)
+}
+
+// The set of these peers.
+fn set_of<C: PublicKey>(alloc: Global, peers: Vec<C>) -> Result<OrderedSet<C>, AllocError>
+    ensures sorted { IfOk result (IsStrictlySortedBy C.cmp) }
+    ensures members { IfOk result (λ set. (q : C) → names C.cmp set q ≡ names C.cmp peers.items q) }
+{
+    let set = OrderedSet::from_iter_dedup(alloc, peers.into_iter())?;
+    Ok(set)
 }
 
 /// The peers whose connections have to end once a set came, and the oldest went where there is
@@ -291,6 +301,6 @@ pub fn torn_down<C: PublicKey>(
 {
     match sets.front() {
         Some(oldest) if sets.len() == max_sets => torn_down_by(alloc, oldest, next, records),
-        _ => OrderedSet::from_iter_dedup(alloc, Vec::new(alloc).into_iter()),
+        _ => set_of(alloc, Vec::new(alloc)),
     }
 }

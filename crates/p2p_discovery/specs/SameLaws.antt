@@ -1,4 +1,4 @@
--- Equal addresses are one address: the tests of `Ingress` answer true exactly of equal values.
+-- Equal addresses are one address: the tests of addresses answer true exactly of equal values.
 use Rattle.std.proofs.Common.{◌≡◌, ℕ, Bool, ◌&&◌, ◌==◌, sym, ap}
 use mathlib.Core.Bool.{true≢false}
 use Rattle.std.specs.Bool.{Decides}
@@ -9,7 +9,10 @@ use Rattle.p2p_discovery.specs.declared.types.socket.IpAddr.TheVariants.{V4, V6}
 use Rattle.p2p_discovery.specs.declared.types.socket.SocketAddr.{SocketAddr}
 use Rattle.p2p_discovery.specs.declared.types.ingress.Ingress.{Ingress}
 use Rattle.p2p_discovery.specs.declared.types.ingress.Ingress.TheVariants.{Socket, Dns}
+use Rattle.p2p_discovery.specs.declared.types.address.Address.{Address}
+use Rattle.p2p_discovery.specs.declared.types.address.Address.TheVariants.{Symmetric, Asymmetric}
 use Rattle.p2p_discovery.specs.Ingress.{same_ip, same_socket, same_ingress}
+use Rattle.p2p_discovery.specs.Address.{same_address}
 
 -- two parts, each decided by its test
 pub both_decide : {A B C : Type 0} (s t : Bool) (P : A → B → C) (a a2 : A) (b b2 : B) → Decides s (a ≡ a2) → Decides t (b ≡ b2)
@@ -42,3 +45,15 @@ ingress_equivalence = decided same_ingress ingress_decides
 
 pub ingress_laws : IsPartialEquivalence same_ingress
 ingress_laws = partial_equiv_from_equiv ingress_equivalence
+
+pub address_decides : (a b : Address) → Decides (same_address a b) (a ≡ b)
+address_decides (Symmetric a) (Symmetric b) = (λ h. ap Symmetric ((socket_decides a b).0 h), λ h. (socket_decides a b).1 (cc))
+address_decides (Asymmetric i e) (Asymmetric i2 e2) = both_decide _ _ Asymmetric i i2 e e2 (ingress_decides i i2) (socket_decides e e2) (λ h. cc) (λ h. cc)
+address_decides (Symmetric a) (Asymmetric i e) = (λ h. absurd (true≢false (sym h)), λ h. absurd cc)
+address_decides (Asymmetric i e) (Symmetric a) = (λ h. absurd (true≢false (sym h)), λ h. absurd cc)
+
+pub address_equivalence : IsEquivalence same_address
+address_equivalence = decided same_address address_decides
+
+pub address_laws : IsPartialEquivalence same_address
+address_laws = partial_equiv_from_equiv address_equivalence

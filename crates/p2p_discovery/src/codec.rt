@@ -1,7 +1,27 @@
-//! Values of a fixed number of bytes, and keys.
+//! Values as bytes, and bytes as values.
+//!
+//! docs/FORMATS.md says how each value is spelled.
 
+mod counted;
+mod decode;
+mod encode;
+mod error;
 mod fixed;
+mod laws;
+mod reader;
 mod test_key;
+mod varint;
 
+pub(crate) use counted::{counted_size, read_length, write_counted};
+pub use decode::Read;
+pub use encode::{EncodeSize, MaxEncodeSize, Write};
+pub use error::{CodecError, RangeCfg, What};
+pub(crate) use fixed::{read_value, write_value};
 pub use fixed::{FixedBytes, PublicKey};
+pub use laws::{bounded_size, one_spelling, read_back, varint_grammar};
+pub use reader::Reader;
+pub(crate) use reader::are_bytes;
 pub use test_key::{TestKey, TestSignature};
+
+#[cfg(test)]
+pub(crate) mod tests;

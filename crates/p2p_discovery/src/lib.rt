@@ -2,6 +2,11 @@
 #![tactic(auto)]
 
 pub mod codec;
+pub mod data;
 pub mod discovery;
+#[cfg(test)]
+mod famine;
+#[cfg(test)]
+mod refused;
 pub mod sets;
 pub mod types;

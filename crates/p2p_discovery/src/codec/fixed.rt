@@ -1,26 +1,58 @@
 //! Values of a fixed number of bytes, and public keys.
 
-ghost use Rattle.std.specs.Prelude.{◌≡◌, ℕ, ◌≤◌, Bool, List, true};
+ghost use Rattle.std.specs.Prelude.{◌≡◌, ℕ, ◌+◌, ◌≤◌, Bool, List, ◌++◌, Option, length, true};
 ghost use Rattle.std.specs.declared.cmp.Ordering.TheVariants.{Equal};
+ghost use Rattle.p2p_discovery.specs.Reading.{Gives};
+ghost use Rattle.p2p_discovery.specs.Fixed.{IsFixed, fixed_at};
+
+use crate::codec::{CodecError, Reader, What};
+use bytes::BytesMut;
 
 /// A value that is spelled by a fixed number of bytes.
+///
+/// Laws: `SIZE` is at most 65535; equal values are one value; what was written reads back to that
+/// value; bytes that are read are those that the value writes.
 pub trait FixedBytes: Copy + Eq {
     ghost SIZE: { ℕ };
 
-    /// How many bytes spell a value: at most 65535.
+    /// How many bytes spell a value.
     const SIZE: usize;
 
-    // Laws: equal values are one value, and the size is small.
-    ghost one_value: { (x y : Self) → Self.eq x y ≡ true → x ≡ y };
+    // Holds of each value of the type.
+    ghost IsValue: { Self → Type 0 };
 
-    ghost is_small: { (x : Self) → SIZE ≤ 65535 };
+    // The bytes of a value, and the value that bytes spell.
+    ghost spelled: { Self → List ℕ };
+
+    ghost value: { List ℕ → Option Self };
+
+    /// Writes the bytes of the value over `out`.
+    ///
+    /// Condition: `out` has `SIZE` bytes.
+    fn write_fixed(&self, out: &mut [u8])
+        requires { length out.old ≡ SIZE }
+        ensures bytes { out.new ≡ spelled self.now }
+        ensures value { IsValue self.now };
+
+    /// The value that the bytes spell, or `None` where they spell none.
+    ///
+    /// Condition: there are `SIZE` bytes.
+    fn read_fixed(bytes: &[u8]) -> Option<Self>
+        requires { length bytes.now ≡ SIZE }
+        ensures { result ≡ value bytes.now };
+
+    // Laws: of the spelling, and that equal values are one value.
+    ghost fixed: { IsFixed SIZE spelled value IsValue };
+
+    ghost one_value: { (x y : Self) → Self.eq x y ≡ true → x ≡ y };
 }
 
 /// The public key of a peer.
 ///
-/// The order is total and agrees with equality, and keys that compare as equal are one key.
+/// Laws: the order is total and agrees with equality; keys that compare as equal are one key;
+/// `verify` answers a fixed predicate.
 pub trait PublicKey: FixedBytes + Ord {
-    /// What `verify` judges.
+    /// What [`PublicKey::verify`] judges.
     type Signature: FixedBytes;
 
     // Whether a signature is right, as a fixed predicate of the key, the namespace and the message.
@@ -32,4 +64,30 @@ pub trait PublicKey: FixedBytes + Ord {
 
     // Law: keys that compare as equal are one key.
     ghost exact: { (x y : Self) → Self.cmp x y ≡ Equal → x ≡ y };
+}
+
+// Appends the bytes of a value.
+pub(crate) fn write_value<K: FixedBytes>(value: &K, buf: &mut BytesMut)
+    requires { K.SIZE ≤ buf.old.spare }
+    ensures items { buf.new.items ≡ buf.old.items ++ K.spelled value.now }
+    ensures spare { buf.new.spare + K.SIZE ≡ buf.old.spare }
+    ensures value { K.IsValue value.now }
+{
+    let at = buf.len();
+    buf.advance_mut(K::SIZE);
+    value.write_fixed(&mut buf.as_mut_slice()[at..]);
+}
+
+// Reads a value: `Invalid` of `what` where the bytes spell none.
+pub(crate) fn read_value<K: FixedBytes>(
+    reader: &mut Reader<'_>,
+    what: What,
+) -> Result<K, CodecError>
+    ensures { Gives result reader.new (fixed_at K.SIZE K.value what reader.old) }
+{
+    let bytes = reader.counted(K::SIZE)?;
+    match K::read_fixed(bytes) {
+        Some(value) => Ok(value),
+        None => Err(CodecError::Invalid(what)),
+    }
 }

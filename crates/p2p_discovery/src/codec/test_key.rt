@@ -1,17 +1,18 @@
 //! Keys and signatures without any security, for tests and for the program.
 
-ghost use Rattle.std.specs.Prelude.{◌≡◌, ◌==◌};
-ghost use Rattle.std.proofs.Common.{lit≤};
-ghost use Rattle.p2p_discovery.specs.Keys.{one_key, one_signature, exact_key};
+ghost use Rattle.std.specs.Prelude.{◌≡◌, ◌==◌, ◌<◌, ◌^◌, Some};
+ghost use Rattle.std.specs.Int.{w64, to_be_bytes, from_be_bytes};
+ghost use Rattle.p2p_discovery.specs.KeysLaws.{one_key, one_signature, exact_key, fixed_key, fixed_signature};
 ghost use Rattle.p2p_discovery.specs.TestSignatures.{signature_of, mix_of, next_of};
 
 use crate::codec::{FixedBytes, PublicKey};
 
-/// A key without security, ordered as its number.
+/// A key without security, spelled by the eight bytes of its number, the most significant first,
+/// and ordered as its number.
 #[derive(Clone, Copy, Debug, PartialEq, Eq, PartialOrd, Ord)]
 pub struct TestKey(pub u64);
 
-/// A signature without security.
+/// A signature without security, spelled as a [`TestKey`].
 #[derive(Clone, Copy, Debug, PartialEq, Eq)]
 pub struct TestSignature(pub u64);
 
@@ -20,9 +21,25 @@ impl FixedBytes for TestKey {
 
     const SIZE: usize = 8;
 
-    ghost one_value = { one_key };
+    ghost IsValue = { λ key. key.0 < 2 ^ 64 };
 
-    ghost is_small = { λ _. lit≤ tt };
+    ghost spelled = { λ key. to_be_bytes w64 key.0 };
+
+    ghost value = { λ bytes. Some (record { 0 = from_be_bytes w64 bytes }) };
+
+    fn write_fixed(&self, out: &mut [u8]) {
+        out.copy_from_slice(&self.0.to_be_bytes());
+    }
+
+    fn read_fixed(bytes: &[u8]) -> Option<TestKey> {
+        Some(TestKey(u64::from_be_bytes([
+            bytes[0], bytes[1], bytes[2], bytes[3], bytes[4], bytes[5], bytes[6], bytes[7],
+        ])))
+    }
+
+    ghost fixed = { fixed_key };
+
+    ghost one_value = { one_key };
 }
 
 impl FixedBytes for TestSignature {
@@ -30,9 +47,25 @@ impl FixedBytes for TestSignature {
 
     const SIZE: usize = 8;
 
-    ghost one_value = { one_signature };
+    ghost IsValue = { λ signature. signature.0 < 2 ^ 64 };
 
-    ghost is_small = { λ _. lit≤ tt };
+    ghost spelled = { λ signature. to_be_bytes w64 signature.0 };
+
+    ghost value = { λ bytes. Some (record { 0 = from_be_bytes w64 bytes }) };
+
+    fn write_fixed(&self, out: &mut [u8]) {
+        out.copy_from_slice(&self.0.to_be_bytes());
+    }
+
+    fn read_fixed(bytes: &[u8]) -> Option<TestSignature> {
+        Some(TestSignature(u64::from_be_bytes([
+            bytes[0], bytes[1], bytes[2], bytes[3], bytes[4], bytes[5], bytes[6], bytes[7],
+        ])))
+    }
+
+    ghost fixed = { fixed_signature };
+
+    ghost one_value = { one_signature };
 }
 
 impl TestKey {

@@ -1,17 +1,31 @@
 //! Names of machines.
 
-ghost use Rattle.std.specs.Prelude.{◌≡◌, ◌==◌, IfOk};
+ghost use Rattle.std.specs.Prelude.{◌≡◌, ◌==◌, ◌+◌, ◌≤◌, ℕ, List, [], length, true, IfOk};
+ghost use Rattle.std.specs.List.{position};
 ghost use Rattle.std.specs.Ordering.{nat_cmp, as_partial_cmp};
 ghost use Rattle.std.specs.Cmp.{partial_order_from_own_ties};
 ghost use Rattle.std.specs.Cmp.Rules.{comparing};
 ghost use Rattle.std.specs.Cmp.Lexicographic.{pointwise, slice_cmp};
 ghost use Rattle.std.proofs.Common.{rules};
+ghost use Rattle.p2p_discovery.specs.Reading.{Gives, is_within};
+ghost use Rattle.p2p_discovery.specs.FieldsLaws.{lawful_unlimited};
+ghost use Rattle.p2p_discovery.specs.Hostname.{is_label, is_hostname, host_limit, formed, named, IsHostname, hostname_spelling, hostname_at, is_name_byte, are_name_bytes};
+ghost use Rattle.p2p_discovery.specs.HostnameLaws.{lawful_hostname, hostname_short};
 
-use std::alloc::AllocError;
+use crate::codec::{
+    CodecError, EncodeSize, MaxEncodeSize, RangeCfg, Read, Reader, What, Write, counted_size,
+    read_length, write_counted,
+};
+use bytes::BytesMut;
+use std::alloc::{AllocError, Global};
 use std::cmp::Ordering;
 use std::marker::Model;
 
-/// The name of a machine, seen by contracts as its bytes. Ordered by its bytes.
+/// The name of a machine, seen by contracts as its bytes. Ordered by its bytes, and equal where
+/// they are: letters are kept as written.
+///
+/// A name has 1 to 253 bytes. It consists of labels joined by single dots, and a label of 1 to 63
+/// letters, digits and hyphens of ASCII, with no hyphen at either end.
 #[derive(Debug, Drop)]
 pub struct Hostname {
     text: String,
@@ -19,13 +33,43 @@ pub struct Hostname {
 
 impl Model for Hostname {
     ghost use Rattle.std.specs.Prelude.{ℕ, List, string_bytes};
+    ghost use Rattle.p2p_discovery.specs.Hostname.{IsHostname};
 
     ghost Value = { List ℕ };
 
     ghost view = { λ h. string_bytes h.text };
+
+    ghost invariant = { λ h. IsHostname (string_bytes h.text) };
 }
 
+const LENGTHS: RangeCfg = RangeCfg {
+    least: 1,
+    greatest: 253,
+};
+
 impl Hostname {
+    /// The name that the text is. `InvalidLength` where it has no bytes or more than 253, which is
+    /// judged first; `Invalid(Hostname)` where it has not the form of a name; `Memory` where it
+    /// is a name and memory is refused.
+    #[tactic(auto, unfolding(crate::specs::Hostname::named))]
+    pub fn new(alloc: Global, text: &str) -> Result<Hostname, CodecError>
+        ensures { Gives result [] (named text.now) }
+    {
+        let length = text.len();
+        if !LENGTHS.contains(length) {
+            return Err(CodecError::InvalidLength(length));
+        }
+        Hostname::from_bytes(alloc, text.as_bytes())
+    }
+
+    /// The text of the name.
+    pub fn as_str(&self) -> &str
+        ensures text { result.now ≡ self.now }
+        ensures is { IsHostname self.now }
+    {
+        self.text.as_str()
+    }
+
     /// An equal name, or want of memory.
     pub fn clone(&self) -> Result<Hostname, AllocError>
         ensures { IfOk result (λ copy. copy ≡ self.now) }
@@ -34,6 +78,63 @@ impl Hostname {
             text: self.text.clone()?,
         })
     }
+
+    // A name of these bytes, of which there are as many as a name may have.
+    #[tactic(auto, unfolding(crate::specs::Hostname::formed))]
+    fn from_bytes(alloc: Global, text: &[u8]) -> Result<Hostname, CodecError>
+        requires { is_within host_limit (length text.now) ≡ true }
+        ensures { (rest : List ℕ) → Gives result rest (formed text.now rest) }
+    {
+        if !is_name(text) {
+            return Err(CodecError::Invalid(What::Hostname));
+        }
+        match str::from_utf8(text) {
+            Ok(text) => Ok(Hostname {
+                text: String::from_str(alloc, text)?,
+            }),
+            Err(_) => unreachable!(),
+        }
+    }
+}
+
+// Whether the bytes are labels joined by single dots.
+fn is_name(text: &[u8]) -> bool
+    ensures { result ≡ is_hostname text.now }
+{
+    match dot_in(text) {
+        None => is_label_of(text),
+        Some(at) => is_label_of(&text[..at]) && is_name(&text[at + 1..]),
+    }
+}
+
+// The place of the first dot.
+fn dot_in(text: &[u8]) -> Option<usize>
+    ensures { result ≡ position (λ b. b == 46) text.now }
+{
+    text.iter().position(|b| *b == b'.')
+}
+
+// Whether the bytes are a label.
+#[tactic(auto, unfolding(crate::specs::Hostname::is_label))]
+fn is_label_of(l: &[u8]) -> bool
+    ensures { result ≡ is_label l.now }
+{
+    !l.is_empty() && l.len() <= 63 && are_name_parts(l) && l[0] != b'-' && l[l.len() - 1] != b'-'
+}
+
+fn are_name_parts(bytes: &[u8]) -> bool
+    ensures { result ≡ are_name_bytes bytes.now }
+{
+    match bytes {
+        [] => true,
+        [b, rest @ ..] => is_name_part(*b) && are_name_parts(rest),
+    }
+}
+
+fn is_name_part(b: u8) -> bool
+    ensures { result ≡ is_name_byte b }
+{
+    b.is_ascii_alphanumeric() || b == b'-'
 }
 
 impl PartialEq for Hostname {
@@ -72,4 +173,51 @@ impl PartialOrd for Hostname {
     fn partial_cmp(&self, other: &Hostname) -> Option<Ordering> {
         Some(self.cmp(other))
     }
+}
+
+impl EncodeSize for Hostname {
+    ghost IsValue = { IsHostname };
+
+    ghost CanSpell = { λ _. Unit {0} };
+
+    ghost spelling = { hostname_spelling };
+
+    fn encode_size(&self) -> usize
+        ensures size { result ≡ length (hostname_spelling self.now) }
+        ensures value { IsHostname self.now }
+        ensures bound { result ≤ 258 }
+    {
+        counted_size(self.as_str().as_bytes())
+    }
+}
+
+impl MaxEncodeSize for Hostname {
+    ghost MAX_ENCODE_SIZE = { 258 };
+
+    const MAX_ENCODE_SIZE: usize = 258;
+
+    ghost at_most_max = { hostname_short };
+}
+
+impl Write for Hostname {
+    fn write(&self, buf: &mut BytesMut) {
+        write_counted(self.as_str().as_bytes(), buf);
+    }
+}
+
+impl Read for Hostname {
+    type Cfg = ();
+
+    ghost Admits = { λ _ _. Unit {0} };
+
+    ghost reading = { λ _. hostname_at };
+
+    #[tactic(auto, unfolding(crate::specs::Hostname::hostname_at))]
+    fn read(alloc: Global, reader: &mut Reader<'_>, _cfg: &()) -> Result<Hostname, CodecError> {
+        let length = read_length(alloc, reader, &LENGTHS)?;
+        let text = reader.counted(length)?;
+        Hostname::from_bytes(alloc, text)
+    }
+
+    ghost lawful = { λ _. lawful_unlimited lawful_hostname };
 }

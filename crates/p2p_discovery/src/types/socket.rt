@@ -1,13 +1,40 @@
 //! Addresses of machines, and ports there.
 
-ghost use Rattle.std.specs.Prelude.{◌≡◌};
+ghost use Rattle.std.specs.Prelude.{◌≡◌, ◌+◌, ◌<◌, ◌≤◌, ◌++◌, length};
+ghost use Rattle.p2p_discovery.specs.Reading.{Gives};
+ghost use Rattle.p2p_discovery.specs.Fields.{IsSized, port_at};
+ghost use Rattle.p2p_discovery.specs.FieldsLaws.{lawful_unlimited};
+ghost use Rattle.p2p_discovery.specs.Global.{is_global};
+ghost use Rattle.p2p_discovery.specs.Socket.{IsIp, IsSocket, ip_spelling, socket_spelling, ip_at, socket_at};
+ghost use Rattle.p2p_discovery.specs.SocketLaws.{lawful_socket, socket_short};
+
+use crate::codec::{CodecError, EncodeSize, MaxEncodeSize, Read, Reader, Write, are_bytes};
+use crate::types::global::{is_listed_v4, is_listed_v6};
+use bytes::BytesMut;
+use std::alloc::Global;
 
 /// The address of a machine. Addresses of version 4 come before those of version 6, and those of
 /// one version are ordered by their bytes.
 #[derive(Clone, Copy, Debug, PartialEq, Eq, PartialOrd, Ord)]
 pub enum IpAddr {
+    /// An address of version 4.
     V4([u8; 4]),
+    /// An address of version 6.
     V6([u8; 16]),
+}
+
+impl IpAddr {
+    /// Whether the address is global: it lies in none of the ranges that docs/FORMATS.md lists
+    /// for its version.
+    #[tactic(auto, unfolding(crate::specs::Global::is_global))]
+    pub fn is_global(&self) -> bool
+        ensures { result ≡ is_global self.now }
+    {
+        match self {
+            IpAddr::V4(address) => !is_listed_v4(*address),
+            IpAddr::V6(address) => !is_listed_v6(*address),
+        }
+    }
 }
 
 /// The address of a machine, and a port there. Ordered by the address, then by the port.
@@ -38,4 +65,115 @@ impl SocketAddr {
     {
         self.port
     }
+}
+
+impl EncodeSize for SocketAddr {
+    ghost IsValue = { IsSocket };
+
+    ghost CanSpell = { λ _. Unit {0} };
+
+    ghost spelling = { socket_spelling };
+
+    fn encode_size(&self) -> usize
+        ensures size { result ≡ length (socket_spelling self.now) }
+        ensures value { IsSocket self.now }
+        ensures bound { result ≤ 19 }
+    {
+        let _port = self.port;
+        ip_size(&self.ip) + 2
+    }
+}
+
+impl MaxEncodeSize for SocketAddr {
+    ghost MAX_ENCODE_SIZE = { 19 };
+
+    const MAX_ENCODE_SIZE: usize = 19;
+
+    ghost at_most_max = { socket_short };
+}
+
+impl Write for SocketAddr {
+    fn write(&self, buf: &mut BytesMut) {
+        match &self.ip {
+            IpAddr::V4(bytes) => {
+                buf.extend_reserved(&[VERSION_4]);
+                buf.extend_reserved(bytes);
+            }
+            IpAddr::V6(bytes) => {
+                buf.extend_reserved(&[VERSION_6]);
+                buf.extend_reserved(bytes);
+            }
+        }
+        buf.extend_reserved(&self.port.to_be_bytes());
+    }
+}
+
+impl Read for SocketAddr {
+    type Cfg = ();
+
+    ghost Admits = { λ _ _. Unit {0} };
+
+    ghost reading = { λ _. socket_at };
+
+    #[tactic(auto, unfolding(crate::specs::Socket::socket_at))]
+    fn read(_alloc: Global, reader: &mut Reader<'_>, _cfg: &()) -> Result<SocketAddr, CodecError> {
+        let ip = read_ip(reader)?;
+        let port = read_port(reader)?;
+        Ok(SocketAddr { ip, port })
+    }
+
+    ghost lawful = { λ _. lawful_unlimited lawful_socket };
+}
+
+const VERSION_4: u8 = 4;
+
+const VERSION_6: u8 = 6;
+
+// The number of bytes of the spelling of an address without a port.
+fn ip_size(ip: &IpAddr) -> usize
+    ensures size { result ≡ length (ip_spelling ip.now) }
+    ensures value { IsIp ip.now }
+    ensures bound { result ≤ 17 }
+{
+    match ip {
+        IpAddr::V4(bytes) => 1 + array_len(bytes),
+        IpAddr::V6(bytes) => 1 + array_len(bytes),
+    }
+}
+
+fn array_len<const N: usize>(bytes: &[u8; N]) -> usize
+    requires { N < 20 }
+    ensures length { result ≡ N }
+    ensures sized { IsSized N bytes.now }
+{
+    are_bytes(bytes);
+    N
+}
+
+#[tactic(auto, unfolding(crate::specs::Socket::ip_at))]
+fn read_ip(reader: &mut Reader<'_>) -> Result<IpAddr, CodecError>
+    ensures { Gives result reader.new (ip_at reader.old) }
+{
+    match reader.byte()? {
+        VERSION_4 => {
+            let b = reader.counted(4)?;
+            Ok(IpAddr::V4([b[0], b[1], b[2], b[3]]))
+        }
+        VERSION_6 => {
+            let b = reader.counted(16)?;
+            Ok(IpAddr::V6([
+                b[0], b[1], b[2], b[3], b[4], b[5], b[6], b[7], b[8], b[9], b[10], b[11], b[12],
+                b[13], b[14], b[15],
+            ]))
+        }
+        version => Err(CodecError::InvalidEnum(version)),
+    }
+}
+
+// Reads a port: two bytes, the most significant first.
+pub(crate) fn read_port(reader: &mut Reader<'_>) -> Result<u16, CodecError>
+    ensures { Gives result reader.new (port_at reader.old) }
+{
+    let bytes = reader.counted(2)?;
+    Ok(u16::from_be_bytes([bytes[0], bytes[1]]))
 }

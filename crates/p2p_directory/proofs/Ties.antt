@@ -1,0 +1,259 @@
+-- What the calls of a directory change is a step of the world that it stands for.
+use Rattle.std.proofs.Common.{◌≡◌, ℕ, suc, ◌+◌, ◌-◌, ◌<◌, ◌≤◌, Bool, true, false, ◌||◌, ◌&&◌, not, nat_lt, List, [], ◌∷◌, ◌++◌, length, drop, Option, Some, None, sym, ap, subst, refl, ◌∙◌, arith}
+use Rattle.std.specs.Prelude.{if◌then◌else◌, is_some, nat_le}
+use Rattle.std.specs.declared.cmp.Ordering.{Ordering}
+use Rattle.std.specs.declared.cmp.Ordering.TheVariants.{Less, Equal, Greater}
+use Rattle.std.specs.Ordering.{is_eq}
+use Rattle.std.specs.Cmp.{IsTotalOrder}
+use Rattle.std.specs.BTreeMap.{is_at}
+use Rattle.std.specs.Option.{option_map, option_and_then}
+use Rattle.std.specs.List.{list_any, list_all, last_or}
+use Rattle.std.proofs.lemmas.List.{length-drop}
+use Rattle.p2p_discovery.specs.declared.types.ingress.Ingress.{Ingress}
+use Rattle.p2p_directory.specs.declared.record.Address.{Address}
+use Rattle.p2p_directory.specs.declared.record.Address.TheVariants.{Unknown, Myself, Bootstrapper}
+use Rattle.p2p_directory.specs.declared.record.Status.TheVariants as code
+use Rattle.p2p_directory.specs.Calls as model
+use Rattle.p2p_directory.specs.Calls.{Setup, Call, SetAt, Direction, Event}
+use Rattle.p2p_directory.specs.Calls.Status.{Inert, Reserved}
+use Rattle.p2p_directory.specs.Calls.Direction.{Listener}
+use Rattle.p2p_directory.specs.Calls.Event.{Tracked, Granted, Released}
+use Rattle.p2p_directory.specs.Past
+use Rattle.p2p_directory.specs.Past.{same, is_own, is_persistent, is_named, is_present_with}
+use Rattle.p2p_directory.specs.World
+use Rattle.p2p_directory.specs.World.{World, Known, Peer, fresh, after, last_ingress_by, may_listen}
+use Rattle.p2p_directory.specs.Answers
+use Rattle.p2p_directory.specs.Answers.{is_present_in, IsTeardown, status_in}
+use Rattle.p2p_directory.specs.Records.{RecordView, new_record, is_eligible, is_inert, is_reservable, reserved_at}
+use Rattle.p2p_directory.specs.View.{DirectoryView, record_of, latest_index, is_above, unless_deletable}
+use Rattle.p2p_directory.specs.Directories.{first_record, released, is_some_and, AreTornDown}
+use Rattle.p2p_directory.specs.Directories
+use Rattle.p2p_directory.specs.Stands.{Stands, config_of, status_view, metadata_of, address_with}
+use Rattle.p2p_directory.proofs.Shown.{record_with, shown, shown_entitled, shown_busy, shown_reservable, released_record, released_shown, failed_once}
+use Rattle.p2p_directory.proofs.Start.{new_world, new_at_start}
+use Rattle.p2p_directory.proofs.Latest
+use Rattle.p2p_directory.proofs.Latest.{latest_decides}
+
+above_latest : {C : Type 0} (index : ℕ) (o : Option (SetAt C)) → is_above index (option_map (λ set. set.index) o) ≡ Latest.is_above index o
+above_latest index None = refl
+above_latest index (Some set) = refl
+
+module _ {C S : Type 0} (s : Setup C S) where
+  -- QUESTIONS
+
+  pub tie_status : (w : World C S) (d : DirectoryView C S) (p : C) → Stands s w d → option_map (λ r. r.status) (record_of s.cmp d p) ≡ option_map status_view (status_in s w p)
+  tie_status w d p stands = ap (option_map (λ r. r.status)) (stands.records p) ∙ go (is_present_in s w p)
+    where
+      go : (b : Bool) → option_map (λ r. r.status) (if b then Some (record_with s p w.sets (w.peer p)) else None) ≡ option_map status_view (if b then Some (w.peer p).status else None)
+      go true = refl
+      go false = refl
+
+  pub tie_above : (cs : List (Call C S)) (d : DirectoryView C S) (index : ℕ) → Stands s (World.world_at s (World.past s cs)) d →
+      is_above index (latest_index d.sets) ≡ list_all (λ x. nat_lt x.index index) (World.world_at s (World.past s cs)).sets
+  tie_above cs d index stands =
+      ap (λ sets. is_above index (latest_index sets)) stands.sets
+      ∙ above_latest index (last_or None (World.world_at s (World.past s cs)).sets)
+      ∙ sym (latest_decides s cs index)
+
+  pub tie_may_listen : (w : World C S) (d : DirectoryView C S) (p : C) (t : ℕ) → Stands s w d →
+      is_some_and (record_of s.cmp d p) (λ r. is_eligible r && is_reservable t r) ≡ may_listen s p t w.sets (w.peer p) (w.unblock p)
+  tie_may_listen w d p t stands =
+      ap (λ o. is_some_and o (λ r. is_eligible r && is_reservable t r)) (stands.records p)
+      ∙ shown_reservable s p w.sets (w.peer p) (w.unblock p) t (stands.unblocked p)
+
+  pub tie_torn : (w v : World C S) (d d' : DirectoryView C S) (torn : List C) → Stands s w d → Stands s v d' → AreTornDown s.cmp d d' torn → IsTeardown s w v torn
+  tie_torn w v d d' torn stands stands' down = record {
+    sorted = down.sorted;
+    members = λ q.
+        down.members q
+        ∙ (λ i. is_some_and (stands.records q i) (λ r. not (is_inert r.status) && is_eligible r) && not (is_some_and (stands'.records q i) is_eligible))
+        ∙ (λ i. shown_busy s q w.sets (w.peer q) i && not (shown_entitled s q v.sets (v.peer q) i));
+  }
+
+  -- THE START
+
+  pub some_given : (q : C) (bs : List (C × Ingress)) → is_some (last_ingress_by s.cmp q bs) ≡ list_any (λ b. same s b.0 q) bs
+  some_given q [] = refl
+  some_given q (b ∷ bs) = go (same s b.0 q) (last_ingress_by s.cmp q bs) (list_any (λ x. same s x.0 q) bs) (some_given q bs)
+    where
+      go : (t : Bool) (o : Option Ingress) (any : Bool) → is_some o ≡ any → is_some (elim o [ None ↦ (if t then Some b.1 else None) | Some a ↦ Some a ]) ≡ (t || any)
+      go true None any e = refl
+      go true (Some a) any e = refl
+      go false None any e = e
+      go false (Some a) any e = e
+
+  started : (q : C) → first_record s.cmp s.bootstrappers s.own q ≡ shown s q [] (record { status = Inert; known = fresh s q })
+  started q = go (is_own s q) (last_ingress_by s.cmp q s.bootstrappers) (list_any (λ b. same s b.0 q) s.bootstrappers) (some_given q s.bootstrappers)
+    where
+      shown_by : (own : Bool) (given : Option Ingress) (any : Bool) → Option (RecordView C S)
+      shown_by own given any =
+          if ((own || any) || false) || false
+          then Some (record {
+            address = if own then Myself s.own else address_with given 0 (if own then Some s.own else None);
+            status = code.Inert;
+            primary_sets = 0;
+            secondary_sets = 0;
+            persistent = own || any;
+            next_reservable_at = 0;
+            next_dial_at = 0;
+          })
+          else None
+
+      go : (own : Bool) (given : Option Ingress) (any : Bool) → is_some given ≡ any →
+          (if own then Some (new_record (Myself s.own) true) else option_map (λ ingress. new_record (Bootstrapper ingress) true) given) ≡ shown_by own given any
+      go true given any e = refl
+      go false None any e = ap (shown_by false None) e
+      go false (Some a) any e = ap (shown_by false (Some a)) e
+
+  pub tie_start : (d : DirectoryView C S) → d.config ≡ config_of s → d.sets ≡ [] → ((q : C) → record_of s.cmp d q ≡ first_record s.cmp s.bootstrappers s.own q) → Stands s (World.world_at s []) d
+  tie_start d config sets records =
+      let start : Stands s (new_world s) d = record {
+        config = config;
+        sets = sets;
+        records = λ q. records q ∙ started q;
+        absent = λ q e. refl;
+        unblocked = λ q. refl;
+      } in subst (λ w. Stands s w d) (sym (new_at_start s)) start
+
+  -- CHANGES
+
+  -- what is known of a peer that an event leaves absent
+  forgotten : (b : Bool) (known : Known C S) (p : C) → b ≡ false → (if b then known else fresh s p) ≡ fresh s p
+  forgotten true known p e = absurd (cc)
+  forgotten false known p e = refl
+
+  -- a peer that an event does not change
+  unchanged : (p : C) (sets : List (SetAt C)) (peer : Peer C S) →
+      shown s p sets peer ≡ shown s p sets (record { status = peer.status; known = if is_present_with s p sets peer.status then peer.known else fresh s p })
+  unchanged p sets peer = go (is_present_with s p sets peer.status)
+    where
+      go : (b : Bool) → (if b then Some (record_with s p sets peer) else None)
+          ≡ (if b then Some (record_with s p sets (record { status = peer.status; known = if b then peer.known else fresh s p })) else None)
+      go true = refl
+      go false = refl
+
+  -- a peer that is present after an event
+  remains : (p : C) (sets : List (SetAt C)) (status : model.Status) (known : Known C S) → is_present_with s p sets status ≡ true →
+      Some (record_with s p sets (record { status = status; known = known })) ≡ shown s p sets (record { status = status; known = if is_present_with s p sets status then known else fresh s p })
+  remains p sets status known e =
+      λ i. if sym e i then Some (record_with s p sets (record { status = status; known = if sym e i then known else fresh s p })) else None
+
+  -- the same where it may be absent then
+  settles : (p : C) (sets : List (SetAt C)) (status : model.Status) (known : Known C S) →
+      shown s p sets (record { status = status; known = known }) ≡ shown s p sets (record { status = status; known = if is_present_with s p sets status then known else fresh s p })
+  settles p sets status known = unchanged p sets (record { status = status; known = known })
+
+  or_true : (b : Bool) → (b || true) ≡ true
+  or_true true = refl
+  or_true false = refl
+
+  module _ (exact : (p q : C) → s.cmp p q ≡ Equal → p ≡ q) where
+    equal_only : (o : Ordering) → is_eq o ≡ true → o ≡ Equal
+    equal_only Equal e = refl
+    equal_only Less e = absurd (cc)
+    equal_only Greater e = absurd (cc)
+
+    one_key : (p q : C) → is_at (s.cmp p) q ≡ true → p ≡ q
+    one_key p q e = exact p q (equal_only (s.cmp p q) e)
+
+    -- a peer that may be listened for is present
+    listened_present : (own named persistent inert free late : Bool) → ((((not own && (named || persistent)) && inert) && free) && late) ≡ true → (((persistent || named) || not inert)) ≡ true
+    listened_present true named persistent inert free late e = absurd (cc)
+    listened_present false true true inert free late e = refl
+    listened_present false true false inert free late e = refl
+    listened_present false false true inert free late e = refl
+    listened_present false false false inert free late e = absurd (cc)
+
+    pub tie_listen : (w : World C S) (d d' : DirectoryView C S) (p : C) (t draw : ℕ) → Stands s w d → may_listen s p t w.sets (w.peer p) (w.unblock p) ≡ true → d'.config ≡ d.config → d'.sets ≡ d.sets →
+        ((q : C) → record_of s.cmp d' q ≡ (if is_at (s.cmp p) q then option_map (reserved_at t draw d.config.cooldown) (record_of s.cmp d q) else record_of s.cmp d q)) →
+        Stands s (after s (Granted p (record { t = t; draw = draw; direction = Listener })) w) d'
+    tie_listen w d d' p t draw stands may config sets records = record {
+      config = config ∙ stands.config;
+      sets = sets ∙ stands.sets;
+      records = λ q. records q ∙ at q (is_at (s.cmp p) q) refl;
+      absent = λ q e. forgotten _ _ q e;
+      unblocked = stands.unblocked;
+    }
+      where
+        present : is_present_with s p w.sets (w.peer p).status ≡ true
+        present = listened_present (is_own s p) (is_named s p w.sets) (is_persistent s p) (Past.is_inert (w.peer p).status) (not (World.is_blocked (w.unblock p) t)) (nat_le (w.peer p).known.reservable_at t) may
+
+        grant : model.Grant
+        grant = record { t = t; draw = draw; direction = Listener }
+
+        at : (q : C) (b : Bool) → is_at (s.cmp p) q ≡ b →
+            (if is_at (s.cmp p) q then option_map (reserved_at t draw d.config.cooldown) (record_of s.cmp d q) else record_of s.cmp d q)
+            ≡ shown s q w.sets (World.peer_after s q (Granted p grant) w.sets (w.peer q))
+        at q b e = (λ i. changed (e i)) ∙ go b e ∙ (λ i. left (sym e i))
+          where
+            st : model.Status
+            st = (w.peer q).status
+
+            k : Known C S
+            k = (w.peer q).known
+
+            granted : Known C S
+            granted = record k { reservable_at = Past.cap (t + s.cooldown); dial_at = Past.cap (Past.cap (t + s.cooldown) + Past.jitter s draw) }
+
+            changed : Bool → Option (RecordView C S)
+            changed same = if same then option_map (reserved_at t draw d.config.cooldown) (record_of s.cmp d q) else record_of s.cmp d q
+
+            left : Bool → Option (RecordView C S)
+            left same = shown s q w.sets (record {
+              status = if same then Reserved else st;
+              known = if is_present_with s q w.sets (if same then Reserved else st) then (if same then granted else k) else fresh s q;
+            })
+
+            go : (same : Bool) → is_at (s.cmp p) q ≡ same → changed same ≡ left same
+            go true e =
+                let here : is_present_with s q w.sets st ≡ true = subst (λ x. is_present_with s x w.sets (w.peer x).status ≡ true) (one_key p q e) present in
+                ap (option_map (reserved_at t draw d.config.cooldown)) (stands.records q ∙ (λ i. if here i then Some (record_with s q w.sets (w.peer q)) else None))
+                ∙ (λ i. Some (reserved_at t draw (stands.config i).cooldown (record_with s q w.sets (w.peer q))))
+                ∙ remains q w.sets Reserved granted (or_true (is_persistent s q || is_named s q w.sets))
+            go false e = stands.records q ∙ unchanged q w.sets (w.peer q)
+
+    pub tie_release : (w : World C S) (d d' : DirectoryView C S) (p : C) (direction : Direction) → Stands s w d → Past.is_inert (w.peer p).status ≡ false → d'.config ≡ d.config → d'.sets ≡ d.sets →
+        ((q : C) → record_of s.cmp d' q ≡ (if is_at (s.cmp p) q then option_and_then (λ r. unless_deletable (released (metadata_of p direction) r)) (record_of s.cmp d q) else record_of s.cmp d q)) →
+        Stands s (after s (Released p direction) w) d'
+    tie_release w d d' p direction stands busy config sets records = record {
+      config = config ∙ stands.config;
+      sets = sets ∙ stands.sets;
+      records = λ q. records q ∙ at q (is_at (s.cmp p) q) refl;
+      absent = λ q e. forgotten _ _ q e;
+      unblocked = stands.unblocked;
+    }
+      where
+        present : is_present_with s p w.sets (w.peer p).status ≡ true
+        present = ap (λ b. (is_persistent s p || is_named s p w.sets) || not b) busy ∙ or_true (is_persistent s p || is_named s p w.sets)
+
+        ended : RecordView C S → Option (RecordView C S)
+        ended r = unless_deletable (released (metadata_of p direction) r)
+
+        at : (q : C) (b : Bool) → is_at (s.cmp p) q ≡ b →
+            (if is_at (s.cmp p) q then option_and_then ended (record_of s.cmp d q) else record_of s.cmp d q)
+            ≡ shown s q w.sets (World.peer_after s q (Released p direction) w.sets (w.peer q))
+        at q b e = (λ i. changed (e i)) ∙ go b e ∙ (λ i. left (sym e i))
+          where
+            st : model.Status
+            st = (w.peer q).status
+
+            k : Known C S
+            k = (w.peer q).known
+
+            changed : Bool → Option (RecordView C S)
+            changed same = if same then option_and_then ended (record_of s.cmp d q) else record_of s.cmp d q
+
+            left : Bool → Option (RecordView C S)
+            left same = shown s q w.sets (record {
+              status = if same then Inert else st;
+              known = if is_present_with s q w.sets (if same then Inert else st) then (if same && World.is_failed_dial s k.info direction then record k { fails = suc k.fails } else k) else fresh s q;
+            })
+
+            go : (same : Bool) → is_at (s.cmp p) q ≡ same → changed same ≡ left same
+            go true e =
+                let here : is_present_with s q w.sets st ≡ true = subst (λ x. is_present_with s x w.sets (w.peer x).status ≡ true) (one_key p q e) present in
+                ap (option_and_then ended) (stands.records q ∙ (λ i. if here i then Some (record_with s q w.sets (w.peer q)) else None))
+                ∙ ap unless_deletable (released_record s p q w.sets (w.peer q) direction)
+                ∙ released_shown s q w.sets (failed_once s k direction)
+                ∙ settles q w.sets Inert (failed_once s k direction)
+            go false e = stands.records q ∙ unchanged q w.sets (w.peer q)

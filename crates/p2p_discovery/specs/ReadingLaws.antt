@@ -1,0 +1,42 @@
+-- One field behind another, and what it is that was read.
+use Rattle.std.proofs.Common.{◌≡◌, ℕ, Bool, true, false, cond, ◌||◌, List, Result, Ok, Err, refl, ap}
+use Rattle.p2p_discovery.specs.declared.codec.error.CodecError.{CodecError}
+use Rattle.p2p_discovery.specs.Reading.{Reading, ◌>>=◌, reads, refuses, outcome_then, grows_then, Fails, Gives}
+
+pub or_left : (a b : Bool) → a ≡ true → a || b ≡ true
+or_left a b e = rw e refl
+
+pub or_right : (a b : Bool) → b ≡ true → a || b ≡ true
+or_right true b e = refl
+or_right false b e = e
+
+-- A fault of the first field is the fault.
+pub fails_first : {A B : Type 0} (e : CodecError) (r : List ℕ → Reading A) (f : A → List ℕ → Reading B) (bytes : List ℕ) → Fails e (r bytes) → Fails e ((r >>= f) bytes)
+fails_first e r f bytes h = (λ n. rw (h.0 n) refl, λ m. or_left (r bytes).grows (grows_then (r bytes).outcome f) (h.1 m))
+
+-- Behind the first field comes what follows it.
+pub fails_next : {A B : Type 0} (e : CodecError) (r : List ℕ → Reading A) (f : A → List ℕ → Reading B) (bytes : List ℕ) (x : A) (rest : List ℕ) → (r bytes).outcome ≡ Ok (x, rest) → Fails e (f x rest) → Fails e ((r >>= f) bytes)
+fails_next e r f bytes x rest o h = (λ n. rw o (h.0 n), λ m. or_right (r bytes).grows (grows_then (r bytes).outcome f) (rw o (h.1 m)))
+
+pub gives_next : {A B : Type 0} (result : Result B CodecError) (new : List ℕ) (r : List ℕ → Reading A) (f : A → List ℕ → Reading B) (bytes : List ℕ) (x : A) (rest : List ℕ) → (r bytes).outcome ≡ Ok (x, rest) → Gives result new (f x rest) → Gives result new ((r >>= f) bytes)
+gives_next (Ok y) new r f bytes x rest o h = rw o h
+gives_next (Err e) new r f bytes x rest o h = fails_next e r f bytes x rest o h
+
+-- ---- what was read
+
+abbrev pub done : {A : Type 0} → A → Result A CodecError
+done x = Ok x
+
+pub ok_is : {A : Type 0} (x y : A) → done x ≡ done y → x ≡ y
+ok_is x y e = cc
+
+-- what follows a first field that was read
+pub bind_ok : {A B : Type 0} (r : Result (A × List ℕ) CodecError) (f : A → List ℕ → Reading B) (y : B × List ℕ) → outcome_then r f ≡ Ok y → (x : A × List ℕ) × (r ≡ Ok x) × ((f x.0 x.1).outcome ≡ Ok y)
+bind_ok (Ok x) f y e = (x, refl, e)
+bind_ok (Err d) f y e = absurd cc
+
+pub guard_ok : {A : Type 0} (t : Bool) (e : CodecError) (x : A) (rest : List ℕ) (y : A) (new : List ℕ) → (cond t (refuses e rest) (reads x rest)).outcome ≡ Ok (y, new) → (t ≡ false) × (x ≡ y) × (rest ≡ new)
+guard_ok true e x rest y new h = absurd cc
+guard_ok {A = A} false e x rest y new h =
+    let p : ◌≡◌ {A = A × List ℕ} (x, rest) (y, new) = cc in
+    (refl, ap (λ (q : A × List ℕ). q.0) p, ap (λ (q : A × List ℕ). q.1) p)

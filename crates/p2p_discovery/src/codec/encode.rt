@@ -1,0 +1,60 @@
+//! Values with one spelling as bytes, and how they are written.
+
+ghost use Rattle.std.specs.Prelude.{◌≡◌, ℕ, ◌+◌, ◌≤◌, List, ◌++◌, length, IfOk};
+
+use bytes::{Bytes, BytesMut};
+use std::alloc::{AllocError, Global};
+
+/// A value with one spelling as bytes.
+///
+/// Conditions of all its calls and those of [`Write`]: a message, a text and a list are at most
+/// `u32::MAX` long, and the size fits `usize`.
+pub trait EncodeSize {
+    // Holds of each value of the type.
+    ghost IsValue: { Self → Type 0 };
+
+    // The conditions, and the spelling where they hold.
+    ghost CanSpell: { Self → Type 0 };
+
+    ghost spelling: { Self → List ℕ };
+
+    /// The number of bytes of the spelling.
+    fn encode_size(&self) -> usize
+        requires { CanSpell self.now }
+        ensures size { result ≡ length (spelling self.now) }
+        ensures value { IsValue self.now };
+}
+
+/// A value whose spelling has at most a constant number of bytes.
+pub trait MaxEncodeSize: EncodeSize {
+    ghost MAX_ENCODE_SIZE: { ℕ };
+
+    /// The greatest number of bytes that a spelling has.
+    const MAX_ENCODE_SIZE: usize;
+
+    // Law: no spelling is longer.
+    ghost at_most_max: { (v : Self) → Self.IsValue v → length (Self.spelling v) ≤ MAX_ENCODE_SIZE };
+}
+
+/// A value that is written by its spelling.
+pub trait Write: EncodeSize {
+    /// Appends the spelling. It takes no memory.
+    ///
+    /// Condition: spare room for [`EncodeSize::encode_size`] bytes.
+    fn write(&self, buf: &mut BytesMut)
+        requires can { Self.CanSpell self.now }
+        requires room { length (Self.spelling self.now) ≤ buf.old.spare }
+        ensures items { buf.new.items ≡ buf.old.items ++ Self.spelling self.now }
+        ensures spare { buf.new.spare + length (Self.spelling self.now) ≡ buf.old.spare };
+
+    /// The spelling in a buffer of its own, or want of memory.
+    final fn encode(&self, alloc: Global) -> Result<Bytes, AllocError>
+        requires { Self.CanSpell self.now }
+        ensures spelled { IfOk result (λ b. b ≡ Self.spelling self.now) }
+        ensures value { Self.IsValue self.now }
+    {
+        let mut buf = BytesMut::with_capacity(alloc, self.encode_size())?;
+        self.write(&mut buf);
+        Ok(buf.freeze()?)
+    }
+}

@@ -1,0 +1,43 @@
+//! Laws of spellings, for users: each function's contract is one, and it has nothing else to do.
+
+ghost use Rattle.std.specs.Prelude.{◌≡◌, ℕ, ◌≤◌, ◌<◌, ◌^◌, ◌↔◌, List, ◌++◌, [], length};
+ghost use Rattle.p2p_discovery.specs.Reading.{Leaves};
+ghost use Rattle.p2p_discovery.specs.Varint.{varint32, varint64, SpellsU32, SpellsU64};
+
+use crate::codec::{CodecError, MaxEncodeSize, Read, Write};
+use std::alloc::Global;
+
+/// No spelling of a value begins another, and equal values alone share a spelling.
+pub fn one_spelling<T: Read>(cfg: &T::Cfg)
+    ensures { (v w : T) (x y : List ℕ) → T.IsValue v → T.Admits cfg.now v → T.IsValue w → T.Admits cfg.now w
+        → T.spelling v ++ x ≡ T.spelling w ++ y → (v ≡ w) × (x ≡ y) }
+{}
+
+/// What was encoded is decoded to what it was, under limits that admit it, unless memory runs out.
+///
+/// Conditions: those of [`Write::encode`], and that the limits admit the value.
+pub fn read_back<T: Write + Read>(alloc: Global, value: &T, cfg: &T::Cfg) -> Result<T, CodecError>
+    requires can { T.CanSpell value.now }
+    requires admits { T.Admits cfg.now value.now }
+    ensures { Leaves result [] value.now [] }
+{
+    let bytes = value.encode(alloc)?;
+    T::decode_cfg(alloc, bytes, cfg)
+}
+
+/// The number of bytes of the spelling, which is at most the type's greatest.
+///
+/// Conditions: those of [`EncodeSize::encode_size`](crate::codec::EncodeSize::encode_size).
+pub fn bounded_size<T: MaxEncodeSize>(value: &T) -> usize
+    requires { T.CanSpell value.now }
+    ensures size { result ≡ length (T.spelling value.now) }
+    ensures bound { result ≤ T.MAX_ENCODE_SIZE }
+{
+    value.encode_size()
+}
+
+/// Bytes spell a whole number by the grammar of varints exactly where they are its one spelling.
+pub fn varint_grammar()
+    ensures long { (bytes : List ℕ) (n : ℕ) → SpellsU64 bytes n ↔ ((n < 2 ^ 64) × (bytes ≡ varint64 n)) }
+    ensures short { (bytes : List ℕ) (n : ℕ) → SpellsU32 bytes n ↔ ((n < 2 ^ 32) × (bytes ≡ varint32 n)) }
+{}

@@ -1,0 +1,183 @@
+ghost use Rattle.std.specs.Prelude.{◌≡◌, ◌<◌, ◌^◌};
+
+use crate::codec::{
+    CodecError, EncodeSize, FixedBytes, PublicKey, RangeCfg, Read, Reader, TestKey, TestSignature,
+    Write, bounded_size, read_back,
+};
+use bytes::{Bytes, BytesMut};
+use std::alloc::Global;
+use std::fmt::Debug;
+use std::process::Abort;
+use std::test::Fail;
+
+/// Bytes that stand behind a value that is read.
+const REST: &[u8] = b"\xff\x00";
+
+/// The value is spelled so, and read again with and without bytes behind it.
+pub(crate) fn is_spelled<T: Write + Read<Cfg = ()> + PartialEq + Debug>(
+    rt: &impl Abort,
+    alloc: Global,
+    value: &T,
+    spelling: &[u8],
+) -> Result<(), Fail>
+    requires { T.CanSpell value.now }
+{
+    let bytes = value.encode(alloc)?;
+    assert_eq!(rt; bytes.as_slice(), spelling);
+    assert_eq!(rt; value.encode_size(), spelling.len(), "{spelling:?}");
+    assert_eq!(rt; &T::decode(alloc, bytes)?, value);
+    let mut longer = spelling.to_vec(alloc)?;
+    longer.extend_from_slice(REST)?;
+    let mut buf = Bytes::copy_from_slice(alloc, &longer)?;
+    assert_eq!(rt; &T::read_cfg(alloc, &mut buf, &())?, value);
+    assert_eq!(rt; buf.as_slice(), REST, "behind {spelling:?}");
+    assert_eq!(rt;
+        T::decode(alloc, Bytes::copy_from_slice(alloc, &longer)?).err(),
+        Some(CodecError::ExtraData(2)),
+        "{longer:?}"
+    );
+    Ok(())
+}
+
+/// The bytes are refused with this fault, by `decode` and by `read_cfg`, which leaves its buffer.
+pub(crate) fn is_refused<T: Read<Cfg = ()>>(
+    rt: &impl Abort,
+    alloc: Global,
+    bytes: &[u8],
+    fault: CodecError,
+) -> Result<(), Fail> {
+    let mut buf = Bytes::copy_from_slice(alloc, bytes)?;
+    assert_eq!(rt;
+        T::decode(alloc, buf.clone()?).err(),
+        Some(fault),
+        "{bytes:?}"
+    );
+    assert_eq!(rt;
+        T::read_cfg(alloc, &mut buf, &()).err(),
+        Some(fault),
+        "{bytes:?}"
+    );
+    assert_eq!(rt; buf.as_slice(), bytes, "after a refusal");
+    Ok(())
+}
+
+#[test]
+fn spells_whole_numbers(rt: HostRuntime) -> Result<(), Fail> {
+    let cases = [
+        (0u64, b"\x00".as_slice()),
+        (127, b"\x7f".as_slice()),
+        (128, b"\x80\x01".as_slice()),
+        (253, b"\xfd\x01".as_slice()),
+        (300, b"\xac\x02".as_slice()),
+        (1000, b"\xe8\x07".as_slice()),
+        (12345, b"\xb9\x60".as_slice()),
+        (100_000, b"\xa0\x8d\x06".as_slice()),
+        (
+            u64::MAX,
+            b"\xff\xff\xff\xff\xff\xff\xff\xff\xff\x01".as_slice(),
+        ),
+    ];
+    for (number, spelling) in cases {
+        is_spelled(&rt, rt.alloc(), &number, spelling)?;
+    }
+    is_spelled(&rt, rt.alloc(), &u32::MAX, b"\xff\xff\xff\xff\x0f")
+}
+
+#[test]
+fn refuses_other_spellings_of_numbers(rt: HostRuntime) -> Result<(), Fail> {
+    let long = CodecError::InvalidVarint(10);
+    let cases = [
+        (b"".as_slice(), CodecError::EndOfBuffer),
+        (b"\x80".as_slice(), CodecError::EndOfBuffer),
+        (b"\x80\x00".as_slice(), long),
+        (b"\x81\x80\x00".as_slice(), long),
+        (b"\xff\xff\xff\xff\xff\xff\xff\xff\xff\x02".as_slice(), long),
+        (
+            b"\xff\xff\xff\xff\xff\xff\xff\xff\xff\x81\x00".as_slice(),
+            long,
+        ),
+    ];
+    for (bytes, fault) in cases {
+        is_refused::<u64>(&rt, rt.alloc(), bytes, fault)?;
+    }
+    let short = CodecError::InvalidVarint(5);
+    let cases = [
+        (b"\xff\xff\xff\xff".as_slice(), CodecError::EndOfBuffer),
+        (b"\xff\xff\xff\xff\x10".as_slice(), short),
+        (b"\xff\xff\xff\xff\x80\x00".as_slice(), short),
+        (b"\x80\x00".as_slice(), short),
+    ];
+    for (bytes, fault) in cases {
+        is_refused::<u32>(&rt, rt.alloc(), bytes, fault)?;
+    }
+    Ok(())
+}
+
+#[test]
+#[tactic(auto, unfolding(crate::specs::Varint::groups))]
+fn writes_behind_what_is_there(rt: HostRuntime) -> Result<(), Fail> {
+    let mut buf = BytesMut::with_capacity(rt.alloc(), 16)?;
+    300u64.write(&mut buf);
+    7u32.write(&mut buf);
+    assert_eq!(rt; buf.as_slice(), b"\xac\x02\x07".as_slice());
+    assert_eq!(rt; bounded_size(&300u64), 2);
+    assert_eq!(rt; read_back(rt.alloc(), &300u64, &())?, 300);
+    Ok(())
+}
+
+#[test]
+fn reads_from_left_to_right(rt: HostRuntime) -> Result<(), Fail> {
+    let bytes = Bytes::from_static(b"\x05abc");
+    let mut reader = Reader::new(&bytes);
+    assert_eq!(rt; reader.len(), 4);
+    assert_eq!(rt; reader.byte()?, 5);
+    assert_eq!(rt; reader.counted(4).err(), Some(CodecError::EndOfBuffer));
+    assert_eq!(rt; reader.counted(1)?, b"a".as_slice());
+    assert_eq!(rt; reader.rest(), b"bc".as_slice());
+    assert_eq!(rt; reader.cut(3).err(), Some(CodecError::EndOfBuffer));
+    assert_eq!(rt; reader.cut(2)?.as_slice(), b"bc".as_slice());
+    assert!(rt; reader.is_empty());
+    assert_eq!(rt; reader.byte().err(), Some(CodecError::EndOfBuffer));
+    Ok(())
+}
+
+#[test]
+fn allows_both_ends_of_a_limit(rt: HostRuntime) {
+    let limit = RangeCfg {
+        least: 2,
+        greatest: 4,
+    };
+    for (length, allowed) in [(1, false), (2, true), (4, true), (5, false)] {
+        assert_eq!(rt; limit.contains(length), allowed, "{length}");
+    }
+}
+
+#[test]
+fn spells_test_keys(rt: HostRuntime) -> Result<(), Fail> {
+    let mut out = [0u8; 8];
+    TestKey(0x0102_0304_0506_0708).write_fixed(&mut out);
+    assert_eq!(rt; out, [1, 2, 3, 4, 5, 6, 7, 8]);
+    assert_eq!(rt;
+        TestKey::read_fixed(&out),
+        Some(TestKey(0x0102_0304_0506_0708))
+    );
+    TestSignature(256).write_fixed(&mut out);
+    assert_eq!(rt; out, [0, 0, 0, 0, 0, 0, 1, 0]);
+    assert_eq!(rt; TestSignature::read_fixed(&out), Some(TestSignature(256)));
+    Ok(())
+}
+
+/// 1, then `1 * 257 + 97 + 1` for `a`, then that times 257 and 98 and 1 for `b`; the greatest
+/// number with one byte 255 is `257 * 2^64 - 257 + 256`, which is `2^64 - 1` without its front.
+#[test]
+fn signs_by_the_bytes(rt: HostRuntime) {
+    assert_eq!(rt; TestKey(1).sign(b"", b""), TestSignature(1));
+    assert_eq!(rt; TestKey(1).sign(b"a", b"b"), TestSignature(91_334));
+    assert_eq!(rt; TestKey(1).sign(b"", b"ab"), TestSignature(91_334));
+    assert_eq!(rt;
+        TestKey(u64::MAX).sign(b"\xff", b""),
+        TestSignature(u64::MAX)
+    );
+    assert!(rt; TestKey(1).verify(b"a", b"b", &TestSignature(91_334)));
+    assert!(rt; !TestKey(1).verify(b"a", b"b", &TestSignature(91_335)));
+}

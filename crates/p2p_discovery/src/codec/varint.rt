@@ -1,0 +1,159 @@
+//! Whole numbers as varints: groups of seven bits, the least significant first.
+
+ghost use Rattle.std.specs.Prelude.{◌≡◌, ℕ, ◌+◌, ◌*◌, ◌^◌, ◌<◌, ◌≤◌, List, ◌++◌, length, IfOk};
+ghost use Rattle.std.proofs.Common.{lit<};
+ghost use Rattle.p2p_discovery.specs.Reading.{Gives};
+ghost use Rattle.p2p_discovery.specs.FieldsLaws.{lawful_unlimited};
+ghost use Rattle.p2p_discovery.specs.Varint.{groups, groups_at, last_group, varint64, varint64_at, varint32, varint32_at};
+ghost use Rattle.p2p_discovery.specs.VarintLaws.{groups_lawful, groups_short};
+
+use crate::codec::{CodecError, EncodeSize, MaxEncodeSize, Read, Reader, Write};
+use bytes::BytesMut;
+use std::alloc::Global;
+
+// How many groups a number has.
+fn group_count(n: u64) -> usize
+    ensures size { (most : ℕ) → 0 < most → n < 128 ^ most → result ≡ length (groups most n) }
+    ensures bound { result ≤ n + 1 }
+    ensures short { (most : ℕ) → 0 < most → n < 128 ^ most → result ≤ most }
+{
+    if n < 128 { 1 } else { 1 + group_count(n / 128) }
+}
+
+// Appends the groups of a number.
+fn write_groups(n: u64, buf: &mut BytesMut)
+    requires { (most : ℕ) × (0 < most) × (n < 128 ^ most) × (length (groups most n) ≤ buf.old.spare) }
+    ensures { (most : ℕ) → 0 < most → n < 128 ^ most → (buf.new.items ≡ buf.old.items ++ groups most n)
+        × (buf.new.spare + length (groups most n) ≡ buf.old.spare) }
+{
+    if n < 128 {
+        buf.extend_reserved(&[n as u8]);
+    } else {
+        buf.extend_reserved(&[(n % 128) as u8 + 128]);
+        write_groups(n / 128, buf);
+    }
+}
+
+// Reads the groups of a number that has at most `most`. Behind the next byte at most `left` may
+// come, of which the last possible one is at most `top`; `started` where one came before.
+fn read_groups(
+    reader: &mut Reader<'_>,
+    most: usize,
+    top: u8,
+    started: bool,
+    left: u32,
+) -> Result<u64, CodecError>
+    requires small { top < 128 }
+    requires fits { (top + 1) * 128 ^ left ≤ 2 ^ 64 }
+    ensures exact { Gives result reader.new (groups_at most top started left reader.old) }
+    ensures bound { IfOk result (λ n. n < (top + 1) * 128 ^ left) }
+{
+    let byte = reader.byte()?;
+    if left == 0 {
+        return checked_last(byte, most, top, started);
+    }
+    if byte < 128 {
+        return checked_last(byte, most, 127, started);
+    }
+    let high = read_groups(reader, most, top, true, left - 1)?;
+    Ok(byte as u64 - 128 + 128 * high)
+}
+
+// The last group, which is at most `top`, and not 0 behind another one.
+fn checked_last(byte: u8, most: usize, top: u8, started: bool) -> Result<u64, CodecError>
+    ensures exact { (rest : List ℕ) → Gives result rest (last_group most top started byte rest) }
+    ensures bound { IfOk result (λ n. n ≤ top) }
+{
+    if byte > top || (started && byte == 0) {
+        return Err(CodecError::InvalidVarint(most));
+    }
+    Ok(byte as u64)
+}
+
+impl EncodeSize for u64 {
+    ghost IsValue = { λ n. n < 2 ^ 64 };
+
+    ghost CanSpell = { λ _. Unit {0} };
+
+    ghost spelling = { varint64 };
+
+    fn encode_size(&self) -> usize
+        ensures size { result ≡ length (varint64 self.now) }
+        ensures value { self.now < 2 ^ 64 }
+        ensures bound { result ≤ 10 }
+    {
+        group_count(*self)
+    }
+}
+
+impl MaxEncodeSize for u64 {
+    ghost MAX_ENCODE_SIZE = { 10 };
+
+    const MAX_ENCODE_SIZE: usize = 10;
+
+    ghost at_most_max = { λ n _. groups_short 10 n };
+}
+
+impl Write for u64 {
+    fn write(&self, buf: &mut BytesMut) {
+        write_groups(*self, buf);
+    }
+}
+
+impl Read for u64 {
+    type Cfg = ();
+
+    ghost Admits = { λ _ _. Unit {0} };
+
+    ghost reading = { λ _. varint64_at };
+
+    fn read(_alloc: Global, reader: &mut Reader<'_>, _cfg: &()) -> Result<u64, CodecError> {
+        read_groups(reader, 10, 1, false, 9)
+    }
+
+    ghost lawful = { λ _. lawful_unlimited (groups_lawful 10 1 9 (lit< tt)) };
+}
+
+impl EncodeSize for u32 {
+    ghost IsValue = { λ n. n < 2 ^ 32 };
+
+    ghost CanSpell = { λ _. Unit {0} };
+
+    ghost spelling = { varint32 };
+
+    fn encode_size(&self) -> usize
+        ensures size { result ≡ length (varint32 self.now) }
+        ensures value { self.now < 2 ^ 32 }
+        ensures bound { result ≤ 5 }
+    {
+        group_count(*self as u64)
+    }
+}
+
+impl MaxEncodeSize for u32 {
+    ghost MAX_ENCODE_SIZE = { 5 };
+
+    const MAX_ENCODE_SIZE: usize = 5;
+
+    ghost at_most_max = { λ n _. groups_short 5 n };
+}
+
+impl Write for u32 {
+    fn write(&self, buf: &mut BytesMut) {
+        write_groups(*self as u64, buf);
+    }
+}
+
+impl Read for u32 {
+    type Cfg = ();
+
+    ghost Admits = { λ _ _. Unit {0} };
+
+    ghost reading = { λ _. varint32_at };
+
+    fn read(_alloc: Global, reader: &mut Reader<'_>, _cfg: &()) -> Result<u32, CodecError> {
+        Ok(read_groups(reader, 5, 15, false, 4)? as u32)
+    }
+
+    ghost lawful = { λ _. lawful_unlimited (groups_lawful 5 15 4 (lit< tt)) };
+}

@@ -1,0 +1,165 @@
+//! What each call leaves where memory is refused.
+
+use crate::codec::{CodecError, Read, Write};
+use crate::famine::Famine;
+use crate::types::{Address, Hostname, Ingress, IpAddr, SocketAddr};
+use bytes::Bytes;
+use std::alloc::Global;
+use std::process::Abort;
+use std::test::Fail;
+
+const STEP: usize = 16;
+
+const STEPS: usize = 48;
+
+const NAME: &str = "a-name-of-a-machine-that-takes-memory.and-not-a-little.example.com";
+
+/// What was done at each budget: how often memory was refused, and how often it sufficed.
+#[derive(Clone, Copy)]
+pub(crate) struct Tally {
+    pub(crate) refused: usize,
+    pub(crate) done: usize,
+}
+
+impl Tally {
+    pub(crate) const EMPTY: Tally = Tally {
+        refused: 0,
+        done: 0,
+    };
+
+    pub(crate) fn count(&mut self, refused: bool) {
+        if refused {
+            self.refused = self.refused.saturating_add(1);
+        } else {
+            self.done = self.done.saturating_add(1);
+        }
+    }
+
+    /// Memory was refused at some budget, and sufficed at another.
+    pub(crate) fn is_mixed(&self, rt: &impl Abort) {
+        assert!(rt; self.refused > 0, "nothing was refused");
+        assert!(rt; self.done > 0, "each call was refused");
+    }
+}
+
+/// Reads a frame at each budget: the answer is the same or `Memory`, and then the buffer is too.
+fn reads_at_each_budget<T: Read<Cfg = ()> + Write + PartialEq>(
+    rt: &impl Abort,
+    alloc: Global,
+    famine: &mut Famine,
+    value: &T,
+) -> Result<Tally, Fail>
+    requires { T.CanSpell value.now }
+{
+    let frame = value.encode(alloc)?;
+    let mut tally = Tally::EMPTY;
+    for step in 0..STEPS {
+        let mut buf = Bytes::copy_from_slice(alloc, frame.as_slice())?;
+        let whole = Bytes::copy_from_slice(alloc, frame.as_slice())?;
+        famine.starve(alloc, step.saturating_mul(STEP))?;
+        let read = T::read_cfg(alloc, &mut buf, &());
+        let decoded = T::decode(alloc, whole);
+        let encoded = value.encode(alloc);
+        famine.relieve();
+        match read {
+            Ok(read) => {
+                assert!(rt; read == *value, "step {step}");
+                assert!(rt; buf.is_empty(), "step {step}");
+            }
+            Err(error) => {
+                assert_eq!(rt; error, CodecError::Memory, "step {step}");
+                assert_eq!(rt; buf.as_slice(), frame.as_slice(), "step {step}");
+            }
+        }
+        match decoded {
+            Ok(decoded) => {
+                tally.count(false);
+                assert!(rt; decoded == *value, "step {step}");
+            }
+            Err(error) => {
+                tally.count(true);
+                assert_eq!(rt; error, CodecError::Memory, "step {step}");
+            }
+        }
+        match encoded {
+            Ok(encoded) => {
+                tally.count(false);
+                assert_eq!(rt; encoded.as_slice(), frame.as_slice(), "step {step}");
+            }
+            Err(_) => tally.count(true),
+        }
+    }
+    Ok(tally)
+}
+
+#[test]
+fn codecs_of_addresses_are_refused(rt: HostRuntime) -> Result<(), Fail> {
+    let alloc = rt.alloc();
+    let host = Hostname::new(alloc, NAME)?;
+    let ingress = Ingress::Dns {
+        host: host.clone()?,
+        port: 80,
+    };
+    let address = Address::Asymmetric {
+        ingress: ingress.clone()?,
+        egress: SocketAddr::new(IpAddr::V4([1, 2, 3, 4]), 5),
+    };
+    let mut famine = Famine::new(alloc)?;
+    reads_at_each_budget(&rt, alloc, &mut famine, &host)?.is_mixed(&rt);
+    reads_at_each_budget(&rt, alloc, &mut famine, &ingress)?.is_mixed(&rt);
+    reads_at_each_budget(&rt, alloc, &mut famine, &address)?.is_mixed(&rt);
+    Ok(())
+}
+
+#[test]
+fn names_and_copies_are_refused(rt: HostRuntime) -> Result<(), Fail> {
+    let alloc = rt.alloc();
+    let host = Hostname::new(alloc, NAME)?;
+    let address = Address::Asymmetric {
+        ingress: Ingress::Dns {
+            host: host.clone()?,
+            port: 80,
+        },
+        egress: SocketAddr::new(IpAddr::V4([1, 2, 3, 4]), 5),
+    };
+    let mut famine = Famine::new(alloc)?;
+    let mut tally = Tally::EMPTY;
+    for step in 0..STEPS {
+        famine.starve(alloc, step.saturating_mul(STEP))?;
+        let named = Hostname::new(alloc, NAME);
+        let no_name = Hostname::new(alloc, "a..b");
+        let copy = address.clone();
+        let ingress = address.ingress();
+        famine.relieve();
+        tally.count(named.is_err());
+        assert!(rt; no_name.err() != Some(CodecError::Memory), "step {step}");
+        match named {
+            Ok(named) => assert!(rt; named == host, "step {step}"),
+            Err(error) => assert_eq!(rt; error, CodecError::Memory, "step {step}"),
+        }
+        if let Ok(copy) = copy {
+            assert!(rt; copy == address, "step {step}");
+        }
+        if let Ok(ingress) = ingress {
+            assert!(rt; ingress == address.ingress()?, "step {step}");
+        }
+    }
+    tally.is_mixed(&rt);
+    Ok(())
+}
+
+/// What holds no text takes no memory.
+#[test]
+fn reads_sockets_with_no_memory(rt: HostRuntime) -> Result<(), Fail> {
+    let alloc = rt.alloc();
+    let mut famine = Famine::new(alloc)?;
+    famine.starve(alloc, 0)?;
+    let read = Ingress::decode(alloc, Bytes::from_static(b"\0\x04\x7f\0\0\x01\x1f\x90"));
+    let faulty = Ingress::decode(alloc, Bytes::from_static(b"\x01\x01-\0P"));
+    let encoded = 7u64.encode(alloc).is_ok();
+    famine.relieve();
+    assert!(rt; !encoded);
+    assert_eq!(rt; read?.port(), 8080);
+    assert!(rt; faulty.err() != Some(CodecError::Memory));
+    Ok(())
+}

@@ -1,0 +1,183 @@
+//! Where a peer is reached, and where its connections come from.
+
+ghost use Rattle.std.specs.Prelude.{◌≡◌, ◌↔◌, ◌≤◌, length, IfOk, IsTrue};
+ghost use Rattle.p2p_discovery.specs.FieldsLaws.{lawful_unlimited};
+ghost use Rattle.p2p_discovery.specs.Address.{same_address, ingress_of, egress_of, IsAddress, address_spelling, address_at};
+ghost use Rattle.p2p_discovery.specs.AddressLaws.{lawful_address, address_short};
+ghost use Rattle.p2p_discovery.specs.SameLaws.{address_equivalence, address_laws};
+
+use crate::codec::{CodecError, EncodeSize, MaxEncodeSize, Read, Reader, Write};
+use crate::types::{Ingress, IpAddr, SocketAddr};
+use bytes::BytesMut;
+use std::alloc::{AllocError, Global};
+
+/// What is dialled to reach a peer, and where its connections come from. Symmetric addresses come
+/// before asymmetric ones.
+#[derive(Debug, PartialOrd, Ord, Drop)]
+pub enum Address {
+    /// One address for both.
+    Symmetric(SocketAddr),
+    /// Two addresses.
+    Asymmetric {
+        /// What is dialled.
+        ingress: Ingress,
+        /// Where connections come from.
+        egress: SocketAddr,
+    },
+}
+
+impl Address {
+    /// What is dialled to reach the peer, or want of memory.
+    pub fn ingress(&self) -> Result<Ingress, AllocError>
+        ensures { IfOk result (λ ingress. ingress ≡ ingress_of self.now) }
+    {
+        match self {
+            Address::Symmetric(socket) => Ok(Ingress::Socket(*socket)),
+            Address::Asymmetric { ingress, egress: _ } => ingress.clone(),
+        }
+    }
+
+    /// The address that connections come from.
+    pub fn egress_ip(&self) -> IpAddr
+        ensures { result ≡ (egress_of self.now).ip }
+    {
+        self.egress().ip()
+    }
+
+    /// The address and the port that connections come from.
+    pub fn egress(&self) -> SocketAddr
+        ensures { result ≡ egress_of self.now }
+    {
+        match self {
+            Address::Symmetric(socket) => *socket,
+            Address::Asymmetric { ingress: _, egress } => *egress,
+        }
+    }
+
+    /// An equal value, or want of memory.
+    pub fn clone(&self) -> Result<Address, AllocError>
+        ensures { IfOk result (λ copy. copy ≡ self.now) }
+    {
+        match self {
+            Address::Symmetric(socket) => Ok(Address::Symmetric(*socket)),
+            Address::Asymmetric { ingress, egress } => Ok(Address::Asymmetric {
+                ingress: ingress.clone()?,
+                egress: *egress,
+            }),
+        }
+    }
+}
+
+impl PartialEq for Address {
+    ghost eq = { same_address };
+
+    ghost laws = { address_laws };
+
+    fn eq(&self, other: &Address) -> bool
+        ensures same { result ≡ same_address self.now other.now }
+        ensures exact { IsTrue result ↔ self.now ≡ other.now }
+    {
+        match (self, other) {
+            (Address::Symmetric(socket), Address::Symmetric(other_socket)) => {
+                socket == other_socket
+            }
+            (
+                Address::Asymmetric { ingress, egress },
+                Address::Asymmetric {
+                    ingress: other_ingress,
+                    egress: other_egress,
+                },
+            ) => ingress == other_ingress && egress == other_egress,
+            _ => false,
+        }
+    }
+}
+
+impl Eq for Address {
+    ghost laws = { address_equivalence };
+}
+
+impl From<SocketAddr> for Address {
+    ghost use Rattle.p2p_discovery.specs.declared.types.address.Address.TheVariants.{Symmetric};
+
+    ghost from_gives = { λ socket address. address ≡ Symmetric socket };
+
+    fn from(socket: SocketAddr) -> Address {
+        Address::Symmetric(socket)
+    }
+}
+
+impl EncodeSize for Address {
+    ghost IsValue = { IsAddress };
+
+    ghost CanSpell = { λ _. Unit {0} };
+
+    ghost spelling = { address_spelling };
+
+    fn encode_size(&self) -> usize
+        ensures size { result ≡ length (address_spelling self.now) }
+        ensures value { IsAddress self.now }
+        ensures bound { result ≤ 281 }
+    {
+        match self {
+            Address::Symmetric(socket) => 1 + socket.encode_size(),
+            Address::Asymmetric { ingress, egress } => {
+                1 + ingress.encode_size() + egress.encode_size()
+            }
+        }
+    }
+}
+
+impl MaxEncodeSize for Address {
+    ghost MAX_ENCODE_SIZE = { 281 };
+
+    const MAX_ENCODE_SIZE: usize = 281;
+
+    ghost at_most_max = { address_short };
+}
+
+const SYMMETRIC_PREFIX: u8 = 0;
+
+const ASYMMETRIC_PREFIX: u8 = 1;
+
+impl Write for Address {
+    fn write(&self, buf: &mut BytesMut) {
+        match self {
+            Address::Symmetric(socket) => {
+                buf.extend_reserved(&[SYMMETRIC_PREFIX]);
+                socket.write(buf);
+            }
+            Address::Asymmetric { ingress, egress } => {
+                buf.extend_reserved(&[ASYMMETRIC_PREFIX]);
+                ingress.write(buf);
+                egress.write(buf);
+            }
+        }
+    }
+}
+
+impl Read for Address {
+    type Cfg = ();
+
+    ghost Admits = { λ _ _. Unit {0} };
+
+    ghost reading = { λ _. address_at };
+
+    #[tactic(auto, unfolding(crate::specs::Address::address_at))]
+    fn read(alloc: Global, reader: &mut Reader<'_>, cfg: &()) -> Result<Address, CodecError> {
+        match reader.byte()? {
+            SYMMETRIC_PREFIX => {
+                let socket = SocketAddr::read(alloc, reader, cfg)?;
+                Ok(Address::Symmetric(socket))
+            }
+            ASYMMETRIC_PREFIX => {
+                let ingress = Ingress::read(alloc, reader, cfg)?;
+                let egress = SocketAddr::read(alloc, reader, cfg)?;
+                Ok(Address::Asymmetric { ingress, egress })
+            }
+            prefix => Err(CodecError::InvalidEnum(prefix)),
+        }
+    }
+
+    ghost lawful = { λ _. lawful_unlimited lawful_address };
+}
