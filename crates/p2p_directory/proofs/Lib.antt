@@ -20,4 +20,5 @@ pub mod Bootstrapped
 pub mod Placed
 pub mod Holding
 pub mod Served
+pub mod Replies
 mod Rows

@@ -29,10 +29,10 @@ use Rattle.p2p_directory.specs.World.{World, does, after, fresh}
 use Rattle.p2p_directory.specs.Answers.{is_present_in, was_taken, was_granted}
 use Rattle.p2p_directory.specs.Records
 use Rattle.p2p_directory.specs.View.{DirectoryView, record_of, latest_index, unless_deletable}
-use Rattle.p2p_directory.specs.Directories.{is_some_and, released, set_of}
+use Rattle.p2p_directory.specs.Directories.{is_some_and, released, set_of, first_record}
 use Rattle.p2p_directory.specs.Reserved.{HeldView, held_of}
 use Rattle.p2p_directory.specs.Serving.{AreHeld, IsUnchanged, IsServed, is_next}
-use Rattle.p2p_directory.specs.Stands.{Stands, record_in, metadata_of, status_view}
+use Rattle.p2p_directory.specs.Stands.{Stands, config_of, record_in, metadata_of, status_view}
 use Rattle.p2p_directory.specs.Runs.{call_of, world_after, event_of, IsAnswer, next, Holds}
 use Rattle.p2p_directory.proofs.Law
 use Rattle.p2p_directory.proofs.Ties
@@ -272,3 +272,11 @@ module _ {C S : Type 0} (s : Setup C S) where
       served (command.Release p) r f = served_release p r f
       served (command.Status p) r f = served_status p r f
       served command.LatestSetIndex r f = served_latest r f
+
+  -- before any command nothing is held
+  pub stands_at_start : (d : DirectoryView C S) (room : ℕ) → d.config ≡ config_of s → d.sets ≡ [] → ((q : C) → record_of s.cmp d q ≡ first_record s.cmp s.bootstrappers s.own q) →
+      StandsAt [] d (record { reservations = []; room = room })
+  stands_at_start d room config sets records = record {
+    stands = Ties.tie_start s d config sets records;
+    holds = record { peers = λ q. refl; metadata = λ q. refl };
+  }
