@@ -105,6 +105,10 @@ module _ {C S : Type 0} (s : Setup C S) where
   accepted before (c ∷ cs) [] = before
   accepted before (c ∷ cs) (r ∷ rs) = accepted (next before c r) cs rs
 
+  -- the world after all of them
+  abbrev pub world_left : List (Call C S) → List (Reply C S) → World C S
+  world_left cs rs = world_after (accepted [] cs rs)
+
   -- one reply for each call, each the answer at its point
   abbrev pub AreAnswers : List (Call C S) → List (Call C S) → List (Reply C S) → Type 0
   AreAnswers before [] [] = Unit {0}

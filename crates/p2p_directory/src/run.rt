@@ -4,7 +4,7 @@ ghost use Rattle.std.specs.Prelude.{◌≡◌, ◌<◌, ◌≤◌, ◌+◌, ◌-
 ghost use Rattle.std.specs.Int.NonZero.{non_zero_usize_get};
 ghost use Rattle.p2p_directory.specs.Serving.{AreHeld, IsServed};
 ghost use Rattle.p2p_directory.specs.Stands.{Stands};
-ghost use Rattle.p2p_directory.specs.Runs.{setup_of, calls_of, world_after, accepted, AreAnswers, Holds};
+ghost use Rattle.p2p_directory.specs.Runs.{setup_of, calls_of, world_left, AreAnswers, Holds};
 
 use crate::directory::{Config, Directory};
 pub use crate::run::commands::{Command, Reply, Run};
@@ -36,12 +36,8 @@ pub fn run<C: PublicKey>(
 ) -> Result<Run<C>, AllocError>
     requires { non_zero_usize_get cfg.max_sets < 2 ^ 64 - 1 }
     ensures answers { IfOk result (λ run. AreAnswers (setup_of C.cmp bootstrappers.items myself cfg) [] (calls_of commands.items) run.replies.items) }
-    ensures directory { IfOk result (λ run.
-        let s = setup_of C.cmp bootstrappers.items myself cfg in
-        Stands s (world_after s (accepted s [] (calls_of commands.items) run.replies.items)) run.directory) }
-    ensures held { IfOk result (λ run.
-        let s = setup_of C.cmp bootstrappers.items myself cfg in
-        Holds s (world_after s (accepted s [] (calls_of commands.items) run.replies.items)) run.held) }
+    ensures directory { IfOk result (λ run. let s = setup_of C.cmp bootstrappers.items myself cfg in Stands s (world_left s (calls_of commands.items) run.replies.items) run.directory) }
+    ensures held { IfOk result (λ run. let s = setup_of C.cmp bootstrappers.items myself cfg in Holds s (world_left s (calls_of commands.items) run.replies.items) run.held) }
 {
     let mut replies = Vec::with_capacity(alloc, commands.len())?;
     let mut held = Held::with_room(alloc, commands.len())?;
