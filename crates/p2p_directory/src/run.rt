@@ -16,6 +16,8 @@ use std::alloc::{AllocError, Global};
 
 mod commands;
 mod held;
+#[cfg(test)]
+mod tests;
 
 /// Makes a directory and serves the commands in turn.
 ///
