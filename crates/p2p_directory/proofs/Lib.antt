@@ -17,4 +17,8 @@ pub mod Ties
 pub mod Shown
 pub mod TornDown
 pub mod Bootstrapped
+pub mod Placed
+pub mod Holding
+pub mod Served
+pub mod Replies
 mod Rows

@@ -7,3 +7,6 @@ pub mod View
 pub mod Configs
 pub mod Directories
 pub mod Stands
+pub mod Reserved
+pub mod Serving
+pub mod Runs

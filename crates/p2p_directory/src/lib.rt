@@ -5,5 +5,6 @@ pub mod directory;
 mod kept;
 pub mod laws;
 pub mod record;
+pub mod run;
 #[cfg(test)]
 mod tests;
