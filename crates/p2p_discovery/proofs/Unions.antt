@@ -369,23 +369,63 @@ module _ {P : Type 0} {R : P → P → Ordering} (o : IsTotalOrder R) (exact : (
         u.2,
       )
 
-  -- Where each union with the one more fits, so does each without.
-  pub fits_without : (xs ys : List P) (extension : Option P) (size limit : ℕ) → IsUnionSize R xs ys None size → ((all : List P) → IsUnion R xs ys extension all → length all < limit) → size < limit
-  fits_without xs ys None size limit u h = omega (arith, u.2, h u.0 u.1)
-  fits_without xs ys (Some e) size limit u h = by (has R e u.0) refl
+  -- ---- all unions are of one size
+
+  heads : (a b : P) (ws bs : List P) → IsStrictlySortedBy R (a ∷ ws) → IsStrictlySortedBy R (b ∷ bs) → In (b ∷ bs) a → In (a ∷ ws) b → a ≡ b
+  unfolding IsStrictlySortedBy
+  heads a b ws bs s t (inl e) h = sym e
+  heads a b ws bs s t (inr k) (inl e) = e
+  heads a b ws bs s t (inr k) (inr j) = absurd (not_below_itself a (o.trans a b a (below_in a ws b s.0 j) (below_in b bs a t.0 k)))
+
+  behind : (a b q : P) (ws bs : List P) → IsStrictlySortedBy R (a ∷ ws) → a ≡ b → In ws q → In (b ∷ bs) q → In bs q
+  unfolding IsStrictlySortedBy
+  behind a b q ws bs s same k (inl e) = absurd (not_below_itself q (subst (λ z. R z q ≡ Less) (same ∙ e) (below_in a ws q s.0 k)))
+  behind a b q ws bs s same k (inr j) = j
+
+  same_len : (ws bs : List P) → IsStrictlySortedBy R ws → IsStrictlySortedBy R bs → ((q : P) → In ws q → In bs q) → ((q : P) → In bs q → In ws q) → length ws ≡ length bs
+  same_len [] [] s t there back = refl
+  same_len [] (b ∷ bs) s t there back = absurd (back b (inl refl))
+  same_len (a ∷ ws) [] s t there back = absurd (there a (inl refl))
+  same_len (a ∷ ws) (b ∷ bs) s t there back =
+      let same = heads a b ws bs s t (there a (inl refl)) (back b (inl refl)) in
+      let tails = same_len ws bs (sorted_drop 1 (a ∷ ws) s) (sorted_drop 1 (b ∷ bs) t) (λ q k. behind a b q ws bs s same k (there q (inr k))) (λ q k. behind b a q bs ws t (sym same) k (back q (inr k))) in
+      omega (arith, tails)
+
+  pub one_size : (xs ys : List P) (extension : Option P) (ws bs : List P) → IsUnion R xs ys extension ws → IsUnion R xs ys extension bs → length ws ≡ length bs
+  one_size xs ys extension ws bs u v =
+      same_len ws bs u.sorted v.sorted
+      (λ q k. In-from_contains bs q ((v.holds q).1 ((u.holds q).0 (Contains-from_in ws q k))))
+      (λ q k. In-from_contains ws q ((u.holds q).1 ((v.holds q).0 (Contains-from_in bs q k))))
+
+  some_size : (xs ys : List P) (extension : Option P) (size : ℕ) → IsUnionSize R xs ys None size → (m : ℕ) × IsUnionSize R xs ys extension m × (size ≤ m) × (m ≤ size + 1)
+  some_size xs ys None size u = (size, u, omega arith, omega arith)
+  some_size xs ys (Some e) size u = by (has R e u.0) refl
     where
-      by : (b : Bool) → has R e u.0 ≡ b → size < limit
-      by true k =
-          let t : In xs e ⊎ In ys e = elim ((u.1.holds e).0 (Contains-from_in u.0 e (in_from_has e u.0 k))) [
-            | inl j ↦ inl (In-from_contains xs e j)
-            | inr r ↦ elim r [ inl j ↦ inr (In-from_contains ys e j) | inr j ↦ absurd (no_extension e j) ]
-          ] in
-          let v = unextended xs ys e size t u in
-          omega (arith, v.2, h v.0 v.1)
+      by : (b : Bool) → has R e u.0 ≡ b → (m : ℕ) × IsUnionSize R xs ys (Some e) m × (size ≤ m) × (m ≤ size + 1)
+      by true k = (
+        size,
+        unextended xs ys e size (elim ((u.1.holds e).0 (Contains-from_in u.0 e (in_from_has e u.0 k))) [
+          | inl j ↦ inl (In-from_contains xs e j)
+          | inr r ↦ elim r [ inl j ↦ inr (In-from_contains ys e j) | inr j ↦ absurd (no_extension e j) ]
+        ]) u,
+        omega arith,
+        omega arith,
+      )
       by false k =
           let no : In u.0 e → ⊥ = not_in_from_has e u.0 k in
-          let v = extended xs ys e size (λ j. no (In-from_contains u.0 e ((u.1.holds e).1 (inl (Contains-from_in xs e j))))) (λ j. no (In-from_contains u.0 e ((u.1.holds e).1 (inr (inl (Contains-from_in ys e j)))))) u in
-          omega (arith, v.2, h v.0 v.1)
+          (size + 1, extended xs ys e size (λ j. no (In-from_contains u.0 e ((u.1.holds e).1 (inl (Contains-from_in xs e j))))) (λ j. no (In-from_contains u.0 e ((u.1.holds e).1 (inr (inl (Contains-from_in ys e j)))))) u, omega arith, omega arith)
+
+  -- Where each union with the one more fits, so does each without.
+  pub fits_without : (xs ys : List P) (extension : Option P) (size limit : ℕ) → IsUnionSize R xs ys None size → ((all : List P) → IsUnion R xs ys extension all → length all < limit) → size < limit
+  fits_without xs ys extension size limit u h =
+      let m = some_size xs ys extension size u in
+      omega (arith, m.2, m.1.2, h m.1.0 m.1.1)
+
+  -- A union is no longer than its parts together.
+  pub union_short : (xs ys : List P) (extension : Option P) (all : List P) → IsStrictlySortedBy R xs → IsStrictlySortedBy R ys → IsUnion R xs ys extension all → length all ≤ length xs + length ys + 1
+  union_short xs ys extension all s t u =
+      let m = some_size xs ys extension (length (union R xs ys)) (union R xs ys, union_is xs ys s, refl) in
+      omega (arith, one_size xs ys extension all m.1.0 u m.1.1, m.1.2, m.3, length-union xs ys s t)
 
 -- ---- what a search by equality says
 

@@ -94,3 +94,6 @@ fn union_size<P: PublicKey>(primary: &[P], secondary: &[P]) -> usize
     }
     primary.len() + (secondary.len() - both)
 }
+
+#[cfg(test)]
+mod tests;
