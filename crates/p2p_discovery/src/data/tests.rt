@@ -1,3 +1,6 @@
+ghost use Rattle.std.specs.Prelude.{◌≡◌, ◌<◌, ◌^◌, length, IfOk};
+ghost use Rattle.std.specs.List.{concat};
+
 use crate::codec::{CodecError, EncodeSize, RangeCfg, Read, Write};
 use crate::data::{DATA_PREFIX, Data, EncodedData, MAX_PAYLOAD_OVERHEAD, Upgrader, max_size};
 use bytes::Bytes;
@@ -12,20 +15,42 @@ const ANY: RangeCfg = RangeCfg {
 
 const HELLO: &[u8] = b"\xb9\x60\x0dHello, world!";
 
-fn hello() -> Data {
+fn hello() -> Data
+    ensures { length result.message ≡ 13 }
+{
     Data {
         channel: 12345,
         message: Bytes::from_static(b"Hello, world!"),
     }
 }
 
-/// The buffers of a message.
-pub(crate) fn buffers(alloc: Global, parts: &[&'static [u8]]) -> Result<VecDeque<Bytes>, Fail> {
+/// So many times these buffers, which are not too long for a frame together.
+pub(crate) fn repeated(
+    alloc: Global,
+    parts: &[&'static [u8]],
+    times: usize,
+) -> Result<VecDeque<Bytes>, Fail>
+    ensures { IfOk result (λ v. length (concat v.items) < 2 ^ 32) }
+{
     let mut buffers = VecDeque::new(alloc);
-    for part in parts {
-        buffers.push_back(Bytes::from_static(*part))?;
+    let mut total = 0usize;
+    for _ in 0..times {
+        for part in parts {
+            if part.len() > 2_000_000 || total > 1_000_000_000 {
+                return Err("the buffers are too long".into());
+            }
+            total += part.len();
+            buffers.push_back(Bytes::from_static(*part))?;
+        }
     }
     Ok(buffers)
+}
+
+/// The buffers of a message.
+pub(crate) fn buffers(alloc: Global, parts: &[&'static [u8]]) -> Result<VecDeque<Bytes>, Fail>
+    ensures { IfOk result (λ v. length (concat v.items) < 2 ^ 32) }
+{
+    repeated(alloc, parts, 1)
 }
 
 #[test]
@@ -169,6 +194,30 @@ fn puts_a_header_before_the_buffers(rt: HostRuntime) -> Result<(), Fail> {
     assert_eq!(rt;
         encoded.payload,
         buffers(alloc, &[b"\0\x01\x05", b"", b"hello"])?
+    );
+    Ok(())
+}
+
+static LONG: [u8; 1_048_576] = [0; 1_048_576];
+
+/// The bytes in the buffers are neither read nor copied: this takes no longer than with short ones.
+#[test]
+fn puts_a_header_before_many_long_buffers(rt: HostRuntime) -> Result<(), Fail> {
+    let alloc = rt.alloc();
+    let message = repeated(alloc, &[LONG.as_slice()], 512)?;
+    let encoded = EncodedData::new(alloc, u64::MAX, message)
+        .ok()
+        .ok_or("no memory")?;
+    assert_eq!(rt; encoded.payload.len(), 513);
+    let total = encoded
+        .payload
+        .iter()
+        .fold(0usize, |total, buffer| total.saturating_add(buffer.len()));
+    assert_eq!(rt; total, 536_870_928);
+    let header = encoded.payload.front().ok_or("no header")?;
+    assert_eq!(rt;
+        header.as_slice(),
+        b"\x00\xff\xff\xff\xff\xff\xff\xff\xff\xff\x01\x80\x80\x80\x80\x02".as_slice()
     );
     Ok(())
 }

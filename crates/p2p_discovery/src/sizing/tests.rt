@@ -32,14 +32,18 @@ fn bounds_retained_peers(rt: HostRuntime) -> Result<(), Fail> {
     Ok(())
 }
 
+/// The number of peers of the sets [1, 3] and [2, 3] and one more.
+fn size_with(extension: Option<&TestKey>) -> usize {
+    peer_set_size(
+        &[TestKey(1), TestKey(3)],
+        &[TestKey(2), TestKey(3)],
+        extension,
+    )
+}
+
 #[test]
 fn counts_each_peer_once(rt: HostRuntime) {
-    let primary = [TestKey(1), TestKey(3)];
-    let secondary = [TestKey(2), TestKey(3)];
-    let cases = [(None, 3), (Some(TestKey(2)), 3), (Some(TestKey(4)), 4)];
-    for (extension, want) in cases {
-        let size = peer_set_size(&primary, &secondary, extension.as_ref());
-        assert_eq!(rt; size, want, "{extension:?}");
-    }
-    assert_eq!(rt; peer_set_size::<TestKey>(&[], &[], None), 0);
+    assert_eq!(rt; size_with(None), 3);
+    assert_eq!(rt; size_with(Some(&TestKey(2))), 3);
+    assert_eq!(rt; size_with(Some(&TestKey(4))), 4);
 }
