@@ -12,15 +12,19 @@ use Rattle.p2p_directory.specs.declared.run.commands.Reply.{Reply}
 use Rattle.p2p_directory.specs.declared.run.commands.Reply.TheVariants as reply
 use Rattle.p2p_directory.specs.Calls.{SetAt}
 use Rattle.p2p_directory.specs.Past.{last_of}
-use Rattle.p2p_directory.specs.Records.{is_inert, is_eligible, is_reservable, reserved_at}
+use Rattle.p2p_directory.specs.Records.{RecordView, is_inert, is_eligible, is_reservable, reserved_at}
 use Rattle.p2p_directory.specs.View.{DirectoryView, record_of, latest_index, is_above, unless_deletable}
 use Rattle.p2p_directory.specs.Directories.{is_some_and, released, set_of, tracked, AreTornDown}
 use Rattle.p2p_directory.specs.Reserved.{HeldView, held_of}
 
+-- there is a record, and its peer is reserved or connected
+abbrev pub is_busy : {C S : Type 0} → Option (RecordView C S) → Bool
+is_busy o = is_some_and o (λ r. not (is_inert r.status))
+
 module _ {C S : Type 0} (cmp : C → C → Ordering) where
   -- a reservation is held exactly of the peers that are reserved or connected
   abbrev pub AreHeld : DirectoryView C S → HeldView C S → Type 0
-  AreHeld d h = (q : C) → is_some (held_of cmp h q) ≡ is_some_and (record_of cmp d q) (λ r. not (is_inert r.status))
+  AreHeld d h = (q : C) → is_some (held_of cmp h q) ≡ is_busy (record_of cmp d q)
 
   -- nothing has changed
   pub record IsUnchanged (d : DirectoryView C S) (h : HeldView C S) (d2 : DirectoryView C S) (h2 : HeldView C S) : Type 0 where

@@ -1,4 +1,3 @@
 pub mod Names
 pub mod ReadLaws
 pub mod Sorting
-pub mod Unions

@@ -20,6 +20,7 @@ pub mod Reading
 pub mod ReadingLaws
 pub mod SameLaws
 pub mod Sizing
+pub mod SizingLaws
 pub mod Socket
 pub mod SocketLaws
 pub mod TestSignatures

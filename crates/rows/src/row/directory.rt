@@ -58,22 +58,11 @@ fn replies(alloc: Global, steps: &[Step]) -> Result<Vec<Reply<TestKey>>, AllocEr
         commands.push(step.command(alloc)?)?;
     }
     let bootstrappers = Vec::new(alloc);
-    let ended = run(alloc, bootstrappers, own_info(), config(), commands)?;
-    Ok(release_all(ended))
-}
-
-// Releases what is still held, and keeps the replies.
-fn release_all(ended: Run<TestKey>) -> Vec<Reply<TestKey>> {
     let Run {
         mut directory,
-        mut held,
+        held,
         replies,
-    } = ended;
-    while let Some(peer) = held.first() {
-        if let Some(reservation) = held.take(&peer) {
-            directory.release(reservation);
-        }
-    }
-    held.close();
-    replies
+    } = run(alloc, bootstrappers, own_info(), config(), commands)?;
+    held.release_all(&mut directory);
+    Ok(replies)
 }

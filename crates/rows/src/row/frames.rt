@@ -1,5 +1,8 @@
 //! Rows about frames and spellings.
 
+ghost use Rattle.std.specs.Prelude.{◌<◌, ◌^◌, length};
+ghost use Rattle.std.specs.List.{concat};
+
 use crate::row::lines::{Hex, Line};
 use crate::row::{Stop, print};
 use bytes::Bytes;
@@ -78,9 +81,9 @@ pub fn rest_of_a_frame<W: Write>(alloc: Global, out: &mut W) -> Result<(), Stop>
 /// The buffers of encoded data.
 pub fn encoded_data<W: Write>(alloc: Global, out: &mut W) -> Result<(), Stop> {
     let mut message = VecDeque::new(alloc);
-    for part in [b"hello ".as_slice(), b"world", b"!"] {
-        message.push_back(Bytes::from_static(part))?;
-    }
+    message.push_back(Bytes::from_static(b"hello "))?;
+    message.push_back(Bytes::from_static(b"world"))?;
+    message.push_back(Bytes::from_static(b"!"))?;
     print_buffers(alloc, message, out)?;
     print_buffers(alloc, VecDeque::new(alloc), out)
 }
@@ -89,7 +92,9 @@ fn print_buffers<W: Write>(
     alloc: Global,
     message: VecDeque<Bytes>,
     out: &mut W,
-) -> Result<(), Stop> {
+) -> Result<(), Stop>
+    requires { length (concat message.items) < 2 ^ 32 }
+{
     let Ok(encoded) = EncodedData::new(alloc, 12_345, message) else {
         return Err(Stop::Memory);
     };

@@ -31,9 +31,16 @@ fn retained_peers<W: Write>(out: &mut W) -> Result<(), Stop> {
 }
 
 fn set_sizes<W: Write>(out: &mut W) -> Result<(), Stop> {
-    let primary = [TestKey(1), TestKey(3)];
-    let secondary = [TestKey(2), TestKey(3)];
-    print(out, &peer_set_size(&primary, &secondary, None))?;
-    print(out, &peer_set_size(&primary, &secondary, Some(&TestKey(2))))?;
-    print(out, &peer_set_size(&primary, &secondary, Some(&TestKey(4))))
+    print(out, &set_size(None))?;
+    print(out, &set_size(Some(&TestKey(2))))?;
+    print(out, &set_size(Some(&TestKey(4))))
+}
+
+// The number of peers of the sets [1, 3] and [2, 3] and one more.
+fn set_size(extension: Option<&TestKey>) -> usize {
+    peer_set_size(
+        &[TestKey(1), TestKey(3)],
+        &[TestKey(2), TestKey(3)],
+        extension,
+    )
 }

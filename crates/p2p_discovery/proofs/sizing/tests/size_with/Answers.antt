@@ -2,7 +2,7 @@ use Rattle.std.proofs.Common.{◌<◌, ◌^◌, length, refl, arith, ◌∷◌, 
 use Rattle.std.specs.List.Sorted.{IsStrictlySortedBy}
 use Rattle.std.specs.Option.{option_copied}
 use Rattle.p2p_discovery.specs.KeysLaws.{key_total, exact_key}
-use Rattle.p2p_discovery.proofs.Unions.{union_short}
+use Rattle.p2p_discovery.specs.SizingLaws.{union_short}
 use Rattle.p2p_discovery.proofs.sizing.tests.size_with.Goals as goal
 
 pub peer_set_size-requires-clause-primary : goal.peer_set_size-requires-clause-primary
