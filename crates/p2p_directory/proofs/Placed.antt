@@ -184,3 +184,7 @@ filter_shorter {M} test (x ∷ xs) = go (test x) (filter_shorter test xs)
     go : (b : Bool) → length (filter test xs) ≤ length xs → length (cond {A = List M} b (x ∷ filter test xs) (filter test xs)) ≤ length (x ∷ xs)
     go true h = omega arith
     go false h = omega arith
+
+-- the first goes, and no other comes
+pub filter_first : {M : Type 0} (test : M → Bool) (x : M) (xs : List M) → test x ≡ false → length (filter test (x ∷ xs)) < length (x ∷ xs)
+filter_first {M} test x xs e = subst (λ b. length (cond {A = List M} b (x ∷ filter test xs) (filter test xs)) < length (x ∷ xs)) (sym e) (omega (arith, filter_shorter test xs))
