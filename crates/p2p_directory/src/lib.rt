@@ -6,3 +6,5 @@ mod kept;
 pub mod laws;
 pub mod record;
 pub mod run;
+#[cfg(test)]
+mod tests;

@@ -1,7 +1,8 @@
 -- Data are read by their spelling, and a header before the buffers of a message makes its frame.
-use Rattle.std.proofs.Common.{◌≡◌, ℕ, ◌+◌, ◌≤◌, ◌<◌, ◌^◌, true, List, ◌∷◌, length, refl, ap, ◌∙◌, arith, lit<, append_assoc, sum_by}
+use Rattle.std.proofs.Common.{◌≡◌, ℕ, ◌+◌, ◌≤◌, ◌<◌, ◌^◌, true, List, [], ◌∷◌, ◌++◌, length, refl, ap, ◌∙◌, arith, lit<, append_assoc, sum_by}
 use Rattle.std.specs.List.{concat}
-use Rattle.std.proofs.lemmas.List.{length-append}
+use Rattle.std.proofs.lemmas.List.{length-append, append-nil}
+use Rattle.std.proofs.lemmas.List.Folds.{concat-append}
 use Rattle.std.proofs.lemmas.List.Concat.{concat_is, length-flat_map}
 use Rattle.p2p_discovery.specs.declared.codec.error.RangeCfg.{RangeCfg}
 use Rattle.p2p_discovery.specs.declared.data.Data.{Data}
@@ -37,3 +38,6 @@ frame_short channel buffers frame e = omega (arith, ap length (frame_is channel 
 -- how long buffers are together
 pub joined_len : (buffers : List (List ℕ)) → length (concat buffers) ≡ sum_by length buffers
 joined_len buffers = ap length (concat_is buffers) ∙ length-flat_map (λ b. b) buffers
+
+pub joined_push : (buffers : List (List ℕ)) (b : List ℕ) → length (concat (buffers ++ b ∷ [])) ≡ length (concat buffers) + length b
+joined_push buffers b = ap length (concat-append buffers (b ∷ [])) ∙ length-append (concat buffers) (b ++ []) ∙ ap (λ (w : List ℕ). length (concat buffers) + length w) (append-nil b)

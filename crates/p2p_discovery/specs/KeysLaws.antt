@@ -3,6 +3,7 @@ use Rattle.std.proofs.Common.{◌≡◌, ℕ, ◌<◌, ◌^◌, ◌==◌, true, 
 use Rattle.std.specs.Int.{w64, to_be_bytes, from_be_bytes}
 use Rattle.std.specs.declared.cmp.Ordering.TheVariants.{Equal}
 use Rattle.std.specs.Ordering.{nat_cmp}
+use Rattle.std.specs.Cmp.{IsTotalOrder, nat_cmp_total, on_total}
 use Rattle.std.proofs.lemmas.Bool.{eqb-true}
 use Rattle.std.proofs.lemmas.Map.Lookups.{exact_unsigned}
 use Rattle.std.proofs.lemmas.Nat.{from_be_bytes-to_be_bytes_8}
@@ -13,6 +14,9 @@ use Rattle.p2p_discovery.specs.FixedLaws.{fixed64}
 
 abbrev key_from : ℕ → TestKey
 key_from n = record { 0 = n }
+
+pub key_total : IsTotalOrder (λ (x y : TestKey). nat_cmp x.0 y.0)
+key_total = on_total (λ (k : TestKey). k.0) nat_cmp_total
 
 pub exact_key : (x y : TestKey) → nat_cmp x.0 y.0 ≡ Equal → x ≡ y
 exact_key x y e = ap key_from (exact_unsigned x.0 y.0 e)

@@ -19,6 +19,7 @@ pub mod Ordered
 pub mod Reading
 pub mod ReadingLaws
 pub mod SameLaws
+pub mod Sizing
 pub mod Socket
 pub mod SocketLaws
 pub mod TestSignatures

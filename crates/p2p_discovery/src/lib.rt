@@ -9,4 +9,5 @@ mod famine;
 #[cfg(test)]
 mod refused;
 pub mod sets;
+pub mod sizing;
 pub mod types;

@@ -1,6 +1,8 @@
 //! What each call leaves where memory is refused.
 
-use crate::codec::{CodecError, Read, Write};
+use crate::codec::{CodecError, RangeCfg, Read, Write};
+use crate::data::tests::buffers;
+use crate::data::{Data, EncodedData};
 use crate::famine::Famine;
 use crate::types::{Address, Hostname, Ingress, IpAddr, SocketAddr};
 use bytes::Bytes;
@@ -8,9 +10,9 @@ use std::alloc::Global;
 use std::process::Abort;
 use std::test::Fail;
 
-const STEP: usize = 16;
+const STEP: usize = 32;
 
-const STEPS: usize = 48;
+const STEPS: usize = 128;
 
 const NAME: &str = "a-name-of-a-machine-that-takes-memory.and-not-a-little.example.com";
 
@@ -161,5 +163,66 @@ fn reads_sockets_with_no_memory(rt: HostRuntime) -> Result<(), Fail> {
     assert!(rt; !encoded);
     assert_eq!(rt; read?.port(), 8080);
     assert!(rt; faulty.err() != Some(CodecError::Memory));
+    Ok(())
+}
+
+/// Refused, a frame hands back the buffers that it was given.
+#[test]
+fn frames_are_refused(rt: HostRuntime) -> Result<(), Fail> {
+    let alloc = rt.alloc();
+    let mut famine = Famine::new(alloc)?;
+    let mut tally = Tally::EMPTY;
+    for step in 0..STEPS {
+        let message = buffers(alloc, &[b"hello ", b"world", b"!"])?;
+        let same = buffers(alloc, &[b"hello ", b"world", b"!"])?;
+        famine.starve(alloc, step.saturating_mul(STEP))?;
+        let encoded = EncodedData::new(alloc, 12345, message);
+        famine.relieve();
+        tally.count(encoded.is_err());
+        match encoded {
+            Ok(encoded) => assert_eq!(rt; encoded.payload.len(), 4, "step {step}"),
+            Err(back) => assert_eq!(rt; back, same, "step {step}"),
+        }
+    }
+    tally.is_mixed(&rt);
+    Ok(())
+}
+
+#[test]
+fn messages_are_refused(rt: HostRuntime) -> Result<(), Fail> {
+    let alloc = rt.alloc();
+    let limit = RangeCfg {
+        least: 0,
+        greatest: 64,
+    };
+    let spelled = b"\x01\x05hello!".as_slice();
+    let mut famine = Famine::new(alloc)?;
+    let mut tally = Tally::EMPTY;
+    for step in 0..STEPS {
+        let mut buf = Bytes::copy_from_slice(alloc, spelled)?;
+        let empty = Bytes::from_static(b"\x01\0");
+        famine.starve(alloc, step.saturating_mul(STEP))?;
+        let read = Data::read_cfg(alloc, &mut buf, &limit);
+        let none = Data::decode_cfg(alloc, empty, &limit);
+        let other = Data {
+            channel: 1,
+            message: Bytes::from_static(b"a message that is long enough to want memory"),
+        };
+        let encoded = other.encode(alloc);
+        famine.relieve();
+        tally.count(encoded.is_err());
+        assert!(rt; none.is_ok(), "no bytes take no memory, step {step}");
+        match read {
+            Ok(read) => {
+                assert_eq!(rt; read.message.as_slice(), b"hello".as_slice(), "step {step}");
+                assert_eq!(rt; buf.as_slice(), b"!".as_slice(), "step {step}");
+            }
+            Err(error) => {
+                assert_eq!(rt; error, CodecError::Memory, "step {step}");
+                assert_eq!(rt; buf.as_slice(), spelled, "step {step}");
+            }
+        }
+    }
+    tally.is_mixed(&rt);
     Ok(())
 }

@@ -1,0 +1,96 @@
+//! The worked rows, by their numbers.
+
+ghost use Rattle.std.specs.Prelude.{◌≤◌, ◌≡◌, codes};
+ghost use Rattle.std.specs.Io.KnownBytes.{Appends};
+
+use std::alloc::{AllocError, AllocFailed, Global};
+use std::fmt::Display;
+use std::io::{self, Write};
+
+mod addresses;
+mod directory;
+mod frames;
+mod lines;
+mod setting;
+mod sizes;
+
+/// Why a row ends early.
+#[derive(Debug, Drop)]
+enum Stop {
+    /// Memory was refused.
+    Memory,
+    /// A line could not be written.
+    Write,
+}
+
+impl From<AllocError> for Stop {
+    fn from(_error: AllocError) -> Stop {
+        Stop::Memory
+    }
+}
+
+impl<T: Drop> From<AllocFailed<T>> for Stop {
+    fn from(_error: AllocFailed<T>) -> Stop {
+        Stop::Memory
+    }
+}
+
+// Writes one line.
+fn print<W: Write>(out: &mut W, line: &impl Display) -> Result<(), Stop> {
+    writeln!(out, "{line}").map_err(|_error: io::Error| Stop::Write)
+}
+
+/// Says that memory ran out, and answers the exit status: 3, or 1 where that could not be written.
+pub fn out_of_memory<W: Write>(out: &mut W) -> u8
+    ensures { result ≤ 3 }
+{
+    match writeln!(out, "out of memory") {
+        Ok(()) => 3,
+        Err(_) => 1,
+    }
+}
+
+/// Says that there is no such row, and answers the exit status: 2, or 1 where that could not be
+/// written.
+pub fn no_such_row<W: Write>(out: &mut W) -> u8
+    ensures range { result ≤ 3 }
+    ensures printed { result ≡ 2 → Appends (W.contents out.old) (W.contents out.new) (codes "no such row\n") }
+{
+    match writeln!(out, "no such row") {
+        Ok(()) => 2,
+        Err(_) => 1,
+    }
+}
+
+/// Runs the worked row that the only word names, writes its lines to `out`, and answers the exit
+/// status of the program.
+///
+/// The status is 0 where all lines were written; 2 after `no such row`, where there is not exactly
+/// one word or it is not the number of a row in decimal without leading zeros; 3 after `out of
+/// memory`, where memory was refused; and 1 where a line could not be written.
+pub fn run_rows<W: Write>(alloc: Global, words: &[String], out: &mut W) -> u8
+    ensures { result ≤ 3 }
+{
+    let [word] = words else {
+        return no_such_row(out);
+    };
+    let ended = match word.as_str() {
+        "1" => frames::data_frame(alloc, out),
+        "2" => frames::rest_of_a_frame(alloc, out),
+        "3" => frames::encoded_data(alloc, out),
+        "5" => frames::odd_numbers(alloc, out),
+        "6" => directory::teardown(alloc, out),
+        "8" => directory::cooldown(alloc, out),
+        "21" => sizes::sizes(out),
+        "22" => addresses::validity(alloc, out),
+        _ => return no_such_row(out),
+    };
+    match ended {
+        Ok(()) => 0,
+        Err(Stop::Write) => 1,
+        Err(Stop::Memory) => out_of_memory(out),
+    }
+}
+
+#[cfg(test)]
+mod tests;

@@ -1,0 +1,143 @@
+//! Rows about frames and spellings.
+
+use crate::row::lines::{Hex, Line};
+use crate::row::{Stop, print};
+use bytes::Bytes;
+use p2p_discovery::codec::{CodecError, EncodeSize, RangeCfg, Read, Write as _};
+use p2p_discovery::data::{Data, EncodedData};
+use p2p_discovery::types::Ingress;
+use std::alloc::{AllocError, Global};
+use std::collections::VecDeque;
+use std::fmt;
+use std::io::Write;
+
+const ANY_LENGTH: RangeCfg = RangeCfg {
+    least: 0,
+    greatest: usize::MAX,
+};
+
+/// What was read, or why nothing was.
+struct Decoded(Result<Data, CodecError>);
+
+impl fmt::Display for Decoded {
+    fn fmt<W: fmt::Write>(&self, f: &mut fmt::Formatter<W>) -> fmt::Result {
+        match &self.0 {
+            Ok(data) => write!(f, "{}", Line(data)),
+            Err(error) => write!(f, "{}", Refused(*error)),
+        }
+    }
+}
+
+/// Why nothing was read.
+struct Refused(CodecError);
+
+impl fmt::Display for Refused {
+    fn fmt<W: fmt::Write>(&self, f: &mut fmt::Formatter<W>) -> fmt::Result {
+        let error = self.0;
+        write!(f, "{error:?}")
+    }
+}
+
+// Prints what was read, or ends the row where memory was refused.
+fn print_decoded<W: Write>(
+    out: &mut W,
+    decoded: Result<Data, CodecError>,
+) -> Result<(), Stop> {
+    match decoded {
+        Err(CodecError::Memory) => Err(Stop::Memory),
+        decoded => print(out, &Decoded(decoded)),
+    }
+}
+
+/// A data frame, and what limits on its message make of it.
+pub fn data_frame<W: Write>(alloc: Global, out: &mut W) -> Result<(), Stop> {
+    let data = Data {
+        channel: 12_345,
+        message: Bytes::from_static(b"Hello, world!"),
+    };
+    let frame = data.encode(alloc)?;
+    print(out, &Hex(frame.as_slice()))?;
+    for (least, greatest) in [(13, 13), (0, 12), (14, usize::MAX)] {
+        let limit = RangeCfg { least, greatest };
+        print_decoded(out, Data::decode_cfg(alloc, frame.clone()?, &limit))?;
+    }
+    Ok(())
+}
+
+/// What is left after a frame.
+pub fn rest_of_a_frame<W: Write>(alloc: Global, out: &mut W) -> Result<(), Stop> {
+    let frame: Bytes = Bytes::from_static(b"\x03\0\x01\x02\x03\x04\x05\x06\x07\x08\x09");
+    let mut rest = frame.clone()?;
+    print_decoded(out, Data::read_cfg(alloc, &mut rest, &ANY_LENGTH))?;
+    print(out, &Hex(rest.as_slice()))?;
+    print_decoded(out, Data::decode_cfg(alloc, frame, &ANY_LENGTH))
+}
+
+/// The buffers of encoded data.
+pub fn encoded_data<W: Write>(alloc: Global, out: &mut W) -> Result<(), Stop> {
+    let mut message = VecDeque::new(alloc);
+    for part in [b"hello ".as_slice(), b"world", b"!"] {
+        message.push_back(Bytes::from_static(part))?;
+    }
+    print_buffers(alloc, message, out)?;
+    print_buffers(alloc, VecDeque::new(alloc), out)
+}
+
+fn print_buffers<W: Write>(
+    alloc: Global,
+    message: VecDeque<Bytes>,
+    out: &mut W,
+) -> Result<(), Stop> {
+    let Ok(encoded) = EncodedData::new(alloc, 12_345, message) else {
+        return Err(Stop::Memory);
+    };
+    for buffer in &encoded.payload {
+        print(out, &Hex(buffer.as_slice()))?;
+    }
+    Ok(())
+}
+
+/// Numbers that are not spelled in their one way, the longest name, and one too long.
+pub fn odd_numbers<W: Write>(alloc: Global, out: &mut W) -> Result<(), Stop> {
+    for frame in [
+        b"\x80\0\0".as_slice(),
+        b"\xff\xff\xff\xff\xff\xff\xff\xff\xff\x01\0",
+        b"\xff\xff\xff\xff\xff\xff\xff\xff\xff\x02\0",
+    ] {
+        print_decoded(out, Data::decode_cfg(alloc, Bytes::from_static(frame), &ANY_LENGTH))?;
+    }
+    print_ingress_size(alloc, longest_name(alloc)?, out)?;
+    let mut long = Vec::new(alloc);
+    long.extend_from_slice(b"\x01\xac\x02")?;
+    extend(&mut long, b'a', 302)?;
+    print_ingress_size(alloc, Bytes::copy_from_slice(alloc, &long)?, out)
+}
+
+// A name of 253 bytes, with its port.
+fn longest_name(alloc: Global) -> Result<Bytes, AllocError> {
+    let mut frame = Vec::new(alloc);
+    frame.extend_from_slice(b"\x01\xfd\x01")?;
+    for (letter, count) in [(b'a', 63), (b'b', 63), (b'c', 63)] {
+        extend(&mut frame, letter, count)?;
+        frame.push(b'.')?;
+    }
+    extend(&mut frame, b'd', 61)?;
+    frame.extend_from_slice(&[0, 80])?;
+    Bytes::copy_from_slice(alloc, &frame)
+}
+
+fn extend(frame: &mut Vec<u8>, byte: u8, count: usize) -> Result<(), AllocError> {
+    for _ in 0..count {
+        frame.push(byte)?;
+    }
+    Ok(())
+}
+
+// Prints the size of the ingress that is spelled, or why it is none.
+fn print_ingress_size<W: Write>(alloc: Global, frame: Bytes, out: &mut W) -> Result<(), Stop> {
+    match Ingress::decode(alloc, frame) {
+        Ok(ingress) => print(out, &ingress.encode_size()),
+        Err(CodecError::Memory) => Err(Stop::Memory),
+        Err(error) => print(out, &Refused(error)),
+    }
+}

@@ -1,0 +1,65 @@
+//! The printed forms of values.
+
+use p2p_directory::run::Reply;
+use p2p_discovery::codec::TestKey;
+use p2p_discovery::data::Data;
+use p2p_discovery::sets::OrderedSet;
+use std::fmt;
+
+/// A value in its printed form.
+pub struct Line<'a, T>(pub &'a T);
+
+/// Bytes as two hexadecimal digits each, and no bytes as a hyphen.
+pub struct Hex<'a>(pub &'a [u8]);
+
+impl fmt::Display for Hex<'_> {
+    fn fmt<W: fmt::Write>(&self, f: &mut fmt::Formatter<W>) -> fmt::Result {
+        if self.0.is_empty() {
+            return f.write_str("-");
+        }
+        for byte in self.0 {
+            write!(f, "{byte:02x}")?;
+        }
+        Ok(())
+    }
+}
+
+impl fmt::Display for Line<'_, Data> {
+    fn fmt<W: fmt::Write>(&self, f: &mut fmt::Formatter<W>) -> fmt::Result {
+        let channel = self.0.channel;
+        let message = Hex(self.0.message.as_slice());
+        write!(f, "Data({channel}, {message})")
+    }
+}
+
+impl fmt::Display for Line<'_, OrderedSet<TestKey>> {
+    fn fmt<W: fmt::Write>(&self, f: &mut fmt::Formatter<W>) -> fmt::Result {
+        f.write_str("[")?;
+        for (place, peer) in self.0.as_slice().iter().enumerate() {
+            if place > 0 {
+                f.write_str(", ")?;
+            }
+            let TestKey(number) = *peer;
+            write!(f, "{number}")?;
+        }
+        f.write_str("]")
+    }
+}
+
+impl fmt::Display for Line<'_, Reply<TestKey>> {
+    fn fmt<W: fmt::Write>(&self, f: &mut fmt::Formatter<W>) -> fmt::Result {
+        match self.0 {
+            Reply::Track(Some(torn)) => write!(f, "Some({})", Line(torn)),
+            Reply::Track(None) | Reply::Status(None) | Reply::LatestSetIndex(None) => {
+                f.write_str("None")
+            }
+            Reply::Listen(true) => f.write_str("granted"),
+            Reply::Listen(false) => f.write_str("refused"),
+            Reply::Release => f.write_str("done"),
+            Reply::Status(Some(status)) => write!(f, "{status:?}"),
+            Reply::LatestSetIndex(Some(index)) => write!(f, "Some({index})"),
+            Reply::NotHeld => f.write_str("NotHeld"),
+            Reply::OutOfMemory => f.write_str("OutOfMemory"),
+        }
+    }
+}

@@ -1,0 +1,83 @@
+//! The setting that the worked rows share.
+
+ghost use Rattle.std.specs.Prelude.{◌≡◌};
+ghost use Rattle.std.specs.Int.NonZero.{non_zero_usize_get};
+
+use p2p_directory::directory::{Config, TrackedPeers};
+use p2p_directory::run::Command;
+use p2p_discovery::codec::{TestKey, TestSignature};
+use p2p_discovery::discovery::Info;
+use p2p_discovery::sets::OrderedSet;
+use p2p_discovery::types::{Ingress, IpAddr, SocketAddr};
+use std::alloc::{AllocError, Global};
+use std::num::NonZeroUsize;
+use std::time::Duration;
+
+/// The info of the local node: key 9 at 8.8.8.8:9000, with timestamp 0.
+pub fn own_info() -> Info<TestKey> {
+    Info {
+        ingress: Ingress::Socket(SocketAddr::new(IpAddr::V4([8, 8, 8, 8]), 9000)),
+        timestamp: 0,
+        public_key: TestKey(9),
+        signature: TestSignature(0),
+    }
+}
+
+/// One retained set, a cooldown of 10 seconds and blocks of 60, everything allowed.
+pub fn config() -> Config
+    ensures { non_zero_usize_get result.max_sets ≡ 1 }
+{
+    Config {
+        allow_private_ips: true,
+        allow_dns: true,
+        max_sets: NonZeroUsize::MIN,
+        dial_fail_limit: 1,
+        peer_connection_cooldown: Duration::from_secs(10),
+        block_duration: Duration::from_secs(60),
+    }
+}
+
+/// A moment: seconds and nanoseconds since the epoch.
+#[derive(Clone, Copy)]
+pub struct At(pub u64, pub u32);
+
+/// One call of a row, with keys as numbers and no draw.
+#[derive(Clone, Copy)]
+pub enum Step {
+    /// `track` of an index and its primary peers.
+    Track(u64, &'static [u64]),
+    /// `listen` of a peer at a moment.
+    Listen(u64, At),
+    /// `release` of a peer.
+    Release(u64),
+    /// `status` of a peer.
+    Status(u64),
+}
+
+impl Step {
+    /// The command that the step stands for.
+    pub fn command(self, alloc: Global) -> Result<Command<TestKey>, AllocError> {
+        Ok(match self {
+            Step::Track(index, primary) => Command::Track {
+                index,
+                peers: TrackedPeers::new(peers(alloc, primary)?, peers(alloc, &[])?),
+            },
+            Step::Listen(peer, At(seconds, nanoseconds)) => Command::Listen {
+                peer: TestKey(peer),
+                now: moment(seconds, nanoseconds),
+                draw: Duration::ZERO,
+            },
+            Step::Release(peer) => Command::Release(TestKey(peer)),
+            Step::Status(peer) => Command::Status(TestKey(peer)),
+        })
+    }
+}
+
+fn moment(seconds: u64, nanoseconds: u32) -> Duration {
+    Duration::from_secs(seconds).saturating_add(Duration::from_nanos(u64::from(nanoseconds)))
+}
+
+/// The set of the peers with these numbers.
+pub fn peers(alloc: Global, numbers: &[u64]) -> Result<OrderedSet<TestKey>, AllocError> {
+    OrderedSet::from_iter_dedup(alloc, numbers.iter().map(|number| TestKey(*number)))
+}

@@ -1,0 +1,39 @@
+//! Rows about sizes.
+
+use crate::row::{Stop, print};
+use p2p_discovery::codec::TestKey;
+use p2p_discovery::sizing::{
+    max_message_size, max_retained_peers, peer_set_limit, peer_set_size,
+};
+use std::io::Write;
+use std::num::NonZeroUsize;
+
+/// Sizes of messages and of sets of peers.
+pub fn sizes<W: Write>(out: &mut W) -> Result<(), Stop> {
+    message_sizes(out)?;
+    retained_peers(out)?;
+    set_sizes(out)
+}
+
+fn message_sizes<W: Write>(out: &mut W) -> Result<(), Stop> {
+    print(out, &max_message_size(&[]))?;
+    print(out, &max_message_size(&[3, 7, 5]))?;
+    print(out, &max_message_size(&[0, 4_294_967_295]))
+}
+
+fn retained_peers<W: Write>(out: &mut W) -> Result<(), Stop> {
+    let three = NonZeroUsize::MIN.saturating_add(2);
+    let four = NonZeroUsize::MIN.saturating_add(3);
+    print(out, &max_retained_peers(three, four, 2).get())?;
+    let participants = [TestKey(1), TestKey(2)];
+    print(out, &peer_set_limit(&participants, &TestKey(1)).get())?;
+    print(out, &peer_set_limit(&participants, &TestKey(3)).get())
+}
+
+fn set_sizes<W: Write>(out: &mut W) -> Result<(), Stop> {
+    let primary = [TestKey(1), TestKey(3)];
+    let secondary = [TestKey(2), TestKey(3)];
+    print(out, &peer_set_size(&primary, &secondary, None))?;
+    print(out, &peer_set_size(&primary, &secondary, Some(&TestKey(2))))?;
+    print(out, &peer_set_size(&primary, &secondary, Some(&TestKey(4))))
+}
