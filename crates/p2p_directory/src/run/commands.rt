@@ -7,23 +7,28 @@ use p2p_discovery::codec::PublicKey;
 use p2p_discovery::sets::OrderedSet;
 use std::time::Duration;
 
-/// One call of a directory. A moment is a time since the epoch.
+/// One call of a directory.
 #[derive(Drop)]
 pub enum Command<C: PublicKey> {
-    /// [`Directory::track`].
+    /// [`Directory::track`]: takes a peer set.
     Track {
+        /// The index of the set.
         index: u64,
+        /// Its peers.
         peers: TrackedPeers<C>,
     },
-    /// [`Directory::listen`]; the reservation is held.
+    /// [`Directory::listen`]: reserves a peer that comes. What is granted is held.
     Listen {
+        /// The peer that comes.
         peer: C,
+        /// The present moment, as the time since the epoch.
         now: Duration,
+        /// How much later than reservable the peer is to be dialable again, within its bound.
         draw: Duration,
     },
-    /// [`Directory::release`] of the reservation that is held of the peer.
+    /// [`Directory::release`] of the reservation that is held of this peer.
     Release(C),
-    /// [`Directory::status`].
+    /// [`Directory::status`] of this peer.
     Status(C),
     /// [`Directory::latest_set_index`].
     LatestSetIndex,
