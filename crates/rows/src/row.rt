@@ -82,7 +82,7 @@ pub fn run_rows<W: Write>(alloc: Global, words: &[String], out: &mut W) -> u8
         "6" => directory::teardown(alloc, out),
         "8" => directory::cooldown(alloc, out),
         "21" => sizes::sizes(out),
-        "22" => addresses::validity(alloc, out),
+        "22" => addresses::valid_addresses(alloc, out),
         _ => return no_such_row(out),
     };
     match ended {

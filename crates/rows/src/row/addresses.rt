@@ -8,6 +8,7 @@ use std::io::Write;
 
 /// Whether an ingress is valid where private addresses and names are not allowed, where names
 /// alone are, where private addresses alone are, and where both are.
+#[derive(Drop)]
 struct Validity([bool; 4]);
 
 impl fmt::Display for Validity {
@@ -31,7 +32,7 @@ fn socket(address: [u8; 4]) -> Ingress {
 }
 
 /// Which addresses are valid by the configuration.
-pub fn validity<W: Write>(alloc: Global, out: &mut W) -> Result<(), Stop> {
+pub fn valid_addresses<W: Write>(alloc: Global, out: &mut W) -> Result<(), Stop> {
     let host = match Hostname::new(alloc, "example.com") {
         Ok(host) => host,
         Err(_) => return Err(Stop::Memory),

@@ -17,6 +17,7 @@ const ANY_LENGTH: RangeCfg = RangeCfg {
 };
 
 /// What was read, or why nothing was.
+#[derive(Drop)]
 struct Decoded(Result<Data, CodecError>);
 
 impl fmt::Display for Decoded {
@@ -29,6 +30,7 @@ impl fmt::Display for Decoded {
 }
 
 /// Why nothing was read.
+#[derive(Drop)]
 struct Refused(CodecError);
 
 impl fmt::Display for Refused {

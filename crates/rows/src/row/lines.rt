@@ -7,9 +7,11 @@ use p2p_discovery::sets::OrderedSet;
 use std::fmt;
 
 /// A value in its printed form.
+#[derive(Drop)]
 pub struct Line<'a, T>(pub &'a T);
 
 /// Bytes as two hexadecimal digits each, and no bytes as a hyphen.
+#[derive(Drop)]
 pub struct Hex<'a>(pub &'a [u8]);
 
 impl fmt::Display for Hex<'_> {
