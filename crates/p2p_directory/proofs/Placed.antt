@@ -1,18 +1,17 @@
 -- A list in strict order of its keys: what a search, an insert and a removal leave to find at each key.
-use Rattle.std.proofs.Common.{◌≡◌, ℕ, zero, suc, ◌+◌, ◌<◌, ◌≤◌, Bool, true, false, not, List, [], ◌∷◌, ◌++◌, length, get_or, take, drop, map, Option, Some, None, Result, Ok, Err, IfOk, IfErr, cond, refl, sym, ◌∙◌, ap, subst, arith, inl, inr}
+use Rattle.std.proofs.Common.{◌≡◌, ℕ, zero, suc, ◌+◌, ◌<◌, ◌≤◌, Bool, true, false, not, List, [], ◌∷◌, length, get_or, map, Option, Some, None, Result, Ok, Err, IfOk, IfErr, cond, refl, sym, ◌∙◌, ap, subst, arith, inl, inr}
 use Rattle.std.proofs.lemmas.Bool.{cases_lt}
 use Rattle.std.proofs.lemmas.Cmp.{tied_back, eq_by_cmp_equiv}
-use Rattle.std.proofs.lemmas.List.{take-append-drop, get_or-map, length-map}
-use Rattle.std.proofs.lemmas.List.Folds.{find-append}
+use Rattle.std.proofs.lemmas.List.{get_or-map, length-map}
 use Rattle.std.proofs.lemmas.Map.Keys.{Less-from_sorted}
 use Rattle.std.proofs.lemmas.Map.Lookups.{CmpEqualImpliesEq}
 use Rattle.std.proofs.lemmas.Map.Views.{tells_apart}
 use Rattle.std.specs.BTreeMap.{is_at}
 use Rattle.std.specs.Cmp.{IsTotalOrder}
 use Rattle.std.specs.List.{AllByRecursion, HoldsAt, filter, find, insert, remove}
-use Rattle.std.specs.List.Sorted.{IsStrictlySortedBy, IsSortedBy, IsNonDecreasingBy, IsBinarySearchResult, IsPartitionPoint}
+use Rattle.std.specs.List.Sorted.{IsStrictlySortedBy, IsSortedBy, IsBinarySearchResult, IsPartitionPoint}
 use Rattle.std.proofs.lemmas.List.Sorted.{searchable_from_sorted}
-use Rattle.std.specs.Ordering.{is_eq, is_lt, ordering_index, ordering_reverse}
+use Rattle.std.specs.Ordering.{is_eq, is_lt, ordering_reverse}
 use Rattle.std.specs.declared.cmp.Ordering.{Ordering}
 use Rattle.std.specs.declared.cmp.Ordering.TheVariants.{Less, Equal, Greater}
 
@@ -184,3 +183,7 @@ filter_shorter {M} test (x ∷ xs) = go (test x) (filter_shorter test xs)
     go : (b : Bool) → length (filter test xs) ≤ length xs → length (cond {A = List M} b (x ∷ filter test xs) (filter test xs)) ≤ length (x ∷ xs)
     go true h = omega arith
     go false h = omega arith
+
+-- the first goes, and no other comes
+pub filter_first : {M : Type 0} (test : M → Bool) (x : M) (xs : List M) → test x ≡ false → length (filter test (x ∷ xs)) < length (x ∷ xs)
+filter_first {M} test x xs e = subst (λ b. length (cond {A = List M} b (x ∷ filter test xs) (filter test xs)) < length (x ∷ xs)) (sym e) (omega (arith, filter_shorter test xs))

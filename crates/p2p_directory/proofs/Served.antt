@@ -1,10 +1,9 @@
 -- Serving one command answers by the calls accepted before, and leads to the world with it.
-use Rattle.std.proofs.Common.{◌≡◌, ℕ, ◌+◌, ◌-◌, ◌≤◌, Bool, true, false, not, ◌||◌, List, [], ◌∷◌, length, Option, Some, None, refl, sym, ◌∙◌, ap, subst, arith}
+use Rattle.std.proofs.Common.{◌≡◌, ℕ, ◌-◌, ◌≤◌, Bool, true, false, not, ◌||◌, List, [], ◌∷◌, length, Option, Some, None, refl, sym, ◌∙◌, ap, subst, arith}
 use Rattle.std.specs.Prelude.{if◌then◌else◌, nat_lt, is_some}
-use Rattle.std.specs.List.{list_all, last_or}
+use Rattle.std.specs.List.{list_all}
 use Rattle.std.specs.Option.{option_map, option_and_then}
 use Rattle.std.specs.BTreeMap.{is_at}
-use Rattle.std.specs.Cmp.{IsTotalOrder}
 use Rattle.std.specs.Duration.{as_nanos}
 use Rattle.std.specs.declared.time.Duration.{Duration}
 use Rattle.p2p_directory.specs.declared.directory.TrackedPeers.{TrackedPeers}
@@ -12,13 +11,12 @@ use Rattle.std.specs.declared.cmp.Ordering.TheVariants.{Equal}
 use Rattle.std.proofs.lemmas.List.{length-drop}
 use Rattle.std.proofs.lemmas.Map.Views.{tells_apart}
 use Rattle.p2p_directory.specs.declared.directory.Metadata.{Metadata}
-use Rattle.p2p_directory.specs.declared.directory.Metadata.TheVariants as metadata
 use Rattle.p2p_directory.specs.declared.run.commands.Command.{Command}
 use Rattle.p2p_directory.specs.declared.run.commands.Command.TheVariants as command
 use Rattle.p2p_directory.specs.declared.run.commands.Reply.{Reply}
 use Rattle.p2p_directory.specs.declared.run.commands.Reply.TheVariants as reply
-use Rattle.p2p_directory.specs.Calls.{Setup, Call, Event, Status, Direction, Grant, SetAt, Question}
-use Rattle.p2p_directory.specs.Calls.Call.{Track, Listen, Release, Ask}
+use Rattle.p2p_directory.specs.Calls.{Setup, Call, Event, Status, Direction, Grant}
+use Rattle.p2p_directory.specs.Calls.Call.{Track, Release, Ask}
 use Rattle.p2p_directory.specs.Calls.Question.{StatusOf, LatestIndex}
 use Rattle.p2p_directory.specs.Calls.Status.{Inert, Reserved, Active}
 use Rattle.p2p_directory.specs.Calls.Direction.{Listener}

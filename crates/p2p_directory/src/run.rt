@@ -19,10 +19,11 @@ mod held;
 #[cfg(test)]
 mod tests;
 
-/// Makes a directory and serves the commands in turn.
+/// Makes a directory and serves the commands in turn. Each reply is that of the call, by what was
+/// called before it; a command that is replied `NotHeld` or `OutOfMemory` is as not given.
 ///
-/// Room for all replies and all reservations is taken before the first command, so that only a
-/// `Track` may be answered `OutOfMemory`.
+/// Room for all replies and all reservations is taken before the first command, so only a `Track`
+/// whose set would be taken may be replied `OutOfMemory`.
 ///
 /// Condition: that of [`Directory::init`].
 ///

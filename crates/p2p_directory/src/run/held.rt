@@ -50,6 +50,7 @@ impl<C: PublicKey> Held<C> {
     pub fn first(&self) -> Option<C>
         ensures least { result ≡ option_map key_of (slice_get self.now.reservations 0) }
         ensures ascending { IsStrictlySortedBy C.cmp (map key_of self.now.reservations) }
+        ensures none { IfNone result (self.now.reservations ≡ []) }
     {
         match self.reservations.first() {
             Some(reservation) => Some(*reservation.metadata().public_key()),

@@ -3,7 +3,7 @@ ghost use Rattle.std.specs.Int.NonZero.{non_zero_usize_get};
 ghost use Rattle.p2p_directory.specs.Reserved.{all_but};
 ghost use Rattle.p2p_directory.specs.Serving.{AreHeld};
 
-use crate::directory::{Config, Directory, Metadata, TrackedPeers};
+use crate::directory::{Config, Directory, TrackedPeers};
 use crate::run::{Command, Held, Run, run};
 use p2p_discovery::codec::{PublicKey, TestKey, TestSignature};
 use p2p_discovery::discovery::Info;
@@ -14,14 +14,18 @@ use std::num::NonZeroUsize;
 use std::test::Fail;
 use std::time::Duration;
 
-// Releases the reservation of the peer, if one is held.
-fn release<C: PublicKey>(directory: &mut Directory<C>, held: &mut Held<C>, peer: &C)
+// Releases the reservation of the peer, and says whether one was held.
+fn release<C: PublicKey>(directory: &mut Directory<C>, held: &mut Held<C>, peer: &C) -> bool
     requires { AreHeld C.cmp directory.old held.old }
     ensures agree { AreHeld C.cmp directory.new held.new }
     ensures rest { held.new ≡ all_but C.cmp peer.now held.old }
 {
-    if let Some(reservation) = held.take(peer) {
-        directory.release(reservation);
+    match held.take(peer) {
+        Some(reservation) => {
+            directory.release(reservation);
+            true
+        }
+        None => false,
     }
 }
 
@@ -30,7 +34,7 @@ fn finish<C: PublicKey>(mut directory: Directory<C>, mut held: Held<C>)
     requires { AreHeld C.cmp directory held }
 {
     while let Some(peer) = held.first() {
-        release(&mut directory, &mut held, &peer);
+        let _ = release(&mut directory, &mut held, &peer);
     }
     held.close();
 }
@@ -122,19 +126,10 @@ fn holds_what_was_granted(rt: HostRuntime) -> Result<(), Fail> {
         replies: _,
     } = run(alloc, Vec::new(alloc), own_info(), config(), commands)?;
     assert_eq!(rt; held.first(), Some(TestKey(1)));
-    release(&mut directory, &mut held, &TestKey(3));
+    assert!(rt; !release(&mut directory, &mut held, &TestKey(3)));
     assert_eq!(rt; held.first(), Some(TestKey(1)));
-    release(&mut directory, &mut held, &TestKey(1));
+    assert!(rt; release(&mut directory, &mut held, &TestKey(1)));
     assert_eq!(rt; held.first(), Some(TestKey(2)));
-    match held.take(&TestKey(2)) {
-        Some(reservation) => {
-            assert!(rt; *reservation.metadata().public_key() == TestKey(2));
-            assert!(rt; matches!(reservation.metadata(), Metadata::Listener(_)));
-            directory.release(reservation);
-        }
-        None => assert!(rt; false, "nothing held of 2"),
-    }
-    assert_eq!(rt; held.first(), None);
-    held.close();
+    finish(directory, held);
     Ok(())
 }

@@ -1,8 +1,8 @@
-use Rattle.std.proofs.Common.{◌≡◌, ℕ, ◌+◌, ◌<◌, ◌≤◌, List, [], ◌∷◌, ◌++◌, length, sym, ap, subst, ◌∙◌, refl, arith, append-nil}
+use Rattle.std.proofs.Common.{[], length, sym, ap, subst, ◌∙◌, refl, arith}
 use Rattle.std.proofs.lemmas.List.{length_push}
 use Rattle.p2p_directory.specs.Stands.{Stands}
 use Rattle.p2p_directory.specs.Runs.{setup_of, calls_of, world_after, accepted, AreAnswers, Holds}
-use Rattle.p2p_directory.proofs.Served.{StandsAt, are_held, stands_at_start}
+use Rattle.p2p_directory.proofs.Served.{are_held, stands_at_start}
 use Rattle.p2p_directory.proofs.Replies.{item_left, item_moved, all_moved, one_more}
 use Rattle.p2p_directory.proofs.run.run.Goals as goal
 

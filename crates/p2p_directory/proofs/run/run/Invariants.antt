@@ -1,4 +1,4 @@
-use Rattle.std.proofs.Common.{◌≡◌, ◌≤◌, ◌++◌, [], length, vec_len, vec_capacity}
+use Rattle.std.proofs.Common.{◌≡◌, ◌≤◌, ◌++◌, [], length, vec_capacity}
 use Rattle.p2p_directory.specs.Runs.{setup_of, calls_of, accepted, AreAnswers}
 use Rattle.p2p_directory.proofs.Served.{StandsAt}
 use Rattle.p2p_directory.proofs.run.run.Given as goal

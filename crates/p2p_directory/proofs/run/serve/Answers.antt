@@ -1,5 +1,4 @@
 use Rattle.std.proofs.Common.{sym}
-use Rattle.p2p_directory.specs.Directories.{IsHeld, key_of}
 use Rattle.p2p_directory.proofs.Holding.{held_key, held_record, held_rest, fewer_held}
 use Rattle.p2p_directory.proofs.run.serve.Goals as goal
 

@@ -1,4 +1,4 @@
-use Rattle.std.proofs.Common.{◌≡◌, None, Some, sym, ap, ◌∙◌, subst, arith}
+use Rattle.std.proofs.Common.{sym, ◌∙◌, arith}
 use Rattle.p2p_directory.specs.Directories.{key_of}
 use Rattle.p2p_directory.proofs.Placed.{found, misses, sorted_insert, find_insert}
 use Rattle.p2p_directory.proofs.run.held.Held.put.Goals as goal

@@ -1,8 +1,5 @@
-use Rattle.std.proofs.Common.{rules, sym}
+use Rattle.std.proofs.Common.{rules}
 use Rattle.std.proofs.lemmas.List.Sorted.{answers_always}
-use Rattle.std.specs.List.{HoldsAt}
-use Rattle.std.specs.List.Sorted.{IsStrictlySortedBy, IsBinarySearchResult, IsPartitionPoint}
-use Rattle.std.specs.declared.cmp.Ordering.TheVariants.{Less, Equal, Greater}
 use Rattle.p2p_directory.specs.Directories.{key_of}
 use Rattle.p2p_directory.proofs.Placed.{searched}
 use Rattle.p2p_directory.proofs.run.held.Held.search.Goals as goal
