@@ -1,3 +1,4 @@
+pub mod ListReads
 pub mod Names
 pub mod ReadLaws
 pub mod Sorting

@@ -14,6 +14,8 @@ pub mod HostnameLaws
 pub mod Ingress
 pub mod IngressLaws
 pub mod KeysLaws
+pub mod Lists
+pub mod ListsLaws
 pub mod Order
 pub mod Ordered
 pub mod Reading

@@ -5,6 +5,7 @@ ghost use Rattle.p2p_discovery.specs.declared.codec.error.CodecError.TheVariants
 ghost use Rattle.p2p_discovery.specs.Reading.{is_within};
 
 use std::alloc::{AllocError, AllocFailed};
+use thiserror::Error;
 
 /// What a field holds that has not its proper form.
 #[derive(Clone, Copy, Debug, PartialEq, Eq)]
@@ -20,22 +21,29 @@ pub enum What {
 }
 
 /// Why bytes could not be read: the first fault from left to right, or want of memory.
-#[derive(Clone, Copy, Debug, PartialEq, Eq)]
+#[derive(Clone, Copy, Debug, PartialEq, Eq, Error)]
 pub enum CodecError {
     /// The bytes end within a field.
+    #[error("the bytes end within a field")]
     EndOfBuffer,
     /// So many bytes stand behind the value.
+    #[error("{0} bytes behind the value")]
     ExtraData(usize),
     /// A length, or a number of bits, that its limit does not allow.
+    #[error("a length of {0} is not allowed")]
     InvalidLength(usize),
     /// A whole number of at most so many bytes that is not spelled in its one way: it is padded,
     /// too long or too great.
+    #[error("no whole number of at most {0} bytes")]
     InvalidVarint(usize),
     /// A prefix byte that no form has.
+    #[error("no form has the prefix {0}")]
     InvalidEnum(u8),
     /// A field that has not its proper form.
+    #[error("not the proper form: {0:?}")]
     Invalid(What),
     /// Memory for the value was refused.
+    #[error("memory was refused")]
     Memory,
 }
 

@@ -2,7 +2,7 @@ ghost use Rattle.std.specs.Prelude.{◌≡◌, ◌<◌, ◌^◌};
 
 use crate::codec::{
     CodecError, EncodeSize, FixedBytes, PublicKey, RangeCfg, Read, Reader, TestKey, TestSignature,
-    Write, bounded_size, read_back,
+    What, Write, bounded_size, read_back,
 };
 use bytes::{Bytes, BytesMut};
 use std::alloc::Global;
@@ -180,4 +180,31 @@ fn signs_by_the_bytes(rt: HostRuntime) {
     );
     assert!(rt; TestKey(1).verify(b"a", b"b", &TestSignature(91_334)));
     assert!(rt; !TestKey(1).verify(b"a", b"b", &TestSignature(91_335)));
+}
+
+#[test]
+fn tells_why_bytes_are_refused(rt: HostRuntime) -> Result<(), Fail> {
+    let cases = [
+        (CodecError::EndOfBuffer, "the bytes end within a field"),
+        (CodecError::ExtraData(9), "9 bytes behind the value"),
+        (
+            CodecError::InvalidLength(13),
+            "a length of 13 is not allowed",
+        ),
+        (
+            CodecError::InvalidVarint(10),
+            "no whole number of at most 10 bytes",
+        ),
+        (CodecError::InvalidEnum(5), "no form has the prefix 5"),
+        (
+            CodecError::Invalid(What::Hostname),
+            "not the proper form: Hostname",
+        ),
+        (CodecError::Memory, "memory was refused"),
+    ];
+    for (error, text) in cases {
+        let told = format!(in rt.alloc(); "{error}")?;
+        assert_eq!(rt; told.as_str(), text);
+    }
+    Ok(())
 }

@@ -1,0 +1,55 @@
+//! Values one after the other.
+
+ghost use Rattle.std.specs.Prelude.{◌≡◌, ℕ, ◌+◌, ◌<◌, ◌≤◌, ◌^◌, ◌++◌, ◌/◌, length, min};
+ghost use Rattle.p2p_discovery.specs.Reading.{GivesAs};
+ghost use Rattle.p2p_discovery.specs.Lists.{items_at, spellings};
+
+use crate::codec::{CodecError, EncodeSize, Read, Reader, Write};
+use bytes::BytesMut;
+use std::alloc::Global;
+
+// Reads so many values, each of which has `least` bytes at least. Room is asked for no more of
+// them than the bytes that are left can hold.
+pub(crate) fn read_items<T: Read<Cfg = ()>>(
+    alloc: Global,
+    reader: &mut Reader<'_>,
+    count: usize,
+    least: usize,
+) -> Result<Vec<T>, CodecError>
+    requires some { 0 < least }
+    requires least { (v : T) → T.IsValue v → T.Admits tt v → least ≤ length (T.spelling v) }
+    ensures { GivesAs (λ v. v.items) result reader.new (items_at least (T.reading tt) count reader.old) }
+{
+    let room = count.min(reader.rest().len() / least);
+    let mut items = Vec::with_capacity(alloc, room)?;
+    for _ in 0..count {
+        let item = T::read(alloc, reader, &())?;
+        items.push_reserved(item);
+    }
+    Ok(items)
+}
+
+// The number of bytes of the spellings of these values.
+pub(crate) fn items_size<T: EncodeSize>(items: &[T]) -> usize
+    requires can { (x : T) → T.CanSpell x }
+    requires fits { length (spellings T.spelling items.now) < 2 ^ 64 }
+    ensures { result ≡ length (spellings T.spelling items.now) }
+{
+    let mut size = 0;
+    for item in items {
+        size += item.encode_size();
+    }
+    size
+}
+
+// Appends the spellings of these values.
+pub(crate) fn write_items<T: Write>(items: &[T], buf: &mut BytesMut)
+    requires can { (x : T) → T.CanSpell x }
+    requires room { length (spellings T.spelling items.now) ≤ buf.old.spare }
+    ensures items { buf.new.items ≡ buf.old.items ++ spellings T.spelling items.now }
+    ensures spare { buf.new.spare + length (spellings T.spelling items.now) ≡ buf.old.spare }
+{
+    for item in items {
+        item.write(buf);
+    }
+}
