@@ -1,5 +1,5 @@
 -- What serving one command answers and changes, by what the directory and the held reservations show: d and h before it, d2 and h2 after it.
-use Rattle.std.specs.Prelude.{ℕ, ◌≡◌, ◌++◌, ◌∷◌, [], Bool, true, false, not, ◌&&◌, if◌then◌else◌, Some, None, is_some}
+use Rattle.std.specs.Prelude.{Option, ℕ, ◌≡◌, ◌++◌, ◌∷◌, [], Bool, true, false, not, ◌&&◌, if◌then◌else◌, Some, None, is_some}
 use Rattle.std.specs.Option.{option_map, option_and_then}
 use Rattle.std.specs.Duration.{as_nanos}
 use Rattle.std.specs.declared.cmp.Ordering.{Ordering}

@@ -30,13 +30,10 @@ fn release<C: PublicKey>(directory: &mut Directory<C>, held: &mut Held<C>, peer:
 }
 
 // Releases what is still held.
-fn finish<C: PublicKey>(mut directory: Directory<C>, mut held: Held<C>)
+fn finish<C: PublicKey>(mut directory: Directory<C>, held: Held<C>)
     requires { AreHeld C.cmp directory held }
 {
-    while let Some(peer) = held.first() {
-        let _ = release(&mut directory, &mut held, &peer);
-    }
-    held.close();
+    held.release_all(&mut directory);
 }
 
 fn own_info() -> Info<TestKey> {

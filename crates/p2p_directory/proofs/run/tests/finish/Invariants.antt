@@ -1,9 +1,0 @@
-use Rattle.std.proofs.Common.{length}
-use Rattle.p2p_directory.specs.Serving.{AreHeld}
-use Rattle.p2p_directory.proofs.run.tests.finish.Given as goal
-
-abbrev pub invariant-loop-peer : goal.invariant-loop-peer
-invariant-loop-peer g l = AreHeld g.C.Ord.cmp l.directory l.held
-
-abbrev pub decreases-loop-peer : goal.decreases-loop-peer
-decreases-loop-peer g l = length l.held.reservations
