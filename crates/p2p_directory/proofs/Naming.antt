@@ -79,8 +79,8 @@ either false h = refl
 pub nowhere : {C : Type 0} {cmp : C → C → Ordering} → CmpEqualImpliesEq cmp → (keys : List C) (key : C) → ((k : ℕ) → IsPlaceOf key keys k → ⊥) → names cmp keys key ≡ false
 nowhere {cmp = cmp} exact keys key absent = list_any_none (λ x. is_at (cmp x) key) keys (λ j d below.
     either (is_at (cmp (get_or keys j d)) key) (λ same.
-        let here : get_or keys j key ≡ key = get_or_default keys j key d below ∙ tells_apart exact (get_or keys j d) key same in
-        absent j (record { in_range = below; at_place = here })))
+    let here : get_or keys j key ≡ key = get_or_default keys j key d below ∙ tells_apart exact (get_or keys j d) key same in
+    absent j (record { in_range = below; at_place = here })))
 
 both_ways : (a b : Bool) → (a ≡ true → b ≡ true) → (b ≡ true → a ≡ true) → a ≡ b
 both_ways true b to from = sym (to refl)

@@ -125,7 +125,6 @@ all_by P [] true h = h
 all_by P (x ∷ sets) true h = All-tail P x sets h
 all_by P sets false h = h
 
-
 -- with room for one more at most, the newest sets are the last ones
 pub newest_last : {C : Type 0} (max : ℕ) (sets : List (SetAt C)) (set : SetAt C) → length sets ≤ max → newest max (sets ++ set ∷ []) ≡ last_of max (sets ++ set ∷ [])
 newest_last {C = C} max sets set few = go (nat_lt max (length (sets ++ set ∷ []))) refl

@@ -150,9 +150,9 @@ module _ {C S : Type 0} (cmp : C → C → Ordering) where
       go true e =
           (λ i. (e i && has cmp oldest q) && (rests_on_one_set r && not (has cmp set q)))
           ∙ torn_some (names cmp oldest.primary q) (names cmp oldest.secondary q) (names cmp set.primary q) (names cmp set.secondary q) r
-              (All-head (IsApart cmp) oldest sets apart q)
-              (omega (arith, counts.0, least_one (λ x. names cmp x.primary q) oldest sets))
-              (omega (arith, counts.1, least_one (λ x. names cmp x.secondary q) oldest sets))
+          (All-head (IsApart cmp) oldest sets apart q)
+          (omega (arith, counts.0, least_one (λ x. names cmp x.primary q) oldest sets))
+          (omega (arith, counts.1, least_one (λ x. names cmp x.secondary q) oldest sets))
           ∙ (λ i. was_torn (Some r) (changed_if (sym (full true e) i) (left cmp oldest q) (joined cmp set q (Some r))))
       go false e =
           (λ i. (e i && has cmp oldest q) && (rests_on_one_set r && not (has cmp set q)))

@@ -21,7 +21,8 @@ module _ {C S : Type 0} (cmp : C → C → Ordering) where
   countable sets max q None counts few small = tt
   countable sets max q (Some peer) counts few small = (
     omega (arith, counts.0, few, small, count_by-le-length (λ set. names cmp set.primary q) sets),
-    omega (arith, counts.1, few, small, count_by-le-length (λ set. names cmp set.secondary q) sets))
+    omega (arith, counts.1, few, small, count_by-le-length (λ set. names cmp set.secondary q) sets),
+  )
 
   -- a set that comes is counted in the role of the peer
   joined_by : (p s : Bool) (o : Option (RecordView C S)) → (let o2 = changed_if s (option_map (raised Secondary)) (changed_if p (option_map (raised Primary)) (option_or o (cond (p || s) (Some blank) None))) in (counted Primary o2 ≡ counted Primary o + cond p 1 0) × (counted Secondary o2 ≡ counted Secondary o + cond s 1 0))
@@ -37,6 +38,6 @@ module _ {C S : Type 0} (cmp : C → C → Ordering) where
   pub joined_counts : (sets : List (SetAt C)) (set : SetAt C) (q : C) (o : Option (RecordView C S)) → AreCounted cmp sets q o → AreCounted cmp (sets ++ set ∷ []) q (joined cmp set q o)
   joined_counts sets set q o counts =
       let by = joined_by (names cmp set.primary q) (names cmp set.secondary q) o in (
-      by.0 ∙ ap (λ n. n + cond (names cmp set.primary q) 1 0) counts.0 ∙ sym (one_more_set (λ s. names cmp s.primary q) sets set),
-      by.1 ∙ ap (λ n. n + cond (names cmp set.secondary q) 1 0) counts.1 ∙ sym (one_more_set (λ s. names cmp s.secondary q) sets set))
-
+        by.0 ∙ ap (λ n. n + cond (names cmp set.primary q) 1 0) counts.0 ∙ sym (one_more_set (λ s. names cmp s.primary q) sets set),
+        by.1 ∙ ap (λ n. n + cond (names cmp set.secondary q) 1 0) counts.1 ∙ sym (one_more_set (λ s. names cmp s.secondary q) sets set),
+      )

@@ -243,11 +243,7 @@ fn add_torn_down<C: PublicKey>(
 }
 
 // Whether the peer's connection has to end once it left one set for another.
-fn is_torn_down<C: PublicKey>(
-    peer: &C,
-    next: &KeptSet<C>,
-    records: &BTreeMap<C, Record<C>>,
-) -> bool
+fn is_torn_down<C: PublicKey>(peer: &C, next: &KeptSet<C>, records: &BTreeMap<C, Record<C>>) -> bool
     ensures { result ≡ is_torn_by C.cmp next.now peer.now (get C.cmp records.now peer.now) }
 {
     match records.get(peer) {

@@ -65,13 +65,13 @@ impl<C: PublicKey> Model for Record<C> {
     ghost Value = { RecordView C C.Signature };
 
     ghost view = { λ r. record {
-        address = r.address;
-        status = r.status;
-        primary_sets = r.primary_sets;
-        secondary_sets = r.secondary_sets;
-        persistent = r.persistent;
-        next_reservable_at = as_nanos r.next_reservable_at;
-        next_dial_at = as_nanos r.next_dial_at;
+      address = r.address;
+      status = r.status;
+      primary_sets = r.primary_sets;
+      secondary_sets = r.secondary_sets;
+      persistent = r.persistent;
+      next_reservable_at = as_nanos r.next_reservable_at;
+      next_dial_at = as_nanos r.next_dial_at;
     } };
 }
 
@@ -232,8 +232,7 @@ impl<C: PublicKey> Record<C> {
         match &self.address {
             Address::Myself(_) => false,
             _ => {
-                self.status == Status::Inert
-                    && self.next_reservable_at.as_nanos() <= now.as_nanos()
+                self.status == Status::Inert && self.next_reservable_at.as_nanos() <= now.as_nanos()
             }
         }
     }

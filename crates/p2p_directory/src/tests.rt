@@ -36,10 +36,7 @@ fn tracked(
     primary: &[u64],
     secondary: &[u64],
 ) -> Result<TrackedPeers<TestKey>, AllocError> {
-    Ok(TrackedPeers::new(
-        peers(alloc, primary)?,
-        peers(alloc, secondary)?,
-    ))
+    Ok(TrackedPeers::new(peers(alloc, primary)?, peers(alloc, secondary)?))
 }
 
 fn seconds(count: u64) -> Duration {
@@ -83,18 +80,33 @@ fn a_record_is_reserved_once_in_an_interval(rt: HostRuntime) {
     let mut record: Record<TestKey> = Record::unknown();
     let ten = seconds(10);
     let none = Duration::ZERO;
-    assert_eq!(rt; record.reserve(seconds(100), none, ten), ReserveResult::Reserved);
+    assert_eq!(rt;
+        record.reserve(seconds(100), none, ten),
+        ReserveResult::Reserved
+    );
     assert_eq!(rt; record.status(), Status::Reserved);
     assert!(rt; record.needs_teardown());
-    assert_eq!(rt; record.reserve(seconds(200), none, ten), ReserveResult::Unavailable);
+    assert_eq!(rt;
+        record.reserve(seconds(200), none, ten),
+        ReserveResult::Unavailable
+    );
     if record.status() != Status::Inert {
         record.release();
     }
     assert!(rt; !record.needs_teardown());
-    assert_eq!(rt; record.reserve(seconds(109), none, ten), ReserveResult::RateLimited);
-    assert_eq!(rt; record.reserve(seconds(110), none, ten), ReserveResult::Reserved);
+    assert_eq!(rt;
+        record.reserve(seconds(109), none, ten),
+        ReserveResult::RateLimited
+    );
+    assert_eq!(rt;
+        record.reserve(seconds(110), none, ten),
+        ReserveResult::Reserved
+    );
     let mut myself = Record::myself(info(9));
-    assert_eq!(rt; myself.reserve(seconds(100), none, ten), ReserveResult::Unavailable);
+    assert_eq!(rt;
+        myself.reserve(seconds(100), none, ten),
+        ReserveResult::Unavailable
+    );
     record.dial_failure(&ingress(8000));
     assert_eq!(rt; record.status(), Status::Reserved);
 }

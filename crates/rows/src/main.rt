@@ -24,3 +24,5 @@ fn main(rt: HostRuntime) -> ExitCode {
 
 #[cfg(test)]
 mod famine;
+#[cfg(test)]
+mod refused;

@@ -55,11 +55,7 @@ fn put<C: PublicKey>(
 }
 
 /// Whether the peer has a record, is eligible, and may be reserved at the moment.
-pub fn may_reserve<C: PublicKey>(
-    records: &BTreeMap<C, Record<C>>,
-    peer: &C,
-    now: Duration,
-) -> bool
+pub fn may_reserve<C: PublicKey>(records: &BTreeMap<C, Record<C>>, peer: &C, now: Duration) -> bool
     ensures { result ≡ is_some_and (get C.cmp records.now peer.now) (λ r. is_eligible r && is_reservable (as_nanos now) r) }
 {
     match records.get(peer) {

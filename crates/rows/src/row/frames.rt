@@ -44,10 +44,7 @@ impl fmt::Display for Refused {
 }
 
 // Prints what was read, or ends the row where memory was refused.
-fn print_decoded<W: Write>(
-    out: &mut W,
-    decoded: Result<Data, CodecError>,
-) -> Result<(), Stop> {
+fn print_decoded<W: Write>(out: &mut W, decoded: Result<Data, CodecError>) -> Result<(), Stop> {
     match decoded {
         Err(CodecError::Memory) => Err(Stop::Memory),
         decoded => print(out, &Decoded(decoded)),
@@ -88,11 +85,7 @@ pub fn encoded_data<W: Write>(alloc: Global, out: &mut W) -> Result<(), Stop> {
     print_buffers(alloc, VecDeque::new(alloc), out)
 }
 
-fn print_buffers<W: Write>(
-    alloc: Global,
-    message: VecDeque<Bytes>,
-    out: &mut W,
-) -> Result<(), Stop>
+fn print_buffers<W: Write>(alloc: Global, message: VecDeque<Bytes>, out: &mut W) -> Result<(), Stop>
     requires { length (concat message.items) < 2 ^ 32 }
 {
     let Ok(encoded) = EncodedData::new(alloc, 12_345, message) else {
@@ -111,7 +104,10 @@ pub fn odd_numbers<W: Write>(alloc: Global, out: &mut W) -> Result<(), Stop> {
         b"\xff\xff\xff\xff\xff\xff\xff\xff\xff\x01\0",
         b"\xff\xff\xff\xff\xff\xff\xff\xff\xff\x02\0",
     ] {
-        print_decoded(out, Data::decode_cfg(alloc, Bytes::from_static(frame), &ANY_LENGTH))?;
+        print_decoded(
+            out,
+            Data::decode_cfg(alloc, Bytes::from_static(frame), &ANY_LENGTH),
+        )?;
     }
     print_ingress_size(alloc, longest_name(alloc)?, out)?;
     let mut long = Vec::new(alloc);

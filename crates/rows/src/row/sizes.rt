@@ -2,9 +2,7 @@
 
 use crate::row::{Stop, print};
 use p2p_discovery::codec::TestKey;
-use p2p_discovery::sizing::{
-    max_message_size, max_retained_peers, peer_set_limit, peer_set_size,
-};
+use p2p_discovery::sizing::{max_message_size, max_retained_peers, peer_set_limit, peer_set_size};
 use std::io::Write;
 use std::num::NonZeroUsize;
 

@@ -45,7 +45,11 @@ fn assert_run(
         .map(|word| word.to_string(alloc))
         .try_collect(alloc)?;
     let mut out: Vec<u8> = Vec::new(alloc);
-    assert_eq!(rt; run_rows(alloc, words.as_slice(), &mut out), status, "words {words:?}");
+    assert_eq!(rt;
+        run_rows(alloc, words.as_slice(), &mut out),
+        status,
+        "words {words:?}"
+    );
     assert_eq!(rt; out.as_slice(), text.as_bytes(), "words {words:?}");
     Ok(())
 }
@@ -59,13 +63,15 @@ fn prints_the_rows_of_the_directory(rt: HostRuntime) -> Result<(), Fail> {
 #[test]
 fn prints_the_rows_of_frames(rt: HostRuntime) -> Result<(), Fail> {
     let alloc = rt.alloc();
-    let hello = "b9600d48656c6c6f2c20776f726c6421\nData(12345, 48656c6c6f2c20776f726c6421)\nInvalidLength(13)\nInvalidLength(13)\n";
+    let hello =
+        "b9600d48656c6c6f2c20776f726c6421\nData(12345, 48656c6c6f2c20776f726c6421)\nInvalidLength(13)\nInvalidLength(13)\n";
     assert_run(&rt, alloc, &["1"], 0, hello)?;
     let rest = "Data(3, -)\n010203040506070809\nExtraData(9)\n";
     assert_run(&rt, alloc, &["2"], 0, rest)?;
     let buffers = "00b9600c\n68656c6c6f20\n776f726c64\n21\n00b96000\n";
     assert_run(&rt, alloc, &["3"], 0, buffers)?;
-    let numbers = "InvalidVarint(10)\nData(18446744073709551615, -)\nInvalidVarint(10)\n258\nInvalidLength(300)\n";
+    let numbers =
+        "InvalidVarint(10)\nData(18446744073709551615, -)\nInvalidVarint(10)\n258\nInvalidLength(300)\n";
     assert_run(&rt, alloc, &["5"], 0, numbers)
 }
 
@@ -107,7 +113,11 @@ fn ends_with_status_one_where_a_write_fails(rt: HostRuntime) -> Result<(), Fail>
                 room,
             };
             let status = if room < text.len() { 1 } else { ended };
-            assert_eq!(rt; run_rows(alloc, &words, &mut out), status, "word {word}, room {room}");
+            assert_eq!(rt;
+                run_rows(alloc, &words, &mut out),
+                status,
+                "word {word}, room {room}"
+            );
             let taken = text.as_bytes().get(..room).ok_or("range")?;
             assert_eq!(rt; out.taken.as_slice(), taken, "word {word}, room {room}");
         }

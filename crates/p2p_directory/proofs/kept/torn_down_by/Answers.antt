@@ -12,6 +12,6 @@ returns-clause-members g c = λ q.
     let secondary : c.as_slice-2.result.now ≡ c.args.oldest.now.secondary = c.as_slice-2.ensures.all ∙ ap (λ set. set.secondary) c.oldest.view_is in
     c.in_ok-torn.ensures.members q
     ∙ names-filter_both g.met.C.PublicKey.exact test c.args.oldest.now.primary c.args.oldest.now.secondary c.add_torn_down-2.new.torn.items q
-        (c.in_ok-add_torn_down-2.ensures
-        ∙ (λ i. (c.in_ok-add_torn_down.ensures i) ++ filter test (secondary i))
-        ∙ (λ i. (c.new-torn.ensures.items i ++ filter test (primary i)) ++ filter test c.args.oldest.now.secondary))
+    (c.in_ok-add_torn_down-2.ensures
+    ∙ (λ i. (c.in_ok-add_torn_down.ensures i) ++ filter test (secondary i))
+    ∙ (λ i. (c.new-torn.ensures.items i ++ filter test (primary i)) ++ filter test c.args.oldest.now.secondary))

@@ -62,9 +62,9 @@ invariant_of-self-2 g c =
     let is = c.in_ok-set.ensures in
     let size = c.get-max_sets.ensures.value in
     tracked_consistent cmp max sets c.drop_oldest.new.sets.items set (get cmp c.self.inside.records) (get cmp c.drop_oldest.new.records) c.self.invariant
-        (apart_new g.met.C.PublicKey.exact c.args.index c.args.peers.primary c.args.peers.secondary)
-        (sets_after max _ sets c.keep.new.sets.items c.drop_oldest.new.sets.items _ set size is c.in_ok-keep.ensures.sets c.drop_oldest.ensures.sets)
-        (λ q. record_after cmp max _ sets c.keep.new.sets.items _ set q (get cmp c.self.inside.records q) (get cmp c.keep.new.records q) (get cmp c.drop_oldest.new.records q) size is c.in_ok-keep.ensures.sets (c.in_ok-keep.ensures.ok q) (c.drop_oldest.ensures.records q))
+    (apart_new g.met.C.PublicKey.exact c.args.index c.args.peers.primary c.args.peers.secondary)
+    (sets_after max _ sets c.keep.new.sets.items c.drop_oldest.new.sets.items _ set size is c.in_ok-keep.ensures.sets c.drop_oldest.ensures.sets)
+    (λ q. record_after cmp max _ sets c.keep.new.sets.items _ set q (get cmp c.self.inside.records q) (get cmp c.keep.new.records q) (get cmp c.drop_oldest.new.records q) size is c.in_ok-keep.ensures.sets (c.in_ok-keep.ensures.ok q) (c.drop_oldest.ensures.records q))
 
 pub returns-clause-taken : goal.returns-clause-taken
 returns-clause-taken g c =

@@ -15,4 +15,4 @@ lower_one-requires g c =
 pub loop-key-preserved : goal.loop-key-preserved
 loop-key-preserved g c = λ q.
     one_changed g.met.C.Ord.total g.met.C.PublicKey.exact c.args.keys.now c.loop-key.key-index c.key-item.result c.loop-key-test.true c.key-item.is c.requires.sorted
-        (dropped c.args.role) q (get g.C.Ord.cmp c.lower_one.new.records q) (get g.C.Ord.cmp c.loop-key.records q) (get g.C.Ord.cmp c.args.records.now q) (c.lower_one.ensures q) (c.loop-key.invariant q)
+    (dropped c.args.role) q (get g.C.Ord.cmp c.lower_one.new.records q) (get g.C.Ord.cmp c.loop-key.records q) (get g.C.Ord.cmp c.args.records.now q) (c.lower_one.ensures q) (c.loop-key.invariant q)

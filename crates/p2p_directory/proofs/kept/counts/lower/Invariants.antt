@@ -1,6 +1,5 @@
 use Rattle.std.proofs.Common.{◌≡◌, take, cond}
 use Rattle.std.specs.BTreeMap.{get}
-
 use Rattle.p2p_directory.specs.View.{dropped}
 use Rattle.p2p_directory.specs.View.{names}
 use Rattle.p2p_directory.proofs.kept.counts.lower.Given as goal

@@ -15,4 +15,4 @@ raise_one-requires g c =
 pub loop-key-preserved : goal.loop-key-preserved
 loop-key-preserved g c = λ q.
     one_changed g.met.C.Ord.total g.met.C.PublicKey.exact c.args.keys.now c.loop-key.key-index c.key-item.result c.loop-key-test.true c.key-item.is c.requires.sorted
-        (option_map (raised c.args.role)) q (get g.C.Ord.cmp c.raise_one.new.records q) (get g.C.Ord.cmp c.loop-key.records q) (get g.C.Ord.cmp c.args.records.now q) (c.raise_one.ensures q) (c.loop-key.invariant q)
+    (option_map (raised c.args.role)) q (get g.C.Ord.cmp c.raise_one.new.records q) (get g.C.Ord.cmp c.loop-key.records q) (get g.C.Ord.cmp c.args.records.now q) (c.raise_one.ensures q) (c.loop-key.invariant q)
