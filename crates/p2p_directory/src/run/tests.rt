@@ -130,3 +130,21 @@ fn holds_what_was_granted(rt: HostRuntime) -> Result<(), Fail> {
     finish(directory, held);
     Ok(())
 }
+
+#[test]
+fn closes_what_is_empty(rt: HostRuntime) -> Result<(), Fail> {
+    let alloc = rt.alloc();
+    let commands = vec![in alloc; Command::Status(TestKey(1)), Command::Release(TestKey(1))]?;
+    let Run {
+        directory: _,
+        held,
+        replies,
+    } = run(alloc, Vec::new(alloc), own_info(), config(), commands)?;
+    let text = format!(in alloc; "{replies:?}");
+    match held.first() {
+        None => held.close(),
+        Some(_) => panic!(rt; "nothing was granted"),
+    }
+    assert_eq!(rt; text?.as_str(), "[Status(None), NotHeld]");
+    Ok(())
+}
