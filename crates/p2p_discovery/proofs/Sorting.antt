@@ -1,12 +1,12 @@
 -- What a sort, a `dedup` and a binary search say of keys in a total order.
-use Rattle.std.proofs.Common.{◌≡◌, ℕ, ◌+◌, ◌-◌, [], ◌∷◌, ◌<◌, ◌≤◌, Bool, true, false, List, length, get_or, Result, Ok, Err, IfOk, sym, ap, subst, refl, ◌∙◌, arith, inl, inr}
+use Rattle.std.proofs.Common.{◌≡◌, ℕ, ◌+◌, ◌-◌, [], ◌∷◌, ◌<◌, ◌≤◌, Bool, true, false, List, length, get_or, Err, sym, ap, subst, refl, ◌∙◌, arith, inl, inr}
 use Rattle.std.proofs.lemmas.Bool.{cases_lt}
 use mathlib.Core.Bool.{true≢false}
 use Rattle.std.specs.declared.cmp.Ordering.{Ordering}
 use Rattle.std.specs.declared.cmp.Ordering.TheVariants.{Less, Equal, Greater}
 use Rattle.std.specs.Cmp.{IsTotalOrder}
 use Rattle.std.specs.Ordering.{eq_by_cmp, is_lt, is_eq, ordering_reverse, ordering_index}
-use Rattle.std.specs.List.{Contains, IsDistinct, AllAdjacentBelow}
+use Rattle.std.specs.List.{IsDistinct, AllAdjacentBelow}
 use Rattle.std.specs.List.Sorted.{IsStrictlySortedBy, IsSorted, IsSortedBy, IsBinarySearchResult, IsNonDecreasingBy, IsPermutation}
 use Rattle.std.proofs.lemmas.Cmp.{tied_itself, eq_by_cmp_equiv}
 use Rattle.std.proofs.lemmas.Map.Keys.{Less-from_sorted, apart_from_distinct, IsDistinct-IsPermutation, sorted_from_all_adjacent}

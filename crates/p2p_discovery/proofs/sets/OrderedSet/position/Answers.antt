@@ -1,4 +1,4 @@
-use Rattle.std.proofs.Common.{subst, rules}
+use Rattle.std.proofs.Common.{subst}
 use Rattle.std.specs.List.Sorted.{IsStrictlySortedBy}
 use Rattle.p2p_discovery.proofs.Sorting.{nowhere}
 use Rattle.p2p_discovery.proofs.sets.OrderedSet.position.Goals as goal

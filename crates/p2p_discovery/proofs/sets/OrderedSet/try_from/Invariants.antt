@@ -1,4 +1,4 @@
-use Rattle.std.proofs.Common.{◌≡◌, ℕ, ◌+◌, ◌<◌, slice_index_or}
+use Rattle.std.proofs.Common.{◌≡◌}
 use Rattle.std.specs.declared.cmp.Ordering.TheVariants.{Less}
 use Rattle.std.specs.List.{AllAdjacentBelow}
 use Rattle.p2p_discovery.proofs.sets.OrderedSet.try_from.Given as goal
