@@ -1,14 +1,11 @@
 -- A sorted list is known by its members, and a least moment by being least: such answers are determined.
-use Rattle.std.proofs.Common.{◌≡◌, ℕ, Bool, true, false, ◌||◌, List, [], ◌∷◌, length, Option, Some, None, refl, sym, ◌∙◌, ap, subst, arith}
-use Rattle.std.specs.List.{AllByRecursion}
+use Rattle.std.proofs.Common.{◌≡◌, ℕ, Bool, List, length, Option, Some, None, refl, sym, ◌∙◌, ap, arith}
 use Rattle.std.specs.List.Sorted.{IsStrictlySortedBy}
-use Rattle.std.specs.declared.cmp.Ordering.{Ordering}
-use Rattle.std.specs.declared.cmp.Ordering.TheVariants.{Less, Equal, Greater}
-use Rattle.std.specs.Ordering.{is_eq, ordering_reverse}
+use Rattle.std.specs.Ordering.{is_eq}
 use Rattle.std.specs.Cmp.{IsTotalOrder}
 use Rattle.p2p_directory.proofs.Members
 use Rattle.p2p_directory.specs.Calls.{Setup}
-use Rattle.p2p_directory.specs.Past.{same, is_in, IsExact}
+use Rattle.p2p_directory.specs.Past.{is_in, IsExact}
 use Rattle.p2p_directory.specs.World.{World}
 use Rattle.p2p_directory.specs.Answers.{Lists, IsLeastOf, IsNumberTracked, is_tracked}
 

@@ -1,12 +1,12 @@
 -- Records made and taken out again, at one key.
-use Rattle.std.proofs.Common.{◌≡◌, ℕ, Bool, true, false, cond, ◌||◌, List, take, drop, Option, Some, None, IfSome, sym, ap, refl, ◌∙◌, subst}
+use Rattle.std.proofs.Common.{◌≡◌, ℕ, Bool, true, false, cond, ◌||◌, List, take, drop, Option, Some, None, IfSome, sym, ap, refl, ◌∙◌}
 use mathlib.Core.Bool.{false≢true}
 use Rattle.std.proofs.lemmas.List.{take-append-drop}
 use Rattle.std.proofs.lemmas.List.Folds.{list_any-append}
 use Rattle.std.specs.List.{list_any}
 use Rattle.std.specs.Option.{option_or}
 use Rattle.p2p_directory.specs.Records.{RecordView, is_deletable}
-use Rattle.p2p_directory.specs.View.{kept, unless_deletable, blank}
+use Rattle.p2p_directory.specs.View.{kept, blank}
 
 module _ {C S : Type 0} where
   kept_by : (peer : RecordView C S) (b : Bool) → is_deletable peer ≡ b → kept (cond b None (Some peer)) ≡ cond b None (Some peer)

@@ -1,5 +1,5 @@
 -- One reservation after the other is released, the last first.
-use Rattle.std.proofs.Common.{◌≡◌, Bool, true, false, cond, not, ◌||◌, List, [], ◌∷◌, ◌++◌, Option, Some, None, refl, sym, ◌∙◌, ap, subst}
+use Rattle.std.proofs.Common.{◌≡◌, Bool, true, false, not, ◌||◌, List, [], ◌∷◌, ◌++◌, Option, Some, None, refl, sym, ◌∙◌, ap, subst}
 use Rattle.std.specs.Prelude.{find, map, if◌then◌else◌}
 use Rattle.std.specs.Option.{is_some, IsSomeAnd, option_and_then}
 use Rattle.std.specs.List.{AllByRecursion}

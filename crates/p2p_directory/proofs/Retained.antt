@@ -1,5 +1,5 @@
 -- The last of a list of sets.
-use Rattle.std.proofs.Common.{◌≡◌, ℕ, suc, ◌-◌, ◌<◌, List, [], ◌∷◌, length, get_or, Option, Some, refl, ap, ◌∙◌, arith}
+use Rattle.std.proofs.Common.{◌≡◌, suc, ◌-◌, ◌<◌, List, [], ◌∷◌, length, get_or, Option, Some, ap, ◌∙◌, arith}
 use Rattle.std.specs.List.{last_or}
 
 -- what stands at the last place is the last

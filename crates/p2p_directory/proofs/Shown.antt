@@ -1,14 +1,12 @@
 -- What a directory that stands for a world shows of one peer.
-use Rattle.std.proofs.Common.{◌≡◌, ℕ, suc, ◌+◌, ◌-◌, ◌^◌, ◌<◌, ◌≤◌, min, Bool, true, false, cond, ◌||◌, ◌&&◌, not, nat_lt, List, [], ◌∷◌, Option, Some, None, IfSome, sym, ap, refl, ◌∙◌, arith}
-use Rattle.std.specs.Prelude.{if◌then◌else◌, nat_le, is_some}
-use Rattle.std.specs.Option.{option_map, option_and_then}
-use Rattle.std.specs.List.{list_any}
+use Rattle.std.proofs.Common.{◌≡◌, ℕ, suc, ◌+◌, ◌-◌, ◌^◌, min, Bool, true, false, ◌||◌, ◌&&◌, not, nat_lt, List, Option, Some, None, IfSome, sym, ap, refl, ◌∙◌, arith}
+use Rattle.std.specs.Prelude.{if◌then◌else◌, nat_le}
 use Rattle.std.proofs.lemmas.Bool.Decides.{nat_tests}
 use Rattle.p2p_discovery.specs.declared.discovery.Info.{Info}
 use Rattle.p2p_discovery.specs.declared.types.ingress.Ingress.{Ingress}
 use Rattle.p2p_discovery.specs.Ingress.{same_ingress}
 use Rattle.p2p_directory.specs.declared.record.Address.{Address}
-use Rattle.p2p_directory.specs.declared.record.Address.TheVariants.{Unknown, Myself, Bootstrapper, Discovered}
+use Rattle.p2p_directory.specs.declared.record.Address.TheVariants.{Myself, Discovered}
 use Rattle.p2p_directory.specs.declared.record.Status.TheVariants as status
 use Rattle.p2p_directory.specs.Calls.{Setup, SetAt, Status, Direction}
 use Rattle.p2p_directory.specs.Calls.Status.{Inert, Reserved, Active}
@@ -17,10 +15,8 @@ use Rattle.p2p_directory.specs.Past
 use Rattle.p2p_directory.specs.Past.{is_own, is_persistent, is_named, is_present_with, primary_count, secondary_count, is_entitled}
 use Rattle.p2p_directory.specs.World
 use Rattle.p2p_directory.specs.World.{Known, Peer, fresh, last_ingress, last_ingress_by}
-use Rattle.p2p_directory.specs.Records.{RecordView, is_inert, is_myself, is_wanted, is_eligible, is_deletable, is_reservable, after_failure}
-use Rattle.p2p_directory.specs.View.{unless_deletable, counted, AreCounted, blank}
-use Rattle.p2p_directory.specs.View
-use Rattle.p2p_directory.specs.declared.kept.Role.TheVariants.{Primary, Secondary}
+use Rattle.p2p_directory.specs.Records.{RecordView, is_inert, is_myself, is_eligible, is_deletable, is_reservable, after_failure}
+use Rattle.p2p_directory.specs.View.{unless_deletable, AreCounted}
 use Rattle.p2p_directory.specs.Directories.{address_after, released, is_some_and}
 use Rattle.p2p_directory.specs.Stands.{status_view, metadata_of, address_given, address_with, address_of}
 

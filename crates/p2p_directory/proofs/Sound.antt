@@ -1,5 +1,5 @@
 -- What holds between calls holds after a set was taken.
-use Rattle.std.proofs.Common.{◌≡◌, ℕ, ◌+◌, ◌-◌, ◌^◌, ◌<◌, ◌≤◌, Bool, true, false, cond, ◌||◌, ◌&&◌, not, nat_lt, List, [], ◌∷◌, ◌++◌, length, drop, length-append, Option, Some, None, IfSome, sym, ap, subst, refl, ◌∙◌, arith, add-zero}
+use Rattle.std.proofs.Common.{◌≡◌, ℕ, ◌+◌, ◌-◌, ◌^◌, ◌<◌, ◌≤◌, Bool, true, false, cond, ◌||◌, ◌&&◌, not, nat_lt, List, [], ◌∷◌, ◌++◌, length, drop, length-append, Option, Some, None, IfSome, sym, ap, subst, refl, ◌∙◌, arith}
 use Rattle.std.specs.declared.cmp.Ordering.{Ordering}
 use Rattle.std.specs.Option.{option_map, option_or}
 use Rattle.std.specs.List.{count_by, All}
@@ -15,7 +15,7 @@ use Rattle.p2p_directory.specs.Past.{last_of}
 use Rattle.p2p_directory.specs.World.{last_ingress_by}
 use Rattle.p2p_directory.specs.Directories.{first_record}
 use Rattle.p2p_directory.specs.Calls.{SetAt}
-use Rattle.p2p_directory.specs.Records.{RecordView, new_record, is_deletable, is_inert, is_wanted}
+use Rattle.p2p_directory.specs.Records.{RecordView, new_record, is_deletable}
 use Rattle.p2p_directory.specs.View.{names, blank, changed_if, counted, unless_deletable, dropped, left, set_count, AreCounted, newest, after_oldest, joined, lowered, raised, IsConsistent, IsApart}
 use Rattle.p2p_directory.proofs.Tracked.{joined_counts}
 use Rattle.std.proofs.lemmas.List.Elements.{All-push, All-tail}

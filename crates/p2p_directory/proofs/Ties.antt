@@ -1,17 +1,14 @@
 -- What the calls of a directory change is a step of the world that it stands for.
-use Rattle.std.proofs.Common.{◌≡◌, ℕ, suc, ◌+◌, ◌-◌, ◌<◌, ◌≤◌, Bool, true, false, ◌||◌, ◌&&◌, not, nat_lt, List, [], ◌∷◌, ◌++◌, length, drop, Option, Some, None, sym, ap, subst, refl, ◌∙◌, arith}
+use Rattle.std.proofs.Common.{◌≡◌, ℕ, suc, ◌+◌, Bool, true, false, ◌||◌, ◌&&◌, not, nat_lt, List, [], ◌∷◌, Option, Some, None, sym, ap, subst, refl, ◌∙◌}
 use Rattle.std.specs.Prelude.{if◌then◌else◌, is_some, nat_le}
 use Rattle.std.specs.declared.cmp.Ordering.{Ordering}
 use Rattle.std.specs.declared.cmp.Ordering.TheVariants.{Less, Equal, Greater}
 use Rattle.std.specs.Ordering.{is_eq}
-use Rattle.std.specs.Cmp.{IsTotalOrder}
 use Rattle.std.specs.BTreeMap.{is_at}
 use Rattle.std.specs.Option.{option_map, option_and_then}
 use Rattle.std.specs.List.{list_any, list_all, last_or}
-use Rattle.std.proofs.lemmas.List.{length-drop}
 use Rattle.p2p_discovery.specs.declared.types.ingress.Ingress.{Ingress}
-use Rattle.p2p_directory.specs.declared.record.Address.{Address}
-use Rattle.p2p_directory.specs.declared.record.Address.TheVariants.{Unknown, Myself, Bootstrapper}
+use Rattle.p2p_directory.specs.declared.record.Address.TheVariants.{Myself, Bootstrapper}
 use Rattle.p2p_directory.specs.declared.record.Status.TheVariants as code
 use Rattle.p2p_directory.specs.Calls as model
 use Rattle.p2p_directory.specs.Calls.{Setup, Call, SetAt, Direction, Event}
@@ -22,12 +19,10 @@ use Rattle.p2p_directory.specs.Past
 use Rattle.p2p_directory.specs.Past.{same, is_own, is_persistent, is_named, is_present_with}
 use Rattle.p2p_directory.specs.World
 use Rattle.p2p_directory.specs.World.{World, Known, Peer, fresh, after, last_ingress_by, may_listen}
-use Rattle.p2p_directory.specs.Answers
 use Rattle.p2p_directory.specs.Answers.{is_present_in, IsTeardown, status_in}
 use Rattle.p2p_directory.specs.Records.{RecordView, new_record, is_eligible, is_inert, is_reservable, reserved_at}
 use Rattle.p2p_directory.specs.View.{DirectoryView, record_of, latest_index, is_above, unless_deletable}
 use Rattle.p2p_directory.specs.Directories.{first_record, released, is_some_and, AreTornDown}
-use Rattle.p2p_directory.specs.Directories
 use Rattle.p2p_directory.specs.Stands.{Stands, config_of, status_view, metadata_of, address_with}
 use Rattle.p2p_directory.proofs.Shown.{record_with, shown, shown_entitled, shown_busy, shown_reservable, released_record, released_shown, failed_once}
 use Rattle.p2p_directory.proofs.Start.{new_world, new_at_start}

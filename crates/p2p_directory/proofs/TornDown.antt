@@ -2,15 +2,14 @@
 use Rattle.std.proofs.Common.{◌≡◌, ℕ, ◌+◌, ◌-◌, ◌<◌, ◌≤◌, Bool, true, false, cond, ◌||◌, ◌&&◌, not, nat_lt, List, [], ◌∷◌, ◌++◌, length, length-append, Option, Some, None, sym, ap, refl, ◌∙◌, arith}
 use Rattle.std.specs.Prelude.{◌==◌, if◌then◌else◌}
 use Rattle.std.specs.declared.cmp.Ordering.{Ordering}
-use Rattle.std.specs.Option.{option_map, option_or}
+use Rattle.std.specs.Option.{option_map}
 use Rattle.std.specs.List.{All, count_by}
 use Rattle.std.proofs.lemmas.Bool.Decides.{nat_tests}
 use Rattle.std.proofs.lemmas.List.Elements.{All-head}
-use Rattle.p2p_directory.specs.declared.kept.Role.{Role}
 use Rattle.p2p_directory.specs.declared.kept.Role.TheVariants.{Primary, Secondary}
 use Rattle.p2p_directory.specs.Calls.{SetAt}
-use Rattle.p2p_directory.specs.Records.{RecordView, is_deletable, is_inert, is_wanted, is_eligible, is_myself, rests_on_one_set}
-use Rattle.p2p_directory.specs.View.{names, has, blank, changed_if, counted, unless_deletable, dropped, raised, lowered, left, joined, set_count, AreCounted, after_oldest, is_leaving, is_torn_by, IsApart}
+use Rattle.p2p_directory.specs.Records.{RecordView, is_inert, is_wanted, is_eligible, is_myself, rests_on_one_set}
+use Rattle.p2p_directory.specs.View.{names, has, changed_if, unless_deletable, dropped, raised, lowered, left, joined, AreCounted, after_oldest, is_leaving, is_torn_by, IsApart}
 use Rattle.p2p_directory.specs.Directories.{is_some_and}
 use Rattle.p2p_directory.proofs.Sound.{count_cons}
 

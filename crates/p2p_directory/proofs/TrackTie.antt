@@ -1,5 +1,5 @@
 -- A set that a directory takes is a step of the world that it stands for.
-use Rattle.std.proofs.Common.{◌≡◌, ℕ, ◌+◌, ◌-◌, ◌<◌, ◌≤◌, Bool, true, false, ◌||◌, ◌&&◌, not, nat_lt, List, [], ◌∷◌, ◌++◌, length, Option, Some, None, IfSome, sym, ap, subst, refl, ◌∙◌, arith}
+use Rattle.std.proofs.Common.{◌≡◌, ℕ, ◌-◌, ◌≤◌, Bool, true, false, ◌||◌, ◌&&◌, not, nat_lt, List, [], ◌∷◌, ◌++◌, length, Option, Some, None, IfSome, sym, ap, subst, refl, ◌∙◌, arith}
 use Rattle.std.specs.Prelude.{if◌then◌else◌, is_some}
 use Rattle.std.specs.declared.cmp.Ordering.{Ordering}
 use Rattle.std.specs.List.{list_any}
@@ -8,10 +8,7 @@ use Rattle.std.proofs.lemmas.List.{length-drop}
 use Rattle.p2p_discovery.specs.declared.types.ingress.Ingress.{Ingress}
 use Rattle.p2p_directory.specs.declared.kept.Role.{Role}
 use Rattle.p2p_directory.specs.declared.kept.Role.TheVariants.{Primary, Secondary}
-use Rattle.p2p_directory.specs.declared.record.Address.{Address}
 use Rattle.p2p_directory.specs.declared.record.Address.TheVariants.{Unknown, Myself}
-use Rattle.p2p_directory.specs.declared.record.Status.{Status}
-use Rattle.p2p_directory.specs.declared.record.Status.TheVariants as code
 use Rattle.p2p_directory.specs.Calls as model
 use Rattle.p2p_directory.specs.Calls.{Setup, SetAt, Event}
 use Rattle.p2p_directory.specs.Calls.Event.{Tracked}
@@ -19,14 +16,14 @@ use Rattle.p2p_directory.specs.Past
 use Rattle.p2p_directory.specs.Past.{last_of, same, is_own, is_persistent, is_named, is_present_with, primary_count, secondary_count}
 use Rattle.p2p_directory.specs.World
 use Rattle.p2p_directory.specs.World.{World, Known, Peer, fresh, after, last_ingress}
-use Rattle.p2p_directory.specs.Records.{RecordView, is_deletable, is_wanted, is_inert}
-use Rattle.p2p_directory.specs.View.{DirectoryView, record_of, names, has, blank, changed_if, unless_deletable, dropped, raised, lowered, joined, left, after_oldest, newest, AreCounted}
+use Rattle.p2p_directory.specs.Records.{RecordView, is_deletable, is_inert}
+use Rattle.p2p_directory.specs.View.{DirectoryView, record_of, names, blank, changed_if, dropped, raised, lowered, joined, left, after_oldest, AreCounted}
 use Rattle.p2p_directory.specs.Directories
 use Rattle.p2p_directory.specs.Stands.{Stands, status_view, address_given, address_with, address_of}
 use Rattle.p2p_directory.proofs.Shown.{record_with, shown, shown_counted, shown_kept, inert_view}
 use Rattle.p2p_directory.proofs.Sound.{newest_counts, newest_held, newest_last, joined_held}
 use Rattle.p2p_directory.proofs.Tracked.{joined_counts}
-use Rattle.p2p_directory.proofs.TornDown.{joined_some, recounted}
+use Rattle.p2p_directory.proofs.TornDown.{recounted}
 use Rattle.p2p_directory.proofs.Ties.{some_given}
 
 both_parts : (w p i : Bool) → (not (w || p) && i) ≡ true → (p ≡ false) × (i ≡ true)

@@ -1,15 +1,13 @@
 -- The counts in the records after a set came.
-use Rattle.std.proofs.Common.{◌≡◌, ℕ, ◌+◌, ◌-◌, ◌^◌, ◌<◌, ◌≤◌, Bool, true, false, cond, ◌||◌, List, [], ◌∷◌, ◌++◌, length, length-append, Option, Some, None, IfSome, sym, ap, refl, ◌∙◌, arith, add-zero}
+use Rattle.std.proofs.Common.{◌≡◌, ℕ, ◌+◌, ◌-◌, ◌^◌, ◌<◌, ◌≤◌, Bool, true, false, cond, ◌||◌, List, [], ◌∷◌, ◌++◌, length, Option, Some, None, IfSome, sym, ap, refl, ◌∙◌, arith, add-zero}
 use Rattle.std.specs.declared.cmp.Ordering.{Ordering}
 use Rattle.std.specs.Option.{option_map, option_or}
-use Rattle.std.specs.List.{count_by, sum_by, All}
+use Rattle.std.specs.List.{count_by}
 use Rattle.std.proofs.lemmas.List.Sums.{count_by-le-length, sum_by-append}
-use Rattle.std.proofs.lemmas.List.Elements.{All-push}
-use Rattle.p2p_directory.specs.declared.kept.Role.{Role}
 use Rattle.p2p_directory.specs.declared.kept.Role.TheVariants.{Primary, Secondary}
 use Rattle.p2p_directory.specs.Calls.{SetAt}
 use Rattle.p2p_directory.specs.Records.{RecordView}
-use Rattle.p2p_directory.specs.View.{names, blank, joined, changed_if, counted, raised, set_count, AreCounted, IsCountable}
+use Rattle.p2p_directory.specs.View.{names, blank, joined, changed_if, counted, raised, AreCounted, IsCountable}
 
 -- one more set
 one_more_set : {C : Type 0} (f : SetAt C → Bool) (sets : List (SetAt C)) (set : SetAt C) → count_by f (sets ++ set ∷ []) ≡ count_by f sets + cond (f set) 1 0

@@ -1,8 +1,8 @@
 -- What the calls of a directory answer and change, by what it shows.
-use Rattle.std.specs.Prelude.{ℕ, ◌≡◌, Bool, true, false, not, ◌&&◌, ◌||◌, ◌+◌, ◌==◌, if◌then◌else◌, List, ◌++◌, ◌∷◌, [], length, drop, nat_lt, nat_le, Option, Some, None}
+use Rattle.std.specs.Prelude.{ℕ, ◌≡◌, Bool, true, false, not, ◌&&◌, if◌then◌else◌, List, ◌++◌, ◌∷◌, [], Option, Some, None}
 use Rattle.std.specs.List.{filter}
 use Rattle.std.specs.List.Sorted.{IsStrictlySortedBy}
-use Rattle.std.specs.Option.{option_map, option_and_then, IsSomeAnd}
+use Rattle.std.specs.Option.{option_map, IsSomeAnd}
 use Rattle.std.specs.declared.cmp.Ordering.{Ordering}
 use Rattle.std.specs.BTreeMap.{is_at}
 use Rattle.p2p_discovery.specs.declared.discovery.Info.{Info}
@@ -14,7 +14,6 @@ use Rattle.p2p_directory.specs.declared.directory.Metadata.{Metadata}
 use Rattle.p2p_directory.specs.declared.directory.Metadata.TheVariants.{Dialer, Listener}
 use Rattle.p2p_directory.specs.Calls.{SetAt}
 use Rattle.p2p_directory.specs.World.{last_ingress_by}
-use Rattle.p2p_directory.specs.Past.{last_of}
 use Rattle.p2p_directory.specs.Records.{RecordView, new_record, is_eligible, is_inert, after_failure}
 use Rattle.p2p_directory.specs.View.{DirectoryView, record_of, names, joined, after_oldest}
 

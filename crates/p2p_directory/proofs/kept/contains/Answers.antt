@@ -1,5 +1,4 @@
-use Rattle.std.proofs.Common.{◌≡◌, sym, ◌∙◌, ap, true, false}
-use Rattle.std.specs.Option.{is_some}
+use Rattle.std.proofs.Common.{sym}
 use Rattle.p2p_directory.proofs.Naming.{at_place, nowhere}
 use Rattle.p2p_directory.proofs.kept.contains.Goals as goal
 

@@ -1,4 +1,4 @@
-use Rattle.std.proofs.Common.{◌≡◌, ℕ, ap, ◌∙◌, None, Some, refl, length, ◌<◌, get_or, arith, ◌-◌}
+use Rattle.std.proofs.Common.{◌≡◌, ap, ◌∙◌, None, Some, refl, length, ◌<◌, get_or, arith, ◌-◌}
 use Rattle.std.specs.List.{last_or}
 use Rattle.std.specs.Option.{option_map}
 use Rattle.p2p_directory.proofs.Retained.{last_is}

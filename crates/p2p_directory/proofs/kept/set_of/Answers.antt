@@ -1,6 +1,4 @@
-use Rattle.std.proofs.Common.{◌≡◌, sym, ◌∙◌, subst, ap}
-use Rattle.std.specs.Prelude.{◌↔◌}
-use Rattle.std.specs.List.{Contains}
+use Rattle.std.proofs.Common.{◌≡◌, ◌∙◌, ap}
 use Rattle.p2p_directory.specs.View.{names}
 use Rattle.p2p_directory.proofs.Naming.{same_names}
 use Rattle.p2p_directory.proofs.kept.set_of.Goals as goal

@@ -1,7 +1,5 @@
-use Rattle.std.proofs.Common.{◌≡◌}
 use Rattle.std.specs.BTreeMap.{get}
 use Rattle.std.proofs.lemmas.Map.Lookups.{btree_map_from_get}
-use Rattle.std.proofs.lemmas.Grind.{common_steps}
 use Rattle.p2p_directory.proofs.MadeRoom.{undone}
 use Rattle.p2p_directory.specs.View.{has}
 use Rattle.p2p_directory.proofs.kept.take_room.Goals as goal

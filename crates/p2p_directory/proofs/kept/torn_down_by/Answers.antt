@@ -1,7 +1,7 @@
-use Rattle.std.proofs.Common.{◌≡◌, Bool, ◌++◌, sym, ◌∙◌, ap}
+use Rattle.std.proofs.Common.{◌≡◌, Bool, ◌++◌, ◌∙◌, ap}
 use Rattle.std.specs.BTreeMap.{get}
 use Rattle.std.specs.List.{filter}
-use Rattle.p2p_directory.specs.View.{names, is_torn_by}
+use Rattle.p2p_directory.specs.View.{is_torn_by}
 use Rattle.p2p_directory.proofs.Naming.{names-filter_both}
 use Rattle.p2p_directory.proofs.kept.torn_down_by.Goals as goal
 

@@ -1,4 +1,4 @@
-use Rattle.std.proofs.Common.{◌≡◌, sym, ◌∙◌, List, not, rules, subst, true, false, refl}
+use Rattle.std.proofs.Common.{◌≡◌, ◌∙◌, not, subst}
 use mathlib.Core.Bool.{false≢true}
 use Rattle.std.specs.List.{filter}
 use Rattle.std.specs.List.Sorted.{IsStrictlySortedBy, IsPermutation}

@@ -1,7 +1,5 @@
-use Rattle.std.proofs.Common.{◌≡◌, sym, subst, [], arith, ◌<◌}
 use Rattle.std.specs.BTreeMap.{get}
 use Rattle.std.specs.Int.NonZero.{non_zero_usize_get}
-use Rattle.p2p_directory.specs.View.{IsConsistent}
 use Rattle.p2p_directory.proofs.Sound.{first_consistent}
 use Rattle.p2p_directory.proofs.directory.Directory.init.Goals as goal
 

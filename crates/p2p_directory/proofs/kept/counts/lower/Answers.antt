@@ -1,5 +1,3 @@
-use Rattle.std.proofs.Common.{◌≡◌, ◌<◌, Option, ◌∙◌, ap, cond, subst, sym}
-use Rattle.std.specs.Option.{option_map, IsSomeAnd}
 use Rattle.std.specs.BTreeMap.{get}
 use Rattle.p2p_directory.specs.View.{dropped}
 use Rattle.p2p_directory.proofs.Naming.{named_here, not_yet, one_changed}

@@ -1,4 +1,4 @@
-use Rattle.std.proofs.Common.{◌≡◌, Bool, take, ◌||◌, cond, sym, ap, ◌∙◌}
+use Rattle.std.proofs.Common.{Bool, take, ◌||◌, sym, ap, ◌∙◌}
 use Rattle.std.proofs.lemmas.List.Folds.{list_any_more}
 use Rattle.std.specs.BTreeMap.{is_at, get}
 use Rattle.p2p_directory.proofs.MadeRoom.{one_more}

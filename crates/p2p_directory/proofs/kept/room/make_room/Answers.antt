@@ -1,4 +1,4 @@
-use Rattle.std.proofs.Common.{◌≡◌, ◌∙◌, take, Bool}
+use Rattle.std.proofs.Common.{◌∙◌, take, Bool}
 use Rattle.std.specs.BTreeMap.{is_at, get}
 use Rattle.p2p_directory.specs.View.{names}
 use Rattle.p2p_directory.proofs.MadeRoom.{unmade, none_of_front}
