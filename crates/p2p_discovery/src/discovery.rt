@@ -32,3 +32,6 @@ impl<C: PublicKey> Info<C> {
         })
     }
 }
+
+#[cfg(test)]
+mod tests;

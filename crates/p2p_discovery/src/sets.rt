@@ -160,3 +160,6 @@ impl<'a, P: PublicKey> IntoIterator for &'a OrderedSet<P> {
         self.iter()
     }
 }
+
+#[cfg(test)]
+mod tests;
