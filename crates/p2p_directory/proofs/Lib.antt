@@ -12,7 +12,6 @@ pub mod Counts
 pub mod Listed
 pub mod Keys
 pub mod Retained
-pub mod ReleasedAll
 pub mod TrackTie
 pub mod Ties
 pub mod Shown

@@ -41,7 +41,6 @@ pub fn run<C: PublicKey>(
     ensures answers { IfOk result (λ run. AreAnswers (setup_of C.cmp bootstrappers.items myself cfg) [] (calls_of commands.items) run.replies.items) }
     ensures directory { IfOk result (λ run. let s = setup_of C.cmp bootstrappers.items myself cfg in Stands s (world_left s (calls_of commands.items) run.replies.items) run.directory) }
     ensures held { IfOk result (λ run. let s = setup_of C.cmp bootstrappers.items myself cfg in Holds s (world_left s (calls_of commands.items) run.replies.items) run.held) }
-    ensures agree { IfOk result (λ run. AreHeld C.cmp run.directory run.held) }
 {
     let mut replies = Vec::with_capacity(alloc, commands.len())?;
     let mut held = Held::with_room(alloc, commands.len())?;

@@ -24,5 +24,3 @@ fn main(rt: HostRuntime) -> ExitCode {
 
 #[cfg(test)]
 mod famine;
-#[cfg(test)]
-mod refused;

@@ -93,4 +93,6 @@ pub fn run_rows<W: Write>(alloc: Global, words: &[String], out: &mut W) -> u8
 }
 
 #[cfg(test)]
+mod refused;
+#[cfg(test)]
 mod tests;

@@ -1,12 +1,12 @@
 //! The reservations that are held while commands are served.
 
-ghost use Rattle.std.specs.Prelude.{◌≡◌, false, ◌<◌, ◌≤◌, ◌+◌, [], None, Some, IfOk, IfErr, IfNone, length, map, slice_get, if◌then◌else◌};
+ghost use Rattle.std.specs.Prelude.{◌≡◌, ◌<◌, ◌≤◌, ◌+◌, [], None, Some, IfOk, IfErr, IfNone, length, map, slice_get, if◌then◌else◌};
 ghost use Rattle.std.specs.Option.{option_map};
 ghost use Rattle.std.specs.BTreeMap.{is_at};
 ghost use Rattle.std.specs.List.{HoldsAt};
 ghost use Rattle.std.specs.List.Sorted.{IsStrictlySortedBy, IsSearchInRange, IsPartitionPoint};
 
-use crate::directory::{Directory, Reservation};
+use crate::directory::Reservation;
 use p2p_discovery::codec::PublicKey;
 use std::alloc::{AllocError, Global};
 use std::cmp::Ordering;
@@ -33,8 +33,6 @@ impl<C: PublicKey> Model for Held<C> {
 
 impl<C: PublicKey> Held<C> {
     ghost use Rattle.p2p_directory.specs.Reserved.{held_of, all_but};
-    ghost use Rattle.p2p_directory.specs.Serving.{AreHeld, is_busy};
-    ghost use Rattle.p2p_directory.specs.View.{record_of};
     ghost use Rattle.p2p_directory.specs.Directories.{key_of};
 
     // None held yet, and room for so many.
@@ -99,25 +97,8 @@ impl<C: PublicKey> Held<C> {
             .binary_search_by_key(peer, |reservation| *reservation.metadata().public_key())
     }
 
-    /// Gives all that is held back to the directory, and ends it: nobody is reserved or connected
-    /// then. Takes no memory.
-    ///
-    /// Condition: just the peers whose reservations are held are reserved or connected, as after
-    /// [`run`](crate::run::run).
-    pub fn release_all(self, directory: &mut Directory<C>)
-        requires { AreHeld C.cmp directory.old self }
-        ensures config { directory.new.config ≡ directory.old.config }
-        ensures sets { directory.new.sets ≡ directory.old.sets }
-        ensures inert { (q : C) → is_busy (record_of C.cmp directory.new q) ≡ false }
-    {
-        let Held { mut reservations } = self;
-        while let Some(reservation) = reservations.pop() {
-            directory.release(reservation);
-        }
-        reservations.destroy_empty();
-    }
-
-    /// Ends it. Takes no memory.
+    /// Ends it. Takes no memory. What is held goes first: [`Held::take`] of each
+    /// [`Held::first`], and [`Directory::release`](crate::directory::Directory::release) of it.
     ///
     /// Condition: no reservation is held.
     pub fn close(self)

@@ -29,11 +29,14 @@ fn release<C: PublicKey>(directory: &mut Directory<C>, held: &mut Held<C>, peer:
     }
 }
 
-// Releases what is still held.
-fn finish<C: PublicKey>(mut directory: Directory<C>, held: Held<C>)
+// Releases what is still held, and ends it.
+fn finish<C: PublicKey>(mut directory: Directory<C>, mut held: Held<C>)
     requires { AreHeld C.cmp directory held }
 {
-    held.release_all(&mut directory);
+    while let Some(peer) = held.first() {
+        release(&mut directory, &mut held, &peer);
+    }
+    held.close();
 }
 
 fn own_info() -> Info<TestKey> {

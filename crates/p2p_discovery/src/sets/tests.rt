@@ -1,6 +1,7 @@
 use super::{OrderedSet, SetError};
 use crate::codec::TestKey;
 use crate::famine::Famine;
+use crate::refused::Tally;
 use std::alloc::{AllocError, Global};
 use std::test::Fail;
 
@@ -69,17 +70,17 @@ fn a_set_is_whole_or_refused_for_memory(rt: HostRuntime) -> Result<(), Fail> {
     let alloc = rt.alloc();
     let whole = OrderedSet::from_iter_dedup(alloc, (0..150).map(TestKey))?;
     let mut famine = Famine::new(alloc)?;
-    let mut refused = 0usize;
+    let mut tally = Tally::EMPTY;
     for step in 0..STEPS {
         famine.starve(alloc, step.saturating_mul(64))?;
         let made = OrderedSet::from_iter_dedup(alloc, (0..150).map(TestKey));
         famine.relieve();
-        match made {
-            Ok(set) => assert_eq!(rt; set.as_slice(), whole.as_slice(), "step {step}"),
-            Err(AllocError) => refused = refused.saturating_add(1),
+        tally.count(made.is_err());
+        if let Ok(set) = made {
+            assert_eq!(rt; set.as_slice(), whole.as_slice(), "step {step}");
         }
     }
-    assert!(rt; refused > 0 && refused < STEPS, "{refused} refused");
+    tally.is_mixed(&rt);
     Ok(())
 }
 
@@ -88,16 +89,16 @@ fn a_copy_is_whole_or_refused_for_memory(rt: HostRuntime) -> Result<(), Fail> {
     let alloc = rt.alloc();
     let whole = OrderedSet::from_iter_dedup(alloc, (0..150).map(TestKey))?;
     let mut famine = Famine::new(alloc)?;
-    let mut refused = 0usize;
+    let mut tally = Tally::EMPTY;
     for step in 0..STEPS {
         famine.starve(alloc, step.saturating_mul(64))?;
         let made = whole.clone();
         famine.relieve();
-        match made {
-            Ok(set) => assert_eq!(rt; set.as_slice(), whole.as_slice(), "step {step}"),
-            Err(AllocError) => refused = refused.saturating_add(1),
+        tally.count(made.is_err());
+        if let Ok(set) = made {
+            assert_eq!(rt; set.as_slice(), whole.as_slice(), "step {step}");
         }
     }
-    assert!(rt; refused > 0 && refused < STEPS, "{refused} refused");
+    tally.is_mixed(&rt);
     Ok(())
 }

@@ -1,10 +1,13 @@
 //! Rows about the calls of a directory.
 
+ghost use Rattle.p2p_directory.specs.Serving.{AreHeld};
+
 use crate::row::lines::Line;
 use crate::row::setting::{At, Step, config, own_info};
 use crate::row::{Stop, print};
-use p2p_directory::run::{Reply, Run, run};
-use p2p_discovery::codec::TestKey;
+use p2p_directory::directory::Directory;
+use p2p_directory::run::{Held, Reply, Run, run};
+use p2p_discovery::codec::{PublicKey, TestKey};
 use std::alloc::{AllocError, Global};
 use std::io::Write;
 
@@ -59,10 +62,22 @@ fn replies(alloc: Global, steps: &[Step]) -> Result<Vec<Reply<TestKey>>, AllocEr
     }
     let bootstrappers = Vec::new(alloc);
     let Run {
-        mut directory,
+        directory,
         held,
         replies,
     } = run(alloc, bootstrappers, own_info(), config(), commands)?;
-    held.release_all(&mut directory);
+    release_all(directory, held);
     Ok(replies)
+}
+
+// Gives all that is held back to the directory, and ends both.
+fn release_all<C: PublicKey>(mut directory: Directory<C>, mut held: Held<C>)
+    requires { AreHeld C.cmp directory held }
+{
+    while let Some(peer) = held.first() {
+        if let Some(reservation) = held.take(&peer) {
+            directory.release(reservation);
+        }
+    }
+    held.close();
 }

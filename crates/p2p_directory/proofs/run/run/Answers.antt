@@ -77,9 +77,3 @@ returns-clause-held g c =
     let rest = c.loop-command.command-iterator.rest in
     let all = all_moved c.loop-command.yielded rest.items c.args.commands.items kept.rest (sym rest.ok.0 ∙ c.in-None.ensures.steps.0) in
     subst (λ xs. Holds s (world_after s (accepted s [] (calls_of xs) c.loop-command.replies.items)) c.loop-command.held) all kept.left.holds
-
-pub returns-clause-agree : goal.returns-clause-agree
-returns-clause-agree g c =
-    let s = setup_of g.C.Ord.cmp c.args.bootstrappers.items c.args.myself c.args.cfg in
-    let left = c.loop-command.invariant.left in
-    are_held s _ c.loop-command.directory c.loop-command.held left.stands left.holds

@@ -1,18 +1,14 @@
 //! What each call leaves where memory is refused.
 
-ghost use Rattle.std.specs.Prelude.{◌≡◌};
-ghost use Rattle.std.specs.Int.NonZero.{non_zero_usize_get};
-
 use crate::famine::Famine;
 use crate::row::run_rows;
-use p2p_directory::directory::{Config, Directory, TrackedPeers};
+use crate::row::setting::{config, own_info};
+use p2p_directory::directory::{Directory, TrackedPeers};
 use p2p_directory::record::Status;
-use p2p_discovery::codec::{TestKey, TestSignature};
-use p2p_discovery::discovery::Info;
+use p2p_discovery::codec::TestKey;
 use p2p_discovery::sets::OrderedSet;
 use p2p_discovery::types::{Ingress, IpAddr, SocketAddr};
 use std::alloc::{AllocError, Global};
-use std::num::NonZeroUsize;
 use std::process::Abort;
 use std::test::Fail;
 use std::time::Duration;
@@ -68,28 +64,6 @@ fn rows_end_with_out_of_memory_or_whole(rt: HostRuntime) -> Result<(), Fail> {
         runs_at_each_budget(&rt, alloc, &mut famine, word)?;
     }
     Ok(())
-}
-
-fn own_info() -> Info<TestKey> {
-    Info {
-        ingress: Ingress::Socket(SocketAddr::new(IpAddr::V4([8, 8, 8, 8]), 9000)),
-        timestamp: 0,
-        public_key: TestKey(9),
-        signature: TestSignature(0),
-    }
-}
-
-fn config() -> Config
-    ensures { non_zero_usize_get result.max_sets ≡ 1 }
-{
-    Config {
-        allow_private_ips: true,
-        allow_dns: true,
-        max_sets: NonZeroUsize::MIN,
-        dial_fail_limit: 1,
-        peer_connection_cooldown: Duration::from_secs(10),
-        block_duration: Duration::from_secs(60),
-    }
 }
 
 /// The peers with the numbers from `first` on, so many of them.
