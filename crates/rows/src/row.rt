@@ -1,7 +1,8 @@
 //! The worked rows, by their numbers.
 
-ghost use Rattle.std.specs.Prelude.{◌≤◌, ◌≡◌, codes};
+ghost use Rattle.std.specs.Prelude.{◌≤◌, ◌≡◌, codes, map, string_bytes};
 ghost use Rattle.std.specs.Io.KnownBytes.{Appends};
+ghost use Rattle.rows.specs.Words.{IsRow};
 
 use std::alloc::{AllocError, AllocFailed, Global};
 use std::fmt::Display;
@@ -24,13 +25,17 @@ enum Stop {
 }
 
 impl From<AllocError> for Stop {
-    fn from(_error: AllocError) -> Stop {
+    fn from(_error: AllocError) -> Stop
+        ensures { result ≡ Stop.Memory }
+    {
         Stop::Memory
     }
 }
 
 impl<T: Drop> From<AllocFailed<T>> for Stop {
-    fn from(_error: AllocFailed<T>) -> Stop {
+    fn from(_error: AllocFailed<T>) -> Stop
+        ensures { result ≡ Stop.Memory }
+    {
         Stop::Memory
     }
 }
@@ -42,7 +47,8 @@ fn print<W: Write>(out: &mut W, line: &impl Display) -> Result<(), Stop> {
 
 /// Says that memory ran out, and answers the exit status: 3, or 1 where that could not be written.
 pub fn out_of_memory<W: Write>(out: &mut W) -> u8
-    ensures { result ≤ 3 }
+    ensures status { ¬ (result ≡ 3) → result ≡ 1 }
+    ensures printed { result ≡ 3 → Appends (W.contents out.old) (W.contents out.new) (codes "out of memory\n") }
 {
     match writeln!(out, "out of memory") {
         Ok(()) => 3,
@@ -53,7 +59,7 @@ pub fn out_of_memory<W: Write>(out: &mut W) -> u8
 /// Says that there is no such row, and answers the exit status: 2, or 1 where that could not be
 /// written.
 pub fn no_such_row<W: Write>(out: &mut W) -> u8
-    ensures range { result ≤ 3 }
+    ensures status { ¬ (result ≡ 2) → result ≡ 1 }
     ensures printed { result ≡ 2 → Appends (W.contents out.old) (W.contents out.new) (codes "no such row\n") }
 {
     match writeln!(out, "no such row") {
@@ -69,7 +75,10 @@ pub fn no_such_row<W: Write>(out: &mut W) -> u8
 /// one word or it is not the number of a row in decimal without leading zeros; 3 after `out of
 /// memory`, where memory was refused; and 1 where a line could not be written.
 pub fn run_rows<W: Write>(alloc: Global, words: &[String], out: &mut W) -> u8
-    ensures { result ≤ 3 }
+    ensures range { result ≤ 3 }
+    ensures row { IsRow (map string_bytes words.now) → ¬ (result ≡ 2) }
+    ensures other { ¬ (IsRow (map string_bytes words.now)) → ¬ (result ≡ 2) → result ≡ 1 }
+    ensures refused { result ≡ 2 → Appends (W.contents out.old) (W.contents out.new) (codes "no such row\n") }
 {
     let [word] = words else {
         return no_such_row(out);

@@ -1,4 +1,4 @@
-use Rattle.std.proofs.Common.{◌<◌, ◌^◌, length, refl, arith, ◌∷◌, []}
+use Rattle.std.proofs.Common.{refl, arith, ◌∷◌, []}
 use Rattle.std.specs.List.Sorted.{IsStrictlySortedBy}
 use Rattle.std.specs.Option.{option_copied}
 use Rattle.p2p_discovery.specs.KeysLaws.{key_total, exact_key}

@@ -1,0 +1,37 @@
+use Rattle.std.proofs.Common.{◌≡◌, ◌≤◌, ◌<◌, ℕ, List, [], ◌∷◌, length, codes, map, string_bytes, slice_index_or, sym, refl, ap, ◌∙◌, arith}
+use Rattle.std.specs.Prelude.{String}
+use Rattle.rows.specs.Words.{IsRow, rows}
+use Rattle.rows.proofs.row.run_rows.Goals as goal
+use Rattle.rows.proofs.row.run_rows.Goals.{in-text, in-text-2, in-text-3, in-text-4, in-text-5, in-text-6, in-text-7, in-text-8}
+
+-- a word that is the number at this place names a row
+is_row : {Z : Type 0} (words : List (String Z)) (word : String Z) (text number : List ℕ) (place : ℕ) → 1 ≤ length words → length words < 2 →
+    word ≡ slice_index_or words 0 word → text ≡ string_bytes word → text ≡ number → place < length rows → slice_index_or rows place number ≡ number → IsRow (map string_bytes words)
+is_row [] word text number place some few first is named below there = absurd (omega arith)
+is_row (w ∷ []) word text number place some few first is named below there =
+    record { word = number; alone = ap (λ t. t ∷ []) (sym (ap string_bytes first) ∙ sym is ∙ named); listed = (place, below, there) }
+is_row (w ∷ x ∷ ws) word text number place some few first is named below there = absurd (omega arith)
+
+pub returns-in-Ok-clause-other : goal.returns-in-Ok-clause-other
+returns-in-Ok-clause-other g c = λ no. absurd (no (elim c.match-as_str.branch [
+  | in-text w ↦ is_row c.args.words.now c.word-item.result c.as_str.result.now (codes "1") 0 c.in-len1.len_at_least c.in-len1.len_below c.word-item.is c.as_str.ensures.value w.in-text.is (omega arith) refl
+  | in-text-2 w ↦ is_row c.args.words.now c.word-item.result c.as_str.result.now (codes "2") 1 c.in-len1.len_at_least c.in-len1.len_below c.word-item.is c.as_str.ensures.value w.in-text-2.is (omega arith) refl
+  | in-text-3 w ↦ is_row c.args.words.now c.word-item.result c.as_str.result.now (codes "3") 2 c.in-len1.len_at_least c.in-len1.len_below c.word-item.is c.as_str.ensures.value w.in-text-3.is (omega arith) refl
+  | in-text-4 w ↦ is_row c.args.words.now c.word-item.result c.as_str.result.now (codes "5") 3 c.in-len1.len_at_least c.in-len1.len_below c.word-item.is c.as_str.ensures.value w.in-text-4.is (omega arith) refl
+  | in-text-5 w ↦ is_row c.args.words.now c.word-item.result c.as_str.result.now (codes "6") 4 c.in-len1.len_at_least c.in-len1.len_below c.word-item.is c.as_str.ensures.value w.in-text-5.is (omega arith) refl
+  | in-text-6 w ↦ is_row c.args.words.now c.word-item.result c.as_str.result.now (codes "8") 5 c.in-len1.len_at_least c.in-len1.len_below c.word-item.is c.as_str.ensures.value w.in-text-6.is (omega arith) refl
+  | in-text-7 w ↦ is_row c.args.words.now c.word-item.result c.as_str.result.now (codes "21") 6 c.in-len1.len_at_least c.in-len1.len_below c.word-item.is c.as_str.ensures.value w.in-text-7.is (omega arith) refl
+  | in-text-8 w ↦ is_row c.args.words.now c.word-item.result c.as_str.result.now (codes "22") 7 c.in-len1.len_at_least c.in-len1.len_below c.word-item.is c.as_str.ensures.value w.in-text-8.is (omega arith) refl
+]))
+
+pub returns-in-Err-Memory-clause-other : goal.returns-in-Err-Memory-clause-other
+returns-in-Err-Memory-clause-other g c = λ no. absurd (no (elim c.match-as_str.branch [
+  | in-text w ↦ is_row c.args.words.now c.word-item.result c.as_str.result.now (codes "1") 0 c.in-len1.len_at_least c.in-len1.len_below c.word-item.is c.as_str.ensures.value w.in-text.is (omega arith) refl
+  | in-text-2 w ↦ is_row c.args.words.now c.word-item.result c.as_str.result.now (codes "2") 1 c.in-len1.len_at_least c.in-len1.len_below c.word-item.is c.as_str.ensures.value w.in-text-2.is (omega arith) refl
+  | in-text-3 w ↦ is_row c.args.words.now c.word-item.result c.as_str.result.now (codes "3") 2 c.in-len1.len_at_least c.in-len1.len_below c.word-item.is c.as_str.ensures.value w.in-text-3.is (omega arith) refl
+  | in-text-4 w ↦ is_row c.args.words.now c.word-item.result c.as_str.result.now (codes "5") 3 c.in-len1.len_at_least c.in-len1.len_below c.word-item.is c.as_str.ensures.value w.in-text-4.is (omega arith) refl
+  | in-text-5 w ↦ is_row c.args.words.now c.word-item.result c.as_str.result.now (codes "6") 4 c.in-len1.len_at_least c.in-len1.len_below c.word-item.is c.as_str.ensures.value w.in-text-5.is (omega arith) refl
+  | in-text-6 w ↦ is_row c.args.words.now c.word-item.result c.as_str.result.now (codes "8") 5 c.in-len1.len_at_least c.in-len1.len_below c.word-item.is c.as_str.ensures.value w.in-text-6.is (omega arith) refl
+  | in-text-7 w ↦ is_row c.args.words.now c.word-item.result c.as_str.result.now (codes "21") 6 c.in-len1.len_at_least c.in-len1.len_below c.word-item.is c.as_str.ensures.value w.in-text-7.is (omega arith) refl
+  | in-text-8 w ↦ is_row c.args.words.now c.word-item.result c.as_str.result.now (codes "22") 7 c.in-len1.len_at_least c.in-len1.len_below c.word-item.is c.as_str.ensures.value w.in-text-8.is (omega arith) refl
+]))
