@@ -18,7 +18,7 @@ fn ingress(port: u16) -> Ingress {
     Ingress::Socket(SocketAddr::new(IpAddr::V4([1, 2, 3, 4]), port))
 }
 
-fn info(key: u64) -> Info<TestKey> {
+pub(crate) fn info(key: u64) -> Info<TestKey> {
     Info {
         ingress: ingress(8000),
         timestamp: 0,
@@ -31,7 +31,7 @@ fn peers(alloc: Global, numbers: &[u64]) -> Result<OrderedSet<TestKey>, AllocErr
     OrderedSet::from_iter_dedup(alloc, numbers.iter().map(|number| TestKey(*number)))
 }
 
-fn tracked(
+pub(crate) fn tracked(
     alloc: Global,
     primary: &[u64],
     secondary: &[u64],
@@ -111,7 +111,7 @@ fn a_record_is_reserved_once_in_an_interval(rt: HostRuntime) {
     assert_eq!(rt; record.status(), Status::Reserved);
 }
 
-fn config() -> Config
+pub(crate) fn config() -> Config
     ensures { non_zero_usize_get result.max_sets ≡ 1 }
 {
     Config {

@@ -94,6 +94,14 @@ pub fn run_rows<W: Write>(alloc: Global, words: &[String], out: &mut W) -> u8
         "22" => addresses::valid_addresses(alloc, out),
         _ => return no_such_row(out),
     };
+    status_after(ended, out)
+}
+
+// The exit status of a row that ended so.
+fn status_after<W: Write>(ended: Result<(), Stop>, out: &mut W) -> u8
+    ensures range { result ≤ 3 }
+    ensures row { ¬ (result ≡ 2) }
+{
     match ended {
         Ok(()) => 0,
         Err(Stop::Write) => 1,

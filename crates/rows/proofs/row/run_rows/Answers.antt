@@ -12,20 +12,8 @@ is_row (w ∷ []) word text number place some few first is named below there =
     record { word = number; alone = ap (λ t. t ∷ []) (sym (ap string_bytes first) ∙ sym is ∙ named); listed = (place, below, there) }
 is_row (w ∷ x ∷ ws) word text number place some few first is named below there = absurd (omega arith)
 
-pub returns-in-Ok-clause-other : goal.returns-in-Ok-clause-other
-returns-in-Ok-clause-other g c = λ no. absurd (no (elim c.match-as_str.branch [
-  | in-text w ↦ is_row c.args.words.now c.word-item.result c.as_str.result.now (codes "1") 0 c.in-len1.len_at_least c.in-len1.len_below c.word-item.is c.as_str.ensures.value w.in-text.is (omega arith) refl
-  | in-text-2 w ↦ is_row c.args.words.now c.word-item.result c.as_str.result.now (codes "2") 1 c.in-len1.len_at_least c.in-len1.len_below c.word-item.is c.as_str.ensures.value w.in-text-2.is (omega arith) refl
-  | in-text-3 w ↦ is_row c.args.words.now c.word-item.result c.as_str.result.now (codes "3") 2 c.in-len1.len_at_least c.in-len1.len_below c.word-item.is c.as_str.ensures.value w.in-text-3.is (omega arith) refl
-  | in-text-4 w ↦ is_row c.args.words.now c.word-item.result c.as_str.result.now (codes "5") 3 c.in-len1.len_at_least c.in-len1.len_below c.word-item.is c.as_str.ensures.value w.in-text-4.is (omega arith) refl
-  | in-text-5 w ↦ is_row c.args.words.now c.word-item.result c.as_str.result.now (codes "6") 4 c.in-len1.len_at_least c.in-len1.len_below c.word-item.is c.as_str.ensures.value w.in-text-5.is (omega arith) refl
-  | in-text-6 w ↦ is_row c.args.words.now c.word-item.result c.as_str.result.now (codes "8") 5 c.in-len1.len_at_least c.in-len1.len_below c.word-item.is c.as_str.ensures.value w.in-text-6.is (omega arith) refl
-  | in-text-7 w ↦ is_row c.args.words.now c.word-item.result c.as_str.result.now (codes "21") 6 c.in-len1.len_at_least c.in-len1.len_below c.word-item.is c.as_str.ensures.value w.in-text-7.is (omega arith) refl
-  | in-text-8 w ↦ is_row c.args.words.now c.word-item.result c.as_str.result.now (codes "22") 7 c.in-len1.len_at_least c.in-len1.len_below c.word-item.is c.as_str.ensures.value w.in-text-8.is (omega arith) refl
-]))
-
-pub returns-in-Err-Memory-clause-other : goal.returns-in-Err-Memory-clause-other
-returns-in-Err-Memory-clause-other g c = λ no. absurd (no (elim c.match-as_str.branch [
+pub returns-clause-other : goal.returns-clause-other
+returns-clause-other g c = λ no. absurd (no (elim c.match-as_str.branch [
   | in-text w ↦ is_row c.args.words.now c.word-item.result c.as_str.result.now (codes "1") 0 c.in-len1.len_at_least c.in-len1.len_below c.word-item.is c.as_str.ensures.value w.in-text.is (omega arith) refl
   | in-text-2 w ↦ is_row c.args.words.now c.word-item.result c.as_str.result.now (codes "2") 1 c.in-len1.len_at_least c.in-len1.len_below c.word-item.is c.as_str.ensures.value w.in-text-2.is (omega arith) refl
   | in-text-3 w ↦ is_row c.args.words.now c.word-item.result c.as_str.result.now (codes "3") 2 c.in-len1.len_at_least c.in-len1.len_below c.word-item.is c.as_str.ensures.value w.in-text-3.is (omega arith) refl
