@@ -10,9 +10,11 @@ use std::alloc::Global;
 use std::process::Abort;
 use std::test::Fail;
 
-const STEP: usize = 32;
+/// By how much budgets grow. Blocks of the C library are multiples of it, so each growth is refused
+/// at some budget.
+pub(crate) const STEP: usize = 16;
 
-const STEPS: usize = 128;
+pub(crate) const STEPS: usize = 256;
 
 const NAME: &str = "a-name-of-a-machine-that-takes-memory.and-not-a-little.example.com";
 

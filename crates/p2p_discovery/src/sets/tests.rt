@@ -1,11 +1,9 @@
 use super::{OrderedSet, SetError};
 use crate::codec::TestKey;
 use crate::famine::Famine;
-use crate::refused::Tally;
+use crate::refused::{STEP, STEPS, Tally};
 use std::alloc::{AllocError, Global};
 use std::test::Fail;
-
-const STEPS: usize = 64;
 
 fn keys(alloc: Global, numbers: &[u64]) -> Result<Vec<TestKey>, AllocError> {
     let mut keys = Vec::with_capacity(alloc, numbers.len())?;
@@ -72,7 +70,7 @@ fn a_set_is_whole_or_refused_for_memory(rt: HostRuntime) -> Result<(), Fail> {
     let mut famine = Famine::new(alloc)?;
     let mut tally = Tally::EMPTY;
     for step in 0..STEPS {
-        famine.starve(alloc, step.saturating_mul(64))?;
+        famine.starve(alloc, step.saturating_mul(STEP))?;
         let made = OrderedSet::from_iter_dedup(alloc, (0..150).map(TestKey));
         famine.relieve();
         tally.count(made.is_err());
@@ -91,7 +89,7 @@ fn a_copy_is_whole_or_refused_for_memory(rt: HostRuntime) -> Result<(), Fail> {
     let mut famine = Famine::new(alloc)?;
     let mut tally = Tally::EMPTY;
     for step in 0..STEPS {
-        famine.starve(alloc, step.saturating_mul(64))?;
+        famine.starve(alloc, step.saturating_mul(STEP))?;
         let made = whole.clone();
         famine.relieve();
         tally.count(made.is_err());

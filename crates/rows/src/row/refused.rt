@@ -13,9 +13,13 @@ use std::process::Abort;
 use std::test::Fail;
 use std::time::Duration;
 
-const STEP: usize = 64;
+/// By how much budgets grow. Blocks of the C library are multiples of it, so each growth is refused
+/// at some budget.
+const STEP: usize = 16;
 
-const STEPS: usize = 192;
+const ROW_STEPS: usize = 768;
+
+const CALL_STEPS: usize = 3_072;
 
 /// Whether the lines are all there with status 0, or cut after one of them, with `out of memory`
 /// and status 3.
@@ -38,7 +42,7 @@ fn runs_at_each_budget(
     assert_eq!(rt; run_rows(alloc, &words, &mut lines), 0, "row {word}");
     let mut out: Vec<u8> = Vec::with_capacity(alloc, 4_096)?;
     let mut refused = 0usize;
-    for step in 0..STEPS {
+    for step in 0..ROW_STEPS {
         out.clear();
         famine.starve(alloc, step.saturating_mul(STEP))?;
         let status = run_rows(alloc, &words, &mut out);
@@ -50,7 +54,7 @@ fn runs_at_each_budget(
         refused = refused.saturating_add(usize::from(status == 3));
     }
     assert!(rt;
-        refused > 0 && refused < STEPS,
+        refused > 0 && refused < ROW_STEPS,
         "row {word}: {refused} refused"
     );
     Ok(())
@@ -117,11 +121,11 @@ fn a_set_refused_for_memory_changes_nothing(rt: HostRuntime) -> Result<(), Fail>
     let alloc = rt.alloc();
     let mut famine = Famine::new(alloc)?;
     let mut refused = 0usize;
-    for step in 0..STEPS {
-        let budget = step.saturating_mul(STEP * 4);
+    for step in 0..CALL_STEPS {
+        let budget = step.saturating_mul(STEP);
         refused = refused.saturating_add(usize::from(tracks_at(&rt, alloc, &mut famine, budget)?));
     }
-    assert!(rt; refused > 0 && refused < STEPS, "{refused} refused");
+    assert!(rt; refused > 0 && refused < CALL_STEPS, "{refused} refused");
     Ok(())
 }
 
@@ -161,11 +165,11 @@ fn a_start_is_refused_or_whole(rt: HostRuntime) -> Result<(), Fail> {
     let alloc = rt.alloc();
     let mut famine = Famine::new(alloc)?;
     let mut refused = 0usize;
-    for step in 0..STEPS {
-        let budget = step.saturating_mul(STEP * 4);
+    for step in 0..CALL_STEPS {
+        let budget = step.saturating_mul(STEP);
         refused = refused.saturating_add(usize::from(starts_at(&rt, alloc, &mut famine, budget)?));
     }
-    assert!(rt; refused > 0 && refused < STEPS, "{refused} refused");
+    assert!(rt; refused > 0 && refused < CALL_STEPS, "{refused} refused");
     Ok(())
 }
 
