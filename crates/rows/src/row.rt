@@ -1,6 +1,6 @@
 //! The worked rows, by their numbers.
 
-ghost use Rattle.std.specs.Prelude.{◌≤◌, ◌≡◌, codes, map, string_bytes};
+ghost use Rattle.std.specs.Prelude.{◌≤◌, ◌≡◌, Ok, Err, codes, map, string_bytes};
 ghost use Rattle.std.specs.Io.KnownBytes.{Appends};
 ghost use Rattle.rows.specs.Words.{IsRow};
 
@@ -101,6 +101,9 @@ pub fn run_rows<W: Write>(alloc: Global, words: &[String], out: &mut W) -> u8
 fn status_after<W: Write>(ended: Result<(), Stop>, out: &mut W) -> u8
     ensures range { result ≤ 3 }
     ensures row { ¬ (result ≡ 2) }
+    ensures done { ended ≡ Ok tt → result ≡ 0 }
+    ensures failed { ended ≡ Err Stop.Write → result ≡ 1 }
+    ensures memory { ended ≡ Err Stop.Memory → ¬ (result ≡ 3) → result ≡ 1 }
 {
     match ended {
         Ok(()) => 0,
