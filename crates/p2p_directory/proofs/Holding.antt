@@ -67,7 +67,3 @@ module _ {C S : Type 0} {cmp : C → C → Ordering} (total : IsTotalOrder cmp) 
           ≡ is_some_and (if b then option_and_then (λ r. unless_deletable (released m r)) (record_of cmp d q) else record_of cmp d q) (λ r. not (is_inert r.status))
       go true = gone (record_of cmp d q)
       go false = agree q
-
-  -- nor does it matter where none of the peer is held
-  pub absent_held : (d : DirectoryView C S) (h : HeldView C S) (p : C) → AreHeld cmp d h → all_but cmp p h ≡ h → AreHeld cmp d (all_but cmp p h)
-  absent_held d h p agree same = subst (AreHeld cmp d) (sym same) agree
