@@ -22,3 +22,10 @@ pub mod Holding
 pub mod Served
 pub mod Replies
 mod Rows
+pub mod Isolation
+pub mod Spacing
+pub mod Dialled
+pub mod Quiet
+pub mod GrantRuns
+pub mod Bounded
+pub mod Ordered

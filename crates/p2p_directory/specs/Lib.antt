@@ -10,3 +10,9 @@ pub mod Stands
 pub mod Reserved
 pub mod Serving
 pub mod Runs
+pub mod Isolation
+pub mod Grants
+pub mod Dials
+pub mod GrantRuns
+pub mod Order
+pub mod Bounds

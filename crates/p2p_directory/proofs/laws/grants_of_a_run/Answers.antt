@@ -1,0 +1,6 @@
+use Rattle.p2p_directory.proofs.GrantRuns
+use Rattle.p2p_directory.proofs.Keys.{exact_from}
+use Rattle.p2p_directory.proofs.laws.grants_of_a_run.Goals as goal
+
+pub returns : goal.returns
+returns g c = λ s order p cs rs answers. GrantRuns.keep_cooldown s (exact_from s g.C.Ord.cmp order g.met.C.PublicKey.exact) p cs rs answers
