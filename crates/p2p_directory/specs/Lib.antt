@@ -1,18 +1,17 @@
+-- What `run` promises rests on these: read them in this order, and nothing else.
 pub mod Calls
-pub mod Past
+pub mod Moments
+pub mod History
 pub mod World
 pub mod Answers
-pub mod Records
-pub mod View
-pub mod Configs
-pub mod Directories
-pub mod Stands
-pub mod Reserved
-pub mod Serving
-pub mod Runs
-pub mod Isolation
-pub mod Grants
-pub mod Dials
-pub mod GrantRuns
-pub mod Order
-pub mod Bounds
+pub mod Refinement
+pub mod Run
+-- What single calls of records, directories and what is held promise.
+pub mod Record
+pub mod PeerSets
+pub mod Directory
+pub mod Held
+-- The step of one accepted call: the main law and other laws alone speak of it.
+pub mod Step
+pub mod Laws
+pub mod Private

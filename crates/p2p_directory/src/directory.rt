@@ -1,29 +1,35 @@
 //! The directory of peers: the retained sets, and a record of each peer that is in one of them,
 //! persistent, reserved or connected.
 
-ghost use Rattle.std.specs.Prelude.{◌≡◌, ◌<◌, ◌^◌, ◌-◌, ◌++◌, ◌∷◌, [], Bool, false, true, IfSome, IfNone, IfOk, OnErr, MatchOption, is_some, Some, None, if◌then◌else◌, ◌&&◌};
-ghost use Rattle.std.specs.Option.{option_map, option_and_then};
+ghost use Rattle.std.specs.Prelude.{◌≡◌, ◌<◌, ◌≤◌, ◌^◌, ◌-◌, ◌++◌, ◌∷◌, [], ℕ, Bool, false, true, IfSome, IfNone, IfOk, OnOk, OnErr, is_some, vec_capacity, Some, None};
+ghost use Rattle.std.specs.List.{last_or};
+ghost use Rattle.std.specs.List.Sorted.{IsStrictlySortedBy};
+ghost use Rattle.std.specs.Option.{option_map, option_map_or};
+ghost use Rattle.std.specs.BTreeMap.{is_at};
 ghost use Rattle.std.specs.Duration.{as_nanos};
 ghost use Rattle.std.specs.Int.NonZero.{non_zero_usize_get};
-ghost use Rattle.std.specs.BTreeMap.{is_at, get};
-ghost use Rattle.p2p_directory.specs.Past.{last_of};
-ghost use Rattle.p2p_directory.specs.Records.{is_eligible, is_inert, is_reservable, reserved_at};
-ghost use Rattle.p2p_directory.specs.View.{record_of, latest_index, is_above, unless_deletable};
+ghost use Rattle.p2p_directory.specs.declared.record.Role.{Role};
+ghost use Rattle.p2p_directory.specs.Calls.{SetAt};
+ghost use Rattle.p2p_directory.specs.Record.{may_come};
+ghost use Rattle.p2p_directory.specs.PeerSets.{set_of, latest_index, is_above, AreRolesDisjoint};
+ghost use Rattle.p2p_directory.specs.Private.Counts.{newest_sets, surplus_count};
+ghost use Rattle.p2p_directory.specs.Directory.{record_at};
+ghost use Rattle.p2p_directory.specs.Private.Counts.{record_joining, IsRestored, DropsOldest};
 
-use crate::directory::records::{first_records, may_reserve, release, reserve};
-use crate::kept::{KeptSet, drop_oldest, is_index_above, keep, latest, torn_down};
-use crate::record::{Record, Status};
+use crate::directory::records::Records;
+use crate::directory::records::counts::ordered;
+use crate::kept::{PeerSet, Window, forget};
+use crate::record::Status;
 use p2p_discovery::codec::PublicKey;
 use p2p_discovery::discovery::Info;
 use p2p_discovery::sets::OrderedSet;
 use p2p_discovery::types::Ingress;
 use std::alloc::{AllocError, Global};
-use std::collections::{BTreeMap, VecDeque};
 use std::marker::Model;
 use std::num::NonZeroUsize;
 use std::time::Duration;
 
-mod records;
+pub(crate) mod records;
 
 /// How a directory behaves.
 #[derive(Clone, Copy, Debug)]
@@ -70,7 +76,7 @@ pub enum Metadata<P: PublicKey> {
 }
 
 impl<P: PublicKey> Metadata<P> {
-    ghost use Rattle.p2p_directory.specs.Directories.{key_of};
+    ghost use Rattle.p2p_directory.specs.Directory.{key_of};
 
     /// The key of the peer.
     pub fn public_key(&self) -> &P
@@ -106,41 +112,46 @@ impl<P: PublicKey> Reservation<P> {
     }
 }
 
-/// The directory of peers. A contract sees its configuration, its retained sets and its records.
+/// The directory of peers. A contract sees its configuration, its retained sets, the oldest first,
+/// and for each key what is kept of the peer: its record, or nothing.
 #[derive(Drop)]
 pub struct Directory<C: PublicKey> {
     config: Config,
-    sets: VecDeque<KeptSet<C>>,
-    records: BTreeMap<C, Record<C>>,
+    sets: Window<C>,
+    records: Records<C>,
 }
 
 impl<C: PublicKey> Model for Directory<C> {
-    ghost use Rattle.std.specs.BTreeMap.{get};
     ghost use Rattle.std.specs.Int.NonZero.{non_zero_usize_get};
-    ghost use Rattle.p2p_directory.specs.View.{DirectoryView, IsConsistent};
+    ghost use Rattle.p2p_directory.specs.Directory.{DirectoryView, config_view, record_at};
+    ghost use Rattle.p2p_directory.specs.Private.Counts.{IsConsistent};
 
     ghost Value = { DirectoryView C C.Signature };
 
-    ghost use Rattle.p2p_directory.specs.Configs.{config_view};
+    ghost view = { λ d. record { config = config_view d.config; sets = d.sets; records = d.records } };
 
-    ghost view = { λ d. record { config = config_view d.config; sets = d.sets.items; records = d.records.entries } };
-
-    ghost invariant = { λ d. IsConsistent C.cmp (non_zero_usize_get d.config.max_sets) d.sets.items (λ q. get C.cmp d.records q) };
+    ghost invariant = { λ d. IsConsistent C.cmp (non_zero_usize_get d.config.max_sets) d.sets (record_at C.cmp d.records) };
 }
 
 impl<C: PublicKey> Directory<C> {
-    ghost use Rattle.p2p_directory.specs.Configs.{config_view};
-    ghost use Rattle.p2p_directory.specs.Directories.{key_of, released, is_some_and, first_record, IsHeld, set_of, tracked, AreTornDown};
+    ghost use Rattle.p2p_directory.specs.Directory.{config_view, key_of, record_of, first_record};
+    ghost use Rattle.p2p_directory.specs.Directory.{IsBusy, StayBusy, Reserves, Releases, TakesSet, AreTornDown};
 
     /// A directory that retains no set. Its records are the own one and those of the
     /// bootstrappers: a later bootstrapper of the same key replaces an earlier one, and the own
     /// record one of its key.
     ///
-    /// Condition: `cfg.max_sets` is below the greatest `usize`.
+    /// # Conditions
+    ///
+    /// `cfg.max_sets` is below the greatest `usize`.
     ///
     /// # Errors
     ///
     /// `AllocError` where memory is refused.
+    ///
+    /// # Cost
+    ///
+    /// One search among the records for each bootstrapper.
     pub fn init(
         alloc: Global,
         bootstrappers: Vec<(C, Ingress)>,
@@ -150,12 +161,13 @@ impl<C: PublicKey> Directory<C> {
         requires { non_zero_usize_get cfg.max_sets < 2 ^ 64 - 1 }
         ensures config { IfOk result (λ d. d.config ≡ config_view cfg) }
         ensures sets { IfOk result (λ d. d.sets ≡ []) }
-        ensures records { IfOk result (λ d. (q : C) → record_of C.cmp d q ≡ first_record C.cmp bootstrappers.items myself q) }
+        ensures records { IfOk result (λ d. (q : C) →
+            record_of C.cmp d q ≡ first_record C.cmp bootstrappers.items myself q) }
     {
-        let records = first_records(alloc, bootstrappers, myself)?;
+        let records = Records::first(alloc, bootstrappers, myself)?;
         Ok(Directory {
             config: cfg,
-            sets: VecDeque::new(alloc),
+            sets: Window::new(alloc),
             records,
         })
     }
@@ -166,78 +178,94 @@ impl<C: PublicKey> Directory<C> {
     ///
     /// Answers `None`, takes no memory and changes nothing where the index is not above. Else it
     /// answers the peers whose connections have to end: those that are reserved or connected, were
-    /// eligible and are no longer.
+    /// eligible and are no longer. Whoever is reserved or connected stays so.
     ///
     /// # Errors
     ///
     /// `AllocError` where memory is refused; then nothing has changed.
+    ///
+    /// # Cost
+    ///
+    /// One search among the records for each peer of the new set, one for each peer of the set that
+    /// goes, and one more for each record that goes with it.
     pub fn track(
         &mut self,
         index: u64,
         peers: TrackedPeers<C>,
     ) -> Result<Option<OrderedSet<C>>, AllocError>
-        ensures config { self.new.config ≡ self.old.config }
         ensures err { OnErr result (self.new ≡ self.old) }
         ensures untaken { is_above index (latest_index self.old.sets) ≡ false → result ≡ Ok None }
         ensures answer { IfOk result (λ torn. is_some torn ≡ is_above index (latest_index self.old.sets)) }
         ensures refused { IfOk result (λ torn. IfNone torn (self.new ≡ self.old)) }
-        ensures taken { IfOk result (λ torn. IfSome torn (λ _. self.new.sets ≡ last_of self.old.config.max_sets (self.old.sets ++ set_of C.cmp index peers.primary peers.secondary ∷ []))) }
-        ensures records { IfOk result (λ torn. IfSome torn (λ _. (q : C) → record_of C.cmp self.new q ≡ tracked C.cmp self.old (set_of C.cmp index peers.primary peers.secondary) q)) }
+        ensures taken { IfOk result (λ torn. IfSome torn (λ _.
+            TakesSet C.cmp self.old self.new (set_of C.cmp index peers.primary peers.secondary))) }
         ensures torn { IfOk result (λ torn. IfSome torn (AreTornDown C.cmp self.old self.new)) }
+        ensures busy { StayBusy C.cmp self.old self.new }
     {
-        if !is_index_above(&self.sets, index) {
+        if !self.sets.is_next(index) {
             return Ok(None);
         }
-        let TrackedPeers { primary, secondary } = peers;
-        let alloc = *self.sets.allocator();
+        let alloc = self.sets.allocator();
         let max_sets = self.config.max_sets.get();
-        let set = KeptSet::new(alloc, index, primary, secondary)?;
-        let torn = torn_down(alloc, &self.sets, max_sets, &set, &self.records)?;
-        keep(&mut self.sets, &mut self.records, set)?;
-        drop_oldest(&mut self.sets, &mut self.records, max_sets);
-        Ok(Some(torn))
+        let set = PeerSet::new(alloc, index, peers.primary, peers.secondary)?;
+        let torn = Vec::with_capacity(alloc, self.sets.leaving_count(max_sets)?)?;
+        add(&mut self.sets, &mut self.records, set)?;
+        Ok(Some(drop_oldest(&mut self.sets, &mut self.records, max_sets, torn)))
     }
 
-    /// Reserves the peer for a connection that it asks for at the moment `now`.
+    /// Reserves the peer for a connection that it asks for at the moment `now`, a time since the
+    /// epoch.
     ///
     /// Answers `None` and changes nothing where there is no record of the peer, or it is not
     /// eligible, not inert, or `now` is before its reservable moment. Else the peer is reserved and
-    /// its moments are set as by [`Record::reserve`], with the draw. Takes no memory.
+    /// its moments are set as by [`Record::reserve`](crate::record::Record::reserve), with the draw.
+    /// Whoever is reserved or connected stays so. Takes no memory.
+    ///
+    /// # Cost
+    ///
+    /// One search among the records.
     pub fn listen(&mut self, peer: &C, now: Duration, draw: Duration) -> Option<Reservation<C>>
-        ensures answer { is_some result ≡ is_some_and (record_of C.cmp self.old peer.now) (λ r. is_eligible r && is_reservable (as_nanos now) r) }
+        ensures answer { is_some result ≡ option_map_or (may_come (as_nanos now)) (record_of C.cmp self.old peer.now) false }
         ensures refused { IfNone result (self.new ≡ self.old) }
         ensures reservation { IfSome result (λ reservation. reservation ≡ Metadata.Listener peer.now) }
-        ensures kept { (self.new.config ≡ self.old.config) × (self.new.sets ≡ self.old.sets) }
-        ensures records { IfSome result (λ _. (q : C) → record_of C.cmp self.new q ≡ (if is_at (C.cmp peer.now) q
-            then option_map (reserved_at (as_nanos now) (as_nanos draw) self.old.config.cooldown) (record_of C.cmp self.old q)
-            else record_of C.cmp self.old q)) }
+        ensures granted { IfSome result (λ _. Reserves C.cmp self.old self.new peer.now (as_nanos now) (as_nanos draw)) }
+        ensures is_busy { IfSome result (λ reservation. IsBusy C.cmp self.new (key_of reservation)) }
+        ensures busy { StayBusy C.cmp self.old self.new }
     {
-        if !may_reserve(&self.records, peer, now) {
+        let cooldown = self.config.peer_connection_cooldown;
+        if !self.records.reserve(peer, now, draw, cooldown) {
             return None;
         }
-        let cooldown = self.config.peer_connection_cooldown;
-        reserve(&mut self.records, peer, now, draw, cooldown);
         Some(Reservation {
             metadata: Metadata::Listener(*peer),
         })
     }
 
     /// Takes a reservation back: its peer is inert, a dialler's counts a failure at the address
-    /// that was dialled, and a record that is deletable then goes. Takes no memory.
+    /// that was dialled, and a record that is deletable then goes. Every other peer that is
+    /// reserved or connected stays so. Takes no memory.
     ///
-    /// Condition: the peer has a record that is not inert.
+    /// # Conditions
+    ///
+    /// The peer has a record that is not inert: the directory is one that granted the reservation.
+    ///
+    /// # Cost
+    ///
+    /// One search among the records, and one more where the record goes.
     pub fn release(&mut self, reservation: Reservation<C>)
-        requires { IsHeld C.cmp self.old (key_of reservation) }
-        ensures kept { (self.new.config ≡ self.old.config) × (self.new.sets ≡ self.old.sets) }
-        ensures records { (q : C) → record_of C.cmp self.new q ≡ (if is_at (C.cmp (key_of reservation)) q
-            then option_and_then (λ r. unless_deletable (released reservation r)) (record_of C.cmp self.old q)
-            else record_of C.cmp self.old q) }
+        requires { IsBusy C.cmp self.old (key_of reservation) }
+        ensures released { Releases C.cmp self.old self.new reservation }
+        ensures others { (q : C) → is_at (C.cmp (key_of reservation)) q ≡ false → IsBusy C.cmp self.old q → IsBusy C.cmp self.new q }
     {
         let Reservation { metadata } = reservation;
-        release(&mut self.records, &metadata);
+        self.records.release(&metadata);
     }
 
     /// Whether the peer is connected, or `None` where there is no record of it. Takes no memory.
+    ///
+    /// # Cost
+    ///
+    /// One search among the records.
     pub fn status(&self, peer: &C) -> Option<Status>
         ensures { result ≡ option_map (λ r. r.status) (record_of C.cmp self.now peer.now) }
     {
@@ -251,6 +279,67 @@ impl<C: PublicKey> Directory<C> {
     pub fn latest_set_index(&self) -> Option<u64>
         ensures { result ≡ latest_index self.now.sets }
     {
-        latest(&self.sets)
+        self.sets.latest_index()
+    }
+}
+
+// Adds a set as the latest, and counts it for its peers, or leaves all as it was where memory is
+// refused.
+fn add<C: PublicKey>(
+    sets: &mut Window<C>,
+    records: &mut Records<C>,
+    set: PeerSet<C>,
+) -> Result<(), AllocError>
+    ensures disjoint { OnOk result (AreRolesDisjoint C.cmp set) }
+    ensures ok { OnOk result (sets.new ≡ sets.old ++ set ∷ []) }
+    ensures joined { OnOk result ((q : C) → record_at C.cmp records.new q ≡ record_joining C.cmp set q (record_at C.cmp records.old q)) }
+    ensures sets { OnErr result (sets.new ≡ sets.old) }
+    ensures records { OnErr result (((q : C) (role : Role) → IsRestored C.cmp role (record_at C.cmp records.old q)) →
+        records.new ≡ records.old) }
+{
+    sets.push(set)?;
+    match join_latest(sets, records) {
+        Ok(()) => Ok(()),
+        Err(refused) => {
+            forget(sets.pop_latest());
+            Err(refused)
+        }
+    }
+}
+
+// Counts the latest set for its peers, or leaves all as it was where memory is refused.
+fn join_latest<C: PublicKey>(sets: &Window<C>, records: &mut Records<C>) -> Result<(), AllocError>
+    ensures disjoint { (set : SetAt C) → last_or None sets.now ≡ Some set → AreRolesDisjoint C.cmp set }
+    ensures ok { OnOk result ((set : SetAt C) → last_or None sets.now ≡ Some set →
+        (q : C) → record_at C.cmp records.new q ≡ record_joining C.cmp set q (record_at C.cmp records.old q)) }
+    ensures err { OnErr result (((q : C) (role : Role) → IsRestored C.cmp role (record_at C.cmp records.old q)) →
+        records.new ≡ records.old) }
+{
+    match sets.latest() {
+        Some(set) => records.join(set),
+        None => Ok(()),
+    }
+}
+
+// Drops the oldest set, where there is one too many, and counts it less for its peers. Answers the
+// peers whose connections have to end, in the list that is handed in.
+fn drop_oldest<C: PublicKey>(
+    sets: &mut Window<C>,
+    records: &mut Records<C>,
+    max_sets: usize,
+    torn: Vec<C>,
+) -> OrderedSet<C>
+    requires empty { torn.items ≡ [] }
+    requires room { surplus_count max_sets sets.old ≤ vec_capacity torn }
+    ensures sets { sets.new ≡ newest_sets max_sets sets.old }
+    ensures sorted { IsStrictlySortedBy C.cmp result }
+    ensures change { DropsOldest C.cmp max_sets sets.old (record_at C.cmp records.old) (record_at C.cmp records.new) result }
+{
+    if sets.len() <= max_sets {
+        return ordered(torn);
+    }
+    match sets.pop_oldest() {
+        Some(oldest) => records.leave(&oldest, torn),
+        None => ordered(torn),
     }
 }

@@ -1,61 +1,54 @@
-//! Retained sets, and the records of their peers.
+//! What is retained of peer sets. It knows nothing of records.
 
-ghost use Rattle.std.specs.Prelude.{◌≡◌, ℕ, ◌<◌, ◌^◌, ◌-◌, ◌++◌, ◌∷◌, [], true, false, not, IfSome, IfOk, Some, None, OnOk, OnErr, if◌then◌else◌, IsSomeAnd, is_ok, length, ◌≤◌, ◌&&◌};
-ghost use Rattle.std.specs.Option.{option_or};
-ghost use Rattle.std.specs.BTreeMap.{get};
-ghost use Rattle.std.specs.List.{All, filter};
-ghost use Rattle.std.specs.List.Sorted.{IsStrictlySortedBy};
-ghost use Rattle.p2p_directory.specs.Records.{is_deletable};
-ghost use Rattle.p2p_directory.specs.View.{names, has, blank, kept, joined, left, count_of, IsApart, AreCounted, IsCountable, newest, after_oldest, latest_index, is_above, is_torn_by, is_leaving};
+ghost use Rattle.std.specs.Prelude.{◌≡◌, ◌++◌, ◌∷◌, [], not, IfNone, IfOk, OnErr, OnOk, None, List, option_to_list, length};
+ghost use Rattle.std.specs.List.{filter, last_or};
+ghost use Rattle.std.specs.Option.{option_copied};
+ghost use Rattle.p2p_directory.specs.Calls.{SetAt};
+ghost use Rattle.p2p_directory.specs.PeerSets.{has_key, set_of, latest_index, is_above, AreRolesDisjoint};
+ghost use Rattle.p2p_directory.specs.Private.Counts.{leaving_count};
 
-use crate::kept::counts::{lower, raise};
-use crate::kept::room::{drop_deletable, make_room};
-use crate::record::Record;
 use p2p_discovery::codec::PublicKey;
 use p2p_discovery::sets::{OrderedSet, SetError};
 use std::alloc::{AllocError, Global};
-use std::collections::{BTreeMap, VecDeque};
+use std::collections::VecDeque;
 use std::marker::Model;
 
-mod counts;
-pub mod room;
-
-/// The part that a peer has in a set.
-#[derive(Clone, Copy, Debug, PartialEq, Eq)]
-pub enum Role {
-    Primary,
-    Secondary,
-}
+/// Lets a value go. Its drop, which branches on what it holds, stands here and not in the caller.
+pub fn forget<T: Drop>(_value: T) {}
 
 /// A retained set: its index, its primary peers, and those of its secondary peers that are not
 /// primary.
 #[derive(Drop)]
-pub struct KeptSet<C: PublicKey> {
+pub struct PeerSet<C: PublicKey> {
     index: u64,
     primary: OrderedSet<C>,
     secondary: OrderedSet<C>,
 }
 
-impl<C: PublicKey> Model for KeptSet<C> {
+impl<C: PublicKey> Model for PeerSet<C> {
     ghost use Rattle.p2p_directory.specs.Calls.{SetAt};
 
     ghost Value = { SetAt C };
 
+    ghost use Rattle.p2p_directory.specs.PeerSets.{AreRolesDisjoint};
+
     ghost view = { λ set. record { index = set.index; primary = set.primary; secondary = set.secondary } };
+
+    ghost invariant = { λ set. AreRolesDisjoint C.cmp (record { index = set.index; primary = set.primary; secondary = set.secondary }) };
 }
 
-impl<C: PublicKey> KeptSet<C> {
+impl<C: PublicKey> PeerSet<C> {
     /// The set of these peers; a peer in both roles is primary only.
     pub fn new(
         alloc: Global,
         index: u64,
         primary: OrderedSet<C>,
         secondary: OrderedSet<C>,
-    ) -> Result<KeptSet<C>, AllocError>
-        ensures { IfOk result (λ set. set ≡ record { index = index; primary = primary; secondary = filter (λ q. not (names C.cmp primary q)) secondary }) }
+    ) -> Result<PeerSet<C>, AllocError>
+        ensures { IfOk result (λ set. set ≡ set_of C.cmp index primary secondary) }
     {
         let secondary = without(alloc, &secondary, &primary)?;
-        Ok(KeptSet {
+        Ok(PeerSet {
             index,
             primary,
             secondary,
@@ -68,11 +61,26 @@ impl<C: PublicKey> KeptSet<C> {
     {
         self.index
     }
+
+    /// Its primary peers.
+    pub fn primary(&self) -> &OrderedSet<C>
+        ensures peers { result.now ≡ self.now.primary }
+        ensures disjoint { AreRolesDisjoint C.cmp self.now }
+    {
+        &self.primary
+    }
+
+    /// Its secondary peers.
+    pub fn secondary(&self) -> &OrderedSet<C>
+        ensures { result.now ≡ self.now.secondary }
+    {
+        &self.secondary
+    }
 }
 
 // Whether the peer is in the set.
 fn contains<C: PublicKey>(set: &OrderedSet<C>, peer: &C) -> bool
-    ensures { result ≡ names C.cmp set.now peer.now }
+    ensures { result ≡ has_key C.cmp set.now peer.now }
 {
     match set.position(peer) {
         Some(_) => true,
@@ -86,7 +94,7 @@ fn peers_outside<C: PublicKey>(
     peers: &[C],
     set: &OrderedSet<C>,
 ) -> Result<Vec<C>, AllocError>
-    ensures { IfOk result (λ rest. rest.items ≡ filter (λ q. not (names C.cmp set.now q)) peers.now) }
+    ensures { IfOk result (λ rest. rest.items ≡ filter (λ q. not (has_key C.cmp set.now q)) peers.now) }
 {
     let mut rest = Vec::new(alloc);
     for peer in peers {
@@ -103,7 +111,7 @@ fn without<C: PublicKey>(
     set: &OrderedSet<C>,
     other: &OrderedSet<C>,
 ) -> Result<OrderedSet<C>, AllocError>
-    ensures { IfOk result (λ rest. rest ≡ filter (λ q. not (names C.cmp other.now q)) set.now) }
+    ensures { IfOk result (λ rest. rest ≡ filter (λ q. not (has_key C.cmp other.now q)) set.now) }
 {
     let rest = peers_outside(alloc, set.as_slice(), other)?;
     match OrderedSet::try_from(rest) {
@@ -112,191 +120,118 @@ fn without<C: PublicKey>(
     }
 }
 
-/// Whether the index is above that of the latest set, if there is one.
-pub fn is_index_above<C: PublicKey>(sets: &VecDeque<KeptSet<C>>, index: u64) -> bool
-    ensures { result ≡ is_above index (latest_index sets.now.items) }
-{
-    match latest(sets) {
-        Some(latest) => latest < index,
-        None => true,
-    }
+/// The retained sets. A contract sees the list of them, the oldest first.
+#[derive(Drop)]
+pub struct Window<C: PublicKey> {
+    sets: VecDeque<PeerSet<C>>,
 }
 
-/// The index of the latest set.
-pub fn latest<C: PublicKey>(sets: &VecDeque<KeptSet<C>>) -> Option<u64>
-    ensures { result ≡ latest_index sets.now.items }
-{
-    match sets.back() {
-        Some(set) => Some(set.index()),
-        None => None,
-    }
+impl<C: PublicKey> Model for Window<C> {
+    ghost use Rattle.std.specs.Prelude.{List};
+    ghost use Rattle.p2p_directory.specs.Calls.{SetAt};
+
+    ghost Value = { List (SetAt C) };
+
+    ghost view = { λ w. w.sets.items };
 }
 
-// Makes a blank record for each peer of the set that has none. Where memory is refused, some of
-// them are made.
-fn make_both<C: PublicKey>(
-    records: &mut BTreeMap<C, Record<C>>,
-    set: &KeptSet<C>,
-) -> Result<(), AllocError>
-    ensures ok { OnOk result ((q : C) → get C.cmp records.new q ≡ option_or (get C.cmp records.old q) (if has C.cmp set.now q then Some blank else None)) }
-    ensures held { (q : C) → kept (get C.cmp records.new q) ≡ kept (get C.cmp records.old q) }
-    ensures others { (q : C) → has C.cmp set.now q ≡ false → get C.cmp records.new q ≡ get C.cmp records.old q }
-{
-    make_room(records, set.primary.as_slice())?;
-    make_room(records, set.secondary.as_slice())
-}
-
-// Takes out each deletable record of the set's peers.
-fn drop_both<C: PublicKey>(records: &mut BTreeMap<C, Record<C>>, set: &KeptSet<C>)
-    ensures { (q : C) → get C.cmp records.new q ≡ (if has C.cmp set.now q then kept (get C.cmp records.old q) else get C.cmp records.old q) }
-{
-    drop_deletable(records, set.primary.as_slice());
-    drop_deletable(records, set.secondary.as_slice());
-}
-
-// Makes a blank record for each peer of the set that has none, or leaves all as it was.
-fn take_room<C: PublicKey>(
-    records: &mut BTreeMap<C, Record<C>>,
-    set: &KeptSet<C>,
-) -> Result<(), AllocError>
-    requires { (q : C) → IfSome (get C.cmp records.old q) (λ r. is_deletable r ≡ false) }
-    ensures ok { OnOk result ((q : C) → get C.cmp records.new q ≡ option_or (get C.cmp records.old q) (if has C.cmp set.now q then Some blank else None)) }
-    ensures err { OnErr result (records.new.entries ≡ records.old.entries) }
-{
-    // The clauses of `len` say that the keys are in order.
-    let _before = records.len();
-    match make_both(records, set) {
-        Ok(()) => Ok(()),
-        Err(_) => {
-            drop_both(records, set);
-            let _after = records.len();
-            Err(AllocError)
+impl<C: PublicKey> Window<C> {
+    /// A window with no set.
+    pub fn new(alloc: Global) -> Self
+        ensures { result ≡ [] }
+    {
+        Window {
+            sets: VecDeque::new(alloc),
         }
     }
-}
 
-/// Adds a set and counts it for its peers, or leaves all as it was.
-pub fn keep<C: PublicKey>(
-    sets: &mut VecDeque<KeptSet<C>>,
-    records: &mut BTreeMap<C, Record<C>>,
-    set: KeptSet<C>,
-) -> Result<(), AllocError>
-    requires held { (q : C) → IfSome (get C.cmp records.old q) (λ r. is_deletable r ≡ false) }
-    requires few { (q : C) → IfSome (get C.cmp records.old q) IsCountable }
-    ensures sets { sets.new.items ≡ (if is_ok result then sets.old.items ++ set ∷ [] else sets.old.items) }
-    ensures ok { OnOk result ((q : C) → get C.cmp records.new q ≡ joined C.cmp set q (get C.cmp records.old q)) }
-    ensures err { OnErr result (records.new.entries ≡ records.old.entries) }
-{
-    sets.reserve(1)?;
-    take_room(records, &set)?;
-    raise(records, set.primary.as_slice(), Role::Primary);
-    raise(records, set.secondary.as_slice(), Role::Secondary);
-    sets.push_back(set).unwrap();
-    Ok(())
-}
-
-/// Counts a set less for its peers.
-fn retire<C: PublicKey>(records: &mut BTreeMap<C, Record<C>>, set: &KeptSet<C>)
-    requires apart { IsApart C.cmp set.now }
-    requires primary { (q : C) → names C.cmp set.now.primary q ≡ true → IsSomeAnd (get C.cmp records.old q) (λ r. 0 < count_of Role.Primary r) }
-    requires secondary { (q : C) → names C.cmp set.now.secondary q ≡ true → IsSomeAnd (get C.cmp records.old q) (λ r. 0 < count_of Role.Secondary r) }
-    ensures { (q : C) → get C.cmp records.new q ≡ left C.cmp set.now q (get C.cmp records.old q) }
-{
-    lower(records, set.primary.as_slice(), Role::Primary);
-    lower(records, set.secondary.as_slice(), Role::Secondary);
-}
-
-/// Drops the oldest set, where there is one too many.
-pub fn drop_oldest<C: PublicKey>(
-    sets: &mut VecDeque<KeptSet<C>>,
-    records: &mut BTreeMap<C, Record<C>>,
-    max_sets: usize,
-)
-    requires apart { All (IsApart C.cmp) sets.old.items }
-    requires counts { (q : C) → AreCounted C.cmp sets.old.items q (get C.cmp records.old q) }
-    ensures sets { sets.new.items ≡ newest max_sets sets.old.items }
-    ensures records { (q : C) → get C.cmp records.new q ≡ after_oldest C.cmp max_sets sets.old.items q (get C.cmp records.old q) }
-{
-    if sets.len() <= max_sets {
-        return;
+    /// The allocator of its sets.
+    pub fn allocator(&self) -> Global {
+        *self.sets.allocator()
     }
-    if let Some(oldest) = sets.pop_front() {
-        retire(records, &oldest);
-    }
-}
 
-// Adds those of the peers to a list whose connections have to end once they left one set for another.
-fn add_torn_down<C: PublicKey>(
-    torn: &mut Vec<C>,
-    peers: &[C],
-    next: &KeptSet<C>,
-    records: &BTreeMap<C, Record<C>>,
-) -> Result<(), AllocError>
-    ensures { OnOk result (torn.new.items ≡ torn.old.items ++ filter (λ q. is_torn_by C.cmp next.now q (get C.cmp records.now q)) peers.now) }
-{
-    for peer in peers {
-        if is_torn_down(peer, next, records) {
-            torn.push(*peer)?;
+    /// How many sets there are.
+    pub fn len(&self) -> usize
+        ensures { result ≡ length self.now }
+    {
+        self.sets.len()
+    }
+
+    /// The latest set.
+    pub fn latest(&self) -> Option<&PeerSet<C>>
+        ensures { option_copied result ≡ last_or None self.now }
+    {
+        match self.sets.back() {
+            Some(set) => Some(set),
+            None => None,
         }
     }
-    Ok(())
-}
 
-// Whether the peer's connection has to end once it left one set for another.
-fn is_torn_down<C: PublicKey>(peer: &C, next: &KeptSet<C>, records: &BTreeMap<C, Record<C>>) -> bool
-    ensures { result ≡ is_torn_by C.cmp next.now peer.now (get C.cmp records.now peer.now) }
-{
-    match records.get(peer) {
-        Some(found) => {
-            found.rests_on_one_set()
-                && !contains(&next.primary, peer)
-                && !contains(&next.secondary, peer)
+    /// The index of the latest set.
+    pub fn latest_index(&self) -> Option<u64>
+        ensures { result ≡ latest_index self.now }
+    {
+        match self.latest() {
+            Some(set) => Some(set.index()),
+            None => None,
         }
-        None => false,
     }
-}
 
-// The peers whose connections have to end once a set went and another came.
-fn torn_down_by<C: PublicKey>(
-    alloc: Global,
-    oldest: &KeptSet<C>,
-    next: &KeptSet<C>,
-    records: &BTreeMap<C, Record<C>>,
-) -> Result<OrderedSet<C>, AllocError>
-    ensures sorted { IfOk result (IsStrictlySortedBy C.cmp) }
-    ensures members { IfOk result (λ torn. (q : C) → names C.cmp torn q ≡ (has C.cmp oldest.now q && is_torn_by C.cmp next.now q (get C.cmp records.now q))) }
-{
-    let mut torn = Vec::new(alloc);
-    add_torn_down(&mut torn, oldest.primary.as_slice(), next, records)?;
-    add_torn_down(&mut torn, oldest.secondary.as_slice(), next, records)?;
-    let torn = set_of(alloc, torn)?;
-    Ok(torn)
-}
+    /// Whether the index is above that of the latest set, if there is one.
+    pub fn is_next(&self, index: u64) -> bool
+        ensures { result ≡ is_above index (latest_index self.now) }
+    {
+        match self.latest_index() {
+            Some(latest) => latest < index,
+            None => true,
+        }
+    }
 
-// The set of these peers.
-fn set_of<C: PublicKey>(alloc: Global, peers: Vec<C>) -> Result<OrderedSet<C>, AllocError>
-    ensures sorted { IfOk result (IsStrictlySortedBy C.cmp) }
-    ensures members { IfOk result (λ set. (q : C) → names C.cmp set q ≡ names C.cmp peers.items q) }
-{
-    let set = OrderedSet::from_iter_dedup(alloc, peers.into_iter())?;
-    Ok(set)
-}
+    /// How many peers the oldest set has, where it goes when one more comes: there are `max` sets.
+    ///
+    /// # Errors
+    ///
+    /// `AllocError` where there are more than any list could hold.
+    pub fn leaving_count(&self, max: usize) -> Result<usize, AllocError>
+        ensures { IfOk result (λ count. count ≡ leaving_count max self.now) }
+    {
+        match self.sets.front() {
+            Some(oldest) if self.sets.len() == max => {
+                let primary = oldest.primary.len();
+                primary
+                    .checked_add(oldest.secondary.len())
+                    .ok_or(AllocError)
+            }
+            _ => Ok(0),
+        }
+    }
 
-/// The peers whose connections have to end once a set came, and the oldest went where there is
-/// one too many then.
-pub fn torn_down<C: PublicKey>(
-    alloc: Global,
-    sets: &VecDeque<KeptSet<C>>,
-    max_sets: usize,
-    next: &KeptSet<C>,
-    records: &BTreeMap<C, Record<C>>,
-) -> Result<OrderedSet<C>, AllocError>
-    requires { length sets.now.items ≤ max_sets }
-    ensures sorted { IfOk result (IsStrictlySortedBy C.cmp) }
-    ensures members { IfOk result (λ torn. (q : C) → names C.cmp torn q ≡ (is_leaving C.cmp max_sets sets.now.items q && is_torn_by C.cmp next.now q (get C.cmp records.now q))) }
-{
-    match sets.front() {
-        Some(oldest) if sets.len() == max_sets => torn_down_by(alloc, oldest, next, records),
-        _ => set_of(alloc, Vec::new(alloc)),
+    /// Adds a set as the latest, or leaves all as it was where memory is refused.
+    pub fn push(&mut self, set: PeerSet<C>) -> Result<(), AllocError>
+        ensures ok { OnOk result (self.new ≡ self.old ++ set ∷ []) }
+        ensures err { OnErr result (self.new ≡ self.old) }
+    {
+        match self.sets.push_back(set) {
+            Ok(()) => Ok(()),
+            Err(refused) => {
+                forget(refused);
+                Err(AllocError)
+            }
+        }
+    }
+
+    /// Takes out the oldest set.
+    pub fn pop_oldest(&mut self) -> Option<PeerSet<C>>
+        ensures sets { self.old ≡ option_to_list result ++ self.new }
+        ensures none { IfNone result (length self.old ≡ 0) }
+    {
+        self.sets.pop_front()
+    }
+
+    /// Takes out the latest set.
+    pub fn pop_latest(&mut self) -> Option<PeerSet<C>>
+        ensures { (sets : List (SetAt C)) (set : SetAt C) → self.old ≡ sets ++ set ∷ [] → self.new ≡ sets }
+    {
+        self.sets.pop_back()
     }
 }

@@ -1,21 +1,22 @@
 //! Laws of whole runs.
 
-ghost use Rattle.std.specs.Prelude.{◌≡◌, ◌≤◌, ℕ, Bool, true, List, [], ◌∷◌, ◌++◌, map, Option};
+ghost use Rattle.std.specs.Prelude.{◌≡◌, ◌≤◌, ℕ, Bool, true, false, List, [], ◌∷◌, ◌++◌, map, Option};
 ghost use Rattle.std.specs.List.{AllByRecursion};
 ghost use Rattle.p2p_discovery.specs.declared.discovery.Info.{Info};
 ghost use Rattle.p2p_directory.specs.Calls.{Setup, Call};
 ghost use Rattle.p2p_directory.specs.Calls.Call.{Update};
-ghost use Rattle.p2p_directory.specs.Past.{taken_sets};
-ghost use Rattle.p2p_directory.specs.World.{World, world_at, past, step};
-ghost use Rattle.p2p_directory.specs.Answers.{Lists, IsLeastOf, IsNumberTracked, is_torn_down, IsDialable};
-ghost use Rattle.p2p_directory.specs.Isolation.{SameFor, AnswersAlike, left_for, is_on_another, narrowed};
-ghost use Rattle.p2p_directory.specs.Order.{HaveSame, IsUnambiguous};
-ghost use Rattle.p2p_directory.specs.Bounds.{NamesAtMost, IsBounded};
-ghost use Rattle.p2p_directory.specs.Grants.{KeepsCooldown, NeverGoBack, KeepsBlocks};
-ghost use Rattle.p2p_directory.specs.Dials.{AreChosen, AreDialled, IsBefore};
+ghost use Rattle.p2p_directory.specs.History.{taken_sets};
+ghost use Rattle.p2p_directory.specs.World.{World, world_at, past};
+ghost use Rattle.p2p_directory.specs.Step.{step, new_known};
+ghost use Rattle.p2p_directory.specs.Answers.{is_present_in, Lists, IsLeastOf, IsNumberTracked, is_torn_down, IsDialable};
+ghost use Rattle.p2p_directory.specs.Laws.Isolation.{SameFor, AnswersAlike, left_for, is_on_another, narrowed};
+ghost use Rattle.p2p_directory.specs.Laws.Order.{HaveSame, IsUnambiguous};
+ghost use Rattle.p2p_directory.specs.Laws.Bounds.{NamesAtMost, IsBounded};
+ghost use Rattle.p2p_directory.specs.Laws.Grants.{KeepsCooldown, NeverGoBack, KeepsBlocks};
+ghost use Rattle.p2p_directory.specs.Laws.Dials.{AreChosen, AreDialled, IsBefore};
 ghost use Rattle.p2p_directory.specs.declared.run.commands.Reply.{Reply};
-ghost use Rattle.p2p_directory.specs.Runs.{AreAnswers};
-ghost use Rattle.p2p_directory.specs.GrantRuns.{KeepCooldown};
+ghost use Rattle.p2p_directory.specs.Run.{AreAnswers};
+ghost use Rattle.p2p_directory.specs.Laws.GrantRuns.{KeepCooldown};
 
 use p2p_discovery::codec::PublicKey;
 
@@ -66,6 +67,13 @@ pub fn order_is_free<C: PublicKey>()
 pub fn presence_is_bounded<C: PublicKey>()
     ensures { (s : Setup C C.Signature) → s.cmp ≡ C.cmp → (n : ℕ) (cs : List (Call C C.Signature)) → AllByRecursion (NamesAtMost s n) (taken_sets s (past s cs)) →
         IsBounded s n (world_at s (past s cs)) }
+{}
+
+/// Of a peer that is absent all is forgotten: what is known of it is what is known of a new peer.
+pub fn absent_are_forgotten<C: PublicKey>()
+    ensures { (s : Setup C C.Signature) (cs : List (Call C C.Signature)) (p : C) →
+        is_present_in s (world_at s (past s cs)) p ≡ false →
+        ((world_at s (past s cs)).peer p).known ≡ new_known s p }
 {}
 
 /// Within one life of a peer, each grant comes no earlier than the cooldown after each grant before

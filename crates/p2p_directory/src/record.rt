@@ -2,7 +2,12 @@
 
 ghost use Rattle.std.specs.Prelude.{◌≡◌, ◌+◌, ◌-◌, ◌<◌, ◌^◌, false, true};
 ghost use Rattle.std.specs.Duration.{as_nanos};
-ghost use Rattle.p2p_directory.specs.Records.{new_record, cap, jitter, is_inert, reserve_answer, after_reserve, is_eligible, is_deletable, needs_teardown, is_outbound_target, after_failure, is_reservable, rests_on_one_set};
+ghost use Rattle.p2p_directory.specs.Moments.{cap, jitter};
+ghost use Rattle.p2p_directory.specs.History.{is_inert};
+ghost use Rattle.p2p_directory.specs.Record.{new_record, reserve_answer, record_after_asking};
+ghost use Rattle.p2p_directory.specs.Record.{is_eligible, is_deletable, needs_teardown, is_outbound_target};
+ghost use Rattle.p2p_directory.specs.Record.{after_failure};
+ghost use Rattle.p2p_directory.specs.Private.Counts.{with_one_more, with_one_less, is_torn_down_without};
 
 use p2p_discovery::codec::PublicKey;
 use p2p_discovery::discovery::Info;
@@ -34,6 +39,13 @@ pub enum Status {
     Active,
 }
 
+/// The part that a peer has in a set.
+#[derive(Clone, Copy, Debug, PartialEq, Eq)]
+pub(crate) enum Role {
+    Primary,
+    Secondary,
+}
+
 /// The answer to a request for a reservation.
 #[derive(Clone, Copy, Debug, PartialEq, Eq)]
 pub enum ReserveResult {
@@ -60,7 +72,7 @@ pub struct Record<C: PublicKey> {
 
 impl<C: PublicKey> Model for Record<C> {
     ghost use Rattle.std.specs.Duration.{as_nanos};
-    ghost use Rattle.p2p_directory.specs.Records.{RecordView};
+    ghost use Rattle.p2p_directory.specs.Record.{RecordView};
 
     ghost Value = { RecordView C C.Signature };
 
@@ -153,7 +165,8 @@ impl<C: PublicKey> Record<C> {
     /// the greatest `Duration`. Nothing changes unless the answer is `Reserved`.
     pub fn reserve(&mut self, now: Duration, draw: Duration, interval: Duration) -> ReserveResult
         ensures answer { result ≡ reserve_answer (as_nanos now) self.old }
-        ensures after { self.new ≡ after_reserve result (as_nanos now) (as_nanos draw) (as_nanos interval) self.old }
+        ensures after { self.new ≡
+            record_after_asking result (as_nanos now) (as_nanos draw) (as_nanos interval) self.old }
     {
         if let Address::Myself(_) = &self.address {
             return ReserveResult::Unavailable;
@@ -224,27 +237,37 @@ impl<C: PublicKey> Record<C> {
         self.primary_sets > 0 || self.persistent
     }
 
-    // Whether a reservation would be granted: the peer is inert and not the local node, and `now`
-    // is not before the reservable moment.
-    pub(crate) fn is_reservable(&self, now: Duration) -> bool
-        ensures { result ≡ is_reservable (as_nanos now) self.now }
+    // Counts one set of the role more, at most to the greatest `usize`.
+    pub(crate) fn count_more(&mut self, role: Role)
+        ensures { self.new ≡ with_one_more role self.old }
     {
-        match &self.address {
-            Address::Myself(_) => false,
-            _ => {
-                self.status == Status::Inert && self.next_reservable_at.as_nanos() <= now.as_nanos()
-            }
+        match role {
+            Role::Primary => self.primary_sets = self.primary_sets.saturating_add(1),
+            Role::Secondary => self.secondary_sets = self.secondary_sets.saturating_add(1),
         }
     }
 
-    // Whether the connection would have to end if the peer left one set.
-    pub(crate) fn rests_on_one_set(&self) -> bool
-        ensures { result ≡ rests_on_one_set self.now }
+    // Counts one set of the role less, if there is one.
+    pub(crate) fn count_less(&mut self, role: Role)
+        ensures { self.new ≡ with_one_less role self.old }
     {
-        self.status != Status::Inert
-            && self.eligible()
-            && !self.persistent
-            && self.primary_sets.checked_add(self.secondary_sets) == Some(1)
+        match role {
+            Role::Primary => self.primary_sets = self.primary_sets.saturating_sub(1),
+            Role::Secondary => self.secondary_sets = self.secondary_sets.saturating_sub(1),
+        }
+    }
+
+    // Whether the connection has to end once one set of the role less has the peer: the peer is not
+    // inert, is eligible, and would not be any longer.
+    #[tactic(auto, unfolding(crate::specs::Private::Counts::is_torn_down_without))]
+    pub(crate) fn is_torn_down_without(&self, role: Role) -> bool
+        ensures { result ≡ is_torn_down_without role self.now }
+    {
+        let stays_in_set = match role {
+            Role::Primary => self.primary_sets > 1 || self.secondary_sets > 0,
+            Role::Secondary => self.primary_sets > 0 || self.secondary_sets > 1,
+        };
+        self.status != Status::Inert && self.eligible() && !stays_in_set && !self.persistent
     }
 
     /// In how many primary sets the peer is.

@@ -1,14 +1,20 @@
 //! Commands to a directory, served one after the other, and their replies.
 
-ghost use Rattle.std.specs.Prelude.{◌≡◌, ◌<◌, ◌≤◌, ◌+◌, ◌-◌, ◌^◌, [], IfOk, length};
+ghost use Rattle.std.specs.Prelude.{◌≡◌, ◌<◌, ◌-◌, ◌^◌, [], None, true, IfOk};
 ghost use Rattle.std.specs.Int.NonZero.{non_zero_usize_get};
-ghost use Rattle.p2p_directory.specs.Serving.{AreHeld, IsServed};
-ghost use Rattle.p2p_directory.specs.Stands.{Stands};
-ghost use Rattle.p2p_directory.specs.Runs.{setup_of, calls_of, world_left, AreAnswers, Holds};
+ghost use Rattle.std.specs.List.{AllPass};
+ghost use Rattle.p2p_directory.specs.Held.{held_of};
+ghost use Rattle.p2p_directory.specs.Private.Slots.{held_in};
+ghost use Rattle.p2p_directory.specs.Private.Serving.{has_room};
+ghost use Rattle.p2p_directory.specs.Refinement.{Refines};
+ghost use Rattle.p2p_directory.specs.Run.{setup_of, calls_of, world_left, AreAnswers, Holds};
 
 use crate::directory::{Config, Directory};
-pub use crate::run::commands::{Command, Reply, Run};
+pub use crate::run::commands::{Command, Reply};
 pub use crate::run::held::Held;
+pub use crate::run::outcome::Run;
+use crate::run::server::Server;
+use crate::run::slots::Slots;
 use p2p_discovery::codec::PublicKey;
 use p2p_discovery::discovery::Info;
 use p2p_discovery::types::Ingress;
@@ -16,6 +22,9 @@ use std::alloc::{AllocError, Global};
 
 mod commands;
 mod held;
+mod outcome;
+mod server;
+mod slots;
 #[cfg(test)]
 mod tests;
 
@@ -25,11 +34,19 @@ mod tests;
 /// Room for all replies and all reservations is taken before the first command, so only a `Track`
 /// whose set would be taken may be replied `OutOfMemory`.
 ///
-/// Condition: that of [`Directory::init`].
+/// What is left is given back by [`Run::finish`].
+///
+/// # Conditions
+///
+/// Those of [`Directory::init`].
 ///
 /// # Errors
 ///
 /// `AllocError` where memory is refused before the first command.
+///
+/// # Cost
+///
+/// That of the calls, and for each command a logarithm of how many peers the commands listen for.
 pub fn run<C: PublicKey>(
     alloc: Global,
     bootstrappers: Vec<(C, Ingress)>,
@@ -38,61 +55,42 @@ pub fn run<C: PublicKey>(
     commands: Vec<Command<C>>,
 ) -> Result<Run<C>, AllocError>
     requires { non_zero_usize_get cfg.max_sets < 2 ^ 64 - 1 }
-    ensures answers { IfOk result (λ run. AreAnswers (setup_of C.cmp bootstrappers.items myself cfg) [] (calls_of commands.items) run.replies.items) }
-    ensures directory { IfOk result (λ run. let s = setup_of C.cmp bootstrappers.items myself cfg in Stands s (world_left s (calls_of commands.items) run.replies.items) run.directory) }
-    ensures held { IfOk result (λ run. let s = setup_of C.cmp bootstrappers.items myself cfg in Holds s (world_left s (calls_of commands.items) run.replies.items) run.held) }
+    ensures answers { IfOk result (λ run. let s = setup_of C.cmp bootstrappers.items myself cfg in
+        AreAnswers s [] (calls_of commands.items) run.replies.items) }
+    ensures directory { IfOk result (λ run. let s = setup_of C.cmp bootstrappers.items myself cfg in
+        Refines s (world_left s (calls_of commands.items) run.replies.items) run.directory) }
+    ensures held { IfOk result (λ run. let s = setup_of C.cmp bootstrappers.items myself cfg in
+        Holds s (world_left s (calls_of commands.items) run.replies.items)
+        (held_of C.cmp run.held)) }
 {
     let mut replies = Vec::with_capacity(alloc, commands.len())?;
-    let mut held = Held::with_room(alloc, commands.len())?;
-    let mut directory = match Directory::init(alloc, bootstrappers, myself, cfg) {
-        Ok(directory) => directory,
+    let slots = slots_for(alloc, &commands)?;
+    let mut server = match Directory::init(alloc, bootstrappers, myself, cfg) {
+        Ok(directory) => Server::new(directory, slots),
         Err(refused) => {
-            held.close();
+            slots.close();
             return Err(refused);
         }
     };
     for command in commands {
-        replies.push_reserved(serve(&mut directory, &mut held, command));
+        replies.push_reserved(server.serve(command));
     }
-    Ok(Run {
-        directory,
-        held,
-        replies,
-    })
+    Ok(server.into_run(replies))
 }
 
-// Serves one command.
-fn serve<C: PublicKey>(
-    directory: &mut Directory<C>,
-    held: &mut Held<C>,
-    command: Command<C>,
-) -> Reply<C>
-    requires held { AreHeld C.cmp directory.old held.old }
-    requires room { length held.old.reservations < held.old.room }
-    ensures served { IsServed C.cmp command result directory.old held.old directory.new held.new }
-    ensures length { length held.new.reservations ≤ length held.old.reservations + 1 }
-    ensures room { held.new.room ≡ held.old.room }
+// A slot for each peer that the commands may be granted a reservation of.
+fn slots_for<C: PublicKey>(alloc: Global, commands: &[Command<C>]) -> Result<Slots<C>, AllocError>
+    ensures room { IfOk result (λ slots. AllPass (has_room C.cmp slots) commands.now) }
+    ensures empty { IfOk result (λ slots. (q : C) → held_in C.cmp slots q ≡ None) }
 {
-    match command {
-        Command::Track { index, peers } => match directory.track(index, peers) {
-            Ok(torn) => Reply::Track(torn),
-            Err(_) => Reply::OutOfMemory,
-        },
-        Command::Listen { peer, now, draw } => match directory.listen(&peer, now, draw) {
-            Some(reservation) => {
-                held.put(reservation);
-                Reply::Listen(true)
+    let mut slots = Slots::new(alloc);
+    for command in commands {
+        if let Command::Listen { peer, .. } = command {
+            if slots.make(*peer).is_err() {
+                slots.close();
+                return Err(AllocError);
             }
-            None => Reply::Listen(false),
-        },
-        Command::Release(peer) => match held.take(&peer) {
-            Some(reservation) => {
-                directory.release(reservation);
-                Reply::Release
-            }
-            None => Reply::NotHeld,
-        },
-        Command::Status(peer) => Reply::Status(directory.status(&peer)),
-        Command::LatestSetIndex => Reply::LatestSetIndex(directory.latest_set_index()),
+        }
     }
+    Ok(slots)
 }

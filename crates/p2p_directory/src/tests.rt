@@ -1,6 +1,6 @@
 //! Each public call of records and directories once, by its answers.
 
-ghost use Rattle.std.specs.Prelude.{◌≡◌};
+ghost use Rattle.std.specs.Prelude.{◌≡◌, ◌<◌};
 ghost use Rattle.std.specs.Int.NonZero.{non_zero_usize_get};
 
 use crate::directory::{Config, Directory, Metadata, TrackedPeers};
@@ -162,5 +162,230 @@ fn a_set_is_tracked_and_a_peer_listened_for(rt: HostRuntime) -> Result<(), Fail>
             Ok(())
         }
         None => panic!(rt; "a tracked peer is granted a reservation"),
+    }
+}
+
+#[test]
+fn test_unknown_initial_state(rt: HostRuntime) {
+    let record: Record<TestKey> = Record::unknown();
+    assert_eq!(rt; record.status(), Status::Inert);
+    assert_eq!(rt; (record.primary_sets(), record.secondary_sets()), (0, 0));
+    assert!(rt; record.deletable());
+    assert!(rt; !record.eligible());
+    assert!(rt; !record.needs_teardown());
+}
+
+#[test]
+fn test_increment_decrement_and_deletable(rt: HostRuntime) {
+    let mut unknown: Record<TestKey> = Record::unknown();
+    unknown.increment_primary();
+    assert!(rt; !unknown.deletable());
+    unknown.decrement_primary();
+    assert!(rt; unknown.deletable());
+    let mut bootstrapper: Record<TestKey> = Record::bootstrapper(ingress(8001));
+    bootstrapper.increment_primary();
+    bootstrapper.decrement_primary();
+    assert!(rt; !bootstrapper.deletable());
+    let mut myself = Record::myself(info(9));
+    myself.increment_primary();
+    myself.decrement_primary();
+    assert!(rt; !myself.deletable());
+}
+
+#[test]
+fn test_needs_teardown_after_losing_eligibility(rt: HostRuntime) {
+    let mut record: Record<TestKey> = Record::unknown();
+    let none = Duration::ZERO;
+    record.increment_primary();
+    assert!(rt; !record.needs_teardown());
+    assert_eq!(rt; record.reserve(none, none, none), ReserveResult::Reserved);
+    assert!(rt; !record.needs_teardown());
+    if record.primary_sets() > 0 {
+        record.decrement_primary();
+    }
+    assert!(rt; record.needs_teardown());
+    if record.status() != Status::Inert {
+        record.release();
+    }
+    assert!(rt; !record.needs_teardown());
+}
+
+#[test]
+fn test_eligible_logic(rt: HostRuntime) {
+    assert!(rt; !Record::myself(info(9)).eligible());
+    let bootstrapper: Record<TestKey> = Record::bootstrapper(ingress(8001));
+    assert!(rt; bootstrapper.eligible());
+    let mut unknown: Record<TestKey> = Record::unknown();
+    assert!(rt; !unknown.eligible());
+    unknown.increment_secondary();
+    assert!(rt; unknown.eligible());
+    unknown.decrement_secondary();
+    assert!(rt; !unknown.eligible());
+}
+
+#[test]
+fn test_reserve_with_unbounded_cooldown_does_not_panic(rt: HostRuntime) {
+    let mut record: Record<TestKey> = Record::unknown();
+    let now = seconds(100);
+    assert_eq!(rt;
+        record.reserve(now, Duration::MAX, Duration::MAX),
+        ReserveResult::Reserved
+    );
+    if record.status() != Status::Inert {
+        record.release();
+    }
+    assert_eq!(rt;
+        record.reserve(now, Duration::ZERO, Duration::MAX),
+        ReserveResult::RateLimited
+    );
+    assert_eq!(rt;
+        record.reserve(Duration::MAX, Duration::ZERO, Duration::MAX),
+        ReserveResult::Reserved
+    );
+}
+
+// A directory of node 9 that retains so many sets.
+fn directory_of(alloc: Global, max_sets: NonZeroUsize) -> Result<Directory<TestKey>, AllocError>
+    requires { non_zero_usize_get max_sets < 1000 }
+{
+    let mut config = config();
+    config.max_sets = max_sets;
+    Directory::init(alloc, Vec::new(alloc), info(9), config)
+}
+
+// Whether the teardown list is just these peers.
+fn are_peers(torn: Option<OrderedSet<TestKey>>, numbers: &[u64]) -> bool {
+    match torn {
+        Some(torn) => {
+            torn.len() == numbers.len()
+                && numbers
+                    .iter()
+                    .all(|number| torn.position(&TestKey(*number)).is_some())
+        }
+        None => false,
+    }
+}
+
+#[test]
+fn test_track_kills_connected_peer_removed_from_sets(rt: HostRuntime) -> Result<(), Fail> {
+    let alloc = rt.alloc();
+    let mut directory = directory_of(alloc, NonZeroUsize::MIN)?;
+    assert!(rt; are_peers(directory.track(0, tracked(alloc, &[1], &[])?)?, &[]));
+    let next = tracked(alloc, &[2], &[])?;
+    match directory.listen(&TestKey(1), seconds(100), Duration::ZERO) {
+        Some(reservation) => {
+            let torn = directory.track(1, next);
+            assert_eq!(rt; directory.status(&TestKey(1)), Some(Status::Reserved));
+            assert_eq!(rt; *reservation.metadata().public_key(), TestKey(1));
+            directory.release(reservation);
+            assert!(rt; are_peers(torn?, &[1]));
+            assert_eq!(rt; directory.status(&TestKey(1)), None);
+            Ok(())
+        }
+        None => panic!(rt; "a tracked peer is granted a reservation"),
+    }
+}
+
+#[test]
+fn test_secondary_sets_remain_until_eviction(rt: HostRuntime) -> Result<(), Fail> {
+    let alloc = rt.alloc();
+    let mut directory = directory_of(alloc, NonZeroUsize::MIN.saturating_add(1))?;
+    assert!(rt; are_peers(directory.track(0, tracked(alloc, &[1], &[4])?)?, &[]));
+    assert!(rt; are_peers(directory.track(1, tracked(alloc, &[2], &[5])?)?, &[]));
+    assert_eq!(rt; directory.status(&TestKey(4)), Some(Status::Inert));
+    assert_eq!(rt; directory.status(&TestKey(5)), Some(Status::Inert));
+    assert!(rt; are_peers(directory.track(2, tracked(alloc, &[3], &[])?)?, &[]));
+    assert_eq!(rt; directory.status(&TestKey(1)), None);
+    assert_eq!(rt; directory.status(&TestKey(4)), None);
+    assert_eq!(rt; directory.status(&TestKey(5)), Some(Status::Inert));
+    assert_eq!(rt; directory.latest_set_index(), Some(2));
+    Ok(())
+}
+
+#[test]
+fn test_demotion_from_primary_to_secondary(rt: HostRuntime) -> Result<(), Fail> {
+    let alloc = rt.alloc();
+    let mut directory = directory_of(alloc, NonZeroUsize::MIN.saturating_add(1))?;
+    assert!(rt; are_peers(directory.track(0, tracked(alloc, &[1, 2], &[2])?)?, &[]));
+    let demotes = tracked(alloc, &[2], &[1])?;
+    let keeps = tracked(alloc, &[2], &[])?;
+    let drops = tracked(alloc, &[], &[])?;
+    match directory.listen(&TestKey(1), seconds(100), Duration::ZERO) {
+        Some(reservation) => {
+            let first = directory.track(1, demotes);
+            let second = directory.track(2, keeps);
+            let third = directory.track(3, drops);
+            directory.release(reservation);
+            assert!(rt; are_peers(first?, &[]));
+            assert!(rt; are_peers(second?, &[]));
+            assert!(rt; are_peers(third?, &[1]));
+            assert_eq!(rt; directory.status(&TestKey(1)), None);
+            assert_eq!(rt; directory.status(&TestKey(2)), Some(Status::Inert));
+            Ok(())
+        }
+        None => panic!(rt; "a tracked peer is granted a reservation"),
+    }
+}
+
+// What a caller writes first: it needs no proof of its own.
+#[test]
+fn a_reservation_is_kept(rt: HostRuntime) -> Result<(), Fail> {
+    let alloc = rt.alloc();
+    let mut directory = directory_of(alloc, NonZeroUsize::MIN.saturating_add(1))?;
+    let primary = OrderedSet::from_iter_dedup(alloc, [1, 2, 3].into_iter().map(TestKey))?;
+    let secondary = OrderedSet::from_iter_dedup(alloc, [].into_iter().map(TestKey))?;
+    let torn = directory.track(0, TrackedPeers::new(primary, secondary))?;
+    assert!(rt; are_peers(torn, &[]));
+    let peers = tracked(alloc, &[4], &[])?;
+    let reservation = directory.listen(&TestKey(1), seconds(100), Duration::ZERO);
+    let status = directory.status(&TestKey(1));
+    if let Some(reservation) = reservation {
+        let torn = directory.track(1, peers);
+        directory.release(reservation);
+        assert!(rt; are_peers(torn?, &[]));
+    }
+    assert_eq!(rt; status, Some(Status::Reserved));
+    assert_eq!(rt; directory.status(&TestKey(1)), Some(Status::Inert));
+    Ok(())
+}
+
+#[test]
+fn tracks_sets_of_thousands_of_peers(rt: HostRuntime) -> Result<(), Fail> {
+    let alloc = rt.alloc();
+    let mut directory = directory_of(alloc, NonZeroUsize::MIN.saturating_add(2))?;
+    for index in 0..6u64 {
+        let from = index * 1_000;
+        let primary = OrderedSet::from_iter_dedup(alloc, (from..from + 3_000).map(TestKey))?;
+        let secondary = OrderedSet::from_iter_dedup(alloc, (from..from + 4_000).map(TestKey))?;
+        let torn = directory.track(index, TrackedPeers::new(primary, secondary))?;
+        assert!(rt; are_peers(torn, &[]), "set {index}");
+    }
+    assert_eq!(rt; directory.latest_set_index(), Some(5));
+    assert_eq!(rt; directory.status(&TestKey(2_999)), None);
+    assert_eq!(rt; directory.status(&TestKey(3_000)), Some(Status::Inert));
+    assert_eq!(rt; directory.status(&TestKey(8_999)), Some(Status::Inert));
+    assert_eq!(rt; directory.status(&TestKey(9_000)), None);
+    Ok(())
+}
+
+#[test]
+fn the_last_bootstrapper_of_a_key_stays(rt: HostRuntime) -> Result<(), Fail> {
+    let alloc = rt.alloc();
+    let bootstrappers = vec![in alloc;
+        (TestKey(1), ingress(8001)),
+        (TestKey(2), ingress(8002)),
+        (TestKey(1), ingress(8003)),
+    ]?;
+    let mut directory = Directory::init(alloc, bootstrappers, info(9), config())?;
+    assert!(rt; are_peers(directory.track(0, tracked(alloc, &[1], &[])?)?, &[]));
+    assert!(rt; are_peers(directory.track(1, tracked(alloc, &[], &[])?)?, &[]));
+    assert_eq!(rt; directory.status(&TestKey(1)), Some(Status::Inert));
+    assert_eq!(rt; directory.status(&TestKey(2)), Some(Status::Inert));
+    match directory.listen(&TestKey(1), seconds(100), Duration::ZERO) {
+        Some(reservation) => {
+            directory.release(reservation);
+            Ok(())
+        }
+        None => panic!(rt; "a bootstrapper is granted a reservation"),
     }
 }

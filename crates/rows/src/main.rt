@@ -23,4 +23,4 @@ fn main(rt: HostRuntime) -> ExitCode {
 }
 
 #[cfg(test)]
-mod famine;
+mod low_memory;

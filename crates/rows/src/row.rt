@@ -113,6 +113,6 @@ fn status_after<W: Write>(ended: Result<(), Stop>, out: &mut W) -> u8
 }
 
 #[cfg(test)]
-mod refused;
+mod memory;
 #[cfg(test)]
 mod tests;

@@ -1,48 +1,148 @@
-//! Changes of the records of a directory, seen at each peer.
+//! What a directory keeps of each peer, seen at each key.
 
-ghost use Rattle.std.specs.Prelude.{◌≡◌, ◌&&◌, false, true, IfOk, Some, if◌then◌else◌};
-ghost use Rattle.std.specs.Option.{option_map, option_and_then, IsSomeAnd};
+ghost use Rattle.std.specs.Prelude.{◌≡◌, false, true, IfOk, Some, if◌then◌else◌};
+ghost use Rattle.std.specs.Option.{option_map, option_map_or, option_copied, IsSomeAnd};
 ghost use Rattle.std.specs.Duration.{as_nanos};
 ghost use Rattle.std.specs.BTreeMap.{is_at, get};
-ghost use Rattle.p2p_directory.specs.Records.{is_eligible, is_inert, is_reservable, reserved_at};
-ghost use Rattle.p2p_directory.specs.View.{unless_deletable};
-ghost use Rattle.p2p_directory.specs.Directories.{key_of, released, is_some_and, first_record};
+ghost use Rattle.p2p_directory.specs.History.{is_inert};
+ghost use Rattle.p2p_directory.specs.Record.{may_come, reserved_record};
+ghost use Rattle.p2p_directory.specs.Private.Counts.{reserved_if};
+ghost use Rattle.p2p_directory.specs.Directory.{key_of, released_record, kept_after_release, record_at, first_record, ChangesAt};
 
 use crate::directory::Metadata;
-use crate::kept::room::forget;
-use crate::record::Record;
+use crate::kept::forget;
+use crate::record::{Record, ReserveResult};
 use p2p_discovery::codec::PublicKey;
 use p2p_discovery::discovery::Info;
 use p2p_discovery::types::Ingress;
 use std::alloc::{AllocError, Global};
 use std::collections::BTreeMap;
+use std::marker::Model;
 use std::time::Duration;
 
-/// The records that a directory is made with.
-pub fn first_records<C: PublicKey>(
-    alloc: Global,
-    bootstrappers: Vec<(C, Ingress)>,
-    myself: Info<C>,
-) -> Result<BTreeMap<C, Record<C>>, AllocError>
-    ensures { IfOk result (λ records. (q : C) → get C.cmp records q ≡ first_record C.cmp bootstrappers.items myself q) }
-{
-    let mut records = BTreeMap::new(alloc);
-    for (peer, ingress) in bootstrappers {
-        put(&mut records, peer, Record::bootstrapper(ingress))?;
+pub mod counts;
+
+/// The records of peers. A contract sees the list of keys with their records, in ascending order.
+#[derive(Drop)]
+pub struct Records<C: PublicKey> {
+    map: BTreeMap<C, Record<C>>,
+}
+
+impl<C: PublicKey> Model for Records<C> {
+    ghost use Rattle.std.specs.Prelude.{List};
+    ghost use Rattle.p2p_directory.specs.Record.{RecordView};
+
+    ghost Value = { List (C × RecordView C C.Signature) };
+
+    ghost view = { λ r. r.map.entries };
+}
+
+impl<C: PublicKey> Records<C> {
+    /// The records that a directory is made with.
+    pub fn first(
+        alloc: Global,
+        bootstrappers: Vec<(C, Ingress)>,
+        myself: Info<C>,
+    ) -> Result<Self, AllocError>
+        ensures { IfOk result (λ records. (q : C) →
+            record_at C.cmp records q ≡ first_record C.cmp bootstrappers.items myself q) }
+    {
+        let mut map = BTreeMap::new(alloc);
+        for (peer, ingress) in bootstrappers {
+            put(&mut map, peer, Record::bootstrapper(ingress))?;
+        }
+        put(&mut map, myself.public_key, Record::myself(myself))?;
+        Ok(Records { map })
     }
-    put(&mut records, myself.public_key, Record::myself(myself))?;
-    Ok(records)
+
+    /// The record of the peer.
+    pub fn get(&self, peer: &C) -> Option<&Record<C>>
+        ensures { option_copied result ≡ record_at C.cmp self.now peer.now }
+    {
+        self.map.get(peer)
+    }
+
+    // Reserves the peer, where it may come, and says whether it did.
+    fn ask(&mut self, peer: &C, now: Duration, draw: Duration, cooldown: Duration) -> bool
+        ensures answer { result ≡ option_map_or (may_come (as_nanos now)) (record_at C.cmp self.old peer.now) false }
+        ensures change { ChangesAt C.cmp self.old self.new peer.now
+            (option_map (reserved_if result (as_nanos now) (as_nanos draw) (as_nanos cooldown))) }
+    {
+        match self.map.get_mut(peer) {
+            Some(found) => reserve_record(found, now, draw, cooldown),
+            None => false,
+        }
+    }
+
+    /// Reserves the peer, where it may come, and says whether it did. Else all is as it was.
+    pub fn reserve(&mut self, peer: &C, now: Duration, draw: Duration, cooldown: Duration) -> bool
+        ensures answer { result ≡ option_map_or (may_come (as_nanos now)) (record_at C.cmp self.old peer.now) false }
+        ensures refused { result ≡ false → self.new ≡ self.old }
+        ensures granted { result ≡ true → ChangesAt C.cmp self.old self.new peer.now
+            (option_map (reserved_record (as_nanos now) (as_nanos draw) (as_nanos cooldown))) }
+    {
+        // For the proof: the clauses of `len` say that the keys are in order.
+        let _before = self.map.len();
+        let reserved = self.ask(peer, now, draw, cooldown);
+        let _after = self.map.len();
+        reserved
+    }
+
+    /// Ends the reservation of its peer, and takes out the record where it is deletable then.
+    pub fn release(&mut self, metadata: &Metadata<C>)
+        requires { IsSomeAnd (record_at C.cmp self.old (key_of metadata.now)) (λ r. is_inert r.status ≡ false) }
+        ensures { ChangesAt C.cmp self.old self.new (key_of metadata.now) (kept_after_release metadata.now) }
+    {
+        let peer = *metadata.public_key();
+        if let Some(found) = self.map.get_mut(&peer) {
+            release_record(found, metadata);
+            if found.deletable() {
+                forget(self.map.remove(&peer));
+            }
+        }
+    }
+}
+
+// Reserves the peer of the record, where it may come, and says whether it did.
+fn reserve_record<C: PublicKey>(
+    found: &mut Record<C>,
+    now: Duration,
+    draw: Duration,
+    cooldown: Duration,
+) -> bool
+    ensures answer { result ≡ may_come (as_nanos now) found.old }
+    ensures after { found.new ≡
+        reserved_if result (as_nanos now) (as_nanos draw) (as_nanos cooldown) found.old }
+{
+    if !found.eligible() {
+        return false;
+    }
+    match found.reserve(now, draw, cooldown) {
+        ReserveResult::Reserved => true,
+        ReserveResult::RateLimited | ReserveResult::Unavailable => false,
+    }
+}
+
+fn release_record<C: PublicKey>(found: &mut Record<C>, metadata: &Metadata<C>)
+    requires { is_inert found.old.status ≡ false }
+    ensures { found.new ≡ released_record metadata.now found.old }
+{
+    found.release();
+    if let Metadata::Dialer(_, ingress) = metadata {
+        found.dial_failure(ingress);
+    }
 }
 
 // Gives the peer a record in place of the one that it may have.
 fn put<C: PublicKey>(
-    records: &mut BTreeMap<C, Record<C>>,
+    map: &mut BTreeMap<C, Record<C>>,
     peer: C,
     next: Record<C>,
 ) -> Result<(), AllocError>
-    ensures { IfOk result (λ _. (q : C) → get C.cmp records.new q ≡ (if is_at (C.cmp peer) q then Some next else get C.cmp records.old q)) }
+    ensures { IfOk result (λ _. (q : C) →
+        get C.cmp map.new q ≡ (if is_at (C.cmp peer) q then Some next else get C.cmp map.old q)) }
 {
-    match records.insert(peer, next) {
+    match map.insert(peer, next) {
         Ok(before) => {
             forget(before);
             Ok(())
@@ -51,59 +151,5 @@ fn put<C: PublicKey>(
             forget(refused);
             Err(AllocError)
         }
-    }
-}
-
-/// Whether the peer has a record, is eligible, and may be reserved at the moment.
-pub fn may_reserve<C: PublicKey>(records: &BTreeMap<C, Record<C>>, peer: &C, now: Duration) -> bool
-    ensures { result ≡ is_some_and (get C.cmp records.now peer.now) (λ r. is_eligible r && is_reservable (as_nanos now) r) }
-{
-    match records.get(peer) {
-        Some(found) => found.eligible() && found.is_reservable(now),
-        None => false,
-    }
-}
-
-/// Reserves the peer.
-pub fn reserve<C: PublicKey>(
-    records: &mut BTreeMap<C, Record<C>>,
-    peer: &C,
-    now: Duration,
-    draw: Duration,
-    cooldown: Duration,
-)
-    requires { IsSomeAnd (get C.cmp records.old peer.now) (λ r. is_reservable (as_nanos now) r ≡ true) }
-    ensures { (q : C) → get C.cmp records.new q ≡ (if is_at (C.cmp peer.now) q
-        then option_map (reserved_at (as_nanos now) (as_nanos draw) (as_nanos cooldown)) (get C.cmp records.old q)
-        else get C.cmp records.old q) }
-{
-    if let Some(found) = records.get_mut(peer) {
-        let _ = found.reserve(now, draw, cooldown);
-    }
-}
-
-/// Ends a reservation of its peer, and takes out the record where it is deletable then.
-pub fn release<C: PublicKey>(records: &mut BTreeMap<C, Record<C>>, metadata: &Metadata<C>)
-    requires { IsSomeAnd (get C.cmp records.old (key_of metadata.now)) (λ r. is_inert r.status ≡ false) }
-    ensures { (q : C) → get C.cmp records.new q ≡ (if is_at (C.cmp (key_of metadata.now)) q
-        then option_and_then (λ r. unless_deletable (released metadata.now r)) (get C.cmp records.old q)
-        else get C.cmp records.old q) }
-{
-    let peer = *metadata.public_key();
-    if let Some(found) = records.get_mut(&peer) {
-        release_record(found, metadata);
-        if found.deletable() {
-            forget(records.remove(&peer));
-        }
-    }
-}
-
-fn release_record<C: PublicKey>(found: &mut Record<C>, metadata: &Metadata<C>)
-    requires { is_inert found.old.status ≡ false }
-    ensures { found.new ≡ released metadata.now found.old }
-{
-    found.release();
-    if let Metadata::Dialer(_, ingress) = metadata {
-        found.dial_failure(ingress);
     }
 }

@@ -1,8 +1,7 @@
-//! Commands, their replies, and what a run of them leaves.
+//! Commands and their replies.
 
-use crate::directory::{Directory, TrackedPeers};
+use crate::directory::TrackedPeers;
 use crate::record::Status;
-use crate::run::held::Held;
 use p2p_discovery::codec::PublicKey;
 use p2p_discovery::sets::OrderedSet;
 use std::time::Duration;
@@ -52,14 +51,4 @@ pub enum Reply<C: PublicKey> {
     NotHeld,
     /// Memory was refused, and nothing has changed.
     OutOfMemory,
-}
-
-/// What a run leaves.
-pub struct Run<C: PublicKey> {
-    /// The directory after the last command.
-    pub directory: Directory<C>,
-    /// The reservations that were granted and not released.
-    pub held: Held<C>,
-    /// One reply for each command, in their order.
-    pub replies: Vec<Reply<C>>,
 }

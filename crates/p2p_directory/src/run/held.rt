@@ -1,108 +1,92 @@
-//! The reservations that are held while commands are served.
+//! The reservations that a run leaves.
 
-ghost use Rattle.std.specs.Prelude.{◌≡◌, ◌<◌, ◌≤◌, ◌+◌, [], None, Some, IfOk, IfErr, IfNone, length, map, slice_get, if◌then◌else◌};
+ghost use Rattle.std.specs.Prelude.{◌≡◌, ◌+◌, [], true, None, IfNone, IfSome};
+ghost use Rattle.std.specs.Prelude.{length, map, is_some, slice_get, if◌then◌else◌};
 ghost use Rattle.std.specs.Option.{option_map};
 ghost use Rattle.std.specs.BTreeMap.{is_at};
-ghost use Rattle.std.specs.List.{HoldsAt};
-ghost use Rattle.std.specs.List.Sorted.{IsStrictlySortedBy, IsSearchInRange, IsPartitionPoint};
+ghost use Rattle.std.specs.List.Sorted.{IsStrictlySortedBy};
+ghost use Rattle.p2p_directory.specs.Directory.{key_of};
+ghost use Rattle.p2p_directory.specs.Held.{held_of, all_but};
+ghost use Rattle.p2p_directory.specs.Private.Slots.{held_in, AreFull};
 
 use crate::directory::Reservation;
 use p2p_discovery::codec::PublicKey;
-use std::alloc::{AllocError, Global};
-use std::cmp::Ordering;
+use std::collections::BTreeMap;
 use std::marker::Model;
 
 /// The reservations that are held, in ascending order of their peers. A contract sees the list of
-/// what they are for, and for how many there is room. It must be spent, by [`Held::close`].
+/// what they are for. It must be spent, by [`Held::close`].
 pub struct Held<C: PublicKey> {
-    reservations: Vec<Reservation<C>>,
+    // Each has its value.
+    reservations: BTreeMap<C, Option<Reservation<C>>>,
 }
 
 impl<C: PublicKey> Model for Held<C> {
-    ghost use Rattle.std.specs.Prelude.{map, vec_capacity};
-    ghost use Rattle.std.specs.List.Sorted.{IsStrictlySortedBy};
-    ghost use Rattle.p2p_directory.specs.Reserved.{HeldView};
-    ghost use Rattle.p2p_directory.specs.Directories.{key_of};
+    ghost use Rattle.std.specs.Prelude.{List};
+    ghost use Rattle.p2p_directory.specs.declared.directory.Metadata.{Metadata};
 
-    ghost Value = { HeldView C C.Signature };
+    ghost Value = { List (Metadata C C.Signature) };
 
-    ghost view = { λ h. record { reservations = h.reservations.items; room = vec_capacity h.reservations } };
+    ghost use Rattle.p2p_directory.specs.Private.Slots.{contents, AreFull};
 
-    ghost invariant = { λ h. IsStrictlySortedBy C.cmp (map key_of h.reservations.items) };
+    ghost view = { λ h. contents h.reservations.entries };
+
+    ghost invariant = { λ h. AreFull C.cmp h.reservations.entries };
 }
 
 impl<C: PublicKey> Held<C> {
-    ghost use Rattle.p2p_directory.specs.Reserved.{held_of, all_but};
-    ghost use Rattle.p2p_directory.specs.Directories.{key_of};
-
-    // None held yet, and room for so many.
-    pub(crate) fn with_room(alloc: Global, room: usize) -> Result<Self, AllocError>
-        ensures { IfOk result (λ h. h ≡ record { reservations = []; room = room }) }
+    // These reservations.
+    pub(crate) fn new(reservations: BTreeMap<C, Option<Reservation<C>>>) -> Self
+        requires { AreFull C.cmp reservations.entries }
+        ensures { (q : C) → held_of C.cmp result q ≡ held_in C.cmp reservations.entries q }
     {
-        let reservations = Vec::with_capacity(alloc, room)?;
-        Ok(Held { reservations })
+        Held { reservations }
     }
 
     /// The least of the peers whose reservations are held, or `None` where none is held. Takes no
     /// memory.
+    ///
+    /// # Cost
+    ///
+    /// Logarithmic in what is held.
     pub fn first(&self) -> Option<C>
-        ensures least { result ≡ option_map key_of (slice_get self.now.reservations 0) }
-        ensures ascending { IsStrictlySortedBy C.cmp (map key_of self.now.reservations) }
-        ensures none { IfNone result (self.now.reservations ≡ []) }
+        ensures least { result ≡ option_map key_of (slice_get self.now 0) }
+        ensures ascending { IsStrictlySortedBy C.cmp (map key_of self.now) }
+        ensures held { IfSome result (λ peer. is_some (held_of C.cmp self.now peer) ≡ true) }
+        ensures none { IfNone result (self.now ≡ []) }
     {
-        match self.reservations.first() {
-            Some(reservation) => Some(*reservation.metadata().public_key()),
+        match self.reservations.first_key_value() {
+            Some((peer, _)) => Some(*peer),
             None => None,
         }
     }
 
     /// Hands out the reservation of the peer; all others stay. Answers `None`, and changes
     /// nothing, where none of that peer is held. Takes no memory.
+    ///
+    /// # Cost
+    ///
+    /// Logarithmic in what is held.
     pub fn take(&mut self, peer: &C) -> Option<Reservation<C>>
         ensures taken { result ≡ held_of C.cmp self.old peer.now }
+        ensures peer { IfSome result (λ metadata. key_of metadata ≡ peer.now) }
         ensures rest { self.new ≡ all_but C.cmp peer.now self.old }
+        ensures left { (q : C) → held_of C.cmp self.new q
+            ≡ (if is_at (C.cmp peer.now) q then None else held_of C.cmp self.old q) }
+        ensures length { IfSome result (λ _. length self.old ≡ length self.new + 1) }
         ensures absent { IfNone result (self.new ≡ self.old) }
     {
-        match self.search(peer) {
-            Ok(place) => Some(self.reservations.remove(place)),
-            Err(_) => None,
-        }
-    }
-
-    // Takes a reservation in, where none of its peer is held.
-    pub(crate) fn put(&mut self, reservation: Reservation<C>)
-        requires room { length self.old.reservations < self.old.room }
-        requires new { held_of C.cmp self.old (key_of reservation) ≡ None }
-        ensures held { (q : C) → held_of C.cmp self.new q ≡ (if is_at (C.cmp (key_of reservation)) q then Some reservation else held_of C.cmp self.old q) }
-        ensures length { length self.new.reservations ≡ length self.old.reservations + 1 }
-        ensures room { self.new.room ≡ self.old.room }
-    {
-        let peer = *reservation.metadata().public_key();
-        match self.search(&peer) {
-            Ok(_) => unreachable!(),
-            Err(place) => match self.reservations.insert(place, reservation) {
-                Ok(()) => {}
-                Err(_) => unreachable!(),
-            },
-        }
-    }
-
-    // Where the reservation of the peer stands, or where it would go.
-    fn search(&self, peer: &C) -> Result<usize, usize>
-        ensures range { IsSearchInRange result (length self.now.reservations) }
-        ensures found { IfOk result (HoldsAt (λ m. C.cmp (key_of m) peer.now ≡ Ordering.Equal) self.now.reservations) }
-        ensures gap { IfErr result (IsPartitionPoint (λ m. C.cmp (key_of m) peer.now ≡ Ordering.Less) (λ m. C.cmp (key_of m) peer.now ≡ Ordering.Greater) self.now.reservations) }
-    {
-        self.reservations
-            .binary_search_by_key(peer, |reservation| *reservation.metadata().public_key())
+        self.reservations.remove(peer).flatten()
     }
 
     /// Ends it. Takes no memory. What is held goes first: [`Held::take`] of each
     /// [`Held::first`], and [`Directory::release`](crate::directory::Directory::release) of it.
     ///
-    /// Condition: no reservation is held.
+    /// # Conditions
+    ///
+    /// No reservation is held.
     pub fn close(self)
-        requires { self.reservations ≡ [] }
+        requires { self ≡ [] }
     {
         let Held { reservations } = self;
         reservations.destroy_empty();

@@ -1,38 +1,60 @@
-ghost use Rattle.std.specs.Prelude.{◌≡◌};
-ghost use Rattle.p2p_directory.specs.Reserved.{all_but};
-ghost use Rattle.p2p_directory.specs.Serving.{AreHeld};
+//! Runs of commands, by their replies and by what they leave.
 
-use crate::directory::Directory;
-use crate::run::{Command, Held, Run, run};
+ghost use Rattle.std.specs.Prelude.{◌≡◌, ◌+◌};
+ghost use Rattle.std.specs.Int.NonZero.{non_zero_usize_get};
+
+use crate::directory::{Config, Directory};
+use crate::record::Status;
+use crate::run::{Command, Reply, Run, run};
 use crate::tests::{config, info, tracked};
 use p2p_discovery::codec::{PublicKey, TestKey};
+use p2p_discovery::types::{Ingress, IpAddr, SocketAddr};
 use std::alloc::{AllocError, Global};
+use std::num::NonZeroUsize;
+use std::process::Abort;
 use std::test::Fail;
 use std::time::Duration;
 
-// Releases the reservation of the peer, and says whether one was held.
-fn release<C: PublicKey>(directory: &mut Directory<C>, held: &mut Held<C>, peer: &C) -> bool
-    requires { AreHeld C.cmp directory.old held.old }
-    ensures agree { AreHeld C.cmp directory.new held.new }
-    ensures rest { held.new ≡ all_but C.cmp peer.now held.old }
-{
-    match held.take(peer) {
-        Some(reservation) => {
-            directory.release(reservation);
-            true
+// A reply, with keys as numbers.
+#[derive(Clone, Copy, Debug, PartialEq, Eq)]
+enum Told {
+    Track(Option<&'static [u64]>),
+    Listen(bool),
+    Release,
+    Status(Option<Status>),
+    LatestSetIndex(Option<u64>),
+    NotHeld,
+}
+
+impl Told {
+    fn is(self, reply: &Reply<TestKey>) -> bool {
+        match reply {
+            Reply::Track(None) => self == Told::Track(None),
+            Reply::Track(Some(torn)) => match self {
+                Told::Track(Some(keys)) => {
+                    torn.len() == keys.len()
+                        && torn.iter().zip(keys).all(|(peer, key)| peer.0 == *key)
+                }
+                _ => false,
+            },
+            Reply::Listen(granted) => self == Told::Listen(*granted),
+            Reply::Release => self == Told::Release,
+            Reply::Status(status) => self == Told::Status(*status),
+            Reply::LatestSetIndex(latest) => self == Told::LatestSetIndex(*latest),
+            Reply::NotHeld => self == Told::NotHeld,
+            Reply::OutOfMemory => false,
         }
-        None => false,
     }
 }
 
-// Releases what is still held, and ends it.
-fn finish<C: PublicKey>(mut directory: Directory<C>, mut held: Held<C>)
-    requires { AreHeld C.cmp directory held }
-{
-    while let Some(peer) = held.first() {
-        release(&mut directory, &mut held, &peer);
+fn assert_told(rt: &impl Abort, replies: &[Reply<TestKey>], told: &[Told]) {
+    assert_eq!(rt; replies.len(), told.len());
+    for (place, (reply, told)) in replies.iter().zip(told).enumerate() {
+        assert!(rt;
+            told.is(reply),
+            "reply {place} is {reply:?} in place of {told:?}"
+        );
     }
-    held.close();
 }
 
 fn track(alloc: Global, index: u64, primary: &[u64]) -> Result<Command<TestKey>, AllocError> {
@@ -48,6 +70,28 @@ fn listen(peer: u64, seconds: u64) -> Command<TestKey> {
     }
 }
 
+fn status(peer: u64) -> Command<TestKey> {
+    Command::Status(TestKey(peer))
+}
+
+fn release(peer: u64) -> Command<TestKey> {
+    Command::Release(TestKey(peer))
+}
+
+// The shared setting, where so many sets more than one are retained.
+fn window(more: u8) -> Config
+    ensures { non_zero_usize_get result.max_sets ≡ 1 + more }
+{
+    Config {
+        max_sets: NonZeroUsize::MIN.saturating_add(more as usize),
+        ..config()
+    }
+}
+
+fn ingress(port: u16) -> Ingress {
+    Ingress::Socket(SocketAddr::new(IpAddr::V4([1, 2, 3, 4]), port))
+}
+
 #[test]
 fn replies_by_the_accepted_calls(rt: HostRuntime) -> Result<(), Fail> {
     let alloc = rt.alloc();
@@ -56,64 +100,310 @@ fn replies_by_the_accepted_calls(rt: HostRuntime) -> Result<(), Fail> {
         listen(1, 100),
         track(alloc, 0, &[2])?,
         track(alloc, 1, &[2])?,
-        Command::Status(TestKey(1)),
-        Command::Release(TestKey(1)),
-        Command::Release(TestKey(1)),
-        Command::Status(TestKey(1)),
+        status(1),
+        release(1),
+        release(1),
+        status(1),
         Command::LatestSetIndex,
         track(alloc, 2, &[1])?,
         listen(1, 105),
         listen(1, 115),
     ]?;
-    let Run {
-        directory,
-        held,
-        replies,
-    } = run(alloc, Vec::new(alloc), info(9), config(), commands)?;
-    let text = format!(in alloc; "{replies:?}");
-    finish(directory, held);
-    assert_eq!(rt;
-        text?.as_str(),
-        "[Track(Some(OrderedSet { items: [] })), Listen(true), Track(None), \
-        Track(Some(OrderedSet { items: [TestKey(1)] })), Status(Some(Reserved)), Release, NotHeld, \
-        Status(None), LatestSetIndex(Some(1)), Track(Some(OrderedSet { items: [] })), \
-        Listen(true), Listen(false)]"
+    let left = run(alloc, Vec::new(alloc), info(9), config(), commands)?;
+    assert_told(
+        &rt,
+        &left.replies,
+        &[
+            Told::Track(Some(&[])),
+            Told::Listen(true),
+            Told::Track(None),
+            Told::Track(Some(&[1])),
+            Told::Status(Some(Status::Reserved)),
+            Told::Release,
+            Told::NotHeld,
+            Told::Status(None),
+            Told::LatestSetIndex(Some(1)),
+            Told::Track(Some(&[])),
+            Told::Listen(true),
+            Told::Listen(false),
+        ],
     );
+    let directory = left.finish();
+    assert_eq!(rt; directory.status(&TestKey(1)), Some(Status::Inert));
     Ok(())
 }
 
 #[test]
-fn holds_what_was_granted(rt: HostRuntime) -> Result<(), Fail> {
+fn bootstrappers_are_persistent(rt: HostRuntime) -> Result<(), Fail> {
     let alloc = rt.alloc();
-    let commands = vec![in alloc; track(alloc, 0, &[1, 2])?, listen(2, 100), listen(1, 100)]?;
+    let bootstrappers = vec![in alloc;
+        (TestKey(1), ingress(8001)),
+        (TestKey(9), ingress(8009)),
+        (TestKey(1), ingress(8002)),
+    ]?;
+    let commands = vec![in alloc;
+        status(1),
+        status(9),
+        status(2),
+        listen(1, 100),
+        listen(9, 100),
+        track(alloc, 0, &[1, 2])?,
+        track(alloc, 1, &[2])?,
+        release(1),
+        status(1),
+        listen(1, 110),
+    ]?;
+    let left = run(alloc, bootstrappers, info(9), config(), commands)?;
+    assert_told(
+        &rt,
+        &left.replies,
+        &[
+            Told::Status(Some(Status::Inert)),
+            Told::Status(Some(Status::Inert)),
+            Told::Status(None),
+            Told::Listen(true),
+            Told::Listen(false),
+            Told::Track(Some(&[])),
+            Told::Track(Some(&[])),
+            Told::Release,
+            Told::Status(Some(Status::Inert)),
+            Told::Listen(true),
+        ],
+    );
+    assert_eq!(rt; left.held.first(), Some(TestKey(1)));
+    left.finish();
+    Ok(())
+}
+
+#[test]
+fn retains_a_window_of_sets(rt: HostRuntime) -> Result<(), Fail> {
+    let alloc = rt.alloc();
+    let both = Command::Track {
+        index: 1,
+        peers: tracked(alloc, &[2], &[1, 3])?,
+    };
+    let commands = vec![in alloc;
+        track(alloc, 0, &[1, 2])?,
+        both,
+        listen(1, 100),
+        listen(2, 100),
+        listen(3, 100),
+        track(alloc, 2, &[2])?,
+        status(1),
+        track(alloc, 4, &[3])?,
+        status(1),
+        release(1),
+        status(1),
+        track(alloc, 5, &[3])?,
+        Command::LatestSetIndex,
+    ]?;
+    let left = run(alloc, Vec::new(alloc), info(9), window(1), commands)?;
+    assert_told(
+        &rt,
+        &left.replies,
+        &[
+            Told::Track(Some(&[])),
+            Told::Track(Some(&[])),
+            Told::Listen(true),
+            Told::Listen(true),
+            Told::Listen(true),
+            Told::Track(Some(&[])),
+            Told::Status(Some(Status::Reserved)),
+            Told::Track(Some(&[1])),
+            Told::Status(Some(Status::Reserved)),
+            Told::Release,
+            Told::Status(None),
+            Told::Track(Some(&[2])),
+            Told::LatestSetIndex(Some(5)),
+        ],
+    );
+    let directory = left.finish();
+    assert_eq!(rt; directory.status(&TestKey(2)), None);
+    assert_eq!(rt; directory.status(&TestKey(3)), Some(Status::Inert));
+    Ok(())
+}
+
+#[test]
+fn retains_a_set_until_three_more_came(rt: HostRuntime) -> Result<(), Fail> {
+    let alloc = rt.alloc();
+    let commands = vec![in alloc;
+        track(alloc, 10, &[1])?,
+        listen(1, 100),
+        track(alloc, 11, &[2])?,
+        track(alloc, 12, &[2])?,
+        track(alloc, 12, &[3])?,
+        track(alloc, 13, &[2])?,
+    ]?;
+    let left = run(alloc, Vec::new(alloc), info(9), window(2), commands)?;
+    assert_told(
+        &rt,
+        &left.replies,
+        &[
+            Told::Track(Some(&[])),
+            Told::Listen(true),
+            Told::Track(Some(&[])),
+            Told::Track(Some(&[])),
+            Told::Track(None),
+            Told::Track(Some(&[1])),
+        ],
+    );
+    left.finish();
+    Ok(())
+}
+
+// Five commands for each of so many rounds.
+fn rounds(alloc: Global, count: u16) -> Result<Vec<Command<TestKey>>, AllocError> {
+    let mut commands = Vec::new(alloc);
+    for round in 0..count {
+        let index = round as u64;
+        let peer = 10 + index % 7;
+        commands.push(track(alloc, index, &[peer])?)?;
+        commands.push(listen(peer, 100 * index))?;
+        commands.push(status(peer))?;
+        commands.push(release(peer))?;
+        commands.push(Command::LatestSetIndex)?;
+    }
+    Ok(commands)
+}
+
+#[test]
+fn replies_to_ten_thousand_commands(rt: HostRuntime) -> Result<(), Fail> {
+    let alloc = rt.alloc();
+    let left = run(
+        alloc,
+        Vec::new(alloc),
+        info(9),
+        config(),
+        rounds(alloc, 2_000)?,
+    )?;
+    assert_eq!(rt; left.replies.len(), 10_000);
+    for (place, reply) in left.replies.iter().enumerate() {
+        let told = match place % 5 {
+            0 => Told::Track(Some(&[])),
+            1 => Told::Listen(true),
+            2 => Told::Status(Some(Status::Reserved)),
+            3 => Told::Release,
+            _ => Told::LatestSetIndex(Some((place / 5) as u64)),
+        };
+        assert!(rt;
+            told.is(reply),
+            "reply {place} is {reply:?} in place of {told:?}"
+        );
+    }
+    assert_eq!(rt; left.held.first(), None);
+    left.finish();
+    Ok(())
+}
+
+// A run that tracks so many peers from 10 on, and reserves each, the last first.
+fn run_and_hold(alloc: Global, count: u64) -> Result<Run<TestKey>, AllocError> {
+    let mut keys = Vec::new(alloc);
+    for place in 0..count.min(1 << 20) {
+        keys.push(10 + place)?;
+    }
+    let mut commands = Vec::new(alloc);
+    commands.push(track(alloc, 0, &keys)?)?;
+    for key in keys.iter().rev() {
+        commands.push(listen(*key, 100))?;
+    }
+    run(alloc, Vec::new(alloc), info(9), config(), commands)
+}
+
+#[test]
+fn finish_gives_all_back(rt: HostRuntime) -> Result<(), Fail> {
+    let alloc = rt.alloc();
+    let left = run_and_hold(alloc, 5_000)?;
+    assert_eq!(rt; left.replies.len(), 5_001);
+    for (place, reply) in left.replies.iter().enumerate() {
+        let told = if place == 0 {
+            Told::Track(Some(&[]))
+        } else {
+            Told::Listen(true)
+        };
+        assert!(rt; told.is(reply), "reply {place} is {reply:?}");
+    }
+    assert_eq!(rt; left.held.first(), Some(TestKey(10)));
+    for key in 10..5_010 {
+        assert_eq!(rt;
+            left.directory.status(&TestKey(key)),
+            Some(Status::Reserved)
+        );
+    }
+    let directory = left.finish();
+    for key in 10..5_010 {
+        assert_eq!(rt; directory.status(&TestKey(key)), Some(Status::Inert));
+    }
+    Ok(())
+}
+
+// What `finish` does, by hand: the peers in the order in which they were released.
+fn release_each<C: PublicKey>(
+    alloc: Global,
+    left: Run<C>,
+) -> Result<(Directory<C>, Vec<C>), AllocError> {
+    let mut released = Vec::new(alloc);
     let Run {
         mut directory,
         mut held,
         replies: _,
-    } = run(alloc, Vec::new(alloc), info(9), config(), commands)?;
-    assert_eq!(rt; held.first(), Some(TestKey(1)));
-    assert!(rt; !release(&mut directory, &mut held, &TestKey(3)));
-    assert_eq!(rt; held.first(), Some(TestKey(1)));
-    assert!(rt; release(&mut directory, &mut held, &TestKey(1)));
-    assert_eq!(rt; held.first(), Some(TestKey(2)));
-    finish(directory, held);
+    } = left;
+    let mut refused = false;
+    while let Some(peer) = held.first() {
+        if let Some(reservation) = held.take(&peer) {
+            directory.release(reservation);
+        }
+        refused = released.push(peer).is_err() || refused;
+    }
+    held.close();
+    if refused {
+        return Err(AllocError);
+    }
+    Ok((directory, released))
+}
+
+#[test]
+fn releases_by_hand_in_ascending_order(rt: HostRuntime) -> Result<(), Fail> {
+    let alloc = rt.alloc();
+    let (directory, released) = release_each(alloc, run_and_hold(alloc, 3_000)?)?;
+    assert_eq!(rt; released.len(), 3_000);
+    for (place, peer) in released.iter().enumerate() {
+        assert_eq!(rt; peer.0, 10 + place as u64);
+        assert_eq!(rt; directory.status(peer), Some(Status::Inert));
+    }
+    Ok(())
+}
+
+#[test]
+fn takes_only_what_is_held(rt: HostRuntime) -> Result<(), Fail> {
+    let alloc = rt.alloc();
+    let commands = vec![in alloc;
+        track(alloc, 0, &[1, 2, 3])?,
+        listen(3, 100),
+        listen(1, 100),
+    ]?;
+    let mut left = run(alloc, Vec::new(alloc), info(9), config(), commands)?;
+    match left.held.take(&TestKey(2)) {
+        None => {}
+        Some(_reservation) => panic!(rt; "nothing was granted of 2"),
+    }
+    assert_eq!(rt; left.held.first(), Some(TestKey(1)));
+    left.finish();
     Ok(())
 }
 
 #[test]
 fn closes_what_is_empty(rt: HostRuntime) -> Result<(), Fail> {
     let alloc = rt.alloc();
-    let commands = vec![in alloc; Command::Status(TestKey(1)), Command::Release(TestKey(1))]?;
+    let commands = vec![in alloc; status(1), release(1)]?;
     let Run {
         directory: _,
         held,
         replies,
     } = run(alloc, Vec::new(alloc), info(9), config(), commands)?;
-    let text = format!(in alloc; "{replies:?}");
     match held.first() {
         None => held.close(),
         Some(_) => panic!(rt; "nothing was granted"),
     }
-    assert_eq!(rt; text?.as_str(), "[Status(None), NotHeld]");
+    assert_told(&rt, &replies, &[Told::Status(None), Told::NotHeld]);
     Ok(())
 }

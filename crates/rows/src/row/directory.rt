@@ -1,15 +1,13 @@
 //! Rows about the calls of a directory.
 
-ghost use Rattle.p2p_directory.specs.Serving.{AreHeld};
-
 use crate::row::lines::Line;
 use crate::row::setting::{At, Step, config, own_info};
 use crate::row::{Stop, print};
-use p2p_directory::directory::Directory;
-use p2p_directory::run::{Held, Reply, Run, run};
-use p2p_discovery::codec::{PublicKey, TestKey};
+use p2p_directory::run::{Reply, run};
+use p2p_discovery::codec::TestKey;
 use std::alloc::{AllocError, Global};
 use std::io::Write;
+use std::mem::replace;
 
 /// A reserved peer is torn down with the last set that names it, and its release ends its record.
 pub fn teardown<W: Write>(alloc: Global, out: &mut W) -> Result<(), Stop> {
@@ -61,23 +59,8 @@ fn replies(alloc: Global, steps: &[Step]) -> Result<Vec<Reply<TestKey>>, AllocEr
         commands.push(step.command(alloc)?)?;
     }
     let bootstrappers = Vec::new(alloc);
-    let Run {
-        directory,
-        held,
-        replies,
-    } = run(alloc, bootstrappers, own_info(), config(), commands)?;
-    release_all(directory, held);
+    let mut left = run(alloc, bootstrappers, own_info(), config(), commands)?;
+    let replies = replace(&mut left.replies, Vec::new(alloc));
+    left.finish();
     Ok(replies)
-}
-
-// Gives all that is held back to the directory, and ends both.
-fn release_all<C: PublicKey>(mut directory: Directory<C>, mut held: Held<C>)
-    requires { AreHeld C.cmp directory held }
-{
-    while let Some(peer) = held.first() {
-        if let Some(reservation) = held.take(&peer) {
-            directory.release(reservation);
-        }
-    }
-    held.close();
 }

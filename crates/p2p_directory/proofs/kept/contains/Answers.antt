@@ -1,5 +1,5 @@
 use Rattle.std.proofs.Common.{sym}
-use Rattle.p2p_directory.proofs.Naming.{at_place, nowhere}
+use Rattle.p2p_directory.proofs.SetsAndRecords.Naming.{at_place, nowhere}
 use Rattle.p2p_directory.proofs.kept.contains.Goals as goal
 
 pub returns-in-Some : goal.returns-in-Some

@@ -1,5 +1,5 @@
-use Rattle.p2p_directory.proofs.GrantRuns
-use Rattle.p2p_directory.proofs.Keys.{exact_from}
+use Rattle.p2p_directory.proofs.LawsOfRuns.GrantRuns
+use Rattle.p2p_directory.proofs.Definitions.Keys.{exact_from}
 use Rattle.p2p_directory.proofs.laws.grants_of_a_run.Goals as goal
 
 pub returns : goal.returns

@@ -1,0 +1,154 @@
+-- The kept state is what the past says.
+use Rattle.std.proofs.Common.{◌≡◌, ℕ, zero, suc, ◌-◌, ◌<◌, ◌≤◌, Bool, true, false, not, ◌&&◌, List, [], ◌∷◌, ◌++◌, length, drop, Option, Some, None, refl, sym, ◌∙◌, ap, subst, arith}
+use Rattle.std.specs.Prelude.{if◌then◌else◌, nat_lt, filter}
+use Rattle.std.specs.List.{list_all}
+use Rattle.std.proofs.lemmas.List.{append-nil, drop-append-le, length_push}
+use Rattle.std.proofs.lemmas.List.Folds.{list_all-append}
+use Rattle.std.proofs.lemmas.Bool.{ltb-true, lt-ltb, and_parts, and_from}
+use Rattle.p2p_discovery.specs.declared.types.ingress.Ingress.{Ingress}
+use Rattle.p2p_directory.specs.declared.record.Status.{Status}
+use Rattle.p2p_directory.specs.Calls.{Setup, Call, SetAt, Grant, Event}
+use Rattle.p2p_directory.specs.Calls.Call.{Track, Dial, Listen, Connect, Release, Update, Block, UnblockExpired, Ask}
+use Rattle.p2p_directory.specs.declared.record.Status.TheVariants.{Inert, Reserved, Active}
+use Rattle.p2p_directory.specs.Calls.Event.{Nothing, Tracked, Blocked}
+use Rattle.p2p_directory.specs.History
+use Rattle.p2p_directory.specs.History.{last_of}
+use Rattle.p2p_directory.specs.World
+use Rattle.p2p_directory.specs.Step
+use Rattle.p2p_directory.specs.World.{Known, Peer, World}
+use Rattle.p2p_directory.proofs.Definitions.Steps
+use Rattle.p2p_directory.proofs.Definitions.Knowledge
+
+-- INDEXES: what lies above each retained set lies above each set that was ever taken
+
+abbrev pub below : {C : Type 0} → ℕ → SetAt C → Bool
+below index x = nat_lt x.index index
+
+all_drop : {A : Type 0} (test : A → Bool) (k : ℕ) (xs : List A) → list_all test xs ≡ true → list_all test (drop k xs) ≡ true
+all_drop test zero xs e = e
+all_drop test (suc k) [] e = refl
+all_drop test (suc k) (x ∷ xs) e = all_drop test k xs (and_parts (test x) (list_all test xs) e).1
+
+below_more : {C : Type 0} (i j : ℕ) → i < j → (xs : List (SetAt C)) → list_all (below i) xs ≡ true → list_all (below j) xs ≡ true
+below_more i j lt [] e = refl
+below_more i j lt (x ∷ xs) e =
+    let parts = and_parts (nat_lt x.index i) (list_all (below i) xs) e in
+    and_from (nat_lt x.index j) (list_all (below j) xs) (lt-ltb x.index j (omega (arith, ltb-true x.index i parts.0))) (below_more i j lt xs parts.1)
+
+-- a set above all others decides
+top_decides : {C : Type 0} (xs : List (SetAt C)) (top : SetAt C) (index : ℕ) → list_all (below top.index) xs ≡ true → list_all (below index) (xs ++ top ∷ []) ≡ nat_lt top.index index
+top_decides xs top index e = list_all-append (below index) xs (top ∷ []) ∙ go (nat_lt top.index index) refl
+  where
+    go : (b : Bool) → nat_lt top.index index ≡ b → (list_all (below index) xs && (b && true)) ≡ b
+    go true f = ap (λ x. x && true) (below_more top.index index (ltb-true top.index index f) xs e)
+    go false f = elim (list_all (below index) xs) as (λ x. (x && false) ≡ false) [ true ↦ refl | false ↦ refl ]
+
+-- any rest that isn't empty decides as the whole list does
+abbrev pub Decided : {C : Type 0} → List (SetAt C) → Type 0
+Decided xs = (index k : ℕ) → k < length xs → list_all (below index) (drop k xs) ≡ list_all (below index) xs
+
+decided_push : {C : Type 0} (xs : List (SetAt C)) (top : SetAt C) → list_all (below top.index) xs ≡ true → Decided (xs ++ top ∷ [])
+decided_push xs top e index k lt =
+    let le : k ≤ length xs = omega (arith, length_push xs top) in
+    ap (list_all (below index)) (drop-append-le k xs (top ∷ []) le)
+    ∙ top_decides (drop k xs) top index (all_drop (below top.index) k xs e)
+    ∙ sym (top_decides xs top index e)
+
+module _ {C S : Type 0} (s : Setup C S) where
+  decided_same : (xs : List (SetAt C)) → Decided xs → Decided (xs ++ [])
+  decided_same xs d = subst Decided (sym (append-nil xs)) d
+
+  -- what only a track can do
+  no_set : (xs : List (SetAt C)) (e : Event C S) → History.set_by s e ≡ [] → Decided xs → Decided (xs ++ History.set_by s e)
+  no_set xs e none d = subst (λ ys. Decided (xs ++ ys)) (sym none) (decided_same xs d)
+
+  decided_step : (xs : List (SetAt C)) (w : World C S) (c : Call C S) → Decided xs → Decided (xs ++ History.set_by s (World.event_in s xs w c))
+  decided_step xs w (Track index primary secondary) d = go (list_all (below index) xs) refl
+    where
+      taken : SetAt C
+      taken = record { index = index; primary = primary; secondary = filter (λ q. not (History.is_in s q primary)) secondary }
+
+      go : (b : Bool) → list_all (below index) xs ≡ b → Decided (xs ++ History.set_by s (if b then Tracked taken else Nothing))
+      go true e = decided_push xs taken e
+      go false e = decided_same xs d
+  decided_step xs w (Dial p t draw) d = no_set xs _ (go _ _) d
+    where
+      go : (granted : Bool) (address : Option Ingress) → History.set_by s (World.dial_event s p t draw granted address) ≡ []
+      go granted None = refl
+      go true (Some a) = refl
+      go false (Some a) = refl
+  decided_step xs w (Listen p t draw) d = no_set xs _ (go _) d
+    where
+      go : (granted : Bool) → History.set_by s (World.listen_event s p t draw granted) ≡ []
+      go true = refl
+      go false = refl
+  decided_step xs w (Connect p dialer) d = no_set xs _ (go (w.peer p).status) d
+    where
+      go : (status : Status) → History.set_by s (World.connect_event s p dialer status) ≡ []
+      go Inert = refl
+      go Reserved = refl
+      go Active = refl
+  decided_step xs w (Release p) d = no_set xs _ (go (w.held p)) d
+    where
+      go : (held : Option Grant) → History.set_by s (World.release_event s p held) ≡ []
+      go None = refl
+      go (Some grant) = refl
+  decided_step xs w (Update infos) d = decided_same xs d
+  decided_step xs w (Block p t) d = no_set xs _ (go _) d
+    where
+      go : (b : Bool) → History.set_by s (if b then Blocked p t else Nothing) ≡ []
+      go true = refl
+      go false = refl
+  decided_step xs w (UnblockExpired t) d = decided_same xs d
+  decided_step xs w (Ask question) d = decided_same xs d
+
+  pub decided_past : (cs : List (Call C S)) → Decided (History.taken_sets s (World.past s cs))
+  decided_past [] = λ index k lt. absurd (omega arith)
+  decided_past (c ∷ cs) = decided_step (History.taken_sets s (World.past s cs)) (World.world_at s (World.past s cs)) c (decided_past cs)
+
+  last_decides : (xs : List (SetAt C)) (n index : ℕ) → 1 ≤ n → Decided xs → list_all (below index) xs ≡ list_all (below index) (last_of n xs)
+  last_decides [] n index some d = elim (0 - n) as (λ k. true ≡ list_all (below {C = C} index) (drop k [])) [ zero ↦ refl | suc k ↦ refl ]
+  last_decides (x ∷ xs) n index some d = sym (d index (length (x ∷ xs) - n) (omega arith))
+
+  -- a track may be held against the retained sets alone
+  pub does_same : (cs : List (Call C S)) (c : Call C S) → 1 ≤ s.max_sets →
+      World.event_in s (History.taken_sets s (World.past s cs)) (World.world_at s (World.past s cs)) c ≡ World.event_in s (History.retained_sets s (World.past s cs)) (World.world_at s (World.past s cs)) c
+  does_same cs (Track index primary secondary) some =
+      ap (λ b. if b then Tracked (record { index = index; primary = primary; secondary = filter (λ q. not (History.is_in s q primary)) secondary }) else Nothing)
+      (last_decides (History.taken_sets s (World.past s cs)) s.max_sets index some (decided_past cs))
+  does_same cs (Dial p t draw) some = refl
+  does_same cs (Listen p t draw) some = refl
+  does_same cs (Connect p dialer) some = refl
+  does_same cs (Release p) some = refl
+  does_same cs (Update infos) some = refl
+  does_same cs (Block p t) some = refl
+  does_same cs (UnblockExpired t) some = refl
+  does_same cs (Ask question) some = refl
+
+  -- ONE EVENT, ANY PAST
+
+  pub peer_step : (p : C) (e : Event C S) (h : List (Event C S)) →
+      World.peer_at s p (e ∷ h) ≡ Step.peer_after s p e (Step.sets_after s e (History.retained_sets s h)) (World.peer_at s p h)
+  peer_step p e h = λ i. record {
+    status = Steps.status_step s p e h i;
+    known = (Knowledge.known_life s p e h
+        ∙ ap (λ sets. if History.is_present_with s p sets (History.status_at s p (e ∷ h)) then Step.known_after s p e (World.known_in s p (History.life s p h)) else Step.new_known s p) (Steps.retained_step s e h)
+        ∙ ap (λ st. if History.is_present_with s p (Step.sets_after s e (History.retained_sets s h)) st then Step.known_after s p e (World.known_in s p (History.life s p h)) else Step.new_known s p) (Steps.status_step s p e h)) i;
+  }
+
+  pub world_step : (e : Event C S) (h : List (Event C S)) → World.world_at s (e ∷ h) ≡ Step.world_with s e (World.world_at s h)
+  world_step e h = λ i. record {
+    state = record {
+      sets = Steps.retained_step s e h i;
+      peer = λ p. peer_step p e h i;
+      unblock = λ p. Steps.unblock_step s p e h i;
+    };
+    held = λ p. Steps.held_step s p e h i;
+  }
+
+  -- THE LAW
+
+  pub recomputed_is_one_step : 1 ≤ s.max_sets → (cs : List (Call C S)) (c : Call C S) → World.world_at s (World.past s (c ∷ cs)) ≡ Step.step s (World.world_at s (World.past s cs)) c
+  recomputed_is_one_step some cs c =
+      world_step (World.event_in s (History.taken_sets s (World.past s cs)) (World.world_at s (World.past s cs)) c) (World.past s cs)
+      ∙ ap (λ e. Step.world_with s e (World.world_at s (World.past s cs))) (does_same cs c some)

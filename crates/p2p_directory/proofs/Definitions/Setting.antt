@@ -1,0 +1,75 @@
+-- The setting of the worked examples.
+use Rattle.std.proofs.Common.{◌≡◌, ℕ, ◌+◌, ◌*◌, ◌^◌, true, List, [], ◌∷◌, refl}
+use Rattle.std.specs.Ordering.{nat_cmp}
+use Rattle.p2p_discovery.specs.declared.discovery.Info.{Info}
+use Rattle.p2p_discovery.specs.declared.types.ingress.Ingress.TheVariants.{Socket}
+use Rattle.p2p_discovery.specs.declared.types.socket.IpAddr.TheVariants.{V4}
+use Rattle.p2p_directory.specs.Calls.{Setup, Call, Event}
+use Rattle.p2p_directory.specs.Calls.Call.{Track, Dial, Listen, Update}
+use Rattle.p2p_directory.specs.World.{past_after, past}
+
+-- so many seconds
+abbrev pub sec : ℕ → ℕ
+sec n = n * 10 ^ 9
+
+-- the info of p with a timestamp, at 1.2.3.4 and a port
+abbrev pub info_at : ℕ → ℕ → ℕ → Info ℕ ℕ
+info_at p timestamp port = record {
+  ingress = Socket (record { ip = V4 (1 ∷ 2 ∷ 3 ∷ 4 ∷ []); port = port });
+  timestamp = timestamp;
+  public_key = p;
+  signature = 0;
+}
+
+-- .. at port 8000 + p
+abbrev pub info : ℕ → ℕ → Info ℕ ℕ
+info p timestamp = info_at p timestamp (8000 + p)
+
+abbrev pub own : Info ℕ ℕ
+own = record {
+  ingress = Socket (record { ip = V4 (8 ∷ 8 ∷ 8 ∷ 8 ∷ []); port = 9000 });
+  timestamp = 0;
+  public_key = 9;
+  signature = 0;
+}
+
+abbrev pub setup : Setup ℕ ℕ
+setup = record {
+  cmp = nat_cmp;
+  own = own;
+  bootstrappers = [];
+  allow_private_ips = true;
+  allow_dns = true;
+  max_sets = 1;
+  dial_fail_limit = 1;
+  cooldown = sec 10;
+  block_duration = sec 60;
+}
+
+-- the past after these calls, the first of them first
+abbrev pub after_calls : Setup ℕ ℕ → List (Event ℕ ℕ) → List (Call ℕ ℕ) → List (Event ℕ ℕ)
+after_calls s h [] = h
+after_calls s h (c ∷ cs) = after_calls s (past_after s h c) cs
+
+-- the newest first
+abbrev pub newest_first : List (Call ℕ ℕ) → List (Call ℕ ℕ) → List (Call ℕ ℕ)
+newest_first [] ds = ds
+newest_first (c ∷ cs) ds = newest_first cs (c ∷ ds)
+
+-- .. it is the past that the calls make
+pub is_past : (s : Setup ℕ ℕ) (cs ds : List (Call ℕ ℕ)) → after_calls s (past s ds) cs ≡ past s (newest_first cs ds)
+is_past s [] ds = refl
+is_past s (c ∷ cs) ds = is_past s cs (c ∷ ds)
+
+-- the calls' usual forms, with moments in seconds and draw 0
+abbrev pub track : ℕ → List ℕ → Call ℕ ℕ
+track index primary = Track index primary []
+
+abbrev pub listen : ℕ → ℕ → Call ℕ ℕ
+listen p t = Listen p (sec t) 0
+
+abbrev pub dial : ℕ → ℕ → Call ℕ ℕ
+dial p t = Dial p (sec t) 0
+
+abbrev pub update : ℕ → ℕ → Call ℕ ℕ
+update p timestamp = Update (info p timestamp ∷ [])

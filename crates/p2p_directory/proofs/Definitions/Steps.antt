@@ -1,0 +1,153 @@
+-- What one more event changes of what the past says.
+use Rattle.std.proofs.Common.{◌≡◌, ℕ, ◌+◌, ◌-◌, Bool, true, false, ◌||◌, List, [], ◌∷◌, ◌++◌, length, drop, Option, Some, None, refl, sym, ◌∙◌, ap, arith}
+use Rattle.std.specs.Prelude.{if◌then◌else◌, nat_le, is_some, not}
+use Rattle.std.specs.List.{list_any}
+use Rattle.std.proofs.lemmas.List.{append-nil, drop-append-le, drop-drop, length-append, length-drop}
+use Rattle.p2p_directory.specs.Calls.{Setup, Grant, Event}
+use Rattle.p2p_directory.specs.declared.record.Status.TheVariants.{Inert, Reserved, Active}
+use Rattle.p2p_directory.specs.Calls.Event.{Nothing, Tracked, Granted, Connected, Released, Updated, Blocked, Expired}
+use Rattle.p2p_directory.specs.Moments.{cap}
+use Rattle.p2p_directory.specs.History
+use Rattle.p2p_directory.specs.History.{last_of, last_with, found_with, last_unless_ended, unless_ended}
+use Rattle.p2p_directory.specs.Step
+
+-- RETAINED SETS
+
+last_of-push : {A : Type 0} (n : ℕ) (xs : List A) (y : A) → last_of n (xs ++ y ∷ []) ≡ last_of n (last_of n xs ++ y ∷ [])
+last_of-push {A} n xs y =
+    let k : ℕ = length xs - n in
+    let inner : drop k xs ++ y ∷ [] ≡ drop k (xs ++ y ∷ []) = sym (drop-append-le k xs (y ∷ []) (omega arith)) in
+    let size : k + (length (drop k xs ++ y ∷ []) - n) ≡ length (xs ++ y ∷ []) - n = omega (arith, length-append (drop k xs) (y ∷ []), length-drop k xs, length-append xs (y ∷ [])) in
+    sym (ap (λ ys. drop (length (drop k xs ++ y ∷ []) - n) ys) inner ∙ drop-drop (length (drop k xs ++ y ∷ []) - n) k (xs ++ y ∷ []) ∙ ap (λ m. drop m (xs ++ y ∷ [])) size)
+
+-- WHAT LASTS, after one more event
+
+abbrev lasted : {A : Type 0} → Option A → (A → Bool) → Option A → Option A
+lasted (Some a) ended old = Some a
+lasted None ended None = None
+lasted None ended (Some a) = if ended a then None else Some a
+
+lasted_none : {A : Type 0} (old : Option A) → lasted None (λ a. false) old ≡ old
+lasted_none None = refl
+lasted_none (Some a) = refl
+
+lasting_step : {E A : Type 0} (gives : E → Option A) (ends : A → E → Bool) (e : E) (h : List E) →
+    last_unless_ended gives ends (e ∷ h) ≡ lasted (gives e) (λ a. ends a e) (last_unless_ended gives ends h)
+lasting_step {E} {A} gives ends e h = go (gives e) (last_with gives h)
+  where
+    go : (given : Option A) (found : Option (A × List E)) → unless_ended ends (found_with given e found) ≡ lasted given (λ a. ends a e) (unless_ended ends found)
+    go (Some a) found = refl
+    go None None = refl
+    go None (Some found) = ended found.0 (list_any (ends found.0) found.1)
+      where
+        ended : (a : A) (c : Bool) → (if ends a e || c then None else Some a) ≡ lasted None (λ x. ends x e) (if c then None else Some a)
+        ended a true = elim (ends a e) as (λ b. (if b || true then None else Some a) ≡ None) [ true ↦ refl | false ↦ refl ]
+        ended a false = elim (ends a e) as (λ b. (if b || false then None else Some a) ≡ (if b then None else Some a)) [ true ↦ refl | false ↦ refl ]
+
+module _ {C S : Type 0} (s : Setup C S) where
+  pub retained_step : (e : Event C S) (h : List (Event C S)) → History.retained_sets s (e ∷ h) ≡ Step.sets_after s e (History.retained_sets s h)
+  retained_step (Tracked taken) h = last_of-push s.max_sets (History.taken_sets s h) taken
+  retained_step Nothing h = ap (last_of s.max_sets) (append-nil (History.taken_sets s h))
+  retained_step (Granted q grant) h = ap (last_of s.max_sets) (append-nil (History.taken_sets s h))
+  retained_step (Connected q dialer) h = ap (last_of s.max_sets) (append-nil (History.taken_sets s h))
+  retained_step (Released q direction) h = ap (last_of s.max_sets) (append-nil (History.taken_sets s h))
+  retained_step (Updated infos) h = ap (last_of s.max_sets) (append-nil (History.taken_sets s h))
+  retained_step (Blocked q t) h = ap (last_of s.max_sets) (append-nil (History.taken_sets s h))
+  retained_step (Expired t) h = ap (last_of s.max_sets) (append-nil (History.taken_sets s h))
+
+  -- STATUS
+
+  -- an event that is no grant
+  other_status : (p : C) (e : Event C S) (found : Option (Grant × List (Event C S))) →
+      History.status_since s p (found_with None e found)
+      ≡ (if History.is_release s p e then Inert else if History.is_connect s p e then Step.status_connected s (History.status_since s p found) else History.status_since s p found)
+  other_status p e None = none (History.is_release s p e) (History.is_connect s p e)
+    where
+      none : (r c : Bool) → Inert ≡ (if r then Inert else if c then Inert else Inert)
+      none true c = refl
+      none false true = refl
+      none false false = refl
+  other_status p e (Some found) = some (History.is_release s p e) (History.is_connect s p e) (list_any (History.is_release s p) found.1) (list_any (History.is_connect s p) found.1)
+    where
+      some : (r c rs cs : Bool) → (if r || rs then Inert else if c || cs then Active else Reserved)
+          ≡ (if r then Inert else if c then Step.status_connected s (if rs then Inert else if cs then Active else Reserved) else if rs then Inert else if cs then Active else Reserved)
+      some true c rs cs = refl
+      some false true true cs = refl
+      some false true false true = refl
+      some false true false false = refl
+      some false false rs cs = refl
+
+  pub status_step : (p : C) (e : Event C S) (h : List (Event C S)) → History.status_at s p (e ∷ h) ≡ Step.status_after s p e (History.status_at s p h)
+  status_step p (Granted q grant) h = go (History.same s q p)
+    where
+      go : (b : Bool) → History.status_since s p (found_with (if b then Some grant else None) (Granted q grant) (last_with (History.grant_by s p) h)) ≡ (if b then Reserved else History.status_at s p h)
+      go true = refl
+      go false = other_status p (Granted q grant) (last_with (History.grant_by s p) h)
+  status_step p Nothing h = other_status p Nothing (last_with (History.grant_by s p) h)
+  status_step p (Tracked taken) h = other_status p (Tracked taken) (last_with (History.grant_by s p) h)
+  status_step p (Connected q dialer) h = other_status p (Connected q dialer) (last_with (History.grant_by s p) h)
+  status_step p (Released q direction) h = other_status p (Released q direction) (last_with (History.grant_by s p) h)
+  status_step p (Updated infos) h = other_status p (Updated infos) (last_with (History.grant_by s p) h)
+  status_step p (Blocked q t) h = other_status p (Blocked q t) (last_with (History.grant_by s p) h)
+  status_step p (Expired t) h = other_status p (Expired t) (last_with (History.grant_by s p) h)
+
+  -- WHAT LASTS
+
+  held_step_of : (p : C) (e : Event C S) (h : List (Event C S)) →
+      History.held_at s p (e ∷ h) ≡ lasted (History.grant_by s p e) (λ grant. History.is_release s p e) (History.held_at s p h)
+  held_step_of p e h = lasting_step (History.grant_by s p) (λ grant. History.is_release s p) e h
+
+  pub held_step : (p : C) (e : Event C S) (h : List (Event C S)) → History.held_at s p (e ∷ h) ≡ Step.held_after s p e (History.held_at s p h)
+  held_step p (Granted q grant) h = held_step_of p (Granted q grant) h ∙ go (History.same s q p) (History.held_at s p h)
+    where
+      go : (b : Bool) (held : Option Grant) → lasted (if b then Some grant else None) (λ g. false) held ≡ (if b then Some grant else held)
+      go true held = refl
+      go false held = lasted_none held
+  held_step p (Released q direction) h = held_step_of p (Released q direction) h ∙ go (History.same s q p) (History.held_at s p h)
+    where
+      go : (b : Bool) (held : Option Grant) → lasted None (λ g. b) held ≡ (if b then None else held)
+      go true None = refl
+      go true (Some g) = refl
+      go false held = lasted_none held
+  held_step p (Connected q dialer) h = held_step_of p (Connected q dialer) h ∙ lasted_none (History.held_at s p h)
+  held_step p Nothing h = held_step_of p Nothing h ∙ lasted_none (History.held_at s p h)
+  held_step p (Tracked taken) h = held_step_of p (Tracked taken) h ∙ lasted_none (History.held_at s p h)
+  held_step p (Updated infos) h = held_step_of p (Updated infos) h ∙ lasted_none (History.held_at s p h)
+  held_step p (Blocked q t) h = held_step_of p (Blocked q t) h ∙ lasted_none (History.held_at s p h)
+  held_step p (Expired t) h = held_step_of p (Expired t) h ∙ lasted_none (History.held_at s p h)
+
+  unblock_step_of : (p : C) (e : Event C S) (h : List (Event C S)) →
+      History.unblock_at s p (e ∷ h) ≡ lasted (History.block_by s p e) (λ m. History.is_expiry s m e) (History.unblock_at s p h)
+  unblock_step_of p e h = lasting_step (History.block_by s p) (History.is_expiry s) e h
+
+  pub unblock_step : (p : C) (e : Event C S) (h : List (Event C S)) → History.unblock_at s p (e ∷ h) ≡ Step.unblock_after s p e (History.unblock_at s p h)
+  unblock_step p (Blocked q t) h = unblock_step_of p (Blocked q t) h ∙ go (History.same s q p) (History.unblock_at s p h)
+    where
+      go : (b : Bool) (moment : Option ℕ) → lasted (if b then Some (cap (t + s.block_duration)) else None) (λ m. false) moment ≡ (if b then Some (cap (t + s.block_duration)) else moment)
+      go true moment = refl
+      go false moment = lasted_none moment
+  unblock_step p (Expired t) h = unblock_step_of p (Expired t) h ∙ go (History.unblock_at s p h)
+    where
+      go : (moment : Option ℕ) → lasted None (λ m. nat_le m t) moment ≡ Step.unblock_after s p (Expired t) moment
+      go None = refl
+      go (Some m) = refl
+  unblock_step p Nothing h = unblock_step_of p Nothing h ∙ lasted_none (History.unblock_at s p h)
+  unblock_step p (Tracked taken) h = unblock_step_of p (Tracked taken) h ∙ lasted_none (History.unblock_at s p h)
+  unblock_step p (Granted q grant) h = unblock_step_of p (Granted q grant) h ∙ lasted_none (History.unblock_at s p h)
+  unblock_step p (Connected q dialer) h = unblock_step_of p (Connected q dialer) h ∙ lasted_none (History.unblock_at s p h)
+  unblock_step p (Released q direction) h = unblock_step_of p (Released q direction) h ∙ lasted_none (History.unblock_at s p h)
+  unblock_step p (Updated infos) h = unblock_step_of p (Updated infos) h ∙ lasted_none (History.unblock_at s p h)
+
+  -- a grant is held exactly where the status isn't inert
+  pub held_status : (p : C) (h : List (Event C S)) → is_some (History.held_at s p h) ≡ not (History.is_inert (History.status_at s p h))
+  held_status p h = go (last_with (History.grant_by s p) h)
+    where
+      some : (grant : Grant) (released connected : Bool) →
+          is_some (if released then None else Some grant) ≡ not (History.is_inert (if released then Inert else if connected then Active else Reserved))
+      some grant true connected = refl
+      some grant false true = refl
+      some grant false false = refl
+
+      go : (found : Option (Grant × List (Event C S))) → is_some (unless_ended (λ grant. History.is_release s p) found) ≡ not (History.is_inert (History.status_since s p found))
+      go None = refl
+      go (Some found) = some found.0 (list_any (History.is_release s p) found.1) (list_any (History.is_connect s p) found.1)

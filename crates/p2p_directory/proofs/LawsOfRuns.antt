@@ -1,0 +1,9 @@
+-- Laws of whole runs.
+pub mod Isolation
+pub mod Ordered
+pub mod Bounded
+pub mod Spacing
+pub mod Dialled
+pub mod Quiet
+pub mod GrantRuns
+pub mod Forgotten

@@ -1,0 +1,252 @@
+-- What concerns others leaves p as it was.
+use Rattle.std.proofs.Common.{◌≡◌, ℕ, suc, ◌+◌, ◌≤◌, Bool, true, false, cond, not, ◌&&◌, List, [], ◌∷◌, Option, Some, None, refl, sym, ◌∙◌, ap, subst}
+use Rattle.std.specs.Prelude.{if◌then◌else◌, filter, nat_lt}
+use Rattle.std.proofs.lemmas.Bool.{not-true, not-false}
+use Rattle.p2p_discovery.specs.declared.types.ingress.Ingress.{Ingress}
+use Rattle.p2p_directory.specs.declared.record.Status.{Status}
+use Rattle.p2p_directory.specs.Calls.{Setup, Question, Call, SetAt, Grant, Event}
+use Rattle.p2p_directory.specs.Calls.Call.{Track, Dial, Listen, Connect, Release, Update, Block, UnblockExpired, Ask}
+use Rattle.p2p_directory.specs.declared.record.Status.TheVariants.{Inert, Reserved, Active}
+use Rattle.p2p_directory.specs.Calls.Event.{Nothing, Tracked, Granted, Connected, Released, Updated, Blocked, Expired}
+use Rattle.p2p_directory.specs.Moments.{cap, jitter}
+use Rattle.p2p_directory.specs.History
+use Rattle.p2p_directory.specs.World
+use Rattle.p2p_directory.specs.Step
+use Rattle.p2p_directory.specs.World.{Known, Peer, World}
+use Rattle.p2p_directory.specs.Answers
+use Rattle.p2p_directory.specs.Laws.Isolation.{SameFor, AnswersAlike, is_on_another, narrowed, left_for}
+use Rattle.p2p_directory.proofs.Definitions.Knowledge
+use Rattle.p2p_directory.proofs.Definitions.Law
+
+filter_again : {A : Type 0} (test : A → Bool) (xs : List A) → filter test (filter test xs) ≡ filter test xs
+filter_again test [] = refl
+filter_again test (x ∷ xs) = go (filter_again test xs) (test x) refl
+  where
+    go : filter test (filter test xs) ≡ filter test xs → (b : Bool) → test x ≡ b → filter test (cond b (x ∷ filter test xs) (filter test xs)) ≡ cond b (x ∷ filter test xs) (filter test xs)
+    go again true e = ap (λ b. cond b (x ∷ filter test (filter test xs)) (filter test (filter test xs))) e ∙ ap (λ ys. x ∷ ys) again
+    go again false e = again
+
+module _ {C S : Type 0} (s : Setup C S) where
+  -- where p is absent, all is forgotten
+  pub forgotten : (p : C) (h : List (Event C S)) → (if History.is_present s p h then World.known_in s p (History.life s p h) else Step.new_known s p) ≡ World.known_in s p (History.life s p h)
+  unfolding History.life
+  forgotten p [] = elim (History.is_present s p []) as (λ b. (if b then World.known_in s p [] else Step.new_known s p) ≡ World.known_in s p []) [ true ↦ refl | false ↦ sym (Knowledge.known_nothing s p) ]
+  forgotten p (e ∷ h) = go (History.is_present s p (e ∷ h))
+    where
+      go : (b : Bool) → (if b then World.known_in s p (if b then e ∷ History.life s p h else []) else Step.new_known s p) ≡ World.known_in s p (if b then e ∷ History.life s p h else [])
+      go true = refl
+      go false = sym (Knowledge.known_nothing s p)
+
+  -- an event on another peer
+  abbrev is_quiet : C → Event C S → Bool
+  is_quiet p Nothing = true
+  is_quiet p (Tracked taken) = false
+  is_quiet p (Granted q grant) = not (History.same s q p)
+  is_quiet p (Connected q dialer) = not (History.same s q p)
+  is_quiet p (Released q direction) = not (History.same s q p)
+  is_quiet p (Updated infos) = false
+  is_quiet p (Blocked q t) = not (History.same s q p)
+  is_quiet p (Expired t) = false
+
+  -- it leaves p as it was
+  sets_quiet : (p : C) (e : Event C S) (sets : List (SetAt C)) → is_quiet p e ≡ true → Step.sets_after s e sets ≡ sets
+  sets_quiet p (Tracked taken) sets quiet = absurd (cc)
+  sets_quiet p Nothing sets quiet = refl
+  sets_quiet p (Granted q grant) sets quiet = refl
+  sets_quiet p (Connected q dialer) sets quiet = refl
+  sets_quiet p (Released q direction) sets quiet = refl
+  sets_quiet p (Updated infos) sets quiet = refl
+  sets_quiet p (Blocked q t) sets quiet = refl
+  sets_quiet p (Expired t) sets quiet = refl
+
+  status_quiet : (p : C) (e : Event C S) (status : Status) → is_quiet p e ≡ true → Step.status_after s p e status ≡ status
+  status_quiet p (Granted q grant) status quiet = ap (λ b. if b then Reserved else status) (not-true (History.same s q p) quiet)
+  status_quiet p (Connected q dialer) status quiet = ap (λ b. if b then Step.status_connected s status else status) (not-true (History.same s q p) quiet)
+  status_quiet p (Released q direction) status quiet = ap (λ b. if b then Inert else status) (not-true (History.same s q p) quiet)
+  status_quiet p Nothing status quiet = refl
+  status_quiet p (Tracked taken) status quiet = refl
+  status_quiet p (Updated infos) status quiet = refl
+  status_quiet p (Blocked q t) status quiet = refl
+  status_quiet p (Expired t) status quiet = refl
+
+  held_quiet : (p : C) (e : Event C S) (held : Option Grant) → is_quiet p e ≡ true → Step.held_after s p e held ≡ held
+  held_quiet p (Granted q grant) held quiet = ap (λ b. if b then Some grant else held) (not-true (History.same s q p) quiet)
+  held_quiet p (Released q direction) held quiet = ap (λ b. if b then None else held) (not-true (History.same s q p) quiet)
+  held_quiet p (Connected q dialer) held quiet = refl
+  held_quiet p Nothing held quiet = refl
+  held_quiet p (Tracked taken) held quiet = refl
+  held_quiet p (Updated infos) held quiet = refl
+  held_quiet p (Blocked q t) held quiet = refl
+  held_quiet p (Expired t) held quiet = refl
+
+  known_quiet : (p : C) (e : Event C S) (k : Known C S) → is_quiet p e ≡ true → Step.known_after s p e k ≡ k
+  known_quiet p (Granted q grant) k quiet =
+      ap (λ b. if b then record k { reservable_at = cap (grant.t + s.cooldown); dial_at = cap (cap (grant.t + s.cooldown) + jitter grant.draw s.cooldown) } else k) (not-true (History.same s q p) quiet)
+  known_quiet p (Connected q dialer) k quiet = ap (λ b. if b && dialer then record k { fails = 0 } else k) (not-true (History.same s q p) quiet)
+  known_quiet p (Released q direction) k quiet = ap (λ b. if b && Step.is_failed_dial s k.info direction then record k { fails = suc k.fails } else k) (not-true (History.same s q p) quiet)
+  known_quiet p (Updated infos) k quiet = absurd (cc)
+  known_quiet p Nothing k quiet = refl
+  known_quiet p (Tracked taken) k quiet = refl
+  known_quiet p (Blocked q t) k quiet = refl
+  known_quiet p (Expired t) k quiet = refl
+
+  unblock_quiet : (p : C) (e : Event C S) (moment : Option ℕ) → is_quiet p e ≡ true → Step.unblock_after s p e moment ≡ moment
+  unblock_quiet p (Blocked q t) moment quiet = ap (λ b. if b then Some (cap (t + s.block_duration)) else moment) (not-true (History.same s q p) quiet)
+  unblock_quiet p (Expired t) moment quiet = absurd (cc)
+  unblock_quiet p Nothing moment quiet = refl
+  unblock_quiet p (Tracked taken) moment quiet = refl
+  unblock_quiet p (Granted q grant) moment quiet = refl
+  unblock_quiet p (Connected q dialer) moment quiet = refl
+  unblock_quiet p (Released q direction) moment quiet = refl
+  unblock_quiet p (Updated infos) moment quiet = refl
+
+  quiet_world : (p : C) (e : Event C S) (h : List (Event C S)) → is_quiet p e ≡ true → SameFor p (Step.world_with s e (World.world_at s h)) (World.world_at s h)
+  quiet_world p e h quiet = record {
+    sets = sets_quiet p e (History.retained_sets s h) quiet;
+    peer = λ i. record {
+      status = status_quiet p e (History.status_at s p h) quiet i;
+      known = ((λ j. if History.is_present_with s p (sets_quiet p e (History.retained_sets s h) quiet j) (status_quiet p e (History.status_at s p h) quiet j)
+          then known_quiet p e (World.known_in s p (History.life s p h)) quiet j else Step.new_known s p) ∙ forgotten p h) i;
+    };
+    unblock = unblock_quiet p e (History.unblock_at s p h) quiet;
+    held = held_quiet p e (History.held_at s p h) quiet;
+  }
+
+  -- a question leaves each peer as it was
+  pub asked_alike : (p : C) (question : Question C) (cs : List (Call C S)) → SameFor p (World.world_at s (World.past s (Ask question ∷ cs))) (World.world_at s (World.past s cs))
+  asked_alike p question cs = subst (λ u. SameFor p u (World.world_at s (World.past s cs))) (sym (Law.world_step s Nothing (World.past s cs))) (quiet_world p Nothing (World.past s cs) refl)
+
+  another_quiet : (p : C) (sets : List (SetAt C)) (w : World C S) (c : Call C S) → is_on_another s p c ≡ true → is_quiet p (World.event_in s sets w c) ≡ true
+  another_quiet p sets w (Dial q t draw) other = go _ _
+    where
+      go : (granted : Bool) (address : Option Ingress) → is_quiet p (World.dial_event s q t draw granted address) ≡ true
+      go granted None = refl
+      go true (Some a) = other
+      go false (Some a) = refl
+  another_quiet p sets w (Listen q t draw) other = go _
+    where
+      go : (granted : Bool) → is_quiet p (World.listen_event s q t draw granted) ≡ true
+      go true = other
+      go false = refl
+  another_quiet p sets w (Connect q dialer) other = go (w.peer q).status
+    where
+      go : (status : Status) → is_quiet p (World.connect_event s q dialer status) ≡ true
+      go Inert = refl
+      go Reserved = other
+      go Active = refl
+  another_quiet p sets w (Release q) other = go (w.held q)
+    where
+      go : (held : Option Grant) → is_quiet p (World.release_event s q held) ≡ true
+      go None = refl
+      go (Some grant) = other
+  another_quiet p sets w (Block q t) other = go _
+    where
+      go : (b : Bool) → is_quiet p (if b then Blocked q t else Nothing) ≡ true
+      go true = other
+      go false = refl
+  another_quiet p sets w (Track index primary secondary) other = absurd (cc)
+  another_quiet p sets w (Update infos) other = absurd (cc)
+  another_quiet p sets w (UnblockExpired t) other = absurd (cc)
+  another_quiet p sets w (Ask question) other = refl
+
+  -- WHAT CONCERNS p
+
+  after_alike : (p : C) (e : Event C S) (w v : World C S) → SameFor p w v → SameFor p (Step.world_with s e w) (Step.world_with s e v)
+  after_alike p e w v alike = record {
+    sets = ap (Step.sets_after s e) alike.sets;
+    peer = λ i. Step.peer_after s p e (Step.sets_after s e (alike.sets i)) (alike.peer i);
+    unblock = ap (Step.unblock_after s p e) alike.unblock;
+    held = ap (Step.held_after s p e) alike.held;
+  }
+
+  at_key : (p q : C) (w v : World C S) → History.IsExact s → not (History.same s q p) ≡ false → SameFor p w v → SameFor q w v
+  at_key p q w v exact e alike = subst (λ x. SameFor x w v) (sym (exact q p (not-false (History.same s q p) e))) alike
+
+  pub does_alike : (p : C) (w v : World C S) (c : Call C S) → History.IsExact s → SameFor p w v → is_on_another s p c ≡ false → World.event_in s w.sets w c ≡ World.event_in s v.sets v c
+  does_alike p w v (Track index primary secondary) exact alike mine = ap (λ sets. World.track_event s sets index primary secondary) alike.sets
+  does_alike p w v (Dial q t draw) exact alike mine =
+      let a = at_key p q w v exact mine alike in
+      λ i. World.dial_event s q t draw (World.may_dial s q t (a.sets i) (a.peer i) (a.unblock i)) (World.address_with s q (a.peer i).known.info)
+  does_alike p w v (Listen q t draw) exact alike mine =
+      let a = at_key p q w v exact mine alike in
+      λ i. World.listen_event s q t draw (World.may_listen s q t (a.sets i) (a.peer i) (a.unblock i))
+  does_alike p w v (Connect q dialer) exact alike mine =
+      let a = at_key p q w v exact mine alike in λ i. World.connect_event s q dialer (a.peer i).status
+  does_alike p w v (Release q) exact alike mine =
+      let a = at_key p q w v exact mine alike in λ i. World.release_event s q (a.held i)
+  does_alike p w v (Block q t) exact alike mine =
+      let a = at_key p q w v exact mine alike in λ i. if not (History.is_own s q) && not (World.is_blocked (a.unblock i) t) then Blocked q t else Nothing
+  does_alike p w v (Update infos) exact alike mine = refl
+  does_alike p w v (UnblockExpired t) exact alike mine = refl
+  does_alike p w v (Ask question) exact alike mine = refl
+
+  -- an update changes p by p's infos alone
+  pub narrowed_alike : (p : C) (w : World C S) (c : Call C S) → SameFor p (Step.step s w c) (Step.step s w (narrowed s p c))
+  narrowed_alike p w (Update infos) = record {
+    sets = refl;
+    peer = ap (λ is. record (Step.peer_after s p (Updated infos) w.sets (w.peer p)) {
+      known = if History.is_present_with s p w.sets (w.peer p).status then (if History.is_own s p then (w.peer p).known else Step.known_with_infos s (w.peer p).known is) else Step.new_known s p;
+    })
+        (sym (filter_again (λ i. History.same s i.public_key p) infos));
+    unblock = refl;
+    held = refl;
+  }
+  narrowed_alike p w (Track index primary secondary) = record { sets = refl; peer = refl; unblock = refl; held = refl }
+  narrowed_alike p w (Dial q t draw) = record { sets = refl; peer = refl; unblock = refl; held = refl }
+  narrowed_alike p w (Listen q t draw) = record { sets = refl; peer = refl; unblock = refl; held = refl }
+  narrowed_alike p w (Connect q dialer) = record { sets = refl; peer = refl; unblock = refl; held = refl }
+  narrowed_alike p w (Release q) = record { sets = refl; peer = refl; unblock = refl; held = refl }
+  narrowed_alike p w (Block q t) = record { sets = refl; peer = refl; unblock = refl; held = refl }
+  narrowed_alike p w (UnblockExpired t) = record { sets = refl; peer = refl; unblock = refl; held = refl }
+  narrowed_alike p w (Ask question) = record { sets = refl; peer = refl; unblock = refl; held = refl }
+
+  pub joined : (p : C) (u v w : World C S) → SameFor p u v → SameFor p v w → SameFor p u w
+  joined p u v w a b = record { sets = a.sets ∙ b.sets; peer = a.peer ∙ b.peer; unblock = a.unblock ∙ b.unblock; held = a.held ∙ b.held }
+
+  -- a call that isn't on another peer, with other infos left out
+  step_alike : (p : C) (w v : World C S) (c : Call C S) → History.IsExact s → SameFor p w v → is_on_another s p c ≡ false → SameFor p (Step.step s w c) (Step.step s v (narrowed s p c))
+  step_alike p w v c exact alike mine =
+      joined p (Step.step s w c) (Step.step s v c) (Step.step s v (narrowed s p c))
+      (subst (λ e. SameFor p (Step.step s w c) (Step.world_with s e v)) (does_alike p w v c exact alike mine) (after_alike p (World.event_in s w.sets w c) w v alike))
+      (narrowed_alike p v c)
+
+  -- a call on another peer leaves p as it was
+  pub another_alike : 1 ≤ s.max_sets → (p : C) (c : Call C S) (cs : List (Call C S)) → is_on_another s p c ≡ true →
+      SameFor p (World.world_at s (World.past s (c ∷ cs))) (World.world_at s (World.past s cs))
+  another_alike some p c cs e =
+      let w = World.world_at s (World.past s cs) in
+      subst (λ u. SameFor p u w) (sym (Law.recomputed_is_one_step s some cs c))
+      (quiet_world p (World.event_in s w.sets w c) (World.past s cs) (another_quiet p w.sets w c e))
+
+  isolated_step : 1 ≤ s.max_sets → History.IsExact s → (p : C) (c : Call C S) (cs ds : List (Call C S)) → SameFor p (World.world_at s (World.past s cs)) (World.world_at s (World.past s ds)) →
+      (b : Bool) → is_on_another s p c ≡ b → SameFor p (World.world_at s (World.past s (c ∷ cs))) (World.world_at s (World.past s (if b then ds else narrowed s p c ∷ ds)))
+  isolated_step some exact p c cs ds alike true e =
+      joined p (World.world_at s (World.past s (c ∷ cs))) (World.world_at s (World.past s cs)) (World.world_at s (World.past s ds))
+      (another_alike some p c cs e) alike
+  isolated_step some exact p c cs ds alike false e =
+      subst (λ u. SameFor p u (World.world_at s (World.past s (narrowed s p c ∷ ds)))) (sym (Law.recomputed_is_one_step s some cs c))
+      (subst (λ v. SameFor p (Step.step s (World.world_at s (World.past s cs)) c) v) (sym (Law.recomputed_is_one_step s some ds (narrowed s p c)))
+      (step_alike p (World.world_at s (World.past s cs)) (World.world_at s (World.past s ds)) c exact alike e))
+
+  pub isolated : 1 ≤ s.max_sets → History.IsExact s → (p : C) (cs : List (Call C S)) → SameFor p (World.world_at s (World.past s cs)) (World.world_at s (World.past s (left_for s p cs)))
+  isolated some exact p [] = record { sets = refl; peer = refl; unblock = refl; held = refl }
+  isolated some exact p (c ∷ cs) = isolated_step some exact p c cs (left_for s p cs) (isolated some exact p cs) (is_on_another s p c) refl
+
+  pub answers_alike : History.IsExact s → (p : C) (w v : World C S) → SameFor p w v → AnswersAlike s p w v
+  answers_alike exact p w v a = record {
+    present = λ i. History.is_present_with s p (a.sets i) (a.peer i).status;
+    status = λ i. if History.is_present_with s p (a.sets i) (a.peer i).status then Some (a.peer i).status else None;
+    info = λ i. Answers.sharable_of s p (a.peer i);
+    wanted = λ i. Answers.wants s p (a.peer i);
+    blocked = λ t i. World.is_blocked (a.unblock i) t;
+    eligible = λ t i. History.is_entitled s p (a.sets i) && not (World.is_blocked (a.unblock i) t);
+    acceptable = λ t i. History.is_entitled s p (a.sets i) && not (World.is_blocked (a.unblock i) t) && History.is_inert (a.peer i).status;
+    dialable = λ t i. Answers.is_dialable_with s p t (a.sets i) (a.peer i) (a.unblock i);
+    query = λ t i. if World.is_blocked (a.unblock i) t then (if History.is_present_with s p (a.sets i) (a.peer i).status then a.unblock i else None)
+        else if Answers.is_target s p (a.sets i) (a.peer i) && nat_lt t (a.peer i).known.dial_at then Some (a.peer i).known.dial_at
+        else None;
+    does = λ c mine. does_alike p w v c exact a mine;
+  }
+
+  pub torn_down_alike : (p : C) (w v w2 v2 : World C S) → SameFor p w w2 → SameFor p v v2 → Answers.is_torn_down s w v p ≡ Answers.is_torn_down s w2 v2 p
+  torn_down_alike p w v w2 v2 a b = λ i. not (History.is_inert (a.peer i).status) && History.is_entitled s p (a.sets i) && not (History.is_entitled s p (b.sets i))

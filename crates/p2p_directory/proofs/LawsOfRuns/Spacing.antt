@@ -1,0 +1,235 @@
+-- Grants keep the cooldown within a life, and blocks over all lives.
+use Rattle.std.proofs.Common.{◌≡◌, ℕ, ◌+◌, ◌≤◌, max, Bool, true, false, not, ◌&&◌, List, [], ◌∷◌, ◌++◌, Option, Some, None, refl, sym, subst, arith}
+use Rattle.std.specs.Prelude.{if◌then◌else◌, nat_lt, nat_le, option_to_list, filter}
+use Rattle.std.specs.List.{list_all}
+use Rattle.std.proofs.lemmas.Bool.{leb-true, ltb-false, not-true, and_parts}
+use Rattle.p2p_discovery.specs.declared.types.ingress.Ingress.{Ingress}
+use Rattle.p2p_directory.specs.declared.record.Status.{Status}
+use Rattle.p2p_directory.specs.Calls.{Setup, Call, SetAt, Grant, Event}
+use Rattle.p2p_directory.specs.Calls.Call.{Track, Dial, Listen, Connect, Release, Update, Block, UnblockExpired, Ask}
+use Rattle.p2p_directory.specs.declared.record.Status.TheVariants.{Inert, Reserved, Active}
+use Rattle.p2p_directory.specs.Calls.Event.{Nothing, Tracked, Granted, Connected, Released, Updated, Blocked, Expired}
+use Rattle.p2p_directory.specs.Moments.{cap}
+use Rattle.p2p_directory.specs.History
+use Rattle.p2p_directory.specs.History.{last_with, found_with}
+use Rattle.p2p_directory.specs.World
+use Rattle.p2p_directory.specs.Step
+use Rattle.p2p_directory.specs.World.{Known, Peer, World}
+use Rattle.p2p_directory.specs.Laws.Grants.{grants_in, AreCooled, IsCooledAt, KeepsCooldown, moment_or, NeverGoBack, blocks_in, AreOver, IsOverAt, KeepsBlocks}
+use Rattle.p2p_directory.proofs.Definitions.Steps
+use Rattle.p2p_directory.proofs.Definitions.Knowledge
+
+module _ {C S : Type 0} (s : Setup C S) where
+  -- WHAT AN EVENT TELLS OF THE WORLD BEFORE IT
+
+  -- p's cooldown is over at t, and it isn't blocked
+  record IsFree (p : C) (w : World C S) (t : ℕ) : Type 0 where
+    cool : (w.peer p).known.reservable_at ≤ t
+    unblocked : World.is_blocked (w.unblock p) t ≡ false
+
+  -- an event of a call at t
+  abbrev Fits : World C S → ℕ → Event C S → Type 0
+  Fits w t (Granted q grant) = (grant.t ≡ t) × IsFree q w t
+  Fits w t (Blocked q u) = (u ≡ t) × (World.is_blocked (w.unblock q) t ≡ false)
+  Fits w t (Expired u) = u ≡ t
+  Fits w t _ = Unit {0}
+
+  is_free : (p : C) (w : World C S) (t : ℕ) → World.may_listen s p t w.sets (w.peer p) (w.unblock p) ≡ true → IsFree p w t
+  is_free p w t e =
+      let one = and_parts _ _ e in
+      let two = and_parts _ _ one.0 in
+      record { cool = leb-true (w.peer p).known.reservable_at t one.1; unblocked = not-true _ two.1 }
+
+  fits : (sets : List (SetAt C)) (w : World C S) (c : Call C S) (now : ℕ) → Fits w (moment_or s now c) (World.event_in s sets w c)
+  fits sets w (Track index primary secondary) now = go (list_all (λ x. nat_lt x.index index) sets)
+    where
+      go : (b : Bool) → Fits w now (if b then Tracked (record { index = index; primary = primary; secondary = filter (λ q. not (History.is_in s q primary)) secondary }) else Nothing)
+      go true = tt
+      go false = tt
+  fits sets w (Dial q t draw) now = go (World.may_dial s q t w.sets (w.peer q) (w.unblock q)) (World.address_with s q (w.peer q).known.info) refl
+    where
+      go : (granted : Bool) (address : Option Ingress) → World.may_dial s q t w.sets (w.peer q) (w.unblock q) ≡ granted → Fits w t (World.dial_event s q t draw granted address)
+      go granted None e = tt
+      go false (Some a) e = tt
+      go true (Some a) e = (refl, is_free q w t (and_parts _ _ (and_parts _ _ e).0).0)
+  fits sets w (Listen q t draw) now = go (World.may_listen s q t w.sets (w.peer q) (w.unblock q)) refl
+    where
+      go : (granted : Bool) → World.may_listen s q t w.sets (w.peer q) (w.unblock q) ≡ granted → Fits w t (World.listen_event s q t draw granted)
+      go true e = (refl, is_free q w t e)
+      go false e = tt
+  fits sets w (Connect q dialer) now = go (w.peer q).status
+    where
+      go : (status : Status) → Fits w now (World.connect_event s q dialer status)
+      go Inert = tt
+      go Reserved = tt
+      go Active = tt
+  fits sets w (Release q) now = go (w.held q)
+    where
+      go : (held : Option Grant) → Fits w now (World.release_event s q held)
+      go None = tt
+      go (Some grant) = tt
+  fits sets w (Update infos) now = tt
+  fits sets w (Block q t) now = go (not (History.is_own s q) && not (World.is_blocked (w.unblock q) t)) refl
+    where
+      go : (b : Bool) → (not (History.is_own s q) && not (World.is_blocked (w.unblock q) t)) ≡ b → Fits w t (if b then Blocked q t else Nothing)
+      go true e = (refl, not-true _ (and_parts _ _ e).1)
+      go false e = tt
+  fits sets w (UnblockExpired t) now = refl
+  fits sets w (Ask question) now = tt
+
+  -- a grant of p, at its call's moment
+  abbrev GrantFits : C → World C S → ℕ → Option Grant → Type 0
+  GrantFits p w t None = Unit {0}
+  GrantFits p w t (Some grant) = (grant.t ≡ t) × IsFree p w t
+
+  grant_fits : History.IsExact s → (p : C) (w : World C S) (t : ℕ) (e : Event C S) → Fits w t e → GrantFits p w t (History.grant_by s p e)
+  grant_fits exact p w t (Granted q grant) f = go (History.same s q p) refl
+    where
+      go : (b : Bool) → History.same s q p ≡ b → GrantFits p w t (if b then Some grant else None)
+      go true e = (f.0, subst (λ x. IsFree x w t) (exact q p e) f.1)
+      go false e = tt
+  grant_fits exact p w t Nothing f = tt
+  grant_fits exact p w t (Tracked taken) f = tt
+  grant_fits exact p w t (Connected q dialer) f = tt
+  grant_fits exact p w t (Released q direction) f = tt
+  grant_fits exact p w t (Updated infos) f = tt
+  grant_fits exact p w t (Blocked q u) f = tt
+  grant_fits exact p w t (Expired u) f = tt
+
+  -- the world before a further call, and what that call does
+  abbrev world_before : List (Call C S) → World C S
+  world_before cs = World.world_at s (World.past s cs)
+
+  abbrev event_of : Call C S → List (Call C S) → Event C S
+  event_of c cs = World.event_in s (History.taken_sets s (World.past s cs)) (world_before cs) c
+
+  call_fits : (c : Call C S) (cs : List (Call C S)) (now : ℕ) → Fits (world_before cs) (moment_or s now c) (event_of c cs)
+  call_fits c cs now = fits (History.taken_sets s (World.past s cs)) (world_before cs) c now
+
+  event_fits : History.IsExact s → (p : C) (c : Call C S) (cs : List (Call C S)) (now : ℕ) → GrantFits p (world_before cs) (moment_or s now c) (History.grant_by s p (event_of c cs))
+  event_fits exact p c cs now = grant_fits exact p (world_before cs) (moment_or s now c) (event_of c cs) (call_fits c cs now)
+
+  -- COOLDOWN
+
+  cooled_more : (gs : List Grant) (t u : ℕ) → t ≤ u → AreCooled s t gs → AreCooled s u gs
+  cooled_more [] t u le cooled = tt
+  cooled_more (g ∷ gs) t u le cooled = (omega (arith, cooled.0), cooled_more gs t u le cooled.1)
+
+  -- moments that are capped stay below a capped moment
+  cooled_capped : (gs : List Grant) (t : ℕ) → AreCooled s t gs → AreCooled s (cap (t + s.cooldown)) gs
+  cooled_capped [] t cooled = tt
+  cooled_capped (g ∷ gs) t cooled = (omega (arith, cooled.0), cooled_capped gs t cooled.1)
+
+  cooled_step : (p : C) (e : Event C S) (w : World C S) (l : List (Event C S)) (t : ℕ) (found : Option Grant) →
+      (w.peer p).known.reservable_at ≡ History.reservable_in s p l → GrantFits p w t found → AreCooled s (History.reservable_in s p l) (grants_in s p l) →
+      AreCooled s (History.reservable_after s (found_with found e (last_with (History.grant_by s p) l))) (option_to_list found ++ grants_in s p l)
+  cooled_step p e w l t None same f cooled = subst (λ n. AreCooled s n (grants_in s p l)) (sym (Knowledge.reservable_other s e (last_with (History.grant_by s p) l))) cooled
+  cooled_step p e w l t (Some grant) same f cooled =
+      (omega arith, cooled_capped (grants_in s p l) grant.t (cooled_more (grants_in s p l) (History.reservable_in s p l) grant.t (omega (arith, same, f.0, f.1.cool)) cooled))
+
+  -- when p may be reserved again, the cooldown after each grant of its life is over
+  cooled : History.IsExact s → (p : C) (cs : List (Call C S)) →
+      AreCooled s (History.reservable_in s p (History.life s p (World.past s cs))) (grants_in s p (History.life s p (World.past s cs)))
+  unfolding History.life
+  cooled exact p [] = tt
+  cooled exact p (c ∷ cs) = go (cooled exact p cs) (History.is_present s p (World.past s (c ∷ cs)))
+    where
+      go : AreCooled s (History.reservable_in s p (History.life s p (World.past s cs))) (grants_in s p (History.life s p (World.past s cs))) → (b : Bool) →
+          AreCooled s (History.reservable_in s p (if b then event_of c cs ∷ History.life s p (World.past s cs) else []))
+          (grants_in s p (if b then event_of c cs ∷ History.life s p (World.past s cs) else []))
+      go before true =
+          cooled_step p (event_of c cs) (world_before cs) (History.life s p (World.past s cs)) (moment_or s 0 c) (History.grant_by s p (event_of c cs))
+          refl (event_fits exact p c cs 0) before
+      go before false = tt
+
+  cooled_where : (p : C) (cs : List (Call C S)) (found : Option Grant) (t : ℕ) → GrantFits p (world_before cs) t found →
+      AreCooled s (History.reservable_in s p (History.life s p (World.past s cs))) (grants_in s p (History.life s p (World.past s cs))) →
+      IsCooledAt s found (grants_in s p (History.life s p (World.past s cs)))
+  cooled_where p cs None t f cooled = tt
+  cooled_where p cs (Some grant) t f cooled =
+      cooled_more (grants_in s p (History.life s p (World.past s cs))) (History.reservable_in s p (History.life s p (World.past s cs))) grant.t (omega (arith, f.0, f.1.cool)) cooled
+
+  -- a further call grants p only where the cooldown is over
+  pub next_cooled : History.IsExact s → (p : C) (c : Call C S) (cs : List (Call C S)) → IsCooledAt s (History.grant_by s p (event_of c cs)) (grants_in s p (History.life s p (World.past s cs)))
+  next_cooled exact p c cs = cooled_where p cs (History.grant_by s p (event_of c cs)) (moment_or s 0 c) (event_fits exact p c cs 0) (cooled exact p cs)
+
+  -- within a life, grants keep the cooldown
+  pub keeps_cooldown : History.IsExact s → (p : C) (cs : List (Call C S)) → KeepsCooldown s p (World.past s cs)
+  keeps_cooldown exact p [] = tt
+  keeps_cooldown exact p (c ∷ cs) = (next_cooled exact p c cs, keeps_cooldown exact p cs)
+
+  -- BLOCKS
+
+  -- now, or the end of a block that holds then
+  abbrev limit : ℕ → Option ℕ → ℕ
+  limit now None = now
+  limit now (Some m) = max now m
+
+  over_more : (ms : List ℕ) (t u : ℕ) → t ≤ u → AreOver s t ms → AreOver s u ms
+  over_more [] t u le over = tt
+  over_more (m ∷ ms) t u le over = (omega (arith, over.0), over_more ms t u le over.1)
+
+  limit_free : (t : ℕ) (o : Option ℕ) → World.is_blocked o t ≡ false → limit t o ≤ t
+  limit_free t None e = omega arith
+  limit_free t (Some m) e = omega (arith, ltb-false t m e)
+
+  limit_up : (t u : ℕ) (o : Option ℕ) → t ≤ u → limit t o ≤ limit u o
+  limit_up t u None le = le
+  limit_up t u (Some m) le = omega arith
+
+  -- each block taken before t is over by the later of t and the end of the block that is kept
+  abbrev AreKnown : C → List (Event C S) → ℕ → Type 0
+  AreKnown p h t = AreOver s (limit t (History.unblock_at s p h)) (blocks_in s p h)
+
+  known_later : (p : C) (h : List (Event C S)) (t now : ℕ) → t ≤ now → AreKnown p h t → AreKnown p h now
+  known_later p h t now le over = over_more (blocks_in s p h) (limit t (History.unblock_at s p h)) (limit now (History.unblock_at s p h)) (limit_up t now (History.unblock_at s p h) le) over
+
+  over_step : History.IsExact s → (p : C) (e : Event C S) (h : List (Event C S)) (t now : ℕ) → t ≤ now → Fits (World.world_at s h) t e → AreKnown p h t →
+      AreOver s (limit now (Step.unblock_after s p e (History.unblock_at s p h))) (blocks_in s p (e ∷ h))
+  over_step exact p (Blocked q u) h t now le f over = go (History.same s q p) refl
+    where
+      go : (b : Bool) → History.same s q p ≡ b →
+          AreOver s (limit now (if b then Some (cap (u + s.block_duration)) else History.unblock_at s p h))
+          (option_to_list (if b then Some (cap (u + s.block_duration)) else None) ++ blocks_in s p h)
+      go true e =
+          let free : World.is_blocked (History.unblock_at s p h) t ≡ false = subst (λ x. World.is_blocked (History.unblock_at s x h) t ≡ false) (exact q p e) f.1 in (
+            omega arith,
+            over_more (blocks_in s p h) (limit t (History.unblock_at s p h)) (max now (cap (u + s.block_duration))) (omega (arith, limit_free t (History.unblock_at s p h) free)) over,
+          )
+      go false e = known_later p h t now le over
+  over_step exact p (Expired u) h t now le f over = go (History.unblock_at s p h) over
+    where
+      go : (o : Option ℕ) → AreOver s (limit t o) (blocks_in s p h) → AreOver s (limit now (Step.unblock_after s p (Expired u) o)) (blocks_in s p h)
+      go None over = over_more (blocks_in s p h) t now le over
+      go (Some m) over = gone (nat_le m u) refl
+        where
+          gone : (b : Bool) → nat_le m u ≡ b → AreOver s (limit now (if b then None else Some m)) (blocks_in s p h)
+          gone true e = over_more (blocks_in s p h) (max t m) now (omega (arith, leb-true m u e, f)) over
+          gone false e = over_more (blocks_in s p h) (max t m) (max now m) (omega arith) over
+  over_step exact p Nothing h t now le f over = known_later p h t now le over
+  over_step exact p (Tracked taken) h t now le f over = known_later p h t now le over
+  over_step exact p (Granted q grant) h t now le f over = known_later p h t now le over
+  over_step exact p (Connected q dialer) h t now le f over = known_later p h t now le over
+  over_step exact p (Released q direction) h t now le f over = known_later p h t now le over
+  over_step exact p (Updated infos) h t now le f over = known_later p h t now le over
+
+  over : History.IsExact s → (p : C) (cs : List (Call C S)) (now : ℕ) → NeverGoBack s now cs → AreKnown p (World.past s cs) now
+  over exact p [] now on = tt
+  over exact p (c ∷ cs) now on =
+      subst (λ o. AreOver s (limit now o) (blocks_in s p (World.past s (c ∷ cs)))) (sym (Steps.unblock_step s p (event_of c cs) (World.past s cs)))
+      (over_step exact p (event_of c cs) (World.past s cs) (moment_or s now c) now on.0 (call_fits c cs now) (over exact p cs (moment_or s now c) on.1))
+
+  over_where : (p : C) (h : List (Event C S)) (found : Option Grant) (t : ℕ) → GrantFits p (World.world_at s h) t found → AreKnown p h t → IsOverAt s found (blocks_in s p h)
+  over_where p h None t f over = tt
+  over_where p h (Some grant) t f over =
+      over_more (blocks_in s p h) (limit t (History.unblock_at s p h)) grant.t (omega (arith, limit_free t (History.unblock_at s p h) f.1.unblocked, f.0)) over
+
+  -- a further call grants p only where its blocks are over
+  pub next_over : History.IsExact s → (p : C) (c : Call C S) (cs : List (Call C S)) (now : ℕ) → NeverGoBack s now (c ∷ cs) → IsOverAt s (History.grant_by s p (event_of c cs)) (blocks_in s p (World.past s cs))
+  next_over exact p c cs now on =
+      over_where p (World.past s cs) (History.grant_by s p (event_of c cs)) (moment_or s now c) (event_fits exact p c cs now) (over exact p cs (moment_or s now c) on.1)
+
+  -- where moments never go back, a block holds until its end, over all lives
+  pub keeps_blocks : History.IsExact s → (p : C) (cs : List (Call C S)) (now : ℕ) → NeverGoBack s now cs → KeepsBlocks s p (World.past s cs)
+  keeps_blocks exact p [] now on = tt
+  keeps_blocks exact p (c ∷ cs) now on = (next_over exact p c cs now on, keeps_blocks exact p cs (moment_or s now c) on.1)

@@ -1,0 +1,3 @@
+-- What a call changes of a directory is a step of the world that it refines.
+pub mod RecordOfPeer
+pub mod CallsRefine

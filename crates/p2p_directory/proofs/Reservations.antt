@@ -1,0 +1,5 @@
+-- What is held, and the commands of a run.
+pub mod Slots
+pub mod Holding
+pub mod Served
+pub mod Replies

@@ -1,0 +1,111 @@
+-- What each call leaves busy, and what is held of it.
+use Rattle.std.proofs.Common.{◌≡◌, ℕ, Bool, true, false, not, ◌&&◌, ◌||◌, Option, Some, None, refl, sym, ◌∙◌, ap, subst}
+use Rattle.std.specs.Prelude.{if◌then◌else◌, is_some, unwrap_or, nat_lt}
+use Rattle.std.specs.Option.{IsSomeAnd, option_map, option_map_or}
+use Rattle.std.specs.BTreeMap.{is_at}
+use Rattle.std.specs.declared.cmp.Ordering.{Ordering}
+use Rattle.std.proofs.lemmas.Map.Lookups.{CmpEqualImpliesEq}
+use Rattle.std.proofs.lemmas.Map.Views.{tells_apart}
+use Rattle.p2p_directory.specs.declared.record.ReserveResult.TheVariants as answer
+use Rattle.p2p_directory.specs.declared.record.Role.TheVariants.{Primary, Secondary}
+use Rattle.p2p_directory.specs.declared.directory.Metadata.{Metadata}
+use Rattle.p2p_directory.specs.Calls.{SetAt}
+use Rattle.p2p_directory.specs.History.{is_inert}
+use Rattle.p2p_directory.specs.Record.{RecordView, blank, is_myself, is_wanted, is_eligible, is_grant, may_come, reserved_record, with_counts, unless_deletable}
+use Rattle.p2p_directory.specs.PeerSets.{set_count}
+use Rattle.p2p_directory.specs.Directory.{DirectoryView, record_of, key_of, released_record, kept_after_release, IsBusy, ChangesRecord, Reserves, TakesSet}
+use Rattle.p2p_directory.specs.Held.{is_busy, AreHeld, after_release}
+
+module _ {C S : Type 0} where
+  -- what goes is not busy
+  stays_unless : (r : RecordView C S) → is_busy (unless_deletable r) ≡ not (is_inert r.status)
+  stays_unless r = go (is_wanted r) (is_inert r.status) refl
+    where
+      go : (wanted inert : Bool) → is_inert r.status ≡ inert → is_busy (if not wanted && inert then None else Some r) ≡ not (is_inert r.status)
+      go true inert e = refl
+      go false true e = ap not (sym e)
+      go false false e = refl
+
+  -- who is released is not busy
+  freed : (m : Metadata C S) (o : Option (RecordView C S)) → is_busy (after_release (Some m) o) ≡ false
+  freed m None = refl
+  freed m (Some r) = stays_unless (released_record m r)
+
+module _ {C S : Type 0} (cmp : C → C → Ordering) where
+  -- other sets leave all that is held as it was
+  with_sets : (p s : ℕ) (o : Option (RecordView C S)) → is_busy (unless_deletable (with_counts p s (unwrap_or o blank))) ≡ is_busy o
+  with_sets p s None = stays_unless (with_counts p s blank)
+  with_sets p s (Some r) = stays_unless (with_counts p s r)
+
+  pub held_by_track : (d d2 : DirectoryView C S) (set : SetAt C) (held : C → Option (Metadata C S)) → AreHeld cmp d held → TakesSet cmp d d2 set → AreHeld cmp d2 held
+  held_by_track d d2 set held agree change q =
+      agree q ∙ sym (ap is_busy (change.records q) ∙ with_sets (set_count cmp Primary q d2.sets) (set_count cmp Secondary q d2.sets) (record_of cmp d q))
+
+  -- one is held more
+  pub held_by_grant : CmpEqualImpliesEq cmp → (d d2 : DirectoryView C S) (p : C) (m : Metadata C S) (held held2 : C → Option (Metadata C S)) (now draw : ℕ) → AreHeld cmp d held
+      → option_map_or (may_come now) (record_of cmp d p) false ≡ true → Reserves cmp d d2 p now draw
+      → ((q : C) → held2 q ≡ (if is_at (cmp p) q then Some m else held q)) → AreHeld cmp d2 held2
+  held_by_grant exact d d2 p m held held2 now draw agree can change holds q = ap is_some (holds q) ∙ go (is_at (cmp p) q) refl ∙ sym (ap is_busy (change.records q))
+    where
+      there : (o : Option (RecordView C S)) → option_map_or (may_come now) o false ≡ true → true ≡ is_busy (option_map (reserved_record now draw d.config.cooldown) o)
+      there None f = absurd cc
+      there (Some r) f = refl
+
+      go : (b : Bool) → is_at (cmp p) q ≡ b → is_some (if b then Some m else held q)
+          ≡ is_busy (if b then option_map (reserved_record now draw d.config.cooldown) (record_of cmp d q) else record_of cmp d q)
+      go true e = there (record_of cmp d q) (ap (λ k. option_map_or (may_come now) (record_of cmp d k) false) (sym (tells_apart exact p q e)) ∙ can)
+      go false e = agree q
+
+  -- one is held less
+  pub held_by_release : (d d2 : DirectoryView C S) (p : C) (m : Metadata C S) (held held2 : C → Option (Metadata C S)) → AreHeld cmp d held
+      → ChangesRecord cmp d d2 p (kept_after_release m)
+      → ((q : C) → held2 q ≡ (if is_at (cmp p) q then None else held q)) → AreHeld cmp d2 held2
+  held_by_release d d2 p m held held2 agree change holds q = ap is_some (holds q) ∙ go (is_at (cmp p) q) ∙ sym (ap is_busy (change.records q))
+    where
+      go : (b : Bool) → is_some (if b then None else held q) ≡ is_busy (if b then after_release (Some m) (record_of cmp d q) else record_of cmp d q)
+      go true = sym (freed m (record_of cmp d q))
+      go false = agree q
+
+  -- .. and the records that what is still held would leave are the same
+  pub given_back : CmpEqualImpliesEq cmp → (d d2 : DirectoryView C S) (p : C) (m : Metadata C S) (held held2 : C → Option (Metadata C S)) → held p ≡ Some m
+      → ChangesRecord cmp d d2 p (kept_after_release m)
+      → ((q : C) → held2 q ≡ (if is_at (cmp p) q then None else held q))
+      → (q : C) → after_release (held2 q) (record_of cmp d2 q) ≡ after_release (held q) (record_of cmp d q)
+  given_back exact d d2 p m held held2 is change holds q = (λ i. after_release (holds q i) (change.records q i)) ∙ go (is_at (cmp p) q) refl
+    where
+      go : (b : Bool) → is_at (cmp p) q ≡ b → after_release (if b then None else held q) (if b then after_release (Some m) (record_of cmp d q) else record_of cmp d q)
+          ≡ after_release (held q) (record_of cmp d q)
+      go true e = ap (λ o. after_release o (record_of cmp d q)) (sym is ∙ ap held (tells_apart exact p q e))
+      go false e = refl
+
+  -- who is held has a record that is not inert
+  pub held_record : (d : DirectoryView C S) (held : C → Option (Metadata C S)) (q : C) (m : Metadata C S) → AreHeld cmp d held → held q ≡ Some m → key_of m ≡ q → IsBusy cmp d (key_of m)
+  held_record d held q m agree e key = subst (IsBusy cmp d) (sym key) (go (record_of cmp d q) (sym (agree q) ∙ ap is_some e))
+    where
+      live : (b : Bool) → not b ≡ true → b ≡ false
+      live true f = absurd cc
+      live false f = refl
+
+      go : (o : Option (RecordView C S)) → is_busy o ≡ true → IsSomeAnd o (λ r. is_inert r.status ≡ false)
+      go None f = absurd cc
+      go (Some r) f = live (is_inert r.status) f
+
+  -- of whom may be reserved nothing is held
+  pub none_held : (d : DirectoryView C S) (held : C → Option (Metadata C S)) (p : C) (now : ℕ) → AreHeld cmp d held
+      → option_map_or (may_come now) (record_of cmp d p) false ≡ true → held p ≡ None
+  none_held d held p now agree can = none (held p) (agree p ∙ free (record_of cmp d p) can)
+    where
+      none : (o : Option (Metadata C S)) → is_some o ≡ false → o ≡ None
+      none None e = refl
+      none (Some m) e = absurd cc
+
+      inert : (eligible own inert late : Bool) →
+          (eligible && is_grant (if own || not inert then answer.Unavailable else if late then answer.RateLimited else answer.Reserved)) ≡ true → not inert ≡ false
+      inert eligible own true late e = refl
+      inert true true false late e = absurd cc
+      inert true false false late e = absurd cc
+      inert false own false late e = absurd cc
+
+      free : (o : Option (RecordView C S)) → option_map_or (may_come now) o false ≡ true → is_busy o ≡ false
+      free None f = absurd cc
+      free (Some r) f = inert (is_eligible r) (is_myself r.address) (is_inert r.status) (nat_lt now r.next_reservable_at) f

@@ -1,0 +1,71 @@
+-- One more reply.
+use Rattle.std.proofs.Common.{◌≡◌, ◌<◌, true, Option, List, [], ◌∷◌, ◌++◌, length, get_or, refl, sym, ◌∙◌, ap, subst, arith, append_assoc}
+use Rattle.std.proofs.lemmas.List.{append-nil, map-append, length-append}
+use Rattle.std.specs.List.{All}
+use Rattle.std.specs.declared.cmp.Ordering.{Ordering}
+use Rattle.p2p_directory.specs.declared.directory.Metadata.{Metadata}
+use Rattle.p2p_directory.specs.declared.run.commands.Command.{Command}
+use Rattle.p2p_directory.specs.declared.run.commands.Command.TheVariants as command
+use Rattle.p2p_directory.specs.Calls.{Setup, Call}
+use Rattle.p2p_directory.specs.declared.run.commands.Reply.{Reply}
+use Rattle.p2p_directory.specs.Private.Serving.{ServerView, has_room, StandsAt, IsServedAt}
+use Rattle.p2p_directory.specs.Private.Slots.{has_slot}
+use Rattle.p2p_directory.specs.Run.{call_of, calls_of, next, IsAnswer, accepted, AreAnswers}
+
+-- one more item was taken of a list that is gone through
+pub item_left : {A : Type 0} (before rest rest2 all : List A) (x : A) → before ++ rest ≡ all → rest ≡ x ∷ rest2 → length before < length all
+item_left before rest rest2 all x whole is = omega (arith, length-append before rest, ap length whole, ap length is)
+
+-- .. and all were taken
+pub all_moved : {A : Type 0} (before rest all : List A) → before ++ rest ≡ all → length rest ≡ 0 → before ≡ all
+all_moved before [] all whole none = sym (append-nil before) ∙ whole
+all_moved before (x ∷ rest) all whole none = absurd (omega (arith, none))
+
+pub item_moved : {A : Type 0} (before rest rest2 all : List A) (x : A) → before ++ rest ≡ all → rest ≡ x ∷ rest2 → (before ++ x ∷ []) ++ rest2 ≡ all
+item_moved before rest rest2 all x whole is = append_assoc before (x ∷ []) rest2 ∙ ap (λ ys. before ++ ys) (sym is) ∙ whole
+
+-- what is true of all is true of the one that was taken
+pub item_has : {A : Type 0} (P : A → Type 0) (before rest rest2 all : List A) (x : A) → before ++ rest ≡ all → rest ≡ x ∷ rest2 → All P all → P x
+item_has {A} P before rest rest2 all x whole is h =
+    let e = ap (λ ys. before ++ ys) (sym is) ∙ whole in
+    subst P (place before) (subst (All P) (sym e) h (length before) x (subst (λ ys. length before < length ys) (sym e) (item_left before rest rest2 all x whole is)))
+  where
+    place : (ys : List A) → get_or (ys ++ x ∷ rest2) (length ys) x ≡ x
+    place [] = refl
+    place (y ∷ ys) = place ys
+
+-- the slots are for the same peers
+pub room_stays : {C S : Type 0} (cmp : C → C → Ordering) (slots slots2 : List (C × Option (Metadata C S))) (x : Command C S) → ((q : C) → has_slot cmp slots2 q ≡ has_slot cmp slots q)
+    → has_room cmp slots x ≡ true → has_room cmp slots2 x ≡ true
+room_stays cmp slots slots2 (command.Listen peer now draw) same h = same peer ∙ h
+room_stays cmp slots slots2 (command.Track index peers) same h = refl
+room_stays cmp slots slots2 (command.Release peer) same h = refl
+room_stays cmp slots slots2 (command.Status peer) same h = refl
+room_stays cmp slots slots2 command.LatestSetIndex same h = refl
+
+module _ {C S : Type 0} (s : Setup C S) where
+  pub answers_push : (before cs : List (Call C S)) (rs : List (Reply C S)) (c : Call C S) (r : Reply C S) →
+      AreAnswers s before cs rs → IsAnswer s (accepted s before cs rs) c r → AreAnswers s before (cs ++ c ∷ []) (rs ++ r ∷ [])
+  answers_push before [] [] c r h last = (last, tt)
+  answers_push before [] (q ∷ rs) c r h last = absurd h
+  answers_push before (b ∷ cs) [] c r h last = absurd h
+  answers_push before (b ∷ cs) (q ∷ rs) c r h last = (h.0, answers_push (next s before b q) cs rs c r h.1 last)
+
+  pub accepted_push : (before cs : List (Call C S)) (rs : List (Reply C S)) (c : Call C S) (r : Reply C S) →
+      AreAnswers s before cs rs → accepted s before (cs ++ c ∷ []) (rs ++ r ∷ []) ≡ next s (accepted s before cs rs) c r
+  accepted_push before [] [] c r h = refl
+  accepted_push before [] (q ∷ rs) c r h = absurd h
+  accepted_push before (b ∷ cs) [] c r h = absurd h
+  accepted_push before (b ∷ cs) (q ∷ rs) c r h = accepted_push (next s before b q) cs rs c r h.1
+
+  -- one more command
+  pub one_more : (xs : List (Command C S)) (rs : List (Reply C S)) (x : Command C S) (r : Reply C S) (v : ServerView C S) →
+      AreAnswers s [] (calls_of xs) rs → IsServedAt s (accepted s [] (calls_of xs) rs) (call_of x) r v →
+      AreAnswers s [] (calls_of (xs ++ x ∷ [])) (rs ++ r ∷ []) × StandsAt s (accepted s [] (calls_of (xs ++ x ∷ [])) (rs ++ r ∷ [])) v
+  one_more xs rs x r v answers done =
+      let grown : calls_of (xs ++ x ∷ []) ≡ calls_of xs ++ call_of x ∷ [] = map-append call_of xs (x ∷ []) in
+      let led : accepted s [] (calls_of (xs ++ x ∷ [])) (rs ++ r ∷ []) ≡ next s (accepted s [] (calls_of xs) rs) (call_of x) r =
+      ap (λ cs. accepted s [] cs (rs ++ r ∷ [])) grown ∙ accepted_push [] (calls_of xs) rs (call_of x) r answers in (
+        subst (λ cs. AreAnswers s [] cs (rs ++ r ∷ [])) (sym grown) (answers_push [] (calls_of xs) rs (call_of x) r answers done.answer),
+        subst (λ cs. StandsAt s cs v) (sym led) done.left,
+      )

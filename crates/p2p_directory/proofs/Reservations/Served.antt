@@ -1,0 +1,259 @@
+-- Serving one command answers by the calls accepted before, and leads to the world with it.
+use Rattle.std.proofs.Common.{◌≡◌, ℕ, ◌≤◌, Bool, true, false, not, ◌||◌, List, [], ◌∷◌, Option, Some, None, refl, sym, ◌∙◌, ap, subst}
+use Rattle.std.specs.Prelude.{if◌then◌else◌, nat_lt, is_some}
+use Rattle.std.specs.List.{list_all}
+use Rattle.std.specs.Option.{option_map, option_map_or}
+use Rattle.std.specs.BTreeMap.{is_at}
+use Rattle.std.specs.declared.cmp.Ordering.TheVariants.{Equal}
+use Rattle.std.proofs.lemmas.Map.Views.{tells_apart}
+use Rattle.p2p_directory.specs.declared.directory.Metadata.{Metadata}
+use Rattle.p2p_directory.specs.declared.directory.Metadata.TheVariants as metadata
+use Rattle.p2p_directory.specs.declared.record.Status.{Status}
+use Rattle.p2p_directory.specs.declared.record.Status.TheVariants.{Inert, Reserved, Active}
+use Rattle.p2p_directory.specs.declared.run.commands.Reply.TheVariants as reply
+use Rattle.p2p_directory.specs.Calls.{Setup, Call, Event, Direction, Grant}
+use Rattle.p2p_directory.specs.Calls.Call.{Track, Listen, Release, Ask}
+use Rattle.p2p_directory.specs.Calls.Question.{StatusOf, LatestIndex}
+use Rattle.p2p_directory.specs.Calls.Direction.{Listener}
+use Rattle.p2p_directory.specs.Calls.Event.{Nothing, Tracked, Granted, Released}
+use Rattle.p2p_directory.specs.History
+use Rattle.p2p_directory.specs.History.{is_inert}
+use Rattle.p2p_directory.specs.World
+use Rattle.p2p_directory.specs.World.{World, event_in}
+use Rattle.p2p_directory.specs.Step.{world_with, new_known, unblock_after}
+use Rattle.p2p_directory.specs.Answers.{is_present_in, was_taken, was_granted}
+use Rattle.p2p_directory.specs.Record.{RecordView, may_come}
+use Rattle.p2p_directory.specs.PeerSets.{set_of, latest_index, is_above}
+use Rattle.p2p_directory.specs.Directory.{DirectoryView, record_of, first_record, kept_after_release, ChangesRecord, Reserves, TakesSet, AreTornDown}
+use Rattle.p2p_directory.specs.Held.{is_busy, AreHeld}
+use Rattle.p2p_directory.specs.Private.Serving.{ServerView, StandsAt, IsServedAt}
+use Rattle.p2p_directory.specs.Private.Slots.{held_in}
+use Rattle.p2p_directory.specs.Refinement.{Refines, config_of, record_in, metadata_of}
+use Rattle.p2p_directory.specs.Run.{world_after, event_of, Holds}
+use Rattle.p2p_directory.proofs.Definitions.Law
+use Rattle.p2p_directory.proofs.LawsOfRuns.Forgotten
+use Rattle.p2p_directory.proofs.Refinement.CallsRefine
+
+module _ {C S : Type 0} (s : Setup C S) where
+  -- a reservation is held exactly of the peers that are reserved or connected
+  pub are_held : (w : World C S) (d : DirectoryView C S) (h : C → Option (Metadata C S)) → Refines s w d → Holds s w h → AreHeld s.cmp d h
+  are_held w d h stands holds q =
+      holds.peers q ∙ sym (ap is_busy (stands.records q) ∙ go (History.is_persistent s q || History.is_named s q w.sets) (w.peer q).status refl)
+    where
+      shown : Status → RecordView C S
+      shown status = record (record_in s w q) { status = status }
+
+      go : (wanted : Bool) (status : Status) → (w.peer q).status ≡ status →
+          is_busy (if wanted || not (is_inert status) then Some (shown status) else None) ≡ not (is_inert status)
+      go true Inert e = refl
+      go true Reserved e = refl
+      go true Active e = refl
+      go false Inert e = refl
+      go false Reserved e = refl
+      go false Active e = refl
+
+  -- what does nothing changes nothing, where all of an absent peer is forgotten
+  nothing_changes : (w : World C S) → ((p : C) → is_present_in s w p ≡ false → (w.peer p).known ≡ new_known s p) → world_with s Nothing w ≡ w
+  nothing_changes w forgotten = λ i. record {
+    state = record {
+      sets = w.sets;
+      peer = λ p. record { status = (w.peer p).status; known = go p (is_present_in s w p) refl i };
+      unblock = w.unblock;
+    };
+    held = w.held;
+  }
+    where
+      go : (p : C) (b : Bool) → is_present_in s w p ≡ b → (if b then (w.peer p).known else new_known s p) ≡ (w.peer p).known
+      go p true e = refl
+      go p false e = sym (forgotten p e)
+
+  module _ (some : 1 ≤ s.max_sets) (exact : (p q : C) → s.cmp p q ≡ Equal → p ≡ q) where
+    -- what a further call does, held against the retained sets
+    event : (cs : List (Call C S)) (c : Call C S) (e : Event C S) → event_in s (world_after s cs).sets (world_after s cs) c ≡ e → event_of s cs c ≡ e
+    event cs c e is = Law.does_same s cs c some ∙ is
+
+    -- the world with it
+    world_of_call : (cs : List (Call C S)) (c : Call C S) (e : Event C S) → event_in s (world_after s cs).sets (world_after s cs) c ≡ e → world_after s (c ∷ cs) ≡ world_with s e (world_after s cs)
+    world_of_call cs c e is = Law.recomputed_is_one_step s some cs c ∙ ap (λ e. world_with s e (world_after s cs)) is
+
+    stands_with : (cs : List (Call C S)) (c : Call C S) (e : Event C S) (v : ServerView C S) → ((p : C) → unblock_after s p e ((world_after s cs).unblock p) ≡ None) → event_in s (world_after s cs).sets (world_after s cs) c ≡ e →
+        Refines s (world_with s e (world_after s cs)) v.directory → Holds s (world_with s e (world_after s cs)) (held_in s.cmp v.slots) → StandsAt s (c ∷ cs) v
+    stands_with cs c e v unblocked is stands holds =
+        let back = sym (world_of_call cs c e is) in
+        record { refines = subst (λ w. Refines s w v.directory) back stands; unblocked = subst (λ (w : World C S). (p : C) → w.unblock p ≡ None) back unblocked; holds = subst (λ w. Holds s w (held_in s.cmp v.slots)) back holds }
+
+    -- where nothing changes
+    pub same_views : (cs : List (Call C S)) (v v2 : ServerView C S) → v2.directory ≡ v.directory → ((q : C) → held_in s.cmp v2.slots q ≡ held_in s.cmp v.slots q) → StandsAt s cs v → StandsAt s cs v2
+    same_views cs v v2 directory held at = record {
+      refines = subst (Refines s (world_after s cs)) (sym directory) at.refines;
+      unblocked = at.unblocked;
+      holds = record { peers = λ q. ap is_some (held q) ∙ at.holds.peers q; metadata = λ q. held q ∙ at.holds.metadata q };
+    }
+
+    -- a call that does nothing
+    idle : (cs : List (Call C S)) (c : Call C S) (v v2 : ServerView C S) → event_in s (world_after s cs).sets (world_after s cs) c ≡ Nothing →
+        v2.directory ≡ v.directory → v2.slots ≡ v.slots → StandsAt s cs v → StandsAt s (c ∷ cs) v2
+    idle cs c v v2 is directory slots at =
+        let now = same_views cs v v2 directory (λ q. ap (λ slots. held_in s.cmp slots q) slots) at in
+        let back = sym (world_of_call cs c Nothing is ∙ nothing_changes (world_after s cs) (Forgotten.absent s cs)) in
+        record { refines = subst (λ w. Refines s w v2.directory) back now.refines; unblocked = subst (λ (w : World C S). (p : C) → w.unblock p ≡ None) back now.unblocked; holds = subst (λ w. Holds s w (held_in s.cmp v2.slots)) back now.holds }
+
+    -- TRACK
+
+    tracked_is : (cs : List (Call C S)) (index : ℕ) (primary secondary : List C) (b : Bool) → list_all (λ x. nat_lt x.index index) (world_after s cs).sets ≡ b →
+        event_in s (world_after s cs).sets (world_after s cs) (Track index primary secondary) ≡ (if b then Tracked (set_of s.cmp index primary secondary) else Nothing)
+    tracked_is cs index primary secondary b e = ap (λ b. if b then Tracked (set_of s.cmp index primary secondary) else Nothing) e
+
+    -- WHAT IS HELD
+
+    one_key : (p q : C) → is_at (s.cmp p) q ≡ true → p ≡ q
+    one_key p q e = tells_apart exact p q e
+
+    granted_holds : (w : World C S) (p : C) (grant : Grant) (h h2 : C → Option (Metadata C S)) →
+        ((q : C) → h2 q ≡ (if is_at (s.cmp p) q then Some (metadata_of p grant.direction) else h q)) → Holds s w h → Holds s (world_with s (Granted p grant) w) h2
+    granted_holds w p grant h h2 held holds = record {
+      peers = λ q. ap is_some (held q) ∙ go q (is_at (s.cmp p) q);
+      metadata = λ q. held q ∙ same q (is_at (s.cmp p) q) refl;
+    }
+      where
+        go : (q : C) (b : Bool) → is_some (if b then Some (metadata_of p grant.direction) else h q) ≡ not (is_inert (if b then Reserved else (w.peer q).status))
+        go q true = refl
+        go q false = holds.peers q
+
+        same : (q : C) (b : Bool) → is_at (s.cmp p) q ≡ b →
+            (if b then Some (metadata_of p grant.direction) else h q) ≡ option_map (λ g. metadata_of q g.direction) (if b then Some grant else w.held q)
+        same q true e = ap (λ k. Some (metadata_of k grant.direction)) (one_key p q e)
+        same q false e = holds.metadata q
+
+    released_holds : (w : World C S) (p : C) (direction : Direction) (h h2 : C → Option (Metadata C S)) →
+        ((q : C) → h2 q ≡ (if is_at (s.cmp p) q then None else h q)) → Holds s w h → Holds s (world_with s (Released p direction) w) h2
+    released_holds w p direction h h2 held holds = record {
+      peers = λ q. ap is_some (held q) ∙ go q (is_at (s.cmp p) q);
+      metadata = λ q. held q ∙ same q (is_at (s.cmp p) q);
+    }
+      where
+        go : (q : C) (b : Bool) → is_some (if b then None else h q) ≡ not (is_inert (if b then Inert else (w.peer q).status))
+        go q true = refl
+        go q false = holds.peers q
+
+        same : (q : C) (b : Bool) → (if b then None else h q) ≡ option_map (λ g. metadata_of q g.direction) (if b then None else w.held q)
+        same q true = refl
+        same q false = holds.metadata q
+
+    -- ONE COMMAND: v before it, v2 after it
+    module _ (cs : List (Call C S)) (v v2 : ServerView C S) (at : StandsAt s cs v) where
+      above : (index : ℕ) (b : Bool) → is_above index (latest_index v.directory.sets) ≡ b → list_all (λ x. nat_lt x.index index) (world_after s cs).sets ≡ b
+      above index b e = sym (CallsRefine.tie_above s cs v.directory index at.refines) ∙ e
+
+      -- track, refused memory
+      pub served_no_memory : (index : ℕ) (primary secondary : List C) → is_above index (latest_index v.directory.sets) ≡ true → v2.directory ≡ v.directory → v2.slots ≡ v.slots
+          → IsServedAt s cs (Track index primary secondary) reply.OutOfMemory v2
+      served_no_memory index primary secondary next directory slots = record {
+        answer = ap was_taken (event cs (Track index primary secondary) (Tracked (set_of s.cmp index primary secondary)) (tracked_is cs index primary secondary true (above index true next)));
+        left = same_views cs v v2 directory (λ q. ap (λ slots. held_in s.cmp slots q) slots) at;
+      }
+
+      -- track, where the index is not above
+      pub served_untaken : (index : ℕ) (primary secondary : List C) → is_above index (latest_index v.directory.sets) ≡ false → v2.directory ≡ v.directory → v2.slots ≡ v.slots
+          → IsServedAt s cs (Track index primary secondary) (reply.Track None) v2
+      served_untaken index primary secondary old directory slots =
+          let c : Call C S = Track index primary secondary in
+          let is = tracked_is cs index primary secondary false (above index false old) in
+          record { answer = ap was_taken (event cs c Nothing is); left = idle cs c v v2 is directory slots at }
+
+      pub served_taken : (index : ℕ) (primary secondary torn : List C) → is_above index (latest_index v.directory.sets) ≡ true → TakesSet s.cmp v.directory v2.directory (set_of s.cmp index primary secondary) →
+          AreTornDown s.cmp v.directory v2.directory torn → v2.slots ≡ v.slots → IsServedAt s cs (Track index primary secondary) (reply.Track (Some torn)) v2
+      served_taken index primary secondary torn next change down slots =
+          let c : Call C S = Track index primary secondary in
+          let w : World C S = world_after s cs in
+          let set = set_of s.cmp index primary secondary in
+          let is = tracked_is cs index primary secondary true (above index true next) in
+          let refines : Refines s (world_with s (Tracked set) w) v2.directory = CallsRefine.tie_track s w v.directory v2.directory set at.refines (Forgotten.absent s cs) change in
+          let same : Holds s (world_with s (Tracked set) w) (held_in s.cmp v.slots) = record { peers = at.holds.peers; metadata = at.holds.metadata } in
+          let left = stands_with cs c (Tracked set) v2 at.unblocked is refines (subst (λ slots. Holds s (world_with s (Tracked set) w) (held_in s.cmp slots)) (sym slots) same) in
+          record {
+            answer = (ap was_taken (event cs c (Tracked set) is), CallsRefine.tie_torn s w (world_after s (c ∷ cs)) v.directory v2.directory torn at.refines left.refines down);
+            left = left;
+          }
+
+      pub served_granted : (p : C) (now draw : ℕ) → option_map_or (may_come now) (record_of s.cmp v.directory p) false ≡ true → Reserves s.cmp v.directory v2.directory p now draw →
+          ((q : C) → held_in s.cmp v2.slots q ≡ (if is_at (s.cmp p) q then Some (metadata.Listener p) else held_in s.cmp v.slots q)) →
+          IsServedAt s cs (Listen p now draw) (reply.Listen true) v2
+      served_granted p now draw can change held =
+          let c : Call C S = Listen p now draw in
+          let w : World C S = world_after s cs in
+          let grant : Grant = record { t = now; draw = draw; direction = Listener } in
+          let may = sym (CallsRefine.tie_may_listen s w v.directory p now at.refines (at.unblocked p)) ∙ can in
+          let is : event_in s w.sets w c ≡ Granted p grant = ap (World.listen_event s p now draw) may in
+          record {
+            answer = ap (λ e. reply.Listen (was_granted e)) (sym (event cs c (Granted p grant) is));
+            left =
+                stands_with cs c (Granted p grant) v2 at.unblocked is (CallsRefine.tie_listen s exact w v.directory v2.directory p now draw at.refines may change)
+                (granted_holds w p grant (held_in s.cmp v.slots) (held_in s.cmp v2.slots) held at.holds);
+          }
+
+      pub served_refused : (p : C) (now draw : ℕ) → option_map_or (may_come now) (record_of s.cmp v.directory p) false ≡ false →
+          v2.directory ≡ v.directory → v2.slots ≡ v.slots → IsServedAt s cs (Listen p now draw) (reply.Listen false) v2
+      served_refused p now draw can directory slots =
+          let c : Call C S = Listen p now draw in
+          let may = sym (CallsRefine.tie_may_listen s (world_after s cs) v.directory p now at.refines (at.unblocked p)) ∙ can in
+          let is : event_in s (world_after s cs).sets (world_after s cs) c ≡ Nothing = ap (World.listen_event s p now draw) may in
+          record { answer = ap (λ e. reply.Listen (was_granted e)) (sym (event cs c Nothing is)); left = idle cs c v v2 is directory slots at }
+
+      -- what is held is a grant, and its metadata that of the grant
+      held_grant : (p : C) (m : Metadata C S) → held_in s.cmp v.slots p ≡ Some m → (grant : Grant) × ((world_after s cs).held p ≡ Some grant) × (metadata_of p grant.direction ≡ m)
+      held_grant p m found = go ((world_after s cs).held p) refl
+        where
+          go : (o : Option Grant) → (world_after s cs).held p ≡ o → (grant : Grant) × ((world_after s cs).held p ≡ Some grant) × (metadata_of p grant.direction ≡ m)
+          go None e = absurd (let f = sym (ap (option_map (λ g. metadata_of p g.direction)) e) ∙ sym (at.holds.metadata p) ∙ found in cc)
+          go (Some grant) e = (grant, e, (let f = sym (ap (option_map (λ g. metadata_of p g.direction)) e) ∙ sym (at.holds.metadata p) ∙ found in cc))
+
+      busy : (b held : Bool) → held ≡ not b → held ≡ true → b ≡ false
+      busy true held e f = absurd (cc)
+      busy false held e f = refl
+
+      pub served_release : (p : C) (m : Metadata C S) → held_in s.cmp v.slots p ≡ Some m → ChangesRecord s.cmp v.directory v2.directory p (kept_after_release m) →
+          ((q : C) → held_in s.cmp v2.slots q ≡ (if is_at (s.cmp p) q then None else held_in s.cmp v.slots q)) → IsServedAt s cs (Release p) reply.Release v2
+      served_release p m found change held =
+          let w : World C S = world_after s cs in
+          let spent = held_grant p m found in
+          let direction : Direction = spent.0.direction in
+          let is : event_in s w.sets w (Release p) ≡ Released p direction = ap (World.release_event s p) spent.1 in
+          let live : is_inert (w.peer p).status ≡ false = busy (is_inert (w.peer p).status) (is_some (held_in s.cmp v.slots p)) (at.holds.peers p) (ap is_some found) in
+          let of_grant = subst (λ m. ChangesRecord s.cmp v.directory v2.directory p (kept_after_release m)) (sym spent.2) change in
+          record {
+            answer = ap (λ b. if not b then reply.Release else reply.NotHeld) (sym live);
+            left =
+                stands_with cs (Release p) (Released p direction) v2 at.unblocked is (CallsRefine.tie_release s exact w v.directory v2.directory p direction at.refines live of_grant)
+                (released_holds w p direction (held_in s.cmp v.slots) (held_in s.cmp v2.slots) held at.holds);
+          }
+
+      pub served_not_held : (p : C) → held_in s.cmp v.slots p ≡ None → v2.directory ≡ v.directory →
+          ((q : C) → held_in s.cmp v2.slots q ≡ (if is_at (s.cmp p) q then None else held_in s.cmp v.slots q)) → IsServedAt s cs (Release p) reply.NotHeld v2
+      served_not_held p none directory held = record {
+        answer = ap (λ b. if b then reply.Release else reply.NotHeld) (sym (ap is_some none) ∙ at.holds.peers p);
+        left = same_views cs v v2 directory (λ q. held q ∙ go q (is_at (s.cmp p) q) refl) at;
+      }
+        where
+          go : (q : C) (b : Bool) → is_at (s.cmp p) q ≡ b → (if b then None else held_in s.cmp v.slots q) ≡ held_in s.cmp v.slots q
+          go q true e = sym (ap (held_in s.cmp v.slots) (sym (one_key p q e)) ∙ none)
+          go q false e = refl
+
+      pub served_status : (p : C) (status : Option Status) → status ≡ option_map (λ r. r.status) (record_of s.cmp v.directory p) → v2.directory ≡ v.directory → v2.slots ≡ v.slots
+          → IsServedAt s cs (Ask (StatusOf p)) (reply.Status status) v2
+      served_status p status is directory slots =
+          record { answer = ap reply.Status (is ∙ CallsRefine.tie_status s (world_after s cs) v.directory p at.refines); left = idle cs (Ask (StatusOf p)) v v2 refl directory slots at }
+
+      pub served_latest : (latest : Option ℕ) → latest ≡ latest_index v.directory.sets → v2.directory ≡ v.directory → v2.slots ≡ v.slots
+          → IsServedAt s cs (Ask LatestIndex) (reply.LatestSetIndex latest) v2
+      served_latest latest is directory slots =
+          record { answer = ap reply.LatestSetIndex (is ∙ ap latest_index at.refines.sets); left = idle cs (Ask LatestIndex) v v2 refl directory slots at }
+
+  -- before any command nothing is held
+  pub stands_at_start : (v : ServerView C S) → v.directory.config ≡ config_of s → v.directory.sets ≡ [] →
+      ((q : C) → record_of s.cmp v.directory q ≡ first_record s.cmp s.bootstrappers s.own q) → ((q : C) → held_in s.cmp v.slots q ≡ None) → StandsAt s [] v
+  stands_at_start v config sets records none = record {
+    refines = CallsRefine.tie_start s v.directory config sets records;
+    unblocked = λ p. refl;
+    holds = record { peers = λ q. ap is_some (none q); metadata = none };
+  }

@@ -1,0 +1,196 @@
+-- A list of slots in strict order of their peers: what is found in it, and what a removal leaves.
+use Rattle.std.proofs.Common.{◌≡◌, ◌+◌, Bool, true, false, not, ◌||◌, List, [], ◌∷◌, length, map, Option, Some, None, refl, sym, ◌∙◌, ap, subst, cond, arith}
+use Rattle.std.specs.Prelude.{is_some, IfSome, slice_get, if◌then◌else◌}
+use Rattle.std.specs.Ordering.{is_eq}
+use Rattle.std.specs.Cmp.{IsTotalOrder, eq_by_cmp_equiv}
+use Rattle.std.specs.List.{AllByRecursion, cons_option, list_any}
+use Rattle.std.specs.List.Sorted.{IsStrictlySortedBy}
+use Rattle.std.specs.Option.{option_map, option_flatten, IsSomeAnd}
+use Rattle.std.specs.Map.{keys_of, remove_entry}
+use Rattle.std.specs.BTreeMap.{is_at}
+use Rattle.std.specs.declared.cmp.Ordering.{Ordering}
+use Rattle.std.proofs.lemmas.Cmp.{tied_itself}
+use Rattle.std.proofs.lemmas.List.{length-map}
+use Rattle.std.proofs.lemmas.Map.{NonePasses, lookup-none}
+use Rattle.std.proofs.lemmas.Map.Entries.{none_past_head}
+use Rattle.std.proofs.lemmas.Map.Keys.{sorted_tail, IsDistinct-from_sorted}
+use Rattle.std.proofs.lemmas.Map.Lookups.{CmpEqualImpliesEq}
+use Rattle.p2p_directory.specs.declared.directory.Metadata.{Metadata}
+use Rattle.p2p_directory.specs.Directory.{key_of}
+use Rattle.p2p_directory.specs.Held.{held_of, all_but}
+use Rattle.p2p_directory.specs.Private.Slots.{contents, slot_of, held_in, AreSlots, AreFull}
+
+module _ {C S : Type 0} {cmp : C → C → Ordering} (total : IsTotalOrder cmp) (exact : CmpEqualImpliesEq cmp) where
+  -- empty, or with a reservation of its peer
+  abbrev IsKeyed : C × Option (Metadata C S) → Type 0
+  IsKeyed slot = IfSome slot.1 (λ m. key_of m ≡ slot.0)
+
+  abbrev IsFilled : C × Option (Metadata C S) → Type 0
+  IsFilled slot = IsSomeAnd slot.1 (λ m. key_of m ≡ slot.0)
+
+  -- no later slot is that of the first peer
+  none_later : (slot : C × Option (Metadata C S)) (slots : List (C × Option (Metadata C S))) (q : C) → IsStrictlySortedBy cmp (keys_of (slot ∷ slots)) → is_at (cmp q) slot.0 ≡ true → NonePasses (is_at (cmp q)) slots
+  none_later slot slots q up e = none_past_head (eq_by_cmp_equiv total) q slot slots (IsDistinct-from_sorted cmp (keys_of (slot ∷ slots)) up) e
+
+  -- what is true of each slot that is found is true of each slot
+  each : (P : C → Option (Metadata C S) → Type 0) (slots : List (C × Option (Metadata C S))) → IsStrictlySortedBy cmp (keys_of slots)
+      → ((q : C) → IfSome (slot_of cmp slots q) (P q)) → AllByRecursion (λ slot. P slot.0 slot.1) slots
+  each P [] up h = tt
+  each P (slot ∷ slots) up h = (first, each P slots (sorted_tail cmp slot.0 (keys_of slots) up) (λ q. later q (is_at (cmp q) slot.0) refl))
+    where
+      first : P slot.0 slot.1
+      first = subst (λ b. IfSome (cond b (Some slot.1) (slot_of cmp slots slot.0)) (P slot.0)) (ap is_eq (tied_itself total slot.0)) (h slot.0)
+
+      later : (q : C) (b : Bool) → is_at (cmp q) slot.0 ≡ b → IfSome (slot_of cmp slots q) (P q)
+      later q true e = subst (λ o. IfSome o (P q)) (sym (lookup-none (is_at (cmp q)) slots (none_later slot slots q up e))) tt
+      later q false e = subst (λ b. IfSome (cond b (Some slot.1) (slot_of cmp slots q)) (P q)) e (h q)
+
+  -- what is held of q is what is in its slot
+  found : (slots : List (C × Option (Metadata C S))) → IsStrictlySortedBy cmp (keys_of slots) → AllByRecursion IsKeyed slots
+      → (q : C) → held_of cmp (contents slots) q ≡ held_in cmp slots q
+  found [] up keyed q = refl
+  found ((k, None) ∷ slots) up keyed q = found slots (sorted_tail cmp k (keys_of slots) up) keyed.1 q ∙ go (is_at (cmp q) k) refl
+    where
+      go : (b : Bool) → is_at (cmp q) k ≡ b → held_in cmp slots q ≡ option_flatten (cond b (Some None) (slot_of cmp slots q))
+      go true e = ap option_flatten (lookup-none (is_at (cmp q)) slots (none_later (k, None) slots q up e))
+      go false e = refl
+  found ((k, Some m) ∷ slots) up keyed q =
+      ap (λ key. cond (is_at (cmp q) key) (Some m) (held_of cmp (contents slots) q)) keyed.0 ∙ go (is_at (cmp q) k) (found slots (sorted_tail cmp k (keys_of slots) up) keyed.1 q)
+    where
+      go : (b : Bool) → held_of cmp (contents slots) q ≡ held_in cmp slots q → cond b (Some m) (held_of cmp (contents slots) q) ≡ option_flatten (cond b (Some (Some m)) (slot_of cmp slots q))
+      go true h = refl
+      go false h = h
+
+  -- where q has no slot nothing of it is held
+  missed : (slots : List (C × Option (Metadata C S))) (q : C) → NonePasses (is_at (cmp q)) slots → AllByRecursion IsKeyed slots → all_but cmp q (contents slots) ≡ contents slots
+  missed [] q none keyed = refl
+  missed ((k, None) ∷ slots) q none keyed = missed slots q none.1 keyed.1
+  missed ((k, Some m) ∷ slots) q none keyed =
+      ap (λ b. cond (not b) (m ∷ all_but cmp q (contents slots)) (all_but cmp q (contents slots))) (ap (is_at (cmp q)) keyed.0 ∙ none.0)
+      ∙ ap (λ ms. m ∷ ms) (missed slots q none.1 keyed.1)
+
+  -- what is held once the slot of q is gone
+  removed : (slots : List (C × Option (Metadata C S))) (q : C) → IsStrictlySortedBy cmp (keys_of slots) → AllByRecursion IsKeyed slots
+      → contents (remove_entry (is_at (cmp q)) slots) ≡ all_but cmp q (contents slots)
+  removed [] q up keyed = refl
+  removed ((k, o) ∷ slots) q up keyed = go (is_at (cmp q) k) refl o keyed.0 (removed slots q (sorted_tail cmp k (keys_of slots) up) keyed.1)
+    where
+      go : (b : Bool) → is_at (cmp q) k ≡ b → (o : Option (Metadata C S)) → IfSome o (λ m. key_of m ≡ k)
+          → contents (remove_entry (is_at (cmp q)) slots) ≡ all_but cmp q (contents slots)
+          → contents (cond b slots ((k, o) ∷ remove_entry (is_at (cmp q)) slots)) ≡ all_but cmp q (cons_option o (contents slots))
+      go true e None key h = sym (missed slots q (none_later (k, None) slots q up e) keyed.1)
+      go true e (Some m) key h =
+          sym (ap (λ b. cond (not b) (m ∷ all_but cmp q (contents slots)) (all_but cmp q (contents slots))) (ap (is_at (cmp q)) key ∙ e)
+          ∙ missed slots q (none_later (k, None) slots q up e) keyed.1)
+      go false e None key h = h
+      go false e (Some m) key h =
+          ap (λ ms. m ∷ ms) h ∙ sym (ap (λ b. cond (not b) (m ∷ all_but cmp q (contents slots)) (all_but cmp q (contents slots))) (ap (is_at (cmp q)) key ∙ e))
+
+  -- the peers of full slots
+  peers : (slots : List (C × Option (Metadata C S))) → AllByRecursion IsFilled slots → map key_of (contents slots) ≡ keys_of slots
+  peers [] filled = refl
+  peers ((k, None) ∷ slots) filled = absurd filled.0
+  peers ((k, Some m) ∷ slots) filled = λ i. filled.0 i ∷ peers slots filled.1 i
+
+  if_some : (o : Option (Metadata C S)) (q : C) → IsSomeAnd o (λ m. key_of m ≡ q) → IfSome o (λ m. key_of m ≡ q)
+  if_some None q h = tt
+  if_some (Some m) q h = h
+
+  -- FULL SLOTS
+
+  pub are_slots : (slots : List (C × Option (Metadata C S))) → AreFull cmp slots → AreSlots cmp slots
+  are_slots slots full = record { ordered = full.ordered; keyed = λ q. go q (slot_of cmp slots q) (full.filled q) }
+    where
+      go : (q : C) (o : Option (Option (Metadata C S))) → IfSome o (λ slot. IsSomeAnd slot (λ m. key_of m ≡ q)) → IfSome o (λ slot. IfSome slot (λ m. key_of m ≡ q))
+      go q None h = tt
+      go q (Some slot) h = if_some slot q h
+
+  pub held_is : (slots : List (C × Option (Metadata C S))) → AreSlots cmp slots → (q : C) → held_of cmp (contents slots) q ≡ held_in cmp slots q
+  held_is slots are = found slots are.ordered (each (λ q slot. IfSome slot (λ m. key_of m ≡ q)) slots are.ordered are.keyed)
+
+  pub rest_is : (slots : List (C × Option (Metadata C S))) (q : C) → AreSlots cmp slots → contents (remove_entry (is_at (cmp q)) slots) ≡ all_but cmp q (contents slots)
+  rest_is slots q are = removed slots q are.ordered (each (λ q slot. IfSome slot (λ m. key_of m ≡ q)) slots are.ordered are.keyed)
+
+  pub peers_are : (slots : List (C × Option (Metadata C S))) → AreFull cmp slots → map key_of (contents slots) ≡ keys_of slots
+  peers_are slots full = peers slots (each (λ q slot. IsSomeAnd slot (λ m. key_of m ≡ q)) slots full.ordered full.filled)
+
+  -- what is in the slot of q is of q
+  pub held_key : (slots : List (C × Option (Metadata C S))) (q : C) → AreSlots cmp slots → IfSome (held_in cmp slots q) (λ m. key_of m ≡ q)
+  held_key slots q are = go (slot_of cmp slots q) (are.keyed q)
+    where
+      go : (o : Option (Option (Metadata C S))) → IfSome o (λ slot. IfSome slot (λ m. key_of m ≡ q)) → IfSome (option_flatten o) (λ m. key_of m ≡ q)
+      go None h = tt
+      go (Some slot) h = h
+
+  -- what is left when the slot of p goes
+  pub full_without : (slots slots2 : List (C × Option (Metadata C S))) (p : C) → AreFull cmp slots → IsStrictlySortedBy cmp (keys_of slots2)
+      → ((q : C) → slot_of cmp slots2 q ≡ cond (is_at (cmp p) q) None (slot_of cmp slots q)) → AreFull cmp slots2
+  full_without slots slots2 p full up is = record {
+    ordered = up;
+    filled = λ q. subst (λ o. IfSome o (λ slot. IsSomeAnd slot (λ m. key_of m ≡ q))) (sym (is q)) (go q (is_at (cmp p) q));
+  }
+    where
+      go : (q : C) (b : Bool) → IfSome (cond b None (slot_of cmp slots q)) (λ slot. IsSomeAnd slot (λ m. key_of m ≡ q))
+      go q true = tt
+      go q false = full.filled q
+
+  pub held_without : (slots slots2 : List (C × Option (Metadata C S))) (p : C) → AreFull cmp slots → IsStrictlySortedBy cmp (keys_of slots2)
+      → ((q : C) → slot_of cmp slots2 q ≡ cond (is_at (cmp p) q) None (slot_of cmp slots q))
+      → (q : C) → held_of cmp (contents slots2) q ≡ cond (is_at (cmp p) q) None (held_of cmp (contents slots) q)
+  held_without slots slots2 p full up is q =
+      held_is slots2 (are_slots slots2 (full_without slots slots2 p full up is)) q ∙ ap option_flatten (is q) ∙ go (is_at (cmp p) q)
+    where
+      go : (b : Bool) → option_flatten (cond b None (slot_of cmp slots q)) ≡ cond b None (held_of cmp (contents slots) q)
+      go true = refl
+      go false = sym (held_is slots (are_slots slots full) q)
+
+  -- as many are held as there are full slots
+  pub length_is : (slots : List (C × Option (Metadata C S))) → AreFull cmp slots → length (contents slots) ≡ length slots
+  length_is slots full = sym (length-map (contents slots) key_of) ∙ ap length (peers_are slots full) ∙ length-map slots (λ slot. slot.0)
+
+  pub one_fewer : (slots slots2 : List (C × Option (Metadata C S))) (o : Option (Option (Metadata C S))) → AreFull cmp slots → AreFull cmp slots2
+      → length slots2 + (if is_some o then 1 else 0) ≡ length slots → IfSome (option_flatten o) (λ _. length (contents slots) ≡ length (contents slots2) + 1)
+  one_fewer slots slots2 None full full2 e = tt
+  one_fewer slots slots2 (Some None) full full2 e = tt
+  one_fewer slots slots2 (Some (Some m)) full full2 e = omega (arith, e, length_is slots full, length_is slots2 full2)
+
+  pub none_full : (slots : List (C × Option (Metadata C S))) → AreFull cmp slots → contents slots ≡ [] → slots ≡ []
+  none_full [] full none = refl
+  none_full (slot ∷ slots) full none = absurd (let all = sym (ap (map key_of) none) ∙ peers_are (slot ∷ slots) full in cc)
+
+  -- the first slot is that of the least peer of whom a reservation is held
+  pub least_is : (slots : List (C × Option (Metadata C S))) (k : C) (o : Option (Metadata C S)) → AreFull cmp slots → slice_get slots 0 ≡ Some (k, o)
+      → Some k ≡ option_map key_of (slice_get (contents slots) 0)
+  least_is slots k o full e = sym (ap (option_map (λ slot. slot.0)) e) ∙ go slots (contents slots) (peers_are slots full)
+    where
+      go : (slots : List (C × Option (Metadata C S))) (ms : List (Metadata C S)) → map key_of ms ≡ keys_of slots → option_map (λ slot. slot.0) (slice_get slots 0) ≡ option_map key_of (slice_get ms 0)
+      go [] [] e = refl
+      go [] (m ∷ ms) e = absurd cc
+      go (slot ∷ slots) [] e = absurd cc
+      go (slot ∷ slots) (m ∷ ms) e = cc
+
+  pub has_one : (slots : List (C × Option (Metadata C S))) (k : C) (o : Option (Metadata C S)) → AreFull cmp slots → slot_of cmp slots k ≡ Some o → is_some (held_of cmp (contents slots) k) ≡ true
+  has_one slots k o full e = ap is_some (held_is slots (are_slots slots full) k ∙ ap option_flatten e) ∙ go o (subst (λ o. IfSome o (λ slot. IsSomeAnd slot (λ m. key_of m ≡ k))) e (full.filled k))
+    where
+      go : (o : Option (Metadata C S)) → IsSomeAnd o (λ m. key_of m ≡ k) → is_some o ≡ true
+      go None h = absurd h
+      go (Some m) h = refl
+
+  -- slots of which none is empty
+  pub are_full : (slots : List (C × Option (Metadata C S))) → AreSlots cmp slots → ((q : C) → slot_of cmp slots q ≡ Some None → ⊥) → AreFull cmp slots
+  are_full slots are none = record { ordered = are.ordered; filled = λ q. go q (slot_of cmp slots q) refl (are.keyed q) }
+    where
+      go : (q : C) (o : Option (Option (Metadata C S))) → slot_of cmp slots q ≡ o → IfSome o (λ slot. IfSome slot (λ m. key_of m ≡ q)) → IfSome o (λ slot. IsSomeAnd slot (λ m. key_of m ≡ q))
+      go q None e h = tt
+      go q (Some None) e h = none q e
+      go q (Some (Some m)) e h = h
+
+-- of no peer a reservation is held
+pub nothing_held : {C S : Type 0} {cmp : C → C → Ordering} → IsTotalOrder cmp → (held : List (Metadata C S)) → ((q : C) → held_of cmp held q ≡ None) → held ≡ []
+nothing_held total [] none = refl
+nothing_held {cmp = cmp} total (m ∷ held) none =
+    absurd (let some = sym (ap (λ o. cond (is_eq o) (Some m) (held_of cmp held (key_of m))) (tied_itself total (key_of m))) ∙ none (key_of m) in cc)
+
+-- the first is passed
+pub none_passed : {C : Type 0} (test : C → Bool) (x : C) (xs : List C) → list_any test (x ∷ xs) ≡ true → test x ≡ false → list_any test xs ≡ true
+none_passed test x xs any not_first = sym (ap (λ b. b || list_any test xs) not_first) ∙ any

@@ -1,0 +1,19 @@
+use Rattle.std.proofs.Common.{sym, ◌∙◌}
+use Rattle.p2p_directory.specs.Held.{held_of}
+use Rattle.p2p_directory.proofs.Reservations.Holding.{held_by_release, given_back}
+use Rattle.p2p_directory.proofs.run.outcome.Run.finish.Goals as goal
+
+pub loop-peer-preserved-in-Some-take : goal.loop-peer-preserved-in-Some-take
+loop-peer-preserved-in-Some-take g c =
+    let cmp = g.C.Ord.cmp in
+    let d = c.loop-peer.directory in
+    let d2 = c.release.new.self in
+    let key = c.in-Some-take.ensures.peer in
+    let change = rw key at c.release.ensures.released in
+    record {
+      agree = held_by_release cmp d d2 c.in-Some.peer c.in-Some-take.reservation (held_of cmp c.loop-peer.held) (held_of cmp c.take.new.self) c.loop-peer.invariant.agree change c.in-Some-take.ensures.left;
+      config = change.config ∙ c.loop-peer.invariant.config;
+      sets = change.sets ∙ c.loop-peer.invariant.sets;
+      records = λ q. given_back cmp g.met.C.PublicKey.exact d d2 c.in-Some.peer c.in-Some-take.reservation (held_of cmp c.loop-peer.held) (held_of cmp c.take.new.self) (sym c.in-Some-take.ensures.taken) change c.in-Some-take.ensures.left q
+          ∙ c.loop-peer.invariant.records q;
+    }

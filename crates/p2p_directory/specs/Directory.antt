@@ -1,0 +1,142 @@
+-- What contracts see of a directory, and what its calls answer and change.
+use Rattle.std.specs.Prelude.{ℕ, ◌≡◌, Bool, true, false, not, ◌&&◌, if◌then◌else◌, List, ◌++◌, ◌∷◌, [], Option, Some, unwrap_or}
+use Rattle.std.specs.List.Sorted.{IsStrictlySortedBy}
+use Rattle.std.specs.Option.{option_map, option_map_or, option_and_then, IsSomeAnd}
+use Rattle.std.specs.Duration.{as_nanos}
+use Rattle.std.specs.Int.NonZero.{non_zero_usize_get}
+use Rattle.std.specs.Map.{lookup}
+use Rattle.std.specs.BTreeMap.{is_at}
+use Rattle.std.specs.declared.cmp.Ordering.{Ordering}
+use Rattle.p2p_discovery.specs.declared.discovery.Info.{Info}
+use Rattle.p2p_discovery.specs.declared.types.ingress.Ingress.{Ingress}
+use Rattle.p2p_directory.specs.declared.record.Address.{Address}
+use Rattle.p2p_directory.specs.declared.record.Address.TheVariants.{Myself, Bootstrapper}
+use Rattle.p2p_directory.specs.declared.record.Status.TheVariants.{Inert}
+use Rattle.p2p_directory.specs.declared.record.Role.TheVariants.{Primary, Secondary}
+use Rattle.p2p_directory.specs.declared.directory.Config.{Config}
+use Rattle.p2p_directory.specs.declared.directory.Metadata.{Metadata}
+use Rattle.p2p_directory.specs.declared.directory.Metadata.TheVariants.{Dialer, Listener}
+use Rattle.p2p_directory.specs.Calls.{SetAt}
+use Rattle.p2p_directory.specs.History.{last_of, is_inert}
+use Rattle.p2p_directory.specs.World.{last_ingress_by}
+use Rattle.p2p_directory.specs.Record.{RecordView, new_record, blank, is_eligible, after_failure, reserved_record, with_counts, unless_deletable}
+use Rattle.p2p_directory.specs.PeerSets.{has_key, set_count}
+
+-- WHAT IS SEEN
+
+-- the configuration, with durations in nanoseconds
+pub record ConfigView : Type 0 where
+  pub allow_private_ips : Bool
+  pub allow_dns : Bool
+  pub max_sets : ℕ
+  pub dial_fail_limit : ℕ
+  pub cooldown : ℕ
+  pub block_duration : ℕ
+
+abbrev pub config_view : Config → ConfigView
+config_view cfg = record {
+  allow_private_ips = cfg.allow_private_ips;
+  allow_dns = cfg.allow_dns;
+  max_sets = non_zero_usize_get cfg.max_sets;
+  dial_fail_limit = cfg.dial_fail_limit;
+  cooldown = as_nanos cfg.peer_connection_cooldown;
+  block_duration = as_nanos cfg.block_duration;
+}
+
+-- the retained sets from the oldest on, and what is kept of each peer, in order of their keys
+pub record DirectoryView (C S : Type 0) : Type 0 where
+  pub config : ConfigView
+  pub sets : List (SetAt C)
+  pub records : List (C × RecordView C S)
+
+-- whom a reservation is for
+abbrev pub key_of : {P S : Type 0} → Metadata P S → P
+key_of (Dialer key ingress) = key
+key_of (Listener key) = key
+
+module _ {C S : Type 0} where
+  -- the address after its reservation was released
+  abbrev pub address_after_release : Metadata C S → Address C S → Address C S
+  address_after_release (Dialer key ingress) address = after_failure ingress address
+  address_after_release (Listener key) address = address
+
+  -- the record after its reservation was released
+  abbrev pub released_record : Metadata C S → RecordView C S → RecordView C S
+  released_record metadata r =
+      record r { status = Inert; address = address_after_release metadata r.address }
+
+  -- what is kept of a peer after its reservation was released: nothing, where its record is deletable then
+  abbrev pub kept_after_release : Metadata C S → Option (RecordView C S) → Option (RecordView C S)
+  kept_after_release metadata o = option_and_then (λ r. unless_deletable (released_record metadata r)) o
+
+module _ {C S : Type 0} (cmp : C → C → Ordering) where
+  -- what is kept of a peer, by all that is kept
+  abbrev pub record_at : List (C × RecordView C S) → C → Option (RecordView C S)
+  record_at records q = lookup (is_at (cmp q)) records
+
+  -- what a directory keeps of a peer
+  abbrev pub record_of : DirectoryView C S → C → Option (RecordView C S)
+  record_of d q = record_at d.records q
+
+  -- a peer has a record, and is reserved or connected
+  abbrev pub IsBusy : DirectoryView C S → C → Type 0
+  IsBusy d q = IsSomeAnd (record_of d q) (λ r. is_inert r.status ≡ false)
+
+  -- whoever is reserved or connected stays so
+  abbrev pub StayBusy : DirectoryView C S → DirectoryView C S → Type 0
+  StayBusy old new = (q : C) → IsBusy old q → IsBusy new q
+
+  -- THE START
+
+  -- what is kept of a peer at first: the own record, else that of its last bootstrapper ingress
+  abbrev pub first_record : List (C × Ingress) → Info C S → C → Option (RecordView C S)
+  first_record bootstrappers own q =
+      if is_at (cmp own.public_key) q then Some (new_record (Myself own) true)
+      else option_map (λ ingress. new_record (Bootstrapper ingress) true) (last_ingress_by cmp q bootstrappers)
+
+  -- ONE PEER
+
+  -- what is kept of p becomes f of it, and of each other peer it stays
+  abbrev pub ChangesAt : List (C × RecordView C S) → List (C × RecordView C S) → C → (Option (RecordView C S) → Option (RecordView C S)) → Type 0
+  ChangesAt old new p f = (q : C) → record_at new q ≡ (if is_at (cmp p) q then f (record_at old q) else record_at old q)
+
+  -- .. and all else of a directory stays
+  pub record ChangesRecord (old new : DirectoryView C S) (p : C) (f : Option (RecordView C S) → Option (RecordView C S)) : Type 0 where
+    pub config : new.config ≡ old.config
+    pub sets : new.sets ≡ old.sets
+    pub records : ChangesAt old.records new.records p f
+
+  -- p is reserved at a moment, with a draw
+  abbrev pub Reserves : DirectoryView C S → DirectoryView C S → C → ℕ → ℕ → Type 0
+  Reserves old new p now draw = ChangesRecord old new p (option_map (reserved_record now draw old.config.cooldown))
+
+  -- a reservation is released
+  abbrev pub Releases : DirectoryView C S → DirectoryView C S → Metadata C S → Type 0
+  Releases old new metadata = ChangesRecord old new (key_of metadata) (kept_after_release metadata)
+
+  -- A SET
+
+  -- what is kept of a peer once these are the retained sets: its counts are theirs, and a record that is deletable is none
+  abbrev pub record_with_sets : List (SetAt C) → C → Option (RecordView C S) → Option (RecordView C S)
+  record_with_sets sets q o =
+      unless_deletable (with_counts (set_count cmp Primary q sets) (set_count cmp Secondary q sets) (unwrap_or o blank))
+
+  -- a set is retained, as one of so many at most, and each record has the counts of the sets
+  pub record TakesSet (old new : DirectoryView C S) (set : SetAt C) : Type 0 where
+    pub config : new.config ≡ old.config
+    pub sets : new.sets ≡ last_of old.config.max_sets (old.sets ++ set ∷ [])
+    pub records : (q : C) → record_of new q ≡ record_with_sets new.sets q (record_of old q)
+
+  -- reserved or connected, and eligible
+  abbrev pub is_connectable : Option (RecordView C S) → Bool
+  is_connectable o = option_map_or (λ r. not (is_inert r.status) && is_eligible r) o false
+
+  -- a peer is reserved or connected, was eligible, and isn't any more
+  abbrev pub is_torn_down_by : DirectoryView C S → DirectoryView C S → C → Bool
+  is_torn_down_by old new q =
+      is_connectable (record_of old q) && not (option_map_or is_eligible (record_of new q) false)
+
+  -- the sorted peers that a change tears down
+  pub record AreTornDown (old new : DirectoryView C S) (torn : List C) : Type 0 where
+    pub sorted : IsStrictlySortedBy cmp torn
+    pub members : (q : C) → has_key cmp torn q ≡ is_torn_down_by old new q

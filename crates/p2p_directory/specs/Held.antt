@@ -1,0 +1,34 @@
+-- The reservations that are held, in ascending order of their peers: what each is for.
+use Rattle.std.specs.Prelude.{◌≡◌, Bool, false, not, List, Option, Some, None, find, is_some}
+use Rattle.std.specs.List.{filter}
+use Rattle.std.specs.Option.{option_map_or}
+use Rattle.std.specs.declared.cmp.Ordering.{Ordering}
+use Rattle.std.specs.BTreeMap.{is_at}
+use Rattle.p2p_directory.specs.declared.directory.Metadata.{Metadata}
+use Rattle.p2p_directory.specs.History.{is_inert}
+use Rattle.p2p_directory.specs.Record.{RecordView}
+use Rattle.p2p_directory.specs.Directory.{DirectoryView, record_of, key_of, kept_after_release}
+
+module _ {C S : Type 0} where
+  -- there is a record, and its peer is reserved or connected
+  abbrev pub is_busy : Option (RecordView C S) → Bool
+  is_busy o = option_map_or (λ r. not (is_inert r.status)) o false
+
+  -- the record of a peer once what is held of it, if anything, was released
+  abbrev pub after_release :
+      Option (Metadata C S) → Option (RecordView C S) → Option (RecordView C S)
+  after_release None o = o
+  after_release (Some metadata) o = kept_after_release metadata o
+
+module _ {C S : Type 0} (cmp : C → C → Ordering) where
+  -- what the reservation of q is for, if one is held
+  abbrev pub held_of : List (Metadata C S) → C → Option (Metadata C S)
+  held_of held q = find (λ metadata. is_at (cmp q) (key_of metadata)) held
+
+  -- all reservations but that of q
+  abbrev pub all_but : C → List (Metadata C S) → List (Metadata C S)
+  all_but q held = filter (λ metadata. not (is_at (cmp q) (key_of metadata))) held
+
+  -- a reservation is held exactly of the peers that are reserved or connected
+  abbrev pub AreHeld : DirectoryView C S → (C → Option (Metadata C S)) → Type 0
+  AreHeld d held = (q : C) → is_some (held q) ≡ is_busy (record_of cmp d q)

@@ -1,0 +1,26 @@
+-- How many peers a directory holds.
+use Rattle.std.specs.Prelude.{ℕ, ◌+◌, ◌*◌, ◌≤◌, Bool, not, ◌&&◌, ◌||◌, List, length}
+use Rattle.p2p_directory.specs.Calls.{Setup, SetAt}
+use Rattle.p2p_directory.specs.History.{is_in, is_named, is_inert, is_persistent}
+use Rattle.p2p_directory.specs.World.{World}
+use Rattle.p2p_directory.specs.Answers.{Lists, is_present_in}
+
+module _ {C S : Type 0} (s : Setup C S) where
+  -- the set names p, in either role
+  abbrev pub names_in : SetAt C → C → Bool
+  names_in x p = is_in s p x.primary || is_in s p x.secondary
+
+  -- the set names at most n distinct peers
+  pub record NamesAtMost (n : ℕ) (x : SetAt C) : Type 0 where
+    pub peers : List C
+    pub all : Lists s (names_in x) peers
+    pub few : length peers ≤ n
+
+  -- p isn't inert, and no retained set names it
+  abbrev pub is_left_over : World C S → C → Bool
+  is_left_over w p = not (is_inert (w.peer p).status) && not (is_named s p w.sets)
+
+  -- the present keys are at most n for each set that may be retained, the persistent keys, and those that are left over
+  abbrev pub IsBounded : ℕ → World C S → Type 0
+  IsBounded n w = (present persistent left_over : List C) → Lists s (is_present_in s w) present → Lists s (is_persistent s) persistent → Lists s (is_left_over w) left_over →
+      length present ≤ n * s.max_sets + length persistent + length left_over

@@ -1,0 +1,4 @@
+-- Words of private contracts. Nobody outside of the crate sees them.
+pub mod Counts
+pub mod Slots
+pub mod Serving

@@ -1,0 +1,48 @@
+-- Serving one command: from wherever the calls accepted before led, the reply is the answer.
+use Rattle.std.specs.Prelude.{◌≡◌, Bool, true, List, Option, None}
+use Rattle.std.specs.declared.cmp.Ordering.{Ordering}
+use Rattle.p2p_discovery.specs.declared.discovery.Info.{Info}
+use Rattle.p2p_discovery.specs.declared.types.ingress.Ingress.{Ingress}
+use Rattle.p2p_directory.specs.declared.directory.Config.{Config}
+use Rattle.p2p_directory.specs.declared.directory.Metadata.{Metadata}
+use Rattle.p2p_directory.specs.declared.run.commands.Command.{Command}
+use Rattle.p2p_directory.specs.declared.run.commands.Command.TheVariants as command
+use Rattle.p2p_directory.specs.declared.run.commands.Reply.{Reply}
+use Rattle.p2p_directory.specs.Calls.{Setup, Call}
+use Rattle.p2p_directory.specs.Directory.{DirectoryView}
+use Rattle.p2p_directory.specs.Refinement.{Refines}
+use Rattle.p2p_directory.specs.Private.Slots.{has_slot, held_in}
+use Rattle.p2p_directory.specs.Run.{setup_of, call_of, world_after, IsAnswer, next, Holds}
+
+-- a directory, and slots for the reservations that it granted
+pub record ServerView (C S : Type 0) : Type 0 where
+  pub directory : DirectoryView C S
+  pub slots : List (C × Option (Metadata C S))
+
+module _ {C S : Type 0} (cmp : C → C → Ordering) where
+  -- there is a slot for what the command may be granted
+  abbrev pub has_room : List (C × Option (Metadata C S)) → Command C S → Bool
+  has_room slots (command.Listen peer now draw) = has_slot cmp slots peer
+  has_room slots _ = true
+
+module _ {C S : Type 0} (s : Setup C S) where
+  -- the directory and what is held stand at the point after these calls
+  pub record StandsAt (calls : List (Call C S)) (v : ServerView C S) : Type 0 where
+    pub refines : Refines s (world_after s calls) v.directory
+    -- no command blocks yet
+    pub unblocked : (p : C) → (world_after s calls).unblock p ≡ None
+    pub holds : Holds s (world_after s calls) (held_in s.cmp v.slots)
+
+  -- the reply to one more call answers at its point, and what is left stands at the next
+  pub record IsServedAt
+      (calls : List (Call C S)) (c : Call C S) (r : Reply C S) (v : ServerView C S) : Type 0 where
+    pub answer : IsAnswer s calls c r
+    pub left : StandsAt (next s calls c r) v
+
+-- .. of a command, whatever the setup and the calls accepted before: v before it, v2 after it
+abbrev pub IsServed : {C S : Type 0} → (C → C → Ordering) →
+    Command C S → Reply C S → ServerView C S → ServerView C S → Type 0
+IsServed {C} {S} cmp x r v v2 =
+    (bootstrappers : List (C × Ingress)) (myself : Info C S) (cfg : Config) →
+    (calls : List (Call C S)) → let s = setup_of cmp bootstrappers myself cfg in
+    StandsAt s calls v → IsServedAt s calls (call_of x) r v2

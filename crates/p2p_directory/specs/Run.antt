@@ -1,0 +1,131 @@
+-- The replies to a run of commands, by the calls accepted before each, and what the run leaves.
+use Rattle.std.specs.Prelude.{◌≡◌, Bool, true, false, not, if◌then◌else◌}
+use Rattle.std.specs.Prelude.{List, [], ◌∷◌, map, Option, is_some}
+use Rattle.std.specs.Option.{option_map}
+use Rattle.std.specs.Duration.{as_nanos}
+use Rattle.std.specs.Int.NonZero.{non_zero_usize_get}
+use Rattle.std.specs.declared.cmp.Ordering.{Ordering}
+use Rattle.p2p_discovery.specs.declared.discovery.Info.{Info}
+use Rattle.p2p_discovery.specs.declared.types.ingress.Ingress.{Ingress}
+use Rattle.p2p_directory.specs.declared.directory.Config.{Config}
+use Rattle.p2p_directory.specs.declared.run.commands.Command.{Command}
+use Rattle.p2p_directory.specs.declared.run.commands.Command.TheVariants as command
+use Rattle.p2p_directory.specs.declared.run.commands.Reply.{Reply}
+use Rattle.p2p_directory.specs.declared.run.commands.Reply.TheVariants as reply
+use Rattle.p2p_directory.specs.Calls.{Setup, Question, Call, Event}
+use Rattle.p2p_directory.specs.Calls.Question.{StatusOf, LatestIndex}
+use Rattle.p2p_directory.specs.Calls.Call.{Track, Listen, Release, Ask}
+use Rattle.p2p_directory.specs.History.{is_inert, taken_sets}
+use Rattle.p2p_directory.specs.World.{World, world_at, past, event_in}
+use Rattle.p2p_directory.specs.Answers.{IsTrackAnswer, was_granted, was_taken}
+use Rattle.p2p_directory.specs.Answers.{may_release, status_in, latest_index_in}
+use Rattle.p2p_directory.specs.declared.directory.Metadata.{Metadata}
+use Rattle.p2p_directory.specs.Refinement.{metadata_of}
+
+-- WHAT A RUN IS GIVEN
+
+-- the setup that a caller gives, with the order of the keys; durations in nanoseconds
+abbrev pub setup_of : {C S : Type 0} →
+    (C → C → Ordering) → List (C × Ingress) → Info C S → Config → Setup C S
+setup_of cmp bootstrappers myself cfg = record {
+  cmp = cmp;
+  own = myself;
+  bootstrappers = bootstrappers;
+  allow_private_ips = cfg.allow_private_ips;
+  allow_dns = cfg.allow_dns;
+  max_sets = non_zero_usize_get cfg.max_sets;
+  dial_fail_limit = cfg.dial_fail_limit;
+  cooldown = as_nanos cfg.peer_connection_cooldown;
+  block_duration = as_nanos cfg.block_duration;
+}
+
+-- the call that a command makes, if it is accepted
+abbrev pub call_of : {C S : Type 0} → Command C S → Call C S
+call_of (command.Track index peers) = Track index peers.primary peers.secondary
+call_of (command.Listen p now draw) = Listen p (as_nanos now) (as_nanos draw)
+call_of (command.Release p) = Release p
+call_of (command.Status p) = Ask (StatusOf p)
+call_of command.LatestSetIndex = Ask LatestIndex
+
+-- .. one for each command, in order
+abbrev pub calls_of : {C S : Type 0} → List (Command C S) → List (Call C S)
+calls_of commands = map call_of commands
+
+module _ {C S : Type 0} (s : Setup C S) where
+  -- ONE REPLY. `before` are the calls accepted before, the newest first; w is the world that they
+  -- make, e what the call does in it, v the world after that
+
+  -- the reply to a question
+  abbrev pub Informs : World C S → Question C → Reply C S → Type 0
+  Informs w (StatusOf p) r = r ≡ reply.Status (status_in s w p)
+  Informs w LatestIndex r = r ≡ reply.LatestSetIndex (latest_index_in s w)
+  Informs w _ r = ⊥
+
+  -- the reply to a call that is made
+  abbrev pub Replies : Event C S → World C S → World C S → Call C S → Reply C S → Type 0
+  Replies e w v (Track index primary secondary) (reply.Track torn) = IsTrackAnswer s e w v torn
+  Replies e w v (Listen p t draw) r = r ≡ reply.Listen (was_granted e)
+  Replies e w v (Release p) r = r ≡ (if may_release s w p then reply.Release else reply.NotHeld)
+  Replies e w v (Ask question) r = Informs w question r
+  Replies e w v _ r = ⊥
+
+  -- which calls may want memory: a track that is taken, and no other
+  abbrev pub may_want_memory : Event C S → Call C S → Bool
+  may_want_memory e (Track index primary secondary) = was_taken e
+  may_want_memory e _ = false
+
+  -- want of memory where it is allowed, else the reply
+  abbrev pub MayReply : Event C S → World C S → World C S → Call C S → Reply C S → Type 0
+  MayReply e w v c reply.OutOfMemory = may_want_memory e c ≡ true
+  MayReply e w v c r = Replies e w v c r
+
+  -- the world that these calls make
+  abbrev pub world_after : List (Call C S) → World C S
+  world_after cs = world_at s (past s cs)
+
+  -- what a further call does
+  abbrev pub event_of : List (Call C S) → Call C S → Event C S
+  event_of before c = event_in s (taken_sets s (past s before)) (world_after before) c
+
+  -- the reply to a call at its point
+  abbrev pub IsAnswer : List (Call C S) → Call C S → Reply C S → Type 0
+  IsAnswer before c r =
+      MayReply (event_of before c) (world_after before) (world_after (c ∷ before)) c r
+
+  -- ALL REPLIES
+
+  -- whether a command was an accepted call, by its reply
+  abbrev pub is_accepted : Reply C S → Bool
+  is_accepted reply.OutOfMemory = false
+  is_accepted reply.NotHeld = false
+  is_accepted _ = true
+
+  -- the accepted calls after one more, by its reply
+  abbrev pub next : List (Call C S) → Call C S → Reply C S → List (Call C S)
+  next before c r = if is_accepted r then c ∷ before else before
+
+  -- the accepted calls, the newest first, after those before
+  abbrev pub accepted : List (Call C S) → List (Call C S) → List (Reply C S) → List (Call C S)
+  accepted before [] rs = before
+  accepted before (c ∷ cs) [] = before
+  accepted before (c ∷ cs) (r ∷ rs) = accepted (next before c r) cs rs
+
+  -- the world after all of them
+  abbrev pub world_left : List (Call C S) → List (Reply C S) → World C S
+  world_left cs rs = world_after (accepted [] cs rs)
+
+  -- one reply for each call, each the answer at its point
+  abbrev pub AreAnswers : List (Call C S) → List (Call C S) → List (Reply C S) → Type 0
+  AreAnswers before [] [] = Unit {0}
+  AreAnswers before [] (r ∷ rs) = ⊥
+  AreAnswers before (c ∷ cs) [] = ⊥
+  AreAnswers before (c ∷ cs) (r ∷ rs) =
+      IsAnswer before c r × AreAnswers (next before c r) cs rs
+
+  -- WHAT IS HELD
+
+  -- a reservation for exactly the peers that aren't inert, with the metadata of their last grant
+  pub record Holds (w : World C S) (held : C → Option (Metadata C S)) : Type 0 where
+    pub peers : (q : C) → is_some (held q) ≡ not (is_inert (w.peer q).status)
+    pub metadata : (q : C) →
+        held q ≡ option_map (λ grant. metadata_of q grant.direction) (w.held q)

@@ -1,0 +1,174 @@
+//! The counts of sets in the records of many peers.
+
+ghost use Rattle.std.specs.Prelude.{◌≡◌, ◌+◌, ◌≤◌, ◌<◌, ◌++◌, ◌∷◌, [], ℕ, false, true, OnOk, OnErr, if◌then◌else◌, length, vec_capacity};
+ghost use Rattle.std.specs.List.{filter, IsDistinct};
+ghost use Rattle.std.specs.List.Sorted.{IsStrictlySortedBy};
+ghost use Rattle.std.specs.Ordering.{eq_by_cmp};
+ghost use Rattle.std.specs.Option.{option_map_or};
+ghost use Rattle.p2p_directory.specs.declared.record.Role.{Role};
+ghost use Rattle.p2p_directory.specs.Private.Counts.{one_set_more, one_set_less, is_torn_down_without};
+ghost use Rattle.p2p_directory.specs.PeerSets.{has_key, AreRolesDisjoint};
+ghost use Rattle.p2p_directory.specs.Directory.{record_at, ChangesAt};
+ghost use Rattle.p2p_directory.specs.Private.Counts.{record_joining, record_leaving, is_torn_down_leaving, IsRestored};
+
+use crate::directory::records::Records;
+use crate::kept::{PeerSet, forget};
+use crate::record::{Record, Role};
+use p2p_discovery::codec::PublicKey;
+use p2p_discovery::sets::{OrderedSet, SetError};
+use std::alloc::AllocError;
+
+impl<C: PublicKey> Records<C> {
+    // Counts one set of the peer more, in a new record where it has none.
+    fn join_one(&mut self, peer: &C, role: Role) -> Result<(), AllocError>
+        ensures ok { OnOk result (ChangesAt C.cmp self.old self.new peer.now (one_set_more role)) }
+        ensures err { OnErr result (self.new ≡ self.old) }
+    {
+        match self.map.entry(*peer) {
+            Ok(entry) => {
+                entry.or_insert(Record::unknown()).count_more(role);
+                Ok(())
+            }
+            Err(refused) => {
+                forget(refused);
+                Err(AllocError)
+            }
+        }
+    }
+
+    // Counts one set of the peer less, takes out its record where that is deletable then, and says
+    // whether its connection has to end.
+    fn leave_one(&mut self, peer: &C, role: Role) -> bool
+        ensures records { ChangesAt C.cmp self.old self.new peer.now (one_set_less role) }
+        ensures torn { result ≡ option_map_or (is_torn_down_without role) (record_at C.cmp self.old peer.now) false }
+    {
+        let mut torn = false;
+        if let Some(found) = self.map.get_mut(peer) {
+            torn = found.is_torn_down_without(role);
+            found.count_less(role);
+            if found.deletable() {
+                forget(self.map.remove(peer));
+            }
+        }
+        torn
+    }
+
+    // Counts one set of each peer less, and adds to a list those whose connections have to end.
+    fn leave_each(&mut self, peers: &[C], role: Role, torn: &mut Vec<C>)
+        requires sorted { IsStrictlySortedBy C.cmp peers.now }
+        requires room { length torn.old.items + length peers.now ≤ vec_capacity torn.old }
+        ensures records { (q : C) → record_at C.cmp self.new q ≡
+            (if has_key C.cmp peers.now q then one_set_less role (record_at C.cmp self.old q) else record_at C.cmp self.old q) }
+        ensures torn { torn.new.items ≡ torn.old.items ++
+            filter (λ q. option_map_or (is_torn_down_without role) (record_at C.cmp self.old q) false) peers.now }
+        ensures capacity { vec_capacity torn.new ≡ vec_capacity torn.old }
+        ensures length { length torn.new.items ≤ length torn.old.items + length peers.now }
+    {
+        for peer in peers {
+            let ends = self.leave_one(peer, role);
+            push_if(torn, *peer, ends);
+        }
+    }
+
+    // Counts one set of each peer less, where nobody's connection has to end by it.
+    fn undo_each(&mut self, peers: &[C], role: Role)
+        requires { IsStrictlySortedBy C.cmp peers.now }
+        ensures { (q : C) → record_at C.cmp self.new q ≡
+            (if has_key C.cmp peers.now q then one_set_less role (record_at C.cmp self.old q) else record_at C.cmp self.old q) }
+    {
+        for peer in peers {
+            let _ = self.leave_one(peer, role);
+        }
+    }
+
+    // Counts one set of each peer more, or leaves all as it was.
+    fn join_each(&mut self, peers: &[C], role: Role) -> Result<(), AllocError>
+        requires { IsStrictlySortedBy C.cmp peers.now }
+        ensures ok { OnOk result ((q : C) → record_at C.cmp self.new q ≡
+            (if has_key C.cmp peers.now q then one_set_more role (record_at C.cmp self.old q) else record_at C.cmp self.old q)) }
+        ensures err { OnErr result ((q : C) → (has_key C.cmp peers.now q ≡ true → IsRestored C.cmp role (record_at C.cmp self.old q)) →
+            record_at C.cmp self.new q ≡ record_at C.cmp self.old q) }
+    {
+        for (place, peer) in peers.iter().enumerate() {
+            if let Err(refused) = self.join_one(peer, role) {
+                self.undo_each(&peers[..place], role);
+                return Err(refused);
+            }
+        }
+        Ok(())
+    }
+
+    // Counts a set more for the peers of each role, or leaves what is kept of each peer as it was.
+    fn join_roles(&mut self, set: &PeerSet<C>) -> Result<(), AllocError>
+        ensures disjoint { AreRolesDisjoint C.cmp set.now }
+        ensures ok { OnOk result ((q : C) → record_at C.cmp self.new q ≡ record_joining C.cmp set.now q (record_at C.cmp self.old q)) }
+        ensures err { OnErr result (((q : C) (role : Role) → IsRestored C.cmp role (record_at C.cmp self.old q)) →
+            (q : C) → record_at C.cmp self.new q ≡ record_at C.cmp self.old q) }
+    {
+        let primary = set.primary().as_slice();
+        if let Err(refused) = self.join_each(primary, Role::Primary) {
+            return Err(refused);
+        }
+        let secondary = set.secondary().as_slice();
+        let joined = self.join_each(secondary, Role::Secondary);
+        if let Err(refused) = joined {
+            self.undo_each(primary, Role::Primary);
+            return Err(refused);
+        }
+        Ok(())
+    }
+
+    /// Counts a set that comes for each of its peers, or leaves all as it was where memory is
+    /// refused. A peer that has no record gets one.
+    pub fn join(&mut self, set: &PeerSet<C>) -> Result<(), AllocError>
+        ensures disjoint { AreRolesDisjoint C.cmp set.now }
+        ensures ok { OnOk result ((q : C) → record_at C.cmp self.new q ≡ record_joining C.cmp set.now q (record_at C.cmp self.old q)) }
+        ensures err { OnErr result (((q : C) (role : Role) → IsRestored C.cmp role (record_at C.cmp self.old q)) → self.new ≡ self.old) }
+    {
+        // For the proof: the clauses of `len` say that the keys are in order.
+        let _before = self.map.len();
+        let joined = self.join_roles(set);
+        let _after = self.map.len();
+        joined
+    }
+
+    /// Counts a set that goes for each of its peers, and takes out the records that are deletable
+    /// then. Answers the peers whose connections have to end, in the list that is handed in: there
+    /// is room in it for all peers of the set.
+    pub fn leave(&mut self, set: &PeerSet<C>, mut torn: Vec<C>) -> OrderedSet<C>
+        requires empty { torn.items ≡ [] }
+        requires room { length set.now.primary + length set.now.secondary ≤ vec_capacity torn }
+        ensures disjoint { AreRolesDisjoint C.cmp set.now }
+        ensures records { (q : C) → record_at C.cmp self.new q ≡ record_leaving C.cmp set.now q (record_at C.cmp self.old q) }
+        ensures sorted { IsStrictlySortedBy C.cmp result }
+        ensures members { (q : C) → has_key C.cmp result q ≡ is_torn_down_leaving C.cmp set.now q (record_at C.cmp self.old q) }
+    {
+        self.leave_each(set.primary().as_slice(), Role::Primary, &mut torn);
+        self.leave_each(set.secondary().as_slice(), Role::Secondary, &mut torn);
+        ordered(torn)
+    }
+}
+
+// Adds the peer to a list that has room for it, where it is to be added.
+fn push_if<C: PublicKey>(list: &mut Vec<C>, peer: C, is_added: bool)
+    requires { length list.old.items < vec_capacity list.old }
+    ensures items { list.new.items ≡ list.old.items ++ (if is_added then peer ∷ [] else []) }
+    ensures capacity { vec_capacity list.new ≡ vec_capacity list.old }
+    ensures length { length list.new.items ≤ length list.old.items + 1 }
+{
+    if is_added {
+        list.push_reserved(peer);
+    }
+}
+
+/// The set of these peers, which are distinct.
+pub fn ordered<C: PublicKey>(peers: Vec<C>) -> OrderedSet<C>
+    requires { IsDistinct (eq_by_cmp C.cmp) peers.items }
+    ensures sorted { IsStrictlySortedBy C.cmp result }
+    ensures members { (q : C) → has_key C.cmp result q ≡ has_key C.cmp peers.items q }
+{
+    match OrderedSet::try_from(peers) {
+        Ok(set) => set,
+        Err(SetError::Duplicate) => unreachable!(),
+    }
+}

@@ -1,0 +1,149 @@
+//! Slots for the reservations that may be granted, made before the first command.
+
+ghost use Rattle.std.specs.Prelude.{◌≡◌, [], false, true, ◌||◌, if◌then◌else◌};
+ghost use Rattle.std.specs.Prelude.{IfSome, OnOk, OnErr, None, Some};
+ghost use Rattle.std.specs.BTreeMap.{is_at};
+ghost use Rattle.p2p_directory.specs.Directory.{key_of};
+ghost use Rattle.p2p_directory.specs.Held.{held_of};
+ghost use Rattle.p2p_directory.specs.Private.Slots.{slot_of, has_slot, held_in, AreSlots};
+
+use crate::directory::Reservation;
+use crate::run::held::Held;
+use p2p_discovery::codec::PublicKey;
+use std::alloc::{AllocError, AllocFailed, Global};
+use std::collections::BTreeMap;
+use std::marker::Model;
+
+/// A slot for each of some peers, empty or with its reservation. A contract sees the peers and
+/// what is in the slots, in ascending order. It must be spent, by [`Slots::into_held`] or
+/// [`Slots::close`].
+pub struct Slots<C: PublicKey> {
+    reservations: BTreeMap<C, Option<Reservation<C>>>,
+    // The peers of all slots.
+    peers: Vec<C>,
+}
+
+impl<C: PublicKey> Model for Slots<C> {
+    ghost use Rattle.std.specs.Prelude.{List, Option};
+    ghost use Rattle.p2p_directory.specs.declared.directory.Metadata.{Metadata};
+
+    ghost Value = { List (C × Option (Metadata C C.Signature)) };
+
+    ghost use Rattle.p2p_directory.specs.Private.Slots.{AreSlots, AreListed};
+
+    ghost view = { λ s. s.reservations.entries };
+
+    ghost invariant = { λ s. AreSlots C.cmp s.reservations.entries
+        × AreListed C.cmp s.peers.items s.reservations.entries };
+}
+
+impl<C: PublicKey> Slots<C> {
+    /// No slots.
+    pub fn new(alloc: Global) -> Self
+        ensures { result ≡ [] }
+    {
+        Slots {
+            reservations: BTreeMap::new(alloc),
+            peers: Vec::new(alloc),
+        }
+    }
+
+    /// Makes an empty slot for the peer, where it has none.
+    pub fn make(&mut self, peer: C) -> Result<(), AllocError>
+        ensures err { OnErr result (self.new ≡ self.old) }
+        ensures slots { OnOk result ((q : C) →
+            has_slot C.cmp self.new q ≡ (is_at (C.cmp peer) q || has_slot C.cmp self.old q)) }
+        ensures held { (q : C) → held_in C.cmp self.new q ≡ held_in C.cmp self.old q }
+    {
+        if self.reservations.contains_key(&peer) {
+            return Ok(());
+        }
+        self.peers.push(peer)?;
+        match self.reservations.insert(peer, None) {
+            Ok(None) => Ok(()),
+            Ok(Some(_slot)) => unreachable!(),
+            Err(AllocFailed { value: (_, slot) }) => {
+                spend_empty(slot);
+                Err(AllocError)
+            }
+        }
+    }
+
+    /// Puts a reservation into the slot of its peer. Takes no memory.
+    pub fn put(&mut self, reservation: Reservation<C>)
+        requires slot { has_slot C.cmp self.old (key_of reservation) ≡ true }
+        requires empty { held_in C.cmp self.old (key_of reservation) ≡ None }
+        ensures slots { (q : C) → has_slot C.cmp self.new q ≡ has_slot C.cmp self.old q }
+        ensures held { (q : C) → held_in C.cmp self.new q ≡ (if is_at (C.cmp (key_of reservation)) q
+            then Some reservation
+            else held_in C.cmp self.old q) }
+    {
+        let peer = *reservation.metadata().public_key();
+        match self.reservations.insert(peer, Some(reservation)) {
+            Ok(Some(slot)) => spend_empty(slot),
+            Ok(None) => unreachable!(),
+            Err(_refused) => unreachable!(),
+        }
+    }
+
+    /// Takes the reservation of the peer out of its slot, which stays. Takes no memory.
+    pub fn take(&mut self, peer: &C) -> Option<Reservation<C>>
+        ensures taken { result ≡ held_in C.cmp self.old peer.now }
+        ensures peer { IfSome result (λ metadata. key_of metadata ≡ peer.now) }
+        ensures slots { (q : C) → has_slot C.cmp self.new q ≡ has_slot C.cmp self.old q }
+        ensures held { (q : C) → held_in C.cmp self.new q
+            ≡ (if is_at (C.cmp peer.now) q then None else held_in C.cmp self.old q) }
+    {
+        match self.reservations.get_mut(peer) {
+            Some(slot) => slot.take(),
+            None => None,
+        }
+    }
+
+    /// What is held. The empty slots go. Takes no memory.
+    pub fn into_held(self) -> Held<C>
+        ensures { (q : C) → held_of C.cmp result q ≡ held_in C.cmp self q }
+    {
+        let Slots {
+            mut reservations,
+            peers,
+        } = self;
+        for peer in &peers {
+            remove_empty(&mut reservations, peer);
+        }
+        Held::new(reservations)
+    }
+
+    /// Ends the slots, where nothing is held in them.
+    pub fn close(self)
+        requires { (q : C) → held_in C.cmp self q ≡ None }
+    {
+        self.into_held().close();
+    }
+}
+
+// Takes the slot of the peer out, where it is empty.
+fn remove_empty<C: PublicKey>(slots: &mut BTreeMap<C, Option<Reservation<C>>>, peer: &C)
+    requires { AreSlots C.cmp slots.old.entries }
+    ensures slots { AreSlots C.cmp slots.new.entries }
+    ensures held { (q : C) →
+        held_in C.cmp slots.new.entries q ≡ held_in C.cmp slots.old.entries q }
+    ensures empty { (q : C) → slot_of C.cmp slots.new.entries q ≡ Some None →
+        (slot_of C.cmp slots.old.entries q ≡ Some None) × (is_at (C.cmp q) peer.now ≡ false) }
+{
+    if let Some(None) = slots.get(peer) {
+        if let Some(slot) = slots.remove(peer) {
+            spend_empty(slot);
+        }
+    }
+}
+
+// What is in no slot needs no release.
+fn spend_empty<C: PublicKey>(slot: Option<Reservation<C>>)
+    requires { slot ≡ None }
+{
+    match slot {
+        None => {}
+        Some(_reservation) => unreachable!(),
+    }
+}

@@ -1,0 +1,204 @@
+//! What each call leaves where memory is refused.
+
+use crate::low_memory::LowMemory;
+use crate::row::run_rows;
+use crate::row::setting::{config, own_info};
+use crate::row::tests::ROWS;
+use p2p_directory::directory::{Directory, TrackedPeers};
+use p2p_directory::record::Status;
+use p2p_discovery::codec::TestKey;
+use p2p_discovery::sets::OrderedSet;
+use p2p_discovery::types::{Ingress, IpAddr, SocketAddr};
+use std::alloc::{AllocError, Global};
+use std::process::Abort;
+use std::test::Fail;
+use std::time::Duration;
+
+/// By how much budgets grow. Blocks of the C library are multiples of it, so each growth is refused
+/// at some budget.
+const STEP: usize = 16;
+
+const ROW_STEPS: usize = 768;
+
+const CALL_STEPS: usize = 3_072;
+
+/// Whether the lines are all there with status 0, or cut after one of them, with `out of memory`
+/// and status 3.
+fn is_whole_or_cut(printed: &[u8], lines: &[u8], status: u8) -> bool {
+    let Some(before) = printed.strip_suffix(b"out of memory\n") else {
+        return status == 0 && printed == lines;
+    };
+    status == 3 && lines.starts_with(before) && (before.is_empty() || before.ends_with(b"\n"))
+}
+
+/// Runs a row at each budget.
+fn runs_at_each_budget(
+    rt: &impl Abort,
+    alloc: Global,
+    memory: &mut LowMemory,
+    word: &str,
+    lines: &str,
+) -> Result<(), Fail> {
+    let words = [word.to_string(alloc)?];
+    let mut out: Vec<u8> = Vec::with_capacity(alloc, 4_096)?;
+    let mut refused = 0usize;
+    for step in 0..ROW_STEPS {
+        out.clear();
+        memory.limit(alloc, step.saturating_mul(STEP))?;
+        let status = run_rows(alloc, &words, &mut out);
+        memory.lift();
+        assert!(rt;
+            is_whole_or_cut(out.as_slice(), lines.as_bytes(), status),
+            "row {word}, step {step}: {status}"
+        );
+        refused = refused.saturating_add(usize::from(status == 3));
+    }
+    assert!(rt;
+        refused > 0 && refused < ROW_STEPS,
+        "row {word}: {refused} refused"
+    );
+    Ok(())
+}
+
+#[test]
+fn rows_end_with_out_of_memory_or_whole(rt: HostRuntime) -> Result<(), Fail> {
+    let alloc = rt.alloc();
+    let mut memory = LowMemory::new(alloc)?;
+    for (word, lines) in ROWS {
+        // The others take none.
+        if !matches!(word, "2" | "21" | "22") {
+            runs_at_each_budget(&rt, alloc, &mut memory, word, lines)?;
+        }
+    }
+    Ok(())
+}
+
+/// The peers with the numbers from `first` on, so many of them.
+fn peers(alloc: Global, first: u64, count: u64) -> Result<TrackedPeers<TestKey>, AllocError> {
+    let numbers = first..first.saturating_add(count);
+    let primary = OrderedSet::from_iter_dedup(alloc, numbers.map(TestKey))?;
+    let secondary = OrderedSet::from_iter_dedup(alloc, (0..2).map(TestKey))?;
+    Ok(TrackedPeers::new(primary, secondary))
+}
+
+/// The answers of the calls that change nothing, for the peers that the tests name.
+fn answers(directory: &Directory<TestKey>) -> (Option<u64>, [Option<Status>; 5]) {
+    let statuses = [
+        directory.status(&TestKey(0)),
+        directory.status(&TestKey(1)),
+        directory.status(&TestKey(2)),
+        directory.status(&TestKey(9)),
+        directory.status(&TestKey(300)),
+    ];
+    (directory.latest_set_index(), statuses)
+}
+
+/// Tracks many peers at a budget, after some others; whether memory was refused.
+fn tracks_at(
+    rt: &impl Abort,
+    alloc: Global,
+    memory: &mut LowMemory,
+    budget: usize,
+) -> Result<bool, Fail> {
+    let mut directory = Directory::init(alloc, Vec::new(alloc), own_info(), config())?;
+    let _ = directory.track(0, peers(alloc, 1, 3)?)?;
+    let before = answers(&directory);
+    let (next, again) = (peers(alloc, 200, 150)?, peers(alloc, 200, 150)?);
+    memory.limit(alloc, budget)?;
+    let answer = directory.track(1, next);
+    memory.lift();
+    let refused = answer.is_err();
+    if refused {
+        assert_eq!(rt; answers(&directory), before, "budget {budget}");
+        let torn = directory.track(1, again)?;
+        assert_eq!(rt; torn.map(|torn| torn.len()), Some(0), "budget {budget}");
+    }
+    let inert = Some(Status::Inert);
+    let after = (Some(1), [inert, inert, None, inert, inert]);
+    assert_eq!(rt; answers(&directory), after, "budget {budget}");
+    Ok(refused)
+}
+
+#[test]
+fn a_set_refused_for_memory_changes_nothing(rt: HostRuntime) -> Result<(), Fail> {
+    let alloc = rt.alloc();
+    let mut memory = LowMemory::new(alloc)?;
+    let mut refused = 0usize;
+    for step in 0..CALL_STEPS {
+        let budget = step.saturating_mul(STEP);
+        refused = refused.saturating_add(usize::from(tracks_at(&rt, alloc, &mut memory, budget)?));
+    }
+    assert!(rt; refused > 0 && refused < CALL_STEPS, "{refused} refused");
+    Ok(())
+}
+
+/// Starts a directory with many bootstrappers at a budget; whether memory was refused.
+fn starts_at(
+    rt: &impl Abort,
+    alloc: Global,
+    memory: &mut LowMemory,
+    budget: usize,
+) -> Result<bool, Fail> {
+    let mut bootstrappers: Vec<(TestKey, Ingress)> = Vec::with_capacity(alloc, 100)?;
+    for number in 1..=100 {
+        let ingress = Ingress::Socket(SocketAddr::new(IpAddr::V4([8, 8, 8, 8]), 9000));
+        bootstrappers.push((TestKey(number), ingress))?;
+    }
+    memory.limit(alloc, budget)?;
+    let answer = Directory::init(alloc, bootstrappers, own_info(), config());
+    memory.lift();
+    match answer {
+        Ok(directory) => {
+            let inert = Some(Status::Inert);
+            let (latest, statuses) = answers(&directory);
+            assert_eq!(rt; latest, None, "budget {budget}");
+            assert_eq!(rt;
+                statuses,
+                [None, inert, inert, inert, None],
+                "budget {budget}"
+            );
+            Ok(false)
+        }
+        Err(AllocError) => Ok(true),
+    }
+}
+
+#[test]
+fn a_start_is_refused_or_whole(rt: HostRuntime) -> Result<(), Fail> {
+    let alloc = rt.alloc();
+    let mut memory = LowMemory::new(alloc)?;
+    let mut refused = 0usize;
+    for step in 0..CALL_STEPS {
+        let budget = step.saturating_mul(STEP);
+        refused = refused.saturating_add(usize::from(starts_at(&rt, alloc, &mut memory, budget)?));
+    }
+    assert!(rt; refused > 0 && refused < CALL_STEPS, "{refused} refused");
+    Ok(())
+}
+
+#[test]
+fn calls_that_take_no_memory_answer_without_any(rt: HostRuntime) -> Result<(), Fail> {
+    let alloc = rt.alloc();
+    let mut memory = LowMemory::new(alloc)?;
+    let mut directory = Directory::init(alloc, Vec::new(alloc), own_info(), config())?;
+    let _ = directory.track(3, peers(alloc, 1, 3)?)?;
+    let (same, older) = (peers(alloc, 1, 3)?, peers(alloc, 1, 2)?);
+    memory.limit(alloc, 0)?;
+    let untaken = (directory.track(3, same), directory.track(2, older));
+    let first = answers(&directory);
+    let held = directory.listen(&TestKey(1), Duration::from_secs(100), Duration::ZERO);
+    let during = directory.status(&TestKey(1));
+    let was_held = held.is_some();
+    if let Some(reservation) = held {
+        directory.release(reservation);
+    }
+    let second = answers(&directory);
+    memory.lift();
+    assert!(rt; matches!(untaken, (Ok(None), Ok(None))));
+    let inert = Some(Status::Inert);
+    assert!(rt; was_held);
+    assert_eq!(rt; during, Some(Status::Reserved));
+    assert_eq!(rt; first, (Some(3), [inert, inert, inert, inert, None]));
+    assert_eq!(rt; second, first);
+    Ok(())
+}
