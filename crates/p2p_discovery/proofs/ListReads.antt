@@ -90,6 +90,11 @@ is_room least i n total room p lt h e =
     let k : i + 1 ≤ total / least = (le-div_iff_mul-le p).1 (omega arith) in
     omega arith
 
+pub room_fits : (least n total room : ℕ) → 0 < least → room ≡ min n (total / least) → room * least ≤ total
+room_fits least n total room p e =
+    let k : room ≤ total / least = omega (arith, e) in
+    (le-div_iff_mul-le p).0 k
+
 pub used_more : (least i total : ℕ) (rest front new : List ℕ) → rest ≡ front ++ new → least ≤ length front → least * i + length rest ≤ total → least * (i + 1) + length new ≤ total
 used_more least i total rest front new e le h = omega (arith, ap length e, length-append front new)
 

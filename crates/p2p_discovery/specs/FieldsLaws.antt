@@ -1,14 +1,14 @@
 -- Readers of several fields take exactly the spellings of their fields.
-use Rattle.std.proofs.Common.{◌≡◌, ℕ, zero, suc, ◌≤◌, ◌<◌, ◌^◌, ◌/◌, ◌%◌, Bool, true, false, cond, List, [], ◌∷◌, ◌++◌, length, take, drop, Result, Ok, refl, sym, ap, subst, ◌∙◌, append_assoc, arith, eqb, ltb, ◌⊎◌, inl, inr}
+use Rattle.std.proofs.Common.{◌≡◌, ℕ, zero, suc, ◌≤◌, ◌<◌, ◌^◌, ◌/◌, ◌%◌, Bool, true, false, cond, List, [], ◌∷◌, ◌++◌, length, take, drop, Result, Ok, Err, refl, sym, ap, subst, ◌∙◌, append_assoc, arith, eqb, ltb, ◌⊎◌, inl, inr}
 use Rattle.std.specs.Int.{w16, from_be_bytes, to_be_bytes}
 use Rattle.std.proofs.Common.{eq-eqb}
-use Rattle.std.proofs.lemmas.Bool.{cases_lt, ltb-false, le-ltb, eqb-true}
+use Rattle.std.proofs.lemmas.Bool.{cases_lt, ltb-false, le-ltb, lt-ltb, eqb-true}
 use Rattle.std.proofs.lemmas.List.{take_at, drop_at, take-append-drop, length-append, length-take, get_or-take, get_or_past}
 use Rattle.std.proofs.lemmas.Nat.{be_bytes_2, from_be_bytes-to_be_bytes_2}
 use Rattle.p2p_discovery.specs.declared.codec.error.CodecError.{CodecError}
 use Rattle.p2p_discovery.specs.declared.codec.error.CodecError.TheVariants.{EndOfBuffer, InvalidEnum}
 use Rattle.p2p_discovery.specs.Reading.{Reading, ◌>>=◌, reads, refuses, outcome_then, checked, takes_memory, counted_at, Lawful, IsBytes}
-use Rattle.p2p_discovery.specs.ReadingLaws.{bind_ok, ok_is, guard_ok, done}
+use Rattle.p2p_discovery.specs.ReadingLaws.{bind_ok, ok_is, guard_ok, done, split_at, head_is, tail_is}
 use Rattle.p2p_discovery.specs.Fields.{◌&◌, choice, IsSized, port_at}
 
 -- ---- one field after another
@@ -33,6 +33,11 @@ lawful_both {A = A} {B = B} {r = r} {s = s} {sp = sp} {sq = sq} {P = P} {Q = Q} 
       let first = l.again v.0 (sq v.1 ++ rest) a.0 in
       let second = m.again v.1 rest a.1 in
       rw (append_assoc (sp v.0) (sq v.1) rest, first, second) refl;
+  cut = λ v front rest a e some.
+      elim (split_at (sp v.0) (sq v.1) front rest e) [
+        | inl h ↦ rw (h.1, l.again v.0 h.0 a.0, m.cut v.1 h.0 rest a.1 h.2 some) refl
+        | inr h ↦ rw (l.cut v.0 front h.0 a.0 h.1 h.2) refl
+      ];
 }
 
 -- ---- the same values in another form
@@ -51,6 +56,9 @@ lawful_as {A = A} {B = B} {r = r} {sp = sp} {P = P} to from sq Q there back l = 
   again = λ v rest a.
       let h = back v a in
       rw (h.2, l.again (from v) rest h.1) (ap (λ (b : B). done (b, rest)) h.0);
+  cut = λ v front rest a e some.
+      let h = back v a in
+      rw (l.cut (from v) front rest h.1 (sym h.2 ∙ e) some) refl;
 }
 
 -- ---- one of two forms, behind a first byte
@@ -99,9 +107,25 @@ lawful_choice {A = A} {r = r} {s = s} {sp = sp} {sq = sq} t u so Either differ l
             rw g.1 (ap (λ (x : Reading A). x.outcome) (when_false (eqb u t) (r (sq v ++ rest)) (cond (eqb u u) (s (sq v ++ rest)) (refuses (InvalidEnum u) (sq v ++ rest))) differ
             ∙ when_true (eqb u u) (s (sq v ++ rest)) (refuses (InvalidEnum u) (sq v ++ rest)) (eq-eqb u u refl)) ∙ m.again v rest q)
       ];
+  cut = λ v. elim [
+    | [] ↦ λ rest a e some. refl
+    | b ∷ front ↦ λ rest a e some.
+        elim (either v a) [
+          | inl p ↦
+              let k = sym (left v p).1 ∙ e in
+              rw (← head_is t b (sp v) (front ++ rest) k) (ap (λ (x : Reading A). x.outcome) (when_true (eqb t t) (r front) (cond (eqb t u) (s front) (refuses (InvalidEnum t) front)) (eq-eqb t t refl)) ∙ l.cut v front rest p (tail_is t b (sp v) (front ++ rest) k) some)
+          | inr q ↦
+              let k = sym (right v q).1 ∙ e in
+              rw (← head_is u b (sq v) (front ++ rest) k) (ap (λ (x : Reading A). x.outcome) (when_false (eqb u t) (r front) (cond (eqb u u) (s front) (refuses (InvalidEnum u) front)) differ
+              ∙ when_true (eqb u u) (s front) (refuses (InvalidEnum u) front) (eq-eqb u u refl)) ∙ m.cut v front rest q (tail_is u b (sq v) (front ++ rest) k) some)
+        ]
+  ];
 }
 
 -- ---- fields of a fixed number of bytes
+
+cut_short : (v front rest : List ℕ) (n : ℕ) → length v ≡ n → v ≡ front ++ rest → 0 < length rest → (counted_at n front).outcome ≡ Err EndOfBuffer
+cut_short v front rest n a e some = rw (lt-ltb (length front) n (omega (arith, ap length e, length-append front rest, a))) refl
 
 IsBytes-take : (n : ℕ) (bytes : List ℕ) → IsBytes bytes → IsBytes (take n bytes)
 IsBytes-take n bytes h i =
@@ -120,6 +144,7 @@ lawful_counted n = record {
   again = λ v rest a.
       let long : ltb (length (v ++ rest)) n ≡ false = le-ltb _ _ (omega (arith, length-append v rest, a.0)) in
       rw (long, take_at v rest n a.0, drop_at v rest n a.0) refl;
+  cut = λ v front rest a e some. cut_short v front rest n a.0 e some;
 }
 
 two_bytes : (a b : ℕ) → a < 256 → b < 256 → IsBytes (a ∷ b ∷ [])
@@ -140,6 +165,7 @@ pub lawful_unlimited : {A : Type 0} {r : List ℕ → Reading A} {sp : A → Lis
 lawful_unlimited l = record {
   takes = λ bytes v rest fits e. let t = l.takes bytes v rest fits e in ((t.0, tt), t.1);
   again = λ v rest a. l.again v rest a.0;
+  cut = λ v front rest a e some. l.cut v front rest a.0 e some;
 }
 
 -- ---- a part that a first field says the size of
@@ -154,6 +180,11 @@ lawful_sized {r = r} {sp = sp} {IsSize = IsSize} {part = part} {sq = sq} {P = P}
       ((u.0.0, subst IsSize (sym u.0.1) t.0), t.1 ∙ rw (u.1, ← u.0.1) (sym (append_assoc (sp (size v)) (sq v) rest)));
   again = λ v rest a.
       rw (append_assoc (sp (size v)) (sq v) rest, l.again (size v) (sq v ++ rest) a.1) ((m (size v) a.1).again v rest (a.0, refl));
+  cut = λ v front rest a e some.
+      elim (split_at (sp (size v)) (sq v) front rest e) [
+        | inl h ↦ rw (h.1, l.again (size v) h.0 a.1) ((m (size v) a.1).cut v h.0 rest (a.0, refl) h.2 some)
+        | inr h ↦ rw (l.cut (size v) front h.0 a.1 h.1 h.2) refl
+      ];
 }
 
 -- ---- values that pass a test, and values that take memory
@@ -169,6 +200,7 @@ lawful_checked {A = A} {r = r} {sp = sp} {P = P} grows test fault l = record {
       ];
   again = λ v rest a.
       ap (λ o. outcome_then o (checked grows test fault)) (l.again v rest a.1) ∙ ap (λ (b : Bool). (cond b (takes_memory grows v rest) (refuses (fault v) rest)).outcome) a.0;
+  cut = λ v front rest a e some. rw (l.cut v front rest a.1 e some) refl;
 }
 
 pub lawful_kept : {A : Type 0} {r : List ℕ → Reading A} {sp : A → List ℕ} {P : A → Type 0} (grows : Bool) → Lawful r sp P → Lawful (r >>= takes_memory grows) sp P
@@ -178,6 +210,7 @@ lawful_kept {A = A} {r = r} {sp = sp} {P = P} grows l = record {
       let t = l.takes bytes a.0.0 a.0.1 fits a.1 in
       subst (λ (w : A × List ℕ). P w.0 × (bytes ≡ sp w.0 ++ w.1)) (ok_is (a.0.0, a.0.1) (v, rest) a.2) t;
   again = λ v rest a. rw (l.again v rest a) refl;
+  cut = λ v front rest a e some. rw (l.cut v front rest a e some) refl;
 }
 
 -- ---- bytes of which nothing else is asked than how many they are
@@ -188,6 +221,7 @@ lawful_part n = record {
   again = λ v rest a.
       let long : ltb (length (v ++ rest)) n ≡ false = le-ltb _ _ (omega (arith, length-append v rest, a.1)) in
       rw (long, take_at v rest n a.1, drop_at v rest n a.1) refl;
+  cut = λ v front rest a e some. cut_short v front rest n a.1 e some;
 }
 
 -- ---- the same values in other words
@@ -196,4 +230,5 @@ pub lawful_same : {A : Type 0} {r : List ℕ → Reading A} {sp : A → List ℕ
 lawful_same there back l = record {
   takes = λ bytes v rest fits e. let t = l.takes bytes v rest fits e in (there v t.0, t.1);
   again = λ v rest a. l.again v rest (back v a);
+  cut = λ v front rest a e some. l.cut v front rest (back v a) e some;
 }

@@ -25,6 +25,7 @@ lawful_fixed {size = size} {bytes = bytes} {value = value} what f = record {
   again = λ v rest h.
       let g = f.again v h in
       ap (λ o. outcome_then o (λ b. valued what (value b))) ((lawful_counted size).again (bytes v) rest g.0) ∙ ap (λ o. (valued what o rest).outcome) g.1;
+  cut = λ v front rest h e some. rw ((lawful_counted size).cut (bytes v) front rest (f.again v h).0 e some) refl;
 }
 
 digits : (n : ℕ) → IsBytes (to_be_bytes w64 n)

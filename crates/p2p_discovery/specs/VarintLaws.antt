@@ -1,13 +1,13 @@
 -- A number's groups are read again, and what is read are a number's groups.
-use Rattle.std.proofs.Common.{◌≡◌, ◌↔◌, ℕ, zero, suc, ◌+◌, ◌-◌, ◌*◌, ◌/◌, ◌%◌, ◌^◌, ◌≤◌, ◌<◌, Bool, true, false, cond, ◌&&◌, ◌||◌, List, [], ◌∷◌, ◌++◌, length, Result, Ok, refl, sym, ap, subst, ◌∙◌, arith, eqb, ltb, inl, inr}
+use Rattle.std.proofs.Common.{◌≡◌, ◌↔◌, ℕ, zero, suc, ◌+◌, ◌-◌, ◌*◌, ◌/◌, ◌%◌, ◌^◌, ◌≤◌, ◌<◌, Bool, true, false, cond, ◌&&◌, ◌||◌, List, [], ◌∷◌, ◌++◌, length, Result, Ok, Err, refl, sym, ap, subst, ◌∙◌, arith, eqb, ltb, inl, inr}
 use Rattle.std.proofs.Math.Nat.{pow-suc, mul-le-mul_left}
 use Rattle.std.proofs.Math.Dec.{eqb-suc-zero}
 use Rattle.std.proofs.lemmas.Bool.{cases_lt, ltb-false, le-ltb, lt-ltb}
 use Rattle.p2p_discovery.specs.declared.codec.error.CodecError.{CodecError}
-use Rattle.p2p_discovery.specs.declared.codec.error.CodecError.TheVariants.{InvalidVarint}
+use Rattle.p2p_discovery.specs.declared.codec.error.CodecError.TheVariants.{EndOfBuffer, InvalidVarint}
 use Rattle.p2p_discovery.specs.Reading.{◌>>=◌, reads, byte_at, Fails, Gives, Lawful, IsBytes}
 use Rattle.p2p_discovery.specs.Varint.{SpellsFrom, groups, groups_at, last_group}
-use Rattle.p2p_discovery.specs.ReadingLaws.{fails_first, gives_next, guard_ok, done, ok_is, bind_ok}
+use Rattle.p2p_discovery.specs.ReadingLaws.{fails_first, gives_next, guard_ok, done, ok_is, bind_ok, head_is, tail_is, one_byte_front}
 
 pub groups_small : (most n : ℕ) → 0 < most → n < 128 → groups most n ≡ n ∷ []
 unfolding groups
@@ -188,10 +188,31 @@ groups_again most top started (suc left) n rest lt small some =
           rw (g, step_high most top started left w (groups (suc left) (n / 128) ++ rest) (omega arith), again) (ap (λ (k : ℕ). done (k, rest)) v)
     ]
 
+-- a proper front of the groups ends too early
+pub groups_cut : (most top : ℕ) (started : Bool) (left n : ℕ) (front rest : List ℕ) → top < 128 → n < (top + 1) * 128 ^ left → groups (suc left) n ≡ front ++ rest → 0 < length rest
+    → (groups_at most top started left front).outcome ≡ Err EndOfBuffer
+groups_cut most top started zero n [] rest lt small e some = rw (at_zero most top started zero [] refl) refl
+groups_cut most top started zero n (b ∷ front) rest lt small e some =
+    absurd (one_byte_front n b front rest (sym (groups_small 1 n (omega arith) (omega arith)) ∙ e) some)
+groups_cut most top started (suc left) n [] rest lt small e some = rw (at_more most top started (suc left) left [] refl) refl
+groups_cut most top started (suc left) n (b ∷ front) rest lt small e some =
+    elim (cases_lt n 128) [
+      | inl low ↦ absurd (one_byte_front n b front rest (sym (groups_small (suc (suc left)) n (omega arith) low) ∙ e) some)
+      | inr high ↦
+          let w = (n % 128 + 128) in
+          let v : n % 128 + 128 - 128 + 128 * (n / 128) ≡ n = omega arith in
+          let g : groups (suc (suc left)) n ≡ w ∷ groups (suc left) (n / 128) = ap (groups (suc (suc left))) (sym v) ∙ groups_step left w (n / 128) (omega arith) (omega arith) (omega arith) in
+          let h : w ≡ b = head_is w b (groups (suc left) (n / 128)) (front ++ rest) (sym g ∙ e) in
+          let t : groups (suc left) (n / 128) ≡ front ++ rest = tail_is w b (groups (suc left) (n / 128)) (front ++ rest) (sym g ∙ e) in
+          let k = groups_cut most top true left (n / 128) front rest lt (div_fits n ((top + 1) * 128 ^ left) (bound_split top left n small)) t some in
+          rw (step_high most top started left b front (omega (arith, h)), k) refl
+    ]
+
 pub groups_lawful : (most top left : ℕ) → top < 128 → Lawful (groups_at most top false left) (groups (suc left)) (λ n. n < (top + 1) * 128 ^ left)
 groups_lawful most top left lt = record {
   takes = λ bytes n rest fits e. let t = groups_take most top false left bytes n rest lt fits e in (t.small, t.parts);
   again = λ n rest small. groups_again most top false left n rest lt small (λ e. absurd cc);
+  cut = λ n front rest small e some. groups_cut most top false left n front rest lt small e some;
 }
 
 pub groups_short : (most n : ℕ) → length (groups most n) ≤ most

@@ -19,7 +19,7 @@ pub use encode::{EncodeSize, MaxEncodeSize, Write};
 pub use error::{CodecError, RangeCfg, What};
 pub(crate) use fixed::{read_value, write_value};
 pub use fixed::{FixedBytes, PublicKey};
-pub use laws::{bounded_size, one_spelling, read_back, varint_grammar};
+pub use laws::{bounded_size, cut_short, one_spelling, read_back, test_key_order, varint_grammar};
 pub(crate) use lists::{items_size, read_items, write_items};
 pub use reader::Reader;
 pub(crate) use reader::are_bytes;

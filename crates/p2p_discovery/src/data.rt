@@ -73,9 +73,13 @@ impl Read for Data {
 /// The prefix byte of a payload that is data.
 pub const DATA_PREFIX: u8 = 0;
 
+const _: () = prove!(DATA_PREFIX == 0);
+
 /// How many bytes a data frame is longer than its message at most: 1 of the prefix, 10 of the
 /// channel and 5 of the length.
 pub const MAX_PAYLOAD_OVERHEAD: u32 = 1 + 10 + 5;
+
+const _: () = prove!(MAX_PAYLOAD_OVERHEAD == 16);
 
 /// What carries frames, each of a limited size.
 pub trait Upgrader {

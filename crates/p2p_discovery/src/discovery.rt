@@ -1,6 +1,7 @@
 //! What a peer says of itself.
 
-ghost use Rattle.std.specs.Prelude.{◌≡◌, IfOk};
+ghost use Rattle.std.specs.Prelude.{◌≡◌, true, IfOk, IsOk};
+ghost use Rattle.p2p_discovery.specs.Ingress.{takes_none};
 
 use crate::codec::PublicKey;
 use crate::types::Ingress;
@@ -22,7 +23,8 @@ pub struct Info<C: PublicKey> {
 impl<C: PublicKey> Info<C> {
     /// An equal info, or want of memory.
     pub fn clone(&self) -> Result<Info<C>, AllocError>
-        ensures { IfOk result (λ copy. copy ≡ self.now) }
+        ensures equal { IfOk result (λ copy. copy ≡ self.now) }
+        ensures socket { takes_none self.now.ingress ≡ true → IsOk result }
     {
         Ok(Info {
             ingress: self.ingress.clone()?,

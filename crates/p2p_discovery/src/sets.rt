@@ -112,7 +112,8 @@ impl<P: PublicKey> OrderedSet<P> {
 
     /// The peers in ascending order.
     pub fn iter(&self) -> slice::Iter<'_, P>
-        ensures { iter_rest result ≡ self.now }
+        ensures all { iter_rest result ≡ self.now }
+        ensures sorted { IsStrictlySortedBy P.cmp self.now }
     {
         self.items.iter()
     }
@@ -131,7 +132,8 @@ impl<P: PublicKey> OrderedSet<P> {
     ///
     /// `AllocError` where memory is refused.
     pub fn clone(&self) -> Result<Self, AllocError>
-        ensures { IfOk result (λ copy. copy ≡ self.now) }
+        ensures equal { IfOk result (λ copy. copy ≡ self.now) }
+        ensures empty { self.now ≡ [] → IsOk result }
     {
         let mut items = Vec::new(*self.items.allocator());
         items.extend_from_slice(&self.items)?;
@@ -156,7 +158,7 @@ impl<'a, P: PublicKey> IntoIterator for &'a OrderedSet<P> {
 
     type IntoIter = slice::Iter<'a, P>;
 
-    ghost into_iter_gives = { λ set it. iter_rest it ≡ set.now };
+    ghost into_iter_gives = { λ set it. (iter_rest it ≡ set.now) × IsStrictlySortedBy P.cmp set.now };
 
     fn into_iter(self) -> slice::Iter<'a, P> {
         self.iter()

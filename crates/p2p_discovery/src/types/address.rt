@@ -1,8 +1,10 @@
 //! Where a peer is reached, and where its connections come from.
 
-ghost use Rattle.std.specs.Prelude.{◌≡◌, ◌↔◌, ◌≤◌, length, IfOk, IsTrue};
+ghost use Rattle.std.specs.Prelude.{◌≡◌, ◌↔◌, ◌≤◌, length, true, IfOk, IsOk, IsTrue};
 ghost use Rattle.p2p_discovery.specs.FieldsLaws.{lawful_unlimited};
 ghost use Rattle.p2p_discovery.specs.Address.{same_address, ingress_of, egress_of, IsAddress, address_spelling, address_at};
+ghost use Rattle.p2p_discovery.specs.Ingress.{takes_none};
+ghost use Rattle.p2p_discovery.specs.Socket.{socket_ip};
 ghost use Rattle.p2p_discovery.specs.AddressLaws.{lawful_address, address_short};
 ghost use Rattle.p2p_discovery.specs.SameLaws.{address_equivalence, address_laws};
 
@@ -29,7 +31,8 @@ pub enum Address {
 impl Address {
     /// What is dialled to reach the peer, or want of memory.
     pub fn ingress(&self) -> Result<Ingress, AllocError>
-        ensures { IfOk result (λ ingress. ingress ≡ ingress_of self.now) }
+        ensures ingress { IfOk result (λ ingress. ingress ≡ ingress_of self.now) }
+        ensures socket { takes_none (ingress_of self.now) ≡ true → IsOk result }
     {
         match self {
             Address::Symmetric(socket) => Ok(Ingress::Socket(*socket)),
@@ -39,7 +42,7 @@ impl Address {
 
     /// The address that connections come from.
     pub fn egress_ip(&self) -> IpAddr
-        ensures { result ≡ (egress_of self.now).ip }
+        ensures { result ≡ socket_ip (egress_of self.now) }
     {
         self.egress().ip()
     }
@@ -56,7 +59,8 @@ impl Address {
 
     /// An equal value, or want of memory.
     pub fn clone(&self) -> Result<Address, AllocError>
-        ensures { IfOk result (λ copy. copy ≡ self.now) }
+        ensures equal { IfOk result (λ copy. copy ≡ self.now) }
+        ensures socket { takes_none (ingress_of self.now) ≡ true → IsOk result }
     {
         match self {
             Address::Symmetric(socket) => Ok(Address::Symmetric(*socket)),

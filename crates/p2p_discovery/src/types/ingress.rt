@@ -1,8 +1,8 @@
 //! Where a peer is reached.
 
-ghost use Rattle.std.specs.Prelude.{◌≡◌, ◌↔◌, ◌≤◌, length, IfOk, IsTrue};
+ghost use Rattle.std.specs.Prelude.{◌≡◌, ◌↔◌, ◌≤◌, length, true, IfOk, IsOk, IsTrue};
 ghost use Rattle.p2p_discovery.specs.FieldsLaws.{lawful_unlimited};
-ghost use Rattle.p2p_discovery.specs.Ingress.{same_ingress, is_valid, port_of, ip_of, IsIngress, ingress_spelling, ingress_at};
+ghost use Rattle.p2p_discovery.specs.Ingress.{same_ingress, is_valid, port_of, ip_of, takes_none, IsIngress, ingress_spelling, ingress_at};
 ghost use Rattle.p2p_discovery.specs.IngressLaws.{lawful_ingress, ingress_short};
 ghost use Rattle.p2p_discovery.specs.SameLaws.{ingress_equivalence, ingress_laws};
 
@@ -62,7 +62,8 @@ impl Ingress {
 
     /// An equal value, or want of memory.
     pub fn clone(&self) -> Result<Ingress, AllocError>
-        ensures { IfOk result (λ copy. copy ≡ self.now) }
+        ensures equal { IfOk result (λ copy. copy ≡ self.now) }
+        ensures socket { takes_none self.now ≡ true → IsOk result }
     {
         match self {
             Ingress::Socket(socket) => Ok(Ingress::Socket(*socket)),

@@ -5,7 +5,7 @@ ghost use Rattle.p2p_discovery.specs.Reading.{Gives};
 ghost use Rattle.p2p_discovery.specs.Fields.{IsSized, port_at};
 ghost use Rattle.p2p_discovery.specs.FieldsLaws.{lawful_unlimited};
 ghost use Rattle.p2p_discovery.specs.Global.{is_global};
-ghost use Rattle.p2p_discovery.specs.Socket.{IsIp, IsSocket, ip_spelling, socket_spelling, ip_at, socket_at};
+ghost use Rattle.p2p_discovery.specs.Socket.{socket_from, socket_ip, socket_port, IsIp, IsSocket, ip_spelling, socket_spelling, ip_at, socket_at};
 ghost use Rattle.p2p_discovery.specs.SocketLaws.{lawful_socket, socket_short};
 
 use crate::codec::{CodecError, EncodeSize, MaxEncodeSize, Read, Reader, Write, are_bytes};
@@ -47,21 +47,21 @@ pub struct SocketAddr {
 impl SocketAddr {
     /// The port of a machine.
     pub fn new(ip: IpAddr, port: u16) -> SocketAddr
-        ensures { result ≡ record { ip = ip; port = port } }
+        ensures { result ≡ socket_from ip port }
     {
         SocketAddr { ip, port }
     }
 
     /// The address of the machine.
     pub fn ip(&self) -> IpAddr
-        ensures { result ≡ self.now.ip }
+        ensures { result ≡ socket_ip self.now }
     {
         self.ip
     }
 
     /// The port.
     pub fn port(&self) -> u16
-        ensures { result ≡ self.now.port }
+        ensures { result ≡ socket_port self.now }
     {
         self.port
     }

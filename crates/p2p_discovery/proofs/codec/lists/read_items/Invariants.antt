@@ -11,4 +11,5 @@ invariant-loop g l = record {
   len : vec_len l.items ≡ l.counter;
   used : l.least * l.counter + length l.reader ≤ length l.initial.reader;
   room : l.room ≤ vec_capacity l.items;
+  most : vec_capacity l.items * l.least ≤ length l.initial.reader;
 }
