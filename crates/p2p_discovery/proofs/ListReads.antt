@@ -1,6 +1,7 @@
 -- Reading and writing values one after the other, as a loop does.
 use Rattle.std.proofs.Common.{◌≡◌, ℕ, zero, suc, ◌+◌, ◌*◌, ◌/◌, ◌≤◌, ◌<◌, Bool, true, false, ◌||◌, List, [], ◌∷◌, ◌++◌, length, Result, Ok, Err, refl, sym, ap, ◌∙◌, append_assoc, arith}
 use Rattle.std.proofs.Common.{min, ltb, leb, get_or, drop, add-one, drop-cons}
+use Rattle.std.specs.List.{AllByRecursion}
 use Rattle.p2p_discovery.specs.Lists.{spellings}
 use Rattle.std.proofs.Math.Nat.{le-div_iff_mul-le}
 use Rattle.std.proofs.lemmas.Bool.{lt-ltb, le-leb}
@@ -107,3 +108,11 @@ next_is sp xs i x lt e = rw (add-one, drop-cons xs i x lt, ← e) refl
 pub none_left : {A : Type 0} (sp : A → List ℕ) (xs : List A) (i : ℕ) → length xs ≤ i → spellings sp (drop i xs) ≡ []
 unfolding spellings
 none_left sp xs i le = rw (nil_from_length (drop i xs) (omega (arith, length-drop i xs))) refl
+
+-- ---- a fact of each value
+
+pub each_next : {A : Type 0} (P : A → Type 0) (xs : List A) (i : ℕ) (x : A) → i < length xs → x ≡ get_or xs i x → P x → AllByRecursion P (drop (i + 1) xs) → AllByRecursion P (drop i xs)
+each_next P xs i x lt e here later = rw (drop-cons xs i x lt, ← e) (here, rw add-one at later)
+
+pub each_none : {A : Type 0} (P : A → Type 0) (xs : List A) (i : ℕ) → length xs ≤ i → AllByRecursion P (drop i xs)
+each_none P xs i le = rw (nil_from_length (drop i xs) (omega (arith, length-drop i xs))) tt

@@ -11,8 +11,11 @@ pub mod FixedLaws
 pub mod Global
 pub mod Hostname
 pub mod HostnameLaws
+pub mod Info
+pub mod InfoLaws
 pub mod Ingress
 pub mod IngressLaws
+pub mod Judgement
 pub mod KeysLaws
 pub mod Lists
 pub mod ListsLaws

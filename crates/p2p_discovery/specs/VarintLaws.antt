@@ -132,6 +132,12 @@ groups_step left b high le lt some =
     let v = value_is b high le lt some in
     rw (le-ltb (b - 128 + 128 * high) 128 v.0, v.1, v.2) refl
 
+-- a number of two groups, of which the second is 1
+pub groups_two : (left n : ℕ) → 128 ≤ n → n < 256 → groups (suc (suc left)) n ≡ n ∷ 1 ∷ []
+groups_two left n le lt =
+    let e : n ≡ n - 128 + 128 * 1 = omega arith in
+    ap (groups (suc (suc left))) e ∙ groups_step left n 1 le lt (omega arith) ∙ ap (λ (w : List ℕ). n ∷ w) (groups_small (suc left) 1 (omega arith) (omega arith))
+
 pub groups_take : (most top : ℕ) (started : Bool) (left : ℕ) (bytes : List ℕ) (n : ℕ) (rest : List ℕ) → top < 128 → IsBytes bytes → (groups_at most top started left bytes).outcome ≡ Ok (n, rest) → Took top left started bytes n rest
 unfolding groups_at
 groups_take most top started zero [] n rest lt fits e = absurd cc

@@ -1,11 +1,21 @@
-//! What a peer says of itself.
+//! What peers say of themselves, and to each other.
+//!
+//! docs/FORMATS.md says how it is spelled.
 
 ghost use Rattle.std.specs.Prelude.{◌≡◌, true, IfOk, IsOk};
 ghost use Rattle.p2p_discovery.specs.Ingress.{takes_none};
 
+mod info_codec;
+mod info_list;
+mod info_signing;
+mod verifier;
+
 use crate::codec::PublicKey;
 use crate::types::Ingress;
+pub use info_list::Infos;
 use std::alloc::AllocError;
+use thiserror::Error;
+pub use verifier::InfoVerifier;
 
 /// Where a peer says that it is reached, signed by it.
 #[derive(Debug, Drop)]
@@ -21,7 +31,11 @@ pub struct Info<C: PublicKey> {
 }
 
 impl<C: PublicKey> Info<C> {
-    /// An equal info, or want of memory.
+    /// An equal info. It takes no memory where the info has a socket address.
+    ///
+    /// # Errors
+    ///
+    /// `AllocError` where memory is refused.
     pub fn clone(&self) -> Result<Info<C>, AllocError>
         ensures equal { IfOk result (λ copy. copy ≡ self.now) }
         ensures socket { takes_none self.now.ingress ≡ true → IsOk result }
@@ -33,6 +47,23 @@ impl<C: PublicKey> Info<C> {
             signature: self.signature,
         })
     }
+}
+
+/// Why an info, or a list of them, is refused.
+#[derive(Clone, Copy, Debug, PartialEq, Eq, Error)]
+pub enum Error {
+    /// A list of so many infos is too long.
+    #[error("too many peers: {0}")]
+    TooManyPeers(usize),
+    /// An info has the own key.
+    #[error("received self")]
+    ReceivedSelf,
+    /// A signature isn't right.
+    #[error("invalid signature")]
+    InvalidSignature,
+    /// A timestamp lies too far ahead.
+    #[error("synchrony bound violated")]
+    SynchronyBound,
 }
 
 #[cfg(test)]

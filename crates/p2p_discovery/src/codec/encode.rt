@@ -38,6 +38,10 @@ pub trait MaxEncodeSize: EncodeSize {
 
 /// A value that is written by its spelling.
 pub trait Write: EncodeSize {
+    // What is known of a value once it was written, where its type has parts of any other type:
+    // these are values of their types.
+    ghost HoldsValues: { Self → Type 0 } = { λ _. Unit {0} };
+
     /// Appends the spelling. It takes no memory.
     ///
     /// Condition: spare room for [`EncodeSize::encode_size`] bytes.
@@ -45,13 +49,15 @@ pub trait Write: EncodeSize {
         requires can { Self.CanSpell self.now }
         requires room { length (Self.spelling self.now) ≤ buf.old.spare }
         ensures items { buf.new.items ≡ buf.old.items ++ Self.spelling self.now }
-        ensures spare { buf.new.spare + length (Self.spelling self.now) ≡ buf.old.spare };
+        ensures spare { buf.new.spare + length (Self.spelling self.now) ≡ buf.old.spare }
+        ensures holds { HoldsValues self.now };
 
     /// The spelling in a buffer of its own, or want of memory.
     final fn encode(&self, alloc: Global) -> Result<Bytes, AllocError>
         requires { Self.CanSpell self.now }
         ensures spelled { IfOk result (λ b. b ≡ Self.spelling self.now) }
         ensures value { Self.IsValue self.now }
+        ensures holds { IfOk result (λ _. HoldsValues self.now) }
     {
         let mut buf = BytesMut::with_capacity(alloc, self.encode_size())?;
         self.write(&mut buf);

@@ -31,7 +31,7 @@ pub fn cut_short<T: Read>(alloc: Global, front: Bytes, cfg: &T::Cfg) -> Result<T
 /// Conditions: those of [`Write::encode`], and that the limits admit the value.
 pub fn read_back<T: Write + Read>(alloc: Global, value: &T, cfg: &T::Cfg) -> Result<T, CodecError>
     requires can { T.CanSpell value.now }
-    requires admits { T.Admits cfg.now value.now }
+    requires admits { T.HoldsValues value.now → T.Admits cfg.now value.now }
     ensures { Leaves result [] value.now [] }
 {
     let bytes = value.encode(alloc)?;

@@ -1,6 +1,7 @@
 //! Values one after the other.
 
 ghost use Rattle.std.specs.Prelude.{◌≡◌, ℕ, ◌+◌, ◌*◌, ◌<◌, IfOk, vec_capacity, ◌≤◌, ◌^◌, ◌++◌, ◌/◌, length, min};
+ghost use Rattle.std.specs.List.{AllByRecursion};
 ghost use Rattle.p2p_discovery.specs.Reading.{GivesAs};
 ghost use Rattle.p2p_discovery.specs.Lists.{items_at, spellings};
 
@@ -34,7 +35,8 @@ pub(crate) fn read_items<T: Read<Cfg = ()>>(
 pub(crate) fn items_size<T: EncodeSize>(items: &[T]) -> usize
     requires can { (x : T) → T.CanSpell x }
     requires fits { length (spellings T.spelling items.now) < 2 ^ 64 }
-    ensures { result ≡ length (spellings T.spelling items.now) }
+    ensures size { result ≡ length (spellings T.spelling items.now) }
+    ensures value { AllByRecursion T.IsValue items.now }
 {
     let mut size = 0;
     for item in items {
@@ -49,6 +51,7 @@ pub(crate) fn write_items<T: Write>(items: &[T], buf: &mut BytesMut)
     requires room { length (spellings T.spelling items.now) ≤ buf.old.spare }
     ensures items { buf.new.items ≡ buf.old.items ++ spellings T.spelling items.now }
     ensures spare { buf.new.spare + length (spellings T.spelling items.now) ≡ buf.old.spare }
+    ensures holds { AllByRecursion T.HoldsValues items.now }
 {
     for item in items {
         item.write(buf);

@@ -142,9 +142,9 @@ impl MaxEncodeSize for Ingress {
     ghost at_most_max = { ingress_short };
 }
 
-const SOCKET_PREFIX: u8 = 0;
+pub(crate) const SOCKET_PREFIX: u8 = 0;
 
-const DNS_PREFIX: u8 = 1;
+pub(crate) const DNS_PREFIX: u8 = 1;
 
 impl Write for Ingress {
     fn write(&self, buf: &mut BytesMut) {

@@ -125,9 +125,9 @@ impl Read for SocketAddr {
     ghost lawful = { λ _. lawful_unlimited lawful_socket };
 }
 
-const VERSION_4: u8 = 4;
+pub(crate) const VERSION_4: u8 = 4;
 
-const VERSION_6: u8 = 6;
+pub(crate) const VERSION_6: u8 = 6;
 
 // The number of bytes of the spelling of an address without a port.
 fn ip_size(ip: &IpAddr) -> usize

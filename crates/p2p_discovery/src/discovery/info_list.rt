@@ -1,0 +1,97 @@
+//! Lists of infos, and how they are spelled.
+
+ghost use Rattle.std.specs.Prelude.{◌≡◌, ◌+◌, ◌<◌, ◌≤◌, ◌^◌, ◌*◌, ◌++◌, length, IfOk, vec_capacity};
+ghost use Rattle.std.specs.List.{AllByRecursion};
+ghost use Rattle.p2p_discovery.specs.Info.{IsInfo, IsKeyed, info_spelling, infos_spelling, AreAllowed, infos_at};
+ghost use Rattle.p2p_discovery.specs.InfoLaws.{lawful_infos};
+
+use crate::codec::{
+    CodecError, EncodeSize, FixedBytes, PublicKey, RangeCfg, Read, Reader, Write, items_size,
+    read_items, read_length, write_items,
+};
+use crate::discovery::Info;
+use bytes::BytesMut;
+use std::alloc::Global;
+use std::marker::Model;
+
+/// Infos, one after the other. A contract sees the list of them.
+///
+/// It is a vector of them: [`Infos::from_vec`] and [`Infos::into_vec`] take no memory.
+#[derive(Drop)]
+pub struct Infos<C: PublicKey> {
+    items: Vec<Info<C>>,
+}
+
+impl<C: PublicKey> Model for Infos<C> {
+    ghost use Rattle.std.specs.Prelude.{List};
+    ghost use Rattle.p2p_discovery.specs.declared.discovery.Info.{Info};
+
+    ghost Value = { List (Info C C.Signature) };
+
+    ghost view = { λ infos. infos.items.items };
+}
+
+impl<C: PublicKey> Infos<C> {
+    /// The list of these infos, in their order.
+    pub fn from_vec(items: Vec<Info<C>>) -> Infos<C>
+        ensures { result ≡ items.items }
+    {
+        Infos { items }
+    }
+
+    /// The vector of the infos, in their order.
+    pub fn into_vec(self) -> Vec<Info<C>>
+        ensures { result.items ≡ self }
+    {
+        self.items
+    }
+
+    /// The infos, in their order.
+    pub fn as_slice(&self) -> &[Info<C>]
+        ensures { result.now ≡ self.now }
+    {
+        &self.items
+    }
+}
+
+impl<C: PublicKey> EncodeSize for Infos<C> {
+    ghost IsValue = { AllByRecursion IsInfo };
+
+    ghost CanSpell = { λ infos. (length infos < 2 ^ 32) × (length (infos_spelling C.spelled C.Signature.spelled infos) < 2 ^ 64) };
+
+    ghost spelling = { infos_spelling C.spelled C.Signature.spelled };
+
+    fn encode_size(&self) -> usize {
+        (self.items.len() as u32).encode_size() + items_size(&self.items)
+    }
+}
+
+impl<C: PublicKey> Write for Infos<C> {
+    ghost HoldsValues = { AllByRecursion (IsKeyed C.IsValue C.Signature.IsValue) };
+
+    fn write(&self, buf: &mut BytesMut) {
+        (self.items.len() as u32).write(buf);
+        write_items(&self.items, buf);
+    }
+}
+
+impl<C: PublicKey> Read for Infos<C> {
+    type Cfg = RangeCfg;
+
+    ghost Admits = { AreAllowed C.IsValue C.Signature.IsValue };
+
+    ghost reading = { infos_at C.SIZE C.value C.Signature.SIZE C.Signature.value };
+
+    #[tactic(auto, unfolding(crate::specs::Lists::list_at))]
+    fn read(
+        alloc: Global,
+        reader: &mut Reader<'_>,
+        limit: &RangeCfg,
+    ) -> Result<Infos<C>, CodecError> {
+        let count = read_length(alloc, reader, limit)?;
+        let items = read_items(alloc, reader, count, 6 + C::SIZE + C::Signature::SIZE)?;
+        Ok(Infos { items })
+    }
+
+    ghost lawful = { lawful_infos C.fixed C.Signature.fixed };
+}

@@ -1,0 +1,155 @@
+//! What an info's signature is over, how an info is signed, and how its signature is judged.
+
+ghost use Rattle.std.specs.Prelude.{◌≡◌, ◌+◌, ◌≤◌, ◌++◌, true, length};
+ghost use Rattle.std.specs.Fn.{FnOnceReturnsAtPair};
+ghost use Rattle.p2p_discovery.specs.Socket.{socket_spelling};
+ghost use Rattle.p2p_discovery.specs.Hostname.{hostname_spelling};
+ghost use Rattle.p2p_discovery.specs.Varint.{varint32};
+ghost use Rattle.p2p_discovery.specs.Judgement.{signed_bytes, is_signed_in};
+
+use crate::codec::PublicKey;
+use crate::discovery::Info;
+use crate::types::ingress::{DNS_PREFIX, SOCKET_PREFIX};
+use crate::types::socket::{VERSION_4, VERSION_6};
+use crate::types::{Hostname, Ingress, IpAddr, SocketAddr};
+use std::marker::Model;
+
+impl<C: PublicKey> Info<C> {
+    /// The info of these parts, with the answer of the closure as its signature. The closure is
+    /// called once, with the namespace and what is signed: the spelling of the ingress, then the
+    /// timestamp in eight bytes, the most significant first. Where its answer verifies, the info
+    /// does. It takes no memory.
+    pub fn sign<F: FnOnce(&[u8], &[u8]) -> C::Signature>(
+        public_key: C,
+        namespace: &[u8],
+        ingress: Ingress,
+        timestamp: u64,
+        sign: F,
+    ) -> Info<C>
+        requires { F.IsAlwaysCallable sign }
+        ensures parts { (result.public_key ≡ public_key) × (result.ingress ≡ ingress) × (result.timestamp ≡ timestamp) }
+        ensures signature { FnOnceReturnsAtPair F.FnOnce sign namespace.now (signed_bytes ingress timestamp) result.signature }
+        ensures verifies { C.verifies public_key namespace.now (signed_bytes ingress timestamp) result.signature ≡ true
+            → is_signed_in C.verifies namespace.now result ≡ true }
+    {
+        let signed = SignedBytes::of(&ingress, timestamp);
+        let signature = sign(namespace, signed.as_slice());
+        Info {
+            ingress,
+            timestamp,
+            public_key,
+            signature,
+        }
+    }
+
+    /// Whether the signature is one of the info's key over the namespace and what is signed. It
+    /// takes no memory.
+    pub fn verify(&self, namespace: &[u8]) -> bool
+        ensures { result ≡ is_signed_in C.verifies namespace.now self.now }
+    {
+        let signed = SignedBytes::of(&self.ingress, self.timestamp);
+        self.public_key
+            .verify(namespace, signed.as_slice(), &self.signature)
+    }
+}
+
+// The greatest number of signed bytes: those of an ingress, and eight of a timestamp.
+const SIGNED_SIZE: usize = 269;
+
+// Signed bytes, which stand in an array, so that they take no memory.
+#[derive(Drop)]
+struct SignedBytes {
+    room: [u8; SIGNED_SIZE],
+    len: usize,
+}
+
+impl Model for SignedBytes {
+    ghost use Rattle.std.specs.Prelude.{ℕ, List, ◌≤◌, take};
+
+    ghost Value = { List ℕ };
+
+    ghost view = { λ s. take s.len s.room };
+
+    ghost invariant = { λ s. s.len ≤ 269 };
+}
+
+impl SignedBytes {
+    // What is signed of an info.
+    #[tactic(auto, unfolding(crate::specs::Judgement::signed_bytes))]
+    fn of(ingress: &Ingress, timestamp: u64) -> SignedBytes
+        ensures { result ≡ signed_bytes ingress.now timestamp }
+    {
+        let mut signed = SignedBytes {
+            room: [0; SIGNED_SIZE],
+            len: 0,
+        };
+        match ingress {
+            Ingress::Socket(socket) => {
+                signed.push(&[SOCKET_PREFIX]);
+                signed.push_socket(socket);
+            }
+            Ingress::Dns { host, port } => {
+                signed.push(&[DNS_PREFIX]);
+                signed.push_name(host);
+                signed.push(&port.to_be_bytes());
+            }
+        }
+        signed.push(&timestamp.to_be_bytes());
+        signed
+    }
+
+    fn push_socket(&mut self, socket: &SocketAddr)
+        requires { length self.old ≤ 1 }
+        ensures items { self.new ≡ self.old ++ socket_spelling socket.now }
+        ensures bound { length self.new ≤ length self.old + 19 }
+    {
+        match socket.ip() {
+            IpAddr::V4(address) => {
+                self.push(&[VERSION_4]);
+                self.push(&address);
+            }
+            IpAddr::V6(address) => {
+                self.push(&[VERSION_6]);
+                self.push(&address);
+            }
+        }
+        self.push(&socket.port().to_be_bytes());
+    }
+
+    fn push_name(&mut self, host: &Hostname)
+        requires { length self.old ≤ 1 }
+        ensures items { self.new ≡ self.old ++ hostname_spelling host.now }
+        ensures bound { length self.new ≤ length self.old + 255 }
+    {
+        let text = host.as_str().as_bytes();
+        self.push_length(text.len() as u8);
+        self.push(text);
+    }
+
+    fn push_length(&mut self, count: u8)
+        requires { length self.old ≤ 1 }
+        ensures items { self.new ≡ self.old ++ varint32 count }
+        ensures bound { length self.new ≤ length self.old + 2 }
+    {
+        if count < 128 {
+            self.push(&[count]);
+        } else {
+            self.push(&[count, 1]);
+        }
+    }
+
+    fn push(&mut self, bytes: &[u8])
+        requires { length self.old + length bytes.now ≤ 269 }
+        ensures { self.new ≡ self.old ++ bytes.now }
+    {
+        let end = self.len + bytes.len();
+        self.room[self.len..end].copy_from_slice(bytes);
+        self.len = end;
+    }
+
+    fn as_slice(&self) -> &[u8]
+        ensures { result.now ≡ self.now }
+    {
+        &self.room[..self.len]
+    }
+}

@@ -1,0 +1,95 @@
+//! Which infos are fine, and why others are refused.
+
+ghost use Rattle.std.specs.Prelude.{◌≡◌};
+ghost use Rattle.std.specs.Duration.{as_nanos};
+ghost use Rattle.p2p_discovery.specs.Judgement.{judge_of, refusal, list_refusal, judged};
+
+use crate::codec::PublicKey;
+use crate::discovery::{Error, Info};
+use std::cmp::Ordering;
+use std::marker::Model;
+use std::time::Duration;
+
+/// By what infos are judged, made by [`Info::verifier`]. A contract sees what it holds.
+#[derive(Drop)]
+pub struct InfoVerifier<C: PublicKey> {
+    me: C,
+    peer_gossip_max_count: usize,
+    synchrony_bound: Duration,
+    ip_namespace: Vec<u8>,
+}
+
+impl<C: PublicKey> Model for InfoVerifier<C> {
+    ghost use Rattle.std.specs.Duration.{as_nanos};
+    ghost use Rattle.p2p_discovery.specs.Judgement.{Verifier};
+
+    ghost Value = { Verifier C };
+
+    ghost view = { λ v. record { me = v.me; greatest_count = v.peer_gossip_max_count; synchrony_bound = as_nanos v.synchrony_bound; namespace = v.ip_namespace.items } };
+}
+
+impl<C: PublicKey> Info<C> {
+    /// A verifier for the peer with this key. It takes at most so many infos at a time, timestamps
+    /// that lie at most the synchrony bound ahead, and signatures in this namespace. It takes no
+    /// memory.
+    pub fn verifier(
+        me: C,
+        peer_gossip_max_count: usize,
+        synchrony_bound: Duration,
+        ip_namespace: Vec<u8>,
+    ) -> InfoVerifier<C>
+        ensures { result ≡ record { me = me; greatest_count = peer_gossip_max_count; synchrony_bound = as_nanos synchrony_bound; namespace = ip_namespace.items } }
+    {
+        InfoVerifier {
+            me,
+            peer_gossip_max_count,
+            synchrony_bound,
+            ip_namespace,
+        }
+    }
+}
+
+impl<C: PublicKey> InfoVerifier<C> {
+    /// Whether the info is fine at a moment. It takes no memory.
+    ///
+    /// # Errors
+    ///
+    /// The first of these that holds:
+    /// - `ReceivedSelf`: the info has the verifier's own key.
+    /// - `SynchronyBound`: its timestamp is later than the synchrony bound past `now`, a sum that
+    ///   is at most the greatest moment.
+    /// - `InvalidSignature`: its signature isn't one of its key in the verifier's namespace.
+    pub fn validate_info(&self, now: Duration, info: &Info<C>) -> Result<(), Error>
+        ensures { result ≡ judged (refusal (judge_of C.cmp C.verifies self.now) (as_nanos now) info.now) }
+    {
+        if let Ordering::Equal = self.me.cmp(&info.public_key) {
+            return Err(Error::ReceivedSelf);
+        }
+        let latest = now.saturating_add(self.synchrony_bound);
+        if Duration::from_millis(info.timestamp).as_nanos() > latest.as_nanos() {
+            return Err(Error::SynchronyBound);
+        }
+        if !info.verify(&self.ip_namespace) {
+            return Err(Error::InvalidSignature);
+        }
+        Ok(())
+    }
+
+    /// Whether all of the infos are fine at a moment. It takes no memory.
+    ///
+    /// # Errors
+    ///
+    /// `TooManyPeers` of their number where they are more than the verifier takes at a time; else
+    /// the first refusal of [`InfoVerifier::validate_info`], in the order of the list.
+    pub fn validate(&self, now: Duration, infos: &[Info<C>]) -> Result<(), Error>
+        ensures { result ≡ judged (list_refusal (judge_of C.cmp C.verifies self.now) (as_nanos now) infos.now) }
+    {
+        if infos.len() > self.peer_gossip_max_count {
+            return Err(Error::TooManyPeers(infos.len()));
+        }
+        for info in infos {
+            self.validate_info(now, info)?;
+        }
+        Ok(())
+    }
+}
