@@ -1,3 +1,5 @@
+pub mod BitLists
+pub mod BitMaps
 pub mod ListReads
 pub mod Names
 pub mod ReadLaws

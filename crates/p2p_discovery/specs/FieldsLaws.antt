@@ -7,8 +7,8 @@ use Rattle.std.proofs.lemmas.List.{take_at, drop_at, take-append-drop, length-ap
 use Rattle.std.proofs.lemmas.Nat.{be_bytes_2, from_be_bytes-to_be_bytes_2}
 use Rattle.p2p_discovery.specs.declared.codec.error.CodecError.{CodecError}
 use Rattle.p2p_discovery.specs.declared.codec.error.CodecError.TheVariants.{EndOfBuffer, InvalidEnum}
-use Rattle.p2p_discovery.specs.Reading.{Reading, ◌>>=◌, reads, refuses, outcome_then, checked, takes_memory, counted_at, Lawful, IsBytes}
-use Rattle.p2p_discovery.specs.ReadingLaws.{bind_ok, ok_is, guard_ok, done, split_at, head_is, tail_is}
+use Rattle.p2p_discovery.specs.Reading.{Reading, ◌>>=◌, reads, refuses, outcome_then, checked, takes_memory, byte_at, counted_at, Lawful, IsBytes}
+use Rattle.p2p_discovery.specs.ReadingLaws.{bind_ok, ok_is, guard_ok, done, split_at, head_is, tail_is, one_byte_front}
 use Rattle.p2p_discovery.specs.Fields.{◌&◌, choice, IsSized, port_at}
 
 -- ---- one field after another
@@ -59,6 +59,53 @@ lawful_as {A = A} {B = B} {r = r} {sp = sp} {P = P} to from sq Q there back l = 
   cut = λ v front rest a e some.
       let h = back v a in
       rw (l.cut (from v) front rest h.1 (sym h.2 ∙ e) some) refl;
+}
+
+-- the same, where each such value is made of some value that is read
+pub lawful_made : {A B : Type 0} {r : List ℕ → Reading A} {sp : A → List ℕ} {P : A → Type 0} (to : A → B) (sq : B → List ℕ) (Q : B → Type 0)
+    → ((a : A) → P a → Q (to a) × (sp a ≡ sq (to a)))
+    → ((b : B) → Q b → (a : A) × (to a ≡ b) × P a × (sq b ≡ sp a))
+    → Lawful r sp P → Lawful (r >>= λ a. reads (to a)) sq Q
+lawful_made {A = A} {B = B} {r = r} {sp = sp} {P = P} to sq Q there back l = record {
+  takes = λ bytes v rest fits e.
+      let a = bind_ok (r bytes).outcome (λ x. reads (to x)) (v, rest) e in
+      let t = l.takes bytes a.0.0 a.0.1 fits a.1 in
+      let h = there a.0.0 t.0 in
+      let same : ◌≡◌ {A = B × List ℕ} (to a.0.0, a.0.1) (v, rest) = ok_is (to a.0.0, a.0.1) (v, rest) a.2 in
+      subst (λ (w : B × List ℕ). Q w.0 × (bytes ≡ sq w.0 ++ w.1)) same (h.0, t.1 ∙ ap (λ (w : List ℕ). w ++ a.0.1) h.1);
+  again = λ v rest a.
+      let h = back v a in
+      rw (h.3, l.again h.0 rest h.2) (ap (λ (b : B). done (b, rest)) h.1);
+  cut = λ v front rest a e some.
+      let h = back v a in
+      rw (l.cut h.0 front rest h.2 (sym h.3 ∙ e) some) refl;
+}
+
+-- one of two readers, by a test
+pub lawful_if : {A : Type 0} {r s : List ℕ → Reading A} {sp : A → List ℕ} {P : A → Type 0} (t : Bool) → (t ≡ true → Lawful r sp P) → (t ≡ false → Lawful s sp P) → Lawful (λ bytes. cond t (r bytes) (s bytes)) sp P
+lawful_if true l m = l refl
+lawful_if false l m = m refl
+
+-- nothing is read where no value is meant
+pub lawful_none : {A : Type 0} {sp : A → List ℕ} {P : A → Type 0} (fault : CodecError) → ((v : A) → P v → ⊥) → Lawful (refuses fault) sp P
+lawful_none fault none = record {
+  takes = λ bytes v rest fits e. absurd cc;
+  again = λ v rest a. absurd (none v a);
+  cut = λ v front rest a e some. absurd (none v a);
+}
+
+-- one byte
+pub lawful_byte : Lawful byte_at (λ b. b ∷ []) (λ b. b < 256)
+lawful_byte = record {
+  takes = elim [
+    | [] ↦ λ v rest fits e. absurd cc
+    | b ∷ bytes ↦ λ v rest fits e. subst (λ (w : ℕ × List ℕ). (w.0 < 256) × (b ∷ bytes ≡ w.0 ∷ w.1)) (ok_is (b, bytes) (v, rest) e) (fits 0, refl)
+  ];
+  again = λ v rest a. refl;
+  cut = λ v. elim [
+    | [] ↦ λ rest a e some. refl
+    | b ∷ front ↦ λ rest a e some. absurd (one_byte_front v b front rest e some)
+  ];
 }
 
 -- ---- one of two forms, behind a first byte

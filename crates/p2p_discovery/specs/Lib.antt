@@ -1,5 +1,10 @@
 pub mod Address
 pub mod AddressLaws
+pub mod BitSets
+pub mod BitVec
+pub mod BitVecLaws
+pub mod Bits
+pub mod BitsLaws
 pub mod Counted
 pub mod CountedLaws
 pub mod Data
@@ -21,6 +26,8 @@ pub mod Lists
 pub mod ListsLaws
 pub mod Order
 pub mod Ordered
+pub mod Payload
+pub mod PayloadLaws
 pub mod Reading
 pub mod ReadingLaws
 pub mod SameLaws

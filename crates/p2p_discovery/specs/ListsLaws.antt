@@ -1,5 +1,5 @@
 -- Lists are read by their spelling.
-use Rattle.std.proofs.Common.{◌≡◌, ℕ, zero, suc, ◌<◌, ◌^◌, true, List, [], ◌∷◌, ◌++◌, length, Ok, Err, refl, sym, ap, subst, ◌∙◌, append_assoc, arith, inl, inr}
+use Rattle.std.proofs.Common.{◌≡◌, ℕ, zero, suc, ◌+◌, ◌*◌, ◌≤◌, ◌<◌, ◌^◌, true, List, [], ◌∷◌, ◌++◌, length, Ok, Err, refl, sym, ap, subst, ◌∙◌, append_assoc, arith, inl, inr}
 use Rattle.std.specs.List.{AllByRecursion}
 use Rattle.std.proofs.lemmas.List.{length-append}
 use Rattle.p2p_discovery.specs.declared.codec.error.CodecError.TheVariants.{EndOfBuffer}
@@ -49,3 +49,11 @@ lawful_items {A = A} {r = r} {sp = sp} {P = P} least n law = record {
 pub lawful_list : {A : Type 0} {r : List ℕ → Reading A} {sp : A → List ℕ} {P : A → Type 0} (limit : RangeCfg) (least : ℕ) → Lawful r sp P → Lawful (list_at limit least r) (list_spelling sp) (λ xs. AllByRecursion P xs × ((is_within limit (length xs) ≡ true) × (length xs < 2 ^ 32)))
 unfolding list_at
 lawful_list limit least law = lawful_sized length (lawful_length limit) (λ n _. lawful_items least n law)
+
+-- spellings of at most so many bytes each
+pub spellings_short : {A : Type 0} (sp : A → List ℕ) (P : A → Type 0) (most : ℕ) → ((x : A) → P x → length (sp x) ≤ most) → (xs : List A) → AllByRecursion P xs → length (spellings sp xs) ≤ length xs * most
+unfolding spellings
+spellings_short sp P most each [] h = omega arith
+spellings_short sp P most each (x ∷ xs) h =
+    let one : suc (length xs) * most ≡ most + length xs * most = omega arith in
+    omega (arith, one, each x h.0, spellings_short sp P most each xs h.1, length-append (sp x) (spellings sp xs))

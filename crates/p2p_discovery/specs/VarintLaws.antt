@@ -230,6 +230,19 @@ groups_short (suc most) n =
       | inr high ↦ rw (le-ltb n 128 high) (omega (arith, groups_short most (n / 128)))
     ]
 
+-- a lesser number has no more groups
+pub groups_less : (most n m : ℕ) → n ≤ m → length (groups most n) ≤ length (groups most m)
+unfolding groups
+groups_less zero n m h = omega arith
+groups_less (suc most) n m h =
+    elim (cases_lt n 128) [
+      | inl low ↦ elim (cases_lt m 128) [
+        | inl also ↦ rw (lt-ltb n 128 low, lt-ltb m 128 also) (omega arith)
+        | inr high ↦ rw (lt-ltb n 128 low, le-ltb m 128 high) (omega arith)
+      ]
+      | inr high ↦ rw (le-ltb n 128 high, le-ltb m 128 (omega arith)) (omega (arith, groups_less most (n / 128) (m / 128) (omega arith)))
+    ]
+
 -- ---- the grammar
 
 -- what follows from bytes that spell n behind the bytes that there were

@@ -5,14 +5,19 @@
 ghost use Rattle.std.specs.Prelude.{◌≡◌, true, IfOk, IsOk};
 ghost use Rattle.p2p_discovery.specs.Ingress.{takes_none};
 
+mod bits_codec;
 mod info_codec;
 mod info_list;
 mod info_signing;
+mod payload_codec;
 mod verifier;
 
 use crate::codec::PublicKey;
+use crate::data::Data;
+use crate::sets::BitMap;
 use crate::types::Ingress;
 pub use info_list::Infos;
+pub use payload_codec::max_gossip_size;
 use std::alloc::AllocError;
 use thiserror::Error;
 pub use verifier::InfoVerifier;
@@ -47,6 +52,39 @@ impl<C: PublicKey> Info<C> {
             signature: self.signature,
         })
     }
+}
+
+/// Which infos a peer knows: a bit for each primary peer of the set with this index.
+#[derive(Drop)]
+pub struct BitVec {
+    /// The index of the set.
+    pub index: u64,
+    /// For each of its primary peers, in order, whether its info is known.
+    pub bits: BitMap,
+}
+
+/// The limits under which payloads are read.
+#[derive(Clone, Copy)]
+pub struct PayloadConfig {
+    /// The greatest number of bits.
+    pub max_bit_vec: u64,
+    /// The greatest number of infos.
+    pub max_peers: usize,
+    /// The greatest length of a message, in bytes.
+    pub max_data_length: usize,
+}
+
+/// What peers tell each other.
+#[derive(Drop)]
+pub enum Payload<C: PublicKey> {
+    /// A message on a channel.
+    Data(Data),
+    /// The sender's own info.
+    Greeting(Info<C>),
+    /// Which infos the sender knows.
+    BitVec(BitVec),
+    /// Infos of peers.
+    Peers(Infos<C>),
 }
 
 /// Why an info, or a list of them, is refused.

@@ -9,7 +9,13 @@ ghost use Rattle.std.specs.Iterator.Runs.{WholeRun};
 ghost use Rattle.std.specs.Slice.Iter.{iter_rest};
 ghost use Rattle.p2p_discovery.specs.Ordered.{IsPlaceOf};
 
+mod bit_map;
+mod bit_set;
+
 use crate::codec::PublicKey;
+pub use bit_map::BitMap;
+pub(crate) use bit_map::bytes_for;
+pub use bit_set::BitSet;
 use std::alloc::{AllocError, Global};
 use std::marker::Model;
 use std::ops::Index;
