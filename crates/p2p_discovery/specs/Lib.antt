@@ -1,5 +1,7 @@
 pub mod Address
 pub mod AddressLaws
+pub mod Arrays
+pub mod ArraysLaws
 pub mod BitSets
 pub mod BitVec
 pub mod BitVecLaws

@@ -58,12 +58,12 @@ body_spelling key signature (said.Peers is) = infos_spelling key signature is
 abbrev pub payload_spelling : {C S : Type 0} → (C → List ℕ) → (S → List ℕ) → Payload C S → List ℕ
 payload_spelling key signature p = prefix_of p ∷ body_spelling key signature p
 
--- the message and the list have lengths that can be spelled, and the size fits
-abbrev pub CanSpell : {C S : Type 0} → (C → List ℕ) → (S → List ℕ) → Payload C S → Type 0
-CanSpell key signature (said.Data d) = length d.message < 2 ^ 32
-CanSpell key signature (said.Greeting i) = Unit {0}
-CanSpell key signature (said.BitVec v) = Unit {0}
-CanSpell key signature (said.Peers is) = (length is < 2 ^ 32) × (1 + length (infos_spelling key signature is) < 2 ^ 64)
+-- the message and the list have lengths that can be spelled
+abbrev pub CanSpell : {C S : Type 0} → Payload C S → Type 0
+CanSpell (said.Data d) = length d.message < 2 ^ 32
+CanSpell (said.Greeting i) = Unit {0}
+CanSpell (said.BitVec v) = Unit {0}
+CanSpell (said.Peers is) = length is < 2 ^ 32
 
 module _ {C S : Type 0} (key_size : ℕ) (key : List ℕ → Option C) (signature_size : ℕ) (signature : List ℕ → Option S) (limits : PayloadConfig) where
   -- what is read behind each prefix; another one is refused

@@ -3,15 +3,19 @@
 ghost use Rattle.std.specs.Prelude.{◌≡◌, ℕ, ◌+◌, ◌≤◌, Bool, List, ◌++◌, Option, length, true};
 ghost use Rattle.std.specs.declared.cmp.Ordering.TheVariants.{Equal};
 ghost use Rattle.p2p_discovery.specs.Reading.{Gives};
+ghost use Rattle.p2p_discovery.specs.Arrays.{array_spelling};
+ghost use Rattle.p2p_discovery.specs.Fields.{IsSized};
 ghost use Rattle.p2p_discovery.specs.Fixed.{IsFixed, fixed_at};
 
-use crate::codec::{CodecError, Reader, What};
+use crate::codec::{CodecError, Reader, What, are_bytes};
 use bytes::BytesMut;
 
 /// A value that is spelled by a fixed number of bytes.
 ///
 /// Laws: `SIZE` is at most 65535; equal values are one value; what was written reads back to that
-/// value; bytes that are read are those that the value writes.
+/// value; bytes that are read are those that the value writes. For a newtype over an array of bytes
+/// all of them stand in `specs/ArraysLaws`, beside [`write_array`] and [`read_array`]; a key of 32
+/// bytes with a signature of 64 is worked out in `src/codec/tests/array_keys.rt`.
 pub trait FixedBytes: Copy + Eq {
     ghost SIZE: { ℕ };
 
@@ -28,7 +32,9 @@ pub trait FixedBytes: Copy + Eq {
 
     /// Writes the bytes of the value over `out`.
     ///
-    /// Condition: `out` has `SIZE` bytes.
+    /// # Conditions
+    ///
+    /// `out` has `SIZE` bytes.
     fn write_fixed(&self, out: &mut [u8])
         requires { length out.old ≡ SIZE }
         ensures bytes { out.new ≡ spelled self.now }
@@ -36,7 +42,9 @@ pub trait FixedBytes: Copy + Eq {
 
     /// The value that the bytes spell, or `None` where they spell none.
     ///
-    /// Condition: there are `SIZE` bytes.
+    /// # Conditions
+    ///
+    /// There are `SIZE` bytes.
     fn read_fixed(bytes: &[u8]) -> Option<Self>
         requires { length bytes.now ≡ SIZE }
         ensures { result ≡ value bytes.now };
@@ -50,7 +58,8 @@ pub trait FixedBytes: Copy + Eq {
 /// The public key of a peer.
 ///
 /// Laws: the order is total and agrees with equality; keys that compare as equal are one key;
-/// `verify` answers a fixed predicate.
+/// `verify` answers a fixed predicate. `src/codec/tests/array_keys.rt` has a worked example of what
+/// a user brings.
 pub trait PublicKey: FixedBytes + Ord {
     /// What [`PublicKey::verify`] judges.
     type Signature: FixedBytes;
@@ -64,6 +73,35 @@ pub trait PublicKey: FixedBytes + Ord {
 
     // Law: keys that compare as equal are one key.
     ghost exact: { (x y : Self) → Self.cmp x y ≡ Equal → x ≡ y };
+}
+
+/// Writes an array over `out`, for keys and signatures that are arrays of bytes.
+///
+/// # Conditions
+///
+/// `out` has as many bytes.
+pub fn write_array<const N: usize>(bytes: &[u8; N], out: &mut [u8])
+    requires { length out.old ≡ N }
+    ensures bytes { out.new ≡ array_spelling N bytes.now }
+    ensures value { IsSized N bytes.now }
+{
+    are_bytes(bytes);
+    out.copy_from_slice(bytes);
+}
+
+/// The array of these bytes, for keys and signatures that are arrays of bytes.
+///
+/// # Conditions
+///
+/// There are as many bytes.
+pub fn read_array<const N: usize>(bytes: &[u8]) -> [u8; N]
+    requires { length bytes.now ≡ N }
+    ensures { result ≡ bytes.now }
+{
+    match <[u8; N]>::try_from(bytes) {
+        Ok(array) => array,
+        Err(_) => unreachable!(),
+    }
 }
 
 // Appends the bytes of a value.

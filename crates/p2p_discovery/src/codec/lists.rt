@@ -5,7 +5,7 @@ ghost use Rattle.std.specs.List.{AllByRecursion};
 ghost use Rattle.p2p_discovery.specs.Reading.{GivesAs};
 ghost use Rattle.p2p_discovery.specs.Lists.{items_at, spellings};
 
-use crate::codec::{CodecError, EncodeSize, Read, Reader, Write};
+use crate::codec::{CodecError, Read, Reader, Write};
 use bytes::BytesMut;
 use std::alloc::Global;
 
@@ -29,20 +29,6 @@ pub(crate) fn read_items<T: Read<Cfg = ()>>(
         items.push_reserved(item);
     }
     Ok(items)
-}
-
-// The number of bytes of the spellings of these values.
-pub(crate) fn items_size<T: EncodeSize>(items: &[T]) -> usize
-    requires can { (x : T) → T.CanSpell x }
-    requires fits { length (spellings T.spelling items.now) < 2 ^ 64 }
-    ensures size { result ≡ length (spellings T.spelling items.now) }
-    ensures value { AllByRecursion T.IsValue items.now }
-{
-    let mut size = 0;
-    for item in items {
-        size += item.encode_size();
-    }
-    size
 }
 
 // Appends the spellings of these values.

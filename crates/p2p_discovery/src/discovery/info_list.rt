@@ -2,12 +2,13 @@
 
 ghost use Rattle.std.specs.Prelude.{◌≡◌, ◌+◌, ◌<◌, ◌≤◌, ◌^◌, ◌*◌, ◌++◌, length, IfOk, vec_capacity};
 ghost use Rattle.std.specs.List.{AllByRecursion};
+ghost use Rattle.p2p_discovery.specs.Lists.{spellings};
 ghost use Rattle.p2p_discovery.specs.Info.{IsInfo, IsKeyed, info_spelling, infos_spelling, AreAllowed, infos_at};
 ghost use Rattle.p2p_discovery.specs.InfoLaws.{lawful_infos};
 
 use crate::codec::{
-    CodecError, EncodeSize, FixedBytes, PublicKey, RangeCfg, Read, Reader, Write, items_size,
-    read_items, read_length, write_items,
+    CodecError, EncodeSize, FixedBytes, PublicKey, RangeCfg, Read, Reader, Write, read_items,
+    read_length, write_items,
 };
 use crate::discovery::Info;
 use bytes::BytesMut;
@@ -57,13 +58,32 @@ impl<C: PublicKey> Infos<C> {
 impl<C: PublicKey> EncodeSize for Infos<C> {
     ghost IsValue = { AllByRecursion IsInfo };
 
-    ghost CanSpell = { λ infos. (length infos < 2 ^ 32) × (length (infos_spelling C.spelled C.Signature.spelled infos) < 2 ^ 64) };
+    ghost CanSpell = { λ infos. length infos < 2 ^ 32 };
 
     ghost spelling = { infos_spelling C.spelled C.Signature.spelled };
 
-    fn encode_size(&self) -> usize {
-        (self.items.len() as u32).encode_size() + items_size(&self.items)
+    fn encode_size(&self) -> usize
+        requires { length self.now < 2 ^ 32 }
+        ensures size { result ≡ length (infos_spelling C.spelled C.Signature.spelled self.now) }
+        ensures value { AllByRecursion IsInfo self.now }
+        ensures bound { result < 2 ^ 63 }
+    {
+        (self.items.len() as u32).encode_size() + infos_size(&self.items)
     }
+}
+
+// The number of bytes of these infos, one after the other.
+fn infos_size<C: PublicKey>(infos: &[Info<C>]) -> usize
+    requires { length infos.now < 2 ^ 32 }
+    ensures size { result ≡ length (spellings (info_spelling C.spelled C.Signature.spelled) infos.now) }
+    ensures value { AllByRecursion IsInfo infos.now }
+    ensures bound { result ≤ length infos.now * 2 ^ 18 }
+{
+    let mut size = 0;
+    for info in infos {
+        size += info.encode_size();
+    }
+    size
 }
 
 impl<C: PublicKey> Write for Infos<C> {

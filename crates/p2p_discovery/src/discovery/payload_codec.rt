@@ -45,7 +45,7 @@ pub fn max_gossip_size<C: PublicKey>(max_bit_vec: u64, max_peers: usize) -> usiz
 impl<C: PublicKey> EncodeSize for Payload<C> {
     ghost IsValue = { IsPayload };
 
-    ghost CanSpell = { CanSpell C.spelled C.Signature.spelled };
+    ghost CanSpell = { CanSpell };
 
     ghost spelling = { payload_spelling C.spelled C.Signature.spelled };
 
