@@ -1,14 +1,16 @@
 //! What each call leaves where memory is refused.
 
-use crate::codec::{CodecError, RangeCfg, Read, Write};
+use crate::codec::{CodecError, RangeCfg, Read, TestKey, Write};
 use crate::data::tests::buffers;
 use crate::data::{Data, EncodedData};
+use crate::discovery::{Info, Infos, Payload, PayloadConfig};
 use crate::famine::Famine;
 use crate::types::{Address, Hostname, Ingress, IpAddr, SocketAddr};
 use bytes::Bytes;
 use std::alloc::Global;
 use std::process::Abort;
 use std::test::Fail;
+use std::time::Duration;
 
 /// By how much budgets grow. Blocks of the C library are multiples of it, so each growth is refused
 /// at some budget.
@@ -226,5 +228,98 @@ fn messages_are_refused(rt: HostRuntime) -> Result<(), Fail> {
         }
     }
     tally.is_mixed(&rt);
+    Ok(())
+}
+
+/// Reads a frame at each budget: where that is refused, the buffer is as it was, and the same bytes
+/// are read afterwards.
+fn refused_at_each_budget<T: Read>(
+    rt: &impl Abort,
+    alloc: Global,
+    famine: &mut Famine,
+    frame: &[u8],
+    cfg: &T::Cfg,
+) -> Result<Tally, Fail> {
+    let mut tally = Tally::EMPTY;
+    for step in 0..STEPS {
+        let mut buf = Bytes::copy_from_slice(alloc, frame)?;
+        famine.starve(alloc, step.saturating_mul(STEP))?;
+        let fault = T::read_cfg(alloc, &mut buf, cfg).err();
+        famine.relieve();
+        tally.count(fault.is_some());
+        if let Some(error) = fault {
+            assert_eq!(rt; error, CodecError::Memory, "step {step}");
+            assert_eq!(rt; buf.as_slice(), frame, "step {step}");
+            assert!(rt; T::decode_cfg(alloc, buf, cfg).is_ok(), "step {step}");
+        }
+    }
+    Ok(tally)
+}
+
+/// A frame of infos, of which one has a name, and a frame of bits: each growth is refused at some
+/// budget, and then the buffer is as it was; the same bytes read again give the payload.
+#[test]
+fn payloads_are_refused(rt: HostRuntime) -> Result<(), Fail> {
+    let alloc = rt.alloc();
+    let key = TestKey(1);
+    let ingress = Ingress::Dns {
+        host: Hostname::new(alloc, NAME)?,
+        port: 80,
+    };
+    let named = Info::sign(key, b"rows", ingress, 1, |namespace, message| {
+        key.sign(namespace, message)
+    });
+    let mut peers = b"\x03\x01".as_slice().to_vec(alloc)?;
+    peers.extend_from_slice(named.encode(alloc)?.as_slice())?;
+    let mut bits = b"\x02\x05\x64".as_slice().to_vec(alloc)?;
+    bits.extend_from_slice(&[0; 13])?;
+    let limits = PayloadConfig {
+        max_bit_vec: 100,
+        max_peers: 2,
+        max_data_length: 0,
+    };
+    let mut famine = Famine::new(alloc)?;
+    for frame in [peers, bits] {
+        refused_at_each_budget::<Payload<TestKey>>(
+            &rt,
+            alloc,
+            &mut famine,
+            &frame,
+            &limits,
+        )?.is_mixed(&rt);
+    }
+    Ok(())
+}
+
+/// Signing and judging take no memory, and no room is asked for infos that can't be there.
+#[test]
+fn judges_with_no_memory(rt: HostRuntime) -> Result<(), Fail> {
+    let alloc = rt.alloc();
+    let verifier = Info::verifier(
+        TestKey(9),
+        1,
+        Duration::ZERO,
+        b"rows".as_slice().to_vec(alloc)?,
+    );
+    let key = TestKey(1);
+    let limit = RangeCfg {
+        least: 0,
+        greatest: usize::MAX,
+    };
+    let mut famine = Famine::new(alloc)?;
+    famine.starve(alloc, 0)?;
+    let ingress = Ingress::Socket(SocketAddr::new(IpAddr::V4([1, 2, 3, 4]), 5));
+    let info = Info::sign(key, b"rows", ingress, 0, |namespace, message| {
+        key.sign(namespace, message)
+    });
+    let judged = verifier.validate_info(Duration::ZERO, &info);
+    let none = Infos::<TestKey>::decode_cfg(
+        alloc,
+        Bytes::from_static(b"\xff\xff\xff\xff\x0f\0"),
+        &limit,
+    );
+    famine.relieve();
+    assert_eq!(rt; judged, Ok(()));
+    assert_eq!(rt; none.err(), Some(CodecError::EndOfBuffer));
     Ok(())
 }

@@ -172,4 +172,6 @@ impl<'a, P: PublicKey> IntoIterator for &'a OrderedSet<P> {
 }
 
 #[cfg(test)]
+mod bits_tests;
+#[cfg(test)]
 mod tests;

@@ -1,8 +1,11 @@
 ghost use Rattle.std.specs.Prelude.{◌≡◌, ◌<◌, ◌^◌};
 
+pub(crate) mod array_keys;
+pub(crate) mod small_keys;
+
 use crate::codec::{
     CodecError, EncodeSize, FixedBytes, PublicKey, RangeCfg, Read, Reader, TestKey, TestSignature,
-    What, Write, bounded_size, read_back,
+    What, Write, bounded_size, cut_short, read_back,
 };
 use bytes::{Bytes, BytesMut};
 use std::alloc::Global;
@@ -122,6 +125,8 @@ fn writes_behind_what_is_there(rt: HostRuntime) -> Result<(), Fail> {
     assert_eq!(rt; buf.as_slice(), b"\xac\x02\x07".as_slice());
     assert_eq!(rt; bounded_size(&300u64), 2);
     assert_eq!(rt; read_back(rt.alloc(), &300u64, &())?, 300);
+    let cut = cut_short::<u64>(rt.alloc(), Bytes::from_static(b"\xac"), &());
+    assert_eq!(rt; cut.err(), Some(CodecError::EndOfBuffer));
     Ok(())
 }
 
@@ -171,7 +176,13 @@ fn spells_test_keys(rt: HostRuntime) -> Result<(), Fail> {
 /// number with one byte 255 is `257 * 2^64 - 257 + 256`, which is `2^64 - 1` without its front.
 #[test]
 fn signs_by_the_bytes(rt: HostRuntime) {
+    assert_eq!(rt; TestKey(0).sign(b"", b""), TestSignature(0));
     assert_eq!(rt; TestKey(1).sign(b"", b""), TestSignature(1));
+    assert_eq!(rt; TestKey(1).sign(b"rows", b""), TestSignature(6_321_977_040));
+    assert_eq!(rt;
+        TestKey(1).sign(b"r", b"ows"),
+        TestSignature(0x0000_0001_78d1_b6d0)
+    );
     assert_eq!(rt; TestKey(1).sign(b"a", b"b"), TestSignature(91_334));
     assert_eq!(rt; TestKey(1).sign(b"", b"ab"), TestSignature(91_334));
     assert_eq!(rt;
