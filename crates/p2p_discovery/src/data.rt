@@ -91,7 +91,9 @@ pub trait Upgrader {
 
 /// The greatest message that a frame of this carrier holds with certainty.
 ///
-/// Condition: a frame may have [`MAX_PAYLOAD_OVERHEAD`] bytes at least.
+/// # Conditions
+///
+/// A frame may have [`MAX_PAYLOAD_OVERHEAD`] bytes at least.
 pub const fn max_size<U: Upgrader>() -> u32
     requires { 16 ≤ U.MAX_SIZE }
     ensures { result ≡ U.MAX_SIZE - 16 }
@@ -114,7 +116,9 @@ impl EncodedData {
     ///
     /// Where memory is refused, the buffers that were handed in come back.
     ///
-    /// Condition: the length of the whole message fits `u32`.
+    /// # Conditions
+    ///
+    /// The length of the whole message fits `u32`.
     #[tactic(auto, using(crate::specs::DataLaws::joined_len, crate::specs::DataLaws::frame_is, crate::specs::DataLaws::frame_short))]
     pub fn new(
         alloc: Global,

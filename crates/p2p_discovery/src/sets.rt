@@ -50,7 +50,9 @@ pub enum SetError {
 impl<P: PublicKey> OrderedSet<P> {
     /// The set of the items, in whatever order and however often each of them comes.
     ///
-    /// Condition: the iterator ends, as those of lists, slices and ranges do.
+    /// # Conditions
+    ///
+    /// The iterator ends, as those of lists, slices and ranges do.
     ///
     /// # Errors
     ///

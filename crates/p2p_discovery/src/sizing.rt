@@ -15,7 +15,9 @@ use std::num::NonZeroUsize;
 
 /// The greatest of the sizes, or 0 where there are none: the least limit that admits each message.
 ///
-/// Condition: the sizes fit `u32`.
+/// # Conditions
+///
+/// The sizes fit `u32`.
 pub fn max_message_size(payloads: &[usize]) -> u32
     requires { All (λ n. n < 2 ^ 32) payloads.now }
     ensures bound { All (λ n. n ≤ result) payloads.now }
@@ -28,7 +30,9 @@ pub fn max_message_size(payloads: &[usize]) -> u32
 /// their number, and one more where the local one is not among them. A participant that comes
 /// twice counts twice.
 ///
-/// Condition: the result fits `usize`.
+/// # Conditions
+///
+/// The result fits `usize`.
 pub fn peer_set_limit<P: PublicKey>(participants: &[P], local: &P) -> NonZeroUsize
     requires { ¬ (Contains participants.now local.now) → length participants.now + 1 < 2 ^ 64 }
     ensures among { Contains participants.now local.now → non_zero_usize_get result ≡ length participants.now }
@@ -43,7 +47,9 @@ pub fn peer_set_limit<P: PublicKey>(participants: &[P], local: &P) -> NonZeroUsi
 
 /// A bound on the peers that are retained: so many sets of so many peers, and the persistent ones.
 ///
-/// Condition: the result fits `usize`.
+/// # Conditions
+///
+/// The result fits `usize`.
 pub fn max_retained_peers(
     max_peers_per_set: NonZeroUsize,
     tracked_peer_sets: NonZeroUsize,
@@ -59,7 +65,9 @@ pub fn max_retained_peers(
 
 /// The number of peers in either role or named by the extension, each counted once.
 ///
-/// Conditions: both lists are sorted without repeats, and the result fits `usize`.
+/// # Conditions
+///
+/// Both lists are sorted without repeats, and the result fits `usize`.
 pub fn peer_set_size<P: PublicKey>(primary: &[P], secondary: &[P], extension: Option<&P>) -> usize
     requires primary { IsStrictlySortedBy P.cmp primary.now }
     requires secondary { IsStrictlySortedBy P.cmp secondary.now }

@@ -7,8 +7,10 @@ use std::alloc::{AllocError, Global};
 
 /// A value with one spelling as bytes.
 ///
-/// Conditions of all its calls and those of [`Write`]: a message, a text and a list are at most
-/// `u32::MAX` long, and the size fits `usize`.
+/// # Conditions
+///
+/// Of all its calls and those of [`Write`]: a message, a text and a list are at most `u32::MAX`
+/// long.
 pub trait EncodeSize {
     // Holds of each value of the type.
     ghost IsValue: { Self → Type 0 };
@@ -44,7 +46,9 @@ pub trait Write: EncodeSize {
 
     /// Appends the spelling. It takes no memory.
     ///
-    /// Condition: spare room for [`EncodeSize::encode_size`] bytes.
+    /// # Conditions
+    ///
+    /// Spare room for [`EncodeSize::encode_size`] bytes.
     fn write(&self, buf: &mut BytesMut)
         requires can { Self.CanSpell self.now }
         requires room { length (Self.spelling self.now) ≤ buf.old.spare }

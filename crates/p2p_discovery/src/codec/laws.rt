@@ -28,7 +28,9 @@ pub fn cut_short<T: Read>(alloc: Global, front: Bytes, cfg: &T::Cfg) -> Result<T
 
 /// What was encoded is decoded to what it was, under limits that admit it, unless memory runs out.
 ///
-/// Conditions: those of [`Write::encode`], and that the limits admit the value.
+/// # Conditions
+///
+/// Those of [`Write::encode`], and that the limits admit the value.
 pub fn read_back<T: Write + Read>(alloc: Global, value: &T, cfg: &T::Cfg) -> Result<T, CodecError>
     requires can { T.CanSpell value.now }
     requires admits { T.HoldsValues value.now → T.Admits cfg.now value.now }
@@ -40,7 +42,9 @@ pub fn read_back<T: Write + Read>(alloc: Global, value: &T, cfg: &T::Cfg) -> Res
 
 /// The number of bytes of the spelling, which is at most the type's greatest.
 ///
-/// Conditions: those of [`EncodeSize::encode_size`](crate::codec::EncodeSize::encode_size).
+/// # Conditions
+///
+/// Those of [`EncodeSize::encode_size`](crate::codec::EncodeSize::encode_size).
 pub fn bounded_size<T: MaxEncodeSize>(value: &T) -> usize
     requires { T.CanSpell value.now }
     ensures size { result ≡ length (T.spelling value.now) }

@@ -75,7 +75,8 @@ impl<C: PublicKey> EncodeSize for Infos<C> {
 // The number of bytes of these infos, one after the other.
 fn infos_size<C: PublicKey>(infos: &[Info<C>]) -> usize
     requires { length infos.now < 2 ^ 32 }
-    ensures size { result ≡ length (spellings (info_spelling C.spelled C.Signature.spelled) infos.now) }
+    ensures size { result
+        ≡ length (spellings (info_spelling C.spelled C.Signature.spelled) infos.now) }
     ensures value { AllByRecursion IsInfo infos.now }
     ensures bound { result ≤ length infos.now * 2 ^ 18 }
 {

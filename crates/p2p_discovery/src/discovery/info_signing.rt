@@ -27,9 +27,12 @@ impl<C: PublicKey> Info<C> {
         sign: F,
     ) -> Info<C>
         requires { F.IsAlwaysCallable sign }
-        ensures parts { (result.public_key ≡ public_key) × (result.ingress ≡ ingress) × (result.timestamp ≡ timestamp) }
-        ensures signature { FnOnceReturnsAtPair F.FnOnce sign namespace.now (signed_bytes ingress timestamp) result.signature }
-        ensures verifies { C.verifies public_key namespace.now (signed_bytes ingress timestamp) result.signature ≡ true
+        ensures parts { (result.public_key ≡ public_key) × (result.ingress ≡ ingress)
+            × (result.timestamp ≡ timestamp) }
+        ensures signature { FnOnceReturnsAtPair F.FnOnce sign namespace.now
+            (signed_bytes ingress timestamp) result.signature }
+        ensures verifies { C.verifies public_key namespace.now (signed_bytes ingress timestamp)
+            result.signature ≡ true
             → is_signed_in C.verifies namespace.now result ≡ true }
     {
         let signed = SignedBytes::of(&ingress, timestamp);

@@ -30,7 +30,8 @@ const PEERS_PREFIX: u8 = 3;
 /// The number fits `usize`.
 pub fn max_gossip_size<C: PublicKey>(max_bit_vec: u64, max_peers: usize) -> usize
     requires { gossip_size (261 + 10 + C.SIZE + C.Signature.SIZE) max_bit_vec max_peers < 2 ^ 64 }
-    ensures value { result ≡ gossip_size (261 + 10 + C.SIZE + C.Signature.SIZE) max_bit_vec max_peers }
+    ensures value { result
+        ≡ gossip_size (261 + 10 + C.SIZE + C.Signature.SIZE) max_bit_vec max_peers }
     ensures bound { (limits : PayloadConfig) (p : Payload C C.Signature)
         → limits.max_bit_vec ≡ max_bit_vec → limits.max_peers ≡ max_peers
         → IsPayload p → IsAdmitted C.IsValue C.Signature.IsValue limits p → 0 < prefix_of p

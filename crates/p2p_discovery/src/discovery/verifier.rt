@@ -25,7 +25,12 @@ impl<C: PublicKey> Model for InfoVerifier<C> {
 
     ghost Value = { Verifier C };
 
-    ghost view = { λ v. record { me = v.me; greatest_count = v.peer_gossip_max_count; synchrony_bound = as_nanos v.synchrony_bound; namespace = v.ip_namespace.items } };
+    ghost view = { λ v. record {
+      me = v.me;
+      greatest_count = v.peer_gossip_max_count;
+      synchrony_bound = as_nanos v.synchrony_bound;
+      namespace = v.ip_namespace.items;
+    } };
 }
 
 impl<C: PublicKey> Info<C> {
@@ -38,7 +43,12 @@ impl<C: PublicKey> Info<C> {
         synchrony_bound: Duration,
         ip_namespace: Vec<u8>,
     ) -> InfoVerifier<C>
-        ensures { result ≡ record { me = me; greatest_count = peer_gossip_max_count; synchrony_bound = as_nanos synchrony_bound; namespace = ip_namespace.items } }
+        ensures { result ≡ record {
+          me = me;
+          greatest_count = peer_gossip_max_count;
+          synchrony_bound = as_nanos synchrony_bound;
+          namespace = ip_namespace.items;
+        } }
     {
         InfoVerifier {
             me,
@@ -60,7 +70,8 @@ impl<C: PublicKey> InfoVerifier<C> {
     ///   is at most the greatest moment.
     /// - `InvalidSignature`: its signature isn't one of its key in the verifier's namespace.
     pub fn validate_info(&self, now: Duration, info: &Info<C>) -> Result<(), Error>
-        ensures { result ≡ judged (refusal (judge_of C.cmp C.verifies self.now) (as_nanos now) info.now) }
+        ensures { result
+            ≡ judged (refusal (judge_of C.cmp C.verifies self.now) (as_nanos now) info.now) }
     {
         if let Ordering::Equal = self.me.cmp(&info.public_key) {
             return Err(Error::ReceivedSelf);
@@ -82,7 +93,8 @@ impl<C: PublicKey> InfoVerifier<C> {
     /// `TooManyPeers` of their number where they are more than the verifier takes at a time; else
     /// the first refusal of [`InfoVerifier::validate_info`], in the order of the list.
     pub fn validate(&self, now: Duration, infos: &[Info<C>]) -> Result<(), Error>
-        ensures { result ≡ judged (list_refusal (judge_of C.cmp C.verifies self.now) (as_nanos now) infos.now) }
+        ensures { result
+            ≡ judged (list_refusal (judge_of C.cmp C.verifies self.now) (as_nanos now) infos.now) }
     {
         if infos.len() > self.peer_gossip_max_count {
             return Err(Error::TooManyPeers(infos.len()));

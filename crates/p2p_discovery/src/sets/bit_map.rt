@@ -138,7 +138,7 @@ impl BitMap {
         &self.bytes
     }
 
-    // The first n values that the bytes hold, which are as many as n need. Padding is refused first.
+    // The first n values that the bytes hold, as many bytes as n need. Padding is refused first.
     pub(crate) fn from_bytes(alloc: Global, bytes: &[u8], n: u64) -> Result<BitMap, CodecError>
         requires { length bytes.now ≡ byte_count n }
         ensures { (rest : List ℕ) → Gives result rest (unpacked n bytes.now rest) }

@@ -136,7 +136,8 @@ impl<'a, P: PublicKey> IntoIterator for &'a BitSet<P> {
 
     type IntoIter = slice::Iter<'a, P>;
 
-    ghost into_iter_gives = { λ set it. (iter_rest it ≡ peers_of set.now) × IsStrictlySortedBy P.cmp (peers_of set.now) };
+    ghost into_iter_gives = { λ set it. (iter_rest it ≡ peers_of set.now)
+        × IsStrictlySortedBy P.cmp (peers_of set.now) };
 
     fn into_iter(self) -> slice::Iter<'a, P> {
         self.ordered.iter()
