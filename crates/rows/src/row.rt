@@ -11,6 +11,7 @@ use std::io::{self, Write};
 mod addresses;
 mod directory;
 mod frames;
+mod judged;
 mod lines;
 mod setting;
 mod sizes;
@@ -87,11 +88,14 @@ pub fn run_rows<W: Write>(alloc: Global, words: &[String], out: &mut W) -> u8
         "1" => frames::data_frame(alloc, out),
         "2" => frames::rest_of_a_frame(alloc, out),
         "3" => frames::encoded_data(alloc, out),
+        "4" => frames::payloads(alloc, out),
         "5" => frames::odd_numbers(alloc, out),
         "6" => directory::teardown(alloc, out),
         "8" => directory::cooldown(alloc, out),
+        "17" => sizes::gossip_sizes(out),
         "21" => sizes::sizes(out),
         "22" => addresses::valid_addresses(alloc, out),
+        "23" => judged::judged_infos(alloc, out),
         _ => return no_such_row(out),
     };
     status_after(ended, out)

@@ -6,8 +6,9 @@ ghost use Rattle.std.specs.List.{concat};
 use crate::row::lines::{Hex, Line};
 use crate::row::{Stop, print};
 use bytes::Bytes;
-use p2p_discovery::codec::{CodecError, EncodeSize, RangeCfg, Read, Write as _};
+use p2p_discovery::codec::{CodecError, EncodeSize, RangeCfg, Read, TestKey, Write as _};
 use p2p_discovery::data::{Data, EncodedData};
+use p2p_discovery::discovery::{Payload, PayloadConfig};
 use p2p_discovery::types::Ingress;
 use std::alloc::{AllocError, Global};
 use std::collections::VecDeque;
@@ -18,19 +19,6 @@ const ANY_LENGTH: RangeCfg = RangeCfg {
     least: 0,
     greatest: usize::MAX,
 };
-
-/// What was read, or why nothing was.
-#[derive(Drop)]
-struct Decoded(Result<Data, CodecError>);
-
-impl fmt::Display for Decoded {
-    fn fmt<W: fmt::Write>(&self, f: &mut fmt::Formatter<W>) -> fmt::Result {
-        match &self.0 {
-            Ok(data) => write!(f, "{}", Line(data)),
-            Err(error) => write!(f, "{}", Refused(*error)),
-        }
-    }
-}
 
 /// Why nothing was read.
 #[derive(Drop)]
@@ -46,8 +34,16 @@ impl fmt::Display for Refused {
 // Prints what was read, or ends the row where memory was refused.
 fn print_decoded<W: Write>(out: &mut W, decoded: Result<Data, CodecError>) -> Result<(), Stop> {
     match decoded {
-        Err(CodecError::Memory) => Err(Stop::Memory),
-        decoded => print(out, &Decoded(decoded)),
+        Ok(data) => print(out, &Line(&data)),
+        Err(error) => print_refused(out, error),
+    }
+}
+
+// Prints why nothing was read, or ends the row where memory was refused.
+fn print_refused<W: Write>(out: &mut W, error: CodecError) -> Result<(), Stop> {
+    match error {
+        CodecError::Memory => Err(Stop::Memory),
+        error => print(out, &Refused(error)),
     }
 }
 
@@ -97,6 +93,28 @@ fn print_buffers<W: Write>(alloc: Global, message: VecDeque<Bytes>, out: &mut W)
     Ok(())
 }
 
+/// Payloads of bits under a limit, bits that are padded wrongly, and a prefix that there is not.
+pub fn payloads<W: Write>(alloc: Global, out: &mut W) -> Result<(), Stop> {
+    for (frame, max_bit_vec) in [
+        (b"\x02\x05\x09\xff\x01".as_slice(), 8),
+        (b"\x02\x05\x09\xff\x01", 9),
+        (b"\x02\x05\x09\xff\x03", 9),
+        (b"\x04\0\x01", 9),
+    ] {
+        let limits = PayloadConfig {
+            max_bit_vec,
+            max_peers: 8,
+            max_data_length: 32,
+        };
+        match Payload::<TestKey>::decode_cfg(alloc, Bytes::from_static(frame), &limits) {
+            Ok(Payload::BitVec(bits)) => print(out, &Line(&bits))?,
+            Ok(_) => return Ok(()),
+            Err(error) => print_refused(out, error)?,
+        }
+    }
+    Ok(())
+}
+
 /// Numbers that are not spelled in their one way, the longest name, and one too long.
 pub fn odd_numbers<W: Write>(alloc: Global, out: &mut W) -> Result<(), Stop> {
     for frame in [
@@ -140,7 +158,6 @@ fn extend(frame: &mut Vec<u8>, byte: u8, count: usize) -> Result<(), AllocError>
 fn print_ingress_size<W: Write>(alloc: Global, frame: Bytes, out: &mut W) -> Result<(), Stop> {
     match Ingress::decode(alloc, frame) {
         Ok(ingress) => print(out, &ingress.encode_size()),
-        Err(CodecError::Memory) => Err(Stop::Memory),
-        Err(error) => print(out, &Refused(error)),
+        Err(error) => print_refused(out, error),
     }
 }

@@ -3,7 +3,8 @@
 use p2p_directory::run::Reply;
 use p2p_discovery::codec::TestKey;
 use p2p_discovery::data::Data;
-use p2p_discovery::sets::OrderedSet;
+use p2p_discovery::discovery::BitVec;
+use p2p_discovery::sets::{BitMap, OrderedSet};
 use std::fmt;
 
 /// A value in its printed form.
@@ -23,6 +24,30 @@ impl fmt::Display for Hex<'_> {
             write!(f, "{byte:02x}")?;
         }
         Ok(())
+    }
+}
+
+/// Truth values as a digit each, and no values as a hyphen.
+#[derive(Drop)]
+struct Bits<'a>(&'a BitMap);
+
+impl fmt::Display for Bits<'_> {
+    fn fmt<W: fmt::Write>(&self, f: &mut fmt::Formatter<W>) -> fmt::Result {
+        if self.0.len() == 0 {
+            return f.write_str("-");
+        }
+        for place in 0..self.0.len() {
+            f.write_str(if self.0.get(place) { "1" } else { "0" })?;
+        }
+        Ok(())
+    }
+}
+
+impl fmt::Display for Line<'_, BitVec> {
+    fn fmt<W: fmt::Write>(&self, f: &mut fmt::Formatter<W>) -> fmt::Result {
+        let index = self.0.index;
+        let bits = Bits(&self.0.bits);
+        write!(f, "BitVec({index}, {bits})")
     }
 }
 

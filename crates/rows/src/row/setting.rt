@@ -5,7 +5,7 @@ ghost use Rattle.std.specs.Int.NonZero.{non_zero_usize_get};
 
 use p2p_directory::directory::{Config, TrackedPeers};
 use p2p_directory::run::Command;
-use p2p_discovery::codec::{TestKey, TestSignature};
+use p2p_discovery::codec::TestKey;
 use p2p_discovery::discovery::Info;
 use p2p_discovery::sets::OrderedSet;
 use p2p_discovery::types::{Ingress, IpAddr, SocketAddr};
@@ -13,14 +13,26 @@ use std::alloc::{AllocError, Global};
 use std::num::NonZeroUsize;
 use std::time::Duration;
 
+/// The namespace in which infos are signed.
+pub const NAMESPACE: &[u8] = b"rows";
+
 /// The info of the local node: key 9 at 8.8.8.8:9000, with timestamp 0.
 pub fn own_info() -> Info<TestKey> {
-    Info {
-        ingress: Ingress::Socket(SocketAddr::new(IpAddr::V4([8, 8, 8, 8]), 9000)),
-        timestamp: 0,
-        public_key: TestKey(9),
-        signature: TestSignature(0),
-    }
+    let ingress = Ingress::Socket(SocketAddr::new(IpAddr::V4([8, 8, 8, 8]), 9000));
+    signed(TestKey(9), NAMESPACE, ingress, 0)
+}
+
+/// The info of a peer at 1.2.3.4, with its number past 8000 as the port, signed in a namespace.
+pub fn info_in(namespace: &[u8], peer: u16, timestamp: u64) -> Info<TestKey> {
+    let port = peer.saturating_add(8000);
+    let ingress = Ingress::Socket(SocketAddr::new(IpAddr::V4([1, 2, 3, 4]), port));
+    signed(TestKey(u64::from(peer)), namespace, ingress, timestamp)
+}
+
+fn signed(key: TestKey, namespace: &[u8], ingress: Ingress, timestamp: u64) -> Info<TestKey> {
+    Info::sign(key, namespace, ingress, timestamp, |namespace, message| {
+        key.sign(namespace, message)
+    })
 }
 
 /// One retained set, a cooldown of 10 seconds and blocks of 60, everything allowed.

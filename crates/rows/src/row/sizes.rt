@@ -2,9 +2,17 @@
 
 use crate::row::{Stop, print};
 use p2p_discovery::codec::TestKey;
+use p2p_discovery::discovery::{Info, max_gossip_size};
 use p2p_discovery::sizing::{max_message_size, max_retained_peers, peer_set_limit, peer_set_size};
 use std::io::Write;
 use std::num::NonZeroUsize;
+
+/// Greatest sizes of gossip, and of an info.
+pub fn gossip_sizes<W: Write>(out: &mut W) -> Result<(), Stop> {
+    print(out, &max_gossip_size::<TestKey>(1_000, 32))?;
+    print(out, &max_gossip_size::<TestKey>(100_000, 0))?;
+    print(out, &Info::<TestKey>::max_encode_size())
+}
 
 /// Sizes of messages and of sets of peers.
 pub fn sizes<W: Write>(out: &mut W) -> Result<(), Stop> {

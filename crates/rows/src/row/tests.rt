@@ -29,13 +29,17 @@ impl Write for Short {
 }
 
 /// The rows that there are: the word that names each, and the lines that it prints.
-pub(crate) const ROWS: [(&str, &str); 8] = [
+pub(crate) const ROWS: [(&str, &str); 11] = [
     (
         "1",
         "b9600d48656c6c6f2c20776f726c6421\nData(12345, 48656c6c6f2c20776f726c6421)\nInvalidLength(13)\nInvalidLength(13)\n",
     ),
     ("2", "Data(3, -)\n010203040506070809\nExtraData(9)\n"),
     ("3", "00b9600c\n68656c6c6f20\n776f726c64\n21\n00b96000\n"),
+    (
+        "4",
+        "InvalidLength(9)\nBitVec(5, 111111111)\nInvalid(Padding)\nInvalidEnum(4)\n",
+    ),
     (
         "5",
         "InvalidVarint(10)\nData(18446744073709551615, -)\nInvalidVarint(10)\n258\nInvalidLength(300)\n",
@@ -48,10 +52,15 @@ pub(crate) const ROWS: [(&str, &str); 8] = [
         "8",
         "Some([])\ngranted\ndone\nrefused\ngranted\ndone\nSome([])\nSome([])\ngranted\n",
     ),
+    ("17", "9190\n12514\n287\n"),
     ("21", "0\n7\n4294967295\n14\n2\n3\n3\n3\n4\n"),
     (
         "22",
         "true true true true\nfalse false true true\nfalse true false true\n",
+    ),
+    (
+        "23",
+        "TooManyPeers(2)\nok\nok\nSynchronyBound\nReceivedSelf\nInvalidSignature\nok\nTooManyPeers(1)\n",
     ),
 ];
 
