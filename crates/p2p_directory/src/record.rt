@@ -124,7 +124,11 @@ impl<C: PublicKey> Record<C> {
         }
     }
 
-    /// Counts one more primary set. Condition: the count is below the greatest `usize`.
+    /// Counts one more primary set.
+    ///
+    /// # Conditions
+    ///
+    /// The count is below the greatest `usize`.
     pub fn increment_primary(&mut self)
         requires { self.old.primary_sets < 2 ^ 64 - 1 }
         ensures { self.new ≡ record self.old { primary_sets = self.old.primary_sets + 1 } }
@@ -132,7 +136,11 @@ impl<C: PublicKey> Record<C> {
         self.primary_sets += 1;
     }
 
-    /// Counts one primary set less. Condition: the count is above 0.
+    /// Counts one primary set less.
+    ///
+    /// # Conditions
+    ///
+    /// The count is above 0.
     pub fn decrement_primary(&mut self)
         requires { 0 < self.old.primary_sets }
         ensures { self.new ≡ record self.old { primary_sets = self.old.primary_sets - 1 } }
@@ -140,7 +148,11 @@ impl<C: PublicKey> Record<C> {
         self.primary_sets -= 1;
     }
 
-    /// Counts one more secondary set. Condition: the count is below the greatest `usize`.
+    /// Counts one more secondary set.
+    ///
+    /// # Conditions
+    ///
+    /// The count is below the greatest `usize`.
     pub fn increment_secondary(&mut self)
         requires { self.old.secondary_sets < 2 ^ 64 - 1 }
         ensures { self.new ≡ record self.old { secondary_sets = self.old.secondary_sets + 1 } }
@@ -148,7 +160,11 @@ impl<C: PublicKey> Record<C> {
         self.secondary_sets += 1;
     }
 
-    /// Counts one secondary set less. Condition: the count is above 0.
+    /// Counts one secondary set less.
+    ///
+    /// # Conditions
+    ///
+    /// The count is above 0.
     pub fn decrement_secondary(&mut self)
         requires { 0 < self.old.secondary_sets }
         ensures { self.new ≡ record self.old { secondary_sets = self.old.secondary_sets - 1 } }
@@ -183,7 +199,11 @@ impl<C: PublicKey> Record<C> {
         ReserveResult::Reserved
     }
 
-    /// Ends the reservation or the connection: the peer is inert. Condition: it was not.
+    /// Ends the reservation or the connection: the peer is inert.
+    ///
+    /// # Conditions
+    ///
+    /// It was not inert.
     pub fn release(&mut self)
         requires { is_inert self.old.status ≡ false }
         ensures { self.new ≡ record self.old { status = Status.Inert } }
