@@ -260,6 +260,89 @@ fn judges_what_may_be_dialled(rt: HostRuntime) -> Result<(), Fail> {
 }
 
 /// Beside and at both ends of each range.
+// The ranges that are not global, each by its first and its last address as a number. No two of
+// those of version 4 touch, and of version 6 the first two are written as one.
+const RANGES_4: [(u32, u32); 13] = [
+    (0, 0x00ff_ffff),
+    (0x0a00_0000, 0x0aff_ffff),
+    (0x6440_0000, 0x647f_ffff),
+    (0x7f00_0000, 0x7fff_ffff),
+    (0xa9fe_0000, 0xa9fe_ffff),
+    (0xac10_0000, 0xac1f_ffff),
+    (0xc000_0000, 0xc000_00ff),
+    (0xc000_0200, 0xc000_02ff),
+    (0xc0a8_0000, 0xc0a8_ffff),
+    (0xc612_0000, 0xc613_ffff),
+    (0xc633_6400, 0xc633_64ff),
+    (0xcb00_7100, 0xcb00_71ff),
+    (0xf000_0000, 0xffff_ffff),
+];
+
+const RANGES_6: [(u128, u128); 9] = [
+    (0, 1),
+    (0xffff_0000_0000, 0xffff_ffff_ffff),
+    (
+        0x0064_ff9b_0001_0000_0000_0000_0000_0000,
+        0x0064_ff9b_0001_ffff_ffff_ffff_ffff_ffff,
+    ),
+    (
+        0x0100_0000_0000_0000_0000_0000_0000_0000,
+        0x0100_0000_0000_0000_ffff_ffff_ffff_ffff,
+    ),
+    (
+        0x2001_0000_0000_0000_0000_0000_0000_0000,
+        0x2001_01ff_ffff_ffff_ffff_ffff_ffff_ffff,
+    ),
+    (
+        0x2001_0db8_0000_0000_0000_0000_0000_0000,
+        0x2001_0db8_ffff_ffff_ffff_ffff_ffff_ffff,
+    ),
+    (
+        0x2002_0000_0000_0000_0000_0000_0000_0000,
+        0x2002_ffff_ffff_ffff_ffff_ffff_ffff_ffff,
+    ),
+    (
+        0xfc00_0000_0000_0000_0000_0000_0000_0000,
+        0xfdff_ffff_ffff_ffff_ffff_ffff_ffff_ffff,
+    ),
+    (
+        0xfe80_0000_0000_0000_0000_0000_0000_0000,
+        0xfebf_ffff_ffff_ffff_ffff_ffff_ffff_ffff,
+    ),
+];
+
+fn is_global_4(number: u32) -> bool {
+    IpAddr::V4(number.to_be_bytes()).is_global()
+}
+
+fn is_global_6(number: u128) -> bool {
+    IpAddr::V6(number.to_be_bytes()).is_global()
+}
+
+#[test]
+fn knows_both_ends_of_each_range(rt: HostRuntime) {
+    for (first, last) in RANGES_4 {
+        assert!(rt; !is_global_4(first), "the first, {first}");
+        assert!(rt; !is_global_4(last), "the last, {last}");
+        if let Some(before) = first.checked_sub(1) {
+            assert!(rt; is_global_4(before), "before {first}");
+        }
+        if let Some(behind) = last.checked_add(1) {
+            assert!(rt; is_global_4(behind), "behind {last}");
+        }
+    }
+    for (first, last) in RANGES_6 {
+        assert!(rt; !is_global_6(first), "the first, {first}");
+        assert!(rt; !is_global_6(last), "the last, {last}");
+        if let Some(before) = first.checked_sub(1) {
+            assert!(rt; is_global_6(before), "before {first}");
+        }
+        if let Some(behind) = last.checked_add(1) {
+            assert!(rt; is_global_6(behind), "behind {last}");
+        }
+    }
+}
+
 #[test]
 fn knows_global_addresses(rt: HostRuntime) {
     let cases = [
