@@ -5,9 +5,9 @@ pub mod codec;
 pub mod data;
 pub mod discovery;
 #[cfg(test)]
-mod famine;
+mod low_memory;
 #[cfg(test)]
-mod refused;
+mod out_of_memory;
 pub mod sets;
 pub mod sizing;
 pub mod types;

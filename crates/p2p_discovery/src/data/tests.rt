@@ -2,7 +2,7 @@ ghost use Rattle.std.specs.Prelude.{◌≡◌, ◌<◌, ◌^◌, length, IfOk};
 ghost use Rattle.std.specs.List.{concat};
 
 use crate::codec::{CodecError, EncodeSize, RangeCfg, Read, Write};
-use crate::data::{DATA_PREFIX, Data, EncodedData, MAX_PAYLOAD_OVERHEAD, Upgrader, max_size};
+use crate::data::{Data, EncodedData, Upgrader, max_size};
 use bytes::Bytes;
 use std::alloc::Global;
 use std::collections::VecDeque;
@@ -167,8 +167,6 @@ impl Upgrader for Wide {
 
 #[test]
 fn leaves_room_for_the_overhead(rt: HostRuntime) {
-    assert_eq!(rt; MAX_PAYLOAD_OVERHEAD, 16);
-    assert_eq!(rt; DATA_PREFIX, 0);
     assert_eq!(rt; max_size::<Narrow>(), 0);
     assert_eq!(rt; max_size::<Next>(), 1);
     assert_eq!(rt; max_size::<Wide>(), 1_048_560);

@@ -1,7 +1,7 @@
 use super::{BitMap, BitSet, OrderedSet};
 use crate::codec::TestKey;
-use crate::famine::Famine;
-use crate::refused::{STEP, STEPS, Tally};
+use crate::low_memory::LowMemory;
+use crate::out_of_memory::{STEP, STEPS, Tally};
 use std::alloc::{AllocError, Global};
 use std::test::Fail;
 
@@ -77,18 +77,18 @@ fn bits_are_whole_or_refused_for_memory(rt: HostRuntime) -> Result<(), Fail> {
     let whole = BitMap::ones(alloc, 100)?;
     let peers = OrderedSet::from_iter_dedup(alloc, (0..100).map(TestKey))?;
     let set = BitSet::new(alloc, peers)?;
-    let mut famine = Famine::new(alloc)?;
+    let mut memory = LowMemory::new(alloc)?;
     let mut tally = Tally::EMPTY;
     for step in 0..STEPS {
         let peers = set.ordered().clone()?;
-        famine.starve(alloc, step.saturating_mul(STEP))?;
+        memory.limit(alloc, step.saturating_mul(STEP))?;
         let ones = BitMap::ones(alloc, 100);
         let given = BitMap::from_bools(alloc, &values);
         let copy = whole.clone();
         let known = set.knowledge();
         let same = set.clone();
         let made = BitSet::new(alloc, peers);
-        famine.relieve();
+        memory.lift();
         for bits in [ones, given, copy] {
             tally.count(bits.is_err());
             if let Ok(bits) = bits {

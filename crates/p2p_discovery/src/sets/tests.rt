@@ -1,7 +1,7 @@
 use super::{OrderedSet, SetError};
 use crate::codec::TestKey;
-use crate::famine::Famine;
-use crate::refused::{STEP, STEPS, Tally};
+use crate::low_memory::LowMemory;
+use crate::out_of_memory::{STEP, STEPS, Tally};
 use std::alloc::{AllocError, Global};
 use std::test::Fail;
 
@@ -67,12 +67,12 @@ fn a_list_with_a_repeat_is_no_set(rt: HostRuntime) -> Result<(), Fail> {
 fn a_set_is_whole_or_refused_for_memory(rt: HostRuntime) -> Result<(), Fail> {
     let alloc = rt.alloc();
     let whole = OrderedSet::from_iter_dedup(alloc, (0..150).map(TestKey))?;
-    let mut famine = Famine::new(alloc)?;
+    let mut memory = LowMemory::new(alloc)?;
     let mut tally = Tally::EMPTY;
     for step in 0..STEPS {
-        famine.starve(alloc, step.saturating_mul(STEP))?;
+        memory.limit(alloc, step.saturating_mul(STEP))?;
         let made = OrderedSet::from_iter_dedup(alloc, (0..150).map(TestKey));
-        famine.relieve();
+        memory.lift();
         tally.count(made.is_err());
         if let Ok(set) = made {
             assert_eq!(rt; set.as_slice(), whole.as_slice(), "step {step}");
@@ -86,12 +86,12 @@ fn a_set_is_whole_or_refused_for_memory(rt: HostRuntime) -> Result<(), Fail> {
 fn a_copy_is_whole_or_refused_for_memory(rt: HostRuntime) -> Result<(), Fail> {
     let alloc = rt.alloc();
     let whole = OrderedSet::from_iter_dedup(alloc, (0..150).map(TestKey))?;
-    let mut famine = Famine::new(alloc)?;
+    let mut memory = LowMemory::new(alloc)?;
     let mut tally = Tally::EMPTY;
     for step in 0..STEPS {
-        famine.starve(alloc, step.saturating_mul(STEP))?;
+        memory.limit(alloc, step.saturating_mul(STEP))?;
         let made = whole.clone();
-        famine.relieve();
+        memory.lift();
         tally.count(made.is_err());
         if let Ok(set) = made {
             assert_eq!(rt; set.as_slice(), whole.as_slice(), "step {step}");

@@ -4,7 +4,7 @@ use crate::codec::{CodecError, RangeCfg, Read, TestKey, Write};
 use crate::data::tests::buffers;
 use crate::data::{Data, EncodedData};
 use crate::discovery::{Info, Infos, Payload, PayloadConfig};
-use crate::famine::Famine;
+use crate::low_memory::LowMemory;
 use crate::types::{Address, Hostname, Ingress, IpAddr, SocketAddr};
 use bytes::Bytes;
 use std::alloc::Global;
@@ -52,7 +52,7 @@ impl Tally {
 fn reads_at_each_budget<T: Read<Cfg = ()> + Write + PartialEq>(
     rt: &impl Abort,
     alloc: Global,
-    famine: &mut Famine,
+    memory: &mut LowMemory,
     value: &T,
 ) -> Result<Tally, Fail>
     requires { T.CanSpell value.now }
@@ -62,11 +62,11 @@ fn reads_at_each_budget<T: Read<Cfg = ()> + Write + PartialEq>(
     for step in 0..STEPS {
         let mut buf = Bytes::copy_from_slice(alloc, frame.as_slice())?;
         let whole = Bytes::copy_from_slice(alloc, frame.as_slice())?;
-        famine.starve(alloc, step.saturating_mul(STEP))?;
+        memory.limit(alloc, step.saturating_mul(STEP))?;
         let read = T::read_cfg(alloc, &mut buf, &());
         let decoded = T::decode(alloc, whole);
         let encoded = value.encode(alloc);
-        famine.relieve();
+        memory.lift();
         match read {
             Ok(read) => {
                 assert!(rt; read == *value, "step {step}");
@@ -110,10 +110,10 @@ fn codecs_of_addresses_are_refused(rt: HostRuntime) -> Result<(), Fail> {
         ingress: ingress.clone()?,
         egress: SocketAddr::new(IpAddr::V4([1, 2, 3, 4]), 5),
     };
-    let mut famine = Famine::new(alloc)?;
-    reads_at_each_budget(&rt, alloc, &mut famine, &host)?.is_mixed(&rt);
-    reads_at_each_budget(&rt, alloc, &mut famine, &ingress)?.is_mixed(&rt);
-    reads_at_each_budget(&rt, alloc, &mut famine, &address)?.is_mixed(&rt);
+    let mut memory = LowMemory::new(alloc)?;
+    reads_at_each_budget(&rt, alloc, &mut memory, &host)?.is_mixed(&rt);
+    reads_at_each_budget(&rt, alloc, &mut memory, &ingress)?.is_mixed(&rt);
+    reads_at_each_budget(&rt, alloc, &mut memory, &address)?.is_mixed(&rt);
     Ok(())
 }
 
@@ -128,15 +128,15 @@ fn names_and_copies_are_refused(rt: HostRuntime) -> Result<(), Fail> {
         },
         egress: SocketAddr::new(IpAddr::V4([1, 2, 3, 4]), 5),
     };
-    let mut famine = Famine::new(alloc)?;
+    let mut memory = LowMemory::new(alloc)?;
     let mut tally = Tally::EMPTY;
     for step in 0..STEPS {
-        famine.starve(alloc, step.saturating_mul(STEP))?;
+        memory.limit(alloc, step.saturating_mul(STEP))?;
         let named = Hostname::new(alloc, NAME);
         let no_name = Hostname::new(alloc, "a..b");
         let copy = address.clone();
         let ingress = address.ingress();
-        famine.relieve();
+        memory.lift();
         tally.count(named.is_err());
         assert!(rt; no_name.err() != Some(CodecError::Memory), "step {step}");
         match named {
@@ -158,12 +158,12 @@ fn names_and_copies_are_refused(rt: HostRuntime) -> Result<(), Fail> {
 #[test]
 fn reads_sockets_with_no_memory(rt: HostRuntime) -> Result<(), Fail> {
     let alloc = rt.alloc();
-    let mut famine = Famine::new(alloc)?;
-    famine.starve(alloc, 0)?;
+    let mut memory = LowMemory::new(alloc)?;
+    memory.limit(alloc, 0)?;
     let read = Ingress::decode(alloc, Bytes::from_static(b"\0\x04\x7f\0\0\x01\x1f\x90"));
     let faulty = Ingress::decode(alloc, Bytes::from_static(b"\x01\x01-\0P"));
     let encoded = 7u64.encode(alloc).is_ok();
-    famine.relieve();
+    memory.lift();
     assert!(rt; !encoded);
     assert_eq!(rt; read?.port(), 8080);
     assert!(rt; faulty.err() != Some(CodecError::Memory));
@@ -174,14 +174,14 @@ fn reads_sockets_with_no_memory(rt: HostRuntime) -> Result<(), Fail> {
 #[test]
 fn frames_are_refused(rt: HostRuntime) -> Result<(), Fail> {
     let alloc = rt.alloc();
-    let mut famine = Famine::new(alloc)?;
+    let mut memory = LowMemory::new(alloc)?;
     let mut tally = Tally::EMPTY;
     for step in 0..STEPS {
         let message = buffers(alloc, &[b"hello ", b"world", b"!"])?;
         let same = buffers(alloc, &[b"hello ", b"world", b"!"])?;
-        famine.starve(alloc, step.saturating_mul(STEP))?;
+        memory.limit(alloc, step.saturating_mul(STEP))?;
         let encoded = EncodedData::new(alloc, 12345, message);
-        famine.relieve();
+        memory.lift();
         tally.count(encoded.is_err());
         match encoded {
             Ok(encoded) => assert_eq!(rt; encoded.payload.len(), 4, "step {step}"),
@@ -200,12 +200,12 @@ fn messages_are_refused(rt: HostRuntime) -> Result<(), Fail> {
         greatest: 64,
     };
     let spelled = b"\x01\x05hello!".as_slice();
-    let mut famine = Famine::new(alloc)?;
+    let mut memory = LowMemory::new(alloc)?;
     let mut tally = Tally::EMPTY;
     for step in 0..STEPS {
         let mut buf = Bytes::copy_from_slice(alloc, spelled)?;
         let empty = Bytes::from_static(b"\x01\0");
-        famine.starve(alloc, step.saturating_mul(STEP))?;
+        memory.limit(alloc, step.saturating_mul(STEP))?;
         let read = Data::read_cfg(alloc, &mut buf, &limit);
         let none = Data::decode_cfg(alloc, empty, &limit);
         let other = Data {
@@ -213,7 +213,7 @@ fn messages_are_refused(rt: HostRuntime) -> Result<(), Fail> {
             message: Bytes::from_static(b"a message that is long enough to want memory"),
         };
         let encoded = other.encode(alloc);
-        famine.relieve();
+        memory.lift();
         tally.count(encoded.is_err());
         assert!(rt; none.is_ok(), "no bytes take no memory, step {step}");
         match read {
@@ -236,16 +236,16 @@ fn messages_are_refused(rt: HostRuntime) -> Result<(), Fail> {
 fn refused_at_each_budget<T: Read>(
     rt: &impl Abort,
     alloc: Global,
-    famine: &mut Famine,
+    memory: &mut LowMemory,
     frame: &[u8],
     cfg: &T::Cfg,
 ) -> Result<Tally, Fail> {
     let mut tally = Tally::EMPTY;
     for step in 0..STEPS {
         let mut buf = Bytes::copy_from_slice(alloc, frame)?;
-        famine.starve(alloc, step.saturating_mul(STEP))?;
+        memory.limit(alloc, step.saturating_mul(STEP))?;
         let fault = T::read_cfg(alloc, &mut buf, cfg).err();
-        famine.relieve();
+        memory.lift();
         tally.count(fault.is_some());
         if let Some(error) = fault {
             assert_eq!(rt; error, CodecError::Memory, "step {step}");
@@ -278,12 +278,12 @@ fn payloads_are_refused(rt: HostRuntime) -> Result<(), Fail> {
         max_peers: 2,
         max_data_length: 0,
     };
-    let mut famine = Famine::new(alloc)?;
+    let mut memory = LowMemory::new(alloc)?;
     for frame in [peers, bits] {
         refused_at_each_budget::<Payload<TestKey>>(
             &rt,
             alloc,
-            &mut famine,
+            &mut memory,
             &frame,
             &limits,
         )?.is_mixed(&rt);
@@ -306,8 +306,8 @@ fn judges_with_no_memory(rt: HostRuntime) -> Result<(), Fail> {
         least: 0,
         greatest: usize::MAX,
     };
-    let mut famine = Famine::new(alloc)?;
-    famine.starve(alloc, 0)?;
+    let mut memory = LowMemory::new(alloc)?;
+    memory.limit(alloc, 0)?;
     let ingress = Ingress::Socket(SocketAddr::new(IpAddr::V4([1, 2, 3, 4]), 5));
     let info = Info::sign(key, b"rows", ingress, 0, |namespace, message| {
         key.sign(namespace, message)
@@ -318,7 +318,7 @@ fn judges_with_no_memory(rt: HostRuntime) -> Result<(), Fail> {
         Bytes::from_static(b"\xff\xff\xff\xff\x0f\0"),
         &limit,
     );
-    famine.relieve();
+    memory.lift();
     assert_eq!(rt; judged, Ok(()));
     assert_eq!(rt; none.err(), Some(CodecError::EndOfBuffer));
     Ok(())
