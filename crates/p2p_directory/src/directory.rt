@@ -18,7 +18,7 @@ ghost use Rattle.p2p_directory.specs.Private.Counts.{record_joining, IsRestored,
 
 use crate::directory::records::Records;
 use crate::directory::records::counts::ordered;
-use crate::kept::{PeerSet, Window, forget};
+use crate::kept::{PeerSet, Window};
 use crate::record::Status;
 use p2p_discovery::codec::PublicKey;
 use p2p_discovery::discovery::Info;
@@ -301,7 +301,7 @@ fn add<C: PublicKey>(
     match join_latest(sets, records) {
         Ok(()) => Ok(()),
         Err(refused) => {
-            forget(sets.pop_latest());
+            sets.pop_latest();
             Err(refused)
         }
     }

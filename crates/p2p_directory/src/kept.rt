@@ -228,10 +228,10 @@ impl<C: PublicKey> Window<C> {
         self.sets.pop_front()
     }
 
-    /// Takes out the latest set.
-    pub fn pop_latest(&mut self) -> Option<PeerSet<C>>
+    /// Takes out the latest set, and gives it up.
+    pub fn pop_latest(&mut self)
         ensures { (sets : List (SetAt C)) (set : SetAt C) → self.old ≡ sets ++ set ∷ [] → self.new ≡ sets }
     {
-        self.sets.pop_back()
+        forget(self.sets.pop_back());
     }
 }
