@@ -1,7 +1,7 @@
 -- What contracts see of a directory, and what its calls answer and change.
 use Rattle.std.specs.Prelude.{ℕ, ◌≡◌, Bool, true, false, not, ◌&&◌, if◌then◌else◌, List, ◌++◌, ◌∷◌, [], Option, Some, unwrap_or}
 use Rattle.std.specs.List.Sorted.{IsStrictlySortedBy}
-use Rattle.std.specs.Option.{option_map, option_map_or, option_and_then, IsSomeAnd}
+use Rattle.std.specs.Option.{option_map, option_map_or, option_and_then}
 use Rattle.std.specs.Duration.{as_nanos}
 use Rattle.std.specs.Int.NonZero.{non_zero_usize_get}
 use Rattle.std.specs.Map.{lookup}
@@ -55,6 +55,10 @@ key_of (Dialer key ingress) = key
 key_of (Listener key) = key
 
 module _ {C S : Type 0} where
+  -- there is a record, and its peer is reserved or connected
+  abbrev pub is_busy : Option (RecordView C S) → Bool
+  is_busy o = option_map_or (λ r. not (is_inert r.status)) o false
+
   -- the address after its reservation was released
   abbrev pub address_after_release : Metadata C S → Address C S → Address C S
   address_after_release (Dialer key ingress) address = after_failure ingress address
@@ -78,9 +82,9 @@ module _ {C S : Type 0} (cmp : C → C → Ordering) where
   abbrev pub record_of : DirectoryView C S → C → Option (RecordView C S)
   record_of d q = record_at d.records q
 
-  -- a peer has a record, and is reserved or connected
+  -- a peer is reserved or connected
   abbrev pub IsBusy : DirectoryView C S → C → Type 0
-  IsBusy d q = IsSomeAnd (record_of d q) (λ r. is_inert r.status ≡ false)
+  IsBusy d q = is_busy (record_of d q) ≡ true
 
   -- whoever is reserved or connected stays so
   abbrev pub StayBusy : DirectoryView C S → DirectoryView C S → Type 0

@@ -1,19 +1,13 @@
 -- The reservations that are held, in ascending order of their peers: what each is for.
-use Rattle.std.specs.Prelude.{◌≡◌, Bool, false, not, List, Option, Some, None, find, is_some}
+use Rattle.std.specs.Prelude.{◌≡◌, not, List, Option, Some, None, find, is_some}
 use Rattle.std.specs.List.{filter}
-use Rattle.std.specs.Option.{option_map_or}
 use Rattle.std.specs.declared.cmp.Ordering.{Ordering}
 use Rattle.std.specs.BTreeMap.{is_at}
 use Rattle.p2p_directory.specs.declared.directory.Metadata.{Metadata}
-use Rattle.p2p_directory.specs.History.{is_inert}
 use Rattle.p2p_directory.specs.Record.{RecordView}
-use Rattle.p2p_directory.specs.Directory.{DirectoryView, record_of, key_of, kept_after_release}
+use Rattle.p2p_directory.specs.Directory.{DirectoryView, record_of, key_of, kept_after_release, is_busy}
 
 module _ {C S : Type 0} where
-  -- there is a record, and its peer is reserved or connected
-  abbrev pub is_busy : Option (RecordView C S) → Bool
-  is_busy o = option_map_or (λ r. not (is_inert r.status)) o false
-
   -- the record of a peer once what is held of it, if anything, was released
   abbrev pub after_release :
       Option (Metadata C S) → Option (RecordView C S) → Option (RecordView C S)

@@ -1,6 +1,6 @@
 -- The replies to a run of commands, by the calls accepted before each, and what the run leaves.
 use Rattle.std.specs.Prelude.{◌≡◌, Bool, true, false, not, if◌then◌else◌}
-use Rattle.std.specs.Prelude.{List, [], ◌∷◌, map, Option, is_some}
+use Rattle.std.specs.Prelude.{List, [], ◌∷◌, map, Option, None, is_some}
 use Rattle.std.specs.Option.{option_map}
 use Rattle.std.specs.Duration.{as_nanos}
 use Rattle.std.specs.Int.NonZero.{non_zero_usize_get}
@@ -50,6 +50,10 @@ call_of command.LatestSetIndex = Ask LatestIndex
 -- .. one for each command, in order
 abbrev pub calls_of : {C S : Type 0} → List (Command C S) → List (Call C S)
 calls_of commands = map call_of commands
+
+-- nobody has an unblock moment: no command blocks yet
+abbrev pub HasNoBlock : {C S : Type 0} → World C S → Type 0
+HasNoBlock {C} w = (p : C) → w.unblock p ≡ None
 
 module _ {C S : Type 0} (s : Setup C S) where
   -- ONE REPLY. `before` are the calls accepted before, the newest first; w is the world that they

@@ -7,7 +7,7 @@ ghost use Rattle.p2p_directory.specs.Held.{held_of};
 ghost use Rattle.p2p_directory.specs.Private.Slots.{held_in};
 ghost use Rattle.p2p_directory.specs.Private.Serving.{has_room};
 ghost use Rattle.p2p_directory.specs.Refinement.{Refines};
-ghost use Rattle.p2p_directory.specs.Run.{setup_of, calls_of, world_left, AreAnswers, Holds};
+ghost use Rattle.p2p_directory.specs.Run.{setup_of, calls_of, world_left, AreAnswers, Holds, HasNoBlock};
 
 use crate::directory::{Config, Directory};
 pub use crate::run::commands::{Command, Reply};
@@ -62,6 +62,8 @@ pub fn run<C: PublicKey>(
     ensures held { IfOk result (λ run. let s = setup_of C.cmp bootstrappers.items myself cfg in
         Holds s (world_left s (calls_of commands.items) run.replies.items)
         (held_of C.cmp run.held)) }
+    ensures unblocked { IfOk result (λ run. let s = setup_of C.cmp bootstrappers.items myself cfg in
+        HasNoBlock (world_left s (calls_of commands.items) run.replies.items)) }
 {
     let mut replies = Vec::with_capacity(alloc, commands.len())?;
     let slots = slots_for(alloc, &commands)?;

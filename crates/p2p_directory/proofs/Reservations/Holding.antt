@@ -1,45 +1,31 @@
 -- What each call leaves busy, and what is held of it.
 use Rattle.std.proofs.Common.{◌≡◌, ℕ, Bool, true, false, not, ◌&&◌, ◌||◌, Option, Some, None, refl, sym, ◌∙◌, ap, subst}
-use Rattle.std.specs.Prelude.{if◌then◌else◌, is_some, unwrap_or, nat_lt}
-use Rattle.std.specs.Option.{IsSomeAnd, option_map, option_map_or}
+use Rattle.std.specs.Prelude.{if◌then◌else◌, is_some, nat_lt}
+use Rattle.std.specs.Option.{option_map, option_map_or}
 use Rattle.std.specs.BTreeMap.{is_at}
 use Rattle.std.specs.declared.cmp.Ordering.{Ordering}
 use Rattle.std.proofs.lemmas.Map.Lookups.{CmpEqualImpliesEq}
 use Rattle.std.proofs.lemmas.Map.Views.{tells_apart}
 use Rattle.p2p_directory.specs.declared.record.ReserveResult.TheVariants as answer
-use Rattle.p2p_directory.specs.declared.record.Role.TheVariants.{Primary, Secondary}
 use Rattle.p2p_directory.specs.declared.directory.Metadata.{Metadata}
 use Rattle.p2p_directory.specs.Calls.{SetAt}
 use Rattle.p2p_directory.specs.History.{is_inert}
-use Rattle.p2p_directory.specs.Record.{RecordView, blank, is_myself, is_wanted, is_eligible, is_grant, may_come, reserved_record, with_counts, unless_deletable}
-use Rattle.p2p_directory.specs.PeerSets.{set_count}
-use Rattle.p2p_directory.specs.Directory.{DirectoryView, record_of, key_of, released_record, kept_after_release, IsBusy, ChangesRecord, Reserves, TakesSet}
-use Rattle.p2p_directory.specs.Held.{is_busy, AreHeld, after_release}
+use Rattle.p2p_directory.specs.Record.{RecordView, is_myself, is_eligible, is_grant, may_come, reserved_record}
+use Rattle.p2p_directory.specs.Directory.{DirectoryView, is_busy, record_of, key_of, released_record, kept_after_release, IsBusy, ChangesRecord, Reserves, TakesSet}
+use Rattle.p2p_directory.specs.Held.{AreHeld, after_release}
+use Rattle.p2p_directory.proofs.SetsAndRecords.Consistent.{busy_unless, busy_with_sets}
 
 module _ {C S : Type 0} where
-  -- what goes is not busy
-  stays_unless : (r : RecordView C S) → is_busy (unless_deletable r) ≡ not (is_inert r.status)
-  stays_unless r = go (is_wanted r) (is_inert r.status) refl
-    where
-      go : (wanted inert : Bool) → is_inert r.status ≡ inert → is_busy (if not wanted && inert then None else Some r) ≡ not (is_inert r.status)
-      go true inert e = refl
-      go false true e = ap not (sym e)
-      go false false e = refl
-
   -- who is released is not busy
   freed : (m : Metadata C S) (o : Option (RecordView C S)) → is_busy (after_release (Some m) o) ≡ false
   freed m None = refl
-  freed m (Some r) = stays_unless (released_record m r)
+  freed m (Some r) = busy_unless (released_record m r)
 
 module _ {C S : Type 0} (cmp : C → C → Ordering) where
-  -- other sets leave all that is held as it was
-  with_sets : (p s : ℕ) (o : Option (RecordView C S)) → is_busy (unless_deletable (with_counts p s (unwrap_or o blank))) ≡ is_busy o
-  with_sets p s None = stays_unless (with_counts p s blank)
-  with_sets p s (Some r) = stays_unless (with_counts p s r)
-
+  -- a set leaves all that is held as it was
   pub held_by_track : (d d2 : DirectoryView C S) (set : SetAt C) (held : C → Option (Metadata C S)) → AreHeld cmp d held → TakesSet cmp d d2 set → AreHeld cmp d2 held
   held_by_track d d2 set held agree change q =
-      agree q ∙ sym (ap is_busy (change.records q) ∙ with_sets (set_count cmp Primary q d2.sets) (set_count cmp Secondary q d2.sets) (record_of cmp d q))
+      agree q ∙ sym (ap is_busy (change.records q) ∙ busy_with_sets cmp d2.sets q (record_of cmp d q))
 
   -- one is held more
   pub held_by_grant : CmpEqualImpliesEq cmp → (d d2 : DirectoryView C S) (p : C) (m : Metadata C S) (held held2 : C → Option (Metadata C S)) (now draw : ℕ) → AreHeld cmp d held
@@ -80,15 +66,7 @@ module _ {C S : Type 0} (cmp : C → C → Ordering) where
 
   -- who is held has a record that is not inert
   pub held_record : (d : DirectoryView C S) (held : C → Option (Metadata C S)) (q : C) (m : Metadata C S) → AreHeld cmp d held → held q ≡ Some m → key_of m ≡ q → IsBusy cmp d (key_of m)
-  held_record d held q m agree e key = subst (IsBusy cmp d) (sym key) (go (record_of cmp d q) (sym (agree q) ∙ ap is_some e))
-    where
-      live : (b : Bool) → not b ≡ true → b ≡ false
-      live true f = absurd cc
-      live false f = refl
-
-      go : (o : Option (RecordView C S)) → is_busy o ≡ true → IsSomeAnd o (λ r. is_inert r.status ≡ false)
-      go None f = absurd cc
-      go (Some r) f = live (is_inert r.status) f
+  held_record d held q m agree e key = subst (IsBusy cmp d) (sym key) (sym (agree q) ∙ ap is_some e)
 
   -- of whom may be reserved nothing is held
   pub none_held : (d : DirectoryView C S) (held : C → Option (Metadata C S)) (p : C) (now : ℕ) → AreHeld cmp d held

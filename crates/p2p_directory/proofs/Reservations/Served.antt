@@ -24,12 +24,12 @@ use Rattle.p2p_directory.specs.Step.{world_with, new_known, unblock_after}
 use Rattle.p2p_directory.specs.Answers.{is_present_in, was_taken, was_granted}
 use Rattle.p2p_directory.specs.Record.{RecordView, may_come}
 use Rattle.p2p_directory.specs.PeerSets.{set_of, latest_index, is_above}
-use Rattle.p2p_directory.specs.Directory.{DirectoryView, record_of, first_record, kept_after_release, ChangesRecord, Reserves, TakesSet, AreTornDown}
-use Rattle.p2p_directory.specs.Held.{is_busy, AreHeld}
+use Rattle.p2p_directory.specs.Directory.{DirectoryView, is_busy, record_of, first_record, kept_after_release, ChangesRecord, Reserves, TakesSet, AreTornDown}
+use Rattle.p2p_directory.specs.Held.{AreHeld}
 use Rattle.p2p_directory.specs.Private.Serving.{ServerView, StandsAt, IsServedAt}
 use Rattle.p2p_directory.specs.Private.Slots.{held_in}
 use Rattle.p2p_directory.specs.Refinement.{Refines, config_of, record_in, metadata_of}
-use Rattle.p2p_directory.specs.Run.{world_after, event_of, Holds}
+use Rattle.p2p_directory.specs.Run.{world_after, event_of, Holds, HasNoBlock}
 use Rattle.p2p_directory.proofs.Definitions.Law
 use Rattle.p2p_directory.proofs.LawsOfRuns.Forgotten
 use Rattle.p2p_directory.proofs.Refinement.CallsRefine
@@ -80,7 +80,7 @@ module _ {C S : Type 0} (s : Setup C S) where
         Refines s (world_with s e (world_after s cs)) v.directory → Holds s (world_with s e (world_after s cs)) (held_in s.cmp v.slots) → StandsAt s (c ∷ cs) v
     stands_with cs c e v unblocked is stands holds =
         let back = sym (world_of_call cs c e is) in
-        record { refines = subst (λ w. Refines s w v.directory) back stands; unblocked = subst (λ (w : World C S). (p : C) → w.unblock p ≡ None) back unblocked; holds = subst (λ w. Holds s w (held_in s.cmp v.slots)) back holds }
+        record { refines = subst (λ w. Refines s w v.directory) back stands; unblocked = subst HasNoBlock back unblocked; holds = subst (λ w. Holds s w (held_in s.cmp v.slots)) back holds }
 
     -- where nothing changes
     pub same_views : (cs : List (Call C S)) (v v2 : ServerView C S) → v2.directory ≡ v.directory → ((q : C) → held_in s.cmp v2.slots q ≡ held_in s.cmp v.slots q) → StandsAt s cs v → StandsAt s cs v2
@@ -96,7 +96,7 @@ module _ {C S : Type 0} (s : Setup C S) where
     idle cs c v v2 is directory slots at =
         let now = same_views cs v v2 directory (λ q. ap (λ slots. held_in s.cmp slots q) slots) at in
         let back = sym (world_of_call cs c Nothing is ∙ nothing_changes (world_after s cs) (Forgotten.absent s cs)) in
-        record { refines = subst (λ w. Refines s w v2.directory) back now.refines; unblocked = subst (λ (w : World C S). (p : C) → w.unblock p ≡ None) back now.unblocked; holds = subst (λ w. Holds s w (held_in s.cmp v2.slots)) back now.holds }
+        record { refines = subst (λ w. Refines s w v2.directory) back now.refines; unblocked = subst HasNoBlock back now.unblocked; holds = subst (λ w. Holds s w (held_in s.cmp v2.slots)) back now.holds }
 
     -- TRACK
 

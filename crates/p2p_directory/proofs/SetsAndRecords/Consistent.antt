@@ -2,7 +2,7 @@
 use Rattle.std.proofs.Common.{◌≡◌, ℕ, ◌+◌, ◌-◌, ◌^◌, ◌<◌, ◌≤◌, Bool, true, false, cond, ◌||◌, ◌&&◌, not, nat_lt, List, [], ◌∷◌, ◌++◌, length, drop, length-append, Option, Some, None, IfSome, sym, ap, subst, refl, ◌∙◌, arith}
 use Rattle.std.specs.Prelude.{if◌then◌else◌, unwrap_or, ◌==◌}
 use Rattle.std.specs.declared.cmp.Ordering.{Ordering}
-use Rattle.std.specs.Option.{option_map, option_map_or, IsSomeAnd}
+use Rattle.std.specs.Option.{option_map, option_map_or}
 use Rattle.std.specs.List.{count_by}
 use Rattle.std.specs.BTreeMap.{is_at}
 use Rattle.std.proofs.lemmas.List.Sums.{sum_by-append}
@@ -15,11 +15,11 @@ use Rattle.p2p_directory.specs.declared.record.Role.TheVariants.{Primary, Second
 use Rattle.p2p_directory.specs.Calls.{SetAt}
 use Rattle.p2p_directory.specs.History.{last_of, is_inert}
 use Rattle.p2p_directory.specs.World.{last_ingress_by}
-use Rattle.p2p_directory.specs.Record.{RecordView, new_record, blank, is_myself, is_eligible, is_deletable, with_counts, unless_deletable}
+use Rattle.p2p_directory.specs.Record.{RecordView, new_record, blank, is_myself, is_wanted, is_eligible, is_deletable, with_counts, unless_deletable}
 use Rattle.p2p_directory.specs.Private.Counts.{one_set_less}
 use Rattle.p2p_directory.specs.PeerSets.{members, has_key, set_count, AreRolesDisjoint}
 use Rattle.p2p_directory.specs.Private.Counts.{newest_sets, leaving_count, surplus_count}
-use Rattle.p2p_directory.specs.Directory.{first_record, record_with_sets, is_connectable}
+use Rattle.p2p_directory.specs.Directory.{first_record, is_busy, record_with_sets, is_connectable}
 use Rattle.p2p_directory.specs.Private.Counts.{record_joining, AreCounted, IsConsistent, KeepsAll, DropsFirst, DropsOldest, IsRestored}
 use Rattle.p2p_directory.proofs.SetsAndRecords.Counting
 use Rattle.p2p_directory.proofs.SetsAndRecords.Counting.{one, at_counts, at_its_counts}
@@ -112,6 +112,16 @@ module _ {C : Type 0} (cmp : C → C → Ordering) where
         },
       )
       go false e = (false, false, kept_left (x ∷ xs) (kept (nat_lt max (length (x ∷ (xs ++ set ∷ []))))) set q (ap kept e))
+
+module _ {C S : Type 0} where
+  -- what goes is not busy
+  pub busy_unless : (r : RecordView C S) → is_busy (unless_deletable r) ≡ not (is_inert r.status)
+  busy_unless r = go (is_wanted r) (is_inert r.status) refl
+    where
+      go : (wanted inert : Bool) → is_inert r.status ≡ inert → is_busy (if not wanted && inert then None else Some r) ≡ not (is_inert r.status)
+      go true inert e = refl
+      go false true e = ap not (sym e)
+      go false false e = refl
 
 module _ {C S : Type 0} (cmp : C → C → Ordering) where
   -- THE START
@@ -266,23 +276,10 @@ module _ {C S : Type 0} (cmp : C → C → Ordering) where
         max_in_range = was.max_in_range;
       }
 
-  -- who is reserved or connected stays so
-  stays_busy : (r : RecordView C S) → is_inert r.status ≡ false → IsSomeAnd (unless_deletable r) (λ x. is_inert x.status ≡ false)
-  stays_busy r e = go (is_deletable r) refl
-    where
-      busy : (w i : Bool) → (not w && i) ≡ true → i ≡ true
-      busy true i f = absurd (cc)
-      busy false i f = f
-
-      go : (b : Bool) → is_deletable r ≡ b → IsSomeAnd (if b then None else Some r) (λ x. is_inert x.status ≡ false)
-      go true f = absurd (let x = sym e ∙ busy _ (is_inert r.status) f in cc)
-      go false f = e
-
-  pub busy_with_sets : (sets : List (SetAt C)) (q : C) (old new : Option (RecordView C S)) → new ≡ record_with_sets cmp sets q old →
-      IsSomeAnd old (λ r. is_inert r.status ≡ false) → IsSomeAnd new (λ r. is_inert r.status ≡ false)
-  busy_with_sets sets q None new e busy = absurd busy
-  busy_with_sets sets q (Some r) new e busy =
-      subst (λ o. IsSomeAnd o (λ x. is_inert x.status ≡ false)) (sym e) (stays_busy (with_counts (set_count cmp Primary q sets) (set_count cmp Secondary q sets) r) busy)
+  -- other sets leave busy exactly who was
+  pub busy_with_sets : (sets : List (SetAt C)) (q : C) (o : Option (RecordView C S)) → is_busy (record_with_sets cmp sets q o) ≡ is_busy o
+  busy_with_sets sets q None = busy_unless (with_counts (set_count cmp Primary q sets) (set_count cmp Secondary q sets) blank)
+  busy_with_sets sets q (Some r) = busy_unless (with_counts (set_count cmp Primary q sets) (set_count cmp Secondary q sets) r)
 
   -- A TRACK, from its parts: max2 is the greatest number, made the set, and sets1 the sets with it
   pub record IsTracked (max : ℕ) (sets sets2 : List (SetAt C)) (set : SetAt C) (old new : C → Option (RecordView C S)) (torn : List C) : Type 0 where

@@ -1,13 +1,13 @@
 //! What a directory keeps of each peer, seen at each key.
 
 ghost use Rattle.std.specs.Prelude.{◌≡◌, false, true, IfOk, Some, if◌then◌else◌};
-ghost use Rattle.std.specs.Option.{option_map, option_map_or, option_copied, IsSomeAnd};
+ghost use Rattle.std.specs.Option.{option_map, option_map_or, option_copied};
 ghost use Rattle.std.specs.Duration.{as_nanos};
 ghost use Rattle.std.specs.BTreeMap.{is_at, get};
 ghost use Rattle.p2p_directory.specs.History.{is_inert};
 ghost use Rattle.p2p_directory.specs.Record.{may_come, reserved_record};
 ghost use Rattle.p2p_directory.specs.Private.Counts.{reserved_if};
-ghost use Rattle.p2p_directory.specs.Directory.{key_of, released_record, kept_after_release, record_at, first_record, ChangesAt};
+ghost use Rattle.p2p_directory.specs.Directory.{key_of, is_busy, released_record, kept_after_release, record_at, first_record, ChangesAt};
 
 use crate::directory::Metadata;
 use crate::kept::forget;
@@ -90,7 +90,7 @@ impl<C: PublicKey> Records<C> {
 
     /// Ends the reservation of its peer, and takes out the record where it is deletable then.
     pub fn release(&mut self, metadata: &Metadata<C>)
-        requires { IsSomeAnd (record_at C.cmp self.old (key_of metadata.now)) (λ r. is_inert r.status ≡ false) }
+        requires { is_busy (record_at C.cmp self.old (key_of metadata.now)) ≡ true }
         ensures { ChangesAt C.cmp self.old self.new (key_of metadata.now) (kept_after_release metadata.now) }
     {
         let peer = *metadata.public_key();

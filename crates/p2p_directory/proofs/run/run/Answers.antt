@@ -2,7 +2,7 @@ use Rattle.std.proofs.Common.{◌≡◌, [], true, length, sym, ap, subst, ◌�
 use Rattle.std.specs.Prelude.{is_some}
 use Rattle.std.proofs.lemmas.List.{length_push}
 use Rattle.p2p_directory.specs.Refinement.{Refines}
-use Rattle.p2p_directory.specs.Run.{setup_of, calls_of, world_after, accepted, AreAnswers, Holds}
+use Rattle.p2p_directory.specs.Run.{setup_of, calls_of, world_after, accepted, AreAnswers, Holds, HasNoBlock}
 use Rattle.p2p_directory.specs.Private.Serving.{has_room}
 use Rattle.p2p_directory.specs.Private.Slots.{held_in}
 use Rattle.p2p_directory.proofs.Reservations.Served.{are_held, stands_at_start}
@@ -86,3 +86,11 @@ returns-clause-held g c =
     let holds = subst (λ xs. Holds s (world_after s (accepted s [] (calls_of xs) c.loop-command.replies.items)) (held_in g.C.Ord.cmp c.loop-command.server.slots)) all kept.left.holds in
     let held = c.into_run.ensures.held in
     rw c.into_run.ensures.replies (record { peers = λ q. ap is_some (held q) ∙ holds.peers q; metadata = λ q. held q ∙ holds.metadata q })
+
+pub returns-clause-unblocked : goal.returns-clause-unblocked
+returns-clause-unblocked g c =
+    let s = setup_of g.C.Ord.cmp c.args.bootstrappers.items c.args.myself c.args.cfg in
+    let kept = c.loop-command.invariant in
+    let rest = c.loop-command.command-iterator.rest in
+    let all = all_moved c.loop-command.yielded rest.items c.args.commands.items kept.rest (sym rest.ok.0 ∙ c.in-None.ensures.steps.0) in
+    rw c.into_run.ensures.replies (subst (λ xs. HasNoBlock (world_after s (accepted s [] (calls_of xs) c.loop-command.replies.items))) all kept.left.unblocked)

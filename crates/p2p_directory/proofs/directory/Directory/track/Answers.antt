@@ -1,11 +1,11 @@
-use Rattle.std.proofs.Common.{◌≡◌, ◌++◌, ◌∷◌, [], ◌&&◌, not, false, Result, Ok, Err, sym, ◌∙◌, ap, subst, arith}
-use Rattle.std.specs.Option.{option_map_or, IsSomeAnd}
+use Rattle.std.proofs.Common.{◌≡◌, ◌++◌, ◌∷◌, [], ◌&&◌, not, true, false, Result, Ok, Err, sym, ◌∙◌, ap, subst, arith}
+use Rattle.std.specs.Option.{option_map_or}
 use Rattle.std.specs.Result.{OnErr}
 use Rattle.std.specs.Int.NonZero.{non_zero_usize_get}
 use Rattle.p2p_directory.specs.PeerSets.{set_of}
-use Rattle.p2p_directory.specs.History.{last_of, is_inert}
+use Rattle.p2p_directory.specs.History.{last_of}
 use Rattle.p2p_directory.specs.Record.{is_eligible}
-use Rattle.p2p_directory.specs.Directory.{DirectoryView, config_view, record_at, record_with_sets, is_connectable, IsBusy}
+use Rattle.p2p_directory.specs.Directory.{DirectoryView, config_view, record_at, record_with_sets, is_connectable, is_busy, IsBusy}
 use Rattle.p2p_directory.specs.Private.Counts.{IsConsistent}
 use Rattle.p2p_directory.proofs.SetsAndRecords.Consistent.{tracked, room_left, all_restored, busy_with_sets}
 use Rattle.p2p_directory.proofs.directory.Directory.track.Goals as goal
@@ -41,9 +41,9 @@ returns-in_err-add-clause-busy g c = λ q h.
     let cmp = g.C.Ord.cmp in
     let max = non_zero_usize_get c.self.inside.config.max_sets in
     let records = c.in_err-add.ensures.records (all_restored cmp max c.self.inside.sets (record_at cmp c.self.inside.records) c.self.invariant) in
-    let before : IsSomeAnd (record_at cmp c.self.inside.records q) (λ r. is_inert r.status ≡ false) =
+    let before : is_busy (record_at cmp c.self.inside.records q) ≡ true =
     subst (λ (d : DirectoryView g.row.C.Denot g.row.C-Signature.Denot). IsBusy cmp d q) (sym c.self.view_is) h in
-    subst (λ rs. IsSomeAnd (record_at cmp rs q) (λ r. is_inert r.status ≡ false)) (sym records) before
+    subst (λ rs. is_busy (record_at cmp rs q) ≡ true) (sym records) before
 
 pub invariant_of-self-2 : goal.invariant_of-self-2
 invariant_of-self-2 g c =
@@ -85,11 +85,11 @@ returns-clause-torn g c =
 pub returns-clause-busy : goal.returns-clause-busy
 returns-clause-busy g c = λ q h.
     let cmp = g.C.Ord.cmp in
-    let before : IsSomeAnd (record_at cmp c.self.inside.records q) (λ r. is_inert r.status ≡ false) =
+    let before : is_busy (record_at cmp c.self.inside.records q) ≡ true =
     subst (λ (d : DirectoryView g.row.C.Denot g.row.C-Signature.Denot). IsBusy cmp d q) (sym c.self.view_is) h in
     let whole =
     (tracked g.C.Ord.cmp (non_zero_usize_get c.self.inside.config.max_sets) c.get-max_sets.result c.self.inside.sets c.add.new.sets c.drop_oldest.new.sets
     (set_of g.C.Ord.cmp c.args.index c.args.peers.primary c.args.peers.secondary) c.in_ok-set.set
     (record_at g.C.Ord.cmp c.self.inside.records) (record_at g.C.Ord.cmp c.add.new.records) (record_at g.C.Ord.cmp c.drop_oldest.new.records) c.drop_oldest.result
     c.get-max_sets.ensures.value c.in_ok-set.ensures c.in_ok-add.ensures.ok c.drop_oldest.ensures.sets c.self.invariant c.in_ok-add.ensures.disjoint c.in_ok-add.ensures.joined c.drop_oldest.ensures.change) in
-    busy_with_sets cmp c.drop_oldest.new.sets q (record_at cmp c.self.inside.records q) (record_at cmp c.drop_oldest.new.records q) (whole.records q) before
+    ap is_busy (whole.records q) ∙ busy_with_sets cmp c.drop_oldest.new.sets q (record_at cmp c.self.inside.records q) ∙ before
