@@ -5,3 +5,4 @@ pub mod Counting
 pub mod Consistent
 pub mod Retained
 pub mod Bootstrapped
+pub mod Infos

@@ -1,17 +1,23 @@
 //! What is known of one peer.
 
-ghost use Rattle.std.specs.Prelude.{◌≡◌, ◌+◌, ◌-◌, ◌<◌, ◌^◌, false, true};
+ghost use Rattle.std.specs.Prelude.{◌≡◌, ◌+◌, ◌-◌, ◌<◌, ◌^◌, false, not, true};
+ghost use Rattle.std.specs.Prelude.{IfOk, IfSome, IsOk, None};
+ghost use Rattle.std.specs.Option.{option_copied};
 ghost use Rattle.std.specs.Duration.{as_nanos};
+ghost use Rattle.p2p_discovery.specs.Ingress.{takes_none};
 ghost use Rattle.p2p_directory.specs.Moments.{cap, jitter};
-ghost use Rattle.p2p_directory.specs.History.{is_inert};
+ghost use Rattle.p2p_directory.specs.History.{is_inert, is_reserved};
 ghost use Rattle.p2p_directory.specs.Record.{new_record, reserve_answer, record_after_asking};
 ghost use Rattle.p2p_directory.specs.Record.{is_eligible, is_deletable, needs_teardown, is_outbound_target};
-ghost use Rattle.p2p_directory.specs.Record.{after_failure};
+ghost use Rattle.p2p_directory.specs.Record.{after_failure, after_success, is_myself};
+ghost use Rattle.p2p_directory.specs.Record.{takes_info, address_after_update, wants_info, sharable_by};
+ghost use Rattle.p2p_directory.specs.Record.{ingress_of, dial_view, dial_status, is_acceptable};
 ghost use Rattle.p2p_directory.specs.Private.Counts.{with_one_more, with_one_less, is_torn_down_without};
 
 use p2p_discovery::codec::PublicKey;
 use p2p_discovery::discovery::Info;
 use p2p_discovery::types::Ingress;
+use std::alloc::AllocError;
 use std::marker::Model;
 use std::time::Duration;
 
@@ -54,6 +60,17 @@ pub enum ReserveResult {
     /// The last reservation was too short a time ago.
     RateLimited,
     /// The peer is the local node, or is reserved or connected already.
+    Unavailable,
+}
+
+/// When a peer may be dialled.
+#[derive(Clone, Copy, Debug, PartialEq, Eq)]
+pub enum DialStatus {
+    /// Now.
+    Now,
+    /// After this moment, a duration since the epoch.
+    After(Duration),
+    /// The peer is not to be dialled, is reserved or connected already, or has no valid ingress.
     Unavailable,
 }
 
@@ -122,6 +139,25 @@ impl<C: PublicKey> Record<C> {
             next_reservable_at: Duration::ZERO,
             next_dial_at: Duration::ZERO,
         }
+    }
+
+    /// Takes a peer's info, and answers whether it was taken: of the local node never, where no info
+    /// is known always, else where the timestamp is above that of the known one. An info that is
+    /// taken has not failed yet. Keys are not compared, and nothing else changes.
+    pub fn update(&mut self, info: Info<C>) -> bool
+        ensures taken { result ≡ takes_info info self.old.address }
+        ensures after { self.new ≡
+            record self.old { address = address_after_update info self.old.address } }
+    {
+        let taken = match &self.address {
+            Address::Myself(_) => false,
+            Address::Unknown | Address::Bootstrapper(_) => true,
+            Address::Discovered(known, _) => known.timestamp < info.timestamp,
+        };
+        if taken {
+            self.address = Address::Discovered(info, 0);
+        }
+        taken
     }
 
     /// Counts one more primary set.
@@ -199,6 +235,18 @@ impl<C: PublicKey> Record<C> {
         ReserveResult::Reserved
     }
 
+    /// Connects the peer: it is active.
+    ///
+    /// # Conditions
+    ///
+    /// It was reserved.
+    pub fn connect(&mut self)
+        requires { is_reserved self.old.status ≡ true }
+        ensures { self.new ≡ record self.old { status = Status.Active } }
+    {
+        self.status = Status::Active;
+    }
+
     /// Ends the reservation or the connection: the peer is inert.
     ///
     /// # Conditions
@@ -223,6 +271,75 @@ impl<C: PublicKey> Record<C> {
         }
     }
 
+    /// Counts no failure any more, where the peer's own info is known. Nothing else changes.
+    pub fn dial_success(&mut self)
+        ensures { self.new ≡ record self.old { address = after_success self.old.address } }
+    {
+        if let Address::Discovered(_, fails) = &mut self.address {
+            *fails = 0;
+        }
+    }
+
+    /// Whether the peer's info is wanted: of the local node never, where none is known always, else
+    /// where the peer is not connected and dials failed at least `limit` times.
+    pub fn want(&self, limit: usize) -> bool
+        ensures { result ≡ wants_info limit self.now }
+    {
+        match &self.address {
+            Address::Myself(_) => false,
+            Address::Unknown | Address::Bootstrapper(_) => true,
+            Address::Discovered(_, fails) => self.status != Status::Active && *fails >= limit,
+        }
+    }
+
+    /// The info that may be told to others: the own info always, another peer's while it is connected.
+    /// It takes memory only for an info whose ingress is a name.
+    ///
+    /// # Errors
+    ///
+    /// `AllocError` where memory is refused.
+    pub fn sharable(&self) -> Result<Option<Info<C>>, AllocError>
+        ensures info { IfOk result (λ info. info ≡ sharable_by self.now.status self.now.address) }
+        ensures none { sharable_by self.now.status self.now.address ≡ None → IsOk result }
+        ensures socket { IfSome (sharable_by self.now.status self.now.address)
+            (λ info. takes_none info.ingress ≡ true → IsOk result) }
+    {
+        match &self.address {
+            Address::Myself(info) => Ok(Some(info.clone()?)),
+            Address::Discovered(info, _) if self.status == Status::Active => Ok(Some(
+                info.clone()?,
+            )),
+            _ => Ok(None),
+        }
+    }
+
+    /// When the peer may be dialled, asked at the moment `now`.
+    ///
+    /// `Unavailable` unless the peer is inert and to be dialled, is a bootstrapper or of known info,
+    /// and its ingress is valid under what is allowed; then `After` its dial moment where that is
+    /// later than `now`; else `Now`. Moments are durations since the epoch.
+    pub fn dialable(&self, now: Duration, allow_private_ips: bool, allow_dns: bool) -> DialStatus
+        ensures { dial_view result ≡
+            dial_status (as_nanos now) allow_private_ips allow_dns self.now }
+    {
+        if self.status != Status::Inert || !self.is_outbound_target() {
+            return DialStatus::Unavailable;
+        }
+        let ingress = match &self.address {
+            Address::Unknown | Address::Myself(_) => return DialStatus::Unavailable,
+            Address::Bootstrapper(ingress) => ingress,
+            Address::Discovered(info, _) => &info.ingress,
+        };
+        if !ingress.is_valid(allow_private_ips, allow_dns) {
+            return DialStatus::Unavailable;
+        }
+        if now.as_nanos() < self.next_dial_at.as_nanos() {
+            DialStatus::After(self.next_dial_at)
+        } else {
+            DialStatus::Now
+        }
+    }
+
     /// Whether the peer may be connected: it is not the local node, and in a set or persistent.
     pub fn eligible(&self) -> bool
         ensures { result ≡ is_eligible self.now }
@@ -231,6 +348,13 @@ impl<C: PublicKey> Record<C> {
             Address::Myself(_) => false,
             _ => self.primary_sets > 0 || self.secondary_sets > 0 || self.persistent,
         }
+    }
+
+    /// Whether a connection of the peer may be accepted: it is eligible and inert.
+    pub fn acceptable(&self) -> bool
+        ensures { result ≡ is_acceptable self.now }
+    {
+        self.eligible() && self.status == Status::Inert
     }
 
     /// Whether the connection has to end: the peer is not inert and not eligible.
@@ -255,6 +379,25 @@ impl<C: PublicKey> Record<C> {
         ensures { result ≡ is_outbound_target self.now }
     {
         self.primary_sets > 0 || self.persistent
+    }
+
+    /// Whether the peer may be blocked: it is not the local node.
+    pub fn is_blockable(&self) -> bool
+        ensures { result ≡ not (is_myself self.now.address) }
+    {
+        !matches!(&self.address, Address::Myself(_))
+    }
+
+    /// Where the peer is reached, if that is known.
+    pub fn ingress(&self) -> Option<&Ingress>
+        ensures { option_copied result ≡ ingress_of self.now.address }
+    {
+        match &self.address {
+            Address::Unknown => None,
+            Address::Myself(info) => Some(&info.ingress),
+            Address::Bootstrapper(ingress) => Some(ingress),
+            Address::Discovered(info, _) => Some(&info.ingress),
+        }
     }
 
     // Counts one set of the role more, at most to the greatest `usize`.
@@ -309,6 +452,13 @@ impl<C: PublicKey> Record<C> {
         ensures { result ≡ self.now.status }
     {
         self.status
+    }
+
+    /// What is known of the peer's address.
+    pub fn address(&self) -> &Address<C>
+        ensures { result.now ≡ self.now.address }
+    {
+        &self.address
     }
 }
 
