@@ -304,13 +304,12 @@ impl<C: PublicKey> Record<C> {
         ensures socket { IfSome (sharable_by self.now.status self.now.address)
             (λ info. takes_none info.ingress ≡ true → IsOk result) }
     {
-        match &self.address {
-            Address::Myself(info) => Ok(Some(info.clone()?)),
-            Address::Discovered(info, _) if self.status == Status::Active => Ok(Some(
-                info.clone()?,
-            )),
-            _ => Ok(None),
-        }
+        let info = match &self.address {
+            Address::Myself(info) => info,
+            Address::Discovered(info, _) if self.status == Status::Active => info,
+            _ => return Ok(None),
+        };
+        Ok(Some(info.clone()?))
     }
 
     /// When the peer may be dialled, asked at the moment `now`.
@@ -473,3 +472,6 @@ fn jittered(moment: Duration, draw: Duration, cooldown: Duration) -> Duration
         moment.saturating_add(width)
     }
 }
+
+#[cfg(test)]
+mod tests;

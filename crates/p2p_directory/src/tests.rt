@@ -1,10 +1,10 @@
-//! Each public call of records and directories once, by its answers.
+//! Each public call of directories once, by its answers.
 
 ghost use Rattle.std.specs.Prelude.{◌≡◌, ◌<◌};
 ghost use Rattle.std.specs.Int.NonZero.{non_zero_usize_get};
 
 use crate::directory::{Config, Directory, Metadata, TrackedPeers};
-use crate::record::{Record, ReserveResult, Status};
+use crate::record::Status;
 use p2p_discovery::codec::{TestKey, TestSignature};
 use p2p_discovery::discovery::Info;
 use p2p_discovery::sets::OrderedSet;
@@ -41,74 +41,6 @@ pub(crate) fn tracked(
 
 fn seconds(count: u64) -> Duration {
     Duration::from_secs(count)
-}
-
-#[test]
-fn a_new_record_is_inert_and_in_no_set(rt: HostRuntime) {
-    let unknown: Record<TestKey> = Record::unknown();
-    assert_eq!(rt; unknown.status(), Status::Inert);
-    assert!(rt; unknown.deletable());
-    assert!(rt; !unknown.eligible());
-    assert!(rt; !unknown.is_outbound_target());
-    let myself = Record::myself(info(9));
-    assert!(rt; !myself.deletable());
-    assert!(rt; !myself.eligible());
-    assert!(rt; myself.is_outbound_target());
-    let bootstrapper: Record<TestKey> = Record::bootstrapper(ingress(8001));
-    assert!(rt; bootstrapper.eligible());
-    assert!(rt; !bootstrapper.deletable());
-}
-
-#[test]
-fn a_record_counts_its_sets(rt: HostRuntime) {
-    let mut record: Record<TestKey> = Record::unknown();
-    record.increment_primary();
-    assert_eq!(rt; (record.primary_sets(), record.secondary_sets()), (1, 0));
-    assert!(rt; record.is_outbound_target());
-    record.increment_secondary();
-    assert_eq!(rt; (record.primary_sets(), record.secondary_sets()), (1, 1));
-    record.decrement_primary();
-    assert_eq!(rt; (record.primary_sets(), record.secondary_sets()), (0, 1));
-    assert!(rt; record.eligible());
-    assert!(rt; !record.is_outbound_target());
-    record.decrement_secondary();
-    assert!(rt; record.deletable());
-}
-
-#[test]
-fn a_record_is_reserved_once_in_an_interval(rt: HostRuntime) {
-    let mut record: Record<TestKey> = Record::unknown();
-    let ten = seconds(10);
-    let none = Duration::ZERO;
-    assert_eq!(rt;
-        record.reserve(seconds(100), none, ten),
-        ReserveResult::Reserved
-    );
-    assert_eq!(rt; record.status(), Status::Reserved);
-    assert!(rt; record.needs_teardown());
-    assert_eq!(rt;
-        record.reserve(seconds(200), none, ten),
-        ReserveResult::Unavailable
-    );
-    if record.status() != Status::Inert {
-        record.release();
-    }
-    assert!(rt; !record.needs_teardown());
-    assert_eq!(rt;
-        record.reserve(seconds(109), none, ten),
-        ReserveResult::RateLimited
-    );
-    assert_eq!(rt;
-        record.reserve(seconds(110), none, ten),
-        ReserveResult::Reserved
-    );
-    let mut myself = Record::myself(info(9));
-    assert_eq!(rt;
-        myself.reserve(seconds(100), none, ten),
-        ReserveResult::Unavailable
-    );
-    record.dial_failure(&ingress(8000));
-    assert_eq!(rt; record.status(), Status::Reserved);
 }
 
 pub(crate) fn config() -> Config
@@ -163,85 +95,6 @@ fn a_set_is_tracked_and_a_peer_listened_for(rt: HostRuntime) -> Result<(), Fail>
         }
         None => panic!(rt; "a tracked peer is granted a reservation"),
     }
-}
-
-#[test]
-fn test_unknown_initial_state(rt: HostRuntime) {
-    let record: Record<TestKey> = Record::unknown();
-    assert_eq!(rt; record.status(), Status::Inert);
-    assert_eq!(rt; (record.primary_sets(), record.secondary_sets()), (0, 0));
-    assert!(rt; record.deletable());
-    assert!(rt; !record.eligible());
-    assert!(rt; !record.needs_teardown());
-}
-
-#[test]
-fn test_increment_decrement_and_deletable(rt: HostRuntime) {
-    let mut unknown: Record<TestKey> = Record::unknown();
-    unknown.increment_primary();
-    assert!(rt; !unknown.deletable());
-    unknown.decrement_primary();
-    assert!(rt; unknown.deletable());
-    let mut bootstrapper: Record<TestKey> = Record::bootstrapper(ingress(8001));
-    bootstrapper.increment_primary();
-    bootstrapper.decrement_primary();
-    assert!(rt; !bootstrapper.deletable());
-    let mut myself = Record::myself(info(9));
-    myself.increment_primary();
-    myself.decrement_primary();
-    assert!(rt; !myself.deletable());
-}
-
-#[test]
-fn test_needs_teardown_after_losing_eligibility(rt: HostRuntime) {
-    let mut record: Record<TestKey> = Record::unknown();
-    let none = Duration::ZERO;
-    record.increment_primary();
-    assert!(rt; !record.needs_teardown());
-    assert_eq!(rt; record.reserve(none, none, none), ReserveResult::Reserved);
-    assert!(rt; !record.needs_teardown());
-    if record.primary_sets() > 0 {
-        record.decrement_primary();
-    }
-    assert!(rt; record.needs_teardown());
-    if record.status() != Status::Inert {
-        record.release();
-    }
-    assert!(rt; !record.needs_teardown());
-}
-
-#[test]
-fn test_eligible_logic(rt: HostRuntime) {
-    assert!(rt; !Record::myself(info(9)).eligible());
-    let bootstrapper: Record<TestKey> = Record::bootstrapper(ingress(8001));
-    assert!(rt; bootstrapper.eligible());
-    let mut unknown: Record<TestKey> = Record::unknown();
-    assert!(rt; !unknown.eligible());
-    unknown.increment_secondary();
-    assert!(rt; unknown.eligible());
-    unknown.decrement_secondary();
-    assert!(rt; !unknown.eligible());
-}
-
-#[test]
-fn test_reserve_with_unbounded_cooldown_does_not_panic(rt: HostRuntime) {
-    let mut record: Record<TestKey> = Record::unknown();
-    let now = seconds(100);
-    assert_eq!(rt;
-        record.reserve(now, Duration::MAX, Duration::MAX),
-        ReserveResult::Reserved
-    );
-    if record.status() != Status::Inert {
-        record.release();
-    }
-    assert_eq!(rt;
-        record.reserve(now, Duration::ZERO, Duration::MAX),
-        ReserveResult::RateLimited
-    );
-    assert_eq!(rt;
-        record.reserve(Duration::MAX, Duration::ZERO, Duration::MAX),
-        ReserveResult::Reserved
-    );
 }
 
 // A directory of node 9 that retains so many sets.
