@@ -10,7 +10,8 @@ use Rattle.p2p_discovery.specs.Socket.{socket_at, socket_spelling, IsSocket}
 use Rattle.p2p_discovery.specs.SocketLaws.{lawful_socket, socket_short}
 use Rattle.p2p_discovery.specs.Ingress.{ingress_at, ingress_spelling, IsIngress}
 use Rattle.p2p_discovery.specs.IngressLaws.{lawful_ingress, ingress_short}
-use Rattle.p2p_discovery.specs.Address.{ingress_of, egress_of, address_at, address_spelling, IsAddress}
+use Rattle.p2p_discovery.specs.Address.{ingress_of, egress_of, address_at, address_spelling}
+use Rattle.p2p_discovery.specs.Address.{IsAddress}
 
 OnlySymmetric : Address → Type 0
 OnlySymmetric (Symmetric socket) = IsSocket socket

@@ -1,15 +1,19 @@
 -- Bits and their index are read by their spelling.
-use Rattle.std.proofs.Common.{◌≡◌, ℕ, ◌<◌, ◌^◌, Bool, true, false, cond, not, eqb, leb, List, ◌++◌, length, Ok, refl, sym, ap, subst, ◌∙◌, lit<, inl, inr}
+use Rattle.std.proofs.Common.{◌≡◌, ℕ, ◌<◌, ◌^◌, Bool, true, false, cond, not, eqb, leb, List, ◌++◌}
+use Rattle.std.proofs.Common.{length, Ok, refl, sym, ap, subst, ◌∙◌, lit<, inl, inr}
 use Rattle.std.proofs.lemmas.Bool.{eqb-true, le-leb, leb-true}
 use Rattle.p2p_discovery.specs.declared.codec.error.CodecError.TheVariants.{InvalidLength, Invalid}
 use Rattle.p2p_discovery.specs.declared.codec.error.What.TheVariants as what
-use Rattle.p2p_discovery.specs.Reading.{◌>>=◌, refuses, takes_memory, counted_at, outcome_then, Lawful}
+use Rattle.p2p_discovery.specs.Reading.{◌>>=◌, refuses, takes_memory, counted_at, outcome_then}
+use Rattle.p2p_discovery.specs.Reading.{Lawful}
 use Rattle.p2p_discovery.specs.ReadingLaws.{bind_ok, ok_is, done}
-use Rattle.p2p_discovery.specs.FieldsLaws.{lawful_counted, lawful_part, lawful_checked, lawful_sized, lawful_both, lawful_as, chosen}
+use Rattle.p2p_discovery.specs.FieldsLaws.{lawful_counted, lawful_part, lawful_checked}
+use Rattle.p2p_discovery.specs.FieldsLaws.{lawful_sized, lawful_both, lawful_as, chosen}
 use Rattle.p2p_discovery.specs.Varint.{varint64}
 use Rattle.p2p_discovery.specs.VarintLaws.{groups_lawful}
 use Rattle.p2p_discovery.specs.Bits.{bits_in, byte_count, padding_of, packed}
-use Rattle.p2p_discovery.specs.BitsLaws.{length-bits_in, length-packed, bits_in-packed, packed-bits_in, packed_unpadded, unpadded}
+use Rattle.p2p_discovery.specs.BitsLaws.{length-bits_in, length-packed, bits_in-packed}
+use Rattle.p2p_discovery.specs.BitsLaws.{packed-bits_in, packed_unpadded, unpadded}
 use Rattle.p2p_discovery.specs.BitVec.{bit_vec_spelling, IsAllowed, unpacked, bits_at, bit_vec_at}
 
 bits_of_length : (n : ℕ) → Lawful (counted_at (byte_count n) >>= unpacked n) packed (λ bits. Unit {0} × (length bits ≡ n))

@@ -1,5 +1,6 @@
 -- Lengths within a limit, and bytes behind their length, are read by their spelling.
-use Rattle.std.proofs.Common.{◌≡◌, ℕ, ◌+◌, ◌≤◌, ◌<◌, ◌^◌, true, false, not, ◌==◌, List, length, lit<, arith}
+use Rattle.std.proofs.Common.{◌≡◌, ℕ, ◌+◌, ◌≤◌, ◌<◌, ◌^◌, true, false, not, ◌==◌, List, length}
+use Rattle.std.proofs.Common.{lit<, arith}
 use Rattle.std.proofs.lemmas.List.{length-append}
 use Rattle.p2p_discovery.specs.declared.codec.error.RangeCfg.{RangeCfg}
 use Rattle.p2p_discovery.specs.declared.codec.error.CodecError.TheVariants.{InvalidLength}

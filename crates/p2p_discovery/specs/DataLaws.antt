@@ -1,5 +1,6 @@
 -- Data are read by their spelling, and a header before the buffers of a message makes its frame.
-use Rattle.std.proofs.Common.{◌≡◌, ℕ, ◌+◌, ◌≤◌, ◌<◌, ◌^◌, true, List, [], ◌∷◌, ◌++◌, length, refl, ap, ◌∙◌, arith, lit<, append_assoc, sum_by}
+use Rattle.std.proofs.Common.{◌≡◌, ℕ, ◌+◌, ◌≤◌, ◌<◌, ◌^◌, true, List, [], ◌∷◌, ◌++◌, length, refl}
+use Rattle.std.proofs.Common.{ap, ◌∙◌, arith, lit<, append_assoc, sum_by}
 use Rattle.std.specs.List.{concat}
 use Rattle.std.proofs.lemmas.List.{length-append, append-nil}
 use Rattle.std.proofs.lemmas.List.Folds.{concat-append}
@@ -12,7 +13,8 @@ use Rattle.p2p_discovery.specs.Counted.{counted_spelling}
 use Rattle.p2p_discovery.specs.CountedLaws.{lawful_length, lawful_cut, counted_short}
 use Rattle.p2p_discovery.specs.Varint.{varint32, varint64}
 use Rattle.p2p_discovery.specs.VarintLaws.{groups_lawful, groups_short}
-use Rattle.p2p_discovery.specs.Data.{data_spelling, IsAllowed, message_at, data_at, header, data_payload}
+use Rattle.p2p_discovery.specs.Data.{data_spelling, IsAllowed, message_at, data_at, header}
+use Rattle.p2p_discovery.specs.Data.{data_payload}
 
 lawful_message : (limit : RangeCfg) → Lawful (message_at limit) counted_spelling (λ m. Unit {0} × ((is_within limit (length m) ≡ true) × (length m < 2 ^ 32)))
 unfolding message_at

@@ -1,14 +1,20 @@
 -- Readers of several fields take exactly the spellings of their fields.
-use Rattle.std.proofs.Common.{◌≡◌, ℕ, zero, suc, ◌≤◌, ◌<◌, ◌^◌, ◌/◌, ◌%◌, Bool, true, false, cond, List, [], ◌∷◌, ◌++◌, length, take, drop, Result, Ok, Err, refl, sym, ap, subst, ◌∙◌, append_assoc, arith, eqb, ltb, ◌⊎◌, inl, inr}
+use Rattle.std.proofs.Common.{◌≡◌, ℕ, zero, suc, ◌≤◌, ◌<◌, ◌^◌, ◌/◌, ◌%◌, Bool, true, false, cond}
+use Rattle.std.proofs.Common.{List, [], ◌∷◌, ◌++◌, length, take, drop, Result, Ok, Err, refl, sym}
+use Rattle.std.proofs.Common.{ap, subst, ◌∙◌, append_assoc, arith, eqb, ltb, ◌⊎◌, inl, inr}
 use Rattle.std.specs.Int.{w16, from_be_bytes, to_be_bytes}
 use Rattle.std.proofs.Common.{eq-eqb}
 use Rattle.std.proofs.lemmas.Bool.{cases_lt, ltb-false, le-ltb, lt-ltb, eqb-true}
-use Rattle.std.proofs.lemmas.List.{take_at, drop_at, take-append-drop, length-append, length-take, get_or-take, get_or_past}
+use Rattle.std.proofs.lemmas.List.{take_at, drop_at, take-append-drop, length-append, length-take}
+use Rattle.std.proofs.lemmas.List.{get_or-take, get_or_past}
 use Rattle.std.proofs.lemmas.Nat.{be_bytes_2, from_be_bytes-to_be_bytes_2}
 use Rattle.p2p_discovery.specs.declared.codec.error.CodecError.{CodecError}
-use Rattle.p2p_discovery.specs.declared.codec.error.CodecError.TheVariants.{EndOfBuffer, InvalidEnum}
-use Rattle.p2p_discovery.specs.Reading.{Reading, ◌>>=◌, reads, refuses, outcome_then, checked, takes_memory, byte_at, counted_at, Lawful, IsBytes}
-use Rattle.p2p_discovery.specs.ReadingLaws.{bind_ok, ok_is, guard_ok, done, split_at, head_is, tail_is, one_byte_front}
+use Rattle.p2p_discovery.specs.declared.codec.error.CodecError.TheVariants.{EndOfBuffer}
+use Rattle.p2p_discovery.specs.declared.codec.error.CodecError.TheVariants.{InvalidEnum}
+use Rattle.p2p_discovery.specs.Reading.{Reading, ◌>>=◌, reads, refuses, outcome_then, checked}
+use Rattle.p2p_discovery.specs.Reading.{takes_memory, byte_at, counted_at, Lawful, IsBytes}
+use Rattle.p2p_discovery.specs.ReadingLaws.{bind_ok, ok_is, guard_ok, done, split_at, head_is}
+use Rattle.p2p_discovery.specs.ReadingLaws.{tail_is, one_byte_front}
 use Rattle.p2p_discovery.specs.Fields.{◌&◌, choice, IsSized, port_at}
 
 -- ---- one field after another

@@ -7,7 +7,8 @@ use Rattle.p2p_discovery.specs.declared.codec.error.What.TheVariants as what
 use Rattle.p2p_discovery.specs.Reading.{◌>>=◌, counted_at, Lawful, is_within}
 use Rattle.p2p_discovery.specs.FieldsLaws.{lawful_sized, lawful_checked, lawful_part, lawful_same}
 use Rattle.p2p_discovery.specs.CountedLaws.{lawful_length, counted_short}
-use Rattle.p2p_discovery.specs.Hostname.{is_hostname, host_limit, hostname_spelling, IsHostname, formed, hostname_at}
+use Rattle.p2p_discovery.specs.Hostname.{is_hostname, host_limit, hostname_spelling, IsHostname}
+use Rattle.p2p_discovery.specs.Hostname.{formed, hostname_at}
 
 -- what the limit says
 pub limit_is : (n : ℕ) → is_within host_limit n ≡ true → (1 ≤ n) × (n ≤ 253)

@@ -1,5 +1,6 @@
 -- Infos and lists of them are read by their spelling, which is neither shorter nor longer than said.
-use Rattle.std.proofs.Common.{◌≡◌, ℕ, suc, ◌+◌, ◌≤◌, List, [], ◌∷◌, length, Option, refl, lit<, arith, inl, inr}
+use Rattle.std.proofs.Common.{◌≡◌, ℕ, suc, ◌+◌, ◌≤◌, List, [], ◌∷◌, length, Option, refl, lit<}
+use Rattle.std.proofs.Common.{arith, inl, inr}
 use Rattle.std.specs.Int.{w16, to_be_bytes}
 use Rattle.std.specs.List.{AllByRecursion}
 use Rattle.std.proofs.lemmas.Bool.{cases_lt, lt-ltb, le-ltb}
@@ -22,7 +23,8 @@ use Rattle.p2p_discovery.specs.IngressLaws.{lawful_ingress, ingress_short}
 use Rattle.p2p_discovery.specs.ListsLaws.{lawful_list}
 use Rattle.p2p_discovery.specs.Varint.{groups, varint32, varint64}
 use Rattle.p2p_discovery.specs.VarintLaws.{groups_lawful, groups_short}
-use Rattle.p2p_discovery.specs.Info.{IsInfo, IsKeyed, info_spelling, info_at, infos_spelling, AreAllowed, infos_at}
+use Rattle.p2p_discovery.specs.Info.{IsInfo, IsKeyed, info_spelling, info_at, infos_spelling}
+use Rattle.p2p_discovery.specs.Info.{AreAllowed, infos_at}
 
 -- ---- both facts of each
 

@@ -1,10 +1,13 @@
 -- Lists are read by their spelling.
-use Rattle.std.proofs.Common.{◌≡◌, ℕ, zero, suc, ◌+◌, ◌*◌, ◌≤◌, ◌<◌, ◌^◌, true, List, [], ◌∷◌, ◌++◌, length, Ok, Err, refl, sym, ap, subst, ◌∙◌, append_assoc, arith, inl, inr}
+use Rattle.std.proofs.Common.{◌≡◌, ℕ, zero, suc, ◌+◌, ◌*◌, ◌≤◌, ◌<◌, ◌^◌, true, List, [], ◌∷◌, ◌++◌}
+use Rattle.std.proofs.Common.{length, Ok, Err, refl, sym, ap, subst, ◌∙◌, append_assoc, arith, inl}
+use Rattle.std.proofs.Common.{inr}
 use Rattle.std.specs.List.{AllByRecursion}
 use Rattle.std.proofs.lemmas.List.{length-append}
 use Rattle.p2p_discovery.specs.declared.codec.error.CodecError.TheVariants.{EndOfBuffer}
 use Rattle.p2p_discovery.specs.declared.codec.error.RangeCfg.{RangeCfg}
-use Rattle.p2p_discovery.specs.Reading.{Reading, ◌>>=◌, reads, is_within, Lawful, IsBytes, outcome_then}
+use Rattle.p2p_discovery.specs.Reading.{Reading, ◌>>=◌, reads, is_within, Lawful, IsBytes}
+use Rattle.p2p_discovery.specs.Reading.{outcome_then}
 use Rattle.p2p_discovery.specs.ReadingLaws.{bind_ok, ok_is, split_at}
 use Rattle.p2p_discovery.specs.FieldsLaws.{IsBytes-after, lawful_sized}
 use Rattle.p2p_discovery.specs.CountedLaws.{lawful_length}

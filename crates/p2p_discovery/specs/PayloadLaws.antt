@@ -1,5 +1,6 @@
 -- Payloads are read by their spelling, and those that aren't data are short.
-use Rattle.std.proofs.Common.{◌≡◌, ℕ, ◌+◌, ◌*◌, ◌≤◌, ◌<◌, eqb, true, false, List, ◌++◌, length, Option, refl, sym, arith}
+use Rattle.std.proofs.Common.{◌≡◌, ℕ, ◌+◌, ◌*◌, ◌≤◌, ◌<◌, eqb, true, false, List, ◌++◌, length}
+use Rattle.std.proofs.Common.{Option, refl, sym, arith}
 use Rattle.std.proofs.Math.Nat.{mul-le-mul_right}
 use Rattle.std.proofs.lemmas.Bool.{eqb-true, eqb-false}
 use Rattle.std.proofs.lemmas.Bool.Decides.{nat_tests}
@@ -9,7 +10,8 @@ use Rattle.p2p_discovery.specs.declared.discovery.Payload.{Payload}
 use Rattle.p2p_discovery.specs.declared.discovery.Payload.TheVariants as said
 use Rattle.p2p_discovery.specs.declared.discovery.PayloadConfig.{PayloadConfig}
 use Rattle.p2p_discovery.specs.Reading.{◌>>=◌, reads, is_within, Lawful}
-use Rattle.p2p_discovery.specs.FieldsLaws.{lawful_sized, lawful_byte, lawful_if, lawful_made, lawful_none, lawful_same}
+use Rattle.p2p_discovery.specs.FieldsLaws.{lawful_sized, lawful_byte, lawful_if, lawful_made}
+use Rattle.p2p_discovery.specs.FieldsLaws.{lawful_none, lawful_same}
 use Rattle.p2p_discovery.specs.Fixed.{IsFixed}
 use Rattle.p2p_discovery.specs.Varint.{varint32, varint64}
 use Rattle.p2p_discovery.specs.VarintLaws.{groups_short, groups_less}
@@ -23,7 +25,8 @@ use Rattle.p2p_discovery.specs.Bits.{packed}
 use Rattle.p2p_discovery.specs.BitsLaws.{length-packed}
 use Rattle.p2p_discovery.specs.BitVec as bits
 use Rattle.p2p_discovery.specs.BitVecLaws.{lawful_bit_vec}
-use Rattle.p2p_discovery.specs.Payload.{up_to, prefix_of, IsPayload, IsAdmitted, body_spelling, payload_spelling, body_at, payload_at, gossip_size}
+use Rattle.p2p_discovery.specs.Payload.{up_to, prefix_of, IsPayload, IsAdmitted, body_spelling}
+use Rattle.p2p_discovery.specs.Payload.{payload_spelling, body_at, payload_at, gossip_size}
 
 within_up_to : (n greatest : ℕ) → is_within (up_to greatest) n ≡ true → n ≤ greatest
 within_up_to n greatest h = grind (arith, nat_tests)

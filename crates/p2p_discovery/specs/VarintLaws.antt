@@ -1,13 +1,17 @@
 -- A number's groups are read again, and what is read are a number's groups.
-use Rattle.std.proofs.Common.{◌≡◌, ◌↔◌, ℕ, zero, suc, ◌+◌, ◌-◌, ◌*◌, ◌/◌, ◌%◌, ◌^◌, ◌≤◌, ◌<◌, Bool, true, false, cond, ◌&&◌, ◌||◌, List, [], ◌∷◌, ◌++◌, length, Result, Ok, Err, refl, sym, ap, subst, ◌∙◌, arith, eqb, ltb, inl, inr}
+use Rattle.std.proofs.Common.{◌≡◌, ◌↔◌, ℕ, zero, suc, ◌+◌, ◌-◌, ◌*◌, ◌/◌, ◌%◌, ◌^◌, ◌≤◌, ◌<◌, Bool}
+use Rattle.std.proofs.Common.{true, false, cond, ◌&&◌, ◌||◌, List, [], ◌∷◌, ◌++◌, length, Result}
+use Rattle.std.proofs.Common.{Ok, Err, refl, sym, ap, subst, ◌∙◌, arith, eqb, ltb, inl, inr}
 use Rattle.std.proofs.Math.Nat.{pow-suc, mul-le-mul_left}
 use Rattle.std.proofs.Math.Dec.{eqb-suc-zero}
 use Rattle.std.proofs.lemmas.Bool.{cases_lt, ltb-false, le-ltb, lt-ltb}
 use Rattle.p2p_discovery.specs.declared.codec.error.CodecError.{CodecError}
-use Rattle.p2p_discovery.specs.declared.codec.error.CodecError.TheVariants.{EndOfBuffer, InvalidVarint}
+use Rattle.p2p_discovery.specs.declared.codec.error.CodecError.TheVariants.{EndOfBuffer}
+use Rattle.p2p_discovery.specs.declared.codec.error.CodecError.TheVariants.{InvalidVarint}
 use Rattle.p2p_discovery.specs.Reading.{◌>>=◌, reads, byte_at, Fails, Gives, Lawful, IsBytes}
 use Rattle.p2p_discovery.specs.Varint.{SpellsFrom, groups, groups_at, last_group}
-use Rattle.p2p_discovery.specs.ReadingLaws.{fails_first, gives_next, guard_ok, done, ok_is, bind_ok, head_is, tail_is, one_byte_front}
+use Rattle.p2p_discovery.specs.ReadingLaws.{fails_first, gives_next, guard_ok, done, ok_is, bind_ok}
+use Rattle.p2p_discovery.specs.ReadingLaws.{head_is, tail_is, one_byte_front}
 
 pub groups_small : (most n : ℕ) → 0 < most → n < 128 → groups most n ≡ n ∷ []
 unfolding groups

@@ -2,7 +2,8 @@
 //!
 //! docs/FORMATS.md says how they are spelled.
 
-ghost use Rattle.std.specs.Prelude.{◌≡◌, ℕ, ◌+◌, ◌-◌, ◌<◌, ◌≤◌, ◌^◌, ◌++◌, ◌∷◌, List, length, sum_by, IfOk, IfErr};
+ghost use Rattle.std.specs.Prelude.{◌≡◌, ℕ, ◌+◌, ◌-◌, ◌<◌, ◌≤◌, ◌^◌, ◌++◌, ◌∷◌, List, length};
+ghost use Rattle.std.specs.Prelude.{sum_by, IfOk, IfErr};
 ghost use Rattle.std.specs.List.{concat};
 ghost use Rattle.p2p_discovery.specs.Data.{data_spelling, IsAllowed, data_at, header, data_payload};
 ghost use Rattle.p2p_discovery.specs.DataLaws.{lawful_data};
@@ -127,9 +128,12 @@ impl EncodedData {
     ) -> Result<EncodedData, VecDeque<Bytes>>
         requires { length (concat message.items) < 2 ^ 32 }
         ensures channel { IfOk result (λ e. e.channel ≡ channel) }
-        ensures buffers { IfOk result (λ e. e.payload.items ≡ header channel (length (concat message.items)) ∷ message.items) }
-        ensures frame { IfOk result (λ e. concat e.payload.items ≡ data_payload (record { channel = channel; message = concat message.items })) }
-        ensures short { IfOk result (λ e. length (concat e.payload.items) ≤ length (concat message.items) + 16) }
+        ensures buffers { IfOk result (λ e. e.payload.items
+            ≡ header channel (length (concat message.items)) ∷ message.items) }
+        ensures frame { IfOk result (λ e. concat e.payload.items
+            ≡ data_payload (record { channel = channel; message = concat message.items })) }
+        ensures short { IfOk result (λ e.
+            length (concat e.payload.items) ≤ length (concat message.items) + 16) }
         ensures refused { IfErr result (λ back. back.items ≡ message.items) }
     {
         let total = total_len(&message);

@@ -1,6 +1,7 @@
 //! Sorted sets of peers.
 
-ghost use Rattle.std.specs.Prelude.{◌≡◌, ℕ, ◌<◌, ◌↔◌, [], length, IfOk, IsOk, IsTrue, IfSome, IfNone, slice_get, Some};
+ghost use Rattle.std.specs.Prelude.{◌≡◌, ℕ, ◌<◌, ◌↔◌, [], length, IfOk, IsOk, IsTrue, IfSome};
+ghost use Rattle.std.specs.Prelude.{IfNone, slice_get, Some};
 ghost use Rattle.std.specs.List.{Contains, IsDistinct};
 ghost use Rattle.std.specs.List.Sorted.{IsStrictlySortedBy, IsPermutation};
 ghost use Rattle.std.specs.Ordering.{eq_by_cmp};
@@ -64,7 +65,8 @@ impl<P: PublicKey> OrderedSet<P> {
         requires can { I.can_next items }
         requires finite { IsFinite (I.remaining items) }
         ensures sorted { IfOk result (λ set. IsStrictlySortedBy P.cmp set) }
-        ensures same { IfOk result (λ set. WholeRun I.next_gives items (λ run. (q : P) → Contains set q ↔ Contains run.items q)) }
+        ensures same { IfOk result (λ set. WholeRun I.next_gives items
+            (λ run. (q : P) → Contains set q ↔ Contains run.items q)) }
     {
         let mut items: Vec<P> = items.collect(alloc)?;
         items.sort_unstable();
@@ -166,7 +168,8 @@ impl<'a, P: PublicKey> IntoIterator for &'a OrderedSet<P> {
 
     type IntoIter = slice::Iter<'a, P>;
 
-    ghost into_iter_gives = { λ set it. (iter_rest it ≡ set.now) × IsStrictlySortedBy P.cmp set.now };
+    ghost into_iter_gives = { λ set it. (iter_rest it ≡ set.now)
+        × IsStrictlySortedBy P.cmp set.now };
 
     fn into_iter(self) -> slice::Iter<'a, P> {
         self.iter()

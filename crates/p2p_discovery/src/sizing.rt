@@ -35,8 +35,10 @@ pub fn max_message_size(payloads: &[usize]) -> u32
 /// The result fits `usize`.
 pub fn peer_set_limit<P: PublicKey>(participants: &[P], local: &P) -> NonZeroUsize
     requires { ¬ (Contains participants.now local.now) → length participants.now + 1 < 2 ^ 64 }
-    ensures among { Contains participants.now local.now → non_zero_usize_get result ≡ length participants.now }
-    ensures apart { ¬ (Contains participants.now local.now) → non_zero_usize_get result ≡ length participants.now + 1 }
+    ensures among { Contains participants.now local.now
+        → non_zero_usize_get result ≡ length participants.now }
+    ensures apart { ¬ (Contains participants.now local.now)
+        → non_zero_usize_get result ≡ length participants.now + 1 }
 {
     let others = participants.len();
     match NonZeroUsize::new(others) {
@@ -55,8 +57,10 @@ pub fn max_retained_peers(
     tracked_peer_sets: NonZeroUsize,
     persistent_peers: usize,
 ) -> NonZeroUsize
-    requires { non_zero_usize_get max_peers_per_set * non_zero_usize_get tracked_peer_sets + persistent_peers < 2 ^ 64 }
-    ensures { non_zero_usize_get result ≡ non_zero_usize_get max_peers_per_set * non_zero_usize_get tracked_peer_sets + persistent_peers }
+    requires { non_zero_usize_get max_peers_per_set * non_zero_usize_get tracked_peer_sets
+        + persistent_peers < 2 ^ 64 }
+    ensures { non_zero_usize_get result ≡ non_zero_usize_get max_peers_per_set
+        * non_zero_usize_get tracked_peer_sets + persistent_peers }
 {
     max_peers_per_set
         .saturating_mul(tracked_peer_sets)
@@ -71,7 +75,9 @@ pub fn max_retained_peers(
 pub fn peer_set_size<P: PublicKey>(primary: &[P], secondary: &[P], extension: Option<&P>) -> usize
     requires primary { IsStrictlySortedBy P.cmp primary.now }
     requires secondary { IsStrictlySortedBy P.cmp secondary.now }
-    requires fits { (all : List P) → IsUnion P.cmp primary.now secondary.now (option_copied extension) all → length all < 2 ^ 64 }
+    requires fits { (all : List P)
+        → IsUnion P.cmp primary.now secondary.now (option_copied extension) all
+        → length all < 2 ^ 64 }
     ensures { IsUnionSize P.cmp primary.now secondary.now (option_copied extension.entry) result }
 {
     let size = union_size(primary, secondary);
@@ -85,7 +91,8 @@ pub fn peer_set_size<P: PublicKey>(primary: &[P], secondary: &[P], extension: Op
 fn union_size<P: PublicKey>(primary: &[P], secondary: &[P]) -> usize
     requires primary { IsStrictlySortedBy P.cmp primary.now }
     requires secondary { IsStrictlySortedBy P.cmp secondary.now }
-    requires fits { (all : List P) → IsUnion P.cmp primary.now secondary.now None all → length all < 2 ^ 64 }
+    requires fits { (all : List P) → IsUnion P.cmp primary.now secondary.now None all
+        → length all < 2 ^ 64 }
     ensures { IsUnionSize P.cmp primary.now secondary.now None result }
 {
     let (mut i, mut j, mut both) = (0, 0, 0);

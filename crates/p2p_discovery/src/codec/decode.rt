@@ -78,5 +78,6 @@ pub trait Read: EncodeSize + Drop + Sized {
     }
 
     // Law: exactly the spellings of admitted values are read.
-    ghost lawful: { (cfg : Self.Cfg) → Lawful (reading cfg) Self.spelling (λ v. Self.IsValue v × Admits cfg v) };
+    ghost lawful: { (cfg : Self.Cfg)
+        → Lawful (reading cfg) Self.spelling (λ v. Self.IsValue v × Admits cfg v) };
 }

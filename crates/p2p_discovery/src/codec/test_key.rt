@@ -2,7 +2,8 @@
 
 ghost use Rattle.std.specs.Prelude.{◌≡◌, ◌==◌, ◌<◌, ◌^◌, Some};
 ghost use Rattle.std.specs.Int.{w64, to_be_bytes, from_be_bytes};
-ghost use Rattle.p2p_discovery.specs.KeysLaws.{one_key, one_signature, exact_key, fixed_key, fixed_signature};
+ghost use Rattle.p2p_discovery.specs.KeysLaws.{one_key, one_signature, exact_key, fixed_key};
+ghost use Rattle.p2p_discovery.specs.KeysLaws.{fixed_signature};
 ghost use Rattle.p2p_discovery.specs.TestSignatures.{signature_of, mix_of, next_of};
 
 use crate::codec::{FixedBytes, PublicKey};
@@ -81,7 +82,8 @@ impl TestKey {
 impl PublicKey for TestKey {
     type Signature = TestSignature;
 
-    ghost verifies = { λ key namespace message signature. signature_of key.0 namespace message == signature.0 };
+    ghost verifies = { λ key namespace message signature.
+        signature_of key.0 namespace message == signature.0 };
 
     fn verify(&self, namespace: &[u8], message: &[u8], signature: &TestSignature) -> bool {
         self.sign(namespace, message) == *signature

@@ -1,6 +1,7 @@
 //! Truth values, packed eight to a byte.
 
-ghost use Rattle.std.specs.Prelude.{◌≡◌, ◌↔◌, ℕ, ◌<◌, List, false, true, length, replicate, IfOk, IsTrue, slice_get, Some};
+ghost use Rattle.std.specs.Prelude.{◌≡◌, ◌↔◌, ℕ, ◌<◌, List, false, true, length, replicate, IfOk};
+ghost use Rattle.std.specs.Prelude.{IsTrue, slice_get, Some};
 ghost use Rattle.std.specs.List.{slice_set};
 ghost use Rattle.std.specs.Bool.{beq};
 ghost use Rattle.std.specs.Cmp.Lexicographic.{pointwise};

@@ -2,7 +2,8 @@
 
 ghost use Rattle.std.specs.Prelude.{◌≡◌, ◌↔◌, ◌≤◌, length, true, IfOk, IsOk, IsTrue};
 ghost use Rattle.p2p_discovery.specs.FieldsLaws.{lawful_unlimited};
-ghost use Rattle.p2p_discovery.specs.Address.{same_address, ingress_of, egress_of, IsAddress, address_spelling, address_at};
+ghost use Rattle.p2p_discovery.specs.Address.{same_address, ingress_of, egress_of, IsAddress};
+ghost use Rattle.p2p_discovery.specs.Address.{address_spelling, address_at};
 ghost use Rattle.p2p_discovery.specs.Ingress.{takes_none};
 ghost use Rattle.p2p_discovery.specs.Socket.{socket_ip};
 ghost use Rattle.p2p_discovery.specs.AddressLaws.{lawful_address, address_short};

@@ -9,7 +9,9 @@ ghost use Rattle.std.specs.Cmp.Lexicographic.{pointwise, slice_cmp};
 ghost use Rattle.std.proofs.Common.{rules};
 ghost use Rattle.p2p_discovery.specs.Reading.{Gives, is_within};
 ghost use Rattle.p2p_discovery.specs.FieldsLaws.{lawful_unlimited};
-ghost use Rattle.p2p_discovery.specs.Hostname.{is_label, is_hostname, host_limit, formed, named, IsHostname, hostname_spelling, hostname_at, is_name_byte, are_name_bytes};
+ghost use Rattle.p2p_discovery.specs.Hostname.{is_label, is_hostname, host_limit, formed, named};
+ghost use Rattle.p2p_discovery.specs.Hostname.{IsHostname, hostname_spelling, hostname_at};
+ghost use Rattle.p2p_discovery.specs.Hostname.{is_name_byte, are_name_bytes};
 ghost use Rattle.p2p_discovery.specs.HostnameLaws.{lawful_hostname, hostname_short};
 
 use crate::codec::{
@@ -168,7 +170,8 @@ impl Ord for Hostname {
 impl PartialOrd for Hostname {
     ghost partial_cmp = { as_partial_cmp (slice_cmp nat_cmp) };
 
-    ghost laws = { partial_order_from_own_ties (Prim.search (comparing, rules)) (Prim.search (comparing, rules)) };
+    ghost laws = { partial_order_from_own_ties (Prim.search (comparing, rules))
+        (Prim.search (comparing, rules)) };
 
     fn partial_cmp(&self, other: &Hostname) -> Option<Ordering> {
         Some(self.cmp(other))
