@@ -1,4 +1,4 @@
--- Bits packed into bytes: bit i stands in byte i / 8, at place i mod 8 from the least significant on.
+-- Bits packed into bytes: bit i stands in byte i / 8, as its bit of weight 2 ^ (i mod 8).
 use Rattle.std.specs.Prelude.{◌≡◌, ℕ, ◌+◌, ◌*◌, ◌/◌, ◌%◌, ◌^◌, ◌≤◌, Bool, false, ◌==◌}
 use Rattle.std.specs.Prelude.{if◌then◌else◌, List, [], ◌∷◌, length, take, drop, map, slice_index}
 use Rattle.std.specs.Int.{bit_at}

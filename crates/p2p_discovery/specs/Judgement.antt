@@ -80,7 +80,7 @@ module _ {C S : Type 0} (j : Judge C S) where
   first_refusal now [] = None
   first_refusal now (i ∷ is) = first_of (refusal now i) (first_refusal now is)
 
-  -- why a list of infos is refused at a moment, if it is: too many, before the first that is refused
+  -- why a list is refused at a moment, if it is: too many infos, before the first refused one
   abbrev pub list_refusal : ℕ → List (Info C S) → Option Error
   list_refusal now is =
       if nat_lt j.greatest_count (length is) then Some (TooManyPeers (length is))
