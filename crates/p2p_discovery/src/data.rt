@@ -120,7 +120,7 @@ impl EncodedData {
     /// # Conditions
     ///
     /// The length of the whole message fits `u32`.
-    #[tactic(auto, using(crate::specs::DataLaws::joined_len, crate::specs::DataLaws::frame_is, crate::specs::DataLaws::frame_short))]
+    #[tactic(auto, using(crate::specs::DataLaws::joined_len, crate::specs::DataLaws::frame_is))]
     pub fn new(
         alloc: Global,
         channel: u64,
