@@ -115,11 +115,18 @@ impl EncodedData {
     /// Puts one header buffer before the buffers of the message, which stay as they are. Joined,
     /// the frame is the payload of data. The bytes in the buffers are neither read nor copied.
     ///
-    /// Where memory is refused, the buffers that were handed in come back.
-    ///
     /// # Conditions
     ///
     /// The length of the whole message fits `u32`.
+    ///
+    /// # Errors
+    ///
+    /// The buffers that were handed in, where memory is refused.
+    ///
+    /// # Cost
+    ///
+    /// A look at the length of each buffer, one small buffer for the header, and room for one more
+    /// place in the list.
     #[tactic(auto, using(crate::specs::DataLaws::joined_len, crate::specs::DataLaws::frame_is))]
     pub fn new(
         alloc: Global,

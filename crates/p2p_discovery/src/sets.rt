@@ -58,6 +58,10 @@ impl<P: PublicKey> OrderedSet<P> {
     /// # Errors
     ///
     /// `AllocError` where memory is refused.
+    ///
+    /// # Cost
+    ///
+    /// One sort of the items.
     pub fn from_iter_dedup<I: Iterator<Item = P> + Drop>(
         alloc: Global,
         items: I,
@@ -79,6 +83,10 @@ impl<P: PublicKey> OrderedSet<P> {
     /// # Errors
     ///
     /// `SetError::Duplicate` exactly where an item comes more than once.
+    ///
+    /// # Cost
+    ///
+    /// One sort of the items, and one pass over them.
     pub fn try_from(mut items: Vec<P>) -> Result<Self, SetError>
         ensures ok { IsOk result ↔ IsDistinct (eq_by_cmp P.cmp) items.items }
         ensures same { IfOk result (IsPermutation items.items) }
@@ -107,8 +115,12 @@ impl<P: PublicKey> OrderedSet<P> {
         self.items.is_empty()
     }
 
-    /// The place of the peer, counted from 0, or `None` where it is not in the set. Takes time
-    /// logarithmic in the number of peers.
+    /// The place of the peer, counted from 0, or `None` where it is not in the set. It takes no
+    /// memory.
+    ///
+    /// # Cost
+    ///
+    /// Time logarithmic in the number of peers.
     pub fn position(&self, key: &P) -> Option<usize>
         ensures found { IfSome result (IsPlaceOf key.now self.now) }
         ensures sorted { IsStrictlySortedBy P.cmp self.now }
@@ -136,11 +148,15 @@ impl<P: PublicKey> OrderedSet<P> {
         &self.items
     }
 
-    /// An equal set.
+    /// An equal set. It takes no memory where the set is empty.
     ///
     /// # Errors
     ///
     /// `AllocError` where memory is refused.
+    ///
+    /// # Cost
+    ///
+    /// Each key is copied once.
     pub fn clone(&self) -> Result<Self, AllocError>
         ensures equal { IfOk result (λ copy. copy ≡ self.now) }
         ensures empty { self.now ≡ [] → IsOk result }

@@ -18,6 +18,10 @@ use std::num::NonZeroUsize;
 /// # Conditions
 ///
 /// The sizes fit `u32`.
+///
+/// # Cost
+///
+/// One pass over the sizes.
 pub fn max_message_size(payloads: &[usize]) -> u32
     requires { All (λ n. n < 2 ^ 32) payloads.now }
     ensures bound { All (λ n. n ≤ result) payloads.now }
@@ -33,6 +37,10 @@ pub fn max_message_size(payloads: &[usize]) -> u32
 /// # Conditions
 ///
 /// The result fits `usize`.
+///
+/// # Cost
+///
+/// One pass over the participants.
 pub fn peer_set_limit<P: PublicKey>(participants: &[P], local: &P) -> NonZeroUsize
     requires { ¬ (Contains participants.now local.now) → length participants.now + 1 < 2 ^ 64 }
     ensures among { Contains participants.now local.now
@@ -72,6 +80,10 @@ pub fn max_retained_peers(
 /// # Conditions
 ///
 /// Both lists are sorted without repeats, and the result fits `usize`.
+///
+/// # Cost
+///
+/// One pass over both lists at once, and one over each for the extension.
 pub fn peer_set_size<P: PublicKey>(primary: &[P], secondary: &[P], extension: Option<&P>) -> usize
     requires primary { IsStrictlySortedBy P.cmp primary.now }
     requires secondary { IsStrictlySortedBy P.cmp secondary.now }

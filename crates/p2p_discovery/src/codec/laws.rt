@@ -20,8 +20,12 @@ pub fn one_spelling<T: Read>(cfg: &T::Cfg)
         → T.spelling v ++ x ≡ T.spelling w ++ y → (v ≡ w) × (x ≡ y) }
 {}
 
-/// Of a spelling no proper front is read: its bytes end too early. `Memory` may stand in place of
-/// that where memory was asked for on the way.
+/// Of a spelling no proper front is read.
+///
+/// # Errors
+///
+/// Of a proper front `EndOfBuffer`, for its bytes end too early, or `Memory` where memory was asked
+/// for on the way and refused. Those of [`Read::decode_cfg`] else.
 pub fn cut_short<T: Read>(alloc: Global, front: Bytes, cfg: &T::Cfg) -> Result<T, CodecError>
     ensures { (v : T) (rest : List ℕ) → T.IsValue v → T.Admits cfg.now v
         → T.spelling v ≡ front ++ rest → 0 < length rest
@@ -30,11 +34,15 @@ pub fn cut_short<T: Read>(alloc: Global, front: Bytes, cfg: &T::Cfg) -> Result<T
     T::decode_cfg(alloc, front, cfg)
 }
 
-/// What was encoded is decoded to what it was, under limits that admit it, unless memory runs out.
+/// What was encoded is decoded to what it was, under limits that admit it.
 ///
 /// # Conditions
 ///
 /// Those of [`Write::encode`], and that the limits admit the value.
+///
+/// # Errors
+///
+/// `Memory` where memory is refused, and no other.
 pub fn read_back<T: Write + Read>(alloc: Global, value: &T, cfg: &T::Cfg) -> Result<T, CodecError>
     requires can { T.CanSpell value.now }
     requires admits { T.HoldsValues value.now → T.Admits cfg.now value.now }

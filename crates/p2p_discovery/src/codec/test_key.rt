@@ -71,7 +71,11 @@ impl FixedBytes for TestSignature {
 
 impl TestKey {
     /// The signature of this key over the namespace and the message: what the bytes of both, one
-    /// after the other, make of the key's number.
+    /// after the other, make of the key's number. It takes no memory.
+    ///
+    /// # Cost
+    ///
+    /// One pass over both.
     pub fn sign(&self, namespace: &[u8], message: &[u8]) -> TestSignature
         ensures { result ≡ record { 0 = signature_of self.now.0 namespace.now message.now } }
     {

@@ -50,9 +50,17 @@ const LENGTHS: RangeCfg = RangeCfg {
 };
 
 impl Hostname {
-    /// The name that the text is. `InvalidLength` where it has no bytes or more than 253, which is
-    /// judged first; `Invalid(Hostname)` where it has not the form of a name; `Memory` where it
-    /// is a name and memory is refused.
+    /// The name that the text is.
+    ///
+    /// # Errors
+    ///
+    /// `InvalidLength` where it has no bytes or more than 253, which is judged first;
+    /// `Invalid(Hostname)` where it has not the form of a name; `Memory` where it is a name and
+    /// memory is refused.
+    ///
+    /// # Cost
+    ///
+    /// A few passes over the text, which is copied once.
     #[tactic(auto, unfolding(crate::specs::Hostname::named))]
     pub fn new(alloc: Global, text: &str) -> Result<Hostname, CodecError>
         ensures { Gives result [] (named text.now) }
@@ -72,7 +80,15 @@ impl Hostname {
         self.text.as_str()
     }
 
-    /// An equal name, or want of memory.
+    /// An equal name.
+    ///
+    /// # Errors
+    ///
+    /// `AllocError` where memory is refused.
+    ///
+    /// # Cost
+    ///
+    /// The text is copied once.
     pub fn clone(&self) -> Result<Hostname, AllocError>
         ensures { IfOk result (λ copy. copy ≡ self.now) }
     {

@@ -61,7 +61,11 @@ impl Ingress {
         }
     }
 
-    /// An equal value, or want of memory.
+    /// An equal value. It takes no memory where it is a socket.
+    ///
+    /// # Errors
+    ///
+    /// `AllocError` where memory for a name is refused.
     pub fn clone(&self) -> Result<Ingress, AllocError>
         ensures equal { IfOk result (λ copy. copy ≡ self.now) }
         ensures socket { takes_none self.now ≡ true → IsOk result }
