@@ -3,7 +3,7 @@
 //! docs/FORMATS.md says how they are spelled.
 
 ghost use Rattle.std.specs.Prelude.{◌≡◌, ℕ, ◌+◌, ◌-◌, ◌<◌, ◌≤◌, ◌^◌, ◌++◌, ◌∷◌, List, length};
-ghost use Rattle.std.specs.Prelude.{sum_by, IfOk, IfErr};
+ghost use Rattle.std.specs.Prelude.{IfOk, IfErr};
 ghost use Rattle.std.specs.List.{concat};
 ghost use Rattle.p2p_discovery.specs.Data.{data_spelling, IsAllowed, data_at, header, data_payload};
 ghost use Rattle.p2p_discovery.specs.DataLaws.{lawful_data};
@@ -127,7 +127,7 @@ impl EncodedData {
     ///
     /// A look at the length of each buffer, one small buffer for the header, and room for one more
     /// place in the list.
-    #[tactic(auto, using(crate::specs::DataLaws::joined_len, crate::specs::DataLaws::frame_is))]
+    #[tactic(auto, using(crate::specs::DataLaws::frame_is, crate::specs::DataLaws::frame_short))]
     pub fn new(
         alloc: Global,
         channel: u64,
@@ -158,9 +158,10 @@ impl EncodedData {
 }
 
 // The number of bytes in all of the buffers.
+#[tactic(auto, using(crate::specs::DataLaws::joined_len))]
 fn total_len(buffers: &VecDeque<Bytes>) -> u32
-    requires { sum_by length buffers.now.items < 2 ^ 32 }
-    ensures { result ≡ sum_by length buffers.now.items }
+    requires { length (concat buffers.now.items) < 2 ^ 32 }
+    ensures { result ≡ length (concat buffers.now.items) }
 {
     let total: usize = buffers.iter().map(|buffer| buffer.len()).sum();
     total as u32
