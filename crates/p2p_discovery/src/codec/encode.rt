@@ -80,7 +80,8 @@ pub trait Write: EncodeSize {
     ///
     /// # Cost
     ///
-    /// One pass for the size, and one over the spelling. Room is taken once, for just so many bytes.
+    /// One pass for the size, and one over the spelling. Room is taken once, for just as many
+    /// bytes.
     final fn encode(&self, alloc: Global) -> Result<Bytes, AllocError>
         requires { Self.CanSpell self.now }
         ensures spelled { IfOk result (λ b. b ≡ Self.spelling self.now) }
