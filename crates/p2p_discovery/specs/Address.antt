@@ -1,4 +1,4 @@
--- How a peer is reached and from where it connects: which addresses are equal, and how they are spelled.
+-- How a peer is reached and from where it connects: equal addresses, and their spelling.
 use Rattle.std.specs.Prelude.{ℕ, Bool, false, ◌&&◌, List, ◌∷◌, ◌++◌}
 use Rattle.p2p_discovery.specs.declared.types.socket.SocketAddr.{SocketAddr}
 use Rattle.p2p_discovery.specs.declared.types.ingress.Ingress.{Ingress}
@@ -8,12 +8,14 @@ use Rattle.p2p_discovery.specs.declared.types.address.Address.TheVariants.{Symme
 use Rattle.p2p_discovery.specs.Reading.{Reading, ◌>>=◌, reads}
 use Rattle.p2p_discovery.specs.Fields.{◌&◌, choice}
 use Rattle.p2p_discovery.specs.Socket.{IsSocket, socket_spelling, socket_at}
-use Rattle.p2p_discovery.specs.Ingress.{same_socket, same_ingress, IsIngress, ingress_spelling, ingress_at}
+use Rattle.p2p_discovery.specs.Ingress.{same_socket, same_ingress, IsIngress, ingress_spelling}
+use Rattle.p2p_discovery.specs.Ingress.{ingress_at}
 
 -- the same socket, or the same ingress and egress
 abbrev pub same_address : Address → Address → Bool
 same_address (Symmetric a) (Symmetric b) = same_socket a b
-same_address (Asymmetric ingress egress) (Asymmetric ingress2 egress2) = same_ingress ingress ingress2 && same_socket egress egress2
+same_address (Asymmetric ingress egress) (Asymmetric ingress2 egress2) =
+    same_ingress ingress ingress2 && same_socket egress egress2
 same_address _ _ = false
 
 -- what is dialled
@@ -35,7 +37,10 @@ IsAddress (Asymmetric ingress egress) = IsIngress ingress × IsSocket egress
 -- 0 and the socket address, or 1, the ingress and the socket address of the egress
 abbrev pub address_spelling : Address → List ℕ
 address_spelling (Symmetric socket) = 0 ∷ socket_spelling socket
-address_spelling (Asymmetric ingress egress) = 1 ∷ (ingress_spelling ingress ++ socket_spelling egress)
+address_spelling (Asymmetric ingress egress) =
+    1 ∷ (ingress_spelling ingress ++ socket_spelling egress)
 
 unfoldable pub address_at : List ℕ → Reading Address
-address_at = choice 0 (socket_at >>= λ s. reads (Symmetric s)) 1 ((ingress_at & socket_at) >>= λ p. reads (Asymmetric p.0 p.1))
+address_at = choice
+    0 (socket_at >>= λ s. reads (Symmetric s))
+    1 ((ingress_at & socket_at) >>= λ p. reads (Asymmetric p.0 p.1))

@@ -1,5 +1,6 @@
 -- Keys and signatures that are arrays of bytes, or one byte below a bound: how they are spelled.
-use Rattle.std.specs.Prelude.{ℕ, List, [], ◌∷◌, ◌++◌, take, replicate, Option, Some, None, nat_lt, if◌then◌else◌}
+use Rattle.std.specs.Prelude.{ℕ, List, [], ◌∷◌, ◌++◌, take, replicate, Option, Some, None, nat_lt}
+use Rattle.std.specs.Prelude.{if◌then◌else◌}
 
 -- an array of n bytes is spelled as it stands; any other list is brought to this length
 abbrev pub array_spelling : ℕ → List ℕ → List ℕ

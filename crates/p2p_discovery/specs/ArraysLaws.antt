@@ -1,6 +1,7 @@
 -- The laws of keys and signatures that are arrays of bytes, or one byte below a bound.
-use Rattle.std.proofs.Common.{◌≡◌, ℕ, zero, suc, ◌≤◌, ◌<◌, ◌^◌, Bool, true, false, cond, List, [], ◌∷◌, ◌++◌, length, take, replicate, Option, Some, None, refl, sym, ap, ◌∙◌, arith, ltb, eqb}
-use Rattle.std.specs.declared.cmp.Ordering.{Ordering}
+use Rattle.std.proofs.Common.{◌≡◌, ℕ, zero, suc, ◌≤◌, ◌<◌, Bool, true, false, cond, List, []}
+use Rattle.std.proofs.Common.{◌∷◌, ◌++◌, length, replicate, Some, None, refl, sym, ap}
+use Rattle.std.proofs.Common.{◌∙◌, arith, ltb, eqb}
 use Rattle.std.specs.declared.cmp.Ordering.TheVariants.{Equal}
 use Rattle.std.specs.Cmp.Lexicographic.{pointwise, slice_cmp, bytes_decides}
 use Rattle.std.specs.Ordering.{nat_cmp}
@@ -16,14 +17,22 @@ pub array_is : (n : ℕ) (b : List ℕ) → length b ≡ n → array_spelling n 
 array_is n b h = take_at b (replicate n 0) n h
 
 length-array : (n : ℕ) (b : List ℕ) → length (array_spelling n b) ≡ n
-length-array n b = omega (arith, length-take n (b ++ replicate n 0), length-append b (replicate n 0), length-replicate {A = ℕ} n 0)
+length-array n b =
+    omega (
+      arith,
+      length-take n (b ++ replicate n 0),
+      length-append b (replicate n 0),
+      length-replicate {A = ℕ} n 0,
+    )
 
-module _ {K : Type 0} (to : List ℕ → K) (from : K → List ℕ) (again : (k : K) → to (from k) ≡ k) (only : (b : List ℕ) → from (to b) ≡ b) where
+module _ {K : Type 0} (to : List ℕ → K) (from : K → List ℕ) (again : (k : K) → to (from k) ≡ k)
+    (only : (b : List ℕ) → from (to b) ≡ b) where
   some_is : (a b : K) → Some a ≡ Some b → a ≡ b
   some_is a b e = cc
 
   -- an array of n bytes is a value of a fixed number of bytes, and every n bytes are read
-  pub fixed_array : (n : ℕ) → n ≤ 65535 → IsFixed n (λ k. array_spelling n (from k)) (λ b. Some (to b)) (λ k. IsSized n (from k))
+  pub fixed_array : (n : ℕ) → n ≤ 65535
+      → IsFixed n (λ k. array_spelling n (from k)) (λ b. Some (to b)) (λ k. IsSized n (from k))
   fixed_array n small = record {
     small = small;
     len = λ k. length-array n (from k);
@@ -57,7 +66,8 @@ one_byte : (n : ℕ) → n < 256 → IsBytes (n ∷ [])
 one_byte n h zero = h
 one_byte n h (suc i) = omega arith
 
-pub fixed_below : (bound : ℕ) → bound ≤ 256 → IsFixed 1 (λ n. n ∷ []) (number_below bound) (λ n. n < bound)
+pub fixed_below : (bound : ℕ) → bound ≤ 256
+    → IsFixed 1 (λ n. n ∷ []) (number_below bound) (λ n. n < bound)
 fixed_below bound le = record {
   small = omega arith;
   len = λ n. refl;

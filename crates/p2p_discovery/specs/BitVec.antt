@@ -1,9 +1,11 @@
--- Bits with the index of the set that they are about: their spelling, and how they are read under a limit.
-use Rattle.std.specs.Prelude.{ℕ, ◌≤◌, ◌<◌, ◌^◌, Bool, false, not, ◌==◌, if◌then◌else◌, List, ◌++◌, length, nat_le}
+-- Bits with the index of the set that they are about: their spelling, and how a limit reads them.
+use Rattle.std.specs.Prelude.{ℕ, ◌≤◌, ◌<◌, ◌^◌, Bool, false, not, ◌==◌, if◌then◌else◌, List, ◌++◌}
+use Rattle.std.specs.Prelude.{length, nat_le}
 use Rattle.p2p_discovery.specs.declared.codec.error.CodecError.TheVariants.{InvalidLength, Invalid}
 use Rattle.p2p_discovery.specs.declared.codec.error.What.TheVariants as what
 use Rattle.p2p_discovery.specs.declared.discovery.BitVec.{BitVec}
-use Rattle.p2p_discovery.specs.Reading.{Reading, ◌>>=◌, reads, refuses, takes_memory, checked, counted_at}
+use Rattle.p2p_discovery.specs.Reading.{Reading, ◌>>=◌, reads, refuses, takes_memory, checked}
+use Rattle.p2p_discovery.specs.Reading.{counted_at}
 use Rattle.p2p_discovery.specs.Fields.{◌&◌}
 use Rattle.p2p_discovery.specs.Varint.{varint64, varint64_at}
 use Rattle.p2p_discovery.specs.Bits.{bits_in, byte_count, padding_of, packed}
@@ -23,7 +25,7 @@ unpacked n bytes rest =
     if padding_of n bytes == 0 then takes_memory (not (n == 0)) (bits_in bytes n) rest
     else refuses (Invalid what.Padding) rest
 
--- so many bits as the limit allows, which is judged before anything behind their number is looked at
+-- as many bits as the limit allows; their number is judged before anything behind it
 unfoldable pub bits_at : ℕ → List ℕ → Reading (List Bool)
 bits_at limit =
     (varint64_at >>= checked false (λ n. nat_le n limit) InvalidLength)

@@ -1,5 +1,6 @@
--- Bits packed into bytes: bit i stands in byte i / 8, at place i mod 8 counted from the least significant.
-use Rattle.std.specs.Prelude.{◌≡◌, ℕ, ◌+◌, ◌*◌, ◌/◌, ◌%◌, ◌^◌, ◌≤◌, Bool, false, ◌==◌, if◌then◌else◌, List, [], ◌∷◌, length, take, drop, map, slice_index}
+-- Bits packed into bytes: bit i stands in byte i / 8, as its bit of weight 2 ^ (i mod 8).
+use Rattle.std.specs.Prelude.{◌≡◌, ℕ, ◌+◌, ◌*◌, ◌/◌, ◌%◌, ◌^◌, ◌≤◌, Bool, false, ◌==◌}
+use Rattle.std.specs.Prelude.{if◌then◌else◌, List, [], ◌∷◌, length, take, drop, map, slice_index}
 use Rattle.std.specs.Int.{bit_at}
 use Rattle.std.specs.List.{range_with_len}
 
@@ -31,4 +32,6 @@ number_of (b ∷ bits) = (if b then 1 else 0) + 2 * number_of bits
 
 -- the bytes of bits, eight in each
 unfoldable pub packed : List Bool → List ℕ
-packed bits = map (λ j. number_of (take 8 (drop (8 * j) bits))) (range_with_len 0 (byte_count (length bits)))
+packed bits =
+    map (λ j. number_of (take 8 (drop (8 * j) bits)))
+    (range_with_len 0 (byte_count (length bits)))

@@ -21,7 +21,8 @@ unfoldable pub message_at : RangeCfg → List ℕ → Reading (List ℕ)
 message_at limit = length_at limit >>= cut_at
 
 unfoldable pub data_at : RangeCfg → List ℕ → Reading Data
-data_at limit = (varint64_at & message_at limit) >>= λ p. reads (record { channel = p.0; message = p.1 })
+data_at limit =
+    (varint64_at & message_at limit) >>= λ p. reads (record { channel = p.0; message = p.1 })
 
 -- ---- frames
 

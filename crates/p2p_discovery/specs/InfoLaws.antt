@@ -1,5 +1,6 @@
--- Infos and lists of them are read by their spelling, which is neither shorter nor longer than said.
-use Rattle.std.proofs.Common.{◌≡◌, ℕ, suc, ◌+◌, ◌≤◌, List, [], ◌∷◌, length, Option, refl, lit<, arith, inl, inr}
+-- Infos and lists of them are read by their spelling, which has the bounds that are said of it.
+use Rattle.std.proofs.Common.{◌≡◌, ℕ, suc, ◌+◌, ◌≤◌, List, [], ◌∷◌, length, Option, refl, lit<}
+use Rattle.std.proofs.Common.{arith, inl, inr}
 use Rattle.std.specs.Int.{w16, to_be_bytes}
 use Rattle.std.specs.List.{AllByRecursion}
 use Rattle.std.proofs.lemmas.Bool.{cases_lt, lt-ltb, le-ltb}
@@ -22,26 +23,32 @@ use Rattle.p2p_discovery.specs.IngressLaws.{lawful_ingress, ingress_short}
 use Rattle.p2p_discovery.specs.ListsLaws.{lawful_list}
 use Rattle.p2p_discovery.specs.Varint.{groups, varint32, varint64}
 use Rattle.p2p_discovery.specs.VarintLaws.{groups_lawful, groups_short}
-use Rattle.p2p_discovery.specs.Info.{IsInfo, IsKeyed, info_spelling, info_at, infos_spelling, AreAllowed, infos_at}
+use Rattle.p2p_discovery.specs.Info.{IsInfo, IsKeyed, info_spelling, info_at, infos_spelling}
+use Rattle.p2p_discovery.specs.Info.{AreAllowed, infos_at}
 
 -- ---- both facts of each
 
-each_first : {A : Type 0} (P Q : A → Type 0) (xs : List A) → AllByRecursion (λ x. P x × Q x) xs → AllByRecursion P xs
+each_first : {A : Type 0} (P Q : A → Type 0) (xs : List A) → AllByRecursion (λ x. P x × Q x) xs
+    → AllByRecursion P xs
 each_first P Q [] h = tt
 each_first P Q (x ∷ xs) h = (h.0.0, each_first P Q xs h.1)
 
-each_second : {A : Type 0} (P Q : A → Type 0) (xs : List A) → AllByRecursion (λ x. P x × Q x) xs → AllByRecursion Q xs
+each_second : {A : Type 0} (P Q : A → Type 0) (xs : List A) → AllByRecursion (λ x. P x × Q x) xs
+    → AllByRecursion Q xs
 each_second P Q [] h = tt
 each_second P Q (x ∷ xs) h = (h.0.1, each_second P Q xs h.1)
 
-each_both : {A : Type 0} (P Q : A → Type 0) (xs : List A) → AllByRecursion P xs → AllByRecursion Q xs → AllByRecursion (λ x. P x × Q x) xs
+each_both : {A : Type 0} (P Q : A → Type 0) (xs : List A) → AllByRecursion P xs
+    → AllByRecursion Q xs → AllByRecursion (λ x. P x × Q x) xs
 each_both P Q [] h k = tt
 each_both P Q (x ∷ xs) h k = ((h.0, k.0), each_both P Q xs h.1 k.1)
 
 -- ---- sizes
 
-pub length-info : {C S : Type 0} (key : C → List ℕ) (signature : S → List ℕ) (i : Info C S) → length (info_spelling key signature i)
-    ≡ length (ingress_spelling i.ingress) + (length (varint64 i.timestamp) + (length (key i.public_key) + length (signature i.signature)))
+pub length-info : {C S : Type 0} (key : C → List ℕ) (signature : S → List ℕ) (i : Info C S)
+    → length (info_spelling key signature i)
+    ≡ length (ingress_spelling i.ingress)
+    + (length (varint64 i.timestamp) + (length (key i.public_key) + length (signature i.signature)))
 length-info key signature i = simp length-append
 
 some_group : (most n : ℕ) → 1 ≤ length (groups (suc most) n)
@@ -57,30 +64,78 @@ some_ip (V4 b) h = omega (arith, h.0)
 some_ip (V6 b) h = omega (arith, h.0)
 
 some_ingress : (i : Ingress) → IsIngress i → 5 ≤ length (ingress_spelling i)
-some_ingress (Socket s) h = omega (arith, some_ip s.ip h.0, length-append (ip_spelling s.ip) (to_be_bytes w16 s.port))
+some_ingress (Socket s) h =
+    omega (arith, some_ip s.ip h.0, length-append (ip_spelling s.ip) (to_be_bytes w16 s.port))
 some_ingress (Dns host port) h =
-    omega (arith, some_group 4 (length host), h.0.some, length-append (varint32 (length host)) host, length-append (counted_spelling host) (to_be_bytes w16 port))
+    omega (
+      arith,
+      some_group 4 (length host),
+      h.0.some,
+      length-append (varint32 (length host)) host,
+      length-append (counted_spelling host) (to_be_bytes w16 port),
+    )
 
-module _ {C S : Type 0} {key_size signature_size : ℕ} {spell_key : C → List ℕ} {spell_signature : S → List ℕ} {key : List ℕ → Option C} {signature : List ℕ → Option S} {IsKey : C → Type 0} {IsSignature : S → Type 0}
-    (k : IsFixed key_size spell_key key IsKey) (s : IsFixed signature_size spell_signature signature IsSignature) where
-  pub info_short : (i : Info C S) → IsInfo i → length (info_spelling spell_key spell_signature i) ≤ 261 + 10 + key_size + signature_size
-  info_short i h = rw (length-info spell_key spell_signature i) (omega (arith, ingress_short i.ingress h.ingress, groups_short 10 i.timestamp, k.len i.public_key, s.len i.signature))
+module _ {C S : Type 0} {key_size signature_size : ℕ} {spell_key : C → List ℕ}
+    {spell_signature : S → List ℕ} {key : List ℕ → Option C} {signature : List ℕ → Option S}
+    {IsKey : C → Type 0} {IsSignature : S → Type 0}
+    (k : IsFixed key_size spell_key key IsKey)
+    (s : IsFixed signature_size spell_signature signature IsSignature) where
+  pub info_short : (i : Info C S) → IsInfo i
+      → length (info_spelling spell_key spell_signature i) ≤ 261 + 10 + key_size + signature_size
+  info_short i h =
+      rw (length-info spell_key spell_signature i)
+      (omega (
+        arith,
+        ingress_short i.ingress h.ingress,
+        groups_short 10 i.timestamp,
+        k.len i.public_key,
+        s.len i.signature,
+      ))
 
-  pub info_long : (i : Info C S) → IsInfo i → 6 + key_size + signature_size ≤ length (info_spelling spell_key spell_signature i)
-  info_long i h = rw (length-info spell_key spell_signature i) (omega (arith, some_ingress i.ingress h.ingress, some_group 9 i.timestamp, k.len i.public_key, s.len i.signature))
+  pub info_long : (i : Info C S) → IsInfo i
+      → 6 + key_size + signature_size ≤ length (info_spelling spell_key spell_signature i)
+  info_long i h =
+      rw (length-info spell_key spell_signature i)
+      (omega (
+        arith,
+        some_ingress i.ingress h.ingress,
+        some_group 9 i.timestamp,
+        k.len i.public_key,
+        s.len i.signature,
+      ))
 
   -- ---- reading
 
-  pub lawful_info : Lawful (info_at key_size key signature_size signature) (info_spelling spell_key spell_signature) (λ i. IsInfo i × IsKeyed IsKey IsSignature i)
+  pub lawful_info : Lawful (info_at key_size key signature_size signature)
+      (info_spelling spell_key spell_signature) (λ i. IsInfo i × IsKeyed IsKey IsSignature i)
   unfolding info_at
   lawful_info =
-      lawful_as (λ p. record { ingress = p.0; timestamp = p.1.0; public_key = p.1.1.0; signature = p.1.1.1 }) (λ i. (i.ingress, (i.timestamp, (i.public_key, i.signature)))) (info_spelling spell_key spell_signature) (λ i. IsInfo i × IsKeyed IsKey IsSignature i)
-      (λ p h. ((record { ingress = h.0; timestamp = h.1.0 }, record { key = h.1.1.0; signature = h.1.1.1 }), refl))
+      lawful_as
+      (λ p.
+      record { ingress = p.0; timestamp = p.1.0; public_key = p.1.1.0; signature = p.1.1.1 })
+      (λ i. (i.ingress, (i.timestamp, (i.public_key, i.signature))))
+      (info_spelling spell_key spell_signature) (λ i. IsInfo i × IsKeyed IsKey IsSignature i)
+      (λ p h. (
+        (
+          record { ingress = h.0; timestamp = h.1.0 },
+          record { key = h.1.1.0; signature = h.1.1.1 },
+        ),
+        refl,
+      ))
       (λ i h. (refl, (h.0.ingress, (h.0.timestamp, (h.1.key, h.1.signature))), refl))
-      (lawful_both lawful_ingress (lawful_both (groups_lawful 10 1 9 (lit< tt)) (lawful_both (lawful_fixed what.Key k) (lawful_fixed what.Signature s))))
+      (lawful_both lawful_ingress
+      (lawful_both (groups_lawful 10 1 9 (lit< tt))
+      (lawful_both (lawful_fixed what.Key k) (lawful_fixed what.Signature s))))
 
-  pub lawful_infos : (limit : RangeCfg) → Lawful (infos_at key_size key signature_size signature limit) (infos_spelling spell_key spell_signature) (λ is. AllByRecursion IsInfo is × AreAllowed IsKey IsSignature limit is)
+  pub lawful_infos : (limit : RangeCfg)
+      → Lawful (infos_at key_size key signature_size signature limit)
+      (infos_spelling spell_key spell_signature)
+      (λ is. AllByRecursion IsInfo is × AreAllowed IsKey IsSignature limit is)
   lawful_infos limit =
-      lawful_same (λ is h. (each_first _ _ is h.0, record { within = h.1.0; small = h.1.1; keyed = each_second _ _ is h.0 }))
+      lawful_same
+      (λ is h. (
+        each_first _ _ is h.0,
+        record { within = h.1.0; small = h.1.1; keyed = each_second _ _ is h.0 },
+      ))
       (λ is h. (each_both _ _ is h.0 h.1.keyed, (h.1.within, h.1.small)))
       (lawful_list limit (6 + key_size + signature_size) lawful_info)

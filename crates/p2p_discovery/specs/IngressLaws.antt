@@ -31,15 +31,21 @@ OnlyDns : Ingress → Type 0
 OnlyDns (Socket s) = ⊥
 OnlyDns (Dns host port) = IsHostname host × (port < 2 ^ 16)
 
-lawful_socket_form : Lawful (socket_at >>= λ s. reads (Socket s)) (λ i. socket_spelling (socket_of i)) OnlySocket
+lawful_socket_form : Lawful (socket_at >>= λ s. reads (Socket s))
+    (λ i. socket_spelling (socket_of i)) OnlySocket
 unfolding OnlySocket socket_of
-lawful_socket_form = lawful_as Socket socket_of (λ i. socket_spelling (socket_of i)) OnlySocket (λ s h. (h, refl))
+lawful_socket_form =
+    lawful_as Socket socket_of (λ i. socket_spelling (socket_of i)) OnlySocket (λ s h. (h, refl))
     (elim [ Socket s ↦ λ h. (refl, h, refl) | Dns host port ↦ λ h. absurd h ]) lawful_socket
 
-lawful_dns_form : Lawful ((hostname_at & port_at) >>= λ p. reads (Dns p.0 p.1)) (λ i. hostname_spelling (dns_of i).0 ++ to_be_bytes w16 (dns_of i).1) OnlyDns
+lawful_dns_form : Lawful ((hostname_at & port_at) >>= λ p. reads (Dns p.0 p.1))
+    (λ i. hostname_spelling (dns_of i).0 ++ to_be_bytes w16 (dns_of i).1) OnlyDns
 unfolding OnlyDns dns_of
-lawful_dns_form = lawful_as (λ p. Dns p.0 p.1) dns_of (λ i. hostname_spelling (dns_of i).0 ++ to_be_bytes w16 (dns_of i).1) OnlyDns (λ p h. (h, refl))
-    (elim [ Dns host port ↦ λ h. (refl, h, refl) | Socket s ↦ λ h. absurd h ]) (lawful_both lawful_hostname lawful_port)
+lawful_dns_form =
+    lawful_as (λ p. Dns p.0 p.1) dns_of
+    (λ i. hostname_spelling (dns_of i).0 ++ to_be_bytes w16 (dns_of i).1) OnlyDns (λ p h. (h, refl))
+    (elim [ Dns host port ↦ λ h. (refl, h, refl) | Socket s ↦ λ h. absurd h ])
+    (lawful_both lawful_hostname lawful_port)
 
 pub lawful_ingress : Lawful ingress_at ingress_spelling IsIngress
 unfolding ingress_at OnlySocket OnlyDns socket_of dns_of
@@ -51,4 +57,6 @@ lawful_ingress = lawful_choice 0 1 ingress_spelling IsIngress refl
 
 pub ingress_short : (i : Ingress) → IsIngress i → length (ingress_spelling i) ≤ 261
 ingress_short (Socket s) h = omega (arith, socket_short s h)
-ingress_short (Dns host port) h = omega (arith, hostname_short host h.0, length-append (hostname_spelling host) (to_be_bytes w16 port))
+ingress_short (Dns host port) h =
+    omega
+    (arith, hostname_short host h.0, length-append (hostname_spelling host) (to_be_bytes w16 port))

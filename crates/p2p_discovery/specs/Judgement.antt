@@ -1,21 +1,25 @@
--- Which infos are fine, and why an info or a list of infos is refused. Moments and bounds are nanoseconds.
-use Rattle.std.specs.Prelude.{ℕ, ◌+◌, ◌*◌, ◌^◌, min, Bool, not, if◌then◌else◌, List, [], ◌∷◌, ◌++◌, length, Option, Some, None, Result, Ok, Err, nat_lt}
+-- Which infos are fine, and why one or a list of them is refused. Moments and bounds: nanoseconds.
+use Rattle.std.specs.Prelude.{ℕ, ◌+◌, ◌*◌, ◌^◌, min, Bool, not, if◌then◌else◌, List, [], ◌∷◌, ◌++◌}
+use Rattle.std.specs.Prelude.{length, Option, Some, None, Result, Ok, Err, nat_lt}
 use Rattle.std.specs.Int.{w64, to_be_bytes}
 use Rattle.std.specs.Duration.{max_nanos}
 use Rattle.std.specs.Ordering.{is_eq}
 use Rattle.std.specs.declared.cmp.Ordering.{Ordering}
 use Rattle.p2p_discovery.specs.declared.discovery.Error.{Error}
-use Rattle.p2p_discovery.specs.declared.discovery.Error.TheVariants.{TooManyPeers, ReceivedSelf, InvalidSignature, SynchronyBound}
+use Rattle.p2p_discovery.specs.declared.discovery.Error.TheVariants.{TooManyPeers, ReceivedSelf}
+use Rattle.p2p_discovery.specs.declared.discovery.Error.TheVariants.{InvalidSignature}
+use Rattle.p2p_discovery.specs.declared.discovery.Error.TheVariants.{SynchronyBound}
 use Rattle.p2p_discovery.specs.declared.discovery.Info.{Info}
 use Rattle.p2p_discovery.specs.declared.types.ingress.Ingress.{Ingress}
 use Rattle.p2p_discovery.specs.Ingress.{ingress_spelling}
 
--- what a signature is over: the spelling of the ingress, then the timestamp in eight bytes, the most significant first
+-- what is signed: the ingress as it is spelled, the timestamp in eight bytes from the greatest on
 unfoldable pub signed_bytes : Ingress → ℕ → List ℕ
 signed_bytes ingress timestamp = ingress_spelling ingress ++ to_be_bytes w64 timestamp
 
 -- the signature is one of the info's key over the namespace and what is signed
-abbrev pub is_signed_in : {C S : Type 0} → (C → List ℕ → List ℕ → S → Bool) → List ℕ → Info C S → Bool
+abbrev pub is_signed_in : {C S : Type 0} → (C → List ℕ → List ℕ → S → Bool)
+    → List ℕ → Info C S → Bool
 is_signed_in verifies namespace i =
     verifies i.public_key namespace (signed_bytes i.ingress i.timestamp) i.signature
 
@@ -39,7 +43,8 @@ pub record Verifier (C : Type 0) : Type 0 where
   pub namespace : List ℕ
 
 -- the judge that a verifier is, by the order and the signatures of its keys
-abbrev pub judge_of : {C S : Type 0} → (C → C → Ordering) → (C → List ℕ → List ℕ → S → Bool) → Verifier C → Judge C S
+abbrev pub judge_of : {C S : Type 0} → (C → C → Ordering) → (C → List ℕ → List ℕ → S → Bool)
+    → Verifier C → Judge C S
 judge_of cmp verifies v = record {
   is_me = λ key. is_eq (cmp v.me key);
   greatest_count = v.greatest_count;
@@ -58,11 +63,11 @@ module _ {C S : Type 0} (j : Judge C S) where
   abbrev pub is_signed : Info C S → Bool
   is_signed i = is_signed_in j.verifies j.namespace i
 
-  -- the timestamp, which is in milliseconds, is later than the synchrony bound past now, a sum that is at most the greatest moment
+  -- the timestamp, milliseconds, is later than now and the bound, at most the greatest moment
   abbrev pub is_too_late : ℕ → Info C S → Bool
   is_too_late now i = nat_lt (min (now + j.synchrony_bound) max_nanos) (i.timestamp * 10 ^ 6)
 
-  -- why an info is refused at a moment, if it is: its own key, before the timestamp, before the signature
+  -- why an info is refused at a moment, if it is: the own key, the timestamp, the signature
   abbrev pub refusal : ℕ → Info C S → Option Error
   refusal now i =
       if j.is_me i.public_key then Some ReceivedSelf
@@ -75,9 +80,11 @@ module _ {C S : Type 0} (j : Judge C S) where
   first_refusal now [] = None
   first_refusal now (i ∷ is) = first_of (refusal now i) (first_refusal now is)
 
-  -- why a list of infos is refused at a moment, if it is: too many, before the first that is refused
+  -- why a list is refused at a moment, if it is: too many infos, before the first refused one
   abbrev pub list_refusal : ℕ → List (Info C S) → Option Error
-  list_refusal now is = if nat_lt j.greatest_count (length is) then Some (TooManyPeers (length is)) else first_refusal now is
+  list_refusal now is =
+      if nat_lt j.greatest_count (length is) then Some (TooManyPeers (length is))
+      else first_refusal now is
 
 -- what is answered to a refusal, and to none
 abbrev pub judged : Option Error → Result (Unit {0}) Error

@@ -27,13 +27,17 @@ key_is a b e = cc
 pub one_key : (x y : TestKey) → (x.0 == y.0) ≡ true → x ≡ y
 one_key x y e = ap key_from (eqb-true x.0 y.0 e)
 
-pub fixed_key : IsFixed 8 (λ (k : TestKey). to_be_bytes w64 k.0) (λ b. Some (record { 0 = from_be_bytes w64 b })) (λ k. k.0 < 2 ^ 64)
+pub fixed_key : IsFixed 8 (λ (k : TestKey). to_be_bytes w64 k.0)
+    (λ b. Some (record { 0 = from_be_bytes w64 b })) (λ k. k.0 < 2 ^ 64)
 fixed_key = record {
   small = fixed64.small;
   len = λ k. refl;
-  again = λ k h. let g = fixed64.again k.0 h in (g.0, ap (λ (n : ℕ). Some (key_from n)) (from_be_bytes-to_be_bytes_8 k.0 h));
+  again =
+      λ k h. let g = fixed64.again k.0 h in
+      (g.0, ap (λ (n : ℕ). Some (key_from n)) (from_be_bytes-to_be_bytes_8 k.0 h));
   only = λ b x h e.
-      let k : from_be_bytes w64 b ≡ x.0 = ap (λ (k : TestKey). k.0) (key_is (key_from (from_be_bytes w64 b)) x e) in
+      let k : from_be_bytes w64 b ≡ x.0 =
+      ap (λ (k : TestKey). k.0) (key_is (key_from (from_be_bytes w64 b)) x e) in
       fixed64.only b x.0 h (ap (λ (n : ℕ). Some n) k);
 }
 
@@ -46,12 +50,17 @@ signature_is a b e = cc
 pub one_signature : (x y : TestSignature) → (x.0 == y.0) ≡ true → x ≡ y
 one_signature x y e = ap signature_from (eqb-true x.0 y.0 e)
 
-pub fixed_signature : IsFixed 8 (λ (k : TestSignature). to_be_bytes w64 k.0) (λ b. Some (record { 0 = from_be_bytes w64 b })) (λ k. k.0 < 2 ^ 64)
+pub fixed_signature : IsFixed 8 (λ (k : TestSignature). to_be_bytes w64 k.0)
+    (λ b. Some (record { 0 = from_be_bytes w64 b })) (λ k. k.0 < 2 ^ 64)
 fixed_signature = record {
   small = fixed64.small;
   len = λ k. refl;
-  again = λ k h. let g = fixed64.again k.0 h in (g.0, ap (λ (n : ℕ). Some (signature_from n)) (from_be_bytes-to_be_bytes_8 k.0 h));
+  again =
+      λ k h. let g = fixed64.again k.0 h in
+      (g.0, ap (λ (n : ℕ). Some (signature_from n)) (from_be_bytes-to_be_bytes_8 k.0 h));
   only = λ b x h e.
-      let k : from_be_bytes w64 b ≡ x.0 = ap (λ (k : TestSignature). k.0) (signature_is (signature_from (from_be_bytes w64 b)) x e) in
+      let k : from_be_bytes w64 b ≡ x.0 =
+      ap (λ (k : TestSignature). k.0)
+      (signature_is (signature_from (from_be_bytes w64 b)) x e) in
       fixed64.only b x.0 h (ap (λ (n : ℕ). Some n) k);
 }

@@ -1,5 +1,6 @@
 -- Values one after the other, behind their number.
-use Rattle.std.specs.Prelude.{ℕ, zero, suc, Bool, ◌&&◌, ◌||◌, nat_lt, nat_le, List, [], ◌∷◌, ◌++◌, length}
+use Rattle.std.specs.Prelude.{ℕ, zero, suc, Bool, ◌&&◌, ◌||◌, nat_lt, nat_le, List, [], ◌∷◌, ◌++◌}
+use Rattle.std.specs.Prelude.{length}
 use Rattle.p2p_discovery.specs.declared.codec.error.RangeCfg.{RangeCfg}
 use Rattle.p2p_discovery.specs.Reading.{Reading, ◌>>=◌, reads}
 use Rattle.p2p_discovery.specs.Varint.{varint32}
@@ -25,8 +26,12 @@ has_room n least rest = nat_lt 0 n && nat_le least (length rest)
 
 -- so many values, for which room is asked first where there is some
 unfoldable pub items_at : {A : Type 0} → ℕ → (List ℕ → Reading A) → ℕ → List ℕ → Reading (List A)
-items_at least r n rest = record { outcome = (elems r n rest).outcome; grows = has_room n least rest || (elems r n rest).grows }
+items_at least r n rest = record {
+  outcome = (elems r n rest).outcome;
+  grows = has_room n least rest || (elems r n rest).grows;
+}
 
 -- a list within a limit, each of whose values has at least so many bytes
-unfoldable pub list_at : {A : Type 0} → RangeCfg → ℕ → (List ℕ → Reading A) → List ℕ → Reading (List A)
+unfoldable pub list_at : {A : Type 0} → RangeCfg → ℕ → (List ℕ → Reading A)
+    → List ℕ → Reading (List A)
 list_at limit least r = length_at limit >>= items_at least r

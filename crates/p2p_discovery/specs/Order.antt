@@ -28,10 +28,12 @@ abbrev pub ingress_cmp : Ingress → Ingress → Ordering
 ingress_cmp (Socket a) (Socket b) = socket_cmp a b
 ingress_cmp (Socket a) (Dns host port) = Less
 ingress_cmp (Dns host port) (Socket b) = Greater
-ingress_cmp (Dns host port) (Dns host2 port2) = ordering_then (bytes_cmp host host2) (nat_cmp port port2)
+ingress_cmp (Dns host port) (Dns host2 port2) =
+    ordering_then (bytes_cmp host host2) (nat_cmp port port2)
 
 abbrev pub address_cmp : Address → Address → Ordering
 address_cmp (Symmetric a) (Symmetric b) = socket_cmp a b
 address_cmp (Symmetric a) (Asymmetric ingress egress) = Less
 address_cmp (Asymmetric ingress egress) (Symmetric b) = Greater
-address_cmp (Asymmetric ingress egress) (Asymmetric ingress2 egress2) = ordering_then (ingress_cmp ingress ingress2) (socket_cmp egress egress2)
+address_cmp (Asymmetric ingress egress) (Asymmetric ingress2 egress2) =
+    ordering_then (ingress_cmp ingress ingress2) (socket_cmp egress egress2)

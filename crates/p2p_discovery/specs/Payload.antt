@@ -1,5 +1,6 @@
--- What peers tell each other: which payloads there are, how they are spelled, and what limits admit.
-use Rattle.std.specs.Prelude.{ℕ, ◌+◌, ◌*◌, ◌<◌, ◌^◌, max, List, ◌∷◌, length, Option, ◌==◌, if◌then◌else◌}
+-- What peers tell each other: which payloads there are, their spelling, and what limits admit.
+use Rattle.std.specs.Prelude.{ℕ, ◌+◌, ◌*◌, ◌<◌, ◌^◌, max, List, ◌∷◌, length, Option, ◌==◌}
+use Rattle.std.specs.Prelude.{if◌then◌else◌}
 use Rattle.std.specs.List.{AllByRecursion}
 use Rattle.p2p_discovery.specs.declared.codec.error.CodecError.TheVariants.{InvalidEnum}
 use Rattle.p2p_discovery.specs.declared.codec.error.RangeCfg.{RangeCfg}
@@ -9,7 +10,8 @@ use Rattle.p2p_discovery.specs.declared.discovery.PayloadConfig.{PayloadConfig}
 use Rattle.p2p_discovery.specs.Reading.{Reading, ◌>>=◌, reads, refuses, byte_at}
 use Rattle.p2p_discovery.specs.Varint.{varint64}
 use Rattle.p2p_discovery.specs.Data as messages
-use Rattle.p2p_discovery.specs.Info.{IsInfo, IsKeyed, info_spelling, info_at, infos_spelling, infos_at, AreAllowed}
+use Rattle.p2p_discovery.specs.Info.{IsInfo, IsKeyed, info_spelling, info_at, infos_spelling}
+use Rattle.p2p_discovery.specs.Info.{infos_at, AreAllowed}
 use Rattle.p2p_discovery.specs.Bits.{byte_count}
 use Rattle.p2p_discovery.specs.BitVec as bits
 
@@ -38,12 +40,15 @@ IsKeyedPayload IsKey IsSignature (said.Greeting i) = IsKeyed IsKey IsSignature i
 IsKeyedPayload IsKey IsSignature (said.BitVec v) = Unit {0}
 IsKeyedPayload IsKey IsSignature (said.Peers is) = AllByRecursion (IsKeyed IsKey IsSignature) is
 
--- the limits admit what is counted, and so does the wire; keys and signatures are values of their types
-abbrev pub IsAdmitted : {C S : Type 0} → (C → Type 0) → (S → Type 0) → PayloadConfig → Payload C S → Type 0
-IsAdmitted IsKey IsSignature limits (said.Data d) = messages.IsAllowed (up_to limits.max_data_length) d
+-- the limits and the wire admit what is counted; keys and signatures are values of their types
+abbrev pub IsAdmitted : {C S : Type 0} → (C → Type 0) → (S → Type 0)
+    → PayloadConfig → Payload C S → Type 0
+IsAdmitted IsKey IsSignature limits (said.Data d) =
+    messages.IsAllowed (up_to limits.max_data_length) d
 IsAdmitted IsKey IsSignature limits (said.Greeting i) = IsKeyed IsKey IsSignature i
 IsAdmitted IsKey IsSignature limits (said.BitVec v) = bits.IsAllowed limits.max_bit_vec v
-IsAdmitted IsKey IsSignature limits (said.Peers is) = AreAllowed IsKey IsSignature (up_to limits.max_peers) is
+IsAdmitted IsKey IsSignature limits (said.Peers is) =
+    AreAllowed IsKey IsSignature (up_to limits.max_peers) is
 
 -- ---- spelling
 
@@ -65,14 +70,20 @@ CanSpell (said.Greeting i) = Unit {0}
 CanSpell (said.BitVec v) = Unit {0}
 CanSpell (said.Peers is) = length is < 2 ^ 32
 
-module _ {C S : Type 0} (key_size : ℕ) (key : List ℕ → Option C) (signature_size : ℕ) (signature : List ℕ → Option S) (limits : PayloadConfig) where
+module _ {C S : Type 0} (key_size : ℕ) (key : List ℕ → Option C)
+    (signature_size : ℕ) (signature : List ℕ → Option S) (limits : PayloadConfig) where
   -- what is read behind each prefix; another one is refused
   unfoldable pub body_at : ℕ → List ℕ → Reading (Payload C S)
   body_at prefix rest =
-      if prefix == 0 then (messages.data_at (up_to limits.max_data_length) >>= λ d. reads (said.Data d)) rest
-      else if prefix == 1 then (info_at key_size key signature_size signature >>= λ i. reads (said.Greeting i)) rest
-      else if prefix == 2 then (bits.bit_vec_at limits.max_bit_vec >>= λ v. reads (said.BitVec v)) rest
-      else if prefix == 3 then (infos_at key_size key signature_size signature (up_to limits.max_peers) >>= λ is. reads (said.Peers is)) rest
+      if prefix == 0 then
+      (messages.data_at (up_to limits.max_data_length) >>= λ d. reads (said.Data d)) rest
+      else if prefix == 1 then
+      (info_at key_size key signature_size signature >>= λ i. reads (said.Greeting i)) rest
+      else if prefix == 2 then
+      (bits.bit_vec_at limits.max_bit_vec >>= λ v. reads (said.BitVec v)) rest
+      else if prefix == 3 then
+      (infos_at key_size key signature_size signature (up_to limits.max_peers)
+      >>= λ is. reads (said.Peers is)) rest
       else refuses (InvalidEnum prefix) rest
 
   unfoldable pub payload_at : List ℕ → Reading (Payload C S)
@@ -83,4 +94,5 @@ module _ {C S : Type 0} (key_size : ℕ) (key : List ℕ → Option C) (signatur
 -- the greatest size of a payload that isn't data, where an info has at most so many bytes
 abbrev pub gossip_size : ℕ → ℕ → ℕ → ℕ
 gossip_size info max_bit_vec max_peers =
-    1 + max info (max (10 + (length (varint64 max_bit_vec) + byte_count max_bit_vec)) (max_peers * info + 5))
+    1 + max info (max (10 + (length (varint64 max_bit_vec) + byte_count max_bit_vec))
+    (max_peers * info + 5))

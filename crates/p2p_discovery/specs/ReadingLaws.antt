@@ -1,8 +1,10 @@
 -- One field behind another, and what it is that was read.
-use Rattle.std.proofs.Common.{◌≡◌, ℕ, ◌<◌, Bool, true, false, cond, ◌||◌, List, [], ◌∷◌, ◌++◌, length, Result, Ok, Err, refl, sym, ap, arith, ◌⊎◌, inl, inr}
+use Rattle.std.proofs.Common.{◌≡◌, ℕ, ◌<◌, Bool, true, false, cond, ◌||◌, List, [], ◌∷◌, ◌++◌}
+use Rattle.std.proofs.Common.{length, Result, Ok, Err, refl, sym, ap, arith, ◌⊎◌, inl, inr}
 use Rattle.std.proofs.lemmas.List.{length-append}
 use Rattle.p2p_discovery.specs.declared.codec.error.CodecError.{CodecError}
-use Rattle.p2p_discovery.specs.Reading.{Reading, ◌>>=◌, reads, refuses, outcome_then, grows_then, Fails, Gives}
+use Rattle.p2p_discovery.specs.Reading.{Reading, ◌>>=◌, reads, refuses, outcome_then, grows_then}
+use Rattle.p2p_discovery.specs.Reading.{Fails, Gives}
 
 pub or_left : (a b : Bool) → a ≡ true → a || b ≡ true
 or_left a b e = rw e refl
@@ -12,14 +14,24 @@ or_right true b e = refl
 or_right false b e = e
 
 -- A fault of the first field is the fault.
-pub fails_first : {A B : Type 0} (e : CodecError) (r : List ℕ → Reading A) (f : A → List ℕ → Reading B) (bytes : List ℕ) → Fails e (r bytes) → Fails e ((r >>= f) bytes)
-fails_first e r f bytes h = (λ n. rw (h.0 n) refl, λ m. or_left (r bytes).grows (grows_then (r bytes).outcome f) (h.1 m))
+pub fails_first : {A B : Type 0} (e : CodecError) (r : List ℕ → Reading A)
+    (f : A → List ℕ → Reading B) (bytes : List ℕ) → Fails e (r bytes) → Fails e ((r >>= f) bytes)
+fails_first e r f bytes h =
+    (λ n. rw (h.0 n) refl, λ m. or_left (r bytes).grows (grows_then (r bytes).outcome f) (h.1 m))
 
 -- Behind the first field comes what follows it.
-pub fails_next : {A B : Type 0} (e : CodecError) (r : List ℕ → Reading A) (f : A → List ℕ → Reading B) (bytes : List ℕ) (x : A) (rest : List ℕ) → (r bytes).outcome ≡ Ok (x, rest) → Fails e (f x rest) → Fails e ((r >>= f) bytes)
-fails_next e r f bytes x rest o h = (λ n. rw o (h.0 n), λ m. or_right (r bytes).grows (grows_then (r bytes).outcome f) (rw o (h.1 m)))
+pub fails_next : {A B : Type 0} (e : CodecError) (r : List ℕ → Reading A)
+    (f : A → List ℕ → Reading B) (bytes : List ℕ) (x : A) (rest : List ℕ)
+    → (r bytes).outcome ≡ Ok (x, rest) → Fails e (f x rest) → Fails e ((r >>= f) bytes)
+fails_next e r f bytes x rest o h = (
+  λ n. rw o (h.0 n),
+  λ m. or_right (r bytes).grows (grows_then (r bytes).outcome f) (rw o (h.1 m)),
+)
 
-pub gives_next : {A B : Type 0} (result : Result B CodecError) (new : List ℕ) (r : List ℕ → Reading A) (f : A → List ℕ → Reading B) (bytes : List ℕ) (x : A) (rest : List ℕ) → (r bytes).outcome ≡ Ok (x, rest) → Gives result new (f x rest) → Gives result new ((r >>= f) bytes)
+pub gives_next : {A B : Type 0} (result : Result B CodecError) (new : List ℕ)
+    (r : List ℕ → Reading A) (f : A → List ℕ → Reading B) (bytes : List ℕ) (x : A) (rest : List ℕ)
+    → (r bytes).outcome ≡ Ok (x, rest) → Gives result new (f x rest)
+    → Gives result new ((r >>= f) bytes)
 gives_next (Ok y) new r f bytes x rest o h = rw o h
 gives_next (Err e) new r f bytes x rest o h = fails_next e r f bytes x rest o h
 
@@ -32,11 +44,15 @@ pub ok_is : {A : Type 0} (x y : A) → done x ≡ done y → x ≡ y
 ok_is x y e = cc
 
 -- what follows a first field that was read
-pub bind_ok : {A B : Type 0} (r : Result (A × List ℕ) CodecError) (f : A → List ℕ → Reading B) (y : B × List ℕ) → outcome_then r f ≡ Ok y → (x : A × List ℕ) × (r ≡ Ok x) × ((f x.0 x.1).outcome ≡ Ok y)
+pub bind_ok : {A B : Type 0} (r : Result (A × List ℕ) CodecError) (f : A → List ℕ → Reading B)
+    (y : B × List ℕ) → outcome_then r f ≡ Ok y
+    → (x : A × List ℕ) × (r ≡ Ok x) × ((f x.0 x.1).outcome ≡ Ok y)
 bind_ok (Ok x) f y e = (x, refl, e)
 bind_ok (Err d) f y e = absurd cc
 
-pub guard_ok : {A : Type 0} (t : Bool) (e : CodecError) (x : A) (rest : List ℕ) (y : A) (new : List ℕ) → (cond t (refuses e rest) (reads x rest)).outcome ≡ Ok (y, new) → (t ≡ false) × (x ≡ y) × (rest ≡ new)
+pub guard_ok : {A : Type 0} (t : Bool) (e : CodecError) (x : A) (rest : List ℕ) (y : A)
+    (new : List ℕ) → (cond t (refuses e rest) (reads x rest)).outcome ≡ Ok (y, new)
+    → (t ≡ false) × (x ≡ y) × (rest ≡ new)
 guard_ok true e x rest y new h = absurd cc
 guard_ok {A = A} false e x rest y new h =
     let p : ◌≡◌ {A = A × List ℕ} (x, rest) (y, new) = cc in
@@ -52,7 +68,9 @@ tail_is b c x y e = cc
 
 -- a front of two parts ends behind the first part, or within it
 abbrev pub Split : (xs ys front rest : List ℕ) → Type 0
-Split xs ys front rest = ((mid : List ℕ) × (front ≡ xs ++ mid) × (ys ≡ mid ++ rest)) ⊎ ((mid : List ℕ) × (xs ≡ front ++ mid) × (0 < length mid))
+Split xs ys front rest =
+    ((mid : List ℕ) × (front ≡ xs ++ mid) × (ys ≡ mid ++ rest))
+    ⊎ ((mid : List ℕ) × (xs ≡ front ++ mid) × (0 < length mid))
 
 pub split_at : (xs ys front rest : List ℕ) → xs ++ ys ≡ front ++ rest → Split xs ys front rest
 split_at [] ys front rest e = inl (front, refl, e)
@@ -65,5 +83,7 @@ split_at (x ∷ xs) ys (b ∷ front) rest e =
     ]
 
 -- what one byte alone spells has no other proper front than none
-pub one_byte_front : (b c : ℕ) (front rest : List ℕ) → b ∷ [] ≡ c ∷ (front ++ rest) → 0 < length rest → ⊥
-one_byte_front b c front rest e some = omega (arith, ap length (tail_is b c [] (front ++ rest) e), length-append front rest)
+pub one_byte_front : (b c : ℕ) (front rest : List ℕ) → b ∷ [] ≡ c ∷ (front ++ rest)
+    → 0 < length rest → ⊥
+one_byte_front b c front rest e some =
+    omega (arith, ap length (tail_is b c [] (front ++ rest) e), length-append front rest)

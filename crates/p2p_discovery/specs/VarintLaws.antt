@@ -1,13 +1,17 @@
 -- A number's groups are read again, and what is read are a number's groups.
-use Rattle.std.proofs.Common.{◌≡◌, ◌↔◌, ℕ, zero, suc, ◌+◌, ◌-◌, ◌*◌, ◌/◌, ◌%◌, ◌^◌, ◌≤◌, ◌<◌, Bool, true, false, cond, ◌&&◌, ◌||◌, List, [], ◌∷◌, ◌++◌, length, Result, Ok, Err, refl, sym, ap, subst, ◌∙◌, arith, eqb, ltb, inl, inr}
+use Rattle.std.proofs.Common.{◌≡◌, ◌↔◌, ℕ, zero, suc, ◌+◌, ◌-◌, ◌*◌, ◌/◌, ◌%◌, ◌^◌, ◌≤◌, ◌<◌, Bool}
+use Rattle.std.proofs.Common.{true, false, cond, ◌&&◌, ◌||◌, List, [], ◌∷◌, ◌++◌, length, Result}
+use Rattle.std.proofs.Common.{Ok, Err, refl, sym, ap, subst, ◌∙◌, arith, eqb, ltb, inl, inr}
 use Rattle.std.proofs.Math.Nat.{pow-suc, mul-le-mul_left}
 use Rattle.std.proofs.Math.Dec.{eqb-suc-zero}
 use Rattle.std.proofs.lemmas.Bool.{cases_lt, ltb-false, le-ltb, lt-ltb}
 use Rattle.p2p_discovery.specs.declared.codec.error.CodecError.{CodecError}
-use Rattle.p2p_discovery.specs.declared.codec.error.CodecError.TheVariants.{EndOfBuffer, InvalidVarint}
+use Rattle.p2p_discovery.specs.declared.codec.error.CodecError.TheVariants.{EndOfBuffer}
+use Rattle.p2p_discovery.specs.declared.codec.error.CodecError.TheVariants.{InvalidVarint}
 use Rattle.p2p_discovery.specs.Reading.{◌>>=◌, reads, byte_at, Fails, Gives, Lawful, IsBytes}
 use Rattle.p2p_discovery.specs.Varint.{SpellsFrom, groups, groups_at, last_group}
-use Rattle.p2p_discovery.specs.ReadingLaws.{fails_first, gives_next, guard_ok, done, ok_is, bind_ok, head_is, tail_is, one_byte_front}
+use Rattle.p2p_discovery.specs.ReadingLaws.{fails_first, gives_next, guard_ok, done, ok_is, bind_ok}
+use Rattle.p2p_discovery.specs.ReadingLaws.{head_is, tail_is, one_byte_front}
 
 pub groups_small : (most n : ℕ) → 0 < most → n < 128 → groups most n ≡ n ∷ []
 unfolding groups
@@ -35,37 +39,54 @@ groups_more (suc (suc most)) n p q = record {
   is = rw (le-ltb n 128 q) refl;
 }
 
-pub at_zero : (most top : ℕ) (started : Bool) (left : ℕ) (bytes : List ℕ) → left ≡ 0 → groups_at most top started left bytes ≡ (byte_at >>= last_group most top started) bytes
+pub at_zero : (most top : ℕ) (started : Bool) (left : ℕ) (bytes : List ℕ) → left ≡ 0
+    → groups_at most top started left bytes ≡ (byte_at >>= last_group most top started) bytes
 unfolding groups_at
 at_zero most top started zero bytes e = refl
 at_zero most top started (suc left) bytes e = absurd (omega (arith, e))
 
 pub at_more : (most top : ℕ) (started : Bool) (left less : ℕ) (bytes : List ℕ) → left ≡ suc less
-    → groups_at most top started left bytes ≡ (byte_at >>= λ b rest. cond (ltb b 128) (last_group most 127 started b rest) ((groups_at most top true less >>= λ high. reads (b - 128 + 128 * high)) rest)) bytes
+    → groups_at most top started left bytes
+    ≡ (byte_at
+    >>= λ b rest. cond (ltb b 128) (last_group most 127 started b rest)
+    ((groups_at most top true less >>= λ high. reads (b - 128 + 128 * high)) rest)) bytes
 unfolding groups_at
 at_more most top started left less bytes e = rw e refl
 
 -- ---- the steps of the reader
 
-pub first_fails : (e : CodecError) (most top : ℕ) (started : Bool) (left : ℕ) (bytes : List ℕ) → Fails e (byte_at bytes) → Fails e (groups_at most top started left bytes)
+pub first_fails : (e : CodecError) (most top : ℕ) (started : Bool) (left : ℕ) (bytes : List ℕ)
+    → Fails e (byte_at bytes) → Fails e (groups_at most top started left bytes)
 unfolding groups_at
 first_fails e most top started zero bytes h = fails_first e byte_at _ bytes h
 first_fails e most top started (suc left) bytes h = fails_first e byte_at _ bytes h
 
-pub last_gives : (most top : ℕ) (started : Bool) (left : ℕ) (bytes : List ℕ) (b : ℕ) (rest : List ℕ) (result : Result ℕ CodecError) → left ≡ 0 → (byte_at bytes).outcome ≡ Ok (b, rest)
-    → Gives result rest (last_group most top started b rest) → Gives result rest (groups_at most top started left bytes)
+pub last_gives : (most top : ℕ) (started : Bool) (left : ℕ) (bytes : List ℕ) (b : ℕ) (rest : List ℕ)
+    (result : Result ℕ CodecError) → left ≡ 0 → (byte_at bytes).outcome ≡ Ok (b, rest)
+    → Gives result rest (last_group most top started b rest)
+    → Gives result rest (groups_at most top started left bytes)
 last_gives most top started left bytes b rest result z o h =
-    rw (at_zero most top started left bytes z) (gives_next result rest byte_at (last_group most top started) bytes b rest o h)
+    rw (at_zero most top started left bytes z)
+    (gives_next result rest byte_at (last_group most top started) bytes b rest o h)
 
-pub low_gives : (most top : ℕ) (started : Bool) (left less : ℕ) (bytes : List ℕ) (b : ℕ) (rest : List ℕ) (result : Result ℕ CodecError) → left ≡ suc less → (byte_at bytes).outcome ≡ Ok (b, rest) → b < 128
-    → Gives result rest (last_group most 127 started b rest) → Gives result rest (groups_at most top started left bytes)
+pub low_gives : (most top : ℕ) (started : Bool) (left less : ℕ) (bytes : List ℕ) (b : ℕ)
+    (rest : List ℕ) (result : Result ℕ CodecError) → left ≡ suc less
+    → (byte_at bytes).outcome ≡ Ok (b, rest) → b < 128
+    → Gives result rest (last_group most 127 started b rest)
+    → Gives result rest (groups_at most top started left bytes)
 low_gives most top started left less bytes b rest result z o lt h =
-    rw (at_more most top started left less bytes z) (gives_next result rest byte_at _ bytes b rest o (rw (lt-ltb b 128 lt) h))
+    rw (at_more most top started left less bytes z)
+    (gives_next result rest byte_at _ bytes b rest o (rw (lt-ltb b 128 lt) h))
 
-pub high_gives : (most top : ℕ) (started : Bool) (left less : ℕ) (bytes : List ℕ) (b : ℕ) (rest new : List ℕ) (result : Result ℕ CodecError) → left ≡ suc less → (byte_at bytes).outcome ≡ Ok (b, rest) → 128 ≤ b
-    → Gives result new ((groups_at most top true less >>= λ high. reads (b - 128 + 128 * high)) rest) → Gives result new (groups_at most top started left bytes)
+pub high_gives : (most top : ℕ) (started : Bool) (left less : ℕ) (bytes : List ℕ) (b : ℕ)
+    (rest new : List ℕ) (result : Result ℕ CodecError) → left ≡ suc less
+    → (byte_at bytes).outcome ≡ Ok (b, rest) → 128 ≤ b
+    → Gives result new
+    ((groups_at most top true less >>= λ high. reads (b - 128 + 128 * high)) rest)
+    → Gives result new (groups_at most top started left bytes)
 high_gives most top started left less bytes b rest new result z o le h =
-    rw (at_more most top started left less bytes z) (gives_next result new byte_at _ bytes b rest o (rw (le-ltb b 128 le) h))
+    rw (at_more most top started left less bytes z)
+    (gives_next result new byte_at _ bytes b rest o (rw (le-ltb b 128 le) h))
 
 -- ---- how large a number is
 
@@ -76,16 +97,21 @@ some_power (suc k) = rw (pow-suc 128 k) (omega (arith, some_power k))
 bound_step : (b high p : ℕ) → b < 256 → high < p → b - 128 + 128 * high < p * 128
 bound_step b high p lt h = omega arith
 
-pub bound_more : (b high top left less : ℕ) → left ≡ suc less → b < 256 → high < (top + 1) * 128 ^ less → b - 128 + 128 * high < (top + 1) * 128 ^ left
+pub bound_more : (b high top left less : ℕ) → left ≡ suc less → b < 256
+    → high < (top + 1) * 128 ^ less → b - 128 + 128 * high < (top + 1) * 128 ^ left
 bound_more b high top left less e lt h = rw (e, pow-suc 128 less) (omega arith)
 
-pub bound_less : (top left less : ℕ) → left ≡ suc less → (top + 1) * 128 ^ left ≤ 2 ^ 64 → (top + 1) * 128 ^ less ≤ 2 ^ 57
+pub bound_less : (top left less : ℕ) → left ≡ suc less → (top + 1) * 128 ^ left ≤ 2 ^ 64
+    → (top + 1) * 128 ^ less ≤ 2 ^ 57
 bound_less top left less e h =
     let k : (top + 1) * (128 ^ less * 128) ≤ 2 ^ 64 = rw (e, pow-suc 128 less) at h in
     omega arith
 
 pub bound_low : (n top left less : ℕ) → left ≡ suc less → n ≤ 127 → n < (top + 1) * 128 ^ left
-bound_low n top left less e h = rw (e, pow-suc 128 less) (let p : 0 < 128 ^ less = some_power less in omega (arith, mul-le-mul_left (128 ^ less * 128) p))
+bound_low n top left less e h =
+    rw (e, pow-suc 128 less)
+    (let p : 0 < 128 ^ less = some_power less in
+    omega (arith, mul-le-mul_left (128 ^ less * 128) p))
 
 -- ---- what is read are the groups of the number, and they are read again
 
@@ -98,7 +124,9 @@ not_padded true zero e h = absurd cc
 not_padded true (suc b) e h = omega arith
 not_padded false b e h = absurd cc
 
-last_takes : (most top : ℕ) (started : Bool) (b : ℕ) (rest : List ℕ) (n : ℕ) (new : List ℕ) → (last_group most top started b rest).outcome ≡ Ok (n, new) → (b ≤ top) × (started ≡ true → 0 < b) × (b ≡ n) × (rest ≡ new)
+last_takes : (most top : ℕ) (started : Bool) (b : ℕ) (rest : List ℕ) (n : ℕ) (new : List ℕ)
+    → (last_group most top started b rest).outcome ≡ Ok (n, new)
+    → (b ≤ top) × (started ≡ true → 0 < b) × (b ≡ n) × (rest ≡ new)
 last_takes most top started b rest n new e =
     let g = guard_ok (ltb top b || (started && eqb b 0)) (InvalidVarint most) b rest n new e in
     let o = or_false (ltb top b) (started && eqb b 0) g.0 in
@@ -108,25 +136,32 @@ pos-eqb : (b : ℕ) → 0 < b → eqb b 0 ≡ false
 pos-eqb zero p = absurd (omega arith)
 pos-eqb (suc b) p = eqb-suc-zero b
 
-last_again : (most top : ℕ) (started : Bool) (b : ℕ) (rest : List ℕ) → b ≤ top → (started ≡ true → 0 < b) → (last_group most top started b rest).outcome ≡ Ok (b, rest)
-last_again most top true b rest le some = let p : 0 < b = some refl in rw (le-ltb top b le, pos-eqb b p) refl
+last_again : (most top : ℕ) (started : Bool) (b : ℕ) (rest : List ℕ) → b ≤ top
+    → (started ≡ true → 0 < b) → (last_group most top started b rest).outcome ≡ Ok (b, rest)
+last_again most top true b rest le some =
+    let p : 0 < b = some refl in rw (le-ltb top b le, pos-eqb b p) refl
 last_again most top false b rest le some = rw (le-ltb top b le) refl
 
 pairs : (a b : ℕ) (x y : List ℕ) → a ≡ b → x ≡ y → ◌≡◌ {A = ℕ × List ℕ} (a, x) (b, y)
 pairs a b x y e f = cc
 
-pub record Took (top left : ℕ) (started : Bool) (bytes : List ℕ) (n : ℕ) (rest : List ℕ) : Type 0 where
+pub record Took (top left : ℕ) (started : Bool) (bytes : List ℕ) (n : ℕ)
+    (rest : List ℕ) : Type 0 where
   pub small : n < (top + 1) * 128 ^ left
   pub some : started ≡ true → 0 < n
   pub parts : bytes ≡ groups (suc left) n ++ rest
 
 bound_split : (top left n : ℕ) → n < (top + 1) * 128 ^ suc left → n < ((top + 1) * 128 ^ left) * 128
-bound_split top left n h = let k : n < (top + 1) * (128 ^ left * 128) = rw (pow-suc 128 left) at h in omega arith
+bound_split top left n h =
+    let k : n < (top + 1) * (128 ^ left * 128) = rw (pow-suc 128 left) at h in omega arith
 
-value_is : (b high : ℕ) → 128 ≤ b → b < 256 → 0 < high → (128 ≤ b - 128 + 128 * high) × ((b - 128 + 128 * high) % 128 + 128 ≡ b) × ((b - 128 + 128 * high) / 128 ≡ high)
+value_is : (b high : ℕ) → 128 ≤ b → b < 256 → 0 < high
+    → (128 ≤ b - 128 + 128 * high) × ((b - 128 + 128 * high) % 128 + 128 ≡ b)
+    × ((b - 128 + 128 * high) / 128 ≡ high)
 value_is b high le lt some = (omega arith, omega arith, omega arith)
 
-groups_step : (left b high : ℕ) → 128 ≤ b → b < 256 → 0 < high → groups (suc (suc left)) (b - 128 + 128 * high) ≡ b ∷ groups (suc left) high
+groups_step : (left b high : ℕ) → 128 ≤ b → b < 256 → 0 < high
+    → groups (suc (suc left)) (b - 128 + 128 * high) ≡ b ∷ groups (suc left) high
 unfolding groups
 groups_step left b high le lt some =
     let v = value_is b high le lt some in
@@ -136,14 +171,19 @@ groups_step left b high le lt some =
 pub groups_two : (left n : ℕ) → 128 ≤ n → n < 256 → groups (suc (suc left)) n ≡ n ∷ 1 ∷ []
 groups_two left n le lt =
     let e : n ≡ n - 128 + 128 * 1 = omega arith in
-    ap (groups (suc (suc left))) e ∙ groups_step left n 1 le lt (omega arith) ∙ ap (λ (w : List ℕ). n ∷ w) (groups_small (suc left) 1 (omega arith) (omega arith))
+    ap (groups (suc (suc left))) e ∙ groups_step left n 1 le lt (omega arith)
+    ∙ ap (λ (w : List ℕ). n ∷ w) (groups_small (suc left) 1 (omega arith) (omega arith))
 
-pub groups_take : (most top : ℕ) (started : Bool) (left : ℕ) (bytes : List ℕ) (n : ℕ) (rest : List ℕ) → top < 128 → IsBytes bytes → (groups_at most top started left bytes).outcome ≡ Ok (n, rest) → Took top left started bytes n rest
+pub groups_take : (most top : ℕ) (started : Bool) (left : ℕ) (bytes : List ℕ) (n : ℕ)
+    (rest : List ℕ) → top < 128 → IsBytes bytes
+    → (groups_at most top started left bytes).outcome ≡ Ok (n, rest)
+    → Took top left started bytes n rest
 unfolding groups_at
 groups_take most top started zero [] n rest lt fits e = absurd cc
 groups_take most top started zero (b ∷ bytes) n rest lt fits e =
     let l = last_takes most top started b bytes n rest e in
-    subst (λ (p : ℕ × List ℕ). Took top 0 started (b ∷ bytes) p.0 p.1) (pairs b n bytes rest l.2 l.3) (record {
+    subst (λ (p : ℕ × List ℕ). Took top 0 started (b ∷ bytes) p.0 p.1)
+    (pairs b n bytes rest l.2 l.3) (record {
       small = omega (arith, l.0);
       some = l.1;
       parts = rw (groups_small 1 b (omega arith) (omega (arith, l.0))) refl;
@@ -153,70 +193,126 @@ groups_take most top started (suc left) (b ∷ bytes) n rest lt fits e =
     elim (cases_lt b 128) [
       | inl low ↦
           let l = last_takes most 127 started b bytes n rest (rw (lt-ltb b 128 low) at e) in
-          subst (λ (p : ℕ × List ℕ). Took top (suc left) started (b ∷ bytes) p.0 p.1) (pairs b n bytes rest l.2 l.3) (record {
+          subst (λ (p : ℕ × List ℕ). Took top (suc left) started (b ∷ bytes) p.0 p.1)
+          (pairs b n bytes rest l.2 l.3) (record {
             small = bound_low b top (suc left) left refl l.0;
             some = l.1;
             parts = rw (groups_small (suc (suc left)) b (omega arith) low) refl;
           })
       | inr high ↦
-          let a = bind_ok (groups_at most top true left bytes).outcome (λ h. reads (b - 128 + 128 * h)) (n, rest) (rw (le-ltb b 128 high) at e) in
+          let a =
+          bind_ok (groups_at most top true left bytes).outcome (λ h. reads (b - 128 + 128 * h))
+          (n, rest) (rw (le-ltb b 128 high) at e) in
           let t = groups_take most top true left bytes a.0.0 a.0.1 lt (λ i. fits (suc i)) a.1 in
           let byte : b < 256 = fits 0 in
-          let p : ◌≡◌ {A = ℕ × List ℕ} (b - 128 + 128 * a.0.0, a.0.1) (n, rest) = ok_is (b - 128 + 128 * a.0.0, a.0.1) (n, rest) a.2 in
+          let p : ◌≡◌ {A = ℕ × List ℕ} (b - 128 + 128 * a.0.0, a.0.1) (n, rest) =
+          ok_is (b - 128 + 128 * a.0.0, a.0.1) (n, rest) a.2 in
           subst (λ (p : ℕ × List ℕ). Took top (suc left) started (b ∷ bytes) p.0 p.1) p (record {
             small = bound_more b a.0.0 top (suc left) left refl byte t.small;
             some = λ _. omega (arith, t.some refl);
-            parts = rw (groups_step left b a.0.0 high byte (t.some refl)) (ap (λ (w : List ℕ). b ∷ w) t.parts);
+            parts =
+                rw (groups_step left b a.0.0 high byte (t.some refl))
+                (ap (λ (w : List ℕ). b ∷ w) t.parts);
           })
     ]
 
-step_low : (most top : ℕ) (started : Bool) (left b : ℕ) (rest : List ℕ) → b < 128 → groups_at most top started (suc left) (b ∷ rest) ≡ (byte_at >>= λ b rest. last_group most 127 started b rest) (b ∷ rest)
+step_low : (most top : ℕ) (started : Bool) (left b : ℕ) (rest : List ℕ) → b < 128
+    → groups_at most top started (suc left) (b ∷ rest)
+    ≡ (byte_at >>= λ b rest. last_group most 127 started b rest) (b ∷ rest)
 unfolding groups_at
 step_low most top started left b rest lt =
-    ap (λ (t : Bool). (byte_at >>= λ b rest. cond t (last_group most 127 started b rest) ((groups_at most top true left >>= λ high. reads (b - 128 + 128 * high)) rest)) (b ∷ rest)) (lt-ltb b 128 lt)
+    ap
+    (λ (t : Bool).
+    (byte_at
+    >>= λ b rest. cond t (last_group most 127 started b rest)
+    ((groups_at most top true left >>= λ high. reads (b - 128 + 128 * high)) rest))
+    (b ∷ rest)) (lt-ltb b 128 lt)
 
-step_high : (most top : ℕ) (started : Bool) (left b : ℕ) (rest : List ℕ) → 128 ≤ b → groups_at most top started (suc left) (b ∷ rest) ≡ (byte_at >>= λ b rest. (groups_at most top true left >>= λ high. reads (b - 128 + 128 * high)) rest) (b ∷ rest)
+step_high : (most top : ℕ) (started : Bool) (left b : ℕ) (rest : List ℕ) → 128 ≤ b
+    → groups_at most top started (suc left) (b ∷ rest)
+    ≡ (byte_at
+    >>= λ b rest. (groups_at most top true left >>= λ high. reads (b - 128 + 128 * high)) rest)
+    (b ∷ rest)
 unfolding groups_at
 step_high most top started left b rest le =
-    ap (λ (t : Bool). (byte_at >>= λ b rest. cond t (last_group most 127 started b rest) ((groups_at most top true left >>= λ high. reads (b - 128 + 128 * high)) rest)) (b ∷ rest)) (le-ltb b 128 le)
+    ap
+    (λ (t : Bool).
+    (byte_at
+    >>= λ b rest. cond t (last_group most 127 started b rest)
+    ((groups_at most top true left >>= λ high. reads (b - 128 + 128 * high)) rest))
+    (b ∷ rest)) (le-ltb b 128 le)
 
-pub groups_again : (most top : ℕ) (started : Bool) (left n : ℕ) (rest : List ℕ) → top < 128 → n < (top + 1) * 128 ^ left → (started ≡ true → 0 < n) → (groups_at most top started left (groups (suc left) n ++ rest)).outcome ≡ Ok (n, rest)
+pub groups_again : (most top : ℕ) (started : Bool) (left n : ℕ) (rest : List ℕ) → top < 128
+    → n < (top + 1) * 128 ^ left → (started ≡ true → 0 < n)
+    → (groups_at most top started left (groups (suc left) n ++ rest)).outcome ≡ Ok (n, rest)
 groups_again most top started zero n rest lt small some =
-    rw (groups_small 1 n (omega arith) (omega arith), at_zero most top started zero (n ∷ rest) refl) (last_again most top started n rest (omega arith) some)
+    rw (groups_small 1 n (omega arith) (omega arith), at_zero most top started zero (n ∷ rest) refl)
+    (last_again most top started n rest (omega arith) some)
 groups_again most top started (suc left) n rest lt small some =
     elim (cases_lt n 128) [
-      | inl low ↦ rw (groups_small (suc (suc left)) n (omega arith) low, step_low most top started left n rest low) (last_again most 127 started n rest (omega arith) some)
+      | inl low ↦
+          rw (
+            groups_small (suc (suc left)) n (omega arith) low,
+            step_low most top started left n rest low,
+          )
+          (last_again most 127 started n rest (omega arith) some)
       | inr high ↦
           let w = (n % 128 + 128) in
           let v : n % 128 + 128 - 128 + 128 * (n / 128) ≡ n = omega arith in
-          let g : groups (suc (suc left)) n ≡ w ∷ groups (suc left) (n / 128) = ap (groups (suc (suc left))) (sym v) ∙ groups_step left w (n / 128) (omega arith) (omega arith) (omega arith) in
-          let again = groups_again most top true left (n / 128) rest lt (div_fits n ((top + 1) * 128 ^ left) (bound_split top left n small)) (λ _. omega arith) in
-          rw (g, step_high most top started left w (groups (suc left) (n / 128) ++ rest) (omega arith), again) (ap (λ (k : ℕ). done (k, rest)) v)
+          let g : groups (suc (suc left)) n ≡ w ∷ groups (suc left) (n / 128) =
+          ap (groups (suc (suc left))) (sym v)
+          ∙ groups_step left w (n / 128) (omega arith) (omega arith) (omega arith) in
+          let again =
+          groups_again most top true left (n / 128) rest lt
+          (div_fits n ((top + 1) * 128 ^ left) (bound_split top left n small))
+          (λ _. omega arith) in
+          rw (
+            g,
+            step_high most top started left w (groups (suc left) (n / 128) ++ rest)
+                (omega arith),
+            again,
+          ) (ap (λ (k : ℕ). done (k, rest)) v)
     ]
 
 -- a proper front of the groups ends too early
-pub groups_cut : (most top : ℕ) (started : Bool) (left n : ℕ) (front rest : List ℕ) → top < 128 → n < (top + 1) * 128 ^ left → groups (suc left) n ≡ front ++ rest → 0 < length rest
+pub groups_cut : (most top : ℕ) (started : Bool) (left n : ℕ) (front rest : List ℕ) → top < 128
+    → n < (top + 1) * 128 ^ left → groups (suc left) n ≡ front ++ rest → 0 < length rest
     → (groups_at most top started left front).outcome ≡ Err EndOfBuffer
-groups_cut most top started zero n [] rest lt small e some = rw (at_zero most top started zero [] refl) refl
+groups_cut most top started zero n [] rest lt small e some =
+    rw (at_zero most top started zero [] refl) refl
 groups_cut most top started zero n (b ∷ front) rest lt small e some =
-    absurd (one_byte_front n b front rest (sym (groups_small 1 n (omega arith) (omega arith)) ∙ e) some)
-groups_cut most top started (suc left) n [] rest lt small e some = rw (at_more most top started (suc left) left [] refl) refl
+    absurd
+    (one_byte_front n b front rest (sym (groups_small 1 n (omega arith) (omega arith)) ∙ e)
+    some)
+groups_cut most top started (suc left) n [] rest lt small e some =
+    rw (at_more most top started (suc left) left [] refl) refl
 groups_cut most top started (suc left) n (b ∷ front) rest lt small e some =
     elim (cases_lt n 128) [
-      | inl low ↦ absurd (one_byte_front n b front rest (sym (groups_small (suc (suc left)) n (omega arith) low) ∙ e) some)
+      | inl low ↦
+          absurd
+          (one_byte_front n b front rest
+          (sym (groups_small (suc (suc left)) n (omega arith) low) ∙ e) some)
       | inr high ↦
           let w = (n % 128 + 128) in
           let v : n % 128 + 128 - 128 + 128 * (n / 128) ≡ n = omega arith in
-          let g : groups (suc (suc left)) n ≡ w ∷ groups (suc left) (n / 128) = ap (groups (suc (suc left))) (sym v) ∙ groups_step left w (n / 128) (omega arith) (omega arith) (omega arith) in
+          let g : groups (suc (suc left)) n ≡ w ∷ groups (suc left) (n / 128) =
+          ap (groups (suc (suc left))) (sym v)
+          ∙ groups_step left w (n / 128) (omega arith) (omega arith) (omega arith) in
           let h : w ≡ b = head_is w b (groups (suc left) (n / 128)) (front ++ rest) (sym g ∙ e) in
-          let t : groups (suc left) (n / 128) ≡ front ++ rest = tail_is w b (groups (suc left) (n / 128)) (front ++ rest) (sym g ∙ e) in
-          let k = groups_cut most top true left (n / 128) front rest lt (div_fits n ((top + 1) * 128 ^ left) (bound_split top left n small)) t some in
+          let t : groups (suc left) (n / 128) ≡ front ++ rest =
+          tail_is w b (groups (suc left) (n / 128)) (front ++ rest) (sym g ∙ e) in
+          let k =
+          groups_cut most top true left (n / 128) front rest lt
+          (div_fits n ((top + 1) * 128 ^ left) (bound_split top left n small)) t some in
           rw (step_high most top started left b front (omega (arith, h)), k) refl
     ]
 
-pub groups_lawful : (most top left : ℕ) → top < 128 → Lawful (groups_at most top false left) (groups (suc left)) (λ n. n < (top + 1) * 128 ^ left)
+pub groups_lawful : (most top left : ℕ) → top < 128
+    → Lawful (groups_at most top false left) (groups (suc left)) (λ n. n < (top + 1) * 128 ^ left)
 groups_lawful most top left lt = record {
-  takes = λ bytes n rest fits e. let t = groups_take most top false left bytes n rest lt fits e in (t.small, t.parts);
+  takes =
+      λ bytes n rest fits e. let t = groups_take most top false left bytes n rest lt fits e in
+      (t.small, t.parts);
   again = λ n rest small. groups_again most top false left n rest lt small (λ e. absurd cc);
   cut = λ n front rest small e some. groups_cut most top false left n front rest lt small e some;
 }
@@ -240,7 +336,9 @@ groups_less (suc most) n m h =
         | inl also ↦ rw (lt-ltb n 128 low, lt-ltb m 128 also) (omega arith)
         | inr high ↦ rw (lt-ltb n 128 low, le-ltb m 128 high) (omega arith)
       ]
-      | inr high ↦ rw (le-ltb n 128 high, le-ltb m 128 (omega arith)) (omega (arith, groups_less most (n / 128) (m / 128) (omega arith)))
+      | inr high ↦
+          rw (le-ltb n 128 high, le-ltb m 128 (omega arith))
+          (omega (arith, groups_less most (n / 128) (m / 128) (omega arith)))
     ]
 
 -- ---- the grammar
@@ -255,7 +353,8 @@ above_zero : (n : ℕ) → (n ≡ 0 → ⊥) → 0 < n
 above_zero zero h = absurd (h refl)
 above_zero (suc n) h = omega arith
 
-pub spelled_is : (more : Bool) (top left : ℕ) (bytes : List ℕ) (n : ℕ) → top < 128 → SpellsFrom more top left bytes n → Spelled more top left bytes n
+pub spelled_is : (more : Bool) (top left : ℕ) (bytes : List ℕ) (n : ℕ) → top < 128
+    → SpellsFrom more top left bytes n → Spelled more top left bytes n
 unfolding SpellsFrom
 spelled_is more top left [] n lt h = absurd h
 spelled_is more top zero (b ∷ []) n lt h = record {
@@ -275,34 +374,55 @@ spelled_is more top (suc left) (b ∷ c ∷ bytes) n lt h =
     record {
       small = rw h.2.1 (bound_more b high top (suc left) left refl h.1 s.small);
       some = λ m. omega (arith, h.2.1, s.some refl);
-      is = rw (h.2.1, groups_step left b high h.0 h.1 (s.some refl)) (ap (λ (w : List ℕ). b ∷ w) s.is);
+      is =
+          rw (h.2.1, groups_step left b high h.0 h.1 (s.some refl))
+          (ap (λ (w : List ℕ). b ∷ w) s.is);
     }
 
-spells_behind : (more : Bool) (top left b high : ℕ) (tail : List ℕ) (n : ℕ) → 128 ≤ b → b < 256 → n ≡ b - 128 + 128 * high → SpellsFrom true top left tail high → SpellsFrom more top (suc left) (b ∷ tail) n
+spells_behind : (more : Bool) (top left b high : ℕ) (tail : List ℕ) (n : ℕ) → 128 ≤ b → b < 256
+    → n ≡ b - 128 + 128 * high → SpellsFrom true top left tail high
+    → SpellsFrom more top (suc left) (b ∷ tail) n
 unfolding SpellsFrom
 spells_behind more top left b high [] n p q e h = absurd h
 spells_behind more top left b high (c ∷ bytes) n p q e h = (p, q, (high, e, h))
 
-spells_last : (more : Bool) (top left n : ℕ) → n < 128 → (left ≡ 0 → n ≤ top) → (more ≡ true → 0 < n) → SpellsFrom more top left (n ∷ []) n
+spells_last : (more : Bool) (top left n : ℕ) → n < 128 → (left ≡ 0 → n ≤ top)
+    → (more ≡ true → 0 < n) → SpellsFrom more top left (n ∷ []) n
 unfolding SpellsFrom
-spells_last more top left n p q some = (refl, p, q, λ m z. let k : 0 < n = some m in absurd (omega (arith, z)))
+spells_last more top left n p q some =
+    (refl, p, q, λ m z. let k : 0 < n = some m in absurd (omega (arith, z)))
 
-pub spells_again : (more : Bool) (top left n : ℕ) → top < 128 → n < (top + 1) * 128 ^ left → (more ≡ true → 0 < n) → SpellsFrom more top left (groups (suc left) n) n
-spells_again more top zero n lt small some = rw (groups_small 1 n (omega arith) (omega arith)) (spells_last more top zero n (omega arith) (λ _. omega arith) some)
+pub spells_again : (more : Bool) (top left n : ℕ) → top < 128 → n < (top + 1) * 128 ^ left
+    → (more ≡ true → 0 < n) → SpellsFrom more top left (groups (suc left) n) n
+spells_again more top zero n lt small some =
+    rw (groups_small 1 n (omega arith) (omega arith))
+    (spells_last more top zero n (omega arith) (λ _. omega arith) some)
 spells_again more top (suc left) n lt small some =
     elim (cases_lt n 128) [
-      | inl low ↦ rw (groups_small (suc (suc left)) n (omega arith) low) (spells_last more top (suc left) n low (λ z. absurd (omega (arith, z))) some)
+      | inl low ↦
+          rw (groups_small (suc (suc left)) n (omega arith) low)
+          (spells_last more top (suc left) n low (λ z. absurd (omega (arith, z))) some)
       | inr high ↦
           let w = (n % 128 + 128) in
           let v : n % 128 + 128 - 128 + 128 * (n / 128) ≡ n = omega arith in
-          let g : groups (suc (suc left)) n ≡ w ∷ groups (suc left) (n / 128) = ap (groups (suc (suc left))) (sym v) ∙ groups_step left w (n / 128) (omega arith) (omega arith) (omega arith) in
-          let again = spells_again true top left (n / 128) lt (div_fits n ((top + 1) * 128 ^ left) (bound_split top left n small)) (λ _. omega arith) in
-          rw g (spells_behind more top left w (n / 128) (groups (suc left) (n / 128)) n (omega arith) (omega arith) (sym v) again)
+          let g : groups (suc (suc left)) n ≡ w ∷ groups (suc left) (n / 128) =
+          ap (groups (suc (suc left))) (sym v)
+          ∙ groups_step left w (n / 128) (omega arith) (omega arith) (omega arith) in
+          let again =
+          spells_again true top left (n / 128) lt
+          (div_fits n ((top + 1) * 128 ^ left) (bound_split top left n small))
+          (λ _. omega arith) in
+          rw g
+          (spells_behind more top left w (n / 128) (groups (suc left) (n / 128)) n (omega arith)
+          (omega arith) (sym v) again)
     ]
 
 -- Bytes spell n by the grammar exactly where they are its groups.
-pub grammar_is : (top left : ℕ) (bytes : List ℕ) (n : ℕ) → top < 128 → SpellsFrom false top left bytes n ↔ ((n < (top + 1) * 128 ^ left) × (bytes ≡ groups (suc left) n))
+pub grammar_is : (top left : ℕ) (bytes : List ℕ) (n : ℕ) → top < 128
+    → SpellsFrom false top left bytes n
+    ↔ ((n < (top + 1) * 128 ^ left) × (bytes ≡ groups (suc left) n))
 grammar_is top left bytes n lt = (
   λ h. let s = spelled_is false top left bytes n lt h in (s.small, s.is),
-  λ h. subst (λ (w : List ℕ). SpellsFrom false top left w n) (sym h.1) (spells_again false top left n lt h.0 (λ e. absurd cc)),
+  λ h. subst (λ (w : List ℕ). SpellsFrom false top left w n) (sym h.1)
+      (spells_again false top left n lt h.0 (λ e. absurd cc)),
 )

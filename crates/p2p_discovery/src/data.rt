@@ -2,7 +2,8 @@
 //!
 //! docs/FORMATS.md says how they are spelled.
 
-ghost use Rattle.std.specs.Prelude.{◌≡◌, ℕ, ◌+◌, ◌-◌, ◌<◌, ◌≤◌, ◌^◌, ◌++◌, ◌∷◌, List, length, sum_by, IfOk, IfErr};
+ghost use Rattle.std.specs.Prelude.{◌≡◌, ℕ, ◌+◌, ◌-◌, ◌<◌, ◌≤◌, ◌^◌, ◌++◌, ◌∷◌, List, length};
+ghost use Rattle.std.specs.Prelude.{IfOk, IfErr};
 ghost use Rattle.std.specs.List.{concat};
 ghost use Rattle.p2p_discovery.specs.Data.{data_spelling, IsAllowed, data_at, header, data_payload};
 ghost use Rattle.p2p_discovery.specs.DataLaws.{lawful_data};
@@ -114,12 +115,19 @@ impl EncodedData {
     /// Puts one header buffer before the buffers of the message, which stay as they are. Joined,
     /// the frame is the payload of data. The bytes in the buffers are neither read nor copied.
     ///
-    /// Where memory is refused, the buffers that were handed in come back.
-    ///
     /// # Conditions
     ///
     /// The length of the whole message fits `u32`.
-    #[tactic(auto, using(crate::specs::DataLaws::joined_len, crate::specs::DataLaws::frame_is, crate::specs::DataLaws::frame_short))]
+    ///
+    /// # Errors
+    ///
+    /// The buffers that were handed in, where memory is refused.
+    ///
+    /// # Cost
+    ///
+    /// A look at the length of each buffer, one small buffer for the header, and room for one more
+    /// place in the list.
+    #[tactic(auto, using(crate::specs::DataLaws::frame_is, crate::specs::DataLaws::frame_short))]
     pub fn new(
         alloc: Global,
         channel: u64,
@@ -127,9 +135,12 @@ impl EncodedData {
     ) -> Result<EncodedData, VecDeque<Bytes>>
         requires { length (concat message.items) < 2 ^ 32 }
         ensures channel { IfOk result (λ e. e.channel ≡ channel) }
-        ensures buffers { IfOk result (λ e. e.payload.items ≡ header channel (length (concat message.items)) ∷ message.items) }
-        ensures frame { IfOk result (λ e. concat e.payload.items ≡ data_payload (record { channel = channel; message = concat message.items })) }
-        ensures short { IfOk result (λ e. length (concat e.payload.items) ≤ length (concat message.items) + 16) }
+        ensures buffers { IfOk result (λ e. e.payload.items
+            ≡ header channel (length (concat message.items)) ∷ message.items) }
+        ensures frame { IfOk result (λ e. concat e.payload.items
+            ≡ data_payload (record { channel = channel; message = concat message.items })) }
+        ensures short { IfOk result (λ e.
+            length (concat e.payload.items) ≤ length (concat message.items) + 16) }
         ensures refused { IfErr result (λ back. back.items ≡ message.items) }
     {
         let total = total_len(&message);
@@ -147,9 +158,10 @@ impl EncodedData {
 }
 
 // The number of bytes in all of the buffers.
+#[tactic(auto, using(crate::specs::DataLaws::joined_len))]
 fn total_len(buffers: &VecDeque<Bytes>) -> u32
-    requires { sum_by length buffers.now.items < 2 ^ 32 }
-    ensures { result ≡ sum_by length buffers.now.items }
+    requires { length (concat buffers.now.items) < 2 ^ 32 }
+    ensures { result ≡ length (concat buffers.now.items) }
 {
     let total: usize = buffers.iter().map(|buffer| buffer.len()).sum();
     total as u32

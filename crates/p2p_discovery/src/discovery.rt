@@ -40,7 +40,7 @@ impl<C: PublicKey> Info<C> {
     ///
     /// # Errors
     ///
-    /// `AllocError` where memory is refused.
+    /// `AllocError` where memory for a name is refused.
     pub fn clone(&self) -> Result<Info<C>, AllocError>
         ensures equal { IfOk result (λ copy. copy ≡ self.now) }
         ensures socket { takes_none self.now.ingress ≡ true → IsOk result }

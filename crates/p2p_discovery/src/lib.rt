@@ -5,8 +5,6 @@ pub mod codec;
 pub mod data;
 pub mod discovery;
 #[cfg(test)]
-mod low_memory;
-#[cfg(test)]
 mod out_of_memory;
 pub mod sets;
 pub mod sizing;

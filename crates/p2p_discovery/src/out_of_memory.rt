@@ -4,17 +4,13 @@ use crate::codec::{CodecError, RangeCfg, Read, TestKey, Write};
 use crate::data::tests::buffers;
 use crate::data::{Data, EncodedData};
 use crate::discovery::{Info, Infos, Payload, PayloadConfig};
-use crate::low_memory::LowMemory;
 use crate::types::{Address, Hostname, Ingress, IpAddr, SocketAddr};
 use bytes::Bytes;
+use low_memory::{LowMemory, STEP};
 use std::alloc::Global;
 use std::process::Abort;
 use std::test::Fail;
 use std::time::Duration;
-
-/// By how much budgets grow. Blocks of the C library are multiples of it, so each growth is refused
-/// at some budget.
-pub(crate) const STEP: usize = 16;
 
 pub(crate) const STEPS: usize = 256;
 

@@ -1,6 +1,7 @@
 //! Sorted sets of peers.
 
-ghost use Rattle.std.specs.Prelude.{◌≡◌, ℕ, ◌<◌, ◌↔◌, [], length, IfOk, IsOk, IsTrue, IfSome, IfNone, slice_get, Some};
+ghost use Rattle.std.specs.Prelude.{◌≡◌, ℕ, ◌<◌, ◌↔◌, [], length, IfOk, IsOk, IsTrue, IfSome};
+ghost use Rattle.std.specs.Prelude.{IfNone, slice_get, Some};
 ghost use Rattle.std.specs.List.{Contains, IsDistinct};
 ghost use Rattle.std.specs.List.Sorted.{IsStrictlySortedBy, IsPermutation};
 ghost use Rattle.std.specs.Ordering.{eq_by_cmp};
@@ -57,6 +58,10 @@ impl<P: PublicKey> OrderedSet<P> {
     /// # Errors
     ///
     /// `AllocError` where memory is refused.
+    ///
+    /// # Cost
+    ///
+    /// One sort of the items.
     pub fn from_iter_dedup<I: Iterator<Item = P> + Drop>(
         alloc: Global,
         items: I,
@@ -64,7 +69,8 @@ impl<P: PublicKey> OrderedSet<P> {
         requires can { I.can_next items }
         requires finite { IsFinite (I.remaining items) }
         ensures sorted { IfOk result (λ set. IsStrictlySortedBy P.cmp set) }
-        ensures same { IfOk result (λ set. WholeRun I.next_gives items (λ run. (q : P) → Contains set q ↔ Contains run.items q)) }
+        ensures same { IfOk result (λ set. WholeRun I.next_gives items
+            (λ run. (q : P) → Contains set q ↔ Contains run.items q)) }
     {
         let mut items: Vec<P> = items.collect(alloc)?;
         items.sort_unstable();
@@ -77,6 +83,10 @@ impl<P: PublicKey> OrderedSet<P> {
     /// # Errors
     ///
     /// `SetError::Duplicate` exactly where an item comes more than once.
+    ///
+    /// # Cost
+    ///
+    /// One sort of the items, and one pass over them.
     pub fn try_from(mut items: Vec<P>) -> Result<Self, SetError>
         ensures ok { IsOk result ↔ IsDistinct (eq_by_cmp P.cmp) items.items }
         ensures same { IfOk result (IsPermutation items.items) }
@@ -105,8 +115,12 @@ impl<P: PublicKey> OrderedSet<P> {
         self.items.is_empty()
     }
 
-    /// The place of the peer, counted from 0, or `None` where it is not in the set. Takes time
-    /// logarithmic in the number of peers.
+    /// The place of the peer, counted from 0, or `None` where it is not in the set. It takes no
+    /// memory.
+    ///
+    /// # Cost
+    ///
+    /// Time logarithmic in the number of peers.
     pub fn position(&self, key: &P) -> Option<usize>
         ensures found { IfSome result (IsPlaceOf key.now self.now) }
         ensures sorted { IsStrictlySortedBy P.cmp self.now }
@@ -134,11 +148,15 @@ impl<P: PublicKey> OrderedSet<P> {
         &self.items
     }
 
-    /// An equal set.
+    /// An equal set. It takes no memory where the set is empty.
     ///
     /// # Errors
     ///
     /// `AllocError` where memory is refused.
+    ///
+    /// # Cost
+    ///
+    /// Each key is copied once.
     pub fn clone(&self) -> Result<Self, AllocError>
         ensures equal { IfOk result (λ copy. copy ≡ self.now) }
         ensures empty { self.now ≡ [] → IsOk result }
@@ -166,7 +184,8 @@ impl<'a, P: PublicKey> IntoIterator for &'a OrderedSet<P> {
 
     type IntoIter = slice::Iter<'a, P>;
 
-    ghost into_iter_gives = { λ set it. (iter_rest it ≡ set.now) × IsStrictlySortedBy P.cmp set.now };
+    ghost into_iter_gives = { λ set it. (iter_rest it ≡ set.now)
+        × IsStrictlySortedBy P.cmp set.now };
 
     fn into_iter(self) -> slice::Iter<'a, P> {
         self.iter()

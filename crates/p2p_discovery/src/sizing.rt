@@ -18,6 +18,10 @@ use std::num::NonZeroUsize;
 /// # Conditions
 ///
 /// The sizes fit `u32`.
+///
+/// # Cost
+///
+/// One pass over the sizes.
 pub fn max_message_size(payloads: &[usize]) -> u32
     requires { All (λ n. n < 2 ^ 32) payloads.now }
     ensures bound { All (λ n. n ≤ result) payloads.now }
@@ -33,10 +37,16 @@ pub fn max_message_size(payloads: &[usize]) -> u32
 /// # Conditions
 ///
 /// The result fits `usize`.
+///
+/// # Cost
+///
+/// One pass over the participants.
 pub fn peer_set_limit<P: PublicKey>(participants: &[P], local: &P) -> NonZeroUsize
     requires { ¬ (Contains participants.now local.now) → length participants.now + 1 < 2 ^ 64 }
-    ensures among { Contains participants.now local.now → non_zero_usize_get result ≡ length participants.now }
-    ensures apart { ¬ (Contains participants.now local.now) → non_zero_usize_get result ≡ length participants.now + 1 }
+    ensures among { Contains participants.now local.now
+        → non_zero_usize_get result ≡ length participants.now }
+    ensures apart { ¬ (Contains participants.now local.now)
+        → non_zero_usize_get result ≡ length participants.now + 1 }
 {
     let others = participants.len();
     match NonZeroUsize::new(others) {
@@ -55,8 +65,10 @@ pub fn max_retained_peers(
     tracked_peer_sets: NonZeroUsize,
     persistent_peers: usize,
 ) -> NonZeroUsize
-    requires { non_zero_usize_get max_peers_per_set * non_zero_usize_get tracked_peer_sets + persistent_peers < 2 ^ 64 }
-    ensures { non_zero_usize_get result ≡ non_zero_usize_get max_peers_per_set * non_zero_usize_get tracked_peer_sets + persistent_peers }
+    requires { non_zero_usize_get max_peers_per_set * non_zero_usize_get tracked_peer_sets
+        + persistent_peers < 2 ^ 64 }
+    ensures { non_zero_usize_get result ≡ non_zero_usize_get max_peers_per_set
+        * non_zero_usize_get tracked_peer_sets + persistent_peers }
 {
     max_peers_per_set
         .saturating_mul(tracked_peer_sets)
@@ -68,10 +80,16 @@ pub fn max_retained_peers(
 /// # Conditions
 ///
 /// Both lists are sorted without repeats, and the result fits `usize`.
+///
+/// # Cost
+///
+/// One pass over both lists at once, and one over each for the extension.
 pub fn peer_set_size<P: PublicKey>(primary: &[P], secondary: &[P], extension: Option<&P>) -> usize
     requires primary { IsStrictlySortedBy P.cmp primary.now }
     requires secondary { IsStrictlySortedBy P.cmp secondary.now }
-    requires fits { (all : List P) → IsUnion P.cmp primary.now secondary.now (option_copied extension) all → length all < 2 ^ 64 }
+    requires fits { (all : List P)
+        → IsUnion P.cmp primary.now secondary.now (option_copied extension) all
+        → length all < 2 ^ 64 }
     ensures { IsUnionSize P.cmp primary.now secondary.now (option_copied extension.entry) result }
 {
     let size = union_size(primary, secondary);
@@ -85,7 +103,8 @@ pub fn peer_set_size<P: PublicKey>(primary: &[P], secondary: &[P], extension: Op
 fn union_size<P: PublicKey>(primary: &[P], secondary: &[P]) -> usize
     requires primary { IsStrictlySortedBy P.cmp primary.now }
     requires secondary { IsStrictlySortedBy P.cmp secondary.now }
-    requires fits { (all : List P) → IsUnion P.cmp primary.now secondary.now None all → length all < 2 ^ 64 }
+    requires fits { (all : List P) → IsUnion P.cmp primary.now secondary.now None all
+        → length all < 2 ^ 64 }
     ensures { IsUnionSize P.cmp primary.now secondary.now None result }
 {
     let (mut i, mut j, mut both) = (0, 0, 0);

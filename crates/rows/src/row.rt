@@ -49,7 +49,8 @@ fn print<W: Write>(out: &mut W, line: &impl Display) -> Result<(), Stop> {
 /// Says that memory ran out, and answers the exit status: 3, or 1 where that could not be written.
 pub fn out_of_memory<W: Write>(out: &mut W) -> u8
     ensures status { ¬ (result ≡ 3) → result ≡ 1 }
-    ensures printed { result ≡ 3 → Appends (W.contents out.old) (W.contents out.new) (codes "out of memory\n") }
+    ensures printed { result ≡ 3
+        → Appends (W.contents out.old) (W.contents out.new) (codes "out of memory\n") }
 {
     match writeln!(out, "out of memory") {
         Ok(()) => 3,
@@ -61,7 +62,8 @@ pub fn out_of_memory<W: Write>(out: &mut W) -> u8
 /// written.
 pub fn no_such_row<W: Write>(out: &mut W) -> u8
     ensures status { ¬ (result ≡ 2) → result ≡ 1 }
-    ensures printed { result ≡ 2 → Appends (W.contents out.old) (W.contents out.new) (codes "no such row\n") }
+    ensures printed { result ≡ 2
+        → Appends (W.contents out.old) (W.contents out.new) (codes "no such row\n") }
 {
     match writeln!(out, "no such row") {
         Ok(()) => 2,
@@ -79,7 +81,8 @@ pub fn run_rows<W: Write>(alloc: Global, words: &[String], out: &mut W) -> u8
     ensures range { result ≤ 3 }
     ensures row { IsRow (map string_bytes words.now) → ¬ (result ≡ 2) }
     ensures other { ¬ (IsRow (map string_bytes words.now)) → ¬ (result ≡ 2) → result ≡ 1 }
-    ensures refused { result ≡ 2 → Appends (W.contents out.old) (W.contents out.new) (codes "no such row\n") }
+    ensures refused { result ≡ 2
+        → Appends (W.contents out.old) (W.contents out.new) (codes "no such row\n") }
 {
     let [word] = words else {
         return no_such_row(out);

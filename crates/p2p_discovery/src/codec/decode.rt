@@ -21,14 +21,29 @@ pub trait Read: EncodeSize + Drop + Sized {
     // What reading gives: the value and the bytes behind it, or the first fault.
     ghost reading: { Self.Cfg → List ℕ → Reading Self };
 
-    /// Reads the value at the reader's place, which is then behind it. At an `Err` the reader's
-    /// place is left open.
+    /// Reads the value at the reader's place, which is then behind it.
+    ///
+    /// # Errors
+    ///
+    /// The first fault from left to right, or `Memory` where memory was asked for and refused. The
+    /// reader's place is left open.
+    ///
+    /// # Cost
+    ///
+    /// One pass over the bytes of the value.
     fn read(alloc: Global, reader: &mut Reader<'_>, cfg: &Self::Cfg) -> Result<Self, CodecError>
         ensures { Gives result reader.new (reading cfg.now reader.old) };
 
     /// Reads the value that the buffer begins with, and leaves exactly the rest. It succeeds
-    /// where a front of the buffer spells a value that the limits admit, and only there. At an
-    /// `Err` the buffer is as it was.
+    /// where a front of the buffer spells a value that the limits admit, and only there.
+    ///
+    /// # Errors
+    ///
+    /// Those of [`Read::read`]. The buffer is as it was.
+    ///
+    /// # Cost
+    ///
+    /// That of [`Read::read`].
     final fn read_cfg(alloc: Global, buf: &mut Bytes, cfg: &Self::Cfg) -> Result<Self, CodecError>
         ensures found { IfOk result (λ v. Self.IsValue v × Admits cfg.now v
             × (buf.old ≡ Self.spelling v ++ buf.new)) }
@@ -46,8 +61,15 @@ pub trait Read: EncodeSize + Drop + Sized {
     }
 
     /// Reads the value that all of the bytes spell. It succeeds where they are the spelling of a
-    /// value that the limits admit, and only there. A rest of n bytes is `ExtraData(n)`, once
-    /// the value was read.
+    /// value that the limits admit, and only there.
+    ///
+    /// # Errors
+    ///
+    /// Those of [`Read::read`]; once the value was read, `ExtraData(n)` of a rest of n bytes.
+    ///
+    /// # Cost
+    ///
+    /// That of [`Read::read`].
     final fn decode_cfg(alloc: Global, buf: Bytes, cfg: &Self::Cfg) -> Result<Self, CodecError>
         ensures found { IfOk result (λ v. Self.IsValue v × Admits cfg.now v
             × (buf ≡ Self.spelling v)) }
@@ -65,6 +87,14 @@ pub trait Read: EncodeSize + Drop + Sized {
     }
 
     /// [`Read::decode_cfg`] of a type without limits.
+    ///
+    /// # Errors
+    ///
+    /// Those of [`Read::decode_cfg`].
+    ///
+    /// # Cost
+    ///
+    /// That of [`Read::read`].
     final fn decode(alloc: Global, buf: Bytes) -> Result<Self, CodecError>
     where
         Self: Read<Cfg = ()>,
@@ -78,5 +108,6 @@ pub trait Read: EncodeSize + Drop + Sized {
     }
 
     // Law: exactly the spellings of admitted values are read.
-    ghost lawful: { (cfg : Self.Cfg) → Lawful (reading cfg) Self.spelling (λ v. Self.IsValue v × Admits cfg v) };
+    ghost lawful: { (cfg : Self.Cfg)
+        → Lawful (reading cfg) Self.spelling (λ v. Self.IsValue v × Admits cfg v) };
 }

@@ -21,6 +21,14 @@ pub trait EncodeSize {
     ghost spelling: { Self → List ℕ };
 
     /// The number of bytes of the spelling.
+    ///
+    /// # Conditions
+    ///
+    /// Those of [`EncodeSize`].
+    ///
+    /// # Cost
+    ///
+    /// Time linear in the number of parts; a message isn't looked at.
     fn encode_size(&self) -> usize
         requires { CanSpell self.now }
         ensures size { result ≡ length (spelling self.now) }
@@ -48,7 +56,11 @@ pub trait Write: EncodeSize {
     ///
     /// # Conditions
     ///
-    /// Spare room for [`EncodeSize::encode_size`] bytes.
+    /// Those of [`EncodeSize`], and spare room for [`EncodeSize::encode_size`] bytes.
+    ///
+    /// # Cost
+    ///
+    /// One pass over the spelling.
     fn write(&self, buf: &mut BytesMut)
         requires can { Self.CanSpell self.now }
         requires room { length (Self.spelling self.now) ≤ buf.old.spare }
@@ -56,7 +68,20 @@ pub trait Write: EncodeSize {
         ensures spare { buf.new.spare + length (Self.spelling self.now) ≡ buf.old.spare }
         ensures holds { HoldsValues self.now };
 
-    /// The spelling in a buffer of its own, or want of memory.
+    /// The spelling in a buffer of its own.
+    ///
+    /// # Conditions
+    ///
+    /// Those of [`EncodeSize`].
+    ///
+    /// # Errors
+    ///
+    /// `AllocError` where memory is refused.
+    ///
+    /// # Cost
+    ///
+    /// One pass for the size, and one over the spelling. Room is taken once, for just as many
+    /// bytes.
     final fn encode(&self, alloc: Global) -> Result<Bytes, AllocError>
         requires { Self.CanSpell self.now }
         ensures spelled { IfOk result (λ b. b ≡ Self.spelling self.now) }

@@ -1,8 +1,10 @@
 //! Laws of spellings, for users: each function's contract is one, and it has nothing else to do.
 
-ghost use Rattle.std.specs.Prelude.{◌≡◌, ◌≢◌, ℕ, ◌≤◌, ◌<◌, ◌^◌, ◌↔◌, List, ◌++◌, [], length, IsErrAnd};
+ghost use Rattle.std.specs.Prelude.{◌≡◌, ◌≢◌, ℕ, ◌≤◌, ◌<◌, ◌^◌, ◌↔◌, List, ◌++◌, [], length};
+ghost use Rattle.std.specs.Prelude.{IsErrAnd};
 ghost use Rattle.std.specs.Ordering.{nat_cmp};
-ghost use Rattle.p2p_discovery.specs.declared.codec.error.CodecError.TheVariants.{EndOfBuffer, Memory};
+ghost use Rattle.p2p_discovery.specs.declared.codec.error.CodecError.TheVariants.{EndOfBuffer};
+ghost use Rattle.p2p_discovery.specs.declared.codec.error.CodecError.TheVariants.{Memory};
 ghost use Rattle.p2p_discovery.specs.declared.codec.test_key.TestKey.{TestKey};
 ghost use Rattle.p2p_discovery.specs.Reading.{Leaves};
 ghost use Rattle.p2p_discovery.specs.Varint.{varint32, varint64, SpellsU32, SpellsU64};
@@ -13,24 +15,34 @@ use std::alloc::Global;
 
 /// No spelling of a value begins another, and equal values alone share a spelling.
 pub fn one_spelling<T: Read>(cfg: &T::Cfg)
-    ensures { (v w : T) (x y : List ℕ) → T.IsValue v → T.Admits cfg.now v → T.IsValue w → T.Admits cfg.now w
+    ensures { (v w : T) (x y : List ℕ) → T.IsValue v → T.Admits cfg.now v
+        → T.IsValue w → T.Admits cfg.now w
         → T.spelling v ++ x ≡ T.spelling w ++ y → (v ≡ w) × (x ≡ y) }
 {}
 
-/// Of a spelling no proper front is read: its bytes end too early. `Memory` may stand in place of
-/// that where memory was asked for on the way.
+/// Of a spelling no proper front is read.
+///
+/// # Errors
+///
+/// Of a proper front `EndOfBuffer`, for its bytes end too early, or `Memory` where memory was asked
+/// for on the way and refused. Those of [`Read::decode_cfg`] else.
 pub fn cut_short<T: Read>(alloc: Global, front: Bytes, cfg: &T::Cfg) -> Result<T, CodecError>
-    ensures { (v : T) (rest : List ℕ) → T.IsValue v → T.Admits cfg.now v → T.spelling v ≡ front ++ rest
-        → 0 < length rest → IsErrAnd result (λ e. e ≢ Memory → e ≡ EndOfBuffer) }
+    ensures { (v : T) (rest : List ℕ) → T.IsValue v → T.Admits cfg.now v
+        → T.spelling v ≡ front ++ rest → 0 < length rest
+        → IsErrAnd result (λ e. e ≢ Memory → e ≡ EndOfBuffer) }
 {
     T::decode_cfg(alloc, front, cfg)
 }
 
-/// What was encoded is decoded to what it was, under limits that admit it, unless memory runs out.
+/// What was encoded is decoded to what it was, under limits that admit it.
 ///
 /// # Conditions
 ///
 /// Those of [`Write::encode`], and that the limits admit the value.
+///
+/// # Errors
+///
+/// `Memory` where memory is refused, and no other.
 pub fn read_back<T: Write + Read>(alloc: Global, value: &T, cfg: &T::Cfg) -> Result<T, CodecError>
     requires can { T.CanSpell value.now }
     requires admits { T.HoldsValues value.now → T.Admits cfg.now value.now }
@@ -55,8 +67,10 @@ pub fn bounded_size<T: MaxEncodeSize>(value: &T) -> usize
 
 /// Bytes spell a whole number by the grammar of varints exactly where they are its one spelling.
 pub fn varint_grammar()
-    ensures long { (bytes : List ℕ) (n : ℕ) → SpellsU64 bytes n ↔ ((n < 2 ^ 64) × (bytes ≡ varint64 n)) }
-    ensures short { (bytes : List ℕ) (n : ℕ) → SpellsU32 bytes n ↔ ((n < 2 ^ 32) × (bytes ≡ varint32 n)) }
+    ensures long { (bytes : List ℕ) (n : ℕ)
+        → SpellsU64 bytes n ↔ ((n < 2 ^ 64) × (bytes ≡ varint64 n)) }
+    ensures short { (bytes : List ℕ) (n : ℕ)
+        → SpellsU32 bytes n ↔ ((n < 2 ^ 32) × (bytes ≡ varint32 n)) }
 {}
 
 /// Test keys are ordered as their numbers.

@@ -1,6 +1,7 @@
 //! Values one after the other.
 
-ghost use Rattle.std.specs.Prelude.{◌≡◌, ℕ, ◌+◌, ◌*◌, ◌<◌, IfOk, vec_capacity, ◌≤◌, ◌^◌, ◌++◌, ◌/◌, length, min};
+ghost use Rattle.std.specs.Prelude.{◌≡◌, ℕ, ◌+◌, ◌*◌, ◌<◌, IfOk, vec_capacity, ◌≤◌, ◌^◌, ◌++◌, ◌/◌};
+ghost use Rattle.std.specs.Prelude.{length, min};
 ghost use Rattle.std.specs.List.{AllByRecursion};
 ghost use Rattle.p2p_discovery.specs.Reading.{GivesAs};
 ghost use Rattle.p2p_discovery.specs.Lists.{items_at, spellings};
@@ -19,7 +20,8 @@ pub(crate) fn read_items<T: Read<Cfg = ()>>(
 ) -> Result<Vec<T>, CodecError>
     requires some { 0 < least }
     requires least { (v : T) → T.IsValue v → T.Admits tt v → least ≤ length (T.spelling v) }
-    ensures exact { GivesAs (λ v. v.items) result reader.new (items_at least (T.reading tt) count reader.old) }
+    ensures exact { GivesAs (λ v. v.items) result reader.new
+        (items_at least (T.reading tt) count reader.old) }
     ensures room { IfOk result (λ v. vec_capacity v * least ≤ length reader.old) }
 {
     let room = count.min(reader.rest().len() / least);

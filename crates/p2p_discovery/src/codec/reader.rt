@@ -60,7 +60,11 @@ impl<'a> Reader<'a> {
         rest
     }
 
-    /// Reads the next byte. `EndOfBuffer` where none is left.
+    /// Reads the next byte.
+    ///
+    /// # Errors
+    ///
+    /// `EndOfBuffer` where none is left.
     pub fn byte(&mut self) -> Result<u8, CodecError>
         ensures { Gives result self.new (byte_at self.old) }
     {
@@ -72,7 +76,11 @@ impl<'a> Reader<'a> {
         Ok(byte)
     }
 
-    /// Reads so many bytes. `EndOfBuffer` where fewer are left.
+    /// Reads so many bytes, which are not copied. It takes no memory.
+    ///
+    /// # Errors
+    ///
+    /// `EndOfBuffer` where fewer are left.
     pub fn counted(&mut self, count: usize) -> Result<&'a [u8], CodecError>
         ensures exact { GivesAs (λ b. b.now) result self.new (counted_at count self.old) }
         ensures length { IfOk result (λ b. length b.now ≡ count) }
@@ -85,8 +93,12 @@ impl<'a> Reader<'a> {
         Ok(&self.whole.as_slice()[start..start + count])
     }
 
-    /// Reads so many bytes as an owner of the buffer's memory: they are not copied. `EndOfBuffer`
-    /// where fewer are left; else `Memory` where memory is refused, which no bytes do not ask for.
+    /// Reads so many bytes as an owner of the buffer's memory: they are not copied.
+    ///
+    /// # Errors
+    ///
+    /// `EndOfBuffer` where fewer are left; else `Memory` where memory is refused. No bytes ask for
+    /// none.
     pub fn cut(&mut self, count: usize) -> Result<Bytes, CodecError>
         ensures { Gives result self.new (cut_at count self.old) }
     {

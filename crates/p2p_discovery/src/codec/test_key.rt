@@ -2,7 +2,8 @@
 
 ghost use Rattle.std.specs.Prelude.{◌≡◌, ◌==◌, ◌<◌, ◌^◌, Some};
 ghost use Rattle.std.specs.Int.{w64, to_be_bytes, from_be_bytes};
-ghost use Rattle.p2p_discovery.specs.KeysLaws.{one_key, one_signature, exact_key, fixed_key, fixed_signature};
+ghost use Rattle.p2p_discovery.specs.KeysLaws.{one_key, one_signature, exact_key, fixed_key};
+ghost use Rattle.p2p_discovery.specs.KeysLaws.{fixed_signature};
 ghost use Rattle.p2p_discovery.specs.TestSignatures.{signature_of, mix_of, next_of};
 
 use crate::codec::{FixedBytes, PublicKey};
@@ -70,7 +71,11 @@ impl FixedBytes for TestSignature {
 
 impl TestKey {
     /// The signature of this key over the namespace and the message: what the bytes of both, one
-    /// after the other, make of the key's number.
+    /// after the other, make of the key's number. It takes no memory.
+    ///
+    /// # Cost
+    ///
+    /// One pass over both.
     pub fn sign(&self, namespace: &[u8], message: &[u8]) -> TestSignature
         ensures { result ≡ record { 0 = signature_of self.now.0 namespace.now message.now } }
     {
@@ -81,7 +86,8 @@ impl TestKey {
 impl PublicKey for TestKey {
     type Signature = TestSignature;
 
-    ghost verifies = { λ key namespace message signature. signature_of key.0 namespace message == signature.0 };
+    ghost verifies = { λ key namespace message signature.
+        signature_of key.0 namespace message == signature.0 };
 
     fn verify(&self, namespace: &[u8], message: &[u8], signature: &TestSignature) -> bool {
         self.sign(namespace, message) == *signature

@@ -4,7 +4,8 @@ ghost use Rattle.std.specs.Prelude.{◌≡◌, ℕ, ◌+◌, ◌*◌, ◌^◌, �
 ghost use Rattle.std.proofs.Common.{lit<};
 ghost use Rattle.p2p_discovery.specs.Reading.{Gives};
 ghost use Rattle.p2p_discovery.specs.FieldsLaws.{lawful_unlimited};
-ghost use Rattle.p2p_discovery.specs.Varint.{groups, groups_at, last_group, varint64, varint64_at, varint32, varint32_at};
+ghost use Rattle.p2p_discovery.specs.Varint.{groups, groups_at, last_group, varint64, varint64_at};
+ghost use Rattle.p2p_discovery.specs.Varint.{varint32, varint32_at};
 ghost use Rattle.p2p_discovery.specs.VarintLaws.{groups_lawful, groups_short};
 
 use crate::codec::{CodecError, EncodeSize, MaxEncodeSize, Read, Reader, Write};
@@ -22,8 +23,10 @@ fn group_count(n: u64) -> usize
 
 // Appends the groups of a number.
 fn write_groups(n: u64, buf: &mut BytesMut)
-    requires { (most : ℕ) × (0 < most) × (n < 128 ^ most) × (length (groups most n) ≤ buf.old.spare) }
-    ensures { (most : ℕ) → 0 < most → n < 128 ^ most → (buf.new.items ≡ buf.old.items ++ groups most n)
+    requires { (most : ℕ) × (0 < most) × (n < 128 ^ most)
+        × (length (groups most n) ≤ buf.old.spare) }
+    ensures { (most : ℕ) → 0 < most → n < 128 ^ most
+        → (buf.new.items ≡ buf.old.items ++ groups most n)
         × (buf.new.spare + length (groups most n) ≡ buf.old.spare) }
 {
     if n < 128 {

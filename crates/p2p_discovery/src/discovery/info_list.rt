@@ -3,7 +3,8 @@
 ghost use Rattle.std.specs.Prelude.{◌≡◌, ◌+◌, ◌<◌, ◌≤◌, ◌^◌, ◌*◌, ◌++◌, length, IfOk, vec_capacity};
 ghost use Rattle.std.specs.List.{AllByRecursion};
 ghost use Rattle.p2p_discovery.specs.Lists.{spellings};
-ghost use Rattle.p2p_discovery.specs.Info.{IsInfo, IsKeyed, info_spelling, infos_spelling, AreAllowed, infos_at};
+ghost use Rattle.p2p_discovery.specs.Info.{IsInfo, IsKeyed, info_spelling, infos_spelling};
+ghost use Rattle.p2p_discovery.specs.Info.{AreAllowed, infos_at};
 ghost use Rattle.p2p_discovery.specs.InfoLaws.{lawful_infos};
 
 use crate::codec::{

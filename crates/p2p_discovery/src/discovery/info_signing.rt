@@ -19,6 +19,14 @@ impl<C: PublicKey> Info<C> {
     /// called once, with the namespace and what is signed: the spelling of the ingress, then the
     /// timestamp in eight bytes, the most significant first. Where its answer verifies, the info
     /// does. It takes no memory.
+    ///
+    /// # Conditions
+    ///
+    /// The closure itself has none.
+    ///
+    /// # Cost
+    ///
+    /// Signed are at most 269 bytes, which stand on the stack.
     pub fn sign<F: FnOnce(&[u8], &[u8]) -> C::Signature>(
         public_key: C,
         namespace: &[u8],
@@ -47,6 +55,10 @@ impl<C: PublicKey> Info<C> {
 
     /// Whether the signature is one of the info's key over the namespace and what is signed. It
     /// takes no memory.
+    ///
+    /// # Cost
+    ///
+    /// One [`PublicKey::verify`], over at most 269 bytes, which stand on the stack.
     pub fn verify(&self, namespace: &[u8]) -> bool
         ensures { result ≡ is_signed_in C.verifies namespace.now self.now }
     {

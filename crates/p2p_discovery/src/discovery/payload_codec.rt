@@ -4,7 +4,9 @@ ghost use Rattle.std.specs.Prelude.{◌≡◌, ◌+◌, ◌<◌, ◌≤◌, ◌^
 ghost use Rattle.p2p_discovery.specs.declared.discovery.Payload.{Payload};
 ghost use Rattle.p2p_discovery.specs.declared.discovery.PayloadConfig.{PayloadConfig};
 ghost use Rattle.p2p_discovery.specs.Reading.{Gives};
-ghost use Rattle.p2p_discovery.specs.Payload.{up_to, prefix_of, IsPayload, IsKeyedPayload, IsAdmitted, CanSpell, payload_spelling, body_at, payload_at, gossip_size};
+ghost use Rattle.p2p_discovery.specs.Payload.{up_to, prefix_of, IsPayload, IsKeyedPayload};
+ghost use Rattle.p2p_discovery.specs.Payload.{IsAdmitted, CanSpell, payload_spelling, body_at};
+ghost use Rattle.p2p_discovery.specs.Payload.{payload_at, gossip_size};
 ghost use Rattle.p2p_discovery.specs.PayloadLaws.{lawful_payload};
 
 use crate::codec::{

@@ -69,6 +69,10 @@ impl<C: PublicKey> InfoVerifier<C> {
     /// - `SynchronyBound`: its timestamp is later than the synchrony bound past `now`, a sum that
     ///   is at most the greatest moment.
     /// - `InvalidSignature`: its signature isn't one of its key in the verifier's namespace.
+    ///
+    /// # Cost
+    ///
+    /// One comparison of keys, and one [`Info::verify`] where neither of the first two holds.
     pub fn validate_info(&self, now: Duration, info: &Info<C>) -> Result<(), Error>
         ensures { result
             ≡ judged (refusal (judge_of C.cmp C.verifies self.now) (as_nanos now) info.now) }
@@ -92,6 +96,11 @@ impl<C: PublicKey> InfoVerifier<C> {
     ///
     /// `TooManyPeers` of their number where they are more than the verifier takes at a time; else
     /// the first refusal of [`InfoVerifier::validate_info`], in the order of the list.
+    ///
+    /// # Cost
+    ///
+    /// One [`InfoVerifier::validate_info`] for each info up to the first that is refused, and none
+    /// where they are too many.
     pub fn validate(&self, now: Duration, infos: &[Info<C>]) -> Result<(), Error>
         ensures { result
             ≡ judged (list_refusal (judge_of C.cmp C.verifies self.now) (as_nanos now) infos.now) }

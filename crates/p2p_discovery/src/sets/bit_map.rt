@@ -1,6 +1,7 @@
 //! Truth values, packed eight to a byte.
 
-ghost use Rattle.std.specs.Prelude.{◌≡◌, ◌↔◌, ℕ, ◌<◌, List, false, true, length, replicate, IfOk, IsTrue, slice_get, Some};
+ghost use Rattle.std.specs.Prelude.{◌≡◌, ◌↔◌, ℕ, ◌<◌, List, false, true, length, replicate, IfOk};
+ghost use Rattle.std.specs.Prelude.{IsTrue, slice_get, Some};
 ghost use Rattle.std.specs.List.{slice_set};
 ghost use Rattle.std.specs.Bool.{beq};
 ghost use Rattle.std.specs.Cmp.Lexicographic.{pointwise};
@@ -18,6 +19,10 @@ use std::marker::Model;
 ///
 /// They are stored as they are spelled: value i as a bit of byte `i / 8`, in place `i mod 8`
 /// counted from the least significant. A set bit is `true`.
+///
+/// # Cost
+///
+/// Whatever takes memory takes a byte for each eight values, and time linear in these bytes.
 #[derive(Drop)]
 pub struct BitMap {
     bytes: Vec<u8>,
@@ -69,6 +74,10 @@ impl BitMap {
     /// # Errors
     ///
     /// `AllocError` where memory is refused.
+    ///
+    /// # Cost
+    ///
+    /// One pass over the values.
     pub fn from_bools(alloc: Global, values: &[bool]) -> Result<BitMap, AllocError>
         ensures { IfOk result (λ bits. bits ≡ values.now) }
     {

@@ -39,6 +39,10 @@ impl<P: PublicKey> BitSet<P> {
     /// # Errors
     ///
     /// `AllocError` where memory is refused; the set is given up.
+    ///
+    /// # Cost
+    ///
+    /// A byte for each eight peers; the set is not copied.
     pub fn new(alloc: Global, ordered: OrderedSet<P>) -> Result<Self, AllocError>
         ensures { IfOk result (λ set. set ≡ unset ordered) }
     {
@@ -91,6 +95,10 @@ impl<P: PublicKey> BitSet<P> {
     /// # Errors
     ///
     /// `AllocError` where memory is refused.
+    ///
+    /// # Cost
+    ///
+    /// A byte for each eight peers.
     pub fn knowledge(&self) -> Result<BitMap, AllocError>
         ensures { IfOk result (λ bits. bits ≡ bits_of self.now) }
     {
@@ -109,6 +117,10 @@ impl<P: PublicKey> BitSet<P> {
     /// # Errors
     ///
     /// `AllocError` where memory is refused.
+    ///
+    /// # Cost
+    ///
+    /// Each key is copied once, and each byte of the bits.
     pub fn clone(&self) -> Result<Self, AllocError>
         ensures { IfOk result (λ copy. copy ≡ self.now) }
     {

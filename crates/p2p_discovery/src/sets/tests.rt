@@ -1,7 +1,7 @@
 use super::{OrderedSet, SetError};
 use crate::codec::TestKey;
-use crate::low_memory::LowMemory;
-use crate::out_of_memory::{STEP, STEPS, Tally};
+use crate::out_of_memory::{STEPS, Tally};
+use low_memory::{LowMemory, STEP};
 use std::alloc::{AllocError, Global};
 use std::test::Fail;
 

@@ -2,7 +2,8 @@
 
 ghost use Rattle.std.specs.Prelude.{◌≡◌, ◌↔◌, ◌≤◌, length, true, IfOk, IsOk, IsTrue};
 ghost use Rattle.p2p_discovery.specs.FieldsLaws.{lawful_unlimited};
-ghost use Rattle.p2p_discovery.specs.Address.{same_address, ingress_of, egress_of, IsAddress, address_spelling, address_at};
+ghost use Rattle.p2p_discovery.specs.Address.{same_address, ingress_of, egress_of, IsAddress};
+ghost use Rattle.p2p_discovery.specs.Address.{address_spelling, address_at};
 ghost use Rattle.p2p_discovery.specs.Ingress.{takes_none};
 ghost use Rattle.p2p_discovery.specs.Socket.{socket_ip};
 ghost use Rattle.p2p_discovery.specs.AddressLaws.{lawful_address, address_short};
@@ -29,7 +30,11 @@ pub enum Address {
 }
 
 impl Address {
-    /// What is dialled to reach the peer, or want of memory.
+    /// What is dialled to reach the peer. It takes no memory where that is a socket.
+    ///
+    /// # Errors
+    ///
+    /// `AllocError` where memory for a name is refused.
     pub fn ingress(&self) -> Result<Ingress, AllocError>
         ensures ingress { IfOk result (λ ingress. ingress ≡ ingress_of self.now) }
         ensures socket { takes_none (ingress_of self.now) ≡ true → IsOk result }
@@ -57,7 +62,11 @@ impl Address {
         }
     }
 
-    /// An equal value, or want of memory.
+    /// An equal value. It takes no memory where what is dialled is a socket.
+    ///
+    /// # Errors
+    ///
+    /// `AllocError` where memory for a name is refused.
     pub fn clone(&self) -> Result<Address, AllocError>
         ensures equal { IfOk result (λ copy. copy ≡ self.now) }
         ensures socket { takes_none (ingress_of self.now) ≡ true → IsOk result }

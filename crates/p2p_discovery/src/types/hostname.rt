@@ -9,7 +9,9 @@ ghost use Rattle.std.specs.Cmp.Lexicographic.{pointwise, slice_cmp};
 ghost use Rattle.std.proofs.Common.{rules};
 ghost use Rattle.p2p_discovery.specs.Reading.{Gives, is_within};
 ghost use Rattle.p2p_discovery.specs.FieldsLaws.{lawful_unlimited};
-ghost use Rattle.p2p_discovery.specs.Hostname.{is_label, is_hostname, host_limit, formed, named, IsHostname, hostname_spelling, hostname_at, is_name_byte, are_name_bytes};
+ghost use Rattle.p2p_discovery.specs.Hostname.{is_label, is_hostname, host_limit, formed, named};
+ghost use Rattle.p2p_discovery.specs.Hostname.{IsHostname, hostname_spelling, hostname_at};
+ghost use Rattle.p2p_discovery.specs.Hostname.{is_name_byte, are_name_bytes};
 ghost use Rattle.p2p_discovery.specs.HostnameLaws.{lawful_hostname, hostname_short};
 
 use crate::codec::{
@@ -48,9 +50,17 @@ const LENGTHS: RangeCfg = RangeCfg {
 };
 
 impl Hostname {
-    /// The name that the text is. `InvalidLength` where it has no bytes or more than 253, which is
-    /// judged first; `Invalid(Hostname)` where it has not the form of a name; `Memory` where it
-    /// is a name and memory is refused.
+    /// The name that the text is.
+    ///
+    /// # Errors
+    ///
+    /// `InvalidLength` where it has no bytes or more than 253, which is judged first;
+    /// `Invalid(Hostname)` where it has not the form of a name; `Memory` where it is a name and
+    /// memory is refused.
+    ///
+    /// # Cost
+    ///
+    /// A few passes over the text, which is copied once.
     #[tactic(auto, unfolding(crate::specs::Hostname::named))]
     pub fn new(alloc: Global, text: &str) -> Result<Hostname, CodecError>
         ensures { Gives result [] (named text.now) }
@@ -70,7 +80,15 @@ impl Hostname {
         self.text.as_str()
     }
 
-    /// An equal name, or want of memory.
+    /// An equal name.
+    ///
+    /// # Errors
+    ///
+    /// `AllocError` where memory is refused.
+    ///
+    /// # Cost
+    ///
+    /// The text is copied once.
     pub fn clone(&self) -> Result<Hostname, AllocError>
         ensures { IfOk result (λ copy. copy ≡ self.now) }
     {
@@ -168,7 +186,8 @@ impl Ord for Hostname {
 impl PartialOrd for Hostname {
     ghost partial_cmp = { as_partial_cmp (slice_cmp nat_cmp) };
 
-    ghost laws = { partial_order_from_own_ties (Prim.search (comparing, rules)) (Prim.search (comparing, rules)) };
+    ghost laws = { partial_order_from_own_ties (Prim.search (comparing, rules))
+        (Prim.search (comparing, rules)) };
 
     fn partial_cmp(&self, other: &Hostname) -> Option<Ordering> {
         Some(self.cmp(other))

@@ -2,7 +2,8 @@
 
 ghost use Rattle.std.specs.Prelude.{◌≡◌, ◌↔◌, ◌≤◌, length, true, IfOk, IsOk, IsTrue};
 ghost use Rattle.p2p_discovery.specs.FieldsLaws.{lawful_unlimited};
-ghost use Rattle.p2p_discovery.specs.Ingress.{same_ingress, is_valid, port_of, ip_of, takes_none, IsIngress, ingress_spelling, ingress_at};
+ghost use Rattle.p2p_discovery.specs.Ingress.{same_ingress, is_valid, port_of, ip_of, takes_none};
+ghost use Rattle.p2p_discovery.specs.Ingress.{IsIngress, ingress_spelling, ingress_at};
 ghost use Rattle.p2p_discovery.specs.IngressLaws.{lawful_ingress, ingress_short};
 ghost use Rattle.p2p_discovery.specs.SameLaws.{ingress_equivalence, ingress_laws};
 
@@ -60,7 +61,11 @@ impl Ingress {
         }
     }
 
-    /// An equal value, or want of memory.
+    /// An equal value. It takes no memory where it is a socket.
+    ///
+    /// # Errors
+    ///
+    /// `AllocError` where memory for a name is refused.
     pub fn clone(&self) -> Result<Ingress, AllocError>
         ensures equal { IfOk result (λ copy. copy ≡ self.now) }
         ensures socket { takes_none self.now ≡ true → IsOk result }

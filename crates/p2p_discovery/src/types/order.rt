@@ -1,7 +1,8 @@
 //! The order of addresses, for users.
 
 ghost use Rattle.std.specs.Prelude.{◌≡◌};
-ghost use Rattle.p2p_discovery.specs.Order.{bytes_cmp, ip_cmp, socket_cmp, ingress_cmp, address_cmp};
+ghost use Rattle.p2p_discovery.specs.Order.{bytes_cmp, ip_cmp, socket_cmp, ingress_cmp};
+ghost use Rattle.p2p_discovery.specs.Order.{address_cmp};
 ghost use Rattle.p2p_discovery.specs.declared.types.socket.IpAddr.{IpAddr};
 ghost use Rattle.p2p_discovery.specs.declared.types.socket.SocketAddr.{SocketAddr};
 ghost use Rattle.p2p_discovery.specs.declared.types.hostname.Hostname.{Hostname};

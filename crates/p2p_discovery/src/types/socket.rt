@@ -5,7 +5,8 @@ ghost use Rattle.p2p_discovery.specs.Reading.{Gives};
 ghost use Rattle.p2p_discovery.specs.Fields.{IsSized, port_at};
 ghost use Rattle.p2p_discovery.specs.FieldsLaws.{lawful_unlimited};
 ghost use Rattle.p2p_discovery.specs.Global.{is_global};
-ghost use Rattle.p2p_discovery.specs.Socket.{socket_from, socket_ip, socket_port, IsIp, IsSocket, ip_spelling, socket_spelling, ip_at, socket_at};
+ghost use Rattle.p2p_discovery.specs.Socket.{socket_from, socket_ip, socket_port, IsIp, IsSocket};
+ghost use Rattle.p2p_discovery.specs.Socket.{ip_spelling, socket_spelling, ip_at, socket_at};
 ghost use Rattle.p2p_discovery.specs.SocketLaws.{lawful_socket, socket_short};
 
 use crate::codec::{CodecError, EncodeSize, MaxEncodeSize, Read, Reader, Write, are_bytes};

@@ -1,9 +1,9 @@
 //! What each call leaves where memory is refused.
 
-use crate::low_memory::LowMemory;
 use crate::row::run_rows;
 use crate::row::setting::{config, own_info};
 use crate::row::tests::ROWS;
+use low_memory::{LowMemory, STEP};
 use p2p_directory::directory::{Directory, TrackedPeers};
 use p2p_directory::record::Status;
 use p2p_discovery::codec::TestKey;
@@ -13,10 +13,6 @@ use std::alloc::{AllocError, Global};
 use std::process::Abort;
 use std::test::Fail;
 use std::time::Duration;
-
-/// By how much budgets grow. Blocks of the C library are multiples of it, so each growth is refused
-/// at some budget.
-const STEP: usize = 16;
 
 const ROW_STEPS: usize = 768;
 

@@ -32,7 +32,8 @@ impl Write for Short {
 pub(crate) const ROWS: [(&str, &str); 11] = [
     (
         "1",
-        "b9600d48656c6c6f2c20776f726c6421\nData(12345, 48656c6c6f2c20776f726c6421)\nInvalidLength(13)\nInvalidLength(13)\n",
+        "b9600d48656c6c6f2c20776f726c6421\nData(12345, 48656c6c6f2c20776f726c6421)\n\
+         InvalidLength(13)\nInvalidLength(13)\n",
     ),
     ("2", "Data(3, -)\n010203040506070809\nExtraData(9)\n"),
     ("3", "00b9600c\n68656c6c6f20\n776f726c64\n21\n00b96000\n"),
@@ -42,7 +43,8 @@ pub(crate) const ROWS: [(&str, &str); 11] = [
     ),
     (
         "5",
-        "InvalidVarint(10)\nData(18446744073709551615, -)\nInvalidVarint(10)\n258\nInvalidLength(300)\n",
+        "InvalidVarint(10)\nData(18446744073709551615, -)\nInvalidVarint(10)\n258\n\
+         InvalidLength(300)\n",
     ),
     (
         "6",
@@ -60,7 +62,8 @@ pub(crate) const ROWS: [(&str, &str); 11] = [
     ),
     (
         "23",
-        "TooManyPeers(2)\nok\nok\nSynchronyBound\nReceivedSelf\nInvalidSignature\nok\nTooManyPeers(1)\n",
+        "TooManyPeers(2)\nok\nok\nSynchronyBound\nReceivedSelf\nInvalidSignature\nok\n\
+         TooManyPeers(1)\n",
     ),
 ];
 

@@ -39,9 +39,11 @@ impl FixedBytes for ArrayKey {
         Some(ArrayKey(read_array(bytes)))
     }
 
-    ghost fixed = { fixed_array (λ bytes. record { 0 = bytes }) (λ key. key.0) (λ _. refl) (λ _. refl) 32 (lit≤ tt) };
+    ghost fixed = { fixed_array (λ bytes. record { 0 = bytes }) (λ key. key.0)
+        (λ _. refl) (λ _. refl) 32 (lit≤ tt) };
 
-    ghost one_value = { one_array (λ bytes. record { 0 = bytes }) (λ key. key.0) (λ _. refl) (λ _. refl) };
+    ghost one_value = { one_array (λ bytes. record { 0 = bytes }) (λ key. key.0)
+        (λ _. refl) (λ _. refl) };
 }
 
 impl FixedBytes for ArraySignature {
@@ -63,9 +65,11 @@ impl FixedBytes for ArraySignature {
         Some(ArraySignature(read_array(bytes)))
     }
 
-    ghost fixed = { fixed_array (λ bytes. record { 0 = bytes }) (λ signature. signature.0) (λ _. refl) (λ _. refl) 64 (lit≤ tt) };
+    ghost fixed = { fixed_array (λ bytes. record { 0 = bytes }) (λ signature. signature.0)
+        (λ _. refl) (λ _. refl) 64 (lit≤ tt) };
 
-    ghost one_value = { one_array (λ bytes. record { 0 = bytes }) (λ signature. signature.0) (λ _. refl) (λ _. refl) };
+    ghost one_value = { one_array (λ bytes. record { 0 = bytes }) (λ signature. signature.0)
+        (λ _. refl) (λ _. refl) };
 }
 
 impl PublicKey for ArrayKey {
@@ -77,5 +81,6 @@ impl PublicKey for ArrayKey {
         signature.0[..32] == self.0[..]
     }
 
-    ghost exact = { exact_array (λ bytes. record { 0 = bytes }) (λ key. key.0) (λ _. refl) (λ _. refl) };
+    ghost exact = { exact_array (λ bytes. record { 0 = bytes }) (λ key. key.0)
+        (λ _. refl) (λ _. refl) };
 }
