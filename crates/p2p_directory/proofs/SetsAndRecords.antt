@@ -4,5 +4,9 @@ pub mod Entries
 pub mod Counting
 pub mod Consistent
 pub mod Retained
+pub mod Windows
+pub mod Changes
+pub mod Own
 pub mod Bootstrapped
 pub mod Infos
+pub mod Taken

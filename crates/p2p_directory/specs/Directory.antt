@@ -1,25 +1,29 @@
 -- What contracts see of a directory, and what its calls answer and change.
-use Rattle.std.specs.Prelude.{ℕ, ◌≡◌, Bool, true, false, not, ◌&&◌, if◌then◌else◌, List, ◌++◌, ◌∷◌, [], Option, Some, unwrap_or}
+use Rattle.std.specs.Prelude.{ℕ, ◌≡◌, Bool, true, false, not, ◌&&◌, if◌then◌else◌, List, ◌++◌, ◌∷◌, [], map, filter, slice_get, Option, Some, unwrap_or}
 use Rattle.std.specs.List.Sorted.{IsStrictlySortedBy}
 use Rattle.std.specs.Option.{option_map, option_map_or, option_and_then}
 use Rattle.std.specs.Duration.{as_nanos}
 use Rattle.std.specs.Int.NonZero.{non_zero_usize_get}
-use Rattle.std.specs.Map.{lookup}
+use Rattle.std.specs.Map.{lookup, keys_of}
 use Rattle.std.specs.BTreeMap.{is_at}
 use Rattle.std.specs.declared.cmp.Ordering.{Ordering}
 use Rattle.p2p_discovery.specs.declared.discovery.Info.{Info}
+use Rattle.p2p_discovery.specs.declared.discovery.BitVec.{BitVec}
 use Rattle.p2p_discovery.specs.declared.types.ingress.Ingress.{Ingress}
 use Rattle.p2p_directory.specs.declared.record.Address.{Address}
 use Rattle.p2p_directory.specs.declared.record.Address.TheVariants.{Myself, Bootstrapper}
-use Rattle.p2p_directory.specs.declared.record.Status.TheVariants.{Inert}
+use Rattle.p2p_directory.specs.declared.record.Status.{Status}
+use Rattle.p2p_directory.specs.declared.record.Status.TheVariants.{Inert, Active}
 use Rattle.p2p_directory.specs.declared.record.Role.TheVariants.{Primary, Secondary}
 use Rattle.p2p_directory.specs.declared.directory.Config.{Config}
 use Rattle.p2p_directory.specs.declared.directory.Metadata.{Metadata}
 use Rattle.p2p_directory.specs.declared.directory.Metadata.TheVariants.{Dialer, Listener}
 use Rattle.p2p_directory.specs.Calls.{SetAt}
-use Rattle.p2p_directory.specs.History.{last_of, is_inert}
+use Rattle.p2p_directory.specs.History.{last_of, is_inert, is_reserved}
 use Rattle.p2p_directory.specs.World.{last_ingress_by}
-use Rattle.p2p_directory.specs.Record.{RecordView, new_record, blank, is_eligible, after_failure, reserved_record, with_counts, unless_deletable}
+use Rattle.p2p_directory.specs.Record.{RecordView, new_record, blank, is_myself, is_eligible}
+use Rattle.p2p_directory.specs.Record.{after_failure, after_success, reserved_record, with_counts}
+use Rattle.p2p_directory.specs.Record.{unless_deletable, address_after_infos, wants_info, sharable_by}
 use Rattle.p2p_directory.specs.PeerSets.{has_key, set_count}
 
 -- WHAT IS SEEN
@@ -55,9 +59,13 @@ key_of (Dialer key ingress) = key
 key_of (Listener key) = key
 
 module _ {C S : Type 0} where
-  -- there is a record, and its peer is reserved or connected
+  -- there is a record, and its status passes a test
+  abbrev pub has_status : (Status → Bool) → Option (RecordView C S) → Bool
+  has_status test o = option_map_or (λ r. test r.status) o false
+
+  -- .. its peer is reserved or connected
   abbrev pub is_busy : Option (RecordView C S) → Bool
-  is_busy o = option_map_or (λ r. not (is_inert r.status)) o false
+  is_busy o = has_status (λ status. not (is_inert status)) o
 
   -- the address after its reservation was released
   abbrev pub address_after_release : Metadata C S → Address C S → Address C S
@@ -73,6 +81,29 @@ module _ {C S : Type 0} where
   abbrev pub kept_after_release : Metadata C S → Option (RecordView C S) → Option (RecordView C S)
   kept_after_release metadata o = option_and_then (λ r. unless_deletable (released_record metadata r)) o
 
+  -- the peer's info is known, and not wanted
+  abbrev pub is_known : ℕ → Option (RecordView C S) → Bool
+  is_known limit o = option_map_or (λ r. not (wants_info limit r)) o false
+
+  -- the record once its peer is connected, as its dialer or not
+  abbrev pub connected_record : Bool → RecordView C S → RecordView C S
+  connected_record dialer r = record r {
+    status = Active;
+    address = if dialer then after_success r.address else r.address;
+  }
+
+  -- the record once these infos of its peer were offered
+  abbrev pub updated_record : List (Info C S) → RecordView C S → RecordView C S
+  updated_record infos r = record r { address = address_after_infos infos r.address }
+
+  -- the info of a peer that others may be told
+  abbrev pub sharable_of_record : RecordView C S → Option (Info C S)
+  sharable_of_record r = sharable_by r.status r.address
+
+  -- the peers that have a record, but for the local node
+  abbrev pub other_keys : List (C × RecordView C S) → List C
+  other_keys records = keys_of (filter (λ e. not (is_myself e.1.address)) records)
+
 module _ {C S : Type 0} (cmp : C → C → Ordering) where
   -- what is kept of a peer, by all that is kept
   abbrev pub record_at : List (C × RecordView C S) → C → Option (RecordView C S)
@@ -86,9 +117,17 @@ module _ {C S : Type 0} (cmp : C → C → Ordering) where
   abbrev pub IsBusy : DirectoryView C S → C → Type 0
   IsBusy d q = is_busy (record_of d q) ≡ true
 
+  -- a peer is reserved
+  abbrev pub IsReserved : DirectoryView C S → C → Type 0
+  IsReserved d q = has_status is_reserved (record_of d q) ≡ true
+
   -- whoever is reserved or connected stays so
   abbrev pub StayBusy : DirectoryView C S → DirectoryView C S → Type 0
   StayBusy old new = (q : C) → IsBusy old q → IsBusy new q
+
+  -- whoever is reserved stays so
+  abbrev pub StayReserved : DirectoryView C S → DirectoryView C S → Type 0
+  StayReserved old new = (q : C) → IsReserved old q → IsReserved new q
 
   -- THE START
 
@@ -117,6 +156,37 @@ module _ {C S : Type 0} (cmp : C → C → Ordering) where
   -- a reservation is released
   abbrev pub Releases : DirectoryView C S → DirectoryView C S → Metadata C S → Type 0
   Releases old new metadata = ChangesRecord old new (key_of metadata) (kept_after_release metadata)
+
+  -- p is connected, as its dialer or not
+  abbrev pub Connects : DirectoryView C S → DirectoryView C S → C → Bool → Type 0
+  Connects old new p dialer = ChangesRecord old new p (option_map (connected_record dialer))
+
+  -- INFOS
+
+  -- those of some infos that are of a peer
+  abbrev pub infos_of : List (Info C S) → C → List (Info C S)
+  infos_of infos q = filter (λ i. is_at (cmp i.public_key) q) infos
+
+  -- infos are offered to the records of their peers, and all else stays
+  pub record Updates (old new : DirectoryView C S) (infos : List (Info C S)) : Type 0 where
+    pub config : new.config ≡ old.config
+    pub sets : new.sets ≡ old.sets
+    pub records : (q : C) →
+        record_of new q ≡ option_map (updated_record (infos_of infos q)) (record_of old q)
+
+  -- the info of a peer that others may be told, if there is one
+  abbrev pub sharable_in : DirectoryView C S → C → Option (Info C S)
+  sharable_in d q = option_and_then sharable_of_record (record_of d q)
+
+  -- for each primary peer of a set, whether its info is known, and not wanted
+  abbrev pub known_bits : DirectoryView C S → SetAt C → List Bool
+  known_bits d set = map (λ q. is_known d.config.dial_fail_limit (record_of d q)) set.primary
+
+  -- the bits of the set at a place, with its index, if there is one
+  abbrev pub bit_vec_at : DirectoryView C S → ℕ → Option BitVec
+  bit_vec_at d place =
+      option_map (λ set. record { index = set.index; bits = known_bits d set })
+      (slice_get d.sets place)
 
   -- A SET
 

@@ -1,4 +1,5 @@
 -- Words of private contracts. Nobody outside of the crate sees them.
+pub mod Window
 pub mod Counts
 pub mod Slots
 pub mod Serving

@@ -1,10 +1,11 @@
 -- The replies to a run of commands, by the calls accepted before each, and what the run leaves.
-use Rattle.std.specs.Prelude.{◌≡◌, Bool, true, false, not, if◌then◌else◌}
+use Rattle.std.specs.Prelude.{ℕ, ◌≡◌, Bool, true, false, not, if◌then◌else◌}
 use Rattle.std.specs.Prelude.{List, [], ◌∷◌, map, Option, None, is_some}
 use Rattle.std.specs.Option.{option_map}
 use Rattle.std.specs.Duration.{as_nanos}
 use Rattle.std.specs.Int.NonZero.{non_zero_usize_get}
 use Rattle.std.specs.declared.cmp.Ordering.{Ordering}
+use Rattle.p2p_discovery.specs.declared.discovery.BitVec.{BitVec}
 use Rattle.p2p_discovery.specs.declared.discovery.Info.{Info}
 use Rattle.p2p_discovery.specs.declared.types.ingress.Ingress.{Ingress}
 use Rattle.p2p_directory.specs.declared.directory.Config.{Config}
@@ -13,12 +14,13 @@ use Rattle.p2p_directory.specs.declared.run.commands.Command.TheVariants as comm
 use Rattle.p2p_directory.specs.declared.run.commands.Reply.{Reply}
 use Rattle.p2p_directory.specs.declared.run.commands.Reply.TheVariants as reply
 use Rattle.p2p_directory.specs.Calls.{Setup, Question, Call, Event}
-use Rattle.p2p_directory.specs.Calls.Question.{StatusOf, LatestIndex}
-use Rattle.p2p_directory.specs.Calls.Call.{Track, Listen, Release, Ask}
+use Rattle.p2p_directory.specs.Calls.Question.{StatusOf, NumberTracked, LatestIndex, InfoOf, BitsAt}
+use Rattle.p2p_directory.specs.Calls.Call.{Track, Listen, Connect, Release, Update, Ask}
 use Rattle.p2p_directory.specs.History.{is_inert, taken_sets}
 use Rattle.p2p_directory.specs.World.{World, world_at, past, event_in}
 use Rattle.p2p_directory.specs.Answers.{IsTrackAnswer, was_granted, was_taken}
-use Rattle.p2p_directory.specs.Answers.{may_release, status_in, latest_index_in}
+use Rattle.p2p_directory.specs.Answers.{may_connect, may_release, status_in, IsNumberTracked}
+use Rattle.p2p_directory.specs.Answers.{latest_index_in, sharable_info, set_at_place, bits_at}
 use Rattle.p2p_directory.specs.declared.directory.Metadata.{Metadata}
 use Rattle.p2p_directory.specs.Refinement.{metadata_of}
 
@@ -43,9 +45,14 @@ setup_of cmp bootstrappers myself cfg = record {
 abbrev pub call_of : {C S : Type 0} → Command C S → Call C S
 call_of (command.Track index peers) = Track index peers.primary peers.secondary
 call_of (command.Listen p now draw) = Listen p (as_nanos now) (as_nanos draw)
+call_of (command.Connect p dialer) = Connect p dialer
 call_of (command.Release p) = Release p
+call_of (command.UpdatePeers infos) = Update infos.items
 call_of (command.Status p) = Ask (StatusOf p)
 call_of command.LatestSetIndex = Ask LatestIndex
+call_of (command.Info p) = Ask (InfoOf p)
+call_of (command.GetRandomBitVec place) = Ask (BitsAt place)
+call_of command.Tracked = Ask NumberTracked
 
 -- .. one for each command, in order
 abbrev pub calls_of : {C S : Type 0} → List (Command C S) → List (Call C S)
@@ -55,7 +62,15 @@ calls_of commands = map call_of commands
 abbrev pub HasNoBlock : {C S : Type 0} → World C S → Type 0
 HasNoBlock {C} w = (p : C) → w.unblock p ≡ None
 
+-- an index and its bits, as one value
+abbrev pub bit_vec_of : ℕ × List Bool → BitVec
+bit_vec_of (index, bits) = record { index = index; bits = bits }
+
 module _ {C S : Type 0} (s : Setup C S) where
+  -- the bits of the set at a place in the world w, with its index, if there is one
+  abbrev pub bit_vec_in : World C S → ℕ → Option BitVec
+  bit_vec_in w place = option_map bit_vec_of (bits_at s w place)
+
   -- ONE REPLY. `before` are the calls accepted before, the newest first; w is the world that they
   -- make, e what the call does in it, v the world after that
 
@@ -63,24 +78,37 @@ module _ {C S : Type 0} (s : Setup C S) where
   abbrev pub Informs : World C S → Question C → Reply C S → Type 0
   Informs w (StatusOf p) r = r ≡ reply.Status (status_in s w p)
   Informs w LatestIndex r = r ≡ reply.LatestSetIndex (latest_index_in s w)
+  Informs w (InfoOf p) r = r ≡ reply.Info (sharable_info s w p)
+  Informs w (BitsAt place) r = r ≡ reply.GetRandomBitVec (bit_vec_in w place)
+  Informs w NumberTracked (reply.Tracked n) = IsNumberTracked s w n
   Informs w _ r = ⊥
 
   -- the reply to a call that is made
   abbrev pub Replies : Event C S → World C S → World C S → Call C S → Reply C S → Type 0
   Replies e w v (Track index primary secondary) (reply.Track torn) = IsTrackAnswer s e w v torn
   Replies e w v (Listen p t draw) r = r ≡ reply.Listen (was_granted e)
+  Replies e w v (Connect p dialer) r =
+      r ≡ (if may_connect s w p then reply.Connect else reply.NotReserved)
   Replies e w v (Release p) r = r ≡ (if may_release s w p then reply.Release else reply.NotHeld)
+  Replies e w v (Update infos) r = r ≡ reply.UpdatePeers
   Replies e w v (Ask question) r = Informs w question r
   Replies e w v _ r = ⊥
 
-  -- which calls may want memory: a track that is taken, and no other
-  abbrev pub may_want_memory : Event C S → Call C S → Bool
-  may_want_memory e (Track index primary secondary) = was_taken e
-  may_want_memory e _ = false
+  -- which questions may want memory: for an info where there is one, for bits where there is a set
+  abbrev pub may_want_to_tell : World C S → Question C → Bool
+  may_want_to_tell w (InfoOf p) = is_some (sharable_info s w p)
+  may_want_to_tell w (BitsAt place) = is_some (set_at_place s w place)
+  may_want_to_tell w _ = false
+
+  -- which calls may want memory: a track that is taken, such a question, and no other
+  abbrev pub may_want_memory : Event C S → World C S → Call C S → Bool
+  may_want_memory e w (Track index primary secondary) = was_taken e
+  may_want_memory e w (Ask question) = may_want_to_tell w question
+  may_want_memory e w _ = false
 
   -- want of memory where it is allowed, else the reply
   abbrev pub MayReply : Event C S → World C S → World C S → Call C S → Reply C S → Type 0
-  MayReply e w v c reply.OutOfMemory = may_want_memory e c ≡ true
+  MayReply e w v c reply.OutOfMemory = may_want_memory e w c ≡ true
   MayReply e w v c r = Replies e w v c r
 
   -- the world that these calls make
@@ -101,6 +129,7 @@ module _ {C S : Type 0} (s : Setup C S) where
   -- whether a command was an accepted call, by its reply
   abbrev pub is_accepted : Reply C S → Bool
   is_accepted reply.OutOfMemory = false
+  is_accepted reply.NotReserved = false
   is_accepted reply.NotHeld = false
   is_accepted _ = true
 

@@ -1,27 +1,26 @@
 //! The directory of peers: the retained sets, and a record of each peer that is in one of them,
 //! persistent, reserved or connected.
 
-ghost use Rattle.std.specs.Prelude.{◌≡◌, ◌<◌, ◌≤◌, ◌^◌, ◌-◌, ◌++◌, ◌∷◌, [], ℕ, Bool, false, true, IfSome, IfNone, IfOk, OnOk, OnErr, is_some, vec_capacity, Some, None};
-ghost use Rattle.std.specs.List.{last_or};
+ghost use Rattle.std.specs.Prelude.{◌≡◌, ◌<◌, ◌^◌, ◌-◌, [], false, true, Some, None};
+ghost use Rattle.std.specs.Prelude.{IfSome, IfNone, IfOk, IsOk, OnErr, is_some, length, slice_get};
 ghost use Rattle.std.specs.List.Sorted.{IsStrictlySortedBy};
 ghost use Rattle.std.specs.Option.{option_map, option_map_or};
 ghost use Rattle.std.specs.BTreeMap.{is_at};
+ghost use Rattle.std.specs.Map.{keys_of};
 ghost use Rattle.std.specs.Duration.{as_nanos};
 ghost use Rattle.std.specs.Int.NonZero.{non_zero_usize_get};
-ghost use Rattle.p2p_directory.specs.declared.record.Role.{Role};
-ghost use Rattle.p2p_directory.specs.Calls.{SetAt};
+ghost use Rattle.p2p_discovery.specs.Ingress.{takes_none};
 ghost use Rattle.p2p_directory.specs.Record.{may_come};
-ghost use Rattle.p2p_directory.specs.PeerSets.{set_of, latest_index, is_above, AreRolesDisjoint};
-ghost use Rattle.p2p_directory.specs.Private.Counts.{newest_sets, surplus_count};
+ghost use Rattle.p2p_directory.specs.PeerSets.{set_of, latest_index, is_above};
 ghost use Rattle.p2p_directory.specs.Directory.{record_at};
-ghost use Rattle.p2p_directory.specs.Private.Counts.{record_joining, IsRestored, DropsOldest};
 
 use crate::directory::records::Records;
-use crate::directory::records::counts::ordered;
+use crate::directory::track::{add, drop_oldest};
+use crate::directory::update::update_each;
 use crate::kept::{PeerSet, Window};
 use crate::record::Status;
 use p2p_discovery::codec::PublicKey;
-use p2p_discovery::discovery::Info;
+use p2p_discovery::discovery::{BitVec, Info};
 use p2p_discovery::sets::OrderedSet;
 use p2p_discovery::types::Ingress;
 use std::alloc::{AllocError, Global};
@@ -30,6 +29,10 @@ use std::num::NonZeroUsize;
 use std::time::Duration;
 
 pub(crate) mod records;
+#[cfg(test)]
+mod tests;
+mod track;
+mod update;
 
 /// How a directory behaves.
 #[derive(Clone, Copy, Debug)]
@@ -124,18 +127,27 @@ pub struct Directory<C: PublicKey> {
 impl<C: PublicKey> Model for Directory<C> {
     ghost use Rattle.std.specs.Int.NonZero.{non_zero_usize_get};
     ghost use Rattle.p2p_directory.specs.Directory.{DirectoryView, config_view, record_at};
-    ghost use Rattle.p2p_directory.specs.Private.Counts.{IsConsistent};
+    ghost use Rattle.p2p_directory.specs.Private.Window.{plain_sets};
+    ghost use Rattle.p2p_directory.specs.Private.Counts.{IsInvariant};
 
     ghost Value = { DirectoryView C C.Signature };
 
-    ghost view = { λ d. record { config = config_view d.config; sets = d.sets; records = d.records } };
+    ghost view = { λ d. record {
+      config = config_view d.config;
+      sets = plain_sets d.sets;
+      records = d.records;
+    } };
 
-    ghost invariant = { λ d. IsConsistent C.cmp (non_zero_usize_get d.config.max_sets) d.sets (record_at C.cmp d.records) };
+    ghost invariant = { λ d. IsInvariant C.cmp (non_zero_usize_get d.config.max_sets)
+        d.config.dial_fail_limit d.sets (record_at C.cmp d.records) };
 }
 
 impl<C: PublicKey> Directory<C> {
     ghost use Rattle.p2p_directory.specs.Directory.{config_view, key_of, record_of, first_record};
-    ghost use Rattle.p2p_directory.specs.Directory.{IsBusy, StayBusy, Reserves, Releases, TakesSet, AreTornDown};
+    ghost use Rattle.p2p_directory.specs.Directory.{IsBusy, IsReserved, StayBusy, StayReserved};
+    ghost use Rattle.p2p_directory.specs.Directory.{Reserves, Releases, Connects, Updates};
+    ghost use Rattle.p2p_directory.specs.Directory.{TakesSet, AreTornDown};
+    ghost use Rattle.p2p_directory.specs.Directory.{sharable_in, bit_vec_at, other_keys};
 
     /// A directory that retains no set. Its records are the own one and those of the
     /// bootstrappers: a later bootstrapper of the same key replaces an earlier one, and the own
@@ -201,15 +213,17 @@ impl<C: PublicKey> Directory<C> {
             TakesSet C.cmp self.old self.new (set_of C.cmp index peers.primary peers.secondary))) }
         ensures torn { IfOk result (λ torn. IfSome torn (AreTornDown C.cmp self.old self.new)) }
         ensures busy { StayBusy C.cmp self.old self.new }
+        ensures reserved { StayReserved C.cmp self.old self.new }
     {
         if !self.sets.is_next(index) {
             return Ok(None);
         }
         let alloc = self.sets.allocator();
         let max_sets = self.config.max_sets.get();
+        let limit = self.config.dial_fail_limit;
         let set = PeerSet::new(alloc, index, peers.primary, peers.secondary)?;
         let torn = Vec::with_capacity(alloc, self.sets.leaving_count(max_sets)?)?;
-        add(&mut self.sets, &mut self.records, set)?;
+        add(&mut self.sets, &mut self.records, set, limit)?;
         Ok(Some(drop_oldest(&mut self.sets, &mut self.records, max_sets, torn)))
     }
 
@@ -230,7 +244,10 @@ impl<C: PublicKey> Directory<C> {
         ensures reservation { IfSome result (λ reservation. reservation ≡ Metadata.Listener peer.now) }
         ensures granted { IfSome result (λ _. Reserves C.cmp self.old self.new peer.now (as_nanos now) (as_nanos draw)) }
         ensures is_busy { IfSome result (λ reservation. IsBusy C.cmp self.new (key_of reservation)) }
+        ensures is_reserved { IfSome result (λ reservation.
+            IsReserved C.cmp self.new (key_of reservation)) }
         ensures busy { StayBusy C.cmp self.old self.new }
+        ensures reserved { StayReserved C.cmp self.old self.new }
     {
         let cooldown = self.config.peer_connection_cooldown;
         if !self.records.reserve(peer, now, draw, cooldown) {
@@ -255,10 +272,113 @@ impl<C: PublicKey> Directory<C> {
     pub fn release(&mut self, reservation: Reservation<C>)
         requires { IsBusy C.cmp self.old (key_of reservation) }
         ensures released { Releases C.cmp self.old self.new reservation }
-        ensures others { (q : C) → is_at (C.cmp (key_of reservation)) q ≡ false → IsBusy C.cmp self.old q → IsBusy C.cmp self.new q }
+        ensures others { (q : C) → is_at (C.cmp (key_of reservation)) q ≡ false →
+            IsBusy C.cmp self.old q → IsBusy C.cmp self.new q }
+        ensures reserved { (q : C) → is_at (C.cmp (key_of reservation)) q ≡ false →
+            IsReserved C.cmp self.old q → IsReserved C.cmp self.new q }
     {
         let Reservation { metadata } = reservation;
-        self.records.release(&metadata);
+        let limit = self.config.dial_fail_limit;
+        let known = self.records.release(&metadata, limit);
+        self.sets.refresh(metadata.public_key(), known);
+    }
+
+    /// Connects a peer that is reserved, as its dialer or not: it is active, and where the local
+    /// node dialled it, its dials have not failed any more. Every other peer that is reserved or
+    /// connected stays so. Takes no memory.
+    ///
+    /// # Conditions
+    ///
+    /// The peer is reserved.
+    ///
+    /// # Cost
+    ///
+    /// One search among the records, and one in each retained set.
+    pub fn connect(&mut self, peer: &C, dialer: bool)
+        requires { IsReserved C.cmp self.old peer.now }
+        ensures connected { Connects C.cmp self.old self.new peer.now dialer }
+        ensures busy { StayBusy C.cmp self.old self.new }
+        ensures reserved { (q : C) → is_at (C.cmp peer.now) q ≡ false →
+            IsReserved C.cmp self.old q → IsReserved C.cmp self.new q }
+    {
+        let limit = self.config.dial_fail_limit;
+        let known = self.records.connect(peer, dialer, limit);
+        self.sets.refresh(peer, known);
+    }
+
+    /// Offers infos to the records of their peers, in whichever order they stand: each peer's is
+    /// then the first of greatest timestamp among the one that was known and those of the list. One
+    /// that is new has not failed yet. That of the local node stays, and an info of a peer that has
+    /// no record is dropped. Whoever is reserved or connected stays so. Takes no memory.
+    ///
+    /// # Cost
+    ///
+    /// For each info one search among the records, and where it is taken one in each retained set.
+    pub fn update_peers(&mut self, infos: Vec<Info<C>>)
+        ensures updated { Updates C.cmp self.old self.new infos.items }
+        ensures busy { StayBusy C.cmp self.old self.new }
+        ensures reserved { StayReserved C.cmp self.old self.new }
+    {
+        let limit = self.config.dial_fail_limit;
+        update_each(&mut self.sets, &mut self.records, infos, limit);
+    }
+
+    /// The info of the peer that others may be told: that of the local node, and that of a peer
+    /// that is connected. Takes memory only for an info whose ingress is a name.
+    ///
+    /// # Errors
+    ///
+    /// `AllocError` where memory is refused.
+    ///
+    /// # Cost
+    ///
+    /// One search among the records.
+    pub fn info(&self, peer: &C) -> Result<Option<Info<C>>, AllocError>
+        ensures info { IfOk result (λ info. info ≡ sharable_in C.cmp self.now peer.now) }
+        ensures none { sharable_in C.cmp self.now peer.now ≡ None → IsOk result }
+        ensures socket { IfSome (sharable_in C.cmp self.now peer.now)
+            (λ info. takes_none info.ingress ≡ true → IsOk result) }
+    {
+        match self.records.get(peer) {
+            Some(found) => found.sharable(),
+            None => Ok(None),
+        }
+    }
+
+    /// The bits of the retained set at a place, counted from 0 in order of index, with its index:
+    /// for each primary peer in order whether its info is known, and not wanted. `None` where there
+    /// is no such place.
+    ///
+    /// # Errors
+    ///
+    /// `AllocError` where memory is refused.
+    ///
+    /// # Cost
+    ///
+    /// Proportional to the bytes of the answer.
+    pub fn get_random_bit_vec(&self, place: usize) -> Result<Option<BitVec>, AllocError>
+        ensures bits { IfOk result (λ bits. bits ≡ bit_vec_at C.cmp self.now place) }
+        ensures none { slice_get self.now.sets place ≡ None → IsOk result }
+    {
+        match self.sets.at(place) {
+            Some(set) => Ok(Some(BitVec {
+                index: set.index(),
+                bits: set.primary().knowledge()?,
+            })),
+            None => Ok(None),
+        }
+    }
+
+    /// How many peers have a record, but for the local node. Takes no memory.
+    ///
+    /// # Cost
+    ///
+    /// Constant.
+    pub fn tracked(&self) -> usize
+        ensures count { result ≡ length (other_keys self.now.records) }
+        ensures sorted { IsStrictlySortedBy C.cmp (keys_of self.now.records) }
+    {
+        self.records.len() - 1
     }
 
     /// Whether the peer is connected, or `None` where there is no record of it. Takes no memory.
@@ -280,66 +400,5 @@ impl<C: PublicKey> Directory<C> {
         ensures { result ≡ latest_index self.now.sets }
     {
         self.sets.latest_index()
-    }
-}
-
-// Adds a set as the latest, and counts it for its peers, or leaves all as it was where memory is
-// refused.
-fn add<C: PublicKey>(
-    sets: &mut Window<C>,
-    records: &mut Records<C>,
-    set: PeerSet<C>,
-) -> Result<(), AllocError>
-    ensures disjoint { OnOk result (AreRolesDisjoint C.cmp set) }
-    ensures ok { OnOk result (sets.new ≡ sets.old ++ set ∷ []) }
-    ensures joined { OnOk result ((q : C) → record_at C.cmp records.new q ≡ record_joining C.cmp set q (record_at C.cmp records.old q)) }
-    ensures sets { OnErr result (sets.new ≡ sets.old) }
-    ensures records { OnErr result (((q : C) (role : Role) → IsRestored C.cmp role (record_at C.cmp records.old q)) →
-        records.new ≡ records.old) }
-{
-    sets.push(set)?;
-    match join_latest(sets, records) {
-        Ok(()) => Ok(()),
-        Err(refused) => {
-            sets.pop_latest();
-            Err(refused)
-        }
-    }
-}
-
-// Counts the latest set for its peers, or leaves all as it was where memory is refused.
-fn join_latest<C: PublicKey>(sets: &Window<C>, records: &mut Records<C>) -> Result<(), AllocError>
-    ensures disjoint { (set : SetAt C) → last_or None sets.now ≡ Some set → AreRolesDisjoint C.cmp set }
-    ensures ok { OnOk result ((set : SetAt C) → last_or None sets.now ≡ Some set →
-        (q : C) → record_at C.cmp records.new q ≡ record_joining C.cmp set q (record_at C.cmp records.old q)) }
-    ensures err { OnErr result (((q : C) (role : Role) → IsRestored C.cmp role (record_at C.cmp records.old q)) →
-        records.new ≡ records.old) }
-{
-    match sets.latest() {
-        Some(set) => records.join(set),
-        None => Ok(()),
-    }
-}
-
-// Drops the oldest set, where there is one too many, and counts it less for its peers. Answers the
-// peers whose connections have to end, in the list that is handed in.
-fn drop_oldest<C: PublicKey>(
-    sets: &mut Window<C>,
-    records: &mut Records<C>,
-    max_sets: usize,
-    torn: Vec<C>,
-) -> OrderedSet<C>
-    requires empty { torn.items ≡ [] }
-    requires room { surplus_count max_sets sets.old ≤ vec_capacity torn }
-    ensures sets { sets.new ≡ newest_sets max_sets sets.old }
-    ensures sorted { IsStrictlySortedBy C.cmp result }
-    ensures change { DropsOldest C.cmp max_sets sets.old (record_at C.cmp records.old) (record_at C.cmp records.new) result }
-{
-    if sets.len() <= max_sets {
-        return ordered(torn);
-    }
-    match sets.pop_oldest() {
-        Some(oldest) => records.leave(&oldest, torn),
-        None => ordered(torn),
     }
 }

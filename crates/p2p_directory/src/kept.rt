@@ -1,14 +1,19 @@
-//! What is retained of peer sets. It knows nothing of records.
+//! What is retained of peer sets, with a bit beside each primary peer. It knows nothing of records.
 
-ghost use Rattle.std.specs.Prelude.{◌≡◌, ◌++◌, ◌∷◌, [], not, IfNone, IfOk, OnErr, OnOk, None, List, option_to_list, length};
-ghost use Rattle.std.specs.List.{filter, last_or};
+ghost use Rattle.std.specs.Prelude.{◌≡◌, ◌++◌, ◌∷◌, [], true, false, not, map, length, slice_get};
+ghost use Rattle.std.specs.Prelude.{IfNone, IfOk, IfErr, OnErr, OnOk, Some, if◌then◌else◌, option_to_list, ◌≤◌};
+ghost use Rattle.std.specs.List.{filter, count_by, slice_set};
+ghost use Rattle.std.specs.Map.{keys_of};
 ghost use Rattle.std.specs.Option.{option_copied};
-ghost use Rattle.p2p_directory.specs.Calls.{SetAt};
-ghost use Rattle.p2p_directory.specs.PeerSets.{has_key, set_of, latest_index, is_above, AreRolesDisjoint};
+ghost use Rattle.p2p_discovery.specs.BitSets.{with_bit};
+ghost use Rattle.p2p_directory.specs.PeerSets.{has_key, set_of, latest_index, is_above};
+ghost use Rattle.p2p_directory.specs.PeerSets.{AreRolesDisjoint, set_count};
 ghost use Rattle.p2p_directory.specs.Private.Counts.{leaving_count};
+ghost use Rattle.p2p_directory.specs.Private.Window.{SetWithBits, plain_set, plain_sets};
+ghost use Rattle.p2p_directory.specs.Private.Window.{set_with_bits, set_at, has_primary, with_bit_of};
 
 use p2p_discovery::codec::PublicKey;
-use p2p_discovery::sets::{OrderedSet, SetError};
+use p2p_discovery::sets::{BitSet, OrderedSet, SetError};
 use std::alloc::{AllocError, Global};
 use std::collections::VecDeque;
 use std::marker::Model;
@@ -16,38 +21,40 @@ use std::marker::Model;
 /// Lets a value go. Its drop, which branches on what it holds, stands here and not in the caller.
 pub fn forget<T: Drop>(_value: T) {}
 
-/// A retained set: its index, its primary peers, and those of its secondary peers that are not
-/// primary.
+/// A retained set: its index, its primary peers, each with a bit, and those of its secondary peers
+/// that are not primary. The bit says whether the peer's info is known and not wanted.
 #[derive(Drop)]
 pub struct PeerSet<C: PublicKey> {
     index: u64,
-    primary: OrderedSet<C>,
+    primary: BitSet<C>,
     secondary: OrderedSet<C>,
 }
 
 impl<C: PublicKey> Model for PeerSet<C> {
-    ghost use Rattle.p2p_directory.specs.Calls.{SetAt};
+    ghost use Rattle.p2p_directory.specs.Private.Window.{SetWithBits, plain_set};
 
-    ghost Value = { SetAt C };
+    ghost Value = { SetWithBits C };
 
     ghost use Rattle.p2p_directory.specs.PeerSets.{AreRolesDisjoint};
 
     ghost view = { λ set. record { index = set.index; primary = set.primary; secondary = set.secondary } };
 
-    ghost invariant = { λ set. AreRolesDisjoint C.cmp (record { index = set.index; primary = set.primary; secondary = set.secondary }) };
+    ghost invariant = { λ set. AreRolesDisjoint C.cmp (plain_set (record { index = set.index; primary = set.primary; secondary = set.secondary })) };
 }
 
 impl<C: PublicKey> PeerSet<C> {
-    /// The set of these peers; a peer in both roles is primary only.
+    /// The set of these peers, with no bit set; a peer in both roles is primary only.
     pub fn new(
         alloc: Global,
         index: u64,
         primary: OrderedSet<C>,
         secondary: OrderedSet<C>,
     ) -> Result<PeerSet<C>, AllocError>
-        ensures { IfOk result (λ set. set ≡ set_of C.cmp index primary secondary) }
+        ensures { IfOk result (λ set.
+            set ≡ set_with_bits (λ q. false) (set_of C.cmp index primary secondary)) }
     {
         let secondary = without(alloc, &secondary, &primary)?;
+        let primary = BitSet::new(alloc, primary)?;
         Ok(PeerSet {
             index,
             primary,
@@ -62,10 +69,10 @@ impl<C: PublicKey> PeerSet<C> {
         self.index
     }
 
-    /// Its primary peers.
-    pub fn primary(&self) -> &OrderedSet<C>
-        ensures peers { result.now ≡ self.now.primary }
-        ensures disjoint { AreRolesDisjoint C.cmp self.now }
+    /// Its primary peers with their bits.
+    pub fn primary(&self) -> &BitSet<C>
+        ensures bits { result.now ≡ self.now.primary }
+        ensures disjoint { AreRolesDisjoint C.cmp (plain_set self.now) }
     {
         &self.primary
     }
@@ -75,6 +82,24 @@ impl<C: PublicKey> PeerSet<C> {
         ensures { result.now ≡ self.now.secondary }
     {
         &self.secondary
+    }
+
+    /// Sets the bit of the primary peer at a place, if there is one.
+    pub fn set_bit(&mut self, place: usize, known: bool)
+        ensures { self.new ≡
+            record self.old { primary = with_bit self.old.primary place known } }
+    {
+        self.primary.update_at(place, known);
+    }
+
+    /// Sets the bit of the peer, where it is primary, and says whether it is.
+    pub fn refresh(&mut self, peer: &C, known: bool) -> bool
+        ensures answer { result ≡ has_primary C.cmp peer.now self.old }
+        ensures after { self.new ≡ with_bit_of C.cmp peer.now known self.old }
+    {
+        // For the proof: the clauses of `as_slice` say that the peers are in order.
+        let _peers = self.primary.ordered().as_slice();
+        self.primary.update(peer, known)
     }
 }
 
@@ -120,7 +145,8 @@ fn without<C: PublicKey>(
     }
 }
 
-/// The retained sets. A contract sees the list of them, the oldest first.
+/// The retained sets. A contract sees the list of them, with a bit beside each primary peer, in
+/// ascending order of their indices.
 #[derive(Drop)]
 pub struct Window<C: PublicKey> {
     sets: VecDeque<PeerSet<C>>,
@@ -128,11 +154,13 @@ pub struct Window<C: PublicKey> {
 
 impl<C: PublicKey> Model for Window<C> {
     ghost use Rattle.std.specs.Prelude.{List};
-    ghost use Rattle.p2p_directory.specs.Calls.{SetAt};
+    ghost use Rattle.p2p_directory.specs.Private.Window.{SetWithBits, IsAscending};
 
-    ghost Value = { List (SetAt C) };
+    ghost Value = { List (SetWithBits C) };
 
     ghost view = { λ w. w.sets.items };
+
+    ghost invariant = { λ w. IsAscending w.sets.items };
 }
 
 impl<C: PublicKey> Window<C> {
@@ -157,21 +185,25 @@ impl<C: PublicKey> Window<C> {
         self.sets.len()
     }
 
-    /// The latest set.
-    pub fn latest(&self) -> Option<&PeerSet<C>>
-        ensures { option_copied result ≡ last_or None self.now }
+    /// The set at a place, counted from 0 in order of index.
+    pub fn at(&self, place: usize) -> Option<&PeerSet<C>>
+        ensures { option_copied result ≡ slice_get self.now place }
     {
-        match self.sets.back() {
-            Some(set) => Some(set),
-            None => None,
-        }
+        self.sets.get(place)
+    }
+
+    /// The set with an index.
+    pub fn get(&self, index: u64) -> Option<&PeerSet<C>>
+        ensures { option_copied result ≡ set_at self.now index }
+    {
+        set_with_index(&self.sets, index)
     }
 
     /// The index of the latest set.
     pub fn latest_index(&self) -> Option<u64>
-        ensures { result ≡ latest_index self.now }
+        ensures { result ≡ latest_index (plain_sets self.now) }
     {
-        match self.latest() {
+        match self.sets.back() {
             Some(set) => Some(set.index()),
             None => None,
         }
@@ -179,7 +211,7 @@ impl<C: PublicKey> Window<C> {
 
     /// Whether the index is above that of the latest set, if there is one.
     pub fn is_next(&self, index: u64) -> bool
-        ensures { result ≡ is_above index (latest_index self.now) }
+        ensures { result ≡ is_above index (latest_index (plain_sets self.now)) }
     {
         match self.latest_index() {
             Some(latest) => latest < index,
@@ -193,7 +225,7 @@ impl<C: PublicKey> Window<C> {
     ///
     /// `AllocError` where there are more than any list could hold.
     pub fn leaving_count(&self, max: usize) -> Result<usize, AllocError>
-        ensures { IfOk result (λ count. count ≡ leaving_count max self.now) }
+        ensures { IfOk result (λ count. count ≡ leaving_count max (plain_sets self.now)) }
     {
         match self.sets.front() {
             Some(oldest) if self.sets.len() == max => {
@@ -206,32 +238,89 @@ impl<C: PublicKey> Window<C> {
         }
     }
 
-    /// Adds a set as the latest, or leaves all as it was where memory is refused.
-    pub fn push(&mut self, set: PeerSet<C>) -> Result<(), AllocError>
+    /// Takes in a set as the latest. Where memory is refused all is as it was, and the set comes
+    /// back.
+    ///
+    /// # Conditions
+    ///
+    /// Its index is above the latest.
+    pub fn push(&mut self, set: PeerSet<C>) -> Result<(), PeerSet<C>>
+        requires { is_above set.index (latest_index (plain_sets self.old)) ≡ true }
         ensures ok { OnOk result (self.new ≡ self.old ++ set ∷ []) }
         ensures err { OnErr result (self.new ≡ self.old) }
+        ensures back { IfErr result (λ back. back ≡ set) }
     {
         match self.sets.push_back(set) {
             Ok(()) => Ok(()),
-            Err(refused) => {
-                forget(refused);
-                Err(AllocError)
-            }
+            Err(refused) => Err(refused.value),
         }
     }
 
-    /// Takes out the oldest set.
-    pub fn pop_oldest(&mut self) -> Option<PeerSet<C>>
+    /// Takes out the set with the least index.
+    pub fn pop_first(&mut self) -> Option<PeerSet<C>>
         ensures sets { self.old ≡ option_to_list result ++ self.new }
         ensures none { IfNone result (length self.old ≡ 0) }
     {
         self.sets.pop_front()
     }
 
-    /// Takes out the latest set, and gives it up.
-    pub fn pop_latest(&mut self)
-        ensures { (sets : List (SetAt C)) (set : SetAt C) → self.old ≡ sets ++ set ∷ [] → self.new ≡ sets }
+    /// Sets the peer's bit in every set that has it as primary, and answers in how many. Takes no
+    /// memory.
+    ///
+    /// # Cost
+    ///
+    /// One search in each set.
+    pub fn refresh(&mut self, peer: &C, known: bool) -> usize
+        ensures sets { self.new ≡ map (with_bit_of C.cmp peer.now known) self.old }
+        ensures count { result ≡ count_by (has_primary C.cmp peer.now) self.old }
     {
-        forget(self.sets.pop_back());
+        refresh_each(&mut self.sets, peer, known)
     }
 }
+
+// The first set with an index.
+fn set_with_index<C: PublicKey>(sets: &VecDeque<PeerSet<C>>, index: u64) -> Option<&PeerSet<C>>
+    ensures { option_copied result ≡ set_at sets.now.items index }
+{
+    for place in 0..sets.len() {
+        let set = &sets[place];
+        if set.index() == index {
+            return Some(set);
+        }
+    }
+    None
+}
+
+// Sets the peer's bit in each set that has it as primary, and answers in how many.
+fn refresh_each<C: PublicKey>(sets: &mut VecDeque<PeerSet<C>>, peer: &C, known: bool) -> usize
+    ensures sets { sets.new.items ≡ map (with_bit_of C.cmp peer.now known) sets.old.items }
+    ensures count { result ≡ count_by (has_primary C.cmp peer.now) sets.old.items }
+{
+    let mut count = 0;
+    for place in 0..sets.len() {
+        count += refresh_at(sets, place, peer, known);
+    }
+    count
+}
+
+// Sets the peer's bit in the set at a place, where it is primary, and counts it then.
+fn refresh_at<C: PublicKey>(
+    sets: &mut VecDeque<PeerSet<C>>,
+    place: usize,
+    peer: &C,
+    known: bool,
+) -> usize
+    ensures count { (set : SetWithBits C) → slice_get sets.old.items place ≡ Some set →
+        result ≡ (if has_primary C.cmp peer.now set then 1 else 0) }
+    ensures after { (set : SetWithBits C) → slice_get sets.old.items place ≡ Some set →
+        sets.new.items ≡ slice_set sets.old.items place (with_bit_of C.cmp peer.now known set) }
+    ensures few { result ≤ 1 }
+{
+    match sets.get_mut(place) {
+        Some(set) => { if set.refresh(peer, known) { 1 } else { 0 } }
+        None => 0,
+    }
+}
+
+#[cfg(test)]
+mod tests;

@@ -1,13 +1,15 @@
 //! Commands to a directory, served one after the other, and their replies.
 
-ghost use Rattle.std.specs.Prelude.{◌≡◌, ◌<◌, ◌-◌, ◌^◌, [], None, true, IfOk};
+ghost use Rattle.std.specs.Prelude.{ℕ, ◌≡◌, ◌<◌, ◌-◌, ◌^◌, [], None, true, IfOk, OnOk, OnErr};
 ghost use Rattle.std.specs.Int.NonZero.{non_zero_usize_get};
 ghost use Rattle.std.specs.List.{AllPass};
+ghost use Rattle.p2p_directory.specs.Directory.{bit_vec_at};
 ghost use Rattle.p2p_directory.specs.Held.{held_of};
-ghost use Rattle.p2p_directory.specs.Private.Slots.{held_in};
+ghost use Rattle.p2p_directory.specs.Private.Slots.{has_slot, held_in};
 ghost use Rattle.p2p_directory.specs.Private.Serving.{has_room};
 ghost use Rattle.p2p_directory.specs.Refinement.{Refines};
-ghost use Rattle.p2p_directory.specs.Run.{setup_of, calls_of, world_left, AreAnswers, Holds, HasNoBlock};
+ghost use Rattle.p2p_directory.specs.Run.{setup_of, calls_of, world_left, AreAnswers};
+ghost use Rattle.p2p_directory.specs.Run.{bit_vec_in, Holds, HasNoBlock};
 
 use crate::directory::{Config, Directory};
 pub use crate::run::commands::{Command, Reply};
@@ -29,10 +31,12 @@ mod slots;
 mod tests;
 
 /// Makes a directory and serves the commands in turn. Each reply is that of the call, by what was
-/// called before it; a command that is replied `NotHeld` or `OutOfMemory` is as not given.
+/// called before it; a command that is replied `NotReserved`, `NotHeld` or `OutOfMemory` is as not
+/// given.
 ///
-/// Room for all replies and all reservations is taken before the first command, so only a `Track`
-/// whose set would be taken may be replied `OutOfMemory`.
+/// Room for all replies and all reservations is taken before the first command, so only these may
+/// be replied `OutOfMemory`: a `Track` whose set would be taken, an `Info` of a peer whose info may
+/// be told, and a `GetRandomBitVec` of a place that there is.
 ///
 /// What is left is given back by [`Run::finish`].
 ///
@@ -59,6 +63,9 @@ pub fn run<C: PublicKey>(
         AreAnswers s [] (calls_of commands.items) run.replies.items) }
     ensures directory { IfOk result (λ run. let s = setup_of C.cmp bootstrappers.items myself cfg in
         Refines s (world_left s (calls_of commands.items) run.replies.items) run.directory) }
+    ensures bits { IfOk result (λ run. let s = setup_of C.cmp bootstrappers.items myself cfg in
+        (place : ℕ) → bit_vec_at C.cmp run.directory place
+        ≡ bit_vec_in s (world_left s (calls_of commands.items) run.replies.items) place) }
     ensures held { IfOk result (λ run. let s = setup_of C.cmp bootstrappers.items myself cfg in
         Holds s (world_left s (calls_of commands.items) run.replies.items)
         (held_of C.cmp run.held)) }
@@ -87,12 +94,24 @@ fn slots_for<C: PublicKey>(alloc: Global, commands: &[Command<C>]) -> Result<Slo
 {
     let mut slots = Slots::new(alloc);
     for command in commands {
-        if let Command::Listen { peer, .. } = command {
-            if slots.make(*peer).is_err() {
-                slots.close();
-                return Err(AllocError);
-            }
+        if make_slot(&mut slots, command).is_err() {
+            slots.close();
+            return Err(AllocError);
         }
     }
     Ok(slots)
+}
+
+// A slot for the peer that the command may be granted a reservation of, if there is one.
+fn make_slot<C: PublicKey>(slots: &mut Slots<C>, command: &Command<C>) -> Result<(), AllocError>
+    ensures err { OnErr result (slots.new ≡ slots.old) }
+    ensures room { OnOk result (has_room C.cmp slots.new command.now ≡ true) }
+    ensures slots { OnOk result ((q : C) →
+        has_slot C.cmp slots.old q ≡ true → has_slot C.cmp slots.new q ≡ true) }
+    ensures held { (q : C) → held_in C.cmp slots.new q ≡ held_in C.cmp slots.old q }
+{
+    match command {
+        Command::Listen { peer, .. } => slots.make(*peer),
+        _ => Ok(()),
+    }
 }

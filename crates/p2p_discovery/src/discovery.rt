@@ -55,7 +55,7 @@ impl<C: PublicKey> Info<C> {
 }
 
 /// Which infos a peer knows: a bit for each primary peer of the set with this index.
-#[derive(Drop)]
+#[derive(Debug, Drop)]
 pub struct BitVec {
     /// The index of the set.
     pub index: u64,

@@ -5,8 +5,8 @@ use Rattle.std.specs.List.{Contains}
 -- the numbers of the rows that there are
 abbrev pub rows : List (List ℕ)
 rows =
-    codes "1" ∷ codes "2" ∷ codes "3" ∷ codes "4" ∷ codes "5" ∷ codes "6" ∷ codes "8"
-    ∷ codes "17" ∷ codes "21" ∷ codes "22" ∷ codes "23" ∷ []
+    codes "1" ∷ codes "2" ∷ codes "3" ∷ codes "4" ∷ codes "5" ∷ codes "6" ∷ codes "7"
+    ∷ codes "8" ∷ codes "17" ∷ codes "21" ∷ codes "22" ∷ codes "23" ∷ []
 
 -- one word, which is one of these
 pub record IsRow (words : List (List ℕ)) : Type 0 where

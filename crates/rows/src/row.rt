@@ -94,6 +94,7 @@ pub fn run_rows<W: Write>(alloc: Global, words: &[String], out: &mut W) -> u8
         "4" => frames::payloads(alloc, out),
         "5" => frames::odd_numbers(alloc, out),
         "6" => directory::teardown(alloc, out),
+        "7" => directory::knowledge(alloc, out),
         "8" => directory::cooldown(alloc, out),
         "17" => sizes::gossip_sizes(out),
         "21" => sizes::sizes(out),

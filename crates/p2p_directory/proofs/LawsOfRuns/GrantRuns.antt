@@ -27,9 +27,15 @@ module _ {C S : Type 0} (s : Setup C S) where
   replied e w v c reply.OutOfMemory a = inl refl
   replied e w v c (reply.Track torn) a = inr a
   replied e w v c (reply.Listen granted) a = inr a
+  replied e w v c reply.Connect a = inr a
   replied e w v c reply.Release a = inr a
+  replied e w v c reply.UpdatePeers a = inr a
   replied e w v c (reply.Status status) a = inr a
   replied e w v c (reply.LatestSetIndex index) a = inr a
+  replied e w v c (reply.Info info) a = inr a
+  replied e w v c (reply.GetRandomBitVec bits) a = inr a
+  replied e w v c (reply.Tracked count) a = inr a
+  replied e w v c reply.NotReserved a = inr a
   replied e w v c reply.NotHeld a = inr a
 
   -- when the grant was made

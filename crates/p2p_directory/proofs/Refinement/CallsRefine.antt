@@ -102,7 +102,7 @@ module _ {C S : Type 0} (s : Setup C S) where
   -- CHANGES
 
   -- a peer that an event does not change
-  unchanged : (p : C) (sets : List (SetAt C)) (peer : Peer C S) →
+  pub unchanged : (p : C) (sets : List (SetAt C)) (peer : Peer C S) →
       shown s p sets peer ≡ shown s p sets (record { status = peer.status; known = if is_present_with s p sets peer.status then peer.known else new_known s p })
   unchanged p sets peer = go (is_present_with s p sets peer.status)
     where
@@ -112,7 +112,7 @@ module _ {C S : Type 0} (s : Setup C S) where
       go false = refl
 
   -- a peer that is present after an event
-  remains : (p : C) (sets : List (SetAt C)) (status : Status) (known : Known C S) → is_present_with s p sets status ≡ true →
+  pub remains : (p : C) (sets : List (SetAt C)) (status : Status) (known : Known C S) → is_present_with s p sets status ≡ true →
       Some (record_with s p sets (record { status = status; known = known })) ≡ shown s p sets (record { status = status; known = if is_present_with s p sets status then known else new_known s p })
   remains p sets status known e =
       λ i. if sym e i then Some (record_with s p sets (record { status = status; known = if sym e i then known else new_known s p })) else None
@@ -122,7 +122,7 @@ module _ {C S : Type 0} (s : Setup C S) where
       shown s p sets (record { status = status; known = known }) ≡ shown s p sets (record { status = status; known = if is_present_with s p sets status then known else new_known s p })
   settles p sets status known = unchanged p sets (record { status = status; known = known })
 
-  or_true : (b : Bool) → (b || true) ≡ true
+  pub or_true : (b : Bool) → (b || true) ≡ true
   or_true true = refl
   or_true false = refl
 

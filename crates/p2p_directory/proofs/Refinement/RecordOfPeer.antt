@@ -231,14 +231,14 @@ module _ {C S : Type 0} (s : Setup C S) where
       go false None any e = e
       go false (Some a) any e = e
 
-  absent_parts : (own any named inert : Bool) → (((own || any) || named) || not inert) ≡ false → (own ≡ false) × (any ≡ false) × (inert ≡ true)
+  pub absent_parts : (own any named inert : Bool) → (((own || any) || named) || not inert) ≡ false → (own ≡ false) × (any ≡ false) × (inert ≡ true)
   absent_parts true any named inert e = absurd (cc)
   absent_parts false true named inert e = absurd (cc)
   absent_parts false false true inert e = absurd (cc)
   absent_parts false false false true e = (refl, refl, refl)
   absent_parts false false false false e = absurd (cc)
 
-  inert_only : (st : Status) → is_inert st ≡ true → st ≡ Inert
+  pub inert_only : (st : Status) → is_inert st ≡ true → st ≡ Inert
   inert_only Inert e = refl
   inert_only Reserved e = absurd (cc)
   inert_only Active e = absurd (cc)

@@ -1,5 +1,5 @@
 -- What each call leaves busy, and what is held of it.
-use Rattle.std.proofs.Common.{◌≡◌, ℕ, Bool, true, false, not, ◌&&◌, ◌||◌, Option, Some, None, refl, sym, ◌∙◌, ap, subst}
+use Rattle.std.proofs.Common.{◌≡◌, ℕ, Bool, true, false, not, ◌&&◌, ◌||◌, List, Option, Some, None, refl, sym, ◌∙◌, ap, subst}
 use Rattle.std.specs.Prelude.{if◌then◌else◌, is_some, nat_lt}
 use Rattle.std.specs.Option.{option_map, option_map_or}
 use Rattle.std.specs.BTreeMap.{is_at}
@@ -8,24 +8,61 @@ use Rattle.std.proofs.lemmas.Map.Lookups.{CmpEqualImpliesEq}
 use Rattle.std.proofs.lemmas.Map.Views.{tells_apart}
 use Rattle.p2p_directory.specs.declared.record.ReserveResult.TheVariants as answer
 use Rattle.p2p_directory.specs.declared.directory.Metadata.{Metadata}
+use Rattle.p2p_discovery.specs.declared.discovery.Info.{Info}
+use Rattle.p2p_directory.specs.declared.record.Status.{Status}
+use Rattle.p2p_directory.specs.declared.record.Status.TheVariants.{Inert, Reserved, Active}
 use Rattle.p2p_directory.specs.Calls.{SetAt}
-use Rattle.p2p_directory.specs.History.{is_inert}
+use Rattle.p2p_directory.specs.History.{is_inert, is_reserved}
 use Rattle.p2p_directory.specs.Record.{RecordView, is_myself, is_eligible, is_grant, may_come, reserved_record}
-use Rattle.p2p_directory.specs.Directory.{DirectoryView, is_busy, record_of, key_of, released_record, kept_after_release, IsBusy, ChangesRecord, Reserves, TakesSet}
+use Rattle.p2p_directory.specs.Directory.{DirectoryView, is_busy, record_of, key_of, released_record, kept_after_release, connected_record, updated_record, infos_of, IsBusy, IsReserved, ChangesRecord, Reserves, Connects, Updates, TakesSet}
 use Rattle.p2p_directory.specs.Held.{AreHeld, after_release}
-use Rattle.p2p_directory.proofs.SetsAndRecords.Consistent.{busy_unless, busy_with_sets}
+use Rattle.p2p_directory.proofs.SetsAndRecords.Consistent.{status_unless, status_with_sets}
 
 module _ {C S : Type 0} where
   -- who is released is not busy
   freed : (m : Metadata C S) (o : Option (RecordView C S)) → is_busy (after_release (Some m) o) ≡ false
   freed m None = refl
-  freed m (Some r) = busy_unless (released_record m r)
+  freed m (Some r) = status_unless (λ status. not (is_inert status)) refl (released_record m r)
+
+  -- who is told to be reserved is
+  pub told_reserved : (o : Option (RecordView C S)) → Some Reserved ≡ option_map (λ r. r.status) o → option_map_or (λ r. is_reserved r.status) o false ≡ true
+  told_reserved None e = absurd cc
+  told_reserved (Some r) e = let f : r.status ≡ Reserved = cc in ap is_reserved f
+
+  -- who is connected was reserved, and stays busy
+  stays_busy : (dialer : Bool) (o : Option (RecordView C S)) → option_map_or (λ r. is_reserved r.status) o false ≡ true → is_busy o ≡ is_busy (option_map (connected_record dialer) o)
+  stays_busy dialer None e = absurd cc
+  stays_busy dialer (Some r) e = go r.status e
+    where
+      go : (status : Status) → is_reserved status ≡ true → not (is_inert status) ≡ true
+      go Inert f = absurd cc
+      go Reserved f = refl
+      go Active f = refl
+
+  -- infos leave a peer as busy as it was
+  same_busy : (is : List (Info C S)) (o : Option (RecordView C S)) → is_busy o ≡ is_busy (option_map (updated_record is) o)
+  same_busy is None = refl
+  same_busy is (Some r) = refl
 
 module _ {C S : Type 0} (cmp : C → C → Ordering) where
+  -- infos leave all that is held as it was
+  pub held_by_update : (d d2 : DirectoryView C S) (infos : List (Info C S)) (held : C → Option (Metadata C S)) → AreHeld cmp d held → Updates cmp d d2 infos → AreHeld cmp d2 held
+  held_by_update d d2 infos held agree change q =
+      agree q ∙ same_busy (infos_of cmp infos q) (record_of cmp d q) ∙ sym (ap is_busy (change.records q))
+
+  -- .. and so does a connect
+  pub held_by_connect : CmpEqualImpliesEq cmp → (d d2 : DirectoryView C S) (p : C) (dialer : Bool) (held : C → Option (Metadata C S)) → AreHeld cmp d held → IsReserved cmp d p
+      → Connects cmp d d2 p dialer → AreHeld cmp d2 held
+  held_by_connect exact d d2 p dialer held agree reserved change q = agree q ∙ go (is_at (cmp p) q) refl ∙ sym (ap is_busy (change.records q))
+    where
+      go : (b : Bool) → is_at (cmp p) q ≡ b → is_busy (record_of cmp d q) ≡ is_busy (if b then option_map (connected_record dialer) (record_of cmp d q) else record_of cmp d q)
+      go true e = stays_busy dialer (record_of cmp d q) (subst (IsReserved cmp d) (tells_apart exact p q e) reserved)
+      go false e = refl
+
   -- a set leaves all that is held as it was
   pub held_by_track : (d d2 : DirectoryView C S) (set : SetAt C) (held : C → Option (Metadata C S)) → AreHeld cmp d held → TakesSet cmp d d2 set → AreHeld cmp d2 held
   held_by_track d d2 set held agree change q =
-      agree q ∙ sym (ap is_busy (change.records q) ∙ busy_with_sets cmp d2.sets q (record_of cmp d q))
+      agree q ∙ sym (ap is_busy (change.records q) ∙ status_with_sets cmp (λ status. not (is_inert status)) refl d2.sets q (record_of cmp d q))
 
   -- one is held more
   pub held_by_grant : CmpEqualImpliesEq cmp → (d d2 : DirectoryView C S) (p : C) (m : Metadata C S) (held held2 : C → Option (Metadata C S)) (now draw : ℕ) → AreHeld cmp d held

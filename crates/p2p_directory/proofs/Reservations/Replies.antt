@@ -34,14 +34,24 @@ item_has {A} P before rest rest2 all x whole is h =
     place [] = refl
     place (y ∷ ys) = place ys
 
+-- there are slots for more peers
+pub room_grows : {C S : Type 0} (cmp : C → C → Ordering) (slots slots2 : List (C × Option (Metadata C S))) (x : Command C S) → ((q : C) → has_slot cmp slots q ≡ true → has_slot cmp slots2 q ≡ true)
+    → has_room cmp slots x ≡ true → has_room cmp slots2 x ≡ true
+room_grows cmp slots slots2 (command.Listen peer now draw) more h = more peer h
+room_grows cmp slots slots2 (command.Track index peers) more h = refl
+room_grows cmp slots slots2 (command.Release peer) more h = refl
+room_grows cmp slots slots2 (command.Connect peer dialer) more h = refl
+room_grows cmp slots slots2 (command.UpdatePeers infos) more h = refl
+room_grows cmp slots slots2 (command.Status peer) more h = refl
+room_grows cmp slots slots2 (command.Info peer) more h = refl
+room_grows cmp slots slots2 (command.GetRandomBitVec place) more h = refl
+room_grows cmp slots slots2 command.LatestSetIndex more h = refl
+room_grows cmp slots slots2 command.Tracked more h = refl
+
 -- the slots are for the same peers
 pub room_stays : {C S : Type 0} (cmp : C → C → Ordering) (slots slots2 : List (C × Option (Metadata C S))) (x : Command C S) → ((q : C) → has_slot cmp slots2 q ≡ has_slot cmp slots q)
     → has_room cmp slots x ≡ true → has_room cmp slots2 x ≡ true
-room_stays cmp slots slots2 (command.Listen peer now draw) same h = same peer ∙ h
-room_stays cmp slots slots2 (command.Track index peers) same h = refl
-room_stays cmp slots slots2 (command.Release peer) same h = refl
-room_stays cmp slots slots2 (command.Status peer) same h = refl
-room_stays cmp slots slots2 command.LatestSetIndex same h = refl
+room_stays cmp slots slots2 x same h = room_grows cmp slots slots2 x (λ q is. same q ∙ is) h
 
 module _ {C S : Type 0} (s : Setup C S) where
   pub answers_push : (before cs : List (Call C S)) (rs : List (Reply C S)) (c : Call C S) (r : Reply C S) →

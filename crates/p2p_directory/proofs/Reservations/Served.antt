@@ -1,30 +1,35 @@
 -- Serving one command answers by the calls accepted before, and leads to the world with it.
-use Rattle.std.proofs.Common.{◌≡◌, ℕ, ◌≤◌, Bool, true, false, not, ◌||◌, List, [], ◌∷◌, Option, Some, None, refl, sym, ◌∙◌, ap, subst}
-use Rattle.std.specs.Prelude.{if◌then◌else◌, nat_lt, is_some}
+use Rattle.std.proofs.Common.{◌≡◌, ℕ, ◌≤◌, ◌<◌, ◌^◌, Bool, true, false, not, ◌||◌, List, [], ◌∷◌, Option, Some, None, refl, sym, ◌∙◌, ap, subst, length}
+use Rattle.std.specs.Prelude.{if◌then◌else◌, nat_lt, is_some, slice_get}
 use Rattle.std.specs.List.{list_all}
 use Rattle.std.specs.Option.{option_map, option_map_or}
 use Rattle.std.specs.BTreeMap.{is_at}
+use Rattle.std.specs.Cmp.{IsTotalOrder}
+use Rattle.std.specs.List.Sorted.{IsStrictlySortedBy}
+use Rattle.std.specs.Map.{keys_of}
 use Rattle.std.specs.declared.cmp.Ordering.TheVariants.{Equal}
 use Rattle.std.proofs.lemmas.Map.Views.{tells_apart}
+use Rattle.p2p_discovery.specs.declared.discovery.BitVec.{BitVec}
+use Rattle.p2p_discovery.specs.declared.discovery.Info.{Info}
 use Rattle.p2p_directory.specs.declared.directory.Metadata.{Metadata}
 use Rattle.p2p_directory.specs.declared.directory.Metadata.TheVariants as metadata
 use Rattle.p2p_directory.specs.declared.record.Status.{Status}
 use Rattle.p2p_directory.specs.declared.record.Status.TheVariants.{Inert, Reserved, Active}
 use Rattle.p2p_directory.specs.declared.run.commands.Reply.TheVariants as reply
 use Rattle.p2p_directory.specs.Calls.{Setup, Call, Event, Direction, Grant}
-use Rattle.p2p_directory.specs.Calls.Call.{Track, Listen, Release, Ask}
-use Rattle.p2p_directory.specs.Calls.Question.{StatusOf, LatestIndex}
+use Rattle.p2p_directory.specs.Calls.Call.{Track, Listen, Connect, Release, Update, Ask}
+use Rattle.p2p_directory.specs.Calls.Question.{StatusOf, NumberTracked, LatestIndex, InfoOf, BitsAt}
 use Rattle.p2p_directory.specs.Calls.Direction.{Listener}
-use Rattle.p2p_directory.specs.Calls.Event.{Nothing, Tracked, Granted, Released}
+use Rattle.p2p_directory.specs.Calls.Event.{Nothing, Tracked, Granted, Connected, Released, Updated}
 use Rattle.p2p_directory.specs.History
-use Rattle.p2p_directory.specs.History.{is_inert}
+use Rattle.p2p_directory.specs.History.{is_inert, is_reserved}
 use Rattle.p2p_directory.specs.World
 use Rattle.p2p_directory.specs.World.{World, event_in}
-use Rattle.p2p_directory.specs.Step.{world_with, new_known, unblock_after}
-use Rattle.p2p_directory.specs.Answers.{is_present_in, was_taken, was_granted}
+use Rattle.p2p_directory.specs.Step.{world_with, new_known, unblock_after, status_connected}
+use Rattle.p2p_directory.specs.Answers.{is_present_in, was_taken, was_granted, IsNumberTracked}
 use Rattle.p2p_directory.specs.Record.{RecordView, may_come}
 use Rattle.p2p_directory.specs.PeerSets.{set_of, latest_index, is_above}
-use Rattle.p2p_directory.specs.Directory.{DirectoryView, is_busy, record_of, first_record, kept_after_release, ChangesRecord, Reserves, TakesSet, AreTornDown}
+use Rattle.p2p_directory.specs.Directory.{DirectoryView, is_busy, record_of, first_record, kept_after_release, sharable_in, bit_vec_at, other_keys, ChangesRecord, Reserves, Connects, Updates, TakesSet, AreTornDown}
 use Rattle.p2p_directory.specs.Held.{AreHeld}
 use Rattle.p2p_directory.specs.Private.Serving.{ServerView, StandsAt, IsServedAt}
 use Rattle.p2p_directory.specs.Private.Slots.{held_in}
@@ -33,6 +38,7 @@ use Rattle.p2p_directory.specs.Run.{world_after, event_of, Holds, HasNoBlock}
 use Rattle.p2p_directory.proofs.Definitions.Law
 use Rattle.p2p_directory.proofs.LawsOfRuns.Forgotten
 use Rattle.p2p_directory.proofs.Refinement.CallsRefine
+use Rattle.p2p_directory.proofs.Refinement.KnowledgeRefines
 
 module _ {C S : Type 0} (s : Setup C S) where
   -- a reservation is held exactly of the peers that are reserved or connected
@@ -76,15 +82,16 @@ module _ {C S : Type 0} (s : Setup C S) where
     world_of_call : (cs : List (Call C S)) (c : Call C S) (e : Event C S) → event_in s (world_after s cs).sets (world_after s cs) c ≡ e → world_after s (c ∷ cs) ≡ world_with s e (world_after s cs)
     world_of_call cs c e is = Law.recomputed_is_one_step s some cs c ∙ ap (λ e. world_with s e (world_after s cs)) is
 
-    stands_with : (cs : List (Call C S)) (c : Call C S) (e : Event C S) (v : ServerView C S) → ((p : C) → unblock_after s p e ((world_after s cs).unblock p) ≡ None) → event_in s (world_after s cs).sets (world_after s cs) c ≡ e →
+    stands_with : (cs : List (Call C S)) (c : Call C S) (e : Event C S) (v : ServerView C S) → s.dial_fail_limit < 2 ^ 64 → ((p : C) → unblock_after s p e ((world_after s cs).unblock p) ≡ None) → event_in s (world_after s cs).sets (world_after s cs) c ≡ e →
         Refines s (world_with s e (world_after s cs)) v.directory → Holds s (world_with s e (world_after s cs)) (held_in s.cmp v.slots) → StandsAt s (c ∷ cs) v
-    stands_with cs c e v unblocked is stands holds =
+    stands_with cs c e v fits unblocked is stands holds =
         let back = sym (world_of_call cs c e is) in
-        record { refines = subst (λ w. Refines s w v.directory) back stands; unblocked = subst HasNoBlock back unblocked; holds = subst (λ w. Holds s w (held_in s.cmp v.slots)) back holds }
+        record { limit_fits = fits; refines = subst (λ w. Refines s w v.directory) back stands; unblocked = subst HasNoBlock back unblocked; holds = subst (λ w. Holds s w (held_in s.cmp v.slots)) back holds }
 
     -- where nothing changes
     pub same_views : (cs : List (Call C S)) (v v2 : ServerView C S) → v2.directory ≡ v.directory → ((q : C) → held_in s.cmp v2.slots q ≡ held_in s.cmp v.slots q) → StandsAt s cs v → StandsAt s cs v2
     same_views cs v v2 directory held at = record {
+      limit_fits = at.limit_fits;
       refines = subst (Refines s (world_after s cs)) (sym directory) at.refines;
       unblocked = at.unblocked;
       holds = record { peers = λ q. ap is_some (held q) ∙ at.holds.peers q; metadata = λ q. held q ∙ at.holds.metadata q };
@@ -96,7 +103,7 @@ module _ {C S : Type 0} (s : Setup C S) where
     idle cs c v v2 is directory slots at =
         let now = same_views cs v v2 directory (λ q. ap (λ slots. held_in s.cmp slots q) slots) at in
         let back = sym (world_of_call cs c Nothing is ∙ nothing_changes (world_after s cs) (Forgotten.absent s cs)) in
-        record { refines = subst (λ w. Refines s w v2.directory) back now.refines; unblocked = subst HasNoBlock back now.unblocked; holds = subst (λ w. Holds s w (held_in s.cmp v2.slots)) back now.holds }
+        record { limit_fits = now.limit_fits; refines = subst (λ w. Refines s w v2.directory) back now.refines; unblocked = subst HasNoBlock back now.unblocked; holds = subst (λ w. Holds s w (held_in s.cmp v2.slots)) back now.holds }
 
     -- TRACK
 
@@ -140,6 +147,27 @@ module _ {C S : Type 0} (s : Setup C S) where
         same q true = refl
         same q false = holds.metadata q
 
+    connected_holds : (w : World C S) (p : C) (dialer : Bool) (h : C → Option (Metadata C S)) → Holds s w h → Holds s (world_with s (Connected p dialer) w) h
+    connected_holds w p dialer h holds = record {
+      peers = λ q. holds.peers q ∙ go (is_at (s.cmp p) q) (w.peer q).status;
+      metadata = holds.metadata;
+    }
+      where
+        go : (same : Bool) (status : Status) → not (is_inert status) ≡ not (is_inert (if same then status_connected s status else status))
+        go true Inert = refl
+        go true Reserved = refl
+        go true Active = refl
+        go false status = refl
+
+    only_reserved : (status : Status) → is_reserved status ≡ true → status ≡ Reserved
+    only_reserved Inert e = absurd (cc)
+    only_reserved Reserved e = refl
+    only_reserved Active e = absurd (cc)
+
+    some_unless : {A : Type 0} (o : Option A) → (o ≡ None → ⊥) → is_some o ≡ true
+    some_unless None none = absurd (none refl)
+    some_unless (Some a) none = refl
+
     -- ONE COMMAND: v before it, v2 after it
     module _ (cs : List (Call C S)) (v v2 : ServerView C S) (at : StandsAt s cs v) where
       above : (index : ℕ) (b : Bool) → is_above index (latest_index v.directory.sets) ≡ b → list_all (λ x. nat_lt x.index index) (world_after s cs).sets ≡ b
@@ -170,7 +198,7 @@ module _ {C S : Type 0} (s : Setup C S) where
           let is = tracked_is cs index primary secondary true (above index true next) in
           let refines : Refines s (world_with s (Tracked set) w) v2.directory = CallsRefine.tie_track s w v.directory v2.directory set at.refines (Forgotten.absent s cs) change in
           let same : Holds s (world_with s (Tracked set) w) (held_in s.cmp v.slots) = record { peers = at.holds.peers; metadata = at.holds.metadata } in
-          let left = stands_with cs c (Tracked set) v2 at.unblocked is refines (subst (λ slots. Holds s (world_with s (Tracked set) w) (held_in s.cmp slots)) (sym slots) same) in
+          let left = stands_with cs c (Tracked set) v2 at.limit_fits at.unblocked is refines (subst (λ slots. Holds s (world_with s (Tracked set) w) (held_in s.cmp slots)) (sym slots) same) in
           record {
             answer = (ap was_taken (event cs c (Tracked set) is), CallsRefine.tie_torn s w (world_after s (c ∷ cs)) v.directory v2.directory torn at.refines left.refines down);
             left = left;
@@ -188,7 +216,7 @@ module _ {C S : Type 0} (s : Setup C S) where
           record {
             answer = ap (λ e. reply.Listen (was_granted e)) (sym (event cs c (Granted p grant) is));
             left =
-                stands_with cs c (Granted p grant) v2 at.unblocked is (CallsRefine.tie_listen s exact w v.directory v2.directory p now draw at.refines may change)
+                stands_with cs c (Granted p grant) v2 at.limit_fits at.unblocked is (CallsRefine.tie_listen s exact w v.directory v2.directory p now draw at.refines may change)
                 (granted_holds w p grant (held_in s.cmp v.slots) (held_in s.cmp v2.slots) held at.holds);
           }
 
@@ -199,6 +227,44 @@ module _ {C S : Type 0} (s : Setup C S) where
           let may = sym (CallsRefine.tie_may_listen s (world_after s cs) v.directory p now at.refines (at.unblocked p)) ∙ can in
           let is : event_in s (world_after s cs).sets (world_after s cs) c ≡ Nothing = ap (World.listen_event s p now draw) may in
           record { answer = ap (λ e. reply.Listen (was_granted e)) (sym (event cs c Nothing is)); left = idle cs c v v2 is directory slots at }
+
+      -- the status that is told of p says whether p is reserved
+      reserved_is : (p : C) (o : Option Status) (b : Bool) → o ≡ option_map (λ r. r.status) (record_of s.cmp v.directory p) → option_map_or is_reserved o false ≡ b → is_reserved ((world_after s cs).peer p).status ≡ b
+      reserved_is p o b told is =
+          sym (KnowledgeRefines.tie_reserved s (world_after s cs) v.directory p at.refines) ∙ sym (ap (λ o. option_map_or is_reserved o false) told) ∙ is
+
+      pub served_connected : (p : C) (dialer : Bool) (o : Option Status) → o ≡ option_map (λ r. r.status) (record_of s.cmp v.directory p) → option_map_or is_reserved o false ≡ true →
+          Connects s.cmp v.directory v2.directory p dialer → v2.slots ≡ v.slots → IsServedAt s cs (Connect p dialer) reply.Connect v2
+      served_connected p dialer o told reserved change slots =
+          let w : World C S = world_after s cs in
+          let may = reserved_is p o true told reserved in
+          let status = only_reserved (w.peer p).status may in
+          let is : event_in s w.sets w (Connect p dialer) ≡ Connected p dialer = ap (World.connect_event s p dialer) status in
+          let holds = connected_holds w p dialer (held_in s.cmp v.slots) at.holds in
+          record {
+            answer = ap (λ b. if b then reply.Connect else reply.NotReserved) (sym may);
+            left =
+                stands_with cs (Connect p dialer) (Connected p dialer) v2 at.limit_fits at.unblocked is (KnowledgeRefines.tie_connect s exact w v.directory v2.directory p dialer at.refines status change)
+                (subst (λ slots. Holds s (world_with s (Connected p dialer) w) (held_in s.cmp slots)) (sym slots) holds);
+          }
+
+      pub served_not_reserved : (p : C) (dialer : Bool) (o : Option Status) → o ≡ option_map (λ r. r.status) (record_of s.cmp v.directory p) → option_map_or is_reserved o false ≡ false →
+          v2.directory ≡ v.directory → v2.slots ≡ v.slots → IsServedAt s cs (Connect p dialer) reply.NotReserved v2
+      served_not_reserved p dialer o told other directory slots = record {
+        answer = ap (λ b. if b then reply.Connect else reply.NotReserved) (sym (reserved_is p o false told other));
+        left = same_views cs v v2 directory (λ q. ap (λ slots. held_in s.cmp slots q) slots) at;
+      }
+
+      pub served_updated : (infos : List (Info C S)) → Updates s.cmp v.directory v2.directory infos → v2.slots ≡ v.slots → IsServedAt s cs (Update infos) reply.UpdatePeers v2
+      served_updated infos change slots =
+          let w : World C S = world_after s cs in
+          let same : Holds s (world_with s (Updated infos) w) (held_in s.cmp v.slots) = record { peers = at.holds.peers; metadata = at.holds.metadata } in
+          record {
+            answer = refl;
+            left =
+                stands_with cs (Update infos) (Updated infos) v2 at.limit_fits at.unblocked refl (KnowledgeRefines.tie_update s w v.directory v2.directory infos at.refines change)
+                (subst (λ slots. Holds s (world_with s (Updated infos) w) (held_in s.cmp slots)) (sym slots) same);
+          }
 
       -- what is held is a grant, and its metadata that of the grant
       held_grant : (p : C) (m : Metadata C S) → held_in s.cmp v.slots p ≡ Some m → (grant : Grant) × ((world_after s cs).held p ≡ Some grant) × (metadata_of p grant.direction ≡ m)
@@ -224,7 +290,7 @@ module _ {C S : Type 0} (s : Setup C S) where
           record {
             answer = ap (λ b. if not b then reply.Release else reply.NotHeld) (sym live);
             left =
-                stands_with cs (Release p) (Released p direction) v2 at.unblocked is (CallsRefine.tie_release s exact w v.directory v2.directory p direction at.refines live of_grant)
+                stands_with cs (Release p) (Released p direction) v2 at.limit_fits at.unblocked is (CallsRefine.tie_release s exact w v.directory v2.directory p direction at.refines live of_grant)
                 (released_holds w p direction (held_in s.cmp v.slots) (held_in s.cmp v2.slots) held at.holds);
           }
 
@@ -249,10 +315,44 @@ module _ {C S : Type 0} (s : Setup C S) where
       served_latest latest is directory slots =
           record { answer = ap reply.LatestSetIndex (is ∙ ap latest_index at.refines.sets); left = idle cs (Ask LatestIndex) v v2 refl directory slots at }
 
+      pub served_info : (p : C) (info : Option (Info C S)) → info ≡ sharable_in s.cmp v.directory p → v2.directory ≡ v.directory → v2.slots ≡ v.slots
+          → IsServedAt s cs (Ask (InfoOf p)) (reply.Info info) v2
+      served_info p info is directory slots =
+          record { answer = ap reply.Info (is ∙ KnowledgeRefines.tie_info s (world_after s cs) v.directory p at.refines); left = idle cs (Ask (InfoOf p)) v v2 refl directory slots at }
+
+      -- .. refused memory
+      pub served_no_info : (p : C) → (sharable_in s.cmp v.directory p ≡ None → ⊥) → v2.directory ≡ v.directory → v2.slots ≡ v.slots → IsServedAt s cs (Ask (InfoOf p)) reply.OutOfMemory v2
+      served_no_info p some_info directory slots = record {
+        answer = sym (ap is_some (KnowledgeRefines.tie_info s (world_after s cs) v.directory p at.refines)) ∙ some_unless (sharable_in s.cmp v.directory p) some_info;
+        left = same_views cs v v2 directory (λ q. ap (λ slots. held_in s.cmp slots q) slots) at;
+      }
+
+      pub served_bits : (place : ℕ) (bits : Option BitVec) → bits ≡ bit_vec_at s.cmp v.directory place → v2.directory ≡ v.directory → v2.slots ≡ v.slots
+          → IsServedAt s cs (Ask (BitsAt place)) (reply.GetRandomBitVec bits) v2
+      served_bits place bits is directory slots = record {
+        answer = ap reply.GetRandomBitVec (is ∙ KnowledgeRefines.tie_bits s at.limit_fits (world_after s cs) v.directory place (Forgotten.absent s cs) at.refines);
+        left = idle cs (Ask (BitsAt place)) v v2 refl directory slots at;
+      }
+
+      -- .. refused memory
+      pub served_no_bits : (place : ℕ) → (slice_get v.directory.sets place ≡ None → ⊥) → v2.directory ≡ v.directory → v2.slots ≡ v.slots → IsServedAt s cs (Ask (BitsAt place)) reply.OutOfMemory v2
+      served_no_bits place some_set directory slots = record {
+        answer = sym (ap (λ sets. is_some (slice_get sets place)) at.refines.sets) ∙ some_unless (slice_get v.directory.sets place) some_set;
+        left = same_views cs v v2 directory (λ q. ap (λ slots. held_in s.cmp slots q) slots) at;
+      }
+
+      pub served_tracked : IsTotalOrder s.cmp → (n : ℕ) → n ≡ length (other_keys v.directory.records) → IsStrictlySortedBy s.cmp (keys_of v.directory.records) → v2.directory ≡ v.directory → v2.slots ≡ v.slots
+          → IsServedAt s cs (Ask NumberTracked) (reply.Tracked n) v2
+      served_tracked total n is up directory slots = record {
+        answer = subst (IsNumberTracked s (world_after s cs)) (sym is) (KnowledgeRefines.tie_tracked s total (world_after s cs) v.directory at.refines up);
+        left = idle cs (Ask NumberTracked) v v2 refl directory slots at;
+      }
+
   -- before any command nothing is held
-  pub stands_at_start : (v : ServerView C S) → v.directory.config ≡ config_of s → v.directory.sets ≡ [] →
+  pub stands_at_start : (v : ServerView C S) → s.dial_fail_limit < 2 ^ 64 → v.directory.config ≡ config_of s → v.directory.sets ≡ [] →
       ((q : C) → record_of s.cmp v.directory q ≡ first_record s.cmp s.bootstrappers s.own q) → ((q : C) → held_in s.cmp v.slots q ≡ None) → StandsAt s [] v
-  stands_at_start v config sets records none = record {
+  stands_at_start v fits config sets records none = record {
+    limit_fits = fits;
     refines = CallsRefine.tie_start s v.directory config sets records;
     unblocked = λ p. refl;
     holds = record { peers = λ q. ap is_some (none q); metadata = none };

@@ -10,23 +10,25 @@ use Rattle.std.proofs.lemmas.Bool.Decides.{nat_tests}
 use Rattle.p2p_discovery.specs.declared.discovery.Info.{Info}
 use Rattle.p2p_discovery.specs.declared.types.ingress.Ingress.{Ingress}
 use Rattle.p2p_directory.specs.declared.record.Address.TheVariants.{Myself, Bootstrapper}
+use Rattle.p2p_directory.specs.declared.record.Status.{Status}
+use Rattle.p2p_directory.specs.declared.record.Status.TheVariants.{Inert, Reserved, Active}
 use Rattle.p2p_directory.specs.declared.record.Role.{Role}
 use Rattle.p2p_directory.specs.declared.record.Role.TheVariants.{Primary, Secondary}
 use Rattle.p2p_directory.specs.Calls.{SetAt}
 use Rattle.p2p_directory.specs.History.{last_of, is_inert}
 use Rattle.p2p_directory.specs.World.{last_ingress_by}
 use Rattle.p2p_directory.specs.Record.{RecordView, new_record, blank, is_myself, is_wanted, is_eligible, is_deletable, with_counts, unless_deletable}
-use Rattle.p2p_directory.specs.Private.Counts.{one_set_less}
+use Rattle.p2p_directory.specs.Private.Counts.{one_set_more, one_set_less, record_leaving}
 use Rattle.p2p_directory.specs.PeerSets.{members, has_key, set_count, AreRolesDisjoint}
 use Rattle.p2p_directory.specs.Private.Counts.{newest_sets, leaving_count, surplus_count}
-use Rattle.p2p_directory.specs.Directory.{first_record, is_busy, record_with_sets, is_connectable}
-use Rattle.p2p_directory.specs.Private.Counts.{record_joining, AreCounted, IsConsistent, KeepsAll, DropsFirst, DropsOldest, IsRestored}
+use Rattle.p2p_directory.specs.Directory.{first_record, has_status, record_with_sets, is_connectable}
+use Rattle.p2p_directory.specs.Private.Counts.{record_joining, AreCounted, IsConsistent, HasOwn, KeepsAll, DropsFirst, DropsOldest, IsRestored}
 use Rattle.p2p_directory.proofs.SetsAndRecords.Counting
 use Rattle.p2p_directory.proofs.SetsAndRecords.Counting.{one, at_counts, at_its_counts}
 
 -- COUNTS OF SETS
 
-count_cons : {X : Type 0} (f : X → Bool) (x : X) (xs : List X) → count_by f (x ∷ xs) ≡ one (f x) + count_by f xs
+pub count_cons : {X : Type 0} (f : X → Bool) (x : X) (xs : List X) → count_by f (x ∷ xs) ≡ one (f x) + count_by f xs
 count_cons f x xs = let e = sum_by-append (λ y. cond {A = ℕ} (f y) 1 0) (x ∷ []) xs in omega (arith, e)
 
 count_push : {X : Type 0} (f : X → Bool) (xs : List X) (x : X) → count_by f (xs ++ x ∷ []) ≡ count_by f xs + one (f x)
@@ -114,14 +116,15 @@ module _ {C : Type 0} (cmp : C → C → Ordering) where
       go false e = (false, false, kept_left (x ∷ xs) (kept (nat_lt max (length (x ∷ (xs ++ set ∷ []))))) set q (ap kept e))
 
 module _ {C S : Type 0} where
-  -- what goes is not busy
-  pub busy_unless : (r : RecordView C S) → is_busy (unless_deletable r) ≡ not (is_inert r.status)
-  busy_unless r = go (is_wanted r) (is_inert r.status) refl
+  -- what goes is inert
+  pub status_unless : (test : Status → Bool) → test Inert ≡ false → (r : RecordView C S) → has_status test (unless_deletable r) ≡ test r.status
+  status_unless test idle r = go (is_wanted r) r.status refl
     where
-      go : (wanted inert : Bool) → is_inert r.status ≡ inert → is_busy (if not wanted && inert then None else Some r) ≡ not (is_inert r.status)
-      go true inert e = refl
-      go false true e = ap not (sym e)
-      go false false e = refl
+      go : (wanted : Bool) (status : Status) → r.status ≡ status → has_status test (if not wanted && is_inert status then None else Some r) ≡ test r.status
+      go true status e = refl
+      go false Inert e = sym (ap test e ∙ idle)
+      go false Reserved e = refl
+      go false Active e = refl
 
 module _ {C S : Type 0} (cmp : C → C → Ordering) where
   -- THE START
@@ -149,6 +152,27 @@ module _ {C S : Type 0} (cmp : C → C → Ordering) where
       counts_first true o = (refl, refl)
       counts_first false None = (refl, refl)
       counts_first false (Some a) = (refl, refl)
+
+  -- the own record at first
+  pub first_own : (bootstrappers : List (C × Ingress)) (own : Info C S) (record_at : C → Option (RecordView C S)) → ((q : C) → record_at q ≡ first_record cmp bootstrappers own q) → HasOwn cmp record_at
+  first_own bootstrappers own record_at first = record {
+    own = own.public_key;
+    is_own = λ q. rw (first q) (is (is_at (cmp own.public_key) q) (last_ingress_by cmp q bootstrappers));
+    persists = λ q. rw (first q) (lasts (is_at (cmp own.public_key) q) (last_ingress_by cmp q bootstrappers));
+  }
+    where
+      made : Bool → Option Ingress → Option (RecordView C S)
+      made b o = cond b (Some (new_record (Myself own) true)) (option_map (λ ingress. new_record (Bootstrapper ingress) true) o)
+
+      is : (b : Bool) (o : Option Ingress) → option_map_or (λ r. is_myself r.address) (made b o) false ≡ b
+      is true o = refl
+      is false None = refl
+      is false (Some a) = refl
+
+      lasts : (b : Bool) (o : Option Ingress) → IfSome (made b o) (λ r. is_myself r.address ≡ true → r.persistent ≡ true)
+      lasts true o = λ e. refl
+      lasts false None = tt
+      lasts false (Some a) = λ e. refl
 
   -- A SET
 
@@ -276,10 +300,21 @@ module _ {C S : Type 0} (cmp : C → C → Ordering) where
         max_in_range = was.max_in_range;
       }
 
-  -- other sets leave busy exactly who was
-  pub busy_with_sets : (sets : List (SetAt C)) (q : C) (o : Option (RecordView C S)) → is_busy (record_with_sets cmp sets q o) ≡ is_busy o
-  busy_with_sets sets q None = busy_unless (with_counts (set_count cmp Primary q sets) (set_count cmp Secondary q sets) blank)
-  busy_with_sets sets q (Some r) = busy_unless (with_counts (set_count cmp Primary q sets) (set_count cmp Secondary q sets) r)
+  -- other sets leave each status, but for who is inert
+  pub status_with_sets : (test : Status → Bool) → test Inert ≡ false → (sets : List (SetAt C)) (q : C) (o : Option (RecordView C S)) → has_status test (record_with_sets cmp sets q o) ≡ has_status test o
+  status_with_sets test idle sets q None = status_unless test idle (with_counts (set_count cmp Primary q sets) (set_count cmp Secondary q sets) blank) ∙ idle
+  status_with_sets test idle sets q (Some r) = status_unless test idle (with_counts (set_count cmp Primary q sets) (set_count cmp Secondary q sets) r)
+
+  -- a set that came and went leaves each record as it was
+  pub left_again : (set : SetAt C) (q : C) (o : Option (RecordView C S)) → AreRolesDisjoint cmp set → ((role : Role) → IsRestored cmp role o) → record_leaving cmp set q (record_joining cmp set q o) ≡ o
+  left_again set q o disjoint back = go (has_key cmp set.primary q) (has_key cmp set.secondary q) (disjoint q)
+    where
+      go : (a b : Bool) → (a ≡ true → b ≡ false) → (let joined = (if b then one_set_more Secondary (if a then one_set_more Primary o else o) else (if a then one_set_more Primary o else o)) in
+          if b then one_set_less Secondary (if a then one_set_less Primary joined else joined) else (if a then one_set_less Primary joined else joined)) ≡ o
+      go true true h = absurd (let f = h refl in cc)
+      go true false h = back Primary
+      go false true h = back Secondary
+      go false false h = refl
 
   -- A TRACK, from its parts: max2 is the greatest number, made the set, and sets1 the sets with it
   pub record IsTracked (max : ℕ) (sets sets2 : List (SetAt C)) (set : SetAt C) (old new : C → Option (RecordView C S)) (torn : List C) : Type 0 where

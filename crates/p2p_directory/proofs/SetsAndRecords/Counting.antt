@@ -122,7 +122,7 @@ module _ {C S : Type 0} where
   stays r e = ap (λ w. if not w && is_inert r.status then None else Some r) e
 
   -- who is in a set has a record
-  stays_primary : (p s : ℕ) (r : RecordView C S) → 1 ≤ p → at_counts p s r ≡ Some (with_counts p s r)
+  pub stays_primary : (p s : ℕ) (r : RecordView C S) → 1 ≤ p → at_counts p s r ≡ Some (with_counts p s r)
   stays_primary p s r h = stays (with_counts p s r) (wanted_primary p s r.persistent h)
 
   stays_secondary : (p s : ℕ) (r : RecordView C S) → 1 ≤ s → at_counts p s r ≡ Some (with_counts p s r)

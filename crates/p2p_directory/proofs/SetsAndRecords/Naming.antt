@@ -111,7 +111,8 @@ sorted_take cmp zero keys up = tt
 sorted_take cmp (suc i) [] up = tt
 sorted_take cmp (suc i) (x ∷ keys) up = (all_take (λ y. cmp x y ≡ Less) i keys up.0, sorted_take cmp i keys up.1)
 
-all_joined : {A : Type 0} (P : A → Type 0) (xs ys : List A) → AllByRecursion P xs → AllByRecursion P ys → AllByRecursion P (xs ++ ys)
+-- what is true of each of two lists is true of both
+pub all_joined : {A : Type 0} (P : A → Type 0) (xs ys : List A) → AllByRecursion P xs → AllByRecursion P ys → AllByRecursion P (xs ++ ys)
 all_joined P [] ys h k = k
 all_joined P (x ∷ xs) ys h k = (h.0, all_joined P xs ys h.1 k)
 
@@ -154,3 +155,8 @@ excludes false b h e = refl
 pub none_distinct : {C : Type 0} (e : C → C → Bool) → IsDistinct e []
 unfolding IsDistinct
 none_distinct e = tt
+
+-- what was counted more and then less is as it was
+pub undone : {X : Type 0} (b : Bool) (more less : Option X → Option X) (new now old : Option X) → (b ≡ true → less (more old) ≡ old) → new ≡ cond b (less now) now → now ≡ cond b (more old) old → new ≡ old
+undone true more less new now old back d e = d ∙ ap less e ∙ back refl
+undone false more less new now old back d e = d ∙ e

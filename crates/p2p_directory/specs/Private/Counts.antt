@@ -1,18 +1,21 @@
 -- Private: one set more or less, counted in the records of its peers one after the other, and what holds between calls.
 use Rattle.std.specs.Prelude.{ℕ, ◌≡◌, ◌<◌, ◌≤◌, ◌+◌, ◌-◌, ◌^◌, ◌==◌, Bool, true, false, not, ◌&&◌, ◌||◌, if◌then◌else◌, min, nat_lt, List, [], ◌∷◌, length, drop, Option, Some, IfSome, unwrap_or}
 use Rattle.std.specs.Option.{option_map_or, option_and_then}
+use Rattle.std.specs.BTreeMap.{BTreeMap, IsOrdered, is_at}
 use Rattle.std.specs.declared.cmp.Ordering.{Ordering}
 use Rattle.p2p_directory.specs.declared.record.Role.{Role}
 use Rattle.p2p_directory.specs.declared.record.Role.TheVariants.{Primary, Secondary}
 use Rattle.p2p_directory.specs.Calls.{SetAt}
 use Rattle.p2p_directory.specs.History.{is_inert}
-use Rattle.p2p_directory.specs.Record.{RecordView, blank, is_eligible, is_deletable, reserved_record, with_counts, unless_deletable}
+use Rattle.p2p_directory.specs.Record.{RecordView, blank, is_myself, is_eligible, is_deletable, reserved_record, with_counts, unless_deletable}
 use Rattle.p2p_directory.specs.PeerSets.{has_key, set_count, AreRolesDisjoint}
+use Rattle.p2p_directory.specs.Directory.{is_known}
+use Rattle.p2p_directory.specs.Private.Window.{SetWithBits, plain_sets, sets_with_bits}
 
 -- SETS
 
 -- the sets that are left when there is room for so many
-abbrev pub newest_sets : {C : Type 0} → ℕ → List (SetAt C) → List (SetAt C)
+abbrev pub newest_sets : {A : Type 0} → ℕ → List A → List A
 newest_sets max sets = if nat_lt max (length sets) then drop 1 sets else sets
 
 -- how many peers the oldest set has, where it goes when one more comes
@@ -58,6 +61,11 @@ module _ {C S : Type 0} where
   one_set_less role o = option_and_then (λ r. unless_deletable (with_one_less role r)) o
 
 module _ {C S : Type 0} (cmp : C → C → Ordering) where
+  -- the entries are those of an ordered map
+  abbrev pub IsOfMap : List (C × RecordView C S) → Type 0
+  IsOfMap entries =
+      (m : BTreeMap C (RecordView C S)) × IsOrdered cmp m × (m.entries ≡ entries)
+
   -- ONE SET MORE OR LESS, as records are counted one peer after the other
 
   -- a change that is made where a test holds
@@ -120,3 +128,24 @@ module _ {C S : Type 0} (cmp : C → C → Ordering) where
     pub at_most_max : length sets ≤ max
     pub max_positive : 0 < max
     pub max_in_range : max < 2 ^ 64 - 1
+
+  -- one peer alone has the record of the local node, and that record is persistent
+  pub record HasOwn (record_at : C → Option (RecordView C S)) : Type 0 where
+    pub own : C
+    pub is_own : (q : C) →
+        option_map_or (λ r. is_myself r.address) (record_at q) false ≡ is_at (cmp own) q
+    pub persists : (q : C) →
+        IfSome (record_at q) (λ r. is_myself r.address ≡ true → r.persistent ≡ true)
+
+  -- each bit of the sets says whether the peer's info is known, and not wanted
+  abbrev pub AreMarked :
+      ℕ → List (SetWithBits C) → (C → Option (RecordView C S)) → Type 0
+  AreMarked limit window record_at =
+      window ≡ sets_with_bits (λ q. is_known limit (record_at q)) (plain_sets window)
+
+  -- what holds of a directory between calls
+  pub record IsInvariant (max limit : ℕ) (window : List (SetWithBits C))
+      (record_at : C → Option (RecordView C S)) : Type 0 where
+    pub counts : IsConsistent max (plain_sets window) record_at
+    pub own : HasOwn record_at
+    pub bits : AreMarked limit window record_at

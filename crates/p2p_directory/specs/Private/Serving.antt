@@ -1,5 +1,5 @@
 -- Serving one command: from wherever the calls accepted before led, the reply is the answer.
-use Rattle.std.specs.Prelude.{Bool, true, List, Option}
+use Rattle.std.specs.Prelude.{◌<◌, ◌^◌, Bool, true, List, Option}
 use Rattle.std.specs.declared.cmp.Ordering.{Ordering}
 use Rattle.p2p_discovery.specs.declared.discovery.Info.{Info}
 use Rattle.p2p_discovery.specs.declared.types.ingress.Ingress.{Ingress}
@@ -12,7 +12,8 @@ use Rattle.p2p_directory.specs.Calls.{Setup, Call}
 use Rattle.p2p_directory.specs.Directory.{DirectoryView}
 use Rattle.p2p_directory.specs.Refinement.{Refines}
 use Rattle.p2p_directory.specs.Private.Slots.{has_slot, held_in}
-use Rattle.p2p_directory.specs.Run.{setup_of, call_of, world_after, IsAnswer, next, Holds, HasNoBlock}
+use Rattle.p2p_directory.specs.Run.{setup_of, call_of, world_after}
+use Rattle.p2p_directory.specs.Run.{IsAnswer, next, Holds, HasNoBlock}
 
 -- a directory, and slots for the reservations that it granted
 pub record ServerView (C S : Type 0) : Type 0 where
@@ -26,8 +27,9 @@ module _ {C S : Type 0} (cmp : C → C → Ordering) where
   has_room slots _ = true
 
 module _ {C S : Type 0} (s : Setup C S) where
-  -- the directory and what is held stand at the point after these calls
+  -- the directory and what is held stand at the point after these calls; the limit is a `usize`
   pub record StandsAt (calls : List (Call C S)) (v : ServerView C S) : Type 0 where
+    pub limit_fits : s.dial_fail_limit < 2 ^ 64
     pub refines : Refines s (world_after s calls) v.directory
     pub unblocked : HasNoBlock (world_after s calls)
     pub holds : Holds s (world_after s calls) (held_in s.cmp v.slots)

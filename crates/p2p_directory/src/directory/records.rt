@@ -1,13 +1,18 @@
 //! What a directory keeps of each peer, seen at each key.
 
-ghost use Rattle.std.specs.Prelude.{◌≡◌, false, true, IfOk, Some, if◌then◌else◌};
+ghost use Rattle.std.specs.Prelude.{◌≡◌, ◌∷◌, [], false, true, IfOk, IfSome, IfNone, Some};
+ghost use Rattle.std.specs.Prelude.{if◌then◌else◌, length};
 ghost use Rattle.std.specs.Option.{option_map, option_map_or, option_copied};
+ghost use Rattle.std.specs.Map.{keys_of};
+ghost use Rattle.std.specs.List.Sorted.{IsStrictlySortedBy};
 ghost use Rattle.std.specs.Duration.{as_nanos};
 ghost use Rattle.std.specs.BTreeMap.{is_at, get};
-ghost use Rattle.p2p_directory.specs.History.{is_inert};
+ghost use Rattle.p2p_directory.specs.History.{is_inert, is_reserved};
 ghost use Rattle.p2p_directory.specs.Record.{may_come, reserved_record};
 ghost use Rattle.p2p_directory.specs.Private.Counts.{reserved_if};
-ghost use Rattle.p2p_directory.specs.Directory.{key_of, is_busy, released_record, kept_after_release, record_at, first_record, ChangesAt};
+ghost use Rattle.p2p_directory.specs.Directory.{key_of, has_status, is_busy, is_known, record_at, first_record};
+ghost use Rattle.p2p_directory.specs.Directory.{released_record, kept_after_release};
+ghost use Rattle.p2p_directory.specs.Directory.{connected_record, updated_record, ChangesAt};
 
 use crate::directory::Metadata;
 use crate::kept::forget;
@@ -88,18 +93,80 @@ impl<C: PublicKey> Records<C> {
         reserved
     }
 
-    /// Ends the reservation of its peer, and takes out the record where it is deletable then.
-    pub fn release(&mut self, metadata: &Metadata<C>)
+    /// Ends the reservation of its peer, and takes out the record where it is deletable then. Says
+    /// whether the peer's info is known then, and not wanted.
+    pub fn release(&mut self, metadata: &Metadata<C>, limit: usize) -> bool
         requires { is_busy (record_at C.cmp self.old (key_of metadata.now)) ≡ true }
-        ensures { ChangesAt C.cmp self.old self.new (key_of metadata.now) (kept_after_release metadata.now) }
+        ensures change { ChangesAt C.cmp self.old self.new (key_of metadata.now)
+            (kept_after_release metadata.now) }
+        ensures known { result ≡
+            is_known limit (record_at C.cmp self.new (key_of metadata.now)) }
     {
         let peer = *metadata.public_key();
+        let mut known = false;
         if let Some(found) = self.map.get_mut(&peer) {
             release_record(found, metadata);
             if found.deletable() {
                 forget(self.map.remove(&peer));
+            } else {
+                known = !found.want(limit);
             }
         }
+        known
+    }
+
+    /// Connects the peer, as its dialer or not. Says whether its info is known then, and not wanted.
+    pub fn connect(&mut self, peer: &C, dialer: bool, limit: usize) -> bool
+        requires { has_status is_reserved (record_at C.cmp self.old peer.now) ≡ true }
+        ensures change { ChangesAt C.cmp self.old self.new peer.now
+            (option_map (connected_record dialer)) }
+        ensures known { result ≡ is_known limit (record_at C.cmp self.new peer.now) }
+    {
+        match self.map.get_mut(peer) {
+            Some(found) => {
+                connect_record(found, dialer);
+                !found.want(limit)
+            }
+            None => false,
+        }
+    }
+
+    /// Offers an info to the record of its peer. Where it is taken, says whether the peer's info is
+    /// then not wanted; else nothing has changed.
+    pub fn update(&mut self, info: Info<C>, limit: usize) -> Option<bool>
+        ensures change { ChangesAt C.cmp self.old self.new info.public_key
+            (option_map (updated_record (info ∷ []))) }
+        ensures known { IfSome result (λ known.
+            known ≡ is_known limit (record_at C.cmp self.new info.public_key)) }
+        ensures none { IfNone result ((q : C) →
+            record_at C.cmp self.new q ≡ record_at C.cmp self.old q) }
+    {
+        let peer = info.public_key;
+        if let Some(found) = self.map.get_mut(&peer) {
+            if found.update(info) {
+                return Some(!found.want(limit));
+            }
+        }
+        None
+    }
+
+    /// How many records there are.
+    pub fn len(&self) -> usize
+        ensures count { result ≡ length self.now }
+        ensures sorted { IsStrictlySortedBy C.cmp (keys_of self.now) }
+    {
+        self.map.len()
+    }
+}
+
+// Connects the peer of the record, as its dialer or not.
+fn connect_record<C: PublicKey>(found: &mut Record<C>, dialer: bool)
+    requires { is_reserved found.old.status ≡ true }
+    ensures { found.new ≡ connected_record dialer found.old }
+{
+    found.connect();
+    if dialer {
+        found.dial_success();
     }
 }
 

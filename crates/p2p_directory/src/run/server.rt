@@ -6,10 +6,12 @@ ghost use Rattle.p2p_directory.specs.Private.Slots.{has_slot, held_in};
 ghost use Rattle.p2p_directory.specs.Private.Serving.{has_room, IsServed};
 
 use crate::directory::Directory;
+use crate::record::Status;
 use crate::run::commands::{Command, Reply};
 use crate::run::outcome::Run;
 use crate::run::slots::Slots;
 use p2p_discovery::codec::PublicKey;
+use std::alloc::AllocError;
 use std::marker::Model;
 
 /// A directory, and slots with the reservations that it granted and that were not released: they
@@ -60,6 +62,7 @@ impl<C: PublicKey> Server<C> {
                 }
                 None => Reply::Listen(false),
             },
+            Command::Connect { peer, dialer } => self.connect(&peer, dialer),
             Command::Release(peer) => match self.slots.take(&peer) {
                 Some(reservation) => {
                     self.directory.release(reservation);
@@ -67,8 +70,50 @@ impl<C: PublicKey> Server<C> {
                 }
                 None => Reply::NotHeld,
             },
+            Command::UpdatePeers(infos) => {
+                self.directory.update_peers(infos);
+                Reply::UpdatePeers
+            }
             Command::Status(peer) => Reply::Status(self.directory.status(&peer)),
             Command::LatestSetIndex => Reply::LatestSetIndex(self.directory.latest_set_index()),
+            Command::Info(peer) => self.tell_info(&peer),
+            Command::GetRandomBitVec(place) => self.tell_bits(place),
+            Command::Tracked => Reply::Tracked(self.directory.tracked()),
+        }
+    }
+
+    // Connects the peer, where it is reserved.
+    fn connect(&mut self, peer: &C, dialer: bool) -> Reply<C>
+        ensures served { IsServed C.cmp (Command.Connect peer.now dialer)
+            result self.old self.new }
+        ensures slots { self.new.slots ≡ self.old.slots }
+    {
+        match self.directory.status(peer) {
+            Some(Status::Reserved) => {
+                self.directory.connect(peer, dialer);
+                Reply::Connect
+            }
+            Some(Status::Inert | Status::Active) | None => Reply::NotReserved,
+        }
+    }
+
+    // The info of the peer that others may be told.
+    fn tell_info(&self, peer: &C) -> Reply<C>
+        ensures { IsServed C.cmp (Command.Info peer.now) result self.now self.now }
+    {
+        match self.directory.info(peer) {
+            Ok(info) => Reply::Info(info),
+            Err(AllocError) => Reply::OutOfMemory,
+        }
+    }
+
+    // The bits of the retained set at the place.
+    fn tell_bits(&self, place: usize) -> Reply<C>
+        ensures { IsServed C.cmp (Command.GetRandomBitVec place) result self.now self.now }
+    {
+        match self.directory.get_random_bit_vec(place) {
+            Ok(bits) => Reply::GetRandomBitVec(bits),
+            Err(AllocError) => Reply::OutOfMemory,
         }
     }
 

@@ -1,13 +1,16 @@
 //! Runs of commands, by their replies and by what they leave.
 
-ghost use Rattle.std.specs.Prelude.{◌≡◌, ◌+◌};
+ghost use Rattle.std.specs.Prelude.{◌≡◌, ◌+◌, [], IfNone, IfSome, length};
+ghost use Rattle.p2p_directory.specs.Held.{held_of, AreHeld};
 ghost use Rattle.std.specs.Int.NonZero.{non_zero_usize_get};
 
 use crate::directory::{Config, Directory};
 use crate::record::Status;
-use crate::run::{Command, Reply, Run, run};
+use crate::run::{Command, Held, Reply, Run, run};
 use crate::tests::{config, info, tracked};
-use p2p_discovery::codec::{PublicKey, TestKey};
+use p2p_discovery::codec::{PublicKey, TestKey, TestSignature};
+use p2p_discovery::discovery::Info;
+use p2p_discovery::sets::BitMap;
 use p2p_discovery::types::{Ingress, IpAddr, SocketAddr};
 use std::alloc::{AllocError, Global};
 use std::num::NonZeroUsize;
@@ -20,10 +23,34 @@ use std::time::Duration;
 enum Told {
     Track(Option<&'static [u64]>),
     Listen(bool),
+    Connect,
     Release,
+    UpdatePeers,
     Status(Option<Status>),
     LatestSetIndex(Option<u64>),
+    // The key, the timestamp and the port.
+    Info(Option<(u64, u64, u16)>),
+    // The index and the bits.
+    Bits(Option<(u64, &'static [bool])>),
+    Tracked(usize),
+    NotReserved,
     NotHeld,
+}
+
+fn is_info(info: &Info<TestKey>, told: (u64, u64, u16)) -> bool {
+    let (key, timestamp, port) = told;
+    info.public_key.0 == key && info.timestamp == timestamp && info.ingress == ingress(port)
+}
+
+fn are_bits(bits: &BitMap, told: &[bool]) -> bool {
+    let mut rest = told.iter();
+    for place in 0..bits.len() {
+        match rest.next() {
+            Some(bit) if *bit == bits.get(place) => {}
+            _ => return false,
+        }
+    }
+    rest.next().is_none()
 }
 
 impl Told {
@@ -38,9 +65,25 @@ impl Told {
                 _ => false,
             },
             Reply::Listen(granted) => self == Told::Listen(*granted),
+            Reply::Connect => self == Told::Connect,
             Reply::Release => self == Told::Release,
+            Reply::UpdatePeers => self == Told::UpdatePeers,
             Reply::Status(status) => self == Told::Status(*status),
             Reply::LatestSetIndex(latest) => self == Told::LatestSetIndex(*latest),
+            Reply::Info(None) => self == Told::Info(None),
+            Reply::Info(Some(info)) => match self {
+                Told::Info(Some(told)) => is_info(info, told),
+                _ => false,
+            },
+            Reply::GetRandomBitVec(None) => self == Told::Bits(None),
+            Reply::GetRandomBitVec(Some(bits)) => match self {
+                Told::Bits(Some((index, told))) => {
+                    bits.index == index && are_bits(&bits.bits, told)
+                }
+                _ => false,
+            },
+            Reply::Tracked(count) => self == Told::Tracked(*count),
+            Reply::NotReserved => self == Told::NotReserved,
             Reply::NotHeld => self == Told::NotHeld,
             Reply::OutOfMemory => false,
         }
@@ -78,6 +121,33 @@ fn release(peer: u64) -> Command<TestKey> {
     Command::Release(TestKey(peer))
 }
 
+fn connect(peer: u64, dialer: bool) -> Command<TestKey> {
+    let peer = TestKey(peer);
+    Command::Connect { peer, dialer }
+}
+
+// An update with infos by key, timestamp and port.
+fn update(alloc: Global, told: &[(u64, u64, u16)]) -> Result<Command<TestKey>, AllocError> {
+    let mut infos = Vec::new(alloc);
+    for (key, timestamp, port) in told {
+        infos.push(Info {
+            ingress: ingress(*port),
+            timestamp: *timestamp,
+            public_key: TestKey(*key),
+            signature: TestSignature(0),
+        })?;
+    }
+    Ok(Command::UpdatePeers(infos))
+}
+
+fn info_of(peer: u64) -> Command<TestKey> {
+    Command::Info(TestKey(peer))
+}
+
+fn bits(place: usize) -> Command<TestKey> {
+    Command::GetRandomBitVec(place)
+}
+
 // The shared setting, where so many sets more than one are retained.
 fn window(more: u8) -> Config
     ensures { non_zero_usize_get result.max_sets ≡ 1 + more }
@@ -85,6 +155,16 @@ fn window(more: u8) -> Config
     Config {
         max_sets: NonZeroUsize::MIN.saturating_add(more as usize),
         ..config()
+    }
+}
+
+// Two sets are retained, and an info is wanted again once its peer is not connected.
+fn window_at_limit_zero() -> Config
+    ensures { non_zero_usize_get result.max_sets ≡ 2 }
+{
+    Config {
+        dial_fail_limit: 0,
+        ..window(1)
     }
 }
 
@@ -251,6 +331,197 @@ fn retains_a_set_until_three_more_came(rt: HostRuntime) -> Result<(), Fail> {
     Ok(())
 }
 
+#[test]
+fn connects_only_what_is_reserved(rt: HostRuntime) -> Result<(), Fail> {
+    let alloc = rt.alloc();
+    let commands = vec![in alloc;
+        track(alloc, 0, &[1])?,
+        connect(1, false),
+        connect(3, true),
+        connect(9, false),
+        listen(1, 100),
+        connect(1, false),
+        status(1),
+        connect(1, true),
+        status(1),
+        release(1),
+        connect(1, false),
+        status(1),
+    ]?;
+    let left = run(alloc, Vec::new(alloc), info(9), config(), commands)?;
+    assert_told(
+        &rt,
+        &left.replies,
+        &[
+            Told::Track(Some(&[])),
+            Told::NotReserved,
+            Told::NotReserved,
+            Told::NotReserved,
+            Told::Listen(true),
+            Told::Connect,
+            Told::Status(Some(Status::Active)),
+            Told::NotReserved,
+            Told::Status(Some(Status::Active)),
+            Told::Release,
+            Told::NotReserved,
+            Told::Status(Some(Status::Inert)),
+        ],
+    );
+    left.finish();
+    Ok(())
+}
+
+#[test]
+fn the_first_newest_info_is_told_while_its_peer_is_connected(rt: HostRuntime) -> Result<(), Fail> {
+    let alloc = rt.alloc();
+    let commands = vec![in alloc;
+        track(alloc, 0, &[1])?,
+        listen(1, 100),
+        update(alloc, &[(1, 1_000, 8001), (1, 1_000, 8002)])?,
+        info_of(1),
+        connect(1, false),
+        info_of(1),
+        update(alloc, &[(1, 999, 8003)])?,
+        info_of(1),
+        update(alloc, &[(1, 1_001, 8004), (1, 1_000, 8005)])?,
+        info_of(1),
+        release(1),
+        info_of(1),
+    ]?;
+    let left = run(alloc, Vec::new(alloc), info(9), config(), commands)?;
+    assert_told(
+        &rt,
+        &left.replies,
+        &[
+            Told::Track(Some(&[])),
+            Told::Listen(true),
+            Told::UpdatePeers,
+            Told::Info(None),
+            Told::Connect,
+            Told::Info(Some((1, 1_000, 8001))),
+            Told::UpdatePeers,
+            Told::Info(Some((1, 1_000, 8001))),
+            Told::UpdatePeers,
+            Told::Info(Some((1, 1_001, 8004))),
+            Told::Release,
+            Told::Info(None),
+        ],
+    );
+    left.finish();
+    Ok(())
+}
+
+#[test]
+fn keeps_the_own_info_and_drops_those_of_absent_peers(rt: HostRuntime) -> Result<(), Fail> {
+    let alloc = rt.alloc();
+    let commands = vec![in alloc;
+        track(alloc, 0, &[1, 9])?,
+        update(alloc, &[(9, 5_000, 8005), (2, 1_000, 8002)])?,
+        info_of(9),
+        info_of(2),
+        bits(0),
+        track(alloc, 1, &[2])?,
+        bits(0),
+        bits(1),
+    ]?;
+    let left = run(alloc, Vec::new(alloc), info(9), config(), commands)?;
+    assert_told(
+        &rt,
+        &left.replies,
+        &[
+            Told::Track(Some(&[])),
+            Told::UpdatePeers,
+            Told::Info(Some((9, 0, 8000))),
+            Told::Info(None),
+            Told::Bits(Some((0, &[false, true]))),
+            Told::Track(Some(&[])),
+            Told::Bits(Some((1, &[false]))),
+            Told::Bits(None),
+        ],
+    );
+    left.finish();
+    Ok(())
+}
+
+#[test]
+fn sets_bits_anew_in_all_retained_sets(rt: HostRuntime) -> Result<(), Fail> {
+    let alloc = rt.alloc();
+    let commands = vec![in alloc;
+        track(alloc, 0, &[1, 2])?,
+        track(alloc, 1, &[1, 3])?,
+        update(alloc, &[(1, 1_000, 8001)])?,
+        bits(0),
+        listen(1, 100),
+        connect(1, false),
+        bits(0),
+        bits(1),
+        release(1),
+        bits(1),
+    ]?;
+    let left = run(
+        alloc,
+        Vec::new(alloc),
+        info(9),
+        window_at_limit_zero(),
+        commands,
+    )?;
+    assert_told(
+        &rt,
+        &left.replies,
+        &[
+            Told::Track(Some(&[])),
+            Told::Track(Some(&[])),
+            Told::UpdatePeers,
+            Told::Bits(Some((0, &[false, false]))),
+            Told::Listen(true),
+            Told::Connect,
+            Told::Bits(Some((0, &[true, false]))),
+            Told::Bits(Some((1, &[true, false]))),
+            Told::Release,
+            Told::Bits(Some((1, &[false, false]))),
+        ],
+    );
+    left.finish();
+    Ok(())
+}
+
+#[test]
+fn counts_all_present_peers_but_the_own(rt: HostRuntime) -> Result<(), Fail> {
+    let alloc = rt.alloc();
+    let bootstrappers = vec![in alloc;
+        (TestKey(1), ingress(8001)),
+        (TestKey(9), ingress(8009)),
+        (TestKey(1), ingress(8002)),
+    ]?;
+    let commands = vec![in alloc;
+        Command::Tracked,
+        track(alloc, 0, &[1, 2, 9])?,
+        Command::Tracked,
+        listen(2, 100),
+        track(alloc, 1, &[3])?,
+        Command::Tracked,
+        release(2),
+        Command::Tracked,
+    ]?;
+    let left = run(alloc, bootstrappers, info(9), config(), commands)?;
+    assert_told(
+        &rt,
+        &left.replies,
+        &[
+            Told::Tracked(1),
+            Told::Track(Some(&[])),
+            Told::Tracked(2),
+            Told::Listen(true),
+            Told::Track(Some(&[2])),
+            Told::Tracked(3),
+            Told::Release,
+            Told::Tracked(2),
+        ],
+    );
+    left.finish();
+    Ok(())
+}
+
 // Five commands for each of so many rounds.
 fn rounds(alloc: Global, count: u16) -> Result<Vec<Command<TestKey>>, AllocError> {
     let mut commands = Vec::new(alloc);
@@ -336,6 +607,24 @@ fn finish_gives_all_back(rt: HostRuntime) -> Result<(), Fail> {
     Ok(())
 }
 
+// Releases the least of the peers that are held, if one is.
+fn release_first<C: PublicKey>(directory: &mut Directory<C>, held: &mut Held<C>) -> Option<C>
+    requires { AreHeld C.cmp directory.old (held_of C.cmp held.old) }
+    ensures agree { AreHeld C.cmp directory.new (held_of C.cmp held.new) }
+    ensures less { IfSome result (λ _. length held.old ≡ length held.new + 1) }
+    ensures none { IfNone result (held.new ≡ []) }
+{
+    match held.first() {
+        Some(peer) => {
+            if let Some(reservation) = held.take(&peer) {
+                directory.release(reservation);
+            }
+            Some(peer)
+        }
+        None => None,
+    }
+}
+
 // What `finish` does, by hand: the peers in the order in which they were released.
 fn release_each<C: PublicKey>(
     alloc: Global,
@@ -348,10 +637,7 @@ fn release_each<C: PublicKey>(
         replies: _,
     } = left;
     let mut refused = false;
-    while let Some(peer) = held.first() {
-        if let Some(reservation) = held.take(&peer) {
-            directory.release(reservation);
-        }
+    while let Some(peer) = release_first(&mut directory, &mut held) {
         refused = released.push(peer).is_err() || refused;
     }
     held.close();

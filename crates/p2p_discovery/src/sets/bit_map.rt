@@ -23,7 +23,7 @@ use std::marker::Model;
 /// # Cost
 ///
 /// Whatever takes memory takes a byte for each eight values, and time linear in these bytes.
-#[derive(Drop)]
+#[derive(Debug, Drop)]
 pub struct BitMap {
     bytes: Vec<u8>,
     len: u64,

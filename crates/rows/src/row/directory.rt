@@ -1,8 +1,12 @@
 //! Rows about the calls of a directory.
 
+ghost use Rattle.std.specs.Prelude.{◌<◌, ◌-◌, ◌^◌};
+ghost use Rattle.std.specs.Int.NonZero.{non_zero_usize_get};
+
 use crate::row::lines::Line;
 use crate::row::setting::{At, Step, config, own_info};
 use crate::row::{Stop, print};
+use p2p_directory::directory::Config;
 use p2p_directory::run::{Reply, run};
 use p2p_discovery::codec::TestKey;
 use std::alloc::{AllocError, Global};
@@ -22,7 +26,19 @@ pub fn teardown<W: Write>(alloc: Global, out: &mut W) -> Result<(), Stop> {
         Step::Track(2, &[1]),
         Step::Listen(1, At(105, 0)),
     ];
-    print_replies(alloc, &steps, out)
+    print_replies(alloc, config(), &steps, out)
+}
+
+/// A new set is counted before the oldest goes, so what is known of a peer that both have stays.
+pub fn knowledge<W: Write>(alloc: Global, out: &mut W) -> Result<(), Stop> {
+    let steps = [
+        Step::Track(0, &[1]),
+        Step::Update(&[(1, 1_000)]),
+        Step::Track(1, &[1, 2]),
+        Step::Bits(0),
+        Step::Tracked,
+    ];
+    print_replies(alloc, config(), &steps, out)
 }
 
 /// A peer is reserved again after the cooldown, or once its record is made anew.
@@ -38,12 +54,19 @@ pub fn cooldown<W: Write>(alloc: Global, out: &mut W) -> Result<(), Stop> {
         Step::Track(2, &[1]),
         Step::Listen(1, At(111, 0)),
     ];
-    print_replies(alloc, &steps, out)
+    print_replies(alloc, config(), &steps, out)
 }
 
-// Runs the steps from the shared setting, and prints a line for each reply.
-fn print_replies<W: Write>(alloc: Global, steps: &[Step], out: &mut W) -> Result<(), Stop> {
-    for reply in &replies(alloc, steps)? {
+// Runs the steps under a configuration, and prints a line for each reply.
+fn print_replies<W: Write>(
+    alloc: Global,
+    cfg: Config,
+    steps: &[Step],
+    out: &mut W,
+) -> Result<(), Stop>
+    requires { non_zero_usize_get cfg.max_sets < 2 ^ 64 - 1 }
+{
+    for reply in &replies(alloc, cfg, steps)? {
         if let Reply::OutOfMemory = reply {
             return Err(Stop::Memory);
         }
@@ -53,14 +76,19 @@ fn print_replies<W: Write>(alloc: Global, steps: &[Step], out: &mut W) -> Result
 }
 
 // The replies to the steps. What is held in the end is released.
-fn replies(alloc: Global, steps: &[Step]) -> Result<Vec<Reply<TestKey>>, AllocError> {
+fn replies(alloc: Global, cfg: Config, steps: &[Step]) -> Result<Vec<Reply<TestKey>>, AllocError>
+    requires { non_zero_usize_get cfg.max_sets < 2 ^ 64 - 1 }
+{
     let mut commands = Vec::with_capacity(alloc, steps.len())?;
     for step in steps {
         commands.push(step.command(alloc)?)?;
     }
     let bootstrappers = Vec::new(alloc);
-    let mut left = run(alloc, bootstrappers, own_info(), config(), commands)?;
+    let mut left = run(alloc, bootstrappers, own_info(), cfg, commands)?;
     let replies = replace(&mut left.replies, Vec::new(alloc));
     left.finish();
     Ok(replies)
 }
+
+#[cfg(test)]
+mod tests;

@@ -3,8 +3,9 @@
 use p2p_directory::run::Reply;
 use p2p_discovery::codec::TestKey;
 use p2p_discovery::data::Data;
-use p2p_discovery::discovery::BitVec;
+use p2p_discovery::discovery::{BitVec, Info};
 use p2p_discovery::sets::{BitMap, OrderedSet};
+use p2p_discovery::types::{Ingress, IpAddr};
 use std::fmt;
 
 /// A value in its printed form.
@@ -51,6 +52,32 @@ impl fmt::Display for Line<'_, BitVec> {
     }
 }
 
+impl fmt::Display for Line<'_, IpAddr> {
+    fn fmt<W: fmt::Write>(&self, f: &mut fmt::Formatter<W>) -> fmt::Result {
+        match self.0 {
+            IpAddr::V4([a, b, c, d]) => write!(f, "{a}.{b}.{c}.{d}"),
+            IpAddr::V6(bytes) => write!(f, "[{}]", Hex(bytes)),
+        }
+    }
+}
+
+impl fmt::Display for Line<'_, Ingress> {
+    fn fmt<W: fmt::Write>(&self, f: &mut fmt::Formatter<W>) -> fmt::Result {
+        match self.0 {
+            Ingress::Socket(socket) => write!(f, "{}:{}", Line(&socket.ip()), socket.port()),
+            Ingress::Dns { host, port } => write!(f, "{}:{port}", host.as_str()),
+        }
+    }
+}
+
+impl fmt::Display for Line<'_, Info<TestKey>> {
+    fn fmt<W: fmt::Write>(&self, f: &mut fmt::Formatter<W>) -> fmt::Result {
+        let TestKey(number) = self.0.public_key;
+        let timestamp = self.0.timestamp;
+        write!(f, "Info({number}, {timestamp}, {})", Line(&self.0.ingress))
+    }
+}
+
 impl fmt::Display for Line<'_, Data> {
     fn fmt<W: fmt::Write>(&self, f: &mut fmt::Formatter<W>) -> fmt::Result {
         let channel = self.0.channel;
@@ -77,14 +104,20 @@ impl fmt::Display for Line<'_, Reply<TestKey>> {
     fn fmt<W: fmt::Write>(&self, f: &mut fmt::Formatter<W>) -> fmt::Result {
         match self.0 {
             Reply::Track(Some(torn)) => write!(f, "Some({})", Line(torn)),
-            Reply::Track(None) | Reply::Status(None) | Reply::LatestSetIndex(None) => {
-                f.write_str("None")
-            }
+            Reply::Track(None)
+            | Reply::Status(None)
+            | Reply::LatestSetIndex(None)
+            | Reply::Info(None)
+            | Reply::GetRandomBitVec(None) => f.write_str("None"),
             Reply::Listen(true) => f.write_str("granted"),
             Reply::Listen(false) => f.write_str("refused"),
-            Reply::Release => f.write_str("done"),
+            Reply::Connect | Reply::Release | Reply::UpdatePeers => f.write_str("done"),
             Reply::Status(Some(status)) => write!(f, "{status:?}"),
             Reply::LatestSetIndex(Some(index)) => write!(f, "Some({index})"),
+            Reply::Info(Some(info)) => write!(f, "{}", Line(info)),
+            Reply::GetRandomBitVec(Some(bits)) => write!(f, "{}", Line(bits)),
+            Reply::Tracked(count) => write!(f, "{count}"),
+            Reply::NotReserved => f.write_str("NotReserved"),
             Reply::NotHeld => f.write_str("NotHeld"),
             Reply::OutOfMemory => f.write_str("OutOfMemory"),
         }

@@ -7,8 +7,8 @@ use low_memory::{LowMemory, STEP};
 use p2p_directory::directory::{Directory, TrackedPeers};
 use p2p_directory::record::Status;
 use p2p_discovery::codec::TestKey;
-use p2p_discovery::sets::OrderedSet;
-use p2p_discovery::types::{Ingress, IpAddr, SocketAddr};
+use p2p_discovery::sets::{BitMap, OrderedSet};
+use p2p_discovery::types::{Hostname, Ingress, IpAddr, SocketAddr};
 use std::alloc::{AllocError, Global};
 use std::process::Abort;
 use std::test::Fail;
@@ -17,6 +17,8 @@ use std::time::Duration;
 const ROW_STEPS: usize = 768;
 
 const CALL_STEPS: usize = 3_072;
+
+const QUESTION_STEPS: usize = 256;
 
 /// Whether the lines are all there with status 0, or cut after one of them, with `out of memory`
 /// and status 3.
@@ -172,6 +174,66 @@ fn a_start_is_refused_or_whole(rt: HostRuntime) -> Result<(), Fail> {
     Ok(())
 }
 
+/// Asks for the own info, which has a name, and for the bits of the set at a budget; how often memory
+/// was refused.
+fn asks_at(
+    rt: &impl Abort,
+    alloc: Global,
+    memory: &mut LowMemory,
+    directory: &Directory<TestKey>,
+    budget: usize,
+) -> Result<usize, Fail> {
+    memory.limit(alloc, budget)?;
+    let told = directory.info(&TestKey(9));
+    let bits = directory.get_random_bit_vec(0);
+    memory.lift();
+    let refused = usize::from(told.is_err()).saturating_add(usize::from(bits.is_err()));
+    if let Ok(told) = told {
+        assert_eq!(rt;
+            told.map(|own| own.ingress.port()),
+            Some(9009),
+            "budget {budget}"
+        );
+    }
+    if let Ok(bits) = bits {
+        assert_eq!(rt;
+            bits.map(|bits| bits.bits.len()),
+            Some(300),
+            "budget {budget}"
+        );
+    }
+    Ok(refused)
+}
+
+#[test]
+fn questions_are_refused_or_whole(rt: HostRuntime) -> Result<(), Fail> {
+    let alloc = rt.alloc();
+    let mut memory = LowMemory::new(alloc)?;
+    let mut own = own_info();
+    own.ingress = Ingress::Dns {
+        host: Hostname::new(alloc, "a.name.of.some.length.example.com")?,
+        port: 9009,
+    };
+    let mut directory = Directory::init(alloc, Vec::new(alloc), own, config())?;
+    let _ = directory.track(0, peers(alloc, 10, 300)?)?;
+    let before = answers(&directory);
+    let mut refused = 0usize;
+    for step in 0..QUESTION_STEPS {
+        let budget = step.saturating_mul(STEP);
+        refused = refused.saturating_add(asks_at(&rt, alloc, &mut memory, &directory, budget)?);
+        assert_eq!(rt; answers(&directory), before, "budget {budget}");
+    }
+    assert!(rt;
+        refused > 1 && refused < QUESTION_STEPS,
+        "{refused} refused"
+    );
+    assert!(rt;
+        directory.get_random_bit_vec(0)?.map(|found| found.bits)
+            == Some(BitMap::zeroes(alloc, 300)?)
+    );
+    Ok(())
+}
+
 #[test]
 fn calls_that_take_no_memory_answer_without_any(rt: HostRuntime) -> Result<(), Fail> {
     let alloc = rt.alloc();
@@ -179,17 +241,34 @@ fn calls_that_take_no_memory_answer_without_any(rt: HostRuntime) -> Result<(), F
     let mut directory = Directory::init(alloc, Vec::new(alloc), own_info(), config())?;
     let _ = directory.track(3, peers(alloc, 1, 3)?)?;
     let (same, older) = (peers(alloc, 1, 3)?, peers(alloc, 1, 2)?);
+    let mut known = own_info();
+    known.public_key = TestKey(1);
+    known.timestamp = 7;
+    let infos = vec![in alloc; known]?;
     memory.limit(alloc, 0)?;
     let untaken = (directory.track(3, same), directory.track(2, older));
     let first = answers(&directory);
+    let none = (directory.info(&TestKey(1)), directory.get_random_bit_vec(1));
+    directory.update_peers(infos);
     let held = directory.listen(&TestKey(1), Duration::from_secs(100), Duration::ZERO);
     let during = directory.status(&TestKey(1));
     let was_held = held.is_some();
+    let mut told = None;
     if let Some(reservation) = held {
+        directory.connect(&TestKey(1), true);
+        told = directory
+            .info(&TestKey(1))
+            .ok()
+            .flatten()
+            .map(|info| info.timestamp);
         directory.release(reservation);
     }
+    let count = directory.tracked();
     let second = answers(&directory);
     memory.lift();
+    assert!(rt; matches!(none, (Ok(None), Ok(None))));
+    assert_eq!(rt; told, Some(7));
+    assert_eq!(rt; count, 4);
     assert!(rt; matches!(untaken, (Ok(None), Ok(None))));
     let inert = Some(Status::Inert);
     assert!(rt; was_held);

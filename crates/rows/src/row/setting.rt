@@ -60,10 +60,20 @@ pub enum Step {
     Track(u64, &'static [u64]),
     /// `listen` of a peer at a moment.
     Listen(u64, At),
+    /// `connect` of a peer, as its dialer or not.
+    Connect(u64, bool),
     /// `release` of a peer.
     Release(u64),
+    /// `update_peers` with the infos of peers, each with a timestamp.
+    Update(&'static [(u16, u64)]),
     /// `status` of a peer.
     Status(u64),
+    /// `info` of a peer.
+    Info(u64),
+    /// `get_random_bit_vec` at a place.
+    Bits(usize),
+    /// `tracked`.
+    Tracked,
 }
 
 impl Step {
@@ -79,10 +89,27 @@ impl Step {
                 now: moment(seconds, nanoseconds),
                 draw: Duration::ZERO,
             },
+            Step::Connect(peer, dialer) => Command::Connect {
+                peer: TestKey(peer),
+                dialer,
+            },
             Step::Release(peer) => Command::Release(TestKey(peer)),
+            Step::Update(infos) => Command::UpdatePeers(signed_infos(alloc, infos)?),
             Step::Status(peer) => Command::Status(TestKey(peer)),
+            Step::Info(peer) => Command::Info(TestKey(peer)),
+            Step::Bits(place) => Command::GetRandomBitVec(place),
+            Step::Tracked => Command::Tracked,
         })
     }
+}
+
+// The infos of the peers with these numbers and timestamps.
+fn signed_infos(alloc: Global, infos: &[(u16, u64)]) -> Result<Vec<Info<TestKey>>, AllocError> {
+    let mut signed = Vec::new(alloc);
+    for (peer, timestamp) in infos {
+        signed.push(info_in(NAMESPACE, *peer, *timestamp))?;
+    }
+    Ok(signed)
 }
 
 fn moment(seconds: u64, nanoseconds: u32) -> Duration {

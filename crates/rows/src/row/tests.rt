@@ -29,7 +29,7 @@ impl Write for Short {
 }
 
 /// The rows that there are: the word that names each, and the lines that it prints.
-pub(crate) const ROWS: [(&str, &str); 11] = [
+pub(crate) const ROWS: [(&str, &str); 12] = [
     (
         "1",
         "b9600d48656c6c6f2c20776f726c6421\nData(12345, 48656c6c6f2c20776f726c6421)\n\
@@ -50,6 +50,7 @@ pub(crate) const ROWS: [(&str, &str); 11] = [
         "6",
         "Some([])\ngranted\nNone\nSome([1])\nReserved\ndone\nNone\nSome([])\ngranted\n",
     ),
+    ("7", "Some([])\ndone\nSome([])\nBitVec(1, 10)\n2\n"),
     (
         "8",
         "Some([])\ngranted\ndone\nrefused\ngranted\ndone\nSome([])\nSome([])\ngranted\n",
@@ -104,7 +105,7 @@ fn refuses_other_words(rt: HostRuntime) -> Result<(), Fail> {
         &["6", "6"],
         &["0"],
         &["24"],
-        &["7"],
+        &["9"],
         &[""],
         &["rows"],
     ];

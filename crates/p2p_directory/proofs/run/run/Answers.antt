@@ -1,10 +1,13 @@
-use Rattle.std.proofs.Common.{◌≡◌, [], true, length, sym, ap, subst, ◌∙◌, refl, arith}
+use Rattle.std.proofs.Common.{◌≡◌, [], true, length, sym, ap, subst, ◌∙◌, refl, arith, rules}
 use Rattle.std.specs.Prelude.{is_some}
 use Rattle.std.proofs.lemmas.List.{length_push}
 use Rattle.p2p_directory.specs.Refinement.{Refines}
-use Rattle.p2p_directory.specs.Run.{setup_of, calls_of, world_after, accepted, AreAnswers, Holds, HasNoBlock}
+use Rattle.p2p_directory.specs.Directory.{bit_vec_at}
+use Rattle.p2p_directory.specs.Run.{setup_of, calls_of, world_after, accepted, AreAnswers, bit_vec_in, Holds, HasNoBlock}
 use Rattle.p2p_directory.specs.Private.Serving.{has_room}
 use Rattle.p2p_directory.specs.Private.Slots.{held_in}
+use Rattle.p2p_directory.proofs.LawsOfRuns.Forgotten
+use Rattle.p2p_directory.proofs.Refinement.KnowledgeRefines.{tie_bits}
 use Rattle.p2p_directory.proofs.Reservations.Served.{are_held, stands_at_start}
 use Rattle.p2p_directory.proofs.Reservations.Replies.{item_left, item_moved, item_has, all_moved, one_more, room_stays}
 use Rattle.p2p_directory.proofs.run.run.Goals as goal
@@ -12,7 +15,7 @@ use Rattle.p2p_directory.proofs.run.run.Goals as goal
 pub new-server-requires : goal.new-server-requires
 new-server-requires g c =
     let s = setup_of g.C.Ord.cmp c.args.bootstrappers.items c.args.myself c.args.cfg in
-    let at = stands_at_start s (record { directory = c.in-Ok.directory; slots = c.in_ok-slots.slots }) c.in-Ok.ensures.config c.in-Ok.ensures.sets c.in-Ok.ensures.records c.in_ok-slots.ensures.empty in
+    let at = stands_at_start s (record { directory = c.in-Ok.directory; slots = c.in_ok-slots.slots }) (search rules) c.in-Ok.ensures.config c.in-Ok.ensures.sets c.in-Ok.ensures.records c.in_ok-slots.ensures.empty in
     are_held s (world_after s []) c.in-Ok.directory (held_in g.C.Ord.cmp c.in_ok-slots.slots) at.refines at.holds
 
 pub loop-command-init : goal.loop-command-init
@@ -23,7 +26,7 @@ loop-command-init g c =
       answers = rw c.in_ok-replies.ensures.items tt;
       left =
           rw c.new-server.ensures
-          (stands_at_start s (record { directory = c.in-Ok.directory; slots = c.in_ok-slots.slots }) c.in-Ok.ensures.config c.in-Ok.ensures.sets c.in-Ok.ensures.records c.in_ok-slots.ensures.empty);
+          (stands_at_start s (record { directory = c.in-Ok.directory; slots = c.in_ok-slots.slots }) (search rules) c.in-Ok.ensures.config c.in-Ok.ensures.sets c.in-Ok.ensures.records c.in_ok-slots.ensures.empty);
       replies = rw c.in_ok-replies.ensures.items refl;
       room_for_replies = omega (arith, c.in_ok-replies.ensures.exact, c.len.ensures);
       slots = rw (c.new-server.ensures, ← c.deref.ensures.value) c.in_ok-slots.ensures.room;
@@ -76,6 +79,17 @@ returns-clause-directory g c =
     let all = all_moved c.loop-command.yielded rest.items c.args.commands.items kept.rest (sym rest.ok.0 ∙ c.in-None.ensures.steps.0) in
     rw (c.into_run.ensures.replies, c.into_run.ensures.directory)
     (subst (λ xs. Refines s (world_after s (accepted s [] (calls_of xs) c.loop-command.replies.items)) c.loop-command.server.directory) all kept.left.refines)
+
+pub returns-clause-bits : goal.returns-clause-bits
+returns-clause-bits g c = λ place.
+    let s = setup_of g.C.Ord.cmp c.args.bootstrappers.items c.args.myself c.args.cfg in
+    let kept = c.loop-command.invariant in
+    let rest = c.loop-command.command-iterator.rest in
+    let all = all_moved c.loop-command.yielded rest.items c.args.commands.items kept.rest (sym rest.ok.0 ∙ c.in-None.ensures.steps.0) in
+    let at = accepted s [] (calls_of c.loop-command.yielded) c.loop-command.replies.items in
+    let same = tie_bits s kept.left.limit_fits (world_after s at) c.loop-command.server.directory place (Forgotten.absent s at) kept.left.refines in
+    rw (c.into_run.ensures.replies, c.into_run.ensures.directory)
+    (subst (λ xs. bit_vec_at s.cmp c.loop-command.server.directory place ≡ bit_vec_in s (world_after s (accepted s [] (calls_of xs) c.loop-command.replies.items)) place) all same)
 
 pub returns-clause-held : goal.returns-clause-held
 returns-clause-held g c =

@@ -1,15 +1,18 @@
 //! The counts of sets in the records of many peers.
 
-ghost use Rattle.std.specs.Prelude.{◌≡◌, ◌+◌, ◌≤◌, ◌<◌, ◌++◌, ◌∷◌, [], ℕ, false, true, OnOk, OnErr, if◌then◌else◌, length, vec_capacity};
+ghost use Rattle.std.specs.Prelude.{◌≡◌, ◌+◌, ◌≤◌, ◌<◌, ◌++◌, ◌∷◌, [], ℕ, false, true, IfOk, OnOk, OnErr, if◌then◌else◌, length, vec_capacity};
 ghost use Rattle.std.specs.List.{filter, IsDistinct};
 ghost use Rattle.std.specs.List.Sorted.{IsStrictlySortedBy};
 ghost use Rattle.std.specs.Ordering.{eq_by_cmp};
 ghost use Rattle.std.specs.Option.{option_map_or};
+ghost use Rattle.std.specs.Map.{keys_of};
 ghost use Rattle.p2p_directory.specs.declared.record.Role.{Role};
+ghost use Rattle.p2p_directory.specs.declared.record.Role.TheVariants.{Primary, Secondary};
 ghost use Rattle.p2p_directory.specs.Private.Counts.{one_set_more, one_set_less, is_torn_down_without};
 ghost use Rattle.p2p_directory.specs.PeerSets.{has_key, AreRolesDisjoint};
-ghost use Rattle.p2p_directory.specs.Directory.{record_at, ChangesAt};
-ghost use Rattle.p2p_directory.specs.Private.Counts.{record_joining, record_leaving, is_torn_down_leaving, IsRestored};
+ghost use Rattle.p2p_directory.specs.Directory.{record_at, is_known, ChangesAt};
+ghost use Rattle.p2p_directory.specs.Private.Window.{plain_set, set_with_bits};
+ghost use Rattle.p2p_directory.specs.Private.Counts.{IsOfMap, record_joining, record_leaving, is_torn_down_leaving, IsRestored};
 
 use crate::directory::records::Records;
 use crate::kept::{PeerSet, forget};
@@ -19,15 +22,19 @@ use p2p_discovery::sets::{OrderedSet, SetError};
 use std::alloc::AllocError;
 
 impl<C: PublicKey> Records<C> {
-    // Counts one set of the peer more, in a new record where it has none.
-    fn join_one(&mut self, peer: &C, role: Role) -> Result<(), AllocError>
+    // Counts one set of the peer more, in a new record where it has none, and says whether the
+    // peer's info is known, and not wanted.
+    fn join_one(&mut self, peer: &C, role: Role, limit: usize) -> Result<bool, AllocError>
         ensures ok { OnOk result (ChangesAt C.cmp self.old self.new peer.now (one_set_more role)) }
+        ensures known { IfOk result (λ known.
+            known ≡ is_known limit (record_at C.cmp self.old peer.now)) }
         ensures err { OnErr result (self.new ≡ self.old) }
     {
         match self.map.entry(*peer) {
             Ok(entry) => {
-                entry.or_insert(Record::unknown()).count_more(role);
-                Ok(())
+                let found = entry.or_insert(Record::unknown());
+                found.count_more(role);
+                Ok(!found.want(limit))
             }
             Err(refused) => {
                 forget(refused);
@@ -82,54 +89,107 @@ impl<C: PublicKey> Records<C> {
     }
 
     // Counts one set of each peer more, or leaves all as it was.
-    fn join_each(&mut self, peers: &[C], role: Role) -> Result<(), AllocError>
+    fn join_secondary(&mut self, peers: &[C], limit: usize) -> Result<(), AllocError>
         requires { IsStrictlySortedBy C.cmp peers.now }
         ensures ok { OnOk result ((q : C) → record_at C.cmp self.new q ≡
-            (if has_key C.cmp peers.now q then one_set_more role (record_at C.cmp self.old q) else record_at C.cmp self.old q)) }
-        ensures err { OnErr result ((q : C) → (has_key C.cmp peers.now q ≡ true → IsRestored C.cmp role (record_at C.cmp self.old q)) →
+            (if has_key C.cmp peers.now q
+            then one_set_more Secondary (record_at C.cmp self.old q)
+            else record_at C.cmp self.old q)) }
+        ensures err { OnErr result ((q : C) →
+            (has_key C.cmp peers.now q ≡ true → IsRestored C.cmp Secondary (record_at C.cmp self.old q)) →
             record_at C.cmp self.new q ≡ record_at C.cmp self.old q) }
     {
         for (place, peer) in peers.iter().enumerate() {
-            if let Err(refused) = self.join_one(peer, role) {
-                self.undo_each(&peers[..place], role);
+            if let Err(refused) = self.join_one(peer, Role::Secondary, limit) {
+                self.undo_each(&peers[..place], Role::Secondary);
                 return Err(refused);
             }
         }
         Ok(())
     }
 
-    // Counts a set more for the peers of each role, or leaves what is kept of each peer as it was.
-    fn join_roles(&mut self, set: &PeerSet<C>) -> Result<(), AllocError>
-        ensures disjoint { AreRolesDisjoint C.cmp set.now }
-        ensures ok { OnOk result ((q : C) → record_at C.cmp self.new q ≡ record_joining C.cmp set.now q (record_at C.cmp self.old q)) }
-        ensures err { OnErr result (((q : C) (role : Role) → IsRestored C.cmp role (record_at C.cmp self.old q)) →
+    // Counts one set of each primary peer more and sets its bit, or leaves all records as they were.
+    fn join_primary(&mut self, set: &mut PeerSet<C>, limit: usize) -> Result<(), AllocError>
+        ensures disjoint { AreRolesDisjoint C.cmp (plain_set set.old) }
+        ensures ok { OnOk result ((q : C) → record_at C.cmp self.new q ≡
+            (if has_key C.cmp (keys_of set.old.primary) q
+            then one_set_more Primary (record_at C.cmp self.old q)
+            else record_at C.cmp self.old q)) }
+        ensures bits { OnOk result (set.new ≡
+            set_with_bits (λ q. is_known limit (record_at C.cmp self.old q)) (plain_set set.old)) }
+        ensures err { OnErr result ((q : C) →
+            (has_key C.cmp (keys_of set.old.primary) q ≡ true →
+            IsRestored C.cmp Primary (record_at C.cmp self.old q)) →
+            record_at C.cmp self.new q ≡ record_at C.cmp self.old q) }
+    {
+        // For the proof: the clauses of `as_slice` say that the peers are in order.
+        let _peers = set.primary().ordered().as_slice();
+        for place in 0..set.primary().len() {
+            let peer = set.primary()[place];
+            match self.join_one(&peer, Role::Primary, limit) {
+                Ok(known) => set.set_bit(place, known),
+                Err(refused) => {
+                    self.undo_each(&set.primary().ordered().as_slice()[..place], Role::Primary);
+                    return Err(refused);
+                }
+            }
+        }
+        Ok(())
+    }
+
+    // Counts a set more for the peers of each role and sets its bits, or leaves what is kept of each
+    // peer as it was.
+    fn join_roles(&mut self, set: &mut PeerSet<C>, limit: usize) -> Result<(), AllocError>
+        ensures disjoint { AreRolesDisjoint C.cmp (plain_set set.old) }
+        ensures ok { OnOk result ((q : C) → record_at C.cmp self.new q ≡
+            record_joining C.cmp (plain_set set.old) q (record_at C.cmp self.old q)) }
+        ensures bits { OnOk result (set.new ≡
+            set_with_bits (λ q. is_known limit (record_at C.cmp self.old q)) (plain_set set.old)) }
+        ensures err { OnErr result (
+            ((q : C) (role : Role) → IsRestored C.cmp role (record_at C.cmp self.old q)) →
             (q : C) → record_at C.cmp self.new q ≡ record_at C.cmp self.old q) }
     {
-        let primary = set.primary().as_slice();
-        if let Err(refused) = self.join_each(primary, Role::Primary) {
+        if let Err(refused) = self.join_primary(set, limit) {
             return Err(refused);
         }
-        let secondary = set.secondary().as_slice();
-        let joined = self.join_each(secondary, Role::Secondary);
+        let joined = self.join_secondary(set.secondary().as_slice(), limit);
         if let Err(refused) = joined {
-            self.undo_each(primary, Role::Primary);
+            self.undo_each(set.primary().ordered().as_slice(), Role::Primary);
             return Err(refused);
         }
         Ok(())
     }
 
-    /// Counts a set that comes for each of its peers, or leaves all as it was where memory is
-    /// refused. A peer that has no record gets one.
-    pub fn join(&mut self, set: &PeerSet<C>) -> Result<(), AllocError>
-        ensures disjoint { AreRolesDisjoint C.cmp set.now }
-        ensures ok { OnOk result ((q : C) → record_at C.cmp self.new q ≡ record_joining C.cmp set.now q (record_at C.cmp self.old q)) }
-        ensures err { OnErr result (((q : C) (role : Role) → IsRestored C.cmp role (record_at C.cmp self.old q)) → self.new ≡ self.old) }
+    /// Counts a set that comes for each of its peers and sets its bits, or leaves all records as
+    /// they were where memory is refused. A peer that has no record gets one.
+    pub fn join(&mut self, set: &mut PeerSet<C>, limit: usize) -> Result<(), AllocError>
+        ensures disjoint { AreRolesDisjoint C.cmp (plain_set set.old) }
+        ensures map { IsOfMap C.cmp self.old }
+        ensures ok { OnOk result ((q : C) → record_at C.cmp self.new q ≡
+            record_joining C.cmp (plain_set set.old) q (record_at C.cmp self.old q)) }
+        ensures bits { OnOk result (set.new ≡
+            set_with_bits (λ q. is_known limit (record_at C.cmp self.old q)) (plain_set set.old)) }
+        ensures err { OnErr result (
+            ((q : C) (role : Role) → IsRestored C.cmp role (record_at C.cmp self.old q)) →
+            self.new ≡ self.old) }
     {
         // For the proof: the clauses of `len` say that the keys are in order.
         let _before = self.map.len();
-        let joined = self.join_roles(set);
+        let joined = self.join_roles(set, limit);
         let _after = self.map.len();
         joined
+    }
+
+    /// Counts a set less for each of its peers, where nobody's connection has to end by it.
+    pub fn undo(&mut self, set: &PeerSet<C>)
+        ensures map { IsOfMap C.cmp self.new }
+        ensures records { (q : C) → record_at C.cmp self.new q ≡
+            record_leaving C.cmp (plain_set set.now) q (record_at C.cmp self.old q) }
+    {
+        self.undo_each(set.primary().ordered().as_slice(), Role::Primary);
+        self.undo_each(set.secondary().as_slice(), Role::Secondary);
+        // For the proof: the clauses of `len` say that the keys are in order.
+        let _after = self.map.len();
     }
 
     /// Counts a set that goes for each of its peers, and takes out the records that are deletable
@@ -138,12 +198,14 @@ impl<C: PublicKey> Records<C> {
     pub fn leave(&mut self, set: &PeerSet<C>, mut torn: Vec<C>) -> OrderedSet<C>
         requires empty { torn.items ≡ [] }
         requires room { length set.now.primary + length set.now.secondary ≤ vec_capacity torn }
-        ensures disjoint { AreRolesDisjoint C.cmp set.now }
-        ensures records { (q : C) → record_at C.cmp self.new q ≡ record_leaving C.cmp set.now q (record_at C.cmp self.old q) }
+        ensures disjoint { AreRolesDisjoint C.cmp (plain_set set.now) }
+        ensures records { (q : C) → record_at C.cmp self.new q ≡
+            record_leaving C.cmp (plain_set set.now) q (record_at C.cmp self.old q) }
         ensures sorted { IsStrictlySortedBy C.cmp result }
-        ensures members { (q : C) → has_key C.cmp result q ≡ is_torn_down_leaving C.cmp set.now q (record_at C.cmp self.old q) }
+        ensures members { (q : C) → has_key C.cmp result q ≡
+            is_torn_down_leaving C.cmp (plain_set set.now) q (record_at C.cmp self.old q) }
     {
-        self.leave_each(set.primary().as_slice(), Role::Primary, &mut torn);
+        self.leave_each(set.primary().ordered().as_slice(), Role::Primary, &mut torn);
         self.leave_each(set.secondary().as_slice(), Role::Secondary, &mut torn);
         ordered(torn)
     }

@@ -2,7 +2,7 @@ use Rattle.std.proofs.Common.{◌≡◌, ◌≤◌, ◌<◌, ℕ, List, [], ◌�
 use Rattle.std.specs.Prelude.{String}
 use Rattle.rows.specs.Words.{IsRow, rows}
 use Rattle.rows.proofs.row.run_rows.Goals as goal
-use Rattle.rows.proofs.row.run_rows.Goals.{in-text, in-text-2, in-text-3, in-text-4, in-text-5, in-text-6, in-text-7, in-text-8, in-text-9, in-text-10, in-text-11}
+use Rattle.rows.proofs.row.run_rows.Goals.{in-text, in-text-2, in-text-3, in-text-4, in-text-5, in-text-6, in-text-7, in-text-8, in-text-9, in-text-10, in-text-11, in-text-12}
 
 -- a word that is the number at this place names a row
 is_row : {Z : Type 0} (words : List (String Z)) (word : String Z) (text number : List ℕ) (place : ℕ) → 1 ≤ length words → length words < 2 →
@@ -20,9 +20,10 @@ returns-clause-other g c = λ no. absurd (no (elim c.match-as_str.branch [
   | in-text-4 w ↦ is_row c.args.words.now c.word-item.result c.as_str.result.now (codes "4") 3 c.in-len1.len_at_least c.in-len1.len_below c.word-item.is c.as_str.ensures.value w.in-text-4.is (omega arith) refl
   | in-text-5 w ↦ is_row c.args.words.now c.word-item.result c.as_str.result.now (codes "5") 4 c.in-len1.len_at_least c.in-len1.len_below c.word-item.is c.as_str.ensures.value w.in-text-5.is (omega arith) refl
   | in-text-6 w ↦ is_row c.args.words.now c.word-item.result c.as_str.result.now (codes "6") 5 c.in-len1.len_at_least c.in-len1.len_below c.word-item.is c.as_str.ensures.value w.in-text-6.is (omega arith) refl
-  | in-text-7 w ↦ is_row c.args.words.now c.word-item.result c.as_str.result.now (codes "8") 6 c.in-len1.len_at_least c.in-len1.len_below c.word-item.is c.as_str.ensures.value w.in-text-7.is (omega arith) refl
-  | in-text-8 w ↦ is_row c.args.words.now c.word-item.result c.as_str.result.now (codes "17") 7 c.in-len1.len_at_least c.in-len1.len_below c.word-item.is c.as_str.ensures.value w.in-text-8.is (omega arith) refl
-  | in-text-9 w ↦ is_row c.args.words.now c.word-item.result c.as_str.result.now (codes "21") 8 c.in-len1.len_at_least c.in-len1.len_below c.word-item.is c.as_str.ensures.value w.in-text-9.is (omega arith) refl
-  | in-text-10 w ↦ is_row c.args.words.now c.word-item.result c.as_str.result.now (codes "22") 9 c.in-len1.len_at_least c.in-len1.len_below c.word-item.is c.as_str.ensures.value w.in-text-10.is (omega arith) refl
-  | in-text-11 w ↦ is_row c.args.words.now c.word-item.result c.as_str.result.now (codes "23") 10 c.in-len1.len_at_least c.in-len1.len_below c.word-item.is c.as_str.ensures.value w.in-text-11.is (omega arith) refl
+  | in-text-7 w ↦ is_row c.args.words.now c.word-item.result c.as_str.result.now (codes "7") 6 c.in-len1.len_at_least c.in-len1.len_below c.word-item.is c.as_str.ensures.value w.in-text-7.is (omega arith) refl
+  | in-text-8 w ↦ is_row c.args.words.now c.word-item.result c.as_str.result.now (codes "8") 7 c.in-len1.len_at_least c.in-len1.len_below c.word-item.is c.as_str.ensures.value w.in-text-8.is (omega arith) refl
+  | in-text-9 w ↦ is_row c.args.words.now c.word-item.result c.as_str.result.now (codes "17") 8 c.in-len1.len_at_least c.in-len1.len_below c.word-item.is c.as_str.ensures.value w.in-text-9.is (omega arith) refl
+  | in-text-10 w ↦ is_row c.args.words.now c.word-item.result c.as_str.result.now (codes "21") 9 c.in-len1.len_at_least c.in-len1.len_below c.word-item.is c.as_str.ensures.value w.in-text-10.is (omega arith) refl
+  | in-text-11 w ↦ is_row c.args.words.now c.word-item.result c.as_str.result.now (codes "22") 10 c.in-len1.len_at_least c.in-len1.len_below c.word-item.is c.as_str.ensures.value w.in-text-11.is (omega arith) refl
+  | in-text-12 w ↦ is_row c.args.words.now c.word-item.result c.as_str.result.now (codes "23") 11 c.in-len1.len_at_least c.in-len1.len_below c.word-item.is c.as_str.ensures.value w.in-text-12.is (omega arith) refl
 ]))

@@ -1,28 +1,44 @@
-use Rattle.std.proofs.Common.{◌≡◌, ◌++◌, ◌∷◌, [], ◌&&◌, not, true, false, Result, Ok, Err, sym, ◌∙◌, ap, subst, arith}
+use Rattle.std.proofs.Common.{◌≡◌, Bool, refl, ◌++◌, ◌∷◌, [], ◌&&◌, not, false, Result, Ok, Err, sym, ◌∙◌, ap, subst, arith}
 use Rattle.std.specs.Option.{option_map_or}
 use Rattle.std.specs.Result.{OnErr}
 use Rattle.std.specs.Int.NonZero.{non_zero_usize_get}
+use Rattle.std.proofs.lemmas.List.{map-append}
+use Rattle.p2p_directory.specs.declared.record.Status.{Status}
+use Rattle.p2p_directory.specs.declared.record.Status.TheVariants.{Inert}
 use Rattle.p2p_directory.specs.PeerSets.{set_of}
-use Rattle.p2p_directory.specs.History.{last_of}
+use Rattle.p2p_directory.specs.History.{last_of, is_inert, is_reserved}
 use Rattle.p2p_directory.specs.Record.{is_eligible}
-use Rattle.p2p_directory.specs.Directory.{DirectoryView, config_view, record_at, record_with_sets, is_connectable, is_busy, IsBusy}
-use Rattle.p2p_directory.specs.Private.Counts.{IsConsistent}
-use Rattle.p2p_directory.proofs.SetsAndRecords.Consistent.{tracked, room_left, all_restored, busy_with_sets}
+use Rattle.p2p_directory.specs.Directory.{DirectoryView, config_view, record_at, record_of, record_with_sets, is_connectable, has_status, is_known}
+use Rattle.p2p_directory.specs.Private.Window.{plain_set, plain_sets, set_with_bits}
+use Rattle.p2p_directory.specs.Private.Counts.{IsInvariant}
+use Rattle.p2p_directory.proofs.SetsAndRecords.Consistent.{room_left, all_restored, status_with_sets}
+use Rattle.p2p_directory.proofs.SetsAndRecords.Taken.{IsTaken, taken_window}
 use Rattle.p2p_directory.proofs.directory.Directory.track.Goals as goal
 
 pub drop_oldest-requires-clause-room : goal.drop_oldest-requires-clause-room
 drop_oldest-requires-clause-room g c =
-    room_left (non_zero_usize_get c.self.inside.config.max_sets) c.get-max_sets.result _ c.in_ok-leaving_count.field-0 c.self.inside.sets c.add.new.sets c.in_ok-set.set c.get-max_sets.ensures.value c.in_ok-add.ensures.ok
-    c.self.invariant.max_positive c.self.invariant.at_most_max c.in_ok-leaving_count.ensures (omega (arith, c.in_ok-torn.ensures.exact))
+    let cmp = g.C.Ord.cmp in
+    let window = c.self.inside.sets in
+    let set = plain_set c.in_ok-set.set in
+    let added = set_with_bits (λ q. is_known c.self.inside.config.dial_fail_limit (record_at cmp c.self.inside.records q)) set in
+    let came = ap plain_sets c.in_ok-add.ensures.ok ∙ map-append plain_set window (added ∷ []) in
+    room_left (non_zero_usize_get c.self.inside.config.max_sets) c.get-max_sets.result _ c.in_ok-leaving_count.field-0 (plain_sets window) (plain_sets c.add.new.sets) (plain_set added) c.get-max_sets.ensures.value came
+    c.self.invariant.counts.max_positive c.self.invariant.counts.at_most_max c.in_ok-leaving_count.ensures (omega (arith, c.in_ok-torn.ensures.exact))
 
 -- where memory was refused, all is as it was
+same : (g : _) (c : goal.After-drop-torn g) → c.add.new.records ≡ c.self.inside.records
+same g c =
+    let cmp = g.C.Ord.cmp in
+    let max = non_zero_usize_get c.self.inside.config.max_sets in
+    c.in_err-add.ensures.records (all_restored cmp max (plain_sets c.self.inside.sets) (record_at cmp c.self.inside.records) c.self.invariant.counts)
+
 pub invariant_of-self : goal.invariant_of-self
 invariant_of-self g c =
     let cmp = g.C.Ord.cmp in
     let max = non_zero_usize_get c.self.inside.config.max_sets in
-    let same = c.in_err-add.ensures.records (all_restored cmp max c.self.inside.sets (record_at cmp c.self.inside.records) c.self.invariant) in
-    subst (λ rs. IsConsistent cmp max c.add.new.sets (record_at cmp rs)) (sym same)
-    (subst (λ sets. IsConsistent cmp max sets (record_at cmp c.self.inside.records)) (sym c.in_err-add.ensures.sets) c.self.invariant)
+    let limit = c.self.inside.config.dial_fail_limit in
+    subst (λ rs. IsInvariant cmp max limit c.add.new.sets (record_at cmp rs)) (sym (same g c))
+    (subst (λ sets. IsInvariant cmp max limit sets (record_at cmp c.self.inside.records)) (sym c.in_err-add.ensures.sets) c.self.invariant)
 
 on_err : {A E P : Type 0} (r : Result A E) → P → OnErr r P
 on_err (Ok x) h = tt
@@ -30,66 +46,62 @@ on_err (Err e) h = h
 
 pub returns-in_err-add-clause-err : goal.returns-in_err-add-clause-err
 returns-in_err-add-clause-err g c =
-    let cmp = g.C.Ord.cmp in
-    let max = non_zero_usize_get c.self.inside.config.max_sets in
-    let records = c.in_err-add.ensures.records (all_restored cmp max c.self.inside.sets (record_at cmp c.self.inside.records) c.self.invariant) in
     on_err c.from_residual-in_err-add.result
-    ((λ i. record { config = config_view c.self.inside.config; sets = c.in_err-add.ensures.sets i; records = records i }) ∙ c.self.view_is)
+    ((λ i. record { config = config_view c.self.inside.config; sets = plain_sets (c.in_err-add.ensures.sets i); records = same g c i }) ∙ c.self.view_is)
+
+-- .. and each status too
+status_same : (g : _) (c : goal.After-drop-torn g) (test : Status → Bool) (q : g.row.C.Denot) → has_status test (record_at g.C.Ord.cmp c.add.new.records q) ≡ has_status test (record_of g.C.Ord.cmp c.args.self.now q)
+status_same g c test q =
+    let cmp = g.C.Ord.cmp in
+    ap (λ rs. has_status test (record_at cmp rs q)) (same g c) ∙ ap (λ (d : DirectoryView g.row.C.Denot g.row.C-Signature.Denot). has_status test (record_of cmp d q)) c.self.view_is
 
 pub returns-in_err-add-clause-busy : goal.returns-in_err-add-clause-busy
-returns-in_err-add-clause-busy g c = λ q h.
-    let cmp = g.C.Ord.cmp in
-    let max = non_zero_usize_get c.self.inside.config.max_sets in
-    let records = c.in_err-add.ensures.records (all_restored cmp max c.self.inside.sets (record_at cmp c.self.inside.records) c.self.invariant) in
-    let before : is_busy (record_at cmp c.self.inside.records q) ≡ true =
-    subst (λ (d : DirectoryView g.row.C.Denot g.row.C-Signature.Denot). IsBusy cmp d q) (sym c.self.view_is) h in
-    subst (λ rs. is_busy (record_at cmp rs q) ≡ true) (sym records) before
+returns-in_err-add-clause-busy g c = λ q h. status_same g c (λ status. not (is_inert status)) q ∙ h
 
-pub invariant_of-self-2 : goal.invariant_of-self-2
-invariant_of-self-2 g c =
-    (tracked g.C.Ord.cmp (non_zero_usize_get c.self.inside.config.max_sets) c.get-max_sets.result c.self.inside.sets c.add.new.sets c.drop_oldest.new.sets
+pub returns-in_err-add-clause-reserved : goal.returns-in_err-add-clause-reserved
+returns-in_err-add-clause-reserved g c = λ q h. status_same g c is_reserved q ∙ h
+
+-- a set was taken
+taken : (g : _) (c : goal.After-drop_oldest g) → IsTaken g.C.Ord.cmp (non_zero_usize_get c.self.inside.config.max_sets) c.self.inside.config.dial_fail_limit c.self.inside.sets c.drop_oldest.new.sets
+    (set_of g.C.Ord.cmp c.args.index c.args.peers.primary c.args.peers.secondary) (record_at g.C.Ord.cmp c.self.inside.records) (record_at g.C.Ord.cmp c.drop_oldest.new.records) c.drop_oldest.result
+taken g c =
+    taken_window g.C.Ord.cmp g.met.C.Ord.total (non_zero_usize_get c.self.inside.config.max_sets) c.get-max_sets.result c.self.inside.config.dial_fail_limit c.self.inside.sets c.add.new.sets c.drop_oldest.new.sets
     (set_of g.C.Ord.cmp c.args.index c.args.peers.primary c.args.peers.secondary) c.in_ok-set.set
     (record_at g.C.Ord.cmp c.self.inside.records) (record_at g.C.Ord.cmp c.add.new.records) (record_at g.C.Ord.cmp c.drop_oldest.new.records) c.drop_oldest.result
-    c.get-max_sets.ensures.value c.in_ok-set.ensures c.in_ok-add.ensures.ok c.drop_oldest.ensures.sets c.self.invariant c.in_ok-add.ensures.disjoint c.in_ok-add.ensures.joined c.drop_oldest.ensures.change).consistent
+    c.get-max_sets.ensures.value c.in_ok-set.ensures c.in_ok-add.ensures.ok c.drop_oldest.ensures.sets c.self.invariant c.in_ok-add.ensures.disjoint c.in_ok-add.ensures.joined c.drop_oldest.ensures.change
+
+pub invariant_of-self-2 : goal.invariant_of-self-2
+invariant_of-self-2 g c = (taken g c).invariant
 
 pub returns-clause-taken : goal.returns-clause-taken
 returns-clause-taken g c =
     let cmp = g.C.Ord.cmp in
     let set = set_of cmp c.args.index c.args.peers.primary c.args.peers.secondary in
-    let whole =
-    (tracked g.C.Ord.cmp (non_zero_usize_get c.self.inside.config.max_sets) c.get-max_sets.result c.self.inside.sets c.add.new.sets c.drop_oldest.new.sets
-    (set_of g.C.Ord.cmp c.args.index c.args.peers.primary c.args.peers.secondary) c.in_ok-set.set
-    (record_at g.C.Ord.cmp c.self.inside.records) (record_at g.C.Ord.cmp c.add.new.records) (record_at g.C.Ord.cmp c.drop_oldest.new.records) c.drop_oldest.result
-    c.get-max_sets.ensures.value c.in_ok-set.ensures c.in_ok-add.ensures.ok c.drop_oldest.ensures.sets c.self.invariant c.in_ok-add.ensures.disjoint c.in_ok-add.ensures.joined c.drop_oldest.ensures.change) in
     record {
       config = ap (λ (d : DirectoryView g.row.C.Denot g.row.C-Signature.Denot). d.config) c.self.view_is;
-      sets = whole.kept ∙ ap (λ (d : DirectoryView g.row.C.Denot g.row.C-Signature.Denot). last_of d.config.max_sets (d.sets ++ set ∷ [])) c.self.view_is;
-      records = λ q. whole.records q ∙ ap (λ (d : DirectoryView g.row.C.Denot g.row.C-Signature.Denot). record_with_sets cmp c.drop_oldest.new.sets q (record_at cmp d.records q)) c.self.view_is;
+      sets = (taken g c).kept ∙ ap (λ (d : DirectoryView g.row.C.Denot g.row.C-Signature.Denot). last_of d.config.max_sets (d.sets ++ set ∷ [])) c.self.view_is;
+      records = λ q. (taken g c).records q ∙ ap (λ (d : DirectoryView g.row.C.Denot g.row.C-Signature.Denot). record_with_sets cmp (plain_sets c.drop_oldest.new.sets) q (record_at cmp d.records q)) c.self.view_is;
     }
 
 pub returns-clause-torn : goal.returns-clause-torn
 returns-clause-torn g c =
     let cmp = g.C.Ord.cmp in
-    let whole =
-    (tracked g.C.Ord.cmp (non_zero_usize_get c.self.inside.config.max_sets) c.get-max_sets.result c.self.inside.sets c.add.new.sets c.drop_oldest.new.sets
-    (set_of g.C.Ord.cmp c.args.index c.args.peers.primary c.args.peers.secondary) c.in_ok-set.set
-    (record_at g.C.Ord.cmp c.self.inside.records) (record_at g.C.Ord.cmp c.add.new.records) (record_at g.C.Ord.cmp c.drop_oldest.new.records) c.drop_oldest.result
-    c.get-max_sets.ensures.value c.in_ok-set.ensures c.in_ok-add.ensures.ok c.drop_oldest.ensures.sets c.self.invariant c.in_ok-add.ensures.disjoint c.in_ok-add.ensures.joined c.drop_oldest.ensures.change) in
     record {
       sorted = c.drop_oldest.ensures.sorted;
       members = λ q.
-          whole.torn_down q
+          (taken g c).torn_down q
           ∙ ap (λ (d : DirectoryView g.row.C.Denot g.row.C-Signature.Denot). is_connectable cmp (record_at cmp d.records q) && not (option_map_or is_eligible (record_at cmp c.drop_oldest.new.records q) false)) c.self.view_is;
     }
 
-pub returns-clause-busy : goal.returns-clause-busy
-returns-clause-busy g c = λ q h.
+-- who is not inert keeps its status
+status_kept : (g : _) (c : goal.After-drop_oldest g) (test : Status → Bool) → test Inert ≡ false → (q : g.row.C.Denot) → has_status test (record_at g.C.Ord.cmp c.drop_oldest.new.records q) ≡ has_status test (record_of g.C.Ord.cmp c.args.self.now q)
+status_kept g c test idle q =
     let cmp = g.C.Ord.cmp in
-    let before : is_busy (record_at cmp c.self.inside.records q) ≡ true =
-    subst (λ (d : DirectoryView g.row.C.Denot g.row.C-Signature.Denot). IsBusy cmp d q) (sym c.self.view_is) h in
-    let whole =
-    (tracked g.C.Ord.cmp (non_zero_usize_get c.self.inside.config.max_sets) c.get-max_sets.result c.self.inside.sets c.add.new.sets c.drop_oldest.new.sets
-    (set_of g.C.Ord.cmp c.args.index c.args.peers.primary c.args.peers.secondary) c.in_ok-set.set
-    (record_at g.C.Ord.cmp c.self.inside.records) (record_at g.C.Ord.cmp c.add.new.records) (record_at g.C.Ord.cmp c.drop_oldest.new.records) c.drop_oldest.result
-    c.get-max_sets.ensures.value c.in_ok-set.ensures c.in_ok-add.ensures.ok c.drop_oldest.ensures.sets c.self.invariant c.in_ok-add.ensures.disjoint c.in_ok-add.ensures.joined c.drop_oldest.ensures.change) in
-    ap is_busy (whole.records q) ∙ busy_with_sets cmp c.drop_oldest.new.sets q (record_at cmp c.self.inside.records q) ∙ before
+    ap (has_status test) ((taken g c).records q) ∙ status_with_sets cmp test idle (plain_sets c.drop_oldest.new.sets) q (record_at cmp c.self.inside.records q)
+    ∙ ap (λ (d : DirectoryView g.row.C.Denot g.row.C-Signature.Denot). has_status test (record_of cmp d q)) c.self.view_is
+
+pub returns-clause-busy : goal.returns-clause-busy
+returns-clause-busy g c = λ q h. status_kept g c (λ status. not (is_inert status)) refl q ∙ h
+
+pub returns-clause-reserved : goal.returns-clause-reserved
+returns-clause-reserved g c = λ q h. status_kept g c is_reserved refl q ∙ h

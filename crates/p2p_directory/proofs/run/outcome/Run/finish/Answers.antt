@@ -1,6 +1,7 @@
-use Rattle.std.proofs.Common.{sym, ◌∙◌}
-use Rattle.p2p_directory.specs.Held.{held_of}
-use Rattle.p2p_directory.proofs.Reservations.Holding.{held_by_release, given_back}
+use Rattle.std.proofs.Common.{ap, sym, ◌∙◌}
+use Rattle.p2p_directory.specs.Directory.{record_of}
+use Rattle.p2p_directory.specs.Held.{held_of, after_release}
+use Rattle.p2p_directory.proofs.Reservations.Holding.{held_by_release, held_record, given_back}
 use Rattle.p2p_directory.proofs.run.outcome.Run.finish.Goals as goal
 
 pub loop-peer-preserved-in-Some-take : goal.loop-peer-preserved-in-Some-take
@@ -17,3 +18,11 @@ loop-peer-preserved-in-Some-take g c =
       records = λ q. given_back cmp g.met.C.PublicKey.exact d d2 c.in-Some.peer c.in-Some-take.reservation (held_of cmp c.loop-peer.held) (held_of cmp c.take.new.self) (sym c.in-Some-take.ensures.taken) change c.in-Some-take.ensures.left q
           ∙ c.loop-peer.invariant.records q;
     }
+
+pub release-requires : goal.release-requires
+release-requires g c =
+    held_record g.C.Ord.cmp c.loop-peer.directory (held_of g.C.Ord.cmp c.loop-peer.held) c.in-Some.peer c.in-Some-take.reservation c.loop-peer.invariant.agree (sym c.in-Some-take.ensures.taken) c.in-Some-take.ensures.peer
+
+pub returns-clause-records : goal.returns-clause-records
+returns-clause-records g c = λ q.
+    ap (λ held. after_release (held_of g.C.Ord.cmp held q) (record_of g.C.Ord.cmp c.loop-peer.directory q)) (sym c.in_default.ensures.none) ∙ c.loop-peer.invariant.records q

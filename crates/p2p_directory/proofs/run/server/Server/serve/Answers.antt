@@ -49,37 +49,49 @@ returns-after-track-clause-served g c = rw (← c.self.view_is, c.in-Track.is) (
 -- LISTEN
 
 pub returns-in-Some-clause-served : goal.returns-in-Some-clause-served
-returns-in-Some-clause-served g c = rw (← c.self.view_is, c.in-Listen.is) (λ bootstrappers myself cfg calls at.
+returns-in-Some-clause-served g c = rw (← c.self-in-Listen.view_is, c.in-Listen.is) (λ bootstrappers myself cfg calls at.
     let facts = c.in-Some.ensures in
     Served.served_granted (setup_of g.C.Ord.cmp bootstrappers myself cfg) cfg.max_sets.ok g.met.C.PublicKey.exact calls _ _ at c.in-Listen.peer (as_nanos c.in-Listen.now) (as_nanos c.in-Listen.draw)
     (sym facts.answer) facts.granted (rw facts.reservation at c.put.ensures.held))
 
 pub returns-in-None-clause-served : goal.returns-in-None-clause-served
-returns-in-None-clause-served g c = rw (← c.self.view_is, c.in-Listen.is) (λ bootstrappers myself cfg calls at.
+returns-in-None-clause-served g c = rw (← c.self-in-Listen.view_is, c.in-Listen.is) (λ bootstrappers myself cfg calls at.
     Served.served_refused (setup_of g.C.Ord.cmp bootstrappers myself cfg) cfg.max_sets.ok g.met.C.PublicKey.exact calls _ _ at c.in-Listen.peer (as_nanos c.in-Listen.now) (as_nanos c.in-Listen.draw)
     (sym c.in-None.ensures.answer) c.in-None.ensures.refused refl)
 
 -- RELEASE
 
 pub returns-in-Some-take-clause-served : goal.returns-in-Some-take-clause-served
-returns-in-Some-take-clause-served g c = rw (← c.self.view_is, c.in-Release.is) (λ bootstrappers myself cfg calls at.
+returns-in-Some-take-clause-served g c = rw (← c.self-in-Release.view_is, c.in-Release.is) (λ bootstrappers myself cfg calls at.
     let facts = c.in-Some-take.ensures in
     Served.served_release (setup_of g.C.Ord.cmp bootstrappers myself cfg) cfg.max_sets.ok g.met.C.PublicKey.exact calls _ _ at c.in-Release.peer c.in-Some-take.reservation
     (sym facts.taken) (rw facts.peer at c.release.ensures.released) facts.held)
 
 pub returns-in-None-take-clause-served : goal.returns-in-None-take-clause-served
-returns-in-None-take-clause-served g c = rw (← c.self.view_is, c.in-Release.is) (λ bootstrappers myself cfg calls at.
+returns-in-None-take-clause-served g c = rw (← c.self-in-Release.view_is, c.in-Release.is) (λ bootstrappers myself cfg calls at.
     Served.served_not_held (setup_of g.C.Ord.cmp bootstrappers myself cfg) cfg.max_sets.ok g.met.C.PublicKey.exact calls _ _ at c.in-Release.peer
     (sym c.in-None-take.ensures.taken) refl c.in-None-take.ensures.held)
 
 -- STATUS
 
 pub returns-in-Status-clause-served : goal.returns-in-Status-clause-served
-returns-in-Status-clause-served g c = rw (← c.self.view_is, c.in-Status.is) (λ bootstrappers myself cfg calls at.
+returns-in-Status-clause-served g c = rw (← c.self-in-Status.view_is, c.in-Status.is) (λ bootstrappers myself cfg calls at.
     Served.served_status (setup_of g.C.Ord.cmp bootstrappers myself cfg) cfg.max_sets.ok g.met.C.PublicKey.exact calls _ _ at c.in-Status.peer c.status.result c.status.ensures refl refl)
 
 -- LATEST SET INDEX
 
 pub returns-in-LatestSetIndex-clause-served : goal.returns-in-LatestSetIndex-clause-served
-returns-in-LatestSetIndex-clause-served g c = rw (← c.self.view_is, c.in-LatestSetIndex.is) (λ bootstrappers myself cfg calls at.
+returns-in-LatestSetIndex-clause-served g c = rw (← c.self-in-LatestSetIndex.view_is, c.in-LatestSetIndex.is) (λ bootstrappers myself cfg calls at.
     Served.served_latest (setup_of g.C.Ord.cmp bootstrappers myself cfg) cfg.max_sets.ok g.met.C.PublicKey.exact calls _ _ at c.latest_set_index.result c.latest_set_index.ensures refl refl)
+
+-- UPDATE
+
+pub returns-in-UpdatePeers-clause-served : goal.returns-in-UpdatePeers-clause-served
+returns-in-UpdatePeers-clause-served g c = rw (← c.self-in-UpdatePeers.view_is, c.in-UpdatePeers.is) (λ bootstrappers myself cfg calls at.
+    Served.served_updated (setup_of g.C.Ord.cmp bootstrappers myself cfg) cfg.max_sets.ok g.met.C.PublicKey.exact calls _ _ at c.in-UpdatePeers.infos.items c.update_peers.ensures.updated refl)
+
+-- TRACKED
+
+pub returns-in-Tracked-clause-served : goal.returns-in-Tracked-clause-served
+returns-in-Tracked-clause-served g c = rw (← c.self-in-Tracked.view_is, c.in-Tracked.is) (λ bootstrappers myself cfg calls at.
+    Served.served_tracked (setup_of g.C.Ord.cmp bootstrappers myself cfg) cfg.max_sets.ok g.met.C.PublicKey.exact calls _ _ at g.met.C.Ord.total c.tracked.result c.tracked.ensures.count c.tracked.ensures.sorted refl refl)

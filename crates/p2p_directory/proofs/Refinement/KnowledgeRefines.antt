@@ -1,0 +1,344 @@
+-- What is known of peers: that connects and updates are steps of the world that a directory refines, and what it tells of them.
+use Rattle.std.proofs.Common.{◌≡◌, ℕ, ◌-◌, ◌^◌, ◌<◌, min, Bool, true, false, ◌||◌, ◌&&◌, not, List, [], ◌∷◌, Option, Some, None, sym, ap, refl, ◌∙◌, length, map, filter, cond, arith}
+use Rattle.std.specs.Prelude.{if◌then◌else◌, is_some, nat_lt, nat_le, slice_get}
+use Rattle.std.specs.declared.cmp.Ordering.TheVariants.{Less, Equal}
+use Rattle.std.specs.BTreeMap.{is_at}
+use Rattle.std.specs.Cmp.{IsTotalOrder, eq_by_cmp_equiv}
+use Rattle.std.specs.List.{list_any, AllByRecursion}
+use Rattle.std.specs.List.Sorted.{IsStrictlySortedBy}
+use Rattle.std.specs.Map.{keys_of}
+use Rattle.std.specs.Option.{option_map, option_map_or}
+use Rattle.std.proofs.lemmas.Bool.Decides.{nat_tests}
+use Rattle.std.proofs.lemmas.Map.Entries.{option_filter, lookup-filter-values}
+use Rattle.std.proofs.lemmas.Map.Keys.{IsDistinct-from_sorted}
+use Rattle.std.proofs.lemmas.Map.Made.{is_some-lookup}
+use Rattle.std.proofs.lemmas.Map.Views.{tells_apart}
+use Rattle.p2p_discovery.specs.declared.discovery.Info.{Info}
+use Rattle.p2p_discovery.specs.declared.types.ingress.Ingress.{Ingress}
+use Rattle.p2p_directory.specs.declared.record.Address.TheVariants.{Myself, Discovered}
+use Rattle.p2p_directory.specs.declared.record.Status.{Status}
+use Rattle.p2p_directory.specs.declared.record.Status.TheVariants.{Inert, Reserved, Active}
+use Rattle.p2p_directory.specs.Calls.{Setup, SetAt}
+use Rattle.p2p_directory.specs.Calls.Event.{Connected, Updated}
+use Rattle.p2p_directory.specs.History.{same, is_own, is_in, is_inert, is_reserved, is_persistent, is_named, is_present_with, is_newer, first_greatest, primary_count, secondary_count}
+use Rattle.p2p_directory.specs.World.{World, Known, Peer, last_ingress}
+use Rattle.p2p_directory.specs.Step
+use Rattle.p2p_directory.specs.Step.{new_known, world_with, status_connected}
+use Rattle.p2p_directory.specs.Answers.{is_present_in, is_tracked, wants, wants_with, active_info, sharable_of, sharable_info, IsNumberTracked}
+use Rattle.p2p_directory.specs.Record.{RecordView, is_myself, after_success, address_after_offer, address_after_infos, wants_by, sharable_by}
+use Rattle.p2p_directory.specs.Directory.{DirectoryView, record_of, connected_record, updated_record, infos_of, sharable_in, sharable_of_record, is_known, bit_vec_at, other_keys, Connects, Updates}
+use Rattle.p2p_directory.specs.Refinement.{Refines, address_given, address_known, address_of}
+use Rattle.p2p_directory.specs.Run.{bit_vec_of, bit_vec_in}
+use Rattle.p2p_directory.proofs.Definitions.Knowledge.{later, updated_all_with_best}
+use Rattle.p2p_directory.proofs.Refinement.RecordOfPeer.{record_with, shown, myself_is_own, absent_parts, inert_only}
+use Rattle.p2p_directory.proofs.Refinement.CallsRefine.{tie_status, unchanged, remains, or_true}
+
+-- the cap of failures is above each limit
+capped : (limit fails : ℕ) → limit < 2 ^ 64 → nat_le limit (min fails (2 ^ 64 - 1)) ≡ nat_le limit fails
+capped limit fails fits = grind (arith, nat_tests)
+
+module _ {C S : Type 0} (s : Setup C S) where
+  -- ADDRESSES
+
+  succeeded_given : (given : Option Ingress) → after_success {C = C} {S = S} (address_given given) ≡ address_given given
+  succeeded_given None = refl
+  succeeded_given (Some ingress) = refl
+
+  -- no failure is left
+  succeeded : (p : C) (k : Known C S) → after_success (address_of s p k) ≡ address_of s p (record k { fails = 0 })
+  succeeded p k = go (is_own s p) k.info
+    where
+      given : Option Ingress
+      given = last_ingress s p s.bootstrappers
+
+      go : (own : Bool) (info : Option (Info C S)) →
+          after_success (if own then Myself s.own else address_known given k.fails info) ≡ (if own then Myself s.own else address_known given 0 info)
+      go true info = refl
+      go false None = succeeded_given given
+      go false (Some i) = refl
+
+  connected_address : (p : C) (k : Known C S) (dialer : Bool) →
+      (if dialer then after_success (address_of s p k) else address_of s p k) ≡ address_of s p (if dialer then record k { fails = 0 } else k)
+  connected_address p k true = succeeded p k
+  connected_address p k false = refl
+
+  -- the best of the infos is known then
+  offered_given : (given : Option Ingress) (j : Info C S) → address_after_offer (Some j) (address_given given) ≡ Discovered j 0
+  offered_given None j = refl
+  offered_given (Some ingress) j = refl
+
+  offered : (given : Option Ingress) (fails : ℕ) (info x : Option (Info C S)) →
+      address_after_offer x (address_known given fails info) ≡ address_known given (if is_newer info x then 0 else fails) (later s info x)
+  offered given fails None None = refl
+  offered given fails (Some i) None = refl
+  offered given fails None (Some j) = offered_given given j
+  offered given fails (Some i) (Some j) = go (nat_lt i.timestamp j.timestamp)
+    where
+      go : (b : Bool) → (if b then Discovered j 0 else Discovered i (min fails (2 ^ 64 - 1))) ≡ address_known given (if b then 0 else fails) (if b then Some j else Some i)
+      go true = refl
+      go false = refl
+
+  own_offered : (x : Option (Info C S)) → address_after_offer x (Myself s.own) ≡ Myself s.own
+  own_offered None = refl
+  own_offered (Some i) = refl
+
+  -- what an update makes of what is known of p
+  abbrev updated_known : C → List (Info C S) → Known C S → Known C S
+  updated_known p is k = if is_own s p then k else Step.known_with_infos s k is
+
+  updated_address : (p : C) (is : List (Info C S)) (k : Known C S) → address_after_infos is (address_of s p k) ≡ address_of s p (updated_known p is k)
+  updated_address p is k = go (is_own s p)
+    where
+      given : Option Ingress
+      given = last_ingress s p s.bootstrappers
+
+      known : (own : Bool) → Known C S
+      known own = if own then k else Step.known_with_infos s k is
+
+      go : (own : Bool) → address_after_infos is (if own then Myself s.own else address_known given k.fails k.info)
+          ≡ (if own then Myself s.own else address_known given (known own).fails (known own).info)
+      go true = own_offered (first_greatest is)
+      go false = offered given k.fails k.info (first_greatest is) ∙ ap (λ x. address_known given x.fails x.info) (sym (updated_all_with_best s k is))
+
+  updated_moments : (p : C) (is : List (Info C S)) (k : Known C S) → ((updated_known p is k).reservable_at ≡ k.reservable_at) × ((updated_known p is k).dial_at ≡ k.dial_at)
+  updated_moments p is k = go (is_own s p)
+    where
+      go : (own : Bool) → ((if own then k else Step.known_with_infos s k is).reservable_at ≡ k.reservable_at) × ((if own then k else Step.known_with_infos s k is).dial_at ≡ k.dial_at)
+      go true = (refl, refl)
+      go false = let best = updated_all_with_best s k is in (ap (λ x. x.reservable_at) best, ap (λ x. x.dial_at) best)
+
+  -- RECORDS
+
+  updated_shown : (p : C) (sets : List (SetAt C)) (peer : Peer C S) (is : List (Info C S)) →
+      updated_record is (record_with s p sets peer) ≡ record_with s p sets (record { status = peer.status; known = updated_known p is peer.known })
+  updated_shown p sets peer is =
+      let same = updated_moments p is peer.known in
+      λ i. record {
+        address = updated_address p is peer.known i;
+        status = peer.status;
+        primary_sets = primary_count s p sets;
+        secondary_sets = secondary_count s p sets;
+        persistent = is_persistent s p;
+        next_reservable_at = sym same.0 i;
+        next_dial_at = sym same.1 i;
+      }
+
+  abbrev connected_known : Bool → Known C S → Known C S
+  connected_known dialer k = if dialer then record k { fails = 0 } else k
+
+  connected_moments : (dialer : Bool) (k : Known C S) → ((connected_known dialer k).reservable_at ≡ k.reservable_at) × ((connected_known dialer k).dial_at ≡ k.dial_at)
+  connected_moments true k = (refl, refl)
+  connected_moments false k = (refl, refl)
+
+  connected_shown : (p : C) (sets : List (SetAt C)) (peer : Peer C S) (dialer : Bool) →
+      connected_record dialer (record_with s p sets peer) ≡ record_with s p sets (record { status = Active; known = connected_known dialer peer.known })
+  connected_shown p sets peer dialer =
+      let same = connected_moments dialer peer.known in
+      λ i. record {
+        address = connected_address p peer.known dialer i;
+        status = Active;
+        primary_sets = primary_count s p sets;
+        secondary_sets = secondary_count s p sets;
+        persistent = is_persistent s p;
+        next_reservable_at = sym same.0 i;
+        next_dial_at = sym same.1 i;
+      }
+
+  -- the status of what is kept of p is reserved where p is
+  pub tie_reserved : (w : World C S) (d : DirectoryView C S) (p : C) → Refines s w d →
+      option_map_or is_reserved (option_map (λ r. r.status) (record_of s.cmp d p)) false ≡ is_reserved (w.peer p).status
+  tie_reserved w d p stands = ap (λ o. option_map_or is_reserved o false) (tie_status s w d p stands) ∙ go (is_persistent s p || is_named s p w.sets) (w.peer p).status
+    where
+      go : (wanted : Bool) (status : Status) → option_map_or is_reserved (if wanted || not (is_inert status) then Some status else None) false ≡ is_reserved status
+      go true Inert = refl
+      go true Reserved = refl
+      go true Active = refl
+      go false Inert = refl
+      go false Reserved = refl
+      go false Active = refl
+
+  -- CHANGES
+
+  pub tie_update : (w : World C S) (d d' : DirectoryView C S) (infos : List (Info C S)) → Refines s w d → Updates s.cmp d d' infos → Refines s (world_with s (Updated infos) w) d'
+  tie_update w d d' infos stands change = record {
+    config = change.config ∙ stands.config;
+    sets = change.sets ∙ stands.sets;
+    records = λ q.
+        change.records q
+        ∙ ap (option_map (updated_record (infos_of s.cmp infos q))) (stands.records q)
+        ∙ go q (is_present_with s q w.sets (w.peer q).status);
+  }
+    where
+      go : (q : C) (b : Bool) → option_map (updated_record (infos_of s.cmp infos q)) (if b then Some (record_with s q w.sets (w.peer q)) else None)
+          ≡ (if b
+          then Some (record_with s q w.sets (record { status = (w.peer q).status; known = if b then updated_known q (infos_of s.cmp infos q) (w.peer q).known else new_known s q }))
+          else None)
+      go q true = ap Some (updated_shown q w.sets (w.peer q) (infos_of s.cmp infos q))
+      go q false = refl
+
+  module _ (exact : (p q : C) → s.cmp p q ≡ Equal → p ≡ q) where
+    pub tie_connect : (w : World C S) (d d' : DirectoryView C S) (p : C) (dialer : Bool) → Refines s w d → (w.peer p).status ≡ Reserved → Connects s.cmp d d' p dialer →
+        Refines s (world_with s (Connected p dialer) w) d'
+    tie_connect w d d' p dialer stands reserved change = record {
+      config = change.config ∙ stands.config;
+      sets = change.sets ∙ stands.sets;
+      records = λ q. change.records q ∙ at q (is_at (s.cmp p) q) refl;
+    }
+      where
+        at : (q : C) (b : Bool) → is_at (s.cmp p) q ≡ b →
+            (if is_at (s.cmp p) q then option_map (connected_record dialer) (record_of s.cmp d q) else record_of s.cmp d q)
+            ≡ shown s q w.sets (Step.peer_after s q (Connected p dialer) w.sets (w.peer q))
+        at q b e = (λ i. changed (e i)) ∙ go b e ∙ (λ i. left (sym e i))
+          where
+            st : Status
+            st = (w.peer q).status
+
+            k : Known C S
+            k = (w.peer q).known
+
+            changed : Bool → Option (RecordView C S)
+            changed same = if same then option_map (connected_record dialer) (record_of s.cmp d q) else record_of s.cmp d q
+
+            left : Bool → Option (RecordView C S)
+            left same = shown s q w.sets (record {
+              status = if same then status_connected s st else st;
+              known = if is_present_with s q w.sets (if same then status_connected s st else st) then (if same && dialer then record k { fails = 0 } else k) else new_known s q;
+            })
+
+            go : (same : Bool) → is_at (s.cmp p) q ≡ same → changed same ≡ left same
+            go true e =
+                let is : st ≡ Reserved = ap (λ x. (w.peer x).status) (sym (tells_apart exact p q e)) ∙ reserved in
+                let here : is_present_with s q w.sets st ≡ true = ap (is_present_with s q w.sets) is ∙ or_true s (is_persistent s q || is_named s q w.sets) in
+                ap (option_map (connected_record dialer)) (stands.records q ∙ (λ i. if here i then Some (record_with s q w.sets (w.peer q)) else None))
+                ∙ ap Some (connected_shown q w.sets (w.peer q) dialer)
+                ∙ remains s q w.sets Active (connected_known dialer k) (or_true s (is_persistent s q || is_named s q w.sets))
+                ∙ (λ i. shown s q w.sets (record {
+                  status = status_connected s (sym is i);
+                  known = if is_present_with s q w.sets (status_connected s (sym is i)) then connected_known dialer k else new_known s q;
+                }))
+            go false e = stands.records q ∙ unchanged s q w.sets (w.peer q)
+
+  -- WHAT MAY BE SHARED
+
+  shared_given : (given : Option Ingress) (status : Status) → sharable_by {C = C} {S = S} status (address_given given) ≡ None
+  shared_given None status = refl
+  shared_given (Some ingress) status = refl
+
+  shared_known : (given : Option Ingress) (fails : ℕ) (status : Status) (info : Option (Info C S)) → sharable_by status (address_known given fails info) ≡ active_info s status info
+  shared_known given fails Active None = shared_given given Active
+  shared_known given fails Inert None = shared_given given Inert
+  shared_known given fails Reserved None = shared_given given Reserved
+  shared_known given fails Active (Some i) = refl
+  shared_known given fails Inert (Some i) = refl
+  shared_known given fails Reserved (Some i) = refl
+
+  pub tie_info : (w : World C S) (d : DirectoryView C S) (p : C) → Refines s w d → sharable_in s.cmp d p ≡ sharable_info s w p
+  tie_info w d p stands = ap told (stands.records p) ∙ go (is_present_with s p w.sets (w.peer p).status) refl
+    where
+      peer : Peer C S
+      peer = w.peer p
+
+      told : Option (RecordView C S) → Option (Info C S)
+      told o = elim o [ None ↦ None | Some r ↦ sharable_of_record r ]
+
+      present : (own : Bool) → sharable_by peer.status (if own then Myself s.own else address_known (last_ingress s p s.bootstrappers) peer.known.fails peer.known.info)
+          ≡ (if own then Some s.own else active_info s peer.status peer.known.info)
+      present true = refl
+      present false = shared_known (last_ingress s p s.bootstrappers) peer.known.fails peer.status peer.known.info
+
+      go : (b : Bool) → is_present_with s p w.sets peer.status ≡ b → told (if b then Some (record_with s p w.sets peer) else None) ≡ sharable_of s p peer
+      go true e = present (is_own s p)
+      go false e =
+          let parts = absent_parts s (is_own s p) (list_any (λ b. same s b.0 p) s.bootstrappers) (is_named s p w.sets) (is_inert peer.status) e in
+          sym (λ i. if parts.0 i then Some s.own else active_info s (inert_only s peer.status parts.2 i) peer.known.info)
+
+  -- BITS
+
+  wanted_given : (limit : ℕ) (given : Option Ingress) (status : Status) → wants_by {C = C} {S = S} limit status (address_given given) ≡ true
+  wanted_given limit None status = refl
+  wanted_given limit (Some ingress) status = refl
+
+  wanted_known : s.dial_fail_limit < 2 ^ 64 → (given : Option Ingress) (fails : ℕ) (status : Status) (info : Option (Info C S)) →
+      wants_by s.dial_fail_limit status (address_known given fails info) ≡ wants_with s status fails info
+  wanted_known fits given fails Active None = wanted_given s.dial_fail_limit given Active
+  wanted_known fits given fails Inert None = wanted_given s.dial_fail_limit given Inert
+  wanted_known fits given fails Reserved None = wanted_given s.dial_fail_limit given Reserved
+  wanted_known fits given fails Active (Some i) = refl
+  wanted_known fits given fails Inert (Some i) = capped s.dial_fail_limit fails fits
+  wanted_known fits given fails Reserved (Some i) = capped s.dial_fail_limit fails fits
+
+  known_shown : s.dial_fail_limit < 2 ^ 64 → (sets : List (SetAt C)) (q : C) (peer : Peer C S) → (is_present_with s q sets peer.status ≡ false → peer.known ≡ new_known s q) →
+      is_known s.dial_fail_limit (shown s q sets peer) ≡ not (wants s q peer)
+  known_shown fits sets q peer forgotten = go (is_present_with s q sets peer.status) refl
+    where
+      present : (own : Bool) → wants_by s.dial_fail_limit peer.status (if own then Myself s.own else address_known (last_ingress s q s.bootstrappers) peer.known.fails peer.known.info)
+          ≡ (not own && wants_with s peer.status peer.known.fails peer.known.info)
+      present true = refl
+      present false = wanted_known fits (last_ingress s q s.bootstrappers) peer.known.fails peer.status peer.known.info
+
+      go : (b : Bool) → is_present_with s q sets peer.status ≡ b → is_known s.dial_fail_limit (if b then Some (record_with s q sets peer) else None) ≡ not (wants s q peer)
+      go true e = ap not (present (is_own s q))
+      go false e =
+          let parts = absent_parts s (is_own s q) (list_any (λ b. same s b.0 q) s.bootstrappers) (is_named s q sets) (is_inert peer.status) e in
+          sym ((λ i. not (not (parts.0 i) && wants_with s (inert_only s peer.status parts.2 i) (forgotten e i).fails (forgotten e i).info))
+          ∙ ap (λ own. not (wants_with s Inert 0 (if own then Some s.own else None))) parts.0)
+
+  bits_fused : {A B D : Type 0} (f : A → B) (g : B → D) (h : A → D) → ((a : A) → h a ≡ g (f a)) → (o : Option A) → option_map h o ≡ option_map g (option_map f o)
+  bits_fused f g h same None = refl
+  bits_fused f g h same (Some a) = ap Some (same a)
+
+  pub tie_bits : s.dial_fail_limit < 2 ^ 64 → (w : World C S) (d : DirectoryView C S) (place : ℕ) → ((p : C) → is_present_in s w p ≡ false → (w.peer p).known ≡ new_known s p) → Refines s w d →
+      bit_vec_at s.cmp d place ≡ bit_vec_in s w place
+  tie_bits fits w d place forgotten stands =
+      (λ i. option_map (λ (set : SetAt C). record { index = set.index; bits = map (λ q. known q i) set.primary }) (slice_get (stands.sets i) place))
+      ∙ bits_fused (λ (x : SetAt C). (x.index, map (λ q. not (wants s q (w.peer q))) x.primary)) bit_vec_of (λ x. record { index = x.index; bits = map (λ q. not (wants s q (w.peer q))) x.primary }) (λ x. refl) (slice_get w.sets place)
+    where
+      known : (q : C) → is_known d.config.dial_fail_limit (record_of s.cmp d q) ≡ not (wants s q (w.peer q))
+      known q = (λ i. is_known (stands.config i).dial_fail_limit (stands.records q i)) ∙ known_shown fits w.sets q (w.peer q) (forgotten q)
+
+  -- HOW MANY
+
+  all_others : (P : C → Type 0) (test : C × RecordView C S → Bool) (es : List (C × RecordView C S)) → AllByRecursion P (keys_of es) → AllByRecursion P (keys_of (filter test es))
+  all_others P test [] all = all
+  all_others P test (e ∷ es) all = go (test e) (all_others P test es all.1)
+    where
+      go : (b : Bool) → AllByRecursion P (keys_of (filter test es)) → AllByRecursion P (keys_of (cond b (e ∷ filter test es) (filter test es)))
+      go true rest = (all.0, rest)
+      go false rest = rest
+
+  -- the keys of some records are in order, where those of all are
+  sorted_others : (test : C × RecordView C S → Bool) (es : List (C × RecordView C S)) → IsStrictlySortedBy s.cmp (keys_of es) → IsStrictlySortedBy s.cmp (keys_of (filter test es))
+  unfolding IsStrictlySortedBy
+  sorted_others test [] up = up
+  sorted_others test (e ∷ es) up = go (test e) (sorted_others test es up.1)
+    where
+      go : (b : Bool) → IsStrictlySortedBy s.cmp (keys_of (filter test es)) → IsStrictlySortedBy s.cmp (keys_of (cond b (e ∷ filter test es) (filter test es)))
+      go true rest = (all_others (λ y. s.cmp e.0 y ≡ Less) test es up.0, rest)
+      go false rest = rest
+
+  -- of a peer whose record is kept, whether it is another than the own one
+  other_shown : (p : C) (sets : List (SetAt C)) (peer : Peer C S) → is_some (option_filter (λ (r : RecordView C S). not (is_myself r.address)) (shown s p sets peer))
+      ≡ (is_present_with s p sets peer.status && not (is_own s p))
+  other_shown p sets peer = go (is_present_with s p sets peer.status)
+    where
+      kept : (own : Bool) → is_some (cond (not own) (Some (record_with s p sets peer)) None) ≡ not own
+      kept true = refl
+      kept false = refl
+
+      go : (b : Bool) → is_some (option_filter (λ (r : RecordView C S). not (is_myself r.address)) (if b then Some (record_with s p sets peer) else None)) ≡ (b && not (is_own s p))
+      go true = kept (is_myself (address_of s p peer.known)) ∙ ap not (myself_is_own s p peer.known)
+      go false = refl
+
+  pub tie_tracked : IsTotalOrder s.cmp → (w : World C S) (d : DirectoryView C S) → Refines s w d → IsStrictlySortedBy s.cmp (keys_of d.records) → IsNumberTracked s w (length (other_keys d.records))
+  tie_tracked total w d stands up = (other_keys d.records, record { sorted = sorted_others (λ e. other e.1) d.records up; members = members }, refl)
+    where
+      other : RecordView C S → Bool
+      other r = not (is_myself r.address)
+
+      members : (p : C) → is_in s p (other_keys d.records) ≡ is_tracked s w p
+      members p =
+          (λ i. list_any (λ q. (eq_by_cmp_equiv total).symm q p i) (other_keys d.records))
+          ∙ sym (is_some-lookup (is_at (s.cmp p)) (filter (λ e. other e.1) d.records))
+          ∙ ap is_some (lookup-filter-values (eq_by_cmp_equiv total) other p d.records (IsDistinct-from_sorted s.cmp (keys_of d.records) up))
+          ∙ ap (λ o. is_some (option_filter other o)) (stands.records p)
+          ∙ other_shown p w.sets (w.peer p)

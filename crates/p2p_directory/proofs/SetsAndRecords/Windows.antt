@@ -1,0 +1,248 @@
+-- Retained sets with their bits: what a new bit leaves, and that their indices ascend.
+use Rattle.std.proofs.Common.{◌≡◌, ℕ, zero, suc, ◌<◌, ◌≤◌, ◌+◌, Bool, true, false, cond, ◌||◌, List, [], ◌∷◌, ◌++◌, map, take, drop, length, get_or, Option, Some, None, sym, ap, refl, subst, ◌∙◌, arith}
+use Rattle.std.specs.Prelude.{is_some, nat_lt, nat_eq, option_to_list, find, slice_get}
+use Rattle.std.specs.declared.cmp.Ordering.{Ordering}
+use Rattle.std.specs.declared.cmp.Ordering.TheVariants.{Less, Equal, Greater}
+use Rattle.std.specs.Ordering.{nat_cmp}
+use Rattle.std.specs.Cmp.{IsTotalOrder, eq_by_cmp_equiv, nat_cmp_total}
+use Rattle.std.specs.Option.{option_map}
+use Rattle.std.specs.List.{list_any, last_or, AllByRecursion, slice_set, count_by}
+use Rattle.std.specs.List.Sorted.{IsStrictlySortedBy}
+use Rattle.std.specs.Map.{keys_of, values_of, set_value, lookup}
+use Rattle.std.specs.BTreeMap.{is_at}
+use Rattle.std.proofs.lemmas.List.{map-append}
+use Rattle.std.proofs.lemmas.List.Sums.{count_by_more_yes, count_by_more_no}
+use Rattle.std.proofs.lemmas.Option.{slice_get-map}
+use Rattle.std.proofs.lemmas.Map.{NonePasses}
+use Rattle.std.proofs.lemmas.Map.Entries.{none_past_head}
+use Rattle.std.proofs.lemmas.Map.Keys.{sorted_tail, IsDistinct-from_sorted}
+use Rattle.std.proofs.lemmas.Map.Made.{is_some-lookup}
+use Rattle.p2p_discovery.specs.BitSets.{with_bit, unset}
+use Rattle.p2p_directory.specs.PeerSets.{has_key, latest_index, is_above}
+use Rattle.p2p_directory.proofs.SetsAndRecords.Counting.{one}
+use Rattle.p2p_directory.proofs.SetsAndRecords.Naming.{all_joined}
+use Rattle.p2p_directory.specs.Calls.{SetAt}
+use Rattle.p2p_directory.specs.Private.Window.{SetWithBits, plain_set, plain_sets, set_with_bits, sets_with_bits, bits_with, with_bit_of, IsAscending}
+
+next : (i : ℕ) → suc i ≡ i + 1
+next i = omega arith
+
+-- BITS BESIDE PEERS
+
+-- no bit is set
+pub unset_is : {P : Type 0} (peers : List P) → unset peers ≡ map (λ q. (q, false)) peers
+unset_is [] = refl
+unset_is (q ∷ peers) = ap (λ es. (q, false) ∷ es) (unset_is peers)
+
+-- a new bit leaves the peers
+pub keys_with_bit : {P : Type 0} (es : List (P × Bool)) (i : ℕ) (b : Bool) → keys_of (with_bit es i b) ≡ keys_of es
+keys_with_bit [] i b = refl
+keys_with_bit (e ∷ es) zero b = refl
+keys_with_bit (e ∷ es) (suc i) b = ap (λ ks. e.0 ∷ ks) (keys_with_bit es i b)
+
+pub keys_with_bits : {P : Type 0} (known : P → Bool) (peers : List P) → keys_of (map (λ q. (q, known q)) peers) ≡ peers
+keys_with_bits known [] = refl
+keys_with_bits known (q ∷ peers) = ap (λ ks. q ∷ ks) (keys_with_bits known peers)
+
+-- the bits of the first peers, and one more
+pub bits_more : {P : Type 0} (known : P → Bool) (es : List (P × Bool)) (i : ℕ) (x : P) → i < length es → x ≡ get_or (keys_of es) i x →
+    with_bit (map (λ q. (q, known q)) (take i (keys_of es)) ++ drop i es) i (known x) ≡ map (λ q. (q, known q)) (take (i + 1) (keys_of es)) ++ drop (i + 1) es
+bits_more known es i x low is = go known es i x low is ∙ ap (λ k. map (λ q. (q, known q)) (take k (keys_of es)) ++ drop k es) (next i)
+  where
+    go : {P : Type 0} (known : P → Bool) (es : List (P × Bool)) (i : ℕ) (x : P) → i < length es → x ≡ get_or (keys_of es) i x →
+        with_bit (map (λ q. (q, known q)) (take i (keys_of es)) ++ drop i es) i (known x) ≡ map (λ q. (q, known q)) (take (suc i) (keys_of es)) ++ drop (suc i) es
+    go known [] i x low is = absurd (omega (arith, low))
+    go known (e ∷ es) zero x low is = ap (λ y. (e.0, known y) ∷ es) is
+    go known (e ∷ es) (suc i) x low is = ap (λ rest. (e.0, known e.0) ∷ rest) (go known es i x (omega (arith, low)) is)
+
+pub plain_again : {C : Type 0} (known : C → Bool) (set : SetAt C) → plain_set (set_with_bits known set) ≡ set
+plain_again known set = λ i. record { index = set.index; primary = keys_with_bits known set.primary i; secondary = set.secondary }
+
+-- the bits of the first peers leave the peers
+pub keys_of_front : {P : Type 0} (known : P → Bool) (es : List (P × Bool)) (i : ℕ) → keys_of (map (λ q. (q, known q)) (take i (keys_of es)) ++ drop i es) ≡ keys_of es
+keys_of_front known [] zero = refl
+keys_of_front known [] (suc i) = refl
+keys_of_front known (e ∷ es) zero = refl
+keys_of_front known (e ∷ es) (suc i) = ap (λ ks. e.0 ∷ ks) (keys_of_front known es i)
+
+-- .. and all of them are the bits that peers have
+pub all_known : {P : Type 0} (known : P → Bool) (es : List (P × Bool)) (i : ℕ) → length es ≤ i → map (λ q. (q, known q)) (take i (keys_of es)) ++ drop i es ≡ map (λ q. (q, known q)) (keys_of es)
+all_known known [] zero le = refl
+all_known known [] (suc i) le = refl
+all_known known (e ∷ es) zero le = absurd (omega (arith, le))
+all_known known (e ∷ es) (suc i) le = ap (λ rest. (e.0, known e.0) ∷ rest) (all_known known es i (omega (arith, le)))
+
+module _ {C : Type 0} (cmp : C → C → Ordering) where
+  pub keys_bits_with : (p : C) (b : Bool) (es : List (C × Bool)) → keys_of (bits_with cmp p b es) ≡ keys_of es
+  keys_bits_with p b [] = refl
+  keys_bits_with p b (e ∷ es) = ap (λ ks. e.0 ∷ ks) (keys_bits_with p b es)
+
+  -- where p is none of the peers, no bit changes
+  bits_without : (p : C) (b : Bool) (es : List (C × Bool)) → NonePasses (is_at (cmp p)) es → bits_with cmp p b es ≡ es
+  bits_without p b [] none = refl
+  bits_without p b (e ∷ es) none = λ i. (e.0, cond (none.0 i) b e.1) ∷ bits_without p b es none.1 i
+
+  -- the bit of the first p is that of every p
+  pub bit_of_one : IsTotalOrder cmp → (p : C) (b : Bool) (es : List (C × Bool)) → IsStrictlySortedBy cmp (keys_of es) → set_value (is_at (cmp p)) es b ≡ bits_with cmp p b es
+  bit_of_one total p b [] up = refl
+  bit_of_one total p b (e ∷ es) up = go (is_at (cmp p) e.0) refl (bit_of_one total p b es (sorted_tail cmp e.0 (keys_of es) up))
+    where
+      go : (here : Bool) → is_at (cmp p) e.0 ≡ here → set_value (is_at (cmp p)) es b ≡ bits_with cmp p b es →
+          cond here ((e.0, b) ∷ es) (e ∷ set_value (is_at (cmp p)) es b) ≡ (e.0, cond here b e.1) ∷ bits_with cmp p b es
+      go true h later = ap (λ rest. (e.0, b) ∷ rest) (sym (bits_without p b es (none_past_head (eq_by_cmp_equiv total) p e es (IsDistinct-from_sorted cmp (keys_of (e ∷ es)) up) h)))
+      go false h later = ap (λ rest. e ∷ rest) later
+
+  -- p has a bit where it is one of the peers
+  pub has_bit : IsTotalOrder cmp → (p : C) (es : List (C × Bool)) → is_some (lookup (is_at (cmp p)) es) ≡ has_key cmp (keys_of es) p
+  has_bit total p es = is_some-lookup (is_at (cmp p)) es ∙ go (keys_of es)
+    where
+      go : (keys : List C) → list_any (is_at (cmp p)) keys ≡ has_key cmp keys p
+      go [] = refl
+      go (k ∷ keys) = λ i. (eq_by_cmp_equiv total).symm p k i || go keys i
+
+  -- a new bit leaves the sets
+  pub plain_with_bit : (p : C) (b : Bool) (sets : List (SetWithBits C)) → plain_sets (map (with_bit_of cmp p b) sets) ≡ plain_sets sets
+  plain_with_bit p b [] = refl
+  plain_with_bit p b (x ∷ sets) = λ i. record { index = x.index; primary = keys_bits_with p b x.primary i; secondary = x.secondary } ∷ plain_with_bit p b sets i
+
+-- INDICES
+
+-- no set ascends
+pub none_ascends : (C : Type 0) → IsAscending {C = C} []
+unfolding IsStrictlySortedBy
+none_ascends C = tt
+
+-- each number is below one that is above the last of ascending ones
+all_below : (n x : ℕ) (ns : List ℕ) → IsStrictlySortedBy nat_cmp (x ∷ ns) → is_above n (last_or (Some x) ns) ≡ true → AllByRecursion (λ y. nat_cmp y n ≡ Less) (x ∷ ns)
+unfolding IsStrictlySortedBy
+all_below n x [] up above = (less x n above, tt)
+  where
+    less : (x n : ℕ) → nat_lt x n ≡ true → nat_cmp x n ≡ Less
+    less x n e = ap (λ b. cond b Less (cond (nat_eq x n) Equal Greater)) e
+all_below n x (y ∷ ns) up above =
+    let rest = all_below n y ns up.1 above in
+    (nat_cmp_total.trans x y n up.0.0 rest.0, rest)
+
+pushed : (n : ℕ) (ns : List ℕ) → IsStrictlySortedBy nat_cmp ns → AllByRecursion (λ y. nat_cmp y n ≡ Less) ns → IsStrictlySortedBy nat_cmp (ns ++ n ∷ [])
+unfolding IsStrictlySortedBy
+pushed n [] up below = (tt, tt)
+pushed n (x ∷ ns) up below = (all_joined (λ y. nat_cmp x y ≡ Less) ns (n ∷ []) up.0 (below.0, tt), pushed n ns up.1 below.1)
+
+module _ {C : Type 0} where
+  index_of : SetWithBits C → ℕ
+  index_of set = set.index
+
+  -- the index of the latest set
+  last_index : (o : Option (SetWithBits C)) (sets : List (SetWithBits C)) →
+      option_map (λ set. set.index) (last_or (option_map plain_set o) (plain_sets sets)) ≡ option_map (λ set. set.index) (last_or o sets)
+  last_index None [] = refl
+  last_index (Some x) [] = refl
+  last_index o (x ∷ sets) = last_index (Some x) sets
+
+  pub latest_plain : (sets : List (SetWithBits C)) → latest_index (plain_sets sets) ≡ option_map (λ set. set.index) (last_or None sets)
+  latest_plain sets = last_index None sets
+
+  -- a set whose index is above the latest ascends
+  pub ascending_push : (sets : List (SetWithBits C)) (set : SetWithBits C) → IsAscending sets → is_above set.index (latest_index (plain_sets sets)) ≡ true → IsAscending (sets ++ set ∷ [])
+  ascending_push [] set up above = pushed set.index [] up tt
+  ascending_push (x ∷ sets) set up above =
+      subst (IsStrictlySortedBy nat_cmp) (sym (map-append (λ (y : SetWithBits C). y.index) (x ∷ sets) (set ∷ [])))
+      (pushed set.index (map (λ y. y.index) (x ∷ sets)) up (all_below set.index x.index (map (λ y. y.index) sets) up (ap (is_above set.index) (indices (Some x) sets) ∙ above)))
+    where
+      indices : (o : Option (SetWithBits C)) (sets : List (SetWithBits C)) →
+          last_or (option_map (λ y. y.index) o) (map (λ y. y.index) sets) ≡ option_map (λ y. y.index) (last_or (option_map plain_set o) (plain_sets sets))
+      indices None [] = refl
+      indices (Some x) [] = refl
+      indices o (x ∷ sets) = indices (Some x) sets
+
+  -- .. where it is pushed
+  pub ascending_pushed : (ok : Bool) (old new : List (SetWithBits C)) (set : SetWithBits C) → new ≡ cond ok (old ++ set ∷ []) old → IsAscending old → is_above set.index (latest_index (plain_sets old)) ≡ true → IsAscending new
+  ascending_pushed true old new set e up above = subst IsAscending (sym e) (ascending_push old set up above)
+  ascending_pushed false old new set e up above = subst IsAscending (sym e) up
+
+  -- the first of ascending sets goes
+  pub ascending_popped : (o : Option (SetWithBits C)) (old new : List (SetWithBits C)) → old ≡ option_to_list o ++ new → IsAscending old → IsAscending new
+  ascending_popped None old new e up = subst IsAscending e up
+  ascending_popped (Some x) old new e up = sorted_tail nat_cmp x.index (map (λ set. set.index) new) (subst IsAscending e up)
+
+  -- new bits leave the indices
+  pub ascending_with_bit : (cmp : C → C → Ordering) (p : C) (b : Bool) (old new : List (SetWithBits C)) → new ≡ map (with_bit_of cmp p b) old → IsAscending old → IsAscending new
+  ascending_with_bit cmp p b old new e up = subst IsAscending (sym e) (subst (IsStrictlySortedBy nat_cmp) (sym (go old)) up)
+    where
+      go : (sets : List (SetWithBits C)) → map (λ y. y.index) (map (with_bit_of cmp p b) sets) ≡ map (λ y. y.index) sets
+      go [] = refl
+      go (x ∷ sets) = ap (λ ns. x.index ∷ ns) (go sets)
+
+-- ONE AFTER THE OTHER
+
+-- the first i values changed, and one more
+pub changed_more : {A : Type 0} (f : A → A) (xs : List A) (i : ℕ) (x : A) → i < length xs → x ≡ get_or xs i x → slice_set (map f (take i xs) ++ drop i xs) i (f x) ≡ map f (take (i + 1) xs) ++ drop (i + 1) xs
+changed_more f xs i x low is = go f xs i x low is ∙ ap (λ k. map f (take k xs) ++ drop k xs) (next i)
+  where
+    go : {A : Type 0} (f : A → A) (xs : List A) (i : ℕ) (x : A) → i < length xs → x ≡ get_or xs i x → slice_set (map f (take i xs) ++ drop i xs) i (f x) ≡ map f (take (suc i) xs) ++ drop (suc i) xs
+    go f [] i x low is = absurd (omega (arith, low))
+    go f (y ∷ ys) zero x low is = ap (λ z. f z ∷ ys) is
+    go f (y ∷ ys) (suc i) x low is = ap (λ rest. f y ∷ rest) (go f ys i x (omega (arith, low)) is)
+
+-- what is found is the first that passes a test
+pub found_at : {A : Type 0} (test : A → Bool) (xs : List A) (i : ℕ) (x : A) → find test (take i xs) ≡ None → i < length xs → x ≡ get_or xs i x → test x ≡ true → find test xs ≡ Some x
+found_at test [] i x none low is passes = absurd (omega (arith, low))
+found_at test (y ∷ ys) zero x none low is passes = (λ i. cond (test (sym is i)) (Some y) (find test ys)) ∙ (λ i. cond (passes i) (Some (sym is i)) (find test ys))
+found_at test (y ∷ ys) (suc i) x none low is passes = go (test y) none (λ n. found_at test ys i x n (omega (arith, low)) is passes)
+  where
+    go : (b : Bool) → cond b (Some y) (find test (take i ys)) ≡ None → (find test (take i ys) ≡ None → find test ys ≡ Some x) → cond b (Some y) (find test ys) ≡ Some x
+    go true e h = absurd cc
+    go false e h = h e
+
+-- .. and none so far, where one more doesn't pass it
+pub not_found_more : {A : Type 0} (test : A → Bool) (xs : List A) (i : ℕ) (x : A) → find test (take i xs) ≡ None → i < length xs → x ≡ get_or xs i x → test x ≡ false → find test (take (i + 1) xs) ≡ None
+not_found_more test xs i x none low is fails = ap (λ k. find test (take k xs)) (sym (next i)) ∙ go test xs i x none low is fails
+  where
+    one_more : {A : Type 0} (b : Bool) (y : A) (before after : Option A) → cond b (Some y) before ≡ None → (before ≡ None → after ≡ None) → cond b (Some y) after ≡ None
+    one_more true y before after e h = e
+    one_more false y before after e h = h e
+
+    go : {A : Type 0} (test : A → Bool) (xs : List A) (i : ℕ) (x : A) → find test (take i xs) ≡ None → i < length xs → x ≡ get_or xs i x → test x ≡ false → find test (take (suc i) xs) ≡ None
+    go test [] i x none low is fails = absurd (omega (arith, low))
+    go test (y ∷ ys) zero x none low is fails = λ i. cond ((ap test (sym is) ∙ fails) i) (Some y) None
+    go test (y ∷ ys) (suc i) x none low is fails = one_more (test y) y (find test (take i ys)) (find test (take (suc i) ys)) none (λ n. go test ys i x n (omega (arith, low)) is fails)
+
+-- where the first i values changed, the one at place i is as it was
+pub still_there : {A : Type 0} (f : A → A) (xs : List A) (i : ℕ) → i < length xs → (ys : List A) → ys ≡ map f (take i xs) ++ drop i xs → (x : A) × (slice_get ys i ≡ Some x) × (x ≡ get_or xs i x)
+still_there f xs i low ys e = let found = go f xs i low in (found.0, ap (λ zs. slice_get zs i) e ∙ found.1, found.2)
+  where
+    go : {A : Type 0} (f : A → A) (xs : List A) (i : ℕ) → i < length xs → (x : A) × (slice_get (map f (take i xs) ++ drop i xs) i ≡ Some x) × (x ≡ get_or xs i x)
+    go f [] i low = absurd (omega (arith, low))
+    go f (y ∷ ys) zero low = (y, refl, refl)
+    go f (y ∷ ys) (suc i) low = go f ys i (omega (arith, low))
+
+-- how many of the first pass a test, and one more
+pub counted_more : {A : Type 0} (test : A → Bool) (xs : List A) (i : ℕ) (x : A) → i < length xs → x ≡ get_or xs i x → count_by test (take i xs) + one (test x) ≡ count_by test (take (i + 1) xs)
+counted_more test xs i x low is = go (test x) refl
+  where
+    go : (b : Bool) → test x ≡ b → count_by test (take i xs) + one b ≡ count_by test (take (i + 1) xs)
+    go true e = sym (count_by_more_yes test xs i x low (ap test (sym is) ∙ e))
+    go false e = omega (arith, count_by_more_no test xs i x low (ap test (sym is) ∙ e))
+
+-- SHOWN BITS
+
+module _ {C : Type 0} where
+  bits_of_known : (known : C → Bool) (peers : List C) → values_of (map (λ q. (q, known q)) peers) ≡ map known peers
+  bits_of_known known [] = refl
+  bits_of_known known (q ∷ peers) = ap (λ bits. known q ∷ bits) (bits_of_known known peers)
+
+  -- the stored bits of the set at a place are those that peers have
+  pub bits_shown : (known : C → Bool) (window : List (SetWithBits C)) (place : ℕ) (x : SetWithBits C) → window ≡ sets_with_bits known (plain_sets window) → slice_get window place ≡ Some x →
+      (set : SetAt C) × (slice_get (plain_sets window) place ≡ Some set) × (x.index ≡ set.index) × (values_of x.primary ≡ map known set.primary)
+  bits_shown known window place x is found = go (slice_get (plain_sets window) place) refl (sym (slice_get-map (set_with_bits known) (plain_sets window) place) ∙ ap (λ w. slice_get w place) (sym is) ∙ found)
+    where
+      go : (o : Option (SetAt C)) → slice_get (plain_sets window) place ≡ o → option_map (set_with_bits known) o ≡ Some x →
+          (set : SetAt C) × (slice_get (plain_sets window) place ≡ Some set) × (x.index ≡ set.index) × (values_of x.primary ≡ map known set.primary)
+      go None e f = absurd cc
+      go (Some set) e f =
+          let same : set_with_bits known set ≡ x = cc in
+          (set, e, ap (λ (y : SetWithBits C). y.index) (sym same), ap (λ (y : SetWithBits C). values_of y.primary) (sym same) ∙ bits_of_known known set.primary)
+
+  -- and there is none where there is no such place
+  pub none_shown : (window : List (SetWithBits C)) (place : ℕ) → slice_get window place ≡ None → slice_get (plain_sets window) place ≡ None
+  none_shown window place e = slice_get-map plain_set window place ∙ ap (option_map plain_set) e
