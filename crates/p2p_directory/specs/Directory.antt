@@ -1,5 +1,6 @@
 -- What contracts see of a directory, and what its calls answer and change.
-use Rattle.std.specs.Prelude.{ℕ, ◌≡◌, Bool, true, false, not, ◌&&◌, if◌then◌else◌, List, ◌++◌, ◌∷◌, [], map, filter, slice_get, Option, Some, unwrap_or}
+use Rattle.std.specs.Prelude.{ℕ, ◌≡◌, Bool, true, false, not, ◌&&◌, if◌then◌else◌, List, ◌++◌, ◌∷◌}
+use Rattle.std.specs.Prelude.{[], map, filter, slice_get, Option, Some, unwrap_or}
 use Rattle.std.specs.List.Sorted.{IsStrictlySortedBy}
 use Rattle.std.specs.Option.{option_map, option_map_or, option_and_then}
 use Rattle.std.specs.Duration.{as_nanos}
@@ -23,7 +24,8 @@ use Rattle.p2p_directory.specs.History.{last_of, is_inert, is_reserved}
 use Rattle.p2p_directory.specs.World.{last_ingress_by}
 use Rattle.p2p_directory.specs.Record.{RecordView, new_record, blank, is_myself, is_eligible}
 use Rattle.p2p_directory.specs.Record.{after_failure, after_success, reserved_record, with_counts}
-use Rattle.p2p_directory.specs.Record.{unless_deletable, address_after_infos, wants_info, sharable_by}
+use Rattle.p2p_directory.specs.Record.{unless_deletable, address_after_infos, wants_info}
+use Rattle.p2p_directory.specs.Record.{sharable_by}
 use Rattle.p2p_directory.specs.PeerSets.{has_key, set_count}
 
 -- WHAT IS SEEN
@@ -77,9 +79,11 @@ module _ {C S : Type 0} where
   released_record metadata r =
       record r { status = Inert; address = address_after_release metadata r.address }
 
-  -- what is kept of a peer after its reservation was released: nothing, where its record is deletable then
+  -- what is kept of a peer after its reservation was released: nothing, where its record is
+  -- deletable then
   abbrev pub kept_after_release : Metadata C S → Option (RecordView C S) → Option (RecordView C S)
-  kept_after_release metadata o = option_and_then (λ r. unless_deletable (released_record metadata r)) o
+  kept_after_release metadata o =
+      option_and_then (λ r. unless_deletable (released_record metadata r)) o
 
   -- the peer's info is known, and not wanted
   abbrev pub is_known : ℕ → Option (RecordView C S) → Bool
@@ -135,23 +139,28 @@ module _ {C S : Type 0} (cmp : C → C → Ordering) where
   abbrev pub first_record : List (C × Ingress) → Info C S → C → Option (RecordView C S)
   first_record bootstrappers own q =
       if is_at (cmp own.public_key) q then Some (new_record (Myself own) true)
-      else option_map (λ ingress. new_record (Bootstrapper ingress) true) (last_ingress_by cmp q bootstrappers)
+      else option_map (λ ingress. new_record (Bootstrapper ingress) true)
+          (last_ingress_by cmp q bootstrappers)
 
   -- ONE PEER
 
   -- what is kept of p becomes f of it, and of each other peer it stays
-  abbrev pub ChangesAt : List (C × RecordView C S) → List (C × RecordView C S) → C → (Option (RecordView C S) → Option (RecordView C S)) → Type 0
-  ChangesAt old new p f = (q : C) → record_at new q ≡ (if is_at (cmp p) q then f (record_at old q) else record_at old q)
+  abbrev pub ChangesAt : List (C × RecordView C S) → List (C × RecordView C S) → C →
+      (Option (RecordView C S) → Option (RecordView C S)) → Type 0
+  ChangesAt old new p f =
+      (q : C) → record_at new q ≡ (if is_at (cmp p) q then f (record_at old q) else record_at old q)
 
   -- .. and all else of a directory stays
-  pub record ChangesRecord (old new : DirectoryView C S) (p : C) (f : Option (RecordView C S) → Option (RecordView C S)) : Type 0 where
+  pub record ChangesRecord (old new : DirectoryView C S) (p : C)
+      (f : Option (RecordView C S) → Option (RecordView C S)) : Type 0 where
     pub config : new.config ≡ old.config
     pub sets : new.sets ≡ old.sets
     pub records : ChangesAt old.records new.records p f
 
   -- p is reserved at a moment, with a draw
   abbrev pub Reserves : DirectoryView C S → DirectoryView C S → C → ℕ → ℕ → Type 0
-  Reserves old new p now draw = ChangesRecord old new p (option_map (reserved_record now draw old.config.cooldown))
+  Reserves old new p now draw =
+      ChangesRecord old new p (option_map (reserved_record now draw old.config.cooldown))
 
   -- a reservation is released
   abbrev pub Releases : DirectoryView C S → DirectoryView C S → Metadata C S → Type 0
@@ -190,10 +199,13 @@ module _ {C S : Type 0} (cmp : C → C → Ordering) where
 
   -- A SET
 
-  -- what is kept of a peer once these are the retained sets: its counts are theirs, and a record that is deletable is none
-  abbrev pub record_with_sets : List (SetAt C) → C → Option (RecordView C S) → Option (RecordView C S)
+  -- what is kept of a peer once these are the retained sets: its counts are theirs, and a record
+  -- that is deletable is none
+  abbrev pub record_with_sets : List (SetAt C) → C → Option (RecordView C S) →
+      Option (RecordView C S)
   record_with_sets sets q o =
-      unless_deletable (with_counts (set_count cmp Primary q sets) (set_count cmp Secondary q sets) (unwrap_or o blank))
+      unless_deletable (with_counts (set_count cmp Primary q sets) (set_count cmp Secondary q sets)
+          (unwrap_or o blank))
 
   -- a set is retained, as one of so many at most, and each record has the counts of the sets
   pub record TakesSet (old new : DirectoryView C S) (set : SetAt C) : Type 0 where

@@ -1,5 +1,8 @@
--- What the past says of a directory. A past is the list of what the accepted calls did, the newest first. p is a key, t a moment.
-use Rattle.std.specs.Prelude.{ℕ, ◌≡◌, ◌+◌, ◌-◌, Bool, true, false, not, ◌&&◌, ◌||◌, if◌then◌else◌, List, [], ◌∷◌, ◌++◌, length, drop, Option, Some, None, nat_lt, nat_le, filter, count_by}
+-- What the past says of a directory. A past is the list of what the accepted calls did, the newest
+-- first. p is a key, t a moment.
+use Rattle.std.specs.Prelude.{ℕ, ◌≡◌, ◌+◌, ◌-◌, Bool, true, false, not, ◌&&◌, ◌||◌, if◌then◌else◌}
+use Rattle.std.specs.Prelude.{List, [], ◌∷◌, ◌++◌, length, drop, Option, Some, None, nat_lt, nat_le}
+use Rattle.std.specs.Prelude.{filter, count_by}
 use Rattle.std.specs.List.{list_any}
 use Rattle.std.specs.Ordering.{is_eq}
 use Rattle.p2p_discovery.specs.declared.discovery.Info.{Info}
@@ -10,7 +13,8 @@ use Rattle.p2p_directory.specs.declared.record.Status.{Status}
 use Rattle.p2p_directory.specs.Calls.{Setup, SetAt, Direction, Grant, Event}
 use Rattle.p2p_directory.specs.declared.record.Status.TheVariants.{Inert, Reserved, Active}
 use Rattle.p2p_directory.specs.Calls.Direction.{Listener, Dialer}
-use Rattle.p2p_directory.specs.Calls.Event.{Tracked, Granted, Connected, Released, Updated, Blocked, Expired}
+use Rattle.p2p_directory.specs.Calls.Event.{Tracked, Granted, Connected, Released, Updated, Blocked}
+use Rattle.p2p_directory.specs.Calls.Event.{Expired}
 
 -- LOOKING BACK
 
@@ -171,7 +175,8 @@ module _ {C S : Type 0} (s : Setup C S) where
   abbrev pub is_present : C → List (Event C S) → Bool
   is_present p h = is_present_with p (retained_sets h) (status_at p h)
 
-  -- what the calls did after the last point at which p was absent; all of it where there is no such point
+  -- what the calls did after the last point at which p was absent; all of it where there is no such
+  -- point
   unfoldable pub life : C → List (Event C S) → List (Event C S)
   life p [] = []
   life p (e ∷ h) = if is_present p (e ∷ h) then e ∷ life p h else []
@@ -204,7 +209,8 @@ module _ {C S : Type 0} (s : Setup C S) where
   -- the events after the one that brought p's info and after p's last connect as its dialer
   abbrev pub since_cleared : C → List (Event C S) → List (Event C S)
   since_cleared p [] = []
-  since_cleared p (e ∷ l) = if is_brought_by p e l || connects_as_dialer p e then [] else e ∷ since_cleared p l
+  since_cleared p (e ∷ l) =
+      if is_brought_by p e l || connects_as_dialer p e then [] else e ∷ since_cleared p l
 
   -- a release of p whose grant was a dial at this ingress
   abbrev pub is_failure : C → Ingress → Event C S → Bool
@@ -216,7 +222,8 @@ module _ {C S : Type 0} (s : Setup C S) where
   failures_of p None l = 0
   failures_of p (Some i) l = count_by (is_failure p i.ingress) l
 
-  -- how often dials at the ingress of its info failed since it was brought and since the last connect as its dialer
+  -- how often dials at the ingress of its info failed since it was brought and since the last
+  -- connect as its dialer
   abbrev pub fails_in : C → List (Event C S) → ℕ
   fails_in p l = failures_of p (info_in p l) (since_cleared p l)
 

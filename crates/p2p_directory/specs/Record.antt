@@ -1,11 +1,14 @@
--- What contracts see of a record, and what its calls answer and change. Moments are nanoseconds since the epoch.
-use Rattle.std.specs.Prelude.{ℕ, ◌+◌, ◌-◌, ◌^◌, Bool, true, false, not, ◌&&◌, ◌||◌, if◌then◌else◌, min, nat_lt, nat_le, List, Option, Some, None}
+-- What contracts see of a record, and what its calls answer and change. Moments are nanoseconds
+-- since the epoch.
+use Rattle.std.specs.Prelude.{ℕ, ◌+◌, ◌-◌, ◌^◌, Bool, true, false, not, ◌&&◌, ◌||◌, if◌then◌else◌}
+use Rattle.std.specs.Prelude.{min, nat_lt, nat_le, List, Option, Some, None}
 use Rattle.std.specs.Duration.{as_nanos}
 use Rattle.p2p_discovery.specs.declared.discovery.Info.{Info}
 use Rattle.p2p_discovery.specs.Ingress.{same_ingress, is_valid}
 use Rattle.p2p_discovery.specs.declared.types.ingress.Ingress.{Ingress}
 use Rattle.p2p_directory.specs.declared.record.Address.{Address}
-use Rattle.p2p_directory.specs.declared.record.Address.TheVariants.{Unknown, Myself, Bootstrapper, Discovered}
+use Rattle.p2p_directory.specs.declared.record.Address.TheVariants.{Unknown, Myself, Bootstrapper}
+use Rattle.p2p_directory.specs.declared.record.Address.TheVariants.{Discovered}
 use Rattle.p2p_directory.specs.declared.record.Status.{Status}
 use Rattle.p2p_directory.specs.declared.record.Status.TheVariants.{Inert, Reserved, Active}
 use Rattle.p2p_directory.specs.declared.record.DialStatus.{DialStatus}
@@ -125,7 +128,8 @@ module _ {C S : Type 0} where
   -- one more failure, capped, where the peer is known by this ingress
   abbrev pub after_failure : Ingress → Address C S → Address C S
   after_failure ingress (Discovered info fails) =
-      Discovered info (if same_ingress info.ingress ingress then min (fails + 1) (2 ^ 64 - 1) else fails)
+      Discovered info (if same_ingress info.ingress ingress then min (fails + 1) (2 ^ 64 - 1)
+          else fails)
   after_failure ingress Unknown = Unknown
   after_failure ingress (Myself info) = Myself info
   after_failure ingress (Bootstrapper before) = Bootstrapper before

@@ -3,7 +3,8 @@ use Rattle.std.specs.Prelude.{ℕ, ◌≡◌, ◌-◌, ◌^◌, min, if◌then�
 use Rattle.p2p_discovery.specs.declared.discovery.Info.{Info}
 use Rattle.p2p_discovery.specs.declared.types.ingress.Ingress.{Ingress}
 use Rattle.p2p_directory.specs.declared.record.Address.{Address}
-use Rattle.p2p_directory.specs.declared.record.Address.TheVariants.{Unknown, Myself, Bootstrapper, Discovered}
+use Rattle.p2p_directory.specs.declared.record.Address.TheVariants.{Unknown, Myself, Bootstrapper}
+use Rattle.p2p_directory.specs.declared.record.Address.TheVariants.{Discovered}
 use Rattle.p2p_directory.specs.declared.directory.Metadata.{Metadata}
 use Rattle.p2p_directory.specs.declared.directory.Metadata.TheVariants as metadata
 use Rattle.p2p_directory.specs.Calls.{Setup, Direction}
@@ -19,7 +20,8 @@ abbrev pub metadata_of : {C S : Type 0} → C → Direction → Metadata C S
 metadata_of p Listener = metadata.Listener p
 metadata_of p (Dialer ingress) = metadata.Dialer p ingress
 
--- the address that is kept of a peer with no info: that of the last bootstrapper ingress, if there is one
+-- the address that is kept of a peer with no info: that of the last bootstrapper ingress, if there
+-- is one
 abbrev pub address_given : {C S : Type 0} → Option Ingress → Address C S
 address_given None = Unknown
 address_given (Some ingress) = Bootstrapper ingress
@@ -59,8 +61,10 @@ module _ {C S : Type 0} (s : Setup C S) where
     next_dial_at = (w.peer p).known.dial_at;
   }
 
-  -- a directory has the setup's configuration, the retained sets, and a record exactly of each present peer
+  -- a directory has the setup's configuration, the retained sets, and a record exactly of each
+  -- present peer
   pub record Refines (w : World C S) (d : DirectoryView C S) : Type 0 where
     pub config : d.config ≡ config_of
     pub sets : d.sets ≡ w.sets
-    pub records : (p : C) → record_of s.cmp d p ≡ (if is_present_in s w p then Some (record_in w p) else None)
+    pub records : (p : C) → record_of s.cmp d p ≡
+        (if is_present_in s w p then Some (record_in w p) else None)

@@ -1,11 +1,14 @@
--- The step: what one accepted call changes of a world. That it leads to the world recomputed with one more call is the main law.
-use Rattle.std.specs.Prelude.{ℕ, suc, ◌+◌, Bool, false, ◌&&◌, if◌then◌else◌, List, [], ◌∷◌, ◌++◌, Option, Some, None, nat_lt, nat_le, filter}
+-- The step: what one accepted call changes of a world. That it leads to the world recomputed with
+-- one more call is the main law.
+use Rattle.std.specs.Prelude.{ℕ, suc, ◌+◌, Bool, false, ◌&&◌, if◌then◌else◌, List, [], ◌∷◌, ◌++◌}
+use Rattle.std.specs.Prelude.{Option, Some, None, nat_lt, nat_le, filter}
 use Rattle.p2p_discovery.specs.declared.discovery.Info.{Info}
 use Rattle.p2p_directory.specs.Moments.{cap, jitter}
 use Rattle.p2p_directory.specs.declared.record.Status.{Status}
 use Rattle.p2p_directory.specs.Calls.{Setup, Call, SetAt, Direction, Grant, Event}
 use Rattle.p2p_directory.specs.declared.record.Status.TheVariants.{Inert, Reserved, Active}
-use Rattle.p2p_directory.specs.Calls.Event.{Tracked, Granted, Connected, Released, Updated, Blocked, Expired}
+use Rattle.p2p_directory.specs.Calls.Event.{Tracked, Granted, Connected, Released, Updated, Blocked}
+use Rattle.p2p_directory.specs.Calls.Event.{Expired}
 use Rattle.p2p_directory.specs.History.{last_of, same, is_own, is_present_with, is_dial_at}
 use Rattle.p2p_directory.specs.World.{Known, Peer, State, World, event_in}
 
@@ -25,7 +28,8 @@ module _ {C S : Type 0} (s : Setup C S) where
   -- what an event makes of the status of p
   abbrev pub status_after : C → Event C S → Status → Status
   status_after p (Granted q grant) status = if same s q p then Reserved else status
-  status_after p (Connected q dialer) status = if same s q p then status_connected status else status
+  status_after p (Connected q dialer) status =
+      if same s q p then status_connected status else status
   status_after p (Released q direction) status = if same s q p then Inert else status
   status_after p _ status = status
 
@@ -38,7 +42,8 @@ module _ {C S : Type 0} (s : Setup C S) where
   -- one info, taken where none is known or it is strictly newer
   abbrev pub known_with_info : Known C S → Info C S → Option (Info C S) → Known C S
   known_with_info k i None = record k { info = Some i; fails = 0 }
-  known_with_info k i (Some j) = if nat_lt j.timestamp i.timestamp then record k { info = Some i; fails = 0 } else k
+  known_with_info k i (Some j) =
+      if nat_lt j.timestamp i.timestamp then record k { info = Some i; fails = 0 } else k
 
   -- one info after the other
   abbrev pub known_with_infos : Known C S → List (Info C S) → Known C S
@@ -52,29 +57,42 @@ module _ {C S : Type 0} (s : Setup C S) where
 
   -- what an event makes of what is known of p, if it stays present
   abbrev pub known_after : C → Event C S → Known C S → Known C S
-  known_after p (Updated infos) k = if is_own s p then k else known_with_infos k (filter (λ i. same s i.public_key p) infos)
+  known_after p (Updated infos) k =
+      if is_own s p then k else known_with_infos k (filter (λ i. same s i.public_key p) infos)
   known_after p (Granted q grant) k =
       if same s q p
-      then record k { reservable_at = cap (grant.t + s.cooldown); dial_at = cap (cap (grant.t + s.cooldown) + jitter grant.draw s.cooldown) }
+      then record k {
+        reservable_at = cap (grant.t + s.cooldown);
+        dial_at = cap (cap (grant.t + s.cooldown) + jitter grant.draw s.cooldown);
+      }
       else k
   known_after p (Connected q dialer) k = if same s q p && dialer then record k { fails = 0 } else k
-  known_after p (Released q direction) k = if same s q p && is_failed_dial k.info direction then record k { fails = suc k.fails } else k
+  known_after p (Released q direction) k =
+      if same s q p && is_failed_dial k.info direction then record k { fails = suc k.fails } else k
   known_after p _ k = k
 
   -- what is known of a peer that is new
   abbrev pub new_known : C → Known C S
-  new_known p = record { info = if is_own s p then Some s.own else None; fails = 0; reservable_at = 0; dial_at = 0 }
+  new_known p = record {
+    info = if is_own s p then Some s.own else None;
+    fails = 0;
+    reservable_at = 0;
+    dial_at = 0;
+  }
 
   -- of a peer that is gone all is forgotten
   abbrev pub peer_after : C → Event C S → List (SetAt C) → Peer C S → Peer C S
   peer_after p e sets peer = record {
     status = status_after p e peer.status;
-    known = if is_present_with s p sets (status_after p e peer.status) then known_after p e peer.known else new_known p;
+    known = if is_present_with s p sets (status_after p e peer.status)
+        then known_after p e peer.known
+        else new_known p;
   }
 
   -- what an event makes of the unblock moment of p
   abbrev pub unblock_after : C → Event C S → Option ℕ → Option ℕ
-  unblock_after p (Blocked q t) moment = if same s q p then Some (cap (t + s.block_duration)) else moment
+  unblock_after p (Blocked q t) moment =
+      if same s q p then Some (cap (t + s.block_duration)) else moment
   unblock_after p (Expired t) None = None
   unblock_after p (Expired t) (Some moment) = if nat_le moment t then None else Some moment
   unblock_after p _ moment = moment

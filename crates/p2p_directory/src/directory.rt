@@ -207,7 +207,8 @@ impl<C: PublicKey> Directory<C> {
     ) -> Result<Option<OrderedSet<C>>, AllocError>
         ensures err { OnErr result (self.new ≡ self.old) }
         ensures untaken { is_above index (latest_index self.old.sets) ≡ false → result ≡ Ok None }
-        ensures answer { IfOk result (λ torn. is_some torn ≡ is_above index (latest_index self.old.sets)) }
+        ensures answer { IfOk result (λ torn. is_some torn ≡
+            is_above index (latest_index self.old.sets)) }
         ensures refused { IfOk result (λ torn. IfNone torn (self.new ≡ self.old)) }
         ensures taken { IfOk result (λ torn. IfSome torn (λ _.
             TakesSet C.cmp self.old self.new (set_of C.cmp index peers.primary peers.secondary))) }
@@ -239,11 +240,15 @@ impl<C: PublicKey> Directory<C> {
     ///
     /// One search among the records.
     pub fn listen(&mut self, peer: &C, now: Duration, draw: Duration) -> Option<Reservation<C>>
-        ensures answer { is_some result ≡ option_map_or (may_come (as_nanos now)) (record_of C.cmp self.old peer.now) false }
+        ensures answer { is_some result ≡ option_map_or (may_come (as_nanos now))
+            (record_of C.cmp self.old peer.now) false }
         ensures refused { IfNone result (self.new ≡ self.old) }
-        ensures reservation { IfSome result (λ reservation. reservation ≡ Metadata.Listener peer.now) }
-        ensures granted { IfSome result (λ _. Reserves C.cmp self.old self.new peer.now (as_nanos now) (as_nanos draw)) }
-        ensures is_busy { IfSome result (λ reservation. IsBusy C.cmp self.new (key_of reservation)) }
+        ensures reservation { IfSome result (λ reservation.
+            reservation ≡ Metadata.Listener peer.now) }
+        ensures granted { IfSome result (λ _. Reserves C.cmp self.old self.new peer.now
+            (as_nanos now) (as_nanos draw)) }
+        ensures is_busy { IfSome result (λ reservation.
+            IsBusy C.cmp self.new (key_of reservation)) }
         ensures is_reserved { IfSome result (λ reservation.
             IsReserved C.cmp self.new (key_of reservation)) }
         ensures busy { StayBusy C.cmp self.old self.new }

@@ -1,7 +1,8 @@
 //! What is retained of peer sets, with a bit beside each primary peer. It knows nothing of records.
 
 ghost use Rattle.std.specs.Prelude.{◌≡◌, ◌++◌, ◌∷◌, [], true, false, not, map, length, slice_get};
-ghost use Rattle.std.specs.Prelude.{IfNone, IfOk, IfErr, OnErr, OnOk, Some, if◌then◌else◌, option_to_list, ◌≤◌};
+ghost use Rattle.std.specs.Prelude.{IfNone, IfOk, IfErr, OnErr, OnOk, Some, if◌then◌else◌};
+ghost use Rattle.std.specs.Prelude.{option_to_list, ◌≤◌};
 ghost use Rattle.std.specs.List.{filter, count_by, slice_set};
 ghost use Rattle.std.specs.Map.{keys_of};
 ghost use Rattle.std.specs.Option.{option_copied};
@@ -10,7 +11,8 @@ ghost use Rattle.p2p_directory.specs.PeerSets.{has_key, set_of, latest_index, is
 ghost use Rattle.p2p_directory.specs.PeerSets.{AreRolesDisjoint, set_count};
 ghost use Rattle.p2p_directory.specs.Private.Counts.{leaving_count};
 ghost use Rattle.p2p_directory.specs.Private.Window.{SetWithBits, plain_set, plain_sets};
-ghost use Rattle.p2p_directory.specs.Private.Window.{set_with_bits, set_at, has_primary, with_bit_of};
+ghost use Rattle.p2p_directory.specs.Private.Window.{set_with_bits, set_at, has_primary};
+ghost use Rattle.p2p_directory.specs.Private.Window.{with_bit_of};
 
 use p2p_discovery::codec::PublicKey;
 use p2p_discovery::sets::{BitSet, OrderedSet, SetError};
@@ -37,9 +39,12 @@ impl<C: PublicKey> Model for PeerSet<C> {
 
     ghost use Rattle.p2p_directory.specs.PeerSets.{AreRolesDisjoint};
 
-    ghost view = { λ set. record { index = set.index; primary = set.primary; secondary = set.secondary } };
+    ghost view = { λ set. record { index = set.index; primary = set.primary;
+        secondary = set.secondary } };
 
-    ghost invariant = { λ set. AreRolesDisjoint C.cmp (plain_set (record { index = set.index; primary = set.primary; secondary = set.secondary })) };
+    ghost invariant = { λ set. AreRolesDisjoint C.cmp
+        (plain_set (record { index = set.index; primary = set.primary;
+        secondary = set.secondary })) };
 }
 
 impl<C: PublicKey> PeerSet<C> {
@@ -119,7 +124,8 @@ fn peers_outside<C: PublicKey>(
     peers: &[C],
     set: &OrderedSet<C>,
 ) -> Result<Vec<C>, AllocError>
-    ensures { IfOk result (λ rest. rest.items ≡ filter (λ q. not (has_key C.cmp set.now q)) peers.now) }
+    ensures { IfOk result (λ rest. rest.items ≡
+        filter (λ q. not (has_key C.cmp set.now q)) peers.now) }
 {
     let mut rest = Vec::new(alloc);
     for peer in peers {

@@ -8,11 +8,14 @@ ghost use Rattle.p2p_discovery.specs.Ingress.{takes_none};
 ghost use Rattle.p2p_directory.specs.Moments.{cap, jitter};
 ghost use Rattle.p2p_directory.specs.History.{is_inert, is_reserved};
 ghost use Rattle.p2p_directory.specs.Record.{new_record, reserve_answer, record_after_asking};
-ghost use Rattle.p2p_directory.specs.Record.{is_eligible, is_deletable, needs_teardown, is_outbound_target};
+ghost use Rattle.p2p_directory.specs.Record.{is_eligible, is_deletable, needs_teardown};
+ghost use Rattle.p2p_directory.specs.Record.{is_outbound_target};
 ghost use Rattle.p2p_directory.specs.Record.{after_failure, after_success, is_myself};
-ghost use Rattle.p2p_directory.specs.Record.{takes_info, address_after_update, wants_info, sharable_by};
+ghost use Rattle.p2p_directory.specs.Record.{takes_info, address_after_update, wants_info};
+ghost use Rattle.p2p_directory.specs.Record.{sharable_by};
 ghost use Rattle.p2p_directory.specs.Record.{ingress_of, dial_view, dial_status, is_acceptable};
-ghost use Rattle.p2p_directory.specs.Private.Counts.{with_one_more, with_one_less, is_torn_down_without};
+ghost use Rattle.p2p_directory.specs.Private.Counts.{with_one_more, with_one_less};
+ghost use Rattle.p2p_directory.specs.Private.Counts.{is_torn_down_without};
 
 use p2p_discovery::codec::PublicKey;
 use p2p_discovery::discovery::Info;
@@ -262,7 +265,8 @@ impl<C: PublicKey> Record<C> {
     /// Counts one more failure, capped at the greatest `usize`, where the peer's own info is known
     /// with this ingress. Nothing else changes.
     pub fn dial_failure(&mut self, ingress: &Ingress)
-        ensures { self.new ≡ record self.old { address = after_failure ingress.now self.old.address } }
+        ensures { self.new ≡
+            record self.old { address = after_failure ingress.now self.old.address } }
     {
         if let Address::Discovered(info, fails) = &mut self.address {
             if info.ingress == *ingress {

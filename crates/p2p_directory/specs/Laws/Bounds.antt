@@ -20,7 +20,10 @@ module _ {C S : Type 0} (s : Setup C S) where
   abbrev pub is_left_over : World C S → C → Bool
   is_left_over w p = not (is_inert (w.peer p).status) && not (is_named s p w.sets)
 
-  -- the present keys are at most n for each set that may be retained, the persistent keys, and those that are left over
+  -- the present keys are at most n for each set that may be retained, the persistent keys, and
+  -- those that are left over
   abbrev pub IsBounded : ℕ → World C S → Type 0
-  IsBounded n w = (present persistent left_over : List C) → Lists s (is_present_in s w) present → Lists s (is_persistent s) persistent → Lists s (is_left_over w) left_over →
+  IsBounded n w =
+      (present persistent left_over : List C) → Lists s (is_present_in s w) present →
+      Lists s (is_persistent s) persistent → Lists s (is_left_over w) left_over →
       length present ≤ n * s.max_sets + length persistent + length left_over

@@ -21,16 +21,19 @@ module _ {C S : Type 0} (s : Setup C S) where
 
   -- the event grants p, at t with this draw, for a dial
   abbrev pub IsDialled : C → ℕ → ℕ → Event C S → Type 0
-  IsDialled p t draw e = (a : Ingress) × (e ≡ Granted p (record { t = t; draw = draw; direction = Dialer a }))
+  IsDialled p t draw e =
+      (a : Ingress) × (e ≡ Granted p (record { t = t; draw = draw; direction = Dialer a }))
 
   -- what a further call does after the calls cs
   abbrev pub does_after : List (Call C S) → Call C S → Event C S
   does_after cs c = event_in s (taken_sets s (past s cs)) (world_at s (past s cs)) c
 
-  -- after the calls cs, dials at t of these, one after the other, each with its draw, are granted, each at its own point
+  -- after the calls cs, dials at t of these, one after the other, each with its draw, are granted,
+  -- each at its own point
   abbrev pub AreDialled : ℕ → List (C × ℕ) → List (Call C S) → Type 0
   AreDialled t [] cs = Unit {0}
-  AreDialled t (x ∷ xs) cs = IsDialled x.0 t x.1 (does_after cs (Dial x.0 t x.1)) × AreDialled t xs (Dial x.0 t x.1 ∷ cs)
+  AreDialled t (x ∷ xs) cs =
+      IsDialled x.0 t x.1 (does_after cs (Dial x.0 t x.1)) × AreDialled t xs (Dial x.0 t x.1 ∷ cs)
 
 -- u is before the next query, if there is one
 abbrev pub IsBefore : ℕ → Option ℕ → Type 0

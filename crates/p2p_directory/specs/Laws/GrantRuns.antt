@@ -1,5 +1,7 @@
--- When a peer is granted, by the replies to a run: its commands and replies are in order, the oldest first.
-use Rattle.std.specs.Prelude.{ℕ, ◌+◌, ◌≤◌, true, if◌then◌else◌, List, [], ◌∷◌, ◌++◌, Option, Some, None, option_to_list}
+-- When a peer is granted, by the replies to a run: its commands and replies are in order, the
+-- oldest first.
+use Rattle.std.specs.Prelude.{ℕ, ◌+◌, ◌≤◌, true, if◌then◌else◌, List, [], ◌∷◌, ◌++◌, Option, Some}
+use Rattle.std.specs.Prelude.{None, option_to_list}
 use Rattle.std.specs.List.{AllByRecursion}
 use Rattle.p2p_directory.specs.Moments.{cap}
 use Rattle.p2p_directory.specs.Calls.{Setup, Call}
@@ -25,12 +27,18 @@ module _ {C S : Type 0} (s : Setup C S) where
   IsCooledAfter None ts = Unit {0}
   IsCooledAfter (Some u) ts = AllByRecursion (λ t. cap (t + s.cooldown) ≤ u) ts
 
-  -- the moments at which p was granted in its life, with one more, after the accepted calls cs: none where it is absent
+  -- the moments at which p was granted in its life, with one more, after the accepted calls cs:
+  -- none where it is absent
   abbrev pub grants_after : C → List (Call C S) → Option ℕ → List ℕ → List ℕ
-  grants_after p cs granted ts = if is_present_in s (world_after s cs) p then option_to_list granted ++ ts else []
+  grants_after p cs granted ts =
+      if is_present_in s (world_after s cs) p then option_to_list granted ++ ts else []
 
-  -- after the accepted calls `before`, with the grants of p's life at these moments: each grant of p keeps the cooldown after each one before it, if p wasn't absent in between
-  abbrev pub KeepCooldown : C → List ℕ → List (Call C S) → List (Call C S) → List (Reply C S) → Type 0
+  -- after the accepted calls `before`, with the grants of p's life at these moments: each grant of
+  -- p keeps the cooldown after each one before it, if p wasn't absent in between
+  abbrev pub KeepCooldown : C → List ℕ → List (Call C S) → List (Call C S) → List (Reply C S) →
+      Type 0
   KeepCooldown p ts before (c ∷ cs) (r ∷ rs) =
-      IsCooledAfter (granted_by p c r) ts × KeepCooldown p (grants_after p (next s before c r) (granted_by p c r) ts) (next s before c r) cs rs
+      IsCooledAfter (granted_by p c r) ts
+      × KeepCooldown p (grants_after p (next s before c r) (granted_by p c r) ts)
+          (next s before c r) cs rs
   KeepCooldown p ts before _ _ = Unit {0}

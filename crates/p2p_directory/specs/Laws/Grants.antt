@@ -28,10 +28,12 @@ module _ {C S : Type 0} (s : Setup C S) where
   IsCooledAt None gs = Unit {0}
   IsCooledAt (Some grant) gs = AreCooled grant.t gs
 
-  -- each grant of p in a past comes no earlier than the cooldown after each grant before it in the same life
+  -- each grant of p in a past comes no earlier than the cooldown after each grant before it in the
+  -- same life
   abbrev pub KeepsCooldown : C → List (Event C S) → Type 0
   KeepsCooldown p [] = Unit {0}
-  KeepsCooldown p (e ∷ h) = IsCooledAt (grant_by s p e) (grants_in p (life s p h)) × KeepsCooldown p h
+  KeepsCooldown p (e ∷ h) =
+      IsCooledAt (grant_by s p e) (grants_in p (life s p h)) × KeepsCooldown p h
 
   -- BLOCKS
 

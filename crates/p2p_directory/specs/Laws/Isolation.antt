@@ -4,7 +4,9 @@ use Rattle.p2p_directory.specs.Calls.{Setup, Call}
 use Rattle.p2p_directory.specs.Calls.Call.{Dial, Listen, Connect, Release, Update, Block}
 use Rattle.p2p_directory.specs.History.{same}
 use Rattle.p2p_directory.specs.World.{World, event_in}
-use Rattle.p2p_directory.specs.Answers.{is_present_in, status_in, sharable_info, wants, is_blocked_at, is_eligible_at, is_acceptable_at, is_dialable, query_moment}
+use Rattle.p2p_directory.specs.Answers.{is_present_in, status_in, sharable_info, wants}
+use Rattle.p2p_directory.specs.Answers.{is_blocked_at, is_eligible_at, is_acceptable_at}
+use Rattle.p2p_directory.specs.Answers.{is_dialable, query_moment}
 
 module _ {C S : Type 0} (s : Setup C S) where
   -- a call on a single peer other than p
@@ -44,4 +46,5 @@ module _ {C S : Type 0} (s : Setup C S) where
     pub acceptable : (t : ℕ) → is_acceptable_at s w p t ≡ is_acceptable_at s v p t
     pub dialable : (t : ℕ) → is_dialable s w t p ≡ is_dialable s v t p
     pub query : (t : ℕ) → query_moment s w t p ≡ query_moment s v t p
-    pub does : (c : Call C S) → is_on_another s p c ≡ false → event_in s w.sets w c ≡ event_in s v.sets v c
+    pub does : (c : Call C S) → is_on_another s p c ≡ false →
+        event_in s w.sets w c ≡ event_in s v.sets v c

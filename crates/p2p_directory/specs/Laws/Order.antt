@@ -14,4 +14,6 @@ HaveSame {A} xs ys = (x : A) → Member xs x ↔ Member ys x
 
 -- no two infos of one key with one timestamp
 abbrev pub IsUnambiguous : {C S : Type 0} → Setup C S → List (Info C S) → Type 0
-IsUnambiguous {C} {S} s xs = (p : C) (i j : Info C S) → Member xs i → Member xs j → same s i.public_key p ≡ true → same s j.public_key p ≡ true → i.timestamp ≡ j.timestamp → i ≡ j
+IsUnambiguous {C} {S} s xs =
+    (p : C) (i j : Info C S) → Member xs i → Member xs j → same s i.public_key p ≡ true →
+    same s j.public_key p ≡ true → i.timestamp ≡ j.timestamp → i ≡ j

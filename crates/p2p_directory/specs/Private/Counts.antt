@@ -1,5 +1,8 @@
--- Private: one set more or less, counted in the records of its peers one after the other, and what holds between calls.
-use Rattle.std.specs.Prelude.{ℕ, ◌≡◌, ◌<◌, ◌≤◌, ◌+◌, ◌-◌, ◌^◌, ◌==◌, Bool, true, false, not, ◌&&◌, ◌||◌, if◌then◌else◌, min, nat_lt, List, [], ◌∷◌, length, drop, Option, Some, IfSome, unwrap_or}
+-- Private: one set more or less, counted in the records of its peers one after the other, and what
+-- holds between calls.
+use Rattle.std.specs.Prelude.{ℕ, ◌≡◌, ◌<◌, ◌≤◌, ◌+◌, ◌-◌, ◌^◌, ◌==◌, Bool, true, false, not, ◌&&◌}
+use Rattle.std.specs.Prelude.{◌||◌, if◌then◌else◌, min, nat_lt, List, [], ◌∷◌, length, drop, Option}
+use Rattle.std.specs.Prelude.{Some, IfSome, unwrap_or}
 use Rattle.std.specs.Option.{option_map_or, option_and_then}
 use Rattle.std.specs.BTreeMap.{BTreeMap, IsOrdered, is_at}
 use Rattle.std.specs.declared.cmp.Ordering.{Ordering}
@@ -7,7 +10,8 @@ use Rattle.p2p_directory.specs.declared.record.Role.{Role}
 use Rattle.p2p_directory.specs.declared.record.Role.TheVariants.{Primary, Secondary}
 use Rattle.p2p_directory.specs.Calls.{SetAt}
 use Rattle.p2p_directory.specs.History.{is_inert}
-use Rattle.p2p_directory.specs.Record.{RecordView, blank, is_myself, is_eligible, is_deletable, reserved_record, with_counts, unless_deletable}
+use Rattle.p2p_directory.specs.Record.{RecordView, blank, is_myself, is_eligible, is_deletable}
+use Rattle.p2p_directory.specs.Record.{reserved_record, with_counts, unless_deletable}
 use Rattle.p2p_directory.specs.PeerSets.{has_key, set_count, AreRolesDisjoint}
 use Rattle.p2p_directory.specs.Directory.{is_known}
 use Rattle.p2p_directory.specs.Private.Window.{SetWithBits, plain_sets, sets_with_bits}
@@ -28,14 +32,16 @@ leaving_count max (oldest ∷ sets) =
 abbrev pub surplus_count : {C : Type 0} → ℕ → List (SetAt C) → ℕ
 surplus_count max [] = 0
 surplus_count max (oldest ∷ sets) =
-    if nat_lt max (length (oldest ∷ sets)) then length oldest.primary + length oldest.secondary else 0
+    if nat_lt max (length (oldest ∷ sets)) then length oldest.primary + length oldest.secondary
+        else 0
 
 module _ {C S : Type 0} where
   -- ONE RECORD
 
   -- the record after it was asked for a reservation, where that was granted or not
   abbrev pub reserved_if : Bool → ℕ → ℕ → ℕ → RecordView C S → RecordView C S
-  reserved_if granted now draw cooldown r = if granted then reserved_record now draw cooldown r else r
+  reserved_if granted now draw cooldown r =
+      if granted then reserved_record now draw cooldown r else r
 
   -- one set of the role more, capped
   abbrev pub with_one_more : Role → RecordView C S → RecordView C S
@@ -69,7 +75,8 @@ module _ {C S : Type 0} (cmp : C → C → Ordering) where
   -- ONE SET MORE OR LESS, as records are counted one peer after the other
 
   -- a change that is made where a test holds
-  abbrev pub changed_if : Bool → (Option (RecordView C S) → Option (RecordView C S)) → Option (RecordView C S) → Option (RecordView C S)
+  abbrev pub changed_if : Bool → (Option (RecordView C S) → Option (RecordView C S)) →
+      Option (RecordView C S) → Option (RecordView C S)
   changed_if test f o = if test then f o else o
 
   -- what is kept of a peer once one set more is counted for its peers
@@ -95,22 +102,26 @@ module _ {C S : Type 0} (cmp : C → C → Ordering) where
   IsRestored role o = one_set_less role (one_set_more role o) ≡ o
 
   -- what is kept of each peer stays, and nobody is torn down
-  abbrev pub KeepsAll : (C → Option (RecordView C S)) → (C → Option (RecordView C S)) → List C → Type 0
+  abbrev pub KeepsAll : (C → Option (RecordView C S)) → (C → Option (RecordView C S)) → List C →
+      Type 0
   KeepsAll old new torn = (q : C) → (new q ≡ old q) × (has_key cmp torn q ≡ false)
 
   -- a set goes: what is kept of each peer then, and whose connections have to end
-  pub record DropsSet (set : SetAt C) (old new : C → Option (RecordView C S)) (torn : List C) : Type 0 where
+  pub record DropsSet (set : SetAt C) (old new : C → Option (RecordView C S))
+      (torn : List C) : Type 0 where
     pub disjoint : AreRolesDisjoint cmp set
     pub records : (q : C) → new q ≡ record_leaving set q (old q)
     pub torn_down : (q : C) → has_key cmp torn q ≡ is_torn_down_leaving set q (old q)
 
   -- the first of these goes, where one is to go
-  abbrev pub DropsFirst : Bool → List (SetAt C) → (C → Option (RecordView C S)) → (C → Option (RecordView C S)) → List C → Type 0
+  abbrev pub DropsFirst : Bool → List (SetAt C) → (C → Option (RecordView C S)) →
+      (C → Option (RecordView C S)) → List C → Type 0
   DropsFirst true (oldest ∷ sets) old new torn = DropsSet oldest old new torn
   DropsFirst _ _ old new torn = KeepsAll old new torn
 
   -- the oldest set goes, where there is one too many
-  abbrev pub DropsOldest : ℕ → List (SetAt C) → (C → Option (RecordView C S)) → (C → Option (RecordView C S)) → List C → Type 0
+  abbrev pub DropsOldest : ℕ → List (SetAt C) → (C → Option (RecordView C S)) →
+      (C → Option (RecordView C S)) → List C → Type 0
   DropsOldest max sets old new torn = DropsFirst (nat_lt max (length sets)) sets old new torn
 
   -- BETWEEN CALLS
@@ -121,8 +132,10 @@ module _ {C S : Type 0} (cmp : C → C → Ordering) where
       (option_map_or (λ r. r.primary_sets) o 0 ≡ set_count cmp Primary q sets)
       × (option_map_or (λ r. r.secondary_sets) o 0 ≡ set_count cmp Secondary q sets)
 
-  -- no record is deletable, and its counts are those of the retained sets, of which there are at most so many
-  pub record IsConsistent (max : ℕ) (sets : List (SetAt C)) (record_at : C → Option (RecordView C S)) : Type 0 where
+  -- no record is deletable, and its counts are those of the retained sets, of which there are at
+  -- most so many
+  pub record IsConsistent (max : ℕ) (sets : List (SetAt C))
+      (record_at : C → Option (RecordView C S)) : Type 0 where
     pub none_deletable : (q : C) → IfSome (record_at q) (λ r. is_deletable r ≡ false)
     pub counts : (q : C) → AreCounted sets q (record_at q)
     pub at_most_max : length sets ≤ max

@@ -10,7 +10,8 @@ ghost use Rattle.std.specs.BTreeMap.{is_at, get};
 ghost use Rattle.p2p_directory.specs.History.{is_inert, is_reserved};
 ghost use Rattle.p2p_directory.specs.Record.{may_come, reserved_record};
 ghost use Rattle.p2p_directory.specs.Private.Counts.{reserved_if};
-ghost use Rattle.p2p_directory.specs.Directory.{key_of, has_status, is_busy, is_known, record_at, first_record};
+ghost use Rattle.p2p_directory.specs.Directory.{key_of, has_status, is_busy, is_known, record_at};
+ghost use Rattle.p2p_directory.specs.Directory.{first_record};
 ghost use Rattle.p2p_directory.specs.Directory.{released_record, kept_after_release};
 ghost use Rattle.p2p_directory.specs.Directory.{connected_record, updated_record, ChangesAt};
 
@@ -69,7 +70,8 @@ impl<C: PublicKey> Records<C> {
 
     // Reserves the peer, where it may come, and says whether it did.
     fn ask(&mut self, peer: &C, now: Duration, draw: Duration, cooldown: Duration) -> bool
-        ensures answer { result ≡ option_map_or (may_come (as_nanos now)) (record_at C.cmp self.old peer.now) false }
+        ensures answer { result ≡ option_map_or (may_come (as_nanos now))
+            (record_at C.cmp self.old peer.now) false }
         ensures change { ChangesAt C.cmp self.old self.new peer.now
             (option_map (reserved_if result (as_nanos now) (as_nanos draw) (as_nanos cooldown))) }
     {
@@ -81,7 +83,8 @@ impl<C: PublicKey> Records<C> {
 
     /// Reserves the peer, where it may come, and says whether it did. Else all is as it was.
     pub fn reserve(&mut self, peer: &C, now: Duration, draw: Duration, cooldown: Duration) -> bool
-        ensures answer { result ≡ option_map_or (may_come (as_nanos now)) (record_at C.cmp self.old peer.now) false }
+        ensures answer { result ≡ option_map_or (may_come (as_nanos now))
+            (record_at C.cmp self.old peer.now) false }
         ensures refused { result ≡ false → self.new ≡ self.old }
         ensures granted { result ≡ true → ChangesAt C.cmp self.old self.new peer.now
             (option_map (reserved_record (as_nanos now) (as_nanos draw) (as_nanos cooldown))) }

@@ -1,6 +1,7 @@
 //! The counts of sets in the records of many peers.
 
-ghost use Rattle.std.specs.Prelude.{◌≡◌, ◌+◌, ◌≤◌, ◌<◌, ◌++◌, ◌∷◌, [], ℕ, false, true, IfOk, OnOk, OnErr, if◌then◌else◌, length, vec_capacity};
+ghost use Rattle.std.specs.Prelude.{◌≡◌, ◌+◌, ◌≤◌, ◌<◌, ◌++◌, ◌∷◌, [], ℕ, false, true, IfOk, OnOk};
+ghost use Rattle.std.specs.Prelude.{OnErr, if◌then◌else◌, length, vec_capacity};
 ghost use Rattle.std.specs.List.{filter, IsDistinct};
 ghost use Rattle.std.specs.List.Sorted.{IsStrictlySortedBy};
 ghost use Rattle.std.specs.Ordering.{eq_by_cmp};
@@ -8,11 +9,13 @@ ghost use Rattle.std.specs.Option.{option_map_or};
 ghost use Rattle.std.specs.Map.{keys_of};
 ghost use Rattle.p2p_directory.specs.declared.record.Role.{Role};
 ghost use Rattle.p2p_directory.specs.declared.record.Role.TheVariants.{Primary, Secondary};
-ghost use Rattle.p2p_directory.specs.Private.Counts.{one_set_more, one_set_less, is_torn_down_without};
+ghost use Rattle.p2p_directory.specs.Private.Counts.{one_set_more, one_set_less};
+ghost use Rattle.p2p_directory.specs.Private.Counts.{is_torn_down_without};
 ghost use Rattle.p2p_directory.specs.PeerSets.{has_key, AreRolesDisjoint};
 ghost use Rattle.p2p_directory.specs.Directory.{record_at, is_known, ChangesAt};
 ghost use Rattle.p2p_directory.specs.Private.Window.{plain_set, set_with_bits};
-ghost use Rattle.p2p_directory.specs.Private.Counts.{IsOfMap, record_joining, record_leaving, is_torn_down_leaving, IsRestored};
+ghost use Rattle.p2p_directory.specs.Private.Counts.{IsOfMap, record_joining, record_leaving};
+ghost use Rattle.p2p_directory.specs.Private.Counts.{is_torn_down_leaving, IsRestored};
 
 use crate::directory::records::Records;
 use crate::kept::{PeerSet, forget};
@@ -47,7 +50,8 @@ impl<C: PublicKey> Records<C> {
     // whether its connection has to end.
     fn leave_one(&mut self, peer: &C, role: Role) -> bool
         ensures records { ChangesAt C.cmp self.old self.new peer.now (one_set_less role) }
-        ensures torn { result ≡ option_map_or (is_torn_down_without role) (record_at C.cmp self.old peer.now) false }
+        ensures torn { result ≡ option_map_or (is_torn_down_without role)
+            (record_at C.cmp self.old peer.now) false }
     {
         let mut torn = false;
         if let Some(found) = self.map.get_mut(peer) {
@@ -65,9 +69,11 @@ impl<C: PublicKey> Records<C> {
         requires sorted { IsStrictlySortedBy C.cmp peers.now }
         requires room { length torn.old.items + length peers.now ≤ vec_capacity torn.old }
         ensures records { (q : C) → record_at C.cmp self.new q ≡
-            (if has_key C.cmp peers.now q then one_set_less role (record_at C.cmp self.old q) else record_at C.cmp self.old q) }
+            (if has_key C.cmp peers.now q then one_set_less role (record_at C.cmp self.old q)
+                else record_at C.cmp self.old q) }
         ensures torn { torn.new.items ≡ torn.old.items ++
-            filter (λ q. option_map_or (is_torn_down_without role) (record_at C.cmp self.old q) false) peers.now }
+            filter (λ q. option_map_or (is_torn_down_without role)
+                (record_at C.cmp self.old q) false) peers.now }
         ensures capacity { vec_capacity torn.new ≡ vec_capacity torn.old }
         ensures length { length torn.new.items ≤ length torn.old.items + length peers.now }
     {
@@ -81,7 +87,8 @@ impl<C: PublicKey> Records<C> {
     fn undo_each(&mut self, peers: &[C], role: Role)
         requires { IsStrictlySortedBy C.cmp peers.now }
         ensures { (q : C) → record_at C.cmp self.new q ≡
-            (if has_key C.cmp peers.now q then one_set_less role (record_at C.cmp self.old q) else record_at C.cmp self.old q) }
+            (if has_key C.cmp peers.now q then one_set_less role (record_at C.cmp self.old q)
+                else record_at C.cmp self.old q) }
     {
         for peer in peers {
             let _ = self.leave_one(peer, role);
@@ -96,7 +103,8 @@ impl<C: PublicKey> Records<C> {
             then one_set_more Secondary (record_at C.cmp self.old q)
             else record_at C.cmp self.old q)) }
         ensures err { OnErr result ((q : C) →
-            (has_key C.cmp peers.now q ≡ true → IsRestored C.cmp Secondary (record_at C.cmp self.old q)) →
+            (has_key C.cmp peers.now q ≡ true →
+                IsRestored C.cmp Secondary (record_at C.cmp self.old q)) →
             record_at C.cmp self.new q ≡ record_at C.cmp self.old q) }
     {
         for (place, peer) in peers.iter().enumerate() {
