@@ -7,6 +7,7 @@ use low_memory::{LowMemory, STEP};
 use p2p_directory::directory::{Directory, TrackedPeers};
 use p2p_directory::record::Status;
 use p2p_discovery::codec::TestKey;
+use p2p_discovery::discovery::Info;
 use p2p_discovery::sets::{BitMap, OrderedSet};
 use p2p_discovery::types::{Hostname, Ingress, IpAddr, SocketAddr};
 use std::alloc::{AllocError, Global};
@@ -91,6 +92,25 @@ fn answers(directory: &Directory<TestKey>) -> (Option<u64>, [Option<Status>; 5])
     (directory.latest_set_index(), statuses)
 }
 
+/// The info of a peer at the own address, with timestamp 7.
+fn info_of(peer: TestKey) -> Info<TestKey> {
+    let mut known = own_info();
+    known.public_key = peer;
+    known.timestamp = 7;
+    known
+}
+
+/// The index of the first retained set, how many bits it has, and the first of them.
+fn first_bits(directory: &Directory<TestKey>) -> Result<Option<(u64, u64, bool)>, AllocError> {
+    match directory.get_random_bit_vec(0)? {
+        Some(found) => {
+            let count = found.bits.len();
+            Ok(Some((found.index, count, count > 0 && found.bits.get(0))))
+        }
+        None => Ok(None),
+    }
+}
+
 /// Tracks many peers at a budget, after some others; whether memory was refused.
 fn tracks_at(
     rt: &impl Abort,
@@ -100,20 +120,31 @@ fn tracks_at(
 ) -> Result<bool, Fail> {
     let mut directory = Directory::init(alloc, Vec::new(alloc), own_info(), config())?;
     let _ = directory.track(0, peers(alloc, 1, 3)?)?;
-    let before = answers(&directory);
+    directory.update_peers(vec![in alloc; info_of(TestKey(1))]?);
+    let before = (answers(&directory), directory.tracked(), Some((0, 3, true)));
     let (next, again) = (peers(alloc, 200, 150)?, peers(alloc, 200, 150)?);
     memory.limit(alloc, budget)?;
     let answer = directory.track(1, next);
     memory.lift();
     let refused = answer.is_err();
     if refused {
-        assert_eq!(rt; answers(&directory), before, "budget {budget}");
+        let after = (
+            answers(&directory),
+            directory.tracked(),
+            first_bits(&directory)?,
+        );
+        assert_eq!(rt; after, before, "budget {budget}");
         let torn = directory.track(1, again)?;
         assert_eq!(rt; torn.map(|torn| torn.len()), Some(0), "budget {budget}");
     }
     let inert = Some(Status::Inert);
     let after = (Some(1), [inert, inert, None, inert, inert]);
     assert_eq!(rt; answers(&directory), after, "budget {budget}");
+    assert_eq!(rt;
+        first_bits(&directory)?,
+        Some((1, 150, false)),
+        "budget {budget}"
+    );
     Ok(refused)
 }
 
@@ -241,10 +272,7 @@ fn calls_that_take_no_memory_answer_without_any(rt: HostRuntime) -> Result<(), F
     let mut directory = Directory::init(alloc, Vec::new(alloc), own_info(), config())?;
     let _ = directory.track(3, peers(alloc, 1, 3)?)?;
     let (same, older) = (peers(alloc, 1, 3)?, peers(alloc, 1, 2)?);
-    let mut known = own_info();
-    known.public_key = TestKey(1);
-    known.timestamp = 7;
-    let infos = vec![in alloc; known]?;
+    let infos = vec![in alloc; info_of(TestKey(1))]?;
     memory.limit(alloc, 0)?;
     let untaken = (directory.track(3, same), directory.track(2, older));
     let first = answers(&directory);
