@@ -140,7 +140,7 @@ module _ {C S : Type 0} (cmp : C → C → Ordering) where
   first_record bootstrappers own q =
       if is_at (cmp own.public_key) q then Some (new_record (Myself own) true)
       else option_map (λ ingress. new_record (Bootstrapper ingress) true)
-          (last_ingress_by cmp q bootstrappers)
+      (last_ingress_by cmp q bootstrappers)
 
   -- ONE PEER
 
@@ -205,7 +205,7 @@ module _ {C S : Type 0} (cmp : C → C → Ordering) where
       Option (RecordView C S)
   record_with_sets sets q o =
       unless_deletable (with_counts (set_count cmp Primary q sets) (set_count cmp Secondary q sets)
-          (unwrap_or o blank))
+      (unwrap_or o blank))
 
   -- a set is retained, as one of so many at most, and each record has the counts of the sets
   pub record TakesSet (old new : DirectoryView C S) (set : SetAt C) : Type 0 where

@@ -129,7 +129,7 @@ module _ {C S : Type 0} where
   abbrev pub after_failure : Ingress → Address C S → Address C S
   after_failure ingress (Discovered info fails) =
       Discovered info (if same_ingress info.ingress ingress then min (fails + 1) (2 ^ 64 - 1)
-          else fails)
+      else fails)
   after_failure ingress Unknown = Unknown
   after_failure ingress (Myself info) = Myself info
   after_failure ingress (Bootstrapper before) = Bootstrapper before

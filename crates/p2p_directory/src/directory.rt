@@ -233,8 +233,8 @@ impl<C: PublicKey> Directory<C> {
     ///
     /// Answers `None` and changes nothing where there is no record of the peer, or it is not
     /// eligible, not inert, or `now` is before its reservable moment. Else the peer is reserved and
-    /// its moments are set as by [`Record::reserve`](crate::record::Record::reserve), with the draw.
-    /// Whoever is reserved or connected stays so. Takes no memory.
+    /// its moments are set as by [`Record::reserve`](crate::record::Record::reserve), with the
+    /// draw. Whoever is reserved or connected stays so. Takes no memory.
     ///
     /// # Cost
     ///

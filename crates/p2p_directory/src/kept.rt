@@ -39,12 +39,18 @@ impl<C: PublicKey> Model for PeerSet<C> {
 
     ghost use Rattle.p2p_directory.specs.PeerSets.{AreRolesDisjoint};
 
-    ghost view = { λ set. record { index = set.index; primary = set.primary;
-        secondary = set.secondary } };
+    ghost view = { λ set. record {
+      index = set.index;
+      primary = set.primary;
+      secondary = set.secondary;
+    } };
 
     ghost invariant = { λ set. AreRolesDisjoint C.cmp
-        (plain_set (record { index = set.index; primary = set.primary;
-        secondary = set.secondary })) };
+        (plain_set (record {
+          index = set.index;
+          primary = set.primary;
+          secondary = set.secondary;
+        })) };
 }
 
 impl<C: PublicKey> PeerSet<C> {

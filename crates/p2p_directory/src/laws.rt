@@ -104,18 +104,18 @@ pub fn grants_are_spaced<C: PublicKey>()
         (p : C) (cs : List (Call C C.Signature)) → KeepsCooldown s p (past s cs) }
 {}
 
-/// Where the moments of the calls never go back, a peer whose block was taken is granted by no later
-/// call before the block's end, at most the greatest moment, also where its record was deleted and
-/// made again in between.
+/// Where the moments of the calls never go back, a peer whose block was taken is granted by no
+/// later call before the block's end, at most the greatest moment, also where its record was
+/// deleted and made again in between.
 pub fn blocks_hold<C: PublicKey>()
     ensures { (s : Setup C C.Signature) → s.cmp ≡ C.cmp →
         (p : C) (cs : List (Call C C.Signature)) (now : ℕ) → NeverGoBack s now cs →
         KeepsBlocks s p (past s cs) }
 {}
 
-/// Dials of the peers that an answer of `dialable` lists, at the same moment, one directly after the
-/// other and with any draws, are all granted: of the whole list in its order, and of any of them in
-/// any order, each once.
+/// Dials of the peers that an answer of `dialable` lists, at the same moment, one directly after
+/// the other and with any draws, are all granted: of the whole list in its order, and of any of
+/// them in any order, each once.
 pub fn dialable_are_granted<C: PublicKey>()
     ensures whole { (s : Setup C C.Signature) → s.cmp ≡ C.cmp → 1 ≤ s.max_sets →
         (cs : List (Call C C.Signature)) (t : ℕ) (xs : List (C × ℕ)) (next : Option ℕ) →

@@ -144,9 +144,9 @@ impl<C: PublicKey> Record<C> {
         }
     }
 
-    /// Takes a peer's info, and answers whether it was taken: of the local node never, where no info
-    /// is known always, else where the timestamp is above that of the known one. An info that is
-    /// taken has not failed yet. Keys are not compared, and nothing else changes.
+    /// Takes a peer's info, and answers whether it was taken: of the local node never, where no
+    /// info is known always, else where the timestamp is above that of the known one. An info that
+    /// is taken has not failed yet. Keys are not compared, and nothing else changes.
     pub fn update(&mut self, info: Info<C>) -> bool
         ensures taken { result ≡ takes_info info self.old.address }
         ensures after { self.new ≡
@@ -214,10 +214,10 @@ impl<C: PublicKey> Record<C> {
     /// Asks for a reservation at the moment `now`.
     ///
     /// `Unavailable` for the local node or a peer that is not inert; else `RateLimited` where `now`
-    /// is before the reservable moment; else `Reserved`. Then the peer is reserved, it is reservable
-    /// again at `now + interval`, and may be dialled from that moment and the jitter on: the draw, at
-    /// most twice half the interval, the halving rounded down to nanoseconds. Both sums are capped at
-    /// the greatest `Duration`. Nothing changes unless the answer is `Reserved`.
+    /// is before the reservable moment; else `Reserved`. Then the peer is reserved, it is
+    /// reservable again at `now + interval`, and may be dialled from that moment and the jitter on:
+    /// the draw, at most twice half the interval, the halving rounded down to nanoseconds. Both
+    /// sums are capped at the greatest `Duration`. Nothing changes unless the answer is `Reserved`.
     pub fn reserve(&mut self, now: Duration, draw: Duration, interval: Duration) -> ReserveResult
         ensures answer { result ≡ reserve_answer (as_nanos now) self.old }
         ensures after { self.new ≡
@@ -296,8 +296,8 @@ impl<C: PublicKey> Record<C> {
         }
     }
 
-    /// The info that may be told to others: the own info always, another peer's while it is connected.
-    /// It takes memory only for an info whose ingress is a name.
+    /// The info that may be told to others: the own info always, another peer's while it is
+    /// connected. It takes memory only for an info whose ingress is a name.
     ///
     /// # Errors
     ///
@@ -318,9 +318,9 @@ impl<C: PublicKey> Record<C> {
 
     /// When the peer may be dialled, asked at the moment `now`.
     ///
-    /// `Unavailable` unless the peer is inert and to be dialled, is a bootstrapper or of known info,
-    /// and its ingress is valid under what is allowed; then `After` its dial moment where that is
-    /// later than `now`; else `Now`. Moments are durations since the epoch.
+    /// `Unavailable` unless the peer is inert and to be dialled, is a bootstrapper or of known
+    /// info, and its ingress is valid under what is allowed; then `After` its dial moment where
+    /// that is later than `now`; else `Now`. Moments are durations since the epoch.
     pub fn dialable(&self, now: Duration, allow_private_ips: bool, allow_dns: bool) -> DialStatus
         ensures { dial_view result ≡
             dial_status (as_nanos now) allow_private_ips allow_dns self.now }

@@ -40,5 +40,5 @@ module _ {C S : Type 0} (s : Setup C S) where
   KeepCooldown p ts before (c ∷ cs) (r ∷ rs) =
       IsCooledAfter (granted_by p c r) ts
       × KeepCooldown p (grants_after p (next s before c r) (granted_by p c r) ts)
-          (next s before c r) cs rs
+      (next s before c r) cs rs
   KeepCooldown p ts before _ _ = Unit {0}

@@ -33,7 +33,7 @@ abbrev pub surplus_count : {C : Type 0} → ℕ → List (SetAt C) → ℕ
 surplus_count max [] = 0
 surplus_count max (oldest ∷ sets) =
     if nat_lt max (length (oldest ∷ sets)) then length oldest.primary + length oldest.secondary
-        else 0
+    else 0
 
 module _ {C S : Type 0} where
   -- ONE RECORD

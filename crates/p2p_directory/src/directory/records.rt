@@ -118,7 +118,8 @@ impl<C: PublicKey> Records<C> {
         known
     }
 
-    /// Connects the peer, as its dialer or not. Says whether its info is known then, and not wanted.
+    /// Connects the peer, as its dialer or not. Says whether its info is known then, and not
+    /// wanted.
     pub fn connect(&mut self, peer: &C, dialer: bool, limit: usize) -> bool
         requires { has_status is_reserved (record_at C.cmp self.old peer.now) ≡ true }
         ensures change { ChangesAt C.cmp self.old self.new peer.now

@@ -70,10 +70,10 @@ impl<C: PublicKey> Records<C> {
         requires room { length torn.old.items + length peers.now ≤ vec_capacity torn.old }
         ensures records { (q : C) → record_at C.cmp self.new q ≡
             (if has_key C.cmp peers.now q then one_set_less role (record_at C.cmp self.old q)
-                else record_at C.cmp self.old q) }
+            else record_at C.cmp self.old q) }
         ensures torn { torn.new.items ≡ torn.old.items ++
             filter (λ q. option_map_or (is_torn_down_without role)
-                (record_at C.cmp self.old q) false) peers.now }
+            (record_at C.cmp self.old q) false) peers.now }
         ensures capacity { vec_capacity torn.new ≡ vec_capacity torn.old }
         ensures length { length torn.new.items ≤ length torn.old.items + length peers.now }
     {
@@ -88,7 +88,7 @@ impl<C: PublicKey> Records<C> {
         requires { IsStrictlySortedBy C.cmp peers.now }
         ensures { (q : C) → record_at C.cmp self.new q ≡
             (if has_key C.cmp peers.now q then one_set_less role (record_at C.cmp self.old q)
-                else record_at C.cmp self.old q) }
+            else record_at C.cmp self.old q) }
     {
         for peer in peers {
             let _ = self.leave_one(peer, role);
@@ -104,7 +104,7 @@ impl<C: PublicKey> Records<C> {
             else record_at C.cmp self.old q)) }
         ensures err { OnErr result ((q : C) →
             (has_key C.cmp peers.now q ≡ true →
-                IsRestored C.cmp Secondary (record_at C.cmp self.old q)) →
+            IsRestored C.cmp Secondary (record_at C.cmp self.old q)) →
             record_at C.cmp self.new q ≡ record_at C.cmp self.old q) }
     {
         for (place, peer) in peers.iter().enumerate() {
@@ -116,7 +116,8 @@ impl<C: PublicKey> Records<C> {
         Ok(())
     }
 
-    // Counts one set of each primary peer more and sets its bit, or leaves all records as they were.
+    // Counts one set of each primary peer more and sets its bit, or leaves all records as they
+    // were.
     fn join_primary(&mut self, set: &mut PeerSet<C>, limit: usize) -> Result<(), AllocError>
         ensures disjoint { AreRolesDisjoint C.cmp (plain_set set.old) }
         ensures ok { OnOk result ((q : C) → record_at C.cmp self.new q ≡
@@ -145,8 +146,8 @@ impl<C: PublicKey> Records<C> {
         Ok(())
     }
 
-    // Counts a set more for the peers of each role and sets its bits, or leaves what is kept of each
-    // peer as it was.
+    // Counts a set more for the peers of each role and sets its bits, or leaves what is kept of
+    // each peer as it was.
     fn join_roles(&mut self, set: &mut PeerSet<C>, limit: usize) -> Result<(), AllocError>
         ensures disjoint { AreRolesDisjoint C.cmp (plain_set set.old) }
         ensures ok { OnOk result ((q : C) → record_at C.cmp self.new q ≡
