@@ -8,7 +8,7 @@ ghost use Rattle.std.specs.Map.{keys_of};
 ghost use Rattle.std.specs.Option.{option_copied};
 ghost use Rattle.p2p_discovery.specs.BitSets.{with_bit};
 ghost use Rattle.p2p_directory.specs.PeerSets.{has_key, set_of, latest_index, is_above};
-ghost use Rattle.p2p_directory.specs.PeerSets.{AreRolesDisjoint, set_count};
+ghost use Rattle.p2p_directory.specs.PeerSets.{AreRolesDisjoint};
 ghost use Rattle.p2p_directory.specs.Private.Counts.{leaving_count};
 ghost use Rattle.p2p_directory.specs.Private.Window.{SetWithBits, plain_set, plain_sets};
 ghost use Rattle.p2p_directory.specs.Private.Window.{set_with_bits, set_at, has_primary};

@@ -105,6 +105,8 @@ fn a_connected_peer_is_not_asked_for(rt: HostRuntime) -> Result<(), Fail> {
         assert!(rt; first?);
         assert!(rt; second?);
         assert_eq!(rt; told?, Some((1000, 8001)));
+    } else {
+        panic!(rt; "a tracked peer is granted a reservation");
     }
     assert_eq!(rt; directory.status(&TestKey(1)), Some(Status::Inert));
     assert_eq!(rt; told_of(&directory, 1)?, None);
@@ -128,6 +130,8 @@ fn a_set_changes_nothing_of_who_is_reserved(rt: HostRuntime) -> Result<(), Fail>
         directory.release(reservation);
         assert_eq!(rt; torn?.map(|torn| torn.len()), Some(0));
         assert_eq!(rt; told?, Some((1000, 8001)));
+    } else {
+        panic!(rt; "a tracked peer is granted a reservation");
     }
     assert!(rt; has_bits(alloc, &directory, 0, 1, &[true, false])?);
     Ok(())
@@ -153,6 +157,8 @@ fn the_first_info_of_greatest_timestamp_is_kept(rt: HostRuntime) -> Result<(), F
         assert_eq!(rt; first?, Some((1000, 8001)));
         assert_eq!(rt; second?, Some((1000, 8001)));
         assert_eq!(rt; third?, Some((1002, 8005)));
+    } else {
+        panic!(rt; "a tracked peer is granted a reservation");
     }
     Ok(())
 }
