@@ -15,7 +15,7 @@ use Rattle.p2p_directory.specs.World
 use Rattle.p2p_directory.specs.Step
 use Rattle.p2p_directory.specs.World.{Known, Peer, World}
 
-module _ {C S : Type 0} (s : Setup C S) where
+module _ {C S : Type 0} where
   -- THE FIRST OF GREATEST TIMESTAMP
 
   -- of two, the first unless the second is newer
@@ -44,11 +44,12 @@ module _ {C S : Type 0} (s : Setup C S) where
           let le : k.timestamp ≤ i.timestamp = omega (arith, ltb-false i.timestamp j.timestamp e, ltb-false j.timestamp k.timestamp f) in
           ap (λ b. if b then Some k else Some i) (le-ltb i.timestamp k.timestamp le) ∙ sym (ap (λ b. if b then Some j else Some i) e)
 
-  first_greatest-append : (xs ys : List (Info C S)) → History.first_greatest (xs ++ ys) ≡ later (History.first_greatest xs) (History.first_greatest ys)
+  pub first_greatest-append : (xs ys : List (Info C S)) → History.first_greatest (xs ++ ys) ≡ later (History.first_greatest xs) (History.first_greatest ys)
   first_greatest-append [] ys = refl
   first_greatest-append (i ∷ xs) ys =
       ap (History.earlier_best i) (first_greatest-append xs ys) ∙ sym (later_assoc (Some i) (History.first_greatest xs) (History.first_greatest ys))
 
+module _ {C S : Type 0} (s : Setup C S) where
   -- NEWER
 
   not_newer : (a : Option (Info C S)) → History.is_newer a a ≡ false

@@ -68,7 +68,7 @@ module _ {C S : Type 0} (s : Setup C S) where
   offered_given (Some ingress) j = refl
 
   offered : (given : Option Ingress) (fails : ℕ) (info x : Option (Info C S)) →
-      address_after_offer x (address_known given fails info) ≡ address_known given (if is_newer info x then 0 else fails) (later s info x)
+      address_after_offer x (address_known given fails info) ≡ address_known given (if is_newer info x then 0 else fails) (later info x)
   offered given fails None None = refl
   offered given fails (Some i) None = refl
   offered given fails None (Some j) = offered_given given j

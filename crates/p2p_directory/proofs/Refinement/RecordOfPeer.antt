@@ -190,20 +190,6 @@ module _ {C S : Type 0} (s : Setup C S) where
         next_dial_at = sym same.1 i;
       }
 
-  -- it goes where its peer is absent then
-  pub released_shown : (p : C) (sets : List (SetAt C)) (known : Known C S) →
-      unless_deletable (record_with p sets (record { status = Inert; known = known })) ≡ shown p sets (record { status = Inert; known = known })
-  released_shown p sets known = go (is_persistent s p) (is_named s p sets)
-    where
-      r : RecordView C S
-      r = record_with p sets (record { status = Inert; known = known })
-
-      go : (persistent named : Bool) → (if not (named || persistent) && true then None else Some r) ≡ (if (persistent || named) || false then Some r else None)
-      go true true = refl
-      go true false = refl
-      go false true = refl
-      go false false = refl
-
   -- A SET
 
   -- a record goes where its peer is absent

@@ -34,10 +34,6 @@ or_true false y z e = ap (λ b. b || z) e
 wanted_secondary : (p s : ℕ) (persistent : Bool) → 1 ≤ s → wanted p s persistent ≡ true
 wanted_secondary p s persistent h = or_true (nat_lt 0 p) (nat_lt 0 s) persistent (lt-ltb 0 s (omega (arith, h)))
 
-and_same : (x : Bool) → false ≡ (x && not x)
-and_same true = refl
-and_same false = refl
-
 -- with and without the sets that come, the same are torn down by one that goes
 by_counts : (a b c d persistent : Bool) (p s : ℕ) → one a ≤ p → one b ≤ s → wanted p s persistent ≡ false →
     wanted (p + one c - one a) (s + one d - one b) persistent ≡ wanted (p + one c) (s + one d) persistent

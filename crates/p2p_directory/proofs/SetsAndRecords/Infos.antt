@@ -5,8 +5,9 @@ use Rattle.std.proofs.lemmas.Bool.{ltb-true, ltb-false, lt-ltb, le-ltb}
 use Rattle.p2p_discovery.specs.declared.discovery.Info.{Info}
 use Rattle.p2p_directory.specs.declared.record.Address.{Address}
 use Rattle.p2p_directory.specs.declared.record.Address.TheVariants.{Unknown, Myself, Bootstrapper, Discovered}
-use Rattle.p2p_directory.specs.History.{earlier_best, first_greatest}
+use Rattle.p2p_directory.specs.History.{first_greatest}
 use Rattle.p2p_directory.specs.Record.{address_after_update, address_after_offer, address_after_infos}
+use Rattle.p2p_directory.proofs.Definitions.Knowledge.{later, first_greatest-append}
 
 -- by three numbers, what depends on which is below which
 lt_trans : (a b c : ℕ) → nat_lt a b ≡ true → nat_lt b c ≡ true → nat_lt a c ≡ true
@@ -20,38 +21,9 @@ ge_trans a b c e f =
     le-ltb a c le
 
 module _ {C S : Type 0} where
-  -- one more info after the best of those before
-  abbrev pub one_later : Option (Info C S) → Info C S → Option (Info C S)
-  one_later None i = Some i
-  one_later (Some best) i = earlier_best best (Some i)
-
-  best_of_three : (x : Info C S) (o : Option (Info C S)) (i : Info C S) →
-      earlier_best x (one_later o i) ≡ one_later (earlier_best x o) i
-  best_of_three x None i = refl
-  best_of_three x (Some j) i = go (nat_lt x.timestamp j.timestamp) (nat_lt j.timestamp i.timestamp) refl refl
-    where
-      go : (b c : Bool) → nat_lt x.timestamp j.timestamp ≡ b → nat_lt j.timestamp i.timestamp ≡ c →
-          earlier_best x (if c then Some i else Some j) ≡ one_later (if b then Some j else Some x) i
-      go true true e f =
-          ap (λ b. if b then Some i else Some x) (lt_trans x.timestamp j.timestamp i.timestamp e f)
-          ∙ sym (ap (λ b. if b then Some i else Some j) f)
-      go true false e f =
-          ap (λ b. if b then Some j else Some x) e ∙ sym (ap (λ b. if b then Some i else Some j) f)
-      go false true e f = refl
-      go false false e f =
-          ap (λ b. if b then Some j else Some x) e
-          ∙ sym (ap (λ b. if b then Some i else Some x) (ge_trans x.timestamp j.timestamp i.timestamp e f))
-
-  -- the best of infos and of one more
-  pub first_greatest-one_more : (infos : List (Info C S)) (i : Info C S) →
-      first_greatest (infos ++ i ∷ []) ≡ one_later (first_greatest infos) i
-  first_greatest-one_more [] i = refl
-  first_greatest-one_more (x ∷ infos) i =
-      ap (earlier_best x) (first_greatest-one_more infos i) ∙ best_of_three x (first_greatest infos) i
-
   -- what the better of two makes of an address, one after the other make
   offer_of_two : (j i : Info C S) (a : Address C S) →
-      address_after_offer (one_later (Some j) i) a ≡ address_after_update i (address_after_update j a)
+      address_after_offer (later (Some j) (Some i)) a ≡ address_after_update i (address_after_update j a)
   offer_of_two j i Unknown = go (nat_lt j.timestamp i.timestamp)
     where
       go : (b : Bool) → address_after_offer (if b then Some i else Some j) Unknown
@@ -86,20 +58,12 @@ module _ {C S : Type 0} where
           ∙ sym (ap (λ b. if b then Discovered i 0 else Discovered k fails) (ge_trans k.timestamp j.timestamp i.timestamp e f))
 
   offer_one_more : (o : Option (Info C S)) (i : Info C S) (a : Address C S) →
-      address_after_offer (one_later o i) a ≡ address_after_update i (address_after_offer o a)
+      address_after_offer (later o (Some i)) a ≡ address_after_update i (address_after_offer o a)
   offer_one_more None i a = refl
   offer_one_more (Some j) i a = offer_of_two j i a
-
-  -- no infos change nothing
-  pub address_after-none : (a : Address C S) → address_after_infos [] a ≡ a
-  address_after-none a = refl
-
-  -- one info changes what its update does
-  pub address_after-one : (i : Info C S) (a : Address C S) → address_after_infos (i ∷ []) a ≡ address_after_update i a
-  address_after-one i a = refl
 
   -- one more info is updated after those before
   pub address_after-one_more : (infos : List (Info C S)) (i : Info C S) (a : Address C S) →
       address_after_infos (infos ++ i ∷ []) a ≡ address_after_update i (address_after_infos infos a)
   address_after-one_more infos i a =
-      ap (λ o. address_after_offer o a) (first_greatest-one_more infos i) ∙ offer_one_more (first_greatest infos) i a
+      ap (λ o. address_after_offer o a) (first_greatest-append infos (i ∷ [])) ∙ offer_one_more (first_greatest infos) i a

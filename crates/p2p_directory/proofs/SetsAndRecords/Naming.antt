@@ -6,15 +6,14 @@ use Rattle.std.specs.declared.cmp.Ordering.TheVariants.{Less}
 use Rattle.std.specs.BTreeMap.{is_at}
 use Rattle.std.specs.Cmp.{IsTotalOrder}
 use Rattle.std.specs.List.Sorted.{IsStrictlySortedBy}
-use Rattle.std.specs.List.{filter, Contains, AllByRecursion, IsDistinct}
-use Rattle.std.specs.Prelude.{◌↔◌}
+use Rattle.std.specs.List.{filter, AllByRecursion, IsDistinct}
 use Rattle.std.specs.Ordering.{is_eq, eq_by_cmp}
 use Rattle.std.proofs.lemmas.Cmp.{tied_itself, eq_by_cmp_equiv}
 use Rattle.std.proofs.lemmas.List.{length-take, get_or-take, get_or_default, take-append-drop}
 use Rattle.std.proofs.lemmas.List.Folds.{list_any_none, list_any_at, list_any_more, list_any-append}
 use Rattle.std.proofs.lemmas.Map.Keys.{Less-from_sorted}
 use Rattle.std.proofs.lemmas.Map.Lookups.{CmpEqualImpliesEq}
-use Rattle.std.proofs.lemmas.Map.Views.{tells_apart, Contains-from_any, any-filter_same}
+use Rattle.std.proofs.lemmas.Map.Views.{tells_apart, any-filter_same}
 use Rattle.p2p_discovery.specs.Ordered.{IsPlaceOf}
 use Rattle.p2p_directory.specs.PeerSets.{has_key}
 
@@ -69,35 +68,9 @@ both_ways true b to from = sym (to refl)
 both_ways false true to from = from refl
 both_ways false false to from = refl
 
--- lists that hold the same keys name the same
-pub same_names : {C : Type 0} {cmp : C → C → Ordering} → IsTotalOrder cmp → CmpEqualImpliesEq cmp → (xs ys : List C) (q : C) → (Contains xs q ↔ Contains ys q) → has_key cmp xs q ≡ has_key cmp ys q
-same_names {C} {cmp} o exact xs ys q same = both_ways (has_key cmp xs q) (has_key cmp ys q) (λ e. to ys (same.0 (from xs e))) (λ e. to xs (same.1 (from ys e)))
-  where
-    to : (keys : List C) → Contains keys q → has_key cmp keys q ≡ true
-    to keys (k, low, at) = at_place o keys k q (record { in_range = low; at_place = at })
-
-    from : (keys : List C) → has_key cmp keys q ≡ true → Contains keys q
-    from keys e = Contains-from_any {eq = λ x y. is_eq (cmp y x)} (λ x y e. sym (tells_apart exact y x e)) q keys e
-
 -- those of some keys that pass a test
 pub names-filter : {C : Type 0} {cmp : C → C → Ordering} → CmpEqualImpliesEq cmp → (test : C → Bool) (keys : List C) (q : C) → has_key cmp (filter test keys) q ≡ (test q && has_key cmp keys q)
 names-filter {cmp = cmp} exact test keys q = any-filter_same (λ k. is_at (cmp k) q) test (test q) (λ k e. ap test (tells_apart exact k q e)) keys
-
--- those of two lists that pass a test
-pub names-filter_both : {C : Type 0} {cmp : C → C → Ordering} → CmpEqualImpliesEq cmp → (test : C → Bool) (xs ys both : List C) (q : C) → both ≡ filter test xs ++ filter test ys → has_key cmp both q ≡ ((has_key cmp xs q || has_key cmp ys q) && test q)
-names-filter_both {cmp = cmp} exact test xs ys both q e =
-    ap (λ keys. has_key cmp keys q) e
-    ∙ list_any-append (λ k. is_at (cmp k) q) (filter test xs) (filter test ys)
-    ∙ (λ i. names-filter exact test xs q i || names-filter exact test ys q i)
-    ∙ go (test q) (has_key cmp xs q) (has_key cmp ys q)
-  where
-    go : (t a b : Bool) → ((t && a) || (t && b)) ≡ ((a || b) && t)
-    go true true b = refl
-    go true false true = refl
-    go true false false = refl
-    go false true b = refl
-    go false false true = refl
-    go false false false = refl
 
 all_take : {A : Type 0} (P : A → Type 0) (i : ℕ) (xs : List A) → AllByRecursion P xs → AllByRecursion P (take i xs)
 all_take P zero xs h = tt

@@ -129,9 +129,6 @@ pushed n [] up below = (tt, tt)
 pushed n (x ∷ ns) up below = (all_joined (λ y. nat_cmp x y ≡ Less) ns (n ∷ []) up.0 (below.0, tt), pushed n ns up.1 below.1)
 
 module _ {C : Type 0} where
-  index_of : SetWithBits C → ℕ
-  index_of set = set.index
-
   -- the index of the latest set
   last_index : (o : Option (SetWithBits C)) (sets : List (SetWithBits C)) →
       option_map (λ set. set.index) (last_or (option_map plain_set o) (plain_sets sets)) ≡ option_map (λ set. set.index) (last_or o sets)
