@@ -1,6 +1,6 @@
 -- What one more event changes of what the past says.
 use Rattle.std.proofs.Common.{◌≡◌, ℕ, ◌+◌, ◌-◌, Bool, true, false, ◌||◌, List, [], ◌∷◌, ◌++◌, length, drop, Option, Some, None, refl, sym, ◌∙◌, ap, arith}
-use Rattle.std.specs.Prelude.{if◌then◌else◌, nat_le, is_some, not}
+use Rattle.std.specs.Prelude.{if◌then◌else◌, nat_le}
 use Rattle.std.specs.List.{list_any}
 use Rattle.std.proofs.lemmas.List.{append-nil, drop-append-le, drop-drop, length-append, length-drop}
 use Rattle.p2p_directory.specs.Calls.{Setup, Grant, Event}
@@ -137,17 +137,3 @@ module _ {C S : Type 0} (s : Setup C S) where
   unblock_step p (Connected q dialer) h = unblock_step_of p (Connected q dialer) h ∙ lasted_none (History.unblock_at s p h)
   unblock_step p (Released q direction) h = unblock_step_of p (Released q direction) h ∙ lasted_none (History.unblock_at s p h)
   unblock_step p (Updated infos) h = unblock_step_of p (Updated infos) h ∙ lasted_none (History.unblock_at s p h)
-
-  -- a grant is held exactly where the status isn't inert
-  pub held_status : (p : C) (h : List (Event C S)) → is_some (History.held_at s p h) ≡ not (History.is_inert (History.status_at s p h))
-  held_status p h = go (last_with (History.grant_by s p) h)
-    where
-      some : (grant : Grant) (released connected : Bool) →
-          is_some (if released then None else Some grant) ≡ not (History.is_inert (if released then Inert else if connected then Active else Reserved))
-      some grant true connected = refl
-      some grant false true = refl
-      some grant false false = refl
-
-      go : (found : Option (Grant × List (Event C S))) → is_some (unless_ended (λ grant. History.is_release s p) found) ≡ not (History.is_inert (History.status_since s p found))
-      go None = refl
-      go (Some found) = some found.0 (list_any (History.is_release s p) found.1) (list_any (History.is_connect s p) found.1)

@@ -1,20 +1,19 @@
 -- What each call leaves busy, and what is held of it.
-use Rattle.std.proofs.Common.{◌≡◌, ℕ, Bool, true, false, not, ◌&&◌, ◌||◌, List, Option, Some, None, refl, sym, ◌∙◌, ap, subst}
-use Rattle.std.specs.Prelude.{if◌then◌else◌, is_some, nat_lt}
+use Rattle.std.proofs.Common.{◌≡◌, Bool, true, false, not, List, Option, Some, None, refl, sym, ◌∙◌, ap, subst}
+use Rattle.std.specs.Prelude.{if◌then◌else◌, is_some}
 use Rattle.std.specs.Option.{option_map, option_map_or}
 use Rattle.std.specs.BTreeMap.{is_at}
 use Rattle.std.specs.declared.cmp.Ordering.{Ordering}
 use Rattle.std.proofs.lemmas.Map.Lookups.{CmpEqualImpliesEq}
 use Rattle.std.proofs.lemmas.Map.Views.{tells_apart}
-use Rattle.p2p_directory.specs.declared.record.ReserveResult.TheVariants as answer
 use Rattle.p2p_directory.specs.declared.directory.Metadata.{Metadata}
 use Rattle.p2p_discovery.specs.declared.discovery.Info.{Info}
 use Rattle.p2p_directory.specs.declared.record.Status.{Status}
 use Rattle.p2p_directory.specs.declared.record.Status.TheVariants.{Inert, Reserved, Active}
 use Rattle.p2p_directory.specs.Calls.{SetAt}
 use Rattle.p2p_directory.specs.History.{is_inert, is_reserved}
-use Rattle.p2p_directory.specs.Record.{RecordView, is_myself, is_eligible, is_grant, may_come, reserved_record}
-use Rattle.p2p_directory.specs.Directory.{DirectoryView, is_busy, record_of, key_of, released_record, kept_after_release, connected_record, updated_record, infos_of, IsBusy, IsReserved, ChangesRecord, Reserves, Connects, Updates, TakesSet}
+use Rattle.p2p_directory.specs.Record.{RecordView}
+use Rattle.p2p_directory.specs.Directory.{DirectoryView, is_busy, record_of, key_of, released_record, kept_after_release, connected_record, updated_record, IsBusy, IsReserved, ChangesRecord, Connects, TakesSet}
 use Rattle.p2p_directory.specs.Held.{AreHeld, after_release}
 use Rattle.p2p_directory.proofs.SetsAndRecords.Consistent.{status_unless, status_with_sets}
 
@@ -45,11 +44,6 @@ module _ {C S : Type 0} where
   same_busy is (Some r) = refl
 
 module _ {C S : Type 0} (cmp : C → C → Ordering) where
-  -- infos leave all that is held as it was
-  pub held_by_update : (d d2 : DirectoryView C S) (infos : List (Info C S)) (held : C → Option (Metadata C S)) → AreHeld cmp d held → Updates cmp d d2 infos → AreHeld cmp d2 held
-  held_by_update d d2 infos held agree change q =
-      agree q ∙ same_busy (infos_of cmp infos q) (record_of cmp d q) ∙ sym (ap is_busy (change.records q))
-
   -- .. and so does a connect
   pub held_by_connect : CmpEqualImpliesEq cmp → (d d2 : DirectoryView C S) (p : C) (dialer : Bool) (held : C → Option (Metadata C S)) → AreHeld cmp d held → IsReserved cmp d p
       → Connects cmp d d2 p dialer → AreHeld cmp d2 held
@@ -63,21 +57,6 @@ module _ {C S : Type 0} (cmp : C → C → Ordering) where
   pub held_by_track : (d d2 : DirectoryView C S) (set : SetAt C) (held : C → Option (Metadata C S)) → AreHeld cmp d held → TakesSet cmp d d2 set → AreHeld cmp d2 held
   held_by_track d d2 set held agree change q =
       agree q ∙ sym (ap is_busy (change.records q) ∙ status_with_sets cmp (λ status. not (is_inert status)) refl d2.sets q (record_of cmp d q))
-
-  -- one is held more
-  pub held_by_grant : CmpEqualImpliesEq cmp → (d d2 : DirectoryView C S) (p : C) (m : Metadata C S) (held held2 : C → Option (Metadata C S)) (now draw : ℕ) → AreHeld cmp d held
-      → option_map_or (may_come now) (record_of cmp d p) false ≡ true → Reserves cmp d d2 p now draw
-      → ((q : C) → held2 q ≡ (if is_at (cmp p) q then Some m else held q)) → AreHeld cmp d2 held2
-  held_by_grant exact d d2 p m held held2 now draw agree can change holds q = ap is_some (holds q) ∙ go (is_at (cmp p) q) refl ∙ sym (ap is_busy (change.records q))
-    where
-      there : (o : Option (RecordView C S)) → option_map_or (may_come now) o false ≡ true → true ≡ is_busy (option_map (reserved_record now draw d.config.cooldown) o)
-      there None f = absurd cc
-      there (Some r) f = refl
-
-      go : (b : Bool) → is_at (cmp p) q ≡ b → is_some (if b then Some m else held q)
-          ≡ is_busy (if b then option_map (reserved_record now draw d.config.cooldown) (record_of cmp d q) else record_of cmp d q)
-      go true e = there (record_of cmp d q) (ap (λ k. option_map_or (may_come now) (record_of cmp d k) false) (sym (tells_apart exact p q e)) ∙ can)
-      go false e = agree q
 
   -- one is held less
   pub held_by_release : (d d2 : DirectoryView C S) (p : C) (m : Metadata C S) (held held2 : C → Option (Metadata C S)) → AreHeld cmp d held
@@ -104,23 +83,3 @@ module _ {C S : Type 0} (cmp : C → C → Ordering) where
   -- who is held has a record that is not inert
   pub held_record : (d : DirectoryView C S) (held : C → Option (Metadata C S)) (q : C) (m : Metadata C S) → AreHeld cmp d held → held q ≡ Some m → key_of m ≡ q → IsBusy cmp d (key_of m)
   held_record d held q m agree e key = subst (IsBusy cmp d) (sym key) (sym (agree q) ∙ ap is_some e)
-
-  -- of whom may be reserved nothing is held
-  pub none_held : (d : DirectoryView C S) (held : C → Option (Metadata C S)) (p : C) (now : ℕ) → AreHeld cmp d held
-      → option_map_or (may_come now) (record_of cmp d p) false ≡ true → held p ≡ None
-  none_held d held p now agree can = none (held p) (agree p ∙ free (record_of cmp d p) can)
-    where
-      none : (o : Option (Metadata C S)) → is_some o ≡ false → o ≡ None
-      none None e = refl
-      none (Some m) e = absurd cc
-
-      inert : (eligible own inert late : Bool) →
-          (eligible && is_grant (if own || not inert then answer.Unavailable else if late then answer.RateLimited else answer.Reserved)) ≡ true → not inert ≡ false
-      inert eligible own true late e = refl
-      inert true true false late e = absurd cc
-      inert true false false late e = absurd cc
-      inert false own false late e = absurd cc
-
-      free : (o : Option (RecordView C S)) → option_map_or (may_come now) o false ≡ true → is_busy o ≡ false
-      free None f = absurd cc
-      free (Some r) f = inert (is_eligible r) (is_myself r.address) (is_inert r.status) (nat_lt now r.next_reservable_at) f

@@ -248,13 +248,6 @@ module _ {C S : Type 0} (s : Setup C S) where
                 (subst (λ slots. Holds s (world_with s (Connected p dialer) w) (held_in s.cmp slots)) (sym slots) holds);
           }
 
-      pub served_not_reserved : (p : C) (dialer : Bool) (o : Option Status) → o ≡ option_map (λ r. r.status) (record_of s.cmp v.directory p) → option_map_or is_reserved o false ≡ false →
-          v2.directory ≡ v.directory → v2.slots ≡ v.slots → IsServedAt s cs (Connect p dialer) reply.NotReserved v2
-      served_not_reserved p dialer o told other directory slots = record {
-        answer = ap (λ b. if b then reply.Connect else reply.NotReserved) (sym (reserved_is p o false told other));
-        left = same_views cs v v2 directory (λ q. ap (λ slots. held_in s.cmp slots q) slots) at;
-      }
-
       pub served_updated : (infos : List (Info C S)) → Updates s.cmp v.directory v2.directory infos → v2.slots ≡ v.slots → IsServedAt s cs (Update infos) reply.UpdatePeers v2
       served_updated infos change slots =
           let w : World C S = world_after s cs in

@@ -114,14 +114,6 @@ module _ {C S : Type 0} {cmp : C → C → Ordering} (total : IsTotalOrder cmp) 
   pub peers_are : (slots : List (C × Option (Metadata C S))) → AreFull cmp slots → map key_of (contents slots) ≡ keys_of slots
   peers_are slots full = peers slots (each (λ q slot. IsSomeAnd slot (λ m. key_of m ≡ q)) slots full.ordered full.filled)
 
-  -- what is in the slot of q is of q
-  pub held_key : (slots : List (C × Option (Metadata C S))) (q : C) → AreSlots cmp slots → IfSome (held_in cmp slots q) (λ m. key_of m ≡ q)
-  held_key slots q are = go (slot_of cmp slots q) (are.keyed q)
-    where
-      go : (o : Option (Option (Metadata C S))) → IfSome o (λ slot. IfSome slot (λ m. key_of m ≡ q)) → IfSome (option_flatten o) (λ m. key_of m ≡ q)
-      go None h = tt
-      go (Some slot) h = h
-
   -- what is left when the slot of p goes
   pub full_without : (slots slots2 : List (C × Option (Metadata C S))) (p : C) → AreFull cmp slots → IsStrictlySortedBy cmp (keys_of slots2)
       → ((q : C) → slot_of cmp slots2 q ≡ cond (is_at (cmp p) q) None (slot_of cmp slots q)) → AreFull cmp slots2

@@ -24,10 +24,6 @@ step false true h f new now old d e = d ∙ ap f e
 step false false h f new now old d e = d ∙ e
 
 module _ {C : Type 0} {cmp : C → C → Ordering} (o : IsTotalOrder cmp) (exact : CmpEqualImpliesEq cmp) (keys : List C) (i : ℕ) (key : C) (low : i < length keys) (is : key ≡ get_or keys i key) where
-  -- the key at a place is one of the keys
-  pub named_here : has_key cmp keys key ≡ true
-  named_here = list_any_at (λ k. is_at (cmp k) key) keys i key low (rw (← is) (ap is_eq (tied_itself o key)))
-
   module _ (up : IsStrictlySortedBy cmp keys) where
     -- and none before it
     pub not_yet : has_key cmp (take i keys) key ≡ false
@@ -62,11 +58,6 @@ nowhere {cmp = cmp} exact keys key absent = list_any_none (λ x. is_at (cmp x) k
     either (is_at (cmp (get_or keys j d)) key) (λ same.
     let here : get_or keys j key ≡ key = get_or_default keys j key d below ∙ tells_apart exact (get_or keys j d) key same in
     absent j (record { in_range = below; at_place = here })))
-
-both_ways : (a b : Bool) → (a ≡ true → b ≡ true) → (b ≡ true → a ≡ true) → a ≡ b
-both_ways true b to from = sym (to refl)
-both_ways false true to from = from refl
-both_ways false false to from = refl
 
 -- those of some keys that pass a test
 pub names-filter : {C : Type 0} {cmp : C → C → Ordering} → CmpEqualImpliesEq cmp → (test : C → Bool) (keys : List C) (q : C) → has_key cmp (filter test keys) q ≡ (test q && has_key cmp keys q)
