@@ -1,5 +1,5 @@
 -- What each call leaves busy, and what is held of it.
-use Rattle.std.proofs.Common.{◌≡◌, Bool, true, false, not, List, Option, Some, None, refl, sym, ◌∙◌, ap, subst}
+use Rattle.std.proofs.Common.{◌≡◌, Bool, true, false, not, Option, Some, None, refl, sym, ◌∙◌, ap, subst}
 use Rattle.std.specs.Prelude.{if◌then◌else◌, is_some}
 use Rattle.std.specs.Option.{option_map, option_map_or}
 use Rattle.std.specs.BTreeMap.{is_at}
@@ -7,13 +7,12 @@ use Rattle.std.specs.declared.cmp.Ordering.{Ordering}
 use Rattle.std.proofs.lemmas.Map.Lookups.{CmpEqualImpliesEq}
 use Rattle.std.proofs.lemmas.Map.Views.{tells_apart}
 use Rattle.p2p_directory.specs.declared.directory.Metadata.{Metadata}
-use Rattle.p2p_discovery.specs.declared.discovery.Info.{Info}
 use Rattle.p2p_directory.specs.declared.record.Status.{Status}
 use Rattle.p2p_directory.specs.declared.record.Status.TheVariants.{Inert, Reserved, Active}
 use Rattle.p2p_directory.specs.Calls.{SetAt}
 use Rattle.p2p_directory.specs.History.{is_inert, is_reserved}
 use Rattle.p2p_directory.specs.Record.{RecordView}
-use Rattle.p2p_directory.specs.Directory.{DirectoryView, is_busy, record_of, key_of, released_record, kept_after_release, connected_record, updated_record, IsBusy, IsReserved, ChangesRecord, Connects, TakesSet}
+use Rattle.p2p_directory.specs.Directory.{DirectoryView, is_busy, record_of, key_of, released_record, kept_after_release, connected_record, IsBusy, IsReserved, ChangesRecord, Connects, TakesSet}
 use Rattle.p2p_directory.specs.Held.{AreHeld, after_release}
 use Rattle.p2p_directory.proofs.SetsAndRecords.Consistent.{status_unless, status_with_sets}
 
@@ -37,11 +36,6 @@ module _ {C S : Type 0} where
       go Inert f = absurd cc
       go Reserved f = refl
       go Active f = refl
-
-  -- infos leave a peer as busy as it was
-  same_busy : (is : List (Info C S)) (o : Option (RecordView C S)) → is_busy o ≡ is_busy (option_map (updated_record is) o)
-  same_busy is None = refl
-  same_busy is (Some r) = refl
 
 module _ {C S : Type 0} (cmp : C → C → Ordering) where
   -- .. and so does a connect
