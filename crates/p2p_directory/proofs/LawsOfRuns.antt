@@ -6,4 +6,6 @@ pub mod Spacing
 pub mod Dialled
 pub mod Quiet
 pub mod GrantRuns
+pub mod DialRuns
 pub mod Forgotten
+mod GrantExamples

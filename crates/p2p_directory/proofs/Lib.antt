@@ -3,3 +3,4 @@ pub mod LawsOfRuns
 pub mod SetsAndRecords
 pub mod Refinement
 pub mod Reservations
+pub mod Nodes

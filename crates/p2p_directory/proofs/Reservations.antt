@@ -2,4 +2,5 @@
 pub mod Slots
 pub mod Holding
 pub mod Served
+pub mod Told
 pub mod Replies

@@ -1,7 +1,9 @@
 -- What contracts see of a directory, and what its calls answer and change.
-use Rattle.std.specs.Prelude.{ℕ, ◌≡◌, Bool, true, false, not, ◌&&◌, if◌then◌else◌, List, ◌++◌, ◌∷◌}
-use Rattle.std.specs.Prelude.{[], map, filter, slice_get, Option, Some, unwrap_or}
-use Rattle.std.specs.List.Sorted.{IsStrictlySortedBy}
+use Rattle.std.specs.Prelude.{ℕ, ◌≡◌, Bool, true, false, not, ◌&&◌, ◌||◌, if◌then◌else◌, List}
+use Rattle.std.specs.Prelude.{◌++◌, ◌∷◌}
+use Rattle.std.specs.Prelude.{[], map, filter, slice_get, Option, Some, None, unwrap_or, nat_lt}
+use Rattle.std.specs.Prelude.{◌==◌, length, zip, filter_map, nat_le}
+use Rattle.std.specs.List.{last_or}
 use Rattle.std.specs.Option.{option_map, option_map_or, option_and_then}
 use Rattle.std.specs.Duration.{as_nanos}
 use Rattle.std.specs.Int.NonZero.{non_zero_usize_get}
@@ -17,16 +19,22 @@ use Rattle.p2p_directory.specs.declared.record.Status.{Status}
 use Rattle.p2p_directory.specs.declared.record.Status.TheVariants.{Inert, Active}
 use Rattle.p2p_directory.specs.declared.record.Role.TheVariants.{Primary, Secondary}
 use Rattle.p2p_directory.specs.declared.directory.Config.{Config}
+use Rattle.p2p_directory.specs.declared.directory.TrackedPeers.{TrackedPeers}
+use Rattle.p2p_directory.specs.declared.directory.PeerSetUpdate.{PeerSetUpdate}
 use Rattle.p2p_directory.specs.declared.directory.Metadata.{Metadata}
 use Rattle.p2p_directory.specs.declared.directory.Metadata.TheVariants.{Dialer, Listener}
 use Rattle.p2p_directory.specs.Calls.{SetAt}
 use Rattle.p2p_directory.specs.History.{last_of, is_inert, is_reserved}
-use Rattle.p2p_directory.specs.World.{last_ingress_by}
+use Rattle.p2p_directory.specs.World.{last_ingress_by, is_blocked}
+use Rattle.p2p_directory.specs.Answers.{epoch_millis}
 use Rattle.p2p_directory.specs.Record.{RecordView, new_record, blank, is_myself, is_eligible}
 use Rattle.p2p_directory.specs.Record.{after_failure, after_success, reserved_record, with_counts}
 use Rattle.p2p_directory.specs.Record.{unless_deletable, address_after_infos, wants_info}
-use Rattle.p2p_directory.specs.Record.{sharable_by}
-use Rattle.p2p_directory.specs.PeerSets.{has_key, set_count}
+use Rattle.p2p_directory.specs.Record.{sharable_by, may_come, may_be_dialled, ingress_of}
+use Rattle.p2p_directory.specs.Record.{DialView, dial_status, is_now, later_moment}
+use Rattle.p2p_directory.specs.PeerSets.{set_count, set_with}
+use Rattle.p2p_directory.specs.Lists.{Lists, IsLeastOf}
+use Rattle.p2p_directory.specs.Blocks.{unblock_in}
 
 -- WHAT IS SEEN
 
@@ -49,11 +57,33 @@ config_view cfg = record {
   block_duration = as_nanos cfg.block_duration;
 }
 
--- the retained sets from the oldest on, and what is kept of each peer, in order of their keys
+-- the retained sets from the oldest on, and in order of their keys what is kept of each peer and
+-- until when each block holds
 pub record DirectoryView (C S : Type 0) : Type 0 where
   pub config : ConfigView
   pub sets : List (SetAt C)
   pub records : List (C × RecordView C S)
+  pub blocks : List (C × ℕ)
+
+-- the peers of a set, by role
+abbrev pub peers_of : {C S : Type 0} → SetAt C → TrackedPeers C S
+peers_of set = record { primary = set.primary; secondary = set.secondary }
+
+-- the peers of the retained set with an index, if there is one
+abbrev pub peer_set_in : {C S : Type 0} → DirectoryView C S → ℕ → Option (TrackedPeers C S)
+peer_set_in d index = option_map peers_of (set_with index d.sets)
+
+-- the set that an update tells of
+abbrev pub set_in : {C S : Type 0} → PeerSetUpdate C S → SetAt C
+set_in update = record {
+  index = update.index;
+  primary = update.latest.primary;
+  secondary = update.latest.secondary;
+}
+
+-- a moment, if it is later than now
+abbrev pub if_later : ℕ → Option ℕ → Option ℕ
+if_later now moment = if is_blocked moment now then moment else None
 
 -- whom a reservation is for
 abbrev pub key_of : {P S : Type 0} → Metadata P S → P
@@ -155,6 +185,7 @@ module _ {C S : Type 0} (cmp : C → C → Ordering) where
       (f : Option (RecordView C S) → Option (RecordView C S)) : Type 0 where
     pub config : new.config ≡ old.config
     pub sets : new.sets ≡ old.sets
+    pub blocks : new.blocks ≡ old.blocks
     pub records : ChangesAt old.records new.records p f
 
   -- p is reserved at a moment, with a draw
@@ -180,12 +211,41 @@ module _ {C S : Type 0} (cmp : C → C → Ordering) where
   pub record Updates (old new : DirectoryView C S) (infos : List (Info C S)) : Type 0 where
     pub config : new.config ≡ old.config
     pub sets : new.sets ≡ old.sets
+    pub blocks : new.blocks ≡ old.blocks
     pub records : (q : C) →
         record_of new q ≡ option_map (updated_record (infos_of infos q)) (record_of old q)
 
   -- the info of a peer that others may be told, if there is one
   abbrev pub sharable_in : DirectoryView C S → C → Option (Info C S)
   sharable_in d q = option_and_then sharable_of_record (record_of d q)
+
+  -- of a peer with its bit, by all that is kept: its sharable info, where the bit is 0 and the
+  -- timestamp isn't above these milliseconds
+  abbrev pub shared_at : List (C × RecordView C S) → ℕ → C × Bool → Option (Info C S)
+  shared_at records millis (q, true) = None
+  shared_at records millis (q, false) =
+      elim (option_and_then sharable_of_record (record_at records q)) [
+        | None ↦ None
+        | Some i ↦ if nat_le i.timestamp millis then Some i else None
+      ]
+
+  -- .. of peers with their bits, in list order
+  abbrev pub shared_of : List (C × RecordView C S) → ℕ → List C → List Bool → List (Info C S)
+  shared_of records millis ps bits = filter_map (shared_at records millis) (zip ps bits)
+
+  -- .. unless the bits are of another number
+  abbrev pub shared_for : List (C × RecordView C S) → ℕ → List C → List Bool →
+      Option (List (Info C S))
+  shared_for records millis ps bits =
+      if length bits == length ps then Some (shared_of records millis ps bits) else None
+
+  -- the infos for an index and bits at a moment: no infos for an index that isn't retained, none at
+  -- all for another number of bits
+  abbrev pub infos_in : DirectoryView C S → ℕ → List Bool → ℕ → Option (List (Info C S))
+  infos_in d index bits now = elim (set_with index d.sets) [
+    | None ↦ Some []
+    | Some set ↦ shared_for d.records (epoch_millis now) set.primary bits
+  ]
 
   -- for each primary peer of a set, whether its info is known, and not wanted
   abbrev pub known_bits : DirectoryView C S → SetAt C → List Bool
@@ -211,6 +271,7 @@ module _ {C S : Type 0} (cmp : C → C → Ordering) where
   pub record TakesSet (old new : DirectoryView C S) (set : SetAt C) : Type 0 where
     pub config : new.config ≡ old.config
     pub sets : new.sets ≡ last_of old.config.max_sets (old.sets ++ set ∷ [])
+    pub blocks : new.blocks ≡ old.blocks
     pub records : (q : C) → record_of new q ≡ record_with_sets new.sets q (record_of old q)
 
   -- reserved or connected, and eligible
@@ -223,6 +284,102 @@ module _ {C S : Type 0} (cmp : C → C → Ordering) where
       is_connectable (record_of old q) && not (option_map_or is_eligible (record_of new q) false)
 
   -- the sorted peers that a change tears down
-  pub record AreTornDown (old new : DirectoryView C S) (torn : List C) : Type 0 where
-    pub sorted : IsStrictlySortedBy cmp torn
-    pub members : (q : C) → has_key cmp torn q ≡ is_torn_down_by old new q
+  abbrev pub AreTornDown : DirectoryView C S → DirectoryView C S → List C → Type 0
+  AreTornDown old new = Lists cmp (is_torn_down_by old new)
+
+  -- BLOCKS
+
+  -- until when a peer's block holds, if there is one
+  abbrev pub unblock_of : DirectoryView C S → C → Option ℕ
+  unblock_of d q = unblock_in cmp d.blocks q
+
+  -- a peer is blocked at a moment
+  abbrev pub is_blocked_in : DirectoryView C S → ℕ → C → Bool
+  is_blocked_in d now q = is_blocked (unblock_of d q) now
+
+  -- a block of p may be taken at a moment: p isn't the local node, and isn't blocked
+  abbrev pub may_block : DirectoryView C S → ℕ → C → Bool
+  may_block d now p =
+      not (option_map_or (λ r. is_myself r.address) (record_of d p) false)
+      && not (is_blocked_in d now p)
+
+  -- p is blocked until a moment, and all else stays
+  pub record BlocksUntil (old new : DirectoryView C S) (p : C) (moment : ℕ) : Type 0 where
+    pub config : new.config ≡ old.config
+    pub sets : new.sets ≡ old.sets
+    pub records : new.records ≡ old.records
+    pub blocks : (q : C) →
+        unblock_of new q ≡ (if is_at (cmp p) q then Some moment else unblock_of old q)
+
+  -- the blocks that hold until now, or until an earlier moment, end, and all else stays
+  pub record EndsBlocks (old new : DirectoryView C S) (now : ℕ) : Type 0 where
+    pub config : new.config ≡ old.config
+    pub sets : new.sets ≡ old.sets
+    pub records : new.records ≡ old.records
+    pub blocks : (q : C) → unblock_of new q ≡ if_later now (unblock_of old q)
+
+  -- WHO MAY COME, AND WHO MAY BE DIALLED
+
+  -- a peer that isn't blocked at a moment has a record that passes a test
+  abbrev pub is_free_and : (RecordView C S → Bool) → DirectoryView C S → ℕ → C → Bool
+  is_free_and test d now q =
+      not (is_blocked_in d now q) && option_map_or test (record_of d q) false
+
+  -- a peer that comes at a moment is granted a reservation
+  abbrev pub may_listen_in : DirectoryView C S → ℕ → C → Bool
+  may_listen_in d now q = is_free_and (may_come now) d now q
+
+  -- a dial of a peer at a moment is granted a reservation
+  abbrev pub may_dial_in : DirectoryView C S → ℕ → C → Bool
+  may_dial_in d now q =
+      is_free_and (may_be_dialled now d.config.allow_private_ips d.config.allow_dns) d now q
+
+  -- where a peer is reached, if that is known
+  abbrev pub ingress_in : DirectoryView C S → C → Option Ingress
+  ingress_in d q = option_and_then (λ r. ingress_of r.address) (record_of d q)
+
+  -- when a record's peer may be dialled, asked at a moment
+  abbrev pub dial_status_in : DirectoryView C S → ℕ → RecordView C S → DialView
+  dial_status_in d now r =
+      dial_status now d.config.allow_private_ips d.config.allow_dns r
+
+  -- a peer may be dialled at a moment
+  abbrev pub is_dialable_in : DirectoryView C S → ℕ → C → Bool
+  is_dialable_in d now q = is_free_and (λ r. is_now (dial_status_in d now r)) d now q
+
+  -- when a peer that has a record may become dialable, asked at a moment: where it is blocked once
+  -- its block ends, else at its later dial moment
+  abbrev pub query_moment_in : DirectoryView C S → ℕ → C → Option ℕ
+  query_moment_in d now q = option_and_then (λ r. if is_blocked_in d now q then unblock_of d q
+      else later_moment (dial_status_in d now r)) (record_of d q)
+
+  -- the sorted peers that may be dialled at a moment, and when to ask again
+  abbrev pub AreDialableIn : DirectoryView C S → ℕ → List C → Option ℕ → Type 0
+  AreDialableIn d now ps next =
+      Lists cmp (is_dialable_in d now) ps × IsLeastOf (query_moment_in d now) next
+
+  -- ALL PEERS OF THE SETS
+
+  -- a peer is primary in some retained set
+  abbrev pub is_primary_of : DirectoryView C S → C → Bool
+  is_primary_of d q = nat_lt 0 (set_count cmp Primary q d.sets)
+
+  -- a peer is secondary in some retained set, and primary in none
+  abbrev pub is_secondary_of : DirectoryView C S → C → Bool
+  is_secondary_of d q = nat_lt 0 (set_count cmp Secondary q d.sets) && not (is_primary_of d q)
+
+  -- some retained set has a peer
+  abbrev pub is_named_of : DirectoryView C S → C → Bool
+  is_named_of d q =
+      nat_lt 0 (set_count cmp Primary q d.sets) || nat_lt 0 (set_count cmp Secondary q d.sets)
+
+  -- the sorted peers of the retained sets: one that is primary in some is primary only
+  abbrev pub AreAllOf : DirectoryView C S → TrackedPeers C S → Type 0
+  AreAllOf d all =
+      Lists cmp (is_primary_of d) all.primary × Lists cmp (is_secondary_of d) all.secondary
+
+  -- the last retained set, and all peers
+  abbrev pub IsUpdateOf : DirectoryView C S → Option (PeerSetUpdate C S) → Type 0
+  IsUpdateOf d None = last_or None d.sets ≡ None
+  IsUpdateOf d (Some update) =
+      (last_or None d.sets ≡ Some (set_in update)) × AreAllOf d update.all

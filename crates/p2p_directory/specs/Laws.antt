@@ -1,7 +1,9 @@
--- Words of the laws of whole runs. Nothing that `run` promises rests on them.
+-- Words of the laws of whole runs. Those in GrantRuns and DialRuns, and what they rest on, are in
+-- the promises of `run`.
 pub mod Isolation
 pub mod Order
 pub mod Bounds
 pub mod Grants
 pub mod Dials
 pub mod GrantRuns
+pub mod DialRuns

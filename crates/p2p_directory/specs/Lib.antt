@@ -1,17 +1,24 @@
--- What `run` promises rests on these: read them in this order, and nothing else.
+-- What `run` promises of replies and of what is left rests on these: read them in this order.
 pub mod Calls
 pub mod Moments
+pub mod PeerSets
+pub mod Lists
+pub mod Blocks
 pub mod History
 pub mod World
 pub mod Answers
+pub mod Record
+pub mod Directory
 pub mod Refinement
 pub mod Run
--- What single calls of records, directories and what is held promise.
-pub mod Record
-pub mod PeerSets
-pub mod Directory
+-- What nodes promise rests on these, too.
+pub mod Received
+pub mod Nodes
+-- What is held of grants.
 pub mod Held
 -- The step of one accepted call: the main law and other laws alone speak of it.
 pub mod Step
+-- Laws of whole runs. What `run` says of grants, blocks and dials rests on two of them, `GrantRuns`
+-- and `DialRuns`.
 pub mod Laws
 pub mod Private

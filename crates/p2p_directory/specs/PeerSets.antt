@@ -1,6 +1,6 @@
 -- Retained sets, the oldest first, and what they say of a key.
-use Rattle.std.specs.Prelude.{ℕ, ◌≡◌, Bool, true, false, not, ◌||◌, List, nat_lt, Option, Some}
-use Rattle.std.specs.Prelude.{None}
+use Rattle.std.specs.Prelude.{ℕ, ◌≡◌, ◌==◌, Bool, true, false, not, ◌||◌, ◌+◌, List, length, nat_lt}
+use Rattle.std.specs.Prelude.{Option, Some, None, find}
 use Rattle.std.specs.List.{list_any, count_by, last_or, filter}
 use Rattle.std.specs.Option.{option_map}
 use Rattle.std.specs.declared.cmp.Ordering.{Ordering}
@@ -17,6 +17,14 @@ members Secondary set = set.secondary
 -- the index of the last set
 abbrev pub latest_index : {C : Type 0} → List (SetAt C) → Option ℕ
 latest_index sets = option_map (λ set. set.index) (last_or None sets)
+
+-- the set with an index, if there is one
+abbrev pub set_with : {C : Type 0} → ℕ → List (SetAt C) → Option (SetAt C)
+set_with index sets = find (λ set. set.index == index) sets
+
+-- the set has a peer
+abbrev pub has_peers : {C : Type 0} → SetAt C → Bool
+has_peers set = nat_lt 0 (length set.primary + length set.secondary)
 
 -- the index is above that one, if there is one
 abbrev pub is_above : ℕ → Option ℕ → Bool

@@ -50,6 +50,16 @@ dial_view dial.Now = DialView.Now
 dial_view (dial.After moment) = DialView.After (as_nanos moment)
 dial_view dial.Unavailable = DialView.Unavailable
 
+-- the peer may be dialled now
+abbrev pub is_now : DialView → Bool
+is_now DialView.Now = true
+is_now _ = false
+
+-- the moment after which the peer may be dialled, if it is not now
+abbrev pub later_moment : DialView → Option ℕ
+later_moment (DialView.After moment) = Some moment
+later_moment _ = None
+
 module _ {C S : Type 0} where
   -- A NEW RECORD
 
@@ -226,3 +236,8 @@ module _ {C S : Type 0} where
   -- its peer may be accepted: it may be connected, and is neither reserved nor connected
   abbrev pub is_acceptable : RecordView C S → Bool
   is_acceptable r = is_eligible r && is_inert r.status
+
+  -- a dial of its peer is granted at a moment: it is a candidate, and is told that it is reserved
+  abbrev pub may_be_dialled : ℕ → Bool → Bool → RecordView C S → Bool
+  may_be_dialled now allow_private_ips allow_dns r =
+      is_dial_candidate allow_private_ips allow_dns r && is_grant (reserve_answer now r)

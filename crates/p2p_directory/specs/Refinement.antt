@@ -14,6 +14,7 @@ use Rattle.p2p_directory.specs.World.{World, Known, last_ingress}
 use Rattle.p2p_directory.specs.Answers.{is_present_in}
 use Rattle.p2p_directory.specs.Record.{RecordView}
 use Rattle.p2p_directory.specs.Directory.{ConfigView, DirectoryView, record_of}
+use Rattle.p2p_directory.specs.Directory.{unblock_of}
 
 -- the metadata of a reservation of p
 abbrev pub metadata_of : {C S : Type 0} → C → Direction → Metadata C S
@@ -61,10 +62,11 @@ module _ {C S : Type 0} (s : Setup C S) where
     next_dial_at = (w.peer p).known.dial_at;
   }
 
-  -- a directory has the setup's configuration, the retained sets, and a record exactly of each
-  -- present peer
+  -- a directory has the setup's configuration, the retained sets, a record exactly of each present
+  -- peer, and the unblock moments
   pub record Refines (w : World C S) (d : DirectoryView C S) : Type 0 where
     pub config : d.config ≡ config_of
     pub sets : d.sets ≡ w.sets
     pub records : (p : C) → record_of s.cmp d p ≡
         (if is_present_in s w p then Some (record_in w p) else None)
+    pub blocks : (p : C) → unblock_of s.cmp d p ≡ w.unblock p

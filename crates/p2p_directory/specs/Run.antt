@@ -1,7 +1,7 @@
 -- The replies to a run of commands, by the calls accepted before each, and what the run leaves.
 use Rattle.std.specs.Prelude.{ℕ, ◌≡◌, Bool, true, false, not, if◌then◌else◌}
-use Rattle.std.specs.Prelude.{List, [], ◌∷◌, map, Option, None, is_some}
-use Rattle.std.specs.Option.{option_map}
+use Rattle.std.specs.Prelude.{List, [], ◌∷◌, map, Option, is_some, length, ◌<◌}
+use Rattle.std.specs.Option.{option_map, IsSomeAnd}
 use Rattle.std.specs.Duration.{as_nanos}
 use Rattle.std.specs.Int.NonZero.{non_zero_usize_get}
 use Rattle.std.specs.declared.cmp.Ordering.{Ordering}
@@ -13,15 +13,27 @@ use Rattle.p2p_directory.specs.declared.run.commands.Command.{Command}
 use Rattle.p2p_directory.specs.declared.run.commands.Command.TheVariants as command
 use Rattle.p2p_directory.specs.declared.run.commands.Reply.{Reply}
 use Rattle.p2p_directory.specs.declared.run.commands.Reply.TheVariants as reply
-use Rattle.p2p_directory.specs.Calls.{Setup, Question, Call, Event}
-use Rattle.p2p_directory.specs.Calls.Question.{StatusOf, NumberTracked, LatestIndex, InfoOf, BitsAt}
-use Rattle.p2p_directory.specs.Calls.Call.{Track, Listen, Connect, Release, Update, Ask}
-use Rattle.p2p_directory.specs.History.{is_inert, taken_sets}
-use Rattle.p2p_directory.specs.World.{World, world_at, past, event_in}
-use Rattle.p2p_directory.specs.Answers.{IsTrackAnswer, was_granted, was_taken}
-use Rattle.p2p_directory.specs.Answers.{may_connect, may_release, status_in, IsNumberTracked}
-use Rattle.p2p_directory.specs.Answers.{latest_index_in, sharable_info, set_at_place, bits_at}
+use Rattle.p2p_directory.specs.declared.directory.PeerSetUpdate.{PeerSetUpdate}
 use Rattle.p2p_directory.specs.declared.directory.Metadata.{Metadata}
+use Rattle.p2p_directory.specs.Calls.{Setup, SetAt, Question, Call, Event}
+use Rattle.p2p_directory.specs.Calls.Question.{StatusOf, NumberTracked, NextUnblock, BlockedAt}
+use Rattle.p2p_directory.specs.Calls.Question.{PeerSet, LatestIndex, AllPeers, LatestUpdate}
+use Rattle.p2p_directory.specs.Calls.Question.{InfoOf, InfosFor, BitsAt, IsEligible, IsAcceptable}
+use Rattle.p2p_directory.specs.Calls.Question.{DialableAt}
+use Rattle.p2p_directory.specs.Calls.Call.{Track, Dial, Listen, Connect, Release, Update, Block}
+use Rattle.p2p_directory.specs.Calls.Call.{UnblockExpired, Ask}
+use Rattle.p2p_directory.specs.PeerSets.{has_peers}
+use Rattle.p2p_directory.specs.Lists.{Somebody}
+use Rattle.p2p_directory.specs.History.{is_inert, is_named, taken_sets}
+use Rattle.p2p_directory.specs.World.{World, world_at, past, event_in}
+use Rattle.p2p_directory.specs.Answers.{IsTrackAnswer, was_granted, was_taken, was_blocked}
+use Rattle.p2p_directory.specs.Answers.{may_connect, may_release, status_in, IsNumberTracked}
+use Rattle.p2p_directory.specs.Answers.{set_with_index, set_at_place, latest_index_in, bits_at}
+use Rattle.p2p_directory.specs.Answers.{AreAll, IsLatestUpdate, sharable_info, infos_for}
+use Rattle.p2p_directory.specs.Answers.{is_blocked_at}
+use Rattle.p2p_directory.specs.Answers.{AreBlocked, IsNextUnblock, IsAnyExpired, is_eligible_at}
+use Rattle.p2p_directory.specs.Answers.{is_acceptable_at, is_dialable, IsDialable}
+use Rattle.p2p_directory.specs.Directory.{peers_of, set_in}
 use Rattle.p2p_directory.specs.Refinement.{metadata_of}
 
 -- WHAT A RUN IS GIVEN
@@ -44,27 +56,39 @@ setup_of cmp bootstrappers myself cfg = record {
 -- the call that a command makes, if it is accepted
 abbrev pub call_of : {C S : Type 0} → Command C S → Call C S
 call_of (command.Track index peers) = Track index peers.primary peers.secondary
+call_of (command.Dial p now draw) = Dial p (as_nanos now) (as_nanos draw)
 call_of (command.Listen p now draw) = Listen p (as_nanos now) (as_nanos draw)
 call_of (command.Connect p dialer) = Connect p dialer
 call_of (command.Release p) = Release p
 call_of (command.UpdatePeers infos) = Update infos.items
+call_of (command.Block p now) = Block p (as_nanos now)
+call_of (command.UnblockExpired now) = UnblockExpired (as_nanos now)
+call_of command.NextUnblock = Ask NextUnblock
+call_of (command.BlockedPeers now) = Ask (BlockedAt (as_nanos now))
 call_of (command.Status p) = Ask (StatusOf p)
+call_of (command.GetPeerSet index) = Ask (PeerSet index)
 call_of command.LatestSetIndex = Ask LatestIndex
+call_of command.LatestUpdate = Ask LatestUpdate
+call_of command.All = Ask AllPeers
 call_of (command.Info p) = Ask (InfoOf p)
+call_of (command.Infos v now) = Ask (InfosFor v.index v.bits (as_nanos now))
 call_of (command.GetRandomBitVec place) = Ask (BitsAt place)
+call_of (command.Eligible p now) = Ask (IsEligible p (as_nanos now))
+call_of (command.Acceptable p now) = Ask (IsAcceptable p (as_nanos now))
+call_of (command.Dialable now) = Ask (DialableAt (as_nanos now))
 call_of command.Tracked = Ask NumberTracked
 
 -- .. one for each command, in order
 abbrev pub calls_of : {C S : Type 0} → List (Command C S) → List (Call C S)
 calls_of commands = map call_of commands
 
--- nobody has an unblock moment: no command blocks yet
-abbrev pub HasNoBlock : {C S : Type 0} → World C S → Type 0
-HasNoBlock {C} w = (p : C) → w.unblock p ≡ None
-
 -- an index and its bits, as one value
 abbrev pub bit_vec_of : ℕ × List Bool → BitVec
 bit_vec_of (index, bits) = record { index = index; bits = bits }
+
+-- what an update tells: the last retained set, and the primary and secondary peers of all
+abbrev pub update_in : {C S : Type 0} → PeerSetUpdate C S → SetAt C × List C × List C
+update_in update = (set_in update, update.all.primary, update.all.secondary)
 
 module _ {C S : Type 0} (s : Setup C S) where
   -- the bits of the set at a place in the world w, with its index, if there is one
@@ -77,38 +101,67 @@ module _ {C S : Type 0} (s : Setup C S) where
   -- the reply to a question
   abbrev pub Informs : World C S → Question C → Reply C S → Type 0
   Informs w (StatusOf p) r = r ≡ reply.Status (status_in s w p)
-  Informs w LatestIndex r = r ≡ reply.LatestSetIndex (latest_index_in s w)
-  Informs w (InfoOf p) r = r ≡ reply.Info (sharable_info s w p)
-  Informs w (BitsAt place) r = r ≡ reply.GetRandomBitVec (bit_vec_in w place)
   Informs w NumberTracked (reply.Tracked n) = IsNumberTracked s w n
+  Informs w NextUnblock (reply.NextUnblock moment) =
+      IsNextUnblock s w (option_map as_nanos moment)
+  Informs w (BlockedAt t) (reply.BlockedPeers peers) = AreBlocked s w t peers
+  Informs w (PeerSet index) r =
+      r ≡ reply.GetPeerSet (option_map peers_of (set_with_index s w index))
+  Informs w LatestIndex r = r ≡ reply.LatestSetIndex (latest_index_in s w)
+  Informs w AllPeers (reply.All all) = AreAll s w all.primary all.secondary
+  Informs w LatestUpdate (reply.LatestUpdate update) =
+      IsLatestUpdate s w (option_map update_in update)
+  Informs w (InfoOf p) r = r ≡ reply.Info (sharable_info s w p)
+  Informs w (InfosFor index bits t) (reply.Infos infos) =
+      option_map (λ v. v.items) infos ≡ infos_for s w index bits t
+  Informs w (BitsAt place) r = r ≡ reply.GetRandomBitVec (bit_vec_in w place)
+  Informs w (IsEligible p t) r = r ≡ reply.Eligible (is_eligible_at s w p t)
+  Informs w (IsAcceptable p t) r = r ≡ reply.Acceptable (is_acceptable_at s w p t)
+  Informs w (DialableAt t) (reply.Dialable answer) =
+      IsDialable s w t answer.peers.items (option_map as_nanos answer.next_query_at)
   Informs w _ r = ⊥
 
   -- the reply to a call that is made
   abbrev pub Replies : Event C S → World C S → World C S → Call C S → Reply C S → Type 0
   Replies e w v (Track index primary secondary) (reply.Track torn) = IsTrackAnswer s e w v torn
+  Replies e w v (Dial p t draw) r = r ≡ reply.Dial (was_granted e)
   Replies e w v (Listen p t draw) r = r ≡ reply.Listen (was_granted e)
   Replies e w v (Connect p dialer) r =
       r ≡ (if may_connect s w p then reply.Connect else reply.NotReserved)
   Replies e w v (Release p) r = r ≡ (if may_release s w p then reply.Release else reply.NotHeld)
   Replies e w v (Update infos) r = r ≡ reply.UpdatePeers
+  Replies e w v (Block p t) r = r ≡ reply.Block (was_blocked e)
+  Replies e w v (UnblockExpired t) (reply.UnblockExpired some) = IsAnyExpired s w t some
   Replies e w v (Ask question) r = Informs w question r
   Replies e w v _ r = ⊥
 
-  -- which questions may want memory: for an info where there is one, for bits where there is a set
-  abbrev pub may_want_to_tell : World C S → Question C → Bool
-  may_want_to_tell w (InfoOf p) = is_some (sharable_info s w p)
-  may_want_to_tell w (BitsAt place) = is_some (set_at_place s w place)
-  may_want_to_tell w _ = false
+  -- which questions may want memory: for an info, infos or bits where there are some, and for a
+  -- list or the peers of a set where somebody is listed
+  abbrev pub MayWantToTell : World C S → Question C → Type 0
+  MayWantToTell w (BlockedAt t) = Somebody (is_blocked_at s w t)
+  MayWantToTell w (PeerSet index) =
+      IsSomeAnd (set_with_index s w index) (λ x. has_peers x ≡ true)
+  MayWantToTell w LatestUpdate = Somebody (λ p. is_named s p w.sets)
+  MayWantToTell w AllPeers = Somebody (λ p. is_named s p w.sets)
+  MayWantToTell w (InfoOf p) = is_some (sharable_info s w p) ≡ true
+  MayWantToTell w (InfosFor index bits t) =
+      IsSomeAnd (infos_for s w index bits t) (λ infos. 0 < length infos)
+  MayWantToTell w (BitsAt place) = is_some (set_at_place s w place) ≡ true
+  MayWantToTell w (DialableAt t) = Somebody (is_dialable s w t)
+  MayWantToTell w _ = ⊥
 
-  -- which calls may want memory: a track that is taken, such a question, and no other
-  abbrev pub may_want_memory : Event C S → World C S → Call C S → Bool
-  may_want_memory e w (Track index primary secondary) = was_taken e
-  may_want_memory e w (Ask question) = may_want_to_tell w question
-  may_want_memory e w _ = false
+  -- which calls may want memory: a track or block that is taken, a dial that is granted, such a
+  -- question, and no other
+  abbrev pub MayWantMemory : Event C S → World C S → Call C S → Type 0
+  MayWantMemory e w (Track index primary secondary) = was_taken e ≡ true
+  MayWantMemory e w (Dial p t draw) = was_granted e ≡ true
+  MayWantMemory e w (Block p t) = was_blocked e ≡ true
+  MayWantMemory e w (Ask question) = MayWantToTell w question
+  MayWantMemory e w _ = ⊥
 
   -- want of memory where it is allowed, else the reply
   abbrev pub MayReply : Event C S → World C S → World C S → Call C S → Reply C S → Type 0
-  MayReply e w v c reply.OutOfMemory = may_want_memory e w c ≡ true
+  MayReply e w v c reply.OutOfMemory = MayWantMemory e w c
   MayReply e w v c r = Replies e w v c r
 
   -- the world that these calls make

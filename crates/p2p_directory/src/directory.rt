@@ -1,24 +1,28 @@
 //! The directory of peers: the retained sets, and a record of each peer that is in one of them,
 //! persistent, reserved or connected.
 
-ghost use Rattle.std.specs.Prelude.{◌≡◌, ◌<◌, ◌^◌, ◌-◌, [], false, true, Some, None};
+ghost use Rattle.std.specs.Prelude.{ℕ, ◌≡◌, ◌<◌, ◌≤◌, ◌^◌, ◌+◌, ◌-◌, [], false, true, Some, None};
 ghost use Rattle.std.specs.Prelude.{IfSome, IfNone, IfOk, IsOk, OnErr, is_some, length, slice_get};
 ghost use Rattle.std.specs.List.Sorted.{IsStrictlySortedBy};
-ghost use Rattle.std.specs.Option.{option_map, option_map_or};
+ghost use Rattle.std.specs.Option.{option_map, IsSomeAnd};
 ghost use Rattle.std.specs.BTreeMap.{is_at};
 ghost use Rattle.std.specs.Map.{keys_of};
 ghost use Rattle.std.specs.Duration.{as_nanos};
 ghost use Rattle.std.specs.Int.NonZero.{non_zero_usize_get};
 ghost use Rattle.p2p_discovery.specs.Ingress.{takes_none};
-ghost use Rattle.p2p_directory.specs.Record.{may_come};
 ghost use Rattle.p2p_directory.specs.PeerSets.{set_of, latest_index, is_above};
-ghost use Rattle.p2p_directory.specs.Directory.{record_at};
+ghost use Rattle.p2p_directory.specs.Directory.{record_at, peers_of};
+ghost use Rattle.p2p_directory.specs.PeerSets.{has_peers};
+ghost use Rattle.p2p_directory.specs.Private.Window.{plain_set};
 
+use crate::directory::blocked::blocked_at;
+use crate::directory::infos::{epoch_millis, shared_for};
 use crate::directory::records::Records;
 use crate::directory::track::{add, drop_oldest};
 use crate::directory::update::update_each;
+use crate::kept::blocks::Blocks;
 use crate::kept::{PeerSet, Window};
-use crate::record::Status;
+use crate::record::{Dialable, Status};
 use p2p_discovery::codec::PublicKey;
 use p2p_discovery::discovery::{BitVec, Info};
 use p2p_discovery::sets::OrderedSet;
@@ -28,6 +32,8 @@ use std::marker::Model;
 use std::num::NonZeroUsize;
 use std::time::Duration;
 
+pub(crate) mod blocked;
+mod infos;
 pub(crate) mod records;
 #[cfg(test)]
 mod tests;
@@ -52,7 +58,7 @@ pub struct Config {
 }
 
 /// The peers of one set, by role.
-#[derive(Drop)]
+#[derive(Debug, Drop)]
 pub struct TrackedPeers<C: PublicKey> {
     /// The primary peers.
     pub primary: OrderedSet<C>,
@@ -67,6 +73,17 @@ impl<C: PublicKey> TrackedPeers<C> {
     {
         TrackedPeers { primary, secondary }
     }
+}
+
+/// What is told of the latest set: its index and its peers, and the peers of all retained sets.
+#[derive(Debug, Drop)]
+pub struct PeerSetUpdate<C: PublicKey> {
+    /// The index of the latest set.
+    pub index: u64,
+    /// The peers of the latest set.
+    pub latest: TrackedPeers<C>,
+    /// The peers of all retained sets: one that is primary in some is primary only.
+    pub all: TrackedPeers<C>,
 }
 
 /// Whom a reservation is for, and in which direction the connection goes.
@@ -116,12 +133,14 @@ impl<P: PublicKey> Reservation<P> {
 }
 
 /// The directory of peers. A contract sees its configuration, its retained sets, the oldest first,
-/// and for each key what is kept of the peer: its record, or nothing.
+/// and for each key what is kept of the peer, its record or nothing, and until when it is blocked,
+/// if it is.
 #[derive(Drop)]
 pub struct Directory<C: PublicKey> {
     config: Config,
     sets: Window<C>,
     records: Records<C>,
+    blocks: Blocks<C>,
 }
 
 impl<C: PublicKey> Model for Directory<C> {
@@ -136,6 +155,7 @@ impl<C: PublicKey> Model for Directory<C> {
       config = config_view d.config;
       sets = plain_sets d.sets;
       records = d.records;
+      blocks = d.blocks;
     } };
 
     ghost invariant = { λ d. IsInvariant C.cmp (non_zero_usize_get d.config.max_sets)
@@ -147,10 +167,21 @@ impl<C: PublicKey> Directory<C> {
     ghost use Rattle.p2p_directory.specs.Directory.{IsBusy, IsReserved, StayBusy, StayReserved};
     ghost use Rattle.p2p_directory.specs.Directory.{Reserves, Releases, Connects, Updates};
     ghost use Rattle.p2p_directory.specs.Directory.{TakesSet, AreTornDown};
-    ghost use Rattle.p2p_directory.specs.Directory.{sharable_in, bit_vec_at, other_keys};
+    ghost use Rattle.p2p_directory.specs.Directory.{sharable_in, infos_in, bit_vec_at, other_keys};
+    ghost use Rattle.p2p_directory.specs.Directory.{unblock_of, is_blocked_in, may_block};
+    ghost use Rattle.p2p_directory.specs.Directory.{BlocksUntil, EndsBlocks, is_free_and};
+    ghost use Rattle.p2p_directory.specs.Directory.{may_listen_in, may_dial_in, ingress_in};
+    ghost use Rattle.p2p_directory.specs.Directory.{peer_set_in, is_named_of, AreAllOf, IsUpdateOf};
+    ghost use Rattle.p2p_directory.specs.Directory.{is_dialable_in, AreDialableIn};
+    ghost use Rattle.p2p_directory.specs.Lists.{Lists, IsLeastOf, Somebody};
+    ghost use Rattle.p2p_directory.specs.Blocks.{IsAnyUntil};
+    ghost use Rattle.p2p_directory.specs.Laws.Dials.{IsBefore};
+    ghost use Rattle.p2p_directory.specs.Moments.{cap};
+    ghost use Rattle.p2p_directory.specs.Record.{is_eligible, is_acceptable};
+    ghost use Rattle.p2p_directory.specs.PeerSets.{has_peers, set_with};
 
-    /// A directory that retains no set. Its records are the own one and those of the
-    /// bootstrappers: a later bootstrapper of the same key replaces an earlier one, and the own
+    /// A directory that retains no set and blocks nobody. Its records are the own one and those of
+    /// the bootstrappers: a later bootstrapper of the same key replaces an earlier one, and the own
     /// record one of its key.
     ///
     /// # Conditions
@@ -173,6 +204,7 @@ impl<C: PublicKey> Directory<C> {
         requires { non_zero_usize_get cfg.max_sets < 2 ^ 64 - 1 }
         ensures config { IfOk result (λ d. d.config ≡ config_view cfg) }
         ensures sets { IfOk result (λ d. d.sets ≡ []) }
+        ensures blocks { IfOk result (λ d. d.blocks ≡ []) }
         ensures records { IfOk result (λ d. (q : C) →
             record_of C.cmp d q ≡ first_record C.cmp bootstrappers.items myself q) }
     {
@@ -181,6 +213,7 @@ impl<C: PublicKey> Directory<C> {
             config: cfg,
             sets: Window::new(alloc),
             records,
+            blocks: Blocks::new(alloc),
         })
     }
 
@@ -228,20 +261,73 @@ impl<C: PublicKey> Directory<C> {
         Ok(Some(drop_oldest(&mut self.sets, &mut self.records, max_sets, torn)))
     }
 
+    /// Reserves the peer for a dial at the moment `now`, a time since the epoch, at the address
+    /// that is known of it.
+    ///
+    /// Answers `None`, takes no memory and changes nothing where the peer is blocked or has no
+    /// record, its dial status is [`Unavailable`](crate::record::DialStatus::Unavailable), or `now`
+    /// is before its reservable moment. The dial moment is not asked for. Else the peer is reserved
+    /// and its moments are set as by [`Record::reserve`](crate::record::Record::reserve), with the
+    /// draw; the reservation has the very address that is to be dialled. Whoever is reserved or
+    /// connected stays so.
+    ///
+    /// # Errors
+    ///
+    /// `AllocError` where memory for that address, a name, is refused; then nothing has changed.
+    ///
+    /// # Cost
+    ///
+    /// One search among the blocks, and one among the records.
+    pub fn dial(
+        &mut self,
+        peer: &C,
+        now: Duration,
+        draw: Duration,
+    ) -> Result<Option<Reservation<C>>, AllocError>
+        ensures err { OnErr result (self.new ≡ self.old) }
+        ensures none { may_dial_in C.cmp self.old (as_nanos now) peer.now ≡ false →
+            result ≡ Ok None }
+        ensures socket { IfSome (ingress_in C.cmp self.old peer.now)
+            (λ ingress. takes_none ingress ≡ true → IsOk result) }
+        ensures answer { IfOk result (λ reservation. is_some reservation ≡
+            may_dial_in C.cmp self.old (as_nanos now) peer.now) }
+        ensures refused { IfOk result (λ reservation. IfNone reservation (self.new ≡ self.old)) }
+        ensures reservation { IfOk result (λ reservation. IfSome reservation (λ metadata.
+            option_map (Metadata.Dialer peer.now) (ingress_in C.cmp self.old peer.now)
+            ≡ Some metadata)) }
+        ensures granted { IfOk result (λ reservation. IfSome reservation (λ _.
+            Reserves C.cmp self.old self.new peer.now (as_nanos now) (as_nanos draw))) }
+        ensures is_busy { IfOk result (λ reservation. IfSome reservation (λ metadata.
+            IsBusy C.cmp self.new (key_of metadata))) }
+        ensures is_reserved { IfOk result (λ reservation. IfSome reservation (λ metadata.
+            IsReserved C.cmp self.new (key_of metadata))) }
+        ensures busy { StayBusy C.cmp self.old self.new }
+        ensures reserved { StayReserved C.cmp self.old self.new }
+    {
+        if self.is_blocked(peer, now) {
+            return Ok(None);
+        }
+        match self.records.dial(peer, now, draw, &self.config)? {
+            Some(ingress) => Ok(Some(Reservation {
+                metadata: Metadata::Dialer(*peer, ingress),
+            })),
+            None => Ok(None),
+        }
+    }
+
     /// Reserves the peer for a connection that it asks for at the moment `now`, a time since the
     /// epoch.
     ///
-    /// Answers `None` and changes nothing where there is no record of the peer, or it is not
+    /// Answers `None` and changes nothing where the peer is blocked or has no record, it is not
     /// eligible, not inert, or `now` is before its reservable moment. Else the peer is reserved and
     /// its moments are set as by [`Record::reserve`](crate::record::Record::reserve), with the
     /// draw. Whoever is reserved or connected stays so. Takes no memory.
     ///
     /// # Cost
     ///
-    /// One search among the records.
+    /// One search among the blocks, and one among the records.
     pub fn listen(&mut self, peer: &C, now: Duration, draw: Duration) -> Option<Reservation<C>>
-        ensures answer { is_some result ≡ option_map_or (may_come (as_nanos now))
-            (record_of C.cmp self.old peer.now) false }
+        ensures answer { is_some result ≡ may_listen_in C.cmp self.old (as_nanos now) peer.now }
         ensures refused { IfNone result (self.new ≡ self.old) }
         ensures reservation { IfSome result (λ reservation.
             reservation ≡ Metadata.Listener peer.now) }
@@ -254,6 +340,9 @@ impl<C: PublicKey> Directory<C> {
         ensures busy { StayBusy C.cmp self.old self.new }
         ensures reserved { StayReserved C.cmp self.old self.new }
     {
+        if self.is_blocked(peer, now) {
+            return None;
+        }
         let cooldown = self.config.peer_connection_cooldown;
         if !self.records.reserve(peer, now, draw, cooldown) {
             return None;
@@ -350,6 +439,46 @@ impl<C: PublicKey> Directory<C> {
         }
     }
 
+    /// The infos for one who knows these bits, asked at the moment `now`, a time since the epoch:
+    /// of the primary peers of the retained set with the index whose bit is false, in their order,
+    /// those infos that others may be told and whose timestamp is not above the whole milliseconds
+    /// of `now`.
+    ///
+    /// Answers an empty list where no retained set has the index, and `None` where the bits are of
+    /// another number than its primary peers. Takes memory only where an info is shared: the room
+    /// for the list once, and that of ingresses that are names.
+    ///
+    /// # Errors
+    ///
+    /// `AllocError` where memory is refused; that is, where an info is shared.
+    ///
+    /// # Cost
+    ///
+    /// One pass over the retained sets, and for each primary peer of that one two searches among
+    /// the records.
+    pub fn infos(&self, bit_vec: &BitVec, now: Duration) -> Result<Option<Vec<Info<C>>>, AllocError>
+        ensures infos { IfOk result (λ infos. option_map (λ v. v.items) infos
+            ≡ infos_in C.cmp self.now bit_vec.now.index bit_vec.now.bits (as_nanos now)) }
+        ensures err { OnErr result (IsSomeAnd
+            (infos_in C.cmp self.now bit_vec.now.index bit_vec.now.bits (as_nanos now))
+            (λ infos. 0 < length infos)) }
+    {
+        let alloc = self.sets.allocator();
+        match self.sets.get(bit_vec.index) {
+            Some(set) => {
+                let peers = set.primary().ordered();
+                shared_for(
+                    alloc,
+                    &self.records,
+                    peers,
+                    &bit_vec.bits,
+                    epoch_millis(now),
+                )
+            }
+            None => Ok(Some(Vec::new(alloc))),
+        }
+    }
+
     /// The bits of the retained set at a place, counted from 0 in order of index, with its index:
     /// for each primary peer in order whether its info is known, and not wanted. `None` where there
     /// is no such place.
@@ -406,4 +535,230 @@ impl<C: PublicKey> Directory<C> {
     {
         self.sets.latest_index()
     }
+    /// Blocks the peer from the moment `now` on, a time since the epoch, for the duration of the
+    /// configuration, whether there is a record of it or not. The sum is capped at the greatest
+    /// `Duration`.
+    ///
+    /// Answers false, takes no memory and changes nothing for the local node, or a peer that is
+    /// blocked at `now`. Else it answers true, and the peer is blocked until then; an earlier block
+    /// that had ended is replaced. A connection of the peer stays.
+    ///
+    /// # Errors
+    ///
+    /// `AllocError` where memory is refused; then nothing has changed.
+    ///
+    /// # Cost
+    ///
+    /// One search among the records, and two among the blocks.
+    pub fn block(&mut self, peer: &C, now: Duration) -> Result<bool, AllocError>
+        ensures err { OnErr result (self.new ≡ self.old) }
+        ensures untaken { may_block C.cmp self.old (as_nanos now) peer.now ≡ false →
+            result ≡ Ok false }
+        ensures answer { IfOk result (λ taken.
+            taken ≡ may_block C.cmp self.old (as_nanos now) peer.now) }
+        ensures refused { result ≡ Ok false → self.new ≡ self.old }
+        ensures taken { result ≡ Ok true → BlocksUntil C.cmp self.old self.new peer.now
+            (cap (as_nanos now + self.old.config.block_duration)) }
+        ensures busy { StayBusy C.cmp self.old self.new }
+        ensures reserved { StayReserved C.cmp self.old self.new }
+    {
+        if !self.records.is_blockable(peer) || self.is_blocked(peer, now) {
+            return Ok(false);
+        }
+        let until = now.saturating_add(self.config.block_duration);
+        self.blocks.put(*peer, until)?;
+        Ok(true)
+    }
+
+    /// Ends the blocks that hold until the moment `now`, a time since the epoch, or until an
+    /// earlier one, and answers whether there were any. All else stays. Takes no memory.
+    ///
+    /// # Cost
+    ///
+    /// One pass over the blocks.
+    pub fn unblock_expired(&mut self, now: Duration) -> bool
+        ensures answer { IsAnyUntil (unblock_of C.cmp self.old) (as_nanos now) result }
+        ensures ended { EndsBlocks C.cmp self.old self.new (as_nanos now) }
+        ensures busy { StayBusy C.cmp self.old self.new }
+        ensures reserved { StayReserved C.cmp self.old self.new }
+    {
+        self.blocks.drop_until(now) > 0
+    }
+
+    /// The least moment until which a block holds, as the time since the epoch, or `None` where
+    /// there is no block. A block that has ended counts until [`Directory::unblock_expired`] ends
+    /// it. Takes no memory.
+    ///
+    /// # Cost
+    ///
+    /// One pass over the blocks.
+    pub fn next_unblock(&self) -> Option<Duration>
+        ensures { IsLeastOf (unblock_of C.cmp self.now) (option_map as_nanos result) }
+    {
+        match self.blocks.least() {
+            Some((_, moment)) => Some(moment),
+            None => None,
+        }
+    }
+
+    /// The peers that are blocked at the moment `now`, a time since the epoch: those whose block
+    /// holds until later.
+    ///
+    /// # Errors
+    ///
+    /// `AllocError` where memory is refused; that is, where somebody is blocked.
+    ///
+    /// # Cost
+    ///
+    /// One pass over the blocks, and one sort of the peers.
+    pub fn blocked_peers(&self, now: Duration) -> Result<OrderedSet<C>, AllocError>
+        ensures peers { IfOk result (Lists C.cmp (is_blocked_in C.cmp self.now (as_nanos now))) }
+        ensures err { OnErr result (Somebody (is_blocked_in C.cmp self.now (as_nanos now))) }
+    {
+        blocked_at(self.sets.allocator(), &self.blocks, now)
+    }
+
+    /// The peers of the retained set with an index, by role, or `None` where there is no such set.
+    ///
+    /// # Errors
+    ///
+    /// `AllocError` where memory is refused; that is, where the set has a peer.
+    ///
+    /// # Cost
+    ///
+    /// One pass over the retained sets, and over the peers of that one.
+    pub fn get_peer_set(&self, index: u64) -> Result<Option<TrackedPeers<C>>, AllocError>
+        ensures peers { IfOk result (λ peers. peers ≡ peer_set_in self.now index) }
+        ensures err { OnErr result (IsSomeAnd (set_with index self.now.sets)
+            (λ set. has_peers set ≡ true)) }
+    {
+        match self.sets.get(index) {
+            Some(set) => Ok(Some(peers_in(set)?)),
+            None => Ok(None),
+        }
+    }
+
+    /// The latest set with its index, and the peers of all retained sets, or `None` where no set
+    /// was taken.
+    ///
+    /// # Errors
+    ///
+    /// `AllocError` where memory is refused; that is, where a retained set has a peer.
+    ///
+    /// # Cost
+    ///
+    /// That of [`Directory::all`], and one pass over the peers of the latest set.
+    pub fn latest_update(&self) -> Result<Option<PeerSetUpdate<C>>, AllocError>
+        ensures update { IfOk result (IsUpdateOf C.cmp self.now) }
+        ensures err { OnErr result (Somebody (is_named_of C.cmp self.now)) }
+    {
+        match self.sets.last() {
+            Some(set) => Ok(Some(PeerSetUpdate {
+                index: set.index(),
+                latest: peers_in(set)?,
+                all: self.all()?,
+            })),
+            None => Ok(None),
+        }
+    }
+
+    /// The peers of all retained sets, by role: one that is primary in some set is primary only.
+    ///
+    /// # Errors
+    ///
+    /// `AllocError` where memory is refused; that is, where a retained set has a peer.
+    ///
+    /// # Cost
+    ///
+    /// One pass over the records, and one sort of each list.
+    pub fn all(&self) -> Result<TrackedPeers<C>, AllocError>
+        ensures peers { IfOk result (AreAllOf C.cmp self.now) }
+        ensures err { OnErr result (Somebody (is_named_of C.cmp self.now)) }
+    {
+        self.records.all(self.sets.allocator())
+    }
+
+    /// Whether the peer may be connected at the moment `now`, a time since the epoch: it is not
+    /// blocked, and its record is eligible. False where there is no record. Takes no memory.
+    ///
+    /// # Cost
+    ///
+    /// One search among the blocks, and one among the records.
+    pub fn eligible(&self, peer: &C, now: Duration) -> bool
+        ensures { result ≡ is_free_and C.cmp is_eligible self.now (as_nanos now) peer.now }
+    {
+        match self.records.get(peer) {
+            Some(found) => !self.is_blocked(peer, now) && found.eligible(),
+            None => false,
+        }
+    }
+
+    /// Whether a connection of the peer may be accepted at the moment `now`, a time since the
+    /// epoch: it is not blocked, and its record is acceptable. False where there is no record.
+    /// Takes no memory.
+    ///
+    /// # Cost
+    ///
+    /// One search among the blocks, and one among the records.
+    pub fn acceptable(&self, peer: &C, now: Duration) -> bool
+        ensures { result ≡ is_free_and C.cmp is_acceptable self.now (as_nanos now) peer.now }
+    {
+        match self.records.get(peer) {
+            Some(found) => !self.is_blocked(peer, now) && found.acceptable(),
+            None => false,
+        }
+    }
+
+    /// The peers that may be dialled at the moment `now`, a time since the epoch, in ascending
+    /// order: those whose dial status is [`Now`](crate::record::DialStatus::Now) and that are not
+    /// blocked. With them the moment from which it is worth to ask again: the least of the unblock
+    /// moments of blocked peers that have a record, and of the dial moments of the others whose
+    /// status is [`After`](crate::record::DialStatus::After). While nothing is called in between,
+    /// the answer stays the same up to before that moment, and for ever where there is none.
+    ///
+    /// # Errors
+    ///
+    /// `AllocError` where memory is refused; that is, where somebody may be dialled.
+    ///
+    /// # Cost
+    ///
+    /// One pass over the records, with one search among the blocks for each.
+    pub fn dialable(&self, now: Duration) -> Result<Dialable<C>, AllocError>
+        ensures dialable { IfOk result (λ answer. AreDialableIn C.cmp self.now (as_nanos now)
+            answer.peers.items (option_map as_nanos answer.next_query_at)) }
+        ensures quiet { IfOk result (λ answer. (u : ℕ) → as_nanos now ≤ u →
+            IsBefore u (option_map as_nanos answer.next_query_at) →
+            AreDialableIn C.cmp self.now u
+            answer.peers.items (option_map as_nanos answer.next_query_at)) }
+        ensures err { OnErr result (Somebody (is_dialable_in C.cmp self.now (as_nanos now))) }
+    {
+        self.records
+            .dialable(self.sets.allocator(), &self.blocks, now, &self.config)
+    }
+
+    // The allocator of its collections.
+    pub(crate) fn allocator(&self) -> Global {
+        self.sets.allocator()
+    }
+
+    // Whether the peer is blocked at a moment.
+    fn is_blocked(&self, peer: &C, now: Duration) -> bool
+        ensures { result ≡ is_blocked_in C.cmp self.now (as_nanos now) peer.now }
+    {
+        match self.blocks.get(peer) {
+            Some(until) => now.as_nanos() < until.as_nanos(),
+            None => false,
+        }
+    }
+}
+
+// The peers of a set, by role.
+fn peers_in<C: PublicKey>(set: &PeerSet<C>) -> Result<TrackedPeers<C>, AllocError>
+    ensures peers { IfOk result (λ peers. peers ≡ peers_of (plain_set set.now)) }
+    ensures err { OnErr result (has_peers (plain_set set.now) ≡ true) }
+{
+    Ok(TrackedPeers {
+        primary: set.primary().ordered().clone()?,
+        secondary: set.secondary().clone()?,
+    })
 }

@@ -1,9 +1,9 @@
 //! What is retained of peer sets, with a bit beside each primary peer. It knows nothing of records.
 
 ghost use Rattle.std.specs.Prelude.{◌≡◌, ◌++◌, ◌∷◌, [], true, false, not, map, length, slice_get};
-ghost use Rattle.std.specs.Prelude.{IfNone, IfOk, IfErr, OnErr, OnOk, Some, if◌then◌else◌};
+ghost use Rattle.std.specs.Prelude.{IfNone, IfOk, IfErr, OnErr, OnOk, Some, None, if◌then◌else◌};
 ghost use Rattle.std.specs.Prelude.{option_to_list, ◌≤◌};
-ghost use Rattle.std.specs.List.{filter, count_by, slice_set};
+ghost use Rattle.std.specs.List.{filter, count_by, slice_set, last_or};
 ghost use Rattle.std.specs.Map.{keys_of};
 ghost use Rattle.std.specs.Option.{option_copied};
 ghost use Rattle.p2p_discovery.specs.BitSets.{with_bit};
@@ -19,6 +19,8 @@ use p2p_discovery::sets::{BitSet, OrderedSet, SetError};
 use std::alloc::{AllocError, Global};
 use std::collections::VecDeque;
 use std::marker::Model;
+
+pub mod blocks;
 
 /// Lets a value go. Its drop, which branches on what it holds, stands here and not in the caller.
 pub fn forget<T: Drop>(_value: T) {}
@@ -209,6 +211,13 @@ impl<C: PublicKey> Window<C> {
         ensures { option_copied result ≡ set_at self.now index }
     {
         set_with_index(&self.sets, index)
+    }
+
+    /// The latest set.
+    pub fn last(&self) -> Option<&PeerSet<C>>
+        ensures { option_copied result ≡ last_or None self.now }
+    {
+        self.sets.back()
     }
 
     /// The index of the latest set.

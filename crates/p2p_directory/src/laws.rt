@@ -9,7 +9,8 @@ ghost use Rattle.p2p_directory.specs.Calls.Call.{Update};
 ghost use Rattle.p2p_directory.specs.History.{taken_sets};
 ghost use Rattle.p2p_directory.specs.World.{World, world_at, past};
 ghost use Rattle.p2p_directory.specs.Step.{step, new_known};
-ghost use Rattle.p2p_directory.specs.Answers.{is_present_in, Lists, IsLeastOf, IsNumberTracked};
+ghost use Rattle.p2p_directory.specs.Lists.{Lists, IsLeastOf};
+ghost use Rattle.p2p_directory.specs.Answers.{is_present_in, IsNumberTracked};
 ghost use Rattle.p2p_directory.specs.Answers.{is_torn_down, IsDialable};
 ghost use Rattle.p2p_directory.specs.Laws.Isolation.{SameFor, AnswersAlike, left_for};
 ghost use Rattle.p2p_directory.specs.Laws.Isolation.{is_on_another, narrowed};
@@ -19,7 +20,8 @@ ghost use Rattle.p2p_directory.specs.Laws.Grants.{KeepsCooldown, NeverGoBack, Ke
 ghost use Rattle.p2p_directory.specs.Laws.Dials.{AreChosen, AreDialled, IsBefore};
 ghost use Rattle.p2p_directory.specs.declared.run.commands.Reply.{Reply};
 ghost use Rattle.p2p_directory.specs.Run.{AreAnswers};
-ghost use Rattle.p2p_directory.specs.Laws.GrantRuns.{KeepCooldown};
+ghost use Rattle.p2p_directory.specs.Laws.GrantRuns.{KeepCooldown, GoForward, KeepBlocks};
+ghost use Rattle.p2p_directory.specs.Laws.DialRuns.{KeepDialable};
 
 use p2p_discovery::codec::PublicKey;
 
@@ -36,9 +38,9 @@ pub fn recomputed_is_one_step<C: PublicKey>()
 /// the tracked keys of a world, is the only one.
 pub fn answers_are_determined<C: PublicKey>()
     ensures lists { (s : Setup C C.Signature) → s.cmp ≡ C.cmp →
-        (test : C → Bool) (xs ys : List C) → Lists s test xs → Lists s test ys → xs ≡ ys }
+        (test : C → Bool) (xs ys : List C) → Lists s.cmp test xs → Lists s.cmp test ys → xs ≡ ys }
     ensures moments { (s : Setup C C.Signature) (moment : C → Option ℕ) (a b : Option ℕ) →
-        IsLeastOf s moment a → IsLeastOf s moment b → a ≡ b }
+        IsLeastOf moment a → IsLeastOf moment b → a ≡ b }
     ensures numbers { (s : Setup C C.Signature) → s.cmp ≡ C.cmp →
         (w : World C C.Signature) (m n : ℕ) → IsNumberTracked s w m → IsNumberTracked s w n →
         m ≡ n }
@@ -137,9 +139,28 @@ pub fn dialable_is_quiet<C: PublicKey>()
         IsDialable s w t ps next → IsDialable s w t qs after → (ps ≡ qs) × (next ≡ after) }
 {}
 
-/// Spacing by the replies to a run from its start.
+/// Spacing and blocks by the replies to a run from its start. Each grant of a peer, for a dial or
+/// for a peer that comes, is no earlier than the cooldown after each grant before it, at most the
+/// greatest moment, unless the peer was absent in between. Moments may go back. Where the moments
+/// of the commands that may grant, block or end a block never go back, whatever they were replied,
+/// a peer whose block was taken is granted by no later command before the block's end, at most the
+/// greatest moment.
 pub fn grants_of_a_run<C: PublicKey>()
-    ensures { (s : Setup C C.Signature) → s.cmp ≡ C.cmp →
+    ensures spaced { (s : Setup C C.Signature) → s.cmp ≡ C.cmp →
         (p : C) (cs : List (Call C C.Signature)) (rs : List (Reply C C.Signature)) →
         AreAnswers s [] cs rs → KeepCooldown s p [] [] cs rs }
+    ensures blocked { (s : Setup C C.Signature) → s.cmp ≡ C.cmp →
+        (p : C) (cs : List (Call C C.Signature)) (rs : List (Reply C C.Signature)) →
+        GoForward s 0 cs → AreAnswers s [] cs rs → KeepBlocks s p [] cs rs }
+{}
+
+/// Dials by the replies to a run. After each reply to `dialable`, as long as the commands are dials
+/// at its moment of the peers that it lists, each once and in any order, each is granted, unless
+/// memory is refused. As long as the commands are questions, `dialable` at its moment or later, and
+/// before its next query where it has one, is replied the same peers and the same next query,
+/// unless memory is refused.
+pub fn dials_of_a_run<C: PublicKey>()
+    ensures { (s : Setup C C.Signature) → s.cmp ≡ C.cmp → 1 ≤ s.max_sets →
+        (cs : List (Call C C.Signature)) (rs : List (Reply C C.Signature)) →
+        AreAnswers s [] cs rs → KeepDialable s cs rs }
 {}

@@ -4,6 +4,7 @@
 pub mod directory;
 mod kept;
 pub mod laws;
+pub mod node;
 pub mod record;
 pub mod run;
 #[cfg(test)]

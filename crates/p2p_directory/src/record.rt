@@ -1,6 +1,6 @@
 //! What is known of one peer.
 
-ghost use Rattle.std.specs.Prelude.{◌≡◌, ◌+◌, ◌-◌, ◌<◌, ◌^◌, false, not, true};
+ghost use Rattle.std.specs.Prelude.{◌≡◌, ◌+◌, ◌-◌, ◌<◌, ◌^◌, [], false, not, true};
 ghost use Rattle.std.specs.Prelude.{IfOk, IfSome, IsOk, None};
 ghost use Rattle.std.specs.Option.{option_copied};
 ghost use Rattle.std.specs.Duration.{as_nanos};
@@ -8,6 +8,7 @@ ghost use Rattle.p2p_discovery.specs.Ingress.{takes_none};
 ghost use Rattle.p2p_directory.specs.Moments.{cap, jitter};
 ghost use Rattle.p2p_directory.specs.History.{is_inert, is_reserved};
 ghost use Rattle.p2p_directory.specs.Record.{new_record, reserve_answer, record_after_asking};
+ghost use Rattle.p2p_directory.specs.Record.{reserved_record};
 ghost use Rattle.p2p_directory.specs.Record.{is_eligible, is_deletable, needs_teardown};
 ghost use Rattle.p2p_directory.specs.Record.{is_outbound_target};
 ghost use Rattle.p2p_directory.specs.Record.{after_failure, after_success, is_myself};
@@ -20,7 +21,7 @@ ghost use Rattle.p2p_directory.specs.Private.Counts.{is_torn_down_without};
 use p2p_discovery::codec::PublicKey;
 use p2p_discovery::discovery::Info;
 use p2p_discovery::types::Ingress;
-use std::alloc::AllocError;
+use std::alloc::{AllocError, Global};
 use std::marker::Model;
 use std::time::Duration;
 
@@ -75,6 +76,29 @@ pub enum DialStatus {
     After(Duration),
     /// The peer is not to be dialled, is reserved or connected already, or has no valid ingress.
     Unavailable,
+}
+
+/// The peers that may be dialled, and when it is worth to ask again.
+#[derive(Debug, Drop)]
+pub struct Dialable<C: PublicKey> {
+    /// The peers that may be dialled now, in ascending order.
+    pub peers: Vec<C>,
+    /// The least moment at which another peer may become dialable, a duration since the epoch, if
+    /// there is one.
+    pub next_query_at: Option<Duration>,
+}
+
+impl<C: PublicKey> Dialable<C> {
+    /// Nobody may be dialled, and no moment is known at which somebody may. Takes no memory.
+    pub fn new(alloc: Global) -> Self
+        ensures peers { result.peers.items ≡ [] }
+        ensures moment { result.next_query_at ≡ None }
+    {
+        Dialable {
+            peers: Vec::new(alloc),
+            next_query_at: None,
+        }
+    }
 }
 
 /// What is known of one peer: its address, its connection, in how many retained sets it is, and
@@ -223,6 +247,17 @@ impl<C: PublicKey> Record<C> {
         ensures after { self.new ≡
             record_after_asking result (as_nanos now) (as_nanos draw) (as_nanos interval) self.old }
     {
+        let answer = self.reserve_result(now);
+        if answer == ReserveResult::Reserved {
+            self.set_reserved(now, draw, interval);
+        }
+        answer
+    }
+
+    // What the peer is told that asks for a reservation at the moment `now`.
+    pub(crate) fn reserve_result(&self, now: Duration) -> ReserveResult
+        ensures { result ≡ reserve_answer (as_nanos now) self.now }
+    {
         if let Address::Myself(_) = &self.address {
             return ReserveResult::Unavailable;
         }
@@ -232,10 +267,17 @@ impl<C: PublicKey> Record<C> {
         if now.as_nanos() < self.next_reservable_at.as_nanos() {
             return ReserveResult::RateLimited;
         }
+        ReserveResult::Reserved
+    }
+
+    // Reserves the peer at the moment `now`.
+    pub(crate) fn set_reserved(&mut self, now: Duration, draw: Duration, interval: Duration)
+        ensures { self.new ≡
+            reserved_record (as_nanos now) (as_nanos draw) (as_nanos interval) self.old }
+    {
         self.status = Status::Reserved;
         self.next_reservable_at = now.saturating_add(interval);
         self.next_dial_at = jittered(self.next_reservable_at, draw, interval);
-        ReserveResult::Reserved
     }
 
     /// Connects the peer: it is active.
@@ -308,12 +350,21 @@ impl<C: PublicKey> Record<C> {
         ensures socket { IfSome (sharable_by self.now.status self.now.address)
             (λ info. takes_none info.ingress ≡ true → IsOk result) }
     {
-        let info = match &self.address {
-            Address::Myself(info) => info,
-            Address::Discovered(info, _) if self.status == Status::Active => info,
-            _ => return Ok(None),
-        };
-        Ok(Some(info.clone()?))
+        match self.sharable_info() {
+            Some(info) => Ok(Some(info.clone()?)),
+            None => Ok(None),
+        }
+    }
+
+    // The info that may be told to others, where it stands.
+    pub(crate) fn sharable_info(&self) -> Option<&Info<C>>
+        ensures { option_copied result ≡ sharable_by self.now.status self.now.address }
+    {
+        match &self.address {
+            Address::Myself(info) => Some(info),
+            Address::Discovered(info, _) if self.status == Status::Active => Some(info),
+            _ => None,
+        }
     }
 
     /// When the peer may be dialled, asked at the moment `now`.

@@ -7,9 +7,12 @@ ghost use Rattle.p2p_directory.specs.Directory.{bit_vec_at};
 ghost use Rattle.p2p_directory.specs.Held.{held_of};
 ghost use Rattle.p2p_directory.specs.Private.Slots.{has_slot, held_in};
 ghost use Rattle.p2p_directory.specs.Private.Serving.{has_room};
+ghost use Rattle.p2p_directory.specs.Nodes.{may_reserve};
 ghost use Rattle.p2p_directory.specs.Refinement.{Refines};
-ghost use Rattle.p2p_directory.specs.Run.{setup_of, calls_of, world_left, AreAnswers};
-ghost use Rattle.p2p_directory.specs.Run.{bit_vec_in, Holds, HasNoBlock};
+ghost use Rattle.p2p_directory.specs.Run.{setup_of, call_of, calls_of, world_left, AreAnswers};
+ghost use Rattle.p2p_directory.specs.Run.{bit_vec_in, Holds};
+ghost use Rattle.p2p_directory.specs.Laws.GrantRuns.{KeepCooldown, GoForward, KeepBlocks};
+ghost use Rattle.p2p_directory.specs.Laws.DialRuns.{KeepDialable};
 
 use crate::directory::{Config, Directory};
 pub use crate::run::commands::{Command, Reply};
@@ -24,9 +27,11 @@ use std::alloc::{AllocError, Global};
 
 mod commands;
 mod held;
+#[cfg(test)]
+mod infos_tests;
 mod outcome;
-mod server;
-mod slots;
+pub(crate) mod server;
+pub(crate) mod slots;
 #[cfg(test)]
 mod tests;
 
@@ -35,8 +40,31 @@ mod tests;
 /// given.
 ///
 /// Room for all replies and all reservations is taken before the first command, so only these may
-/// be replied `OutOfMemory`: a `Track` whose set would be taken, an `Info` of a peer whose info may
-/// be told, and a `GetRandomBitVec` of a place that there is.
+/// be replied `OutOfMemory`: a `Track` whose set and a `Block` that would be taken, a `Dial` that
+/// would be granted, an `Info` of a peer whose info may be told, an `Infos` where an info is
+/// shared, a `GetRandomBitVec` of a place that there is, a `GetPeerSet` of a set with a peer,
+/// `LatestUpdate` and `All` where some retained set has a peer, and `BlockedPeers` and `Dialable`
+/// where somebody is listed.
+///
+/// The replies keep these rules. Moments are durations since the epoch, exact to the nanosecond; a
+/// moment and a duration make at most the greatest `Duration`.
+///
+/// - Cooldown: each grant of a peer, for a `Dial` or a `Listen`, comes no earlier than
+///   `peer_connection_cooldown` after each grant of it before, unless there was no record of the
+///   peer in between. Moments may go back.
+/// - Blocks: where the moments of all `Dial`, `Listen`, `Block` and `UnblockExpired` never go back,
+///   whatever these are replied, a peer whose block was taken is granted by no later command before
+///   the block's end, `block_duration` after its moment, also where there was no record of the peer
+///   in between.
+/// - Dials: directly after a reply to `Dialable` at a moment, `Dial` commands at that moment of the
+///   peers that it lists, each once, one after the other and in any order, are all granted, unless
+///   replied `OutOfMemory`.
+/// - Quiet time: as long as only questions follow a reply to `Dialable`, `Dialable` at the same
+///   moment or later, but before `next_query_at` where there is one, is replied the same peers and
+///   the same `next_query_at`, unless replied `OutOfMemory`. A question is a command that changes
+///   nothing: `NextUnblock`, `BlockedPeers`, `Status`, `GetPeerSet`, `LatestUpdate`,
+///   `LatestSetIndex`, `All`, `Info`, `Infos`, `GetRandomBitVec`, `Eligible`, `Acceptable`,
+///   `Dialable` and `Tracked`.
 ///
 /// What is left is given back by [`Run::finish`].
 ///
@@ -50,7 +78,8 @@ mod tests;
 ///
 /// # Cost
 ///
-/// That of the calls, and for each command a logarithm of how many peers the commands listen for.
+/// That of the calls, and for each command a logarithm of how many peers the commands dial or
+/// listen for.
 pub fn run<C: PublicKey>(
     alloc: Global,
     bootstrappers: Vec<(C, Ingress)>,
@@ -69,8 +98,13 @@ pub fn run<C: PublicKey>(
     ensures held { IfOk result (λ run. let s = setup_of C.cmp bootstrappers.items myself cfg in
         Holds s (world_left s (calls_of commands.items) run.replies.items)
         (held_of C.cmp run.held)) }
-    ensures unblocked { IfOk result (λ run. let s = setup_of C.cmp bootstrappers.items myself cfg in
-        HasNoBlock (world_left s (calls_of commands.items) run.replies.items)) }
+    ensures cooldown { IfOk result (λ run. let s = setup_of C.cmp bootstrappers.items myself cfg in
+        (p : C) → KeepCooldown s p [] [] (calls_of commands.items) run.replies.items) }
+    ensures blocks { IfOk result (λ run. let s = setup_of C.cmp bootstrappers.items myself cfg in
+        GoForward s 0 (calls_of commands.items) →
+        (p : C) → KeepBlocks s p [] (calls_of commands.items) run.replies.items) }
+    ensures dials { IfOk result (λ run. let s = setup_of C.cmp bootstrappers.items myself cfg in
+        KeepDialable s (calls_of commands.items) run.replies.items) }
 {
     let mut replies = Vec::with_capacity(alloc, commands.len())?;
     let slots = slots_for(alloc, &commands)?;
@@ -105,13 +139,14 @@ fn slots_for<C: PublicKey>(alloc: Global, commands: &[Command<C>]) -> Result<Slo
 // A slot for the peer that the command may be granted a reservation of, if there is one.
 fn make_slot<C: PublicKey>(slots: &mut Slots<C>, command: &Command<C>) -> Result<(), AllocError>
     ensures err { OnErr result (slots.new ≡ slots.old) }
+    ensures reserves { OnErr result (may_reserve (call_of command.now) ≡ true) }
     ensures room { OnOk result (has_room C.cmp slots.new command.now ≡ true) }
     ensures slots { OnOk result ((q : C) →
         has_slot C.cmp slots.old q ≡ true → has_slot C.cmp slots.new q ≡ true) }
     ensures held { (q : C) → held_in C.cmp slots.new q ≡ held_in C.cmp slots.old q }
 {
     match command {
-        Command::Listen { peer, .. } => slots.make(*peer),
+        Command::Dial { peer, .. } | Command::Listen { peer, .. } => slots.make(*peer),
         _ => Ok(()),
     }
 }

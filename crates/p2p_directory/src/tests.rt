@@ -144,10 +144,15 @@ fn test_secondary_sets_remain_until_eviction(rt: HostRuntime) -> Result<(), Fail
     let alloc = rt.alloc();
     let mut directory = directory_of(alloc, NonZeroUsize::MIN.saturating_add(1))?;
     assert!(rt; are_peers(directory.track(0, tracked(alloc, &[1], &[4])?)?, &[]));
+    assert!(rt; directory.eligible(&TestKey(4), seconds(100)));
     assert!(rt; are_peers(directory.track(1, tracked(alloc, &[2], &[5])?)?, &[]));
+    assert!(rt; directory.eligible(&TestKey(4), seconds(100)));
+    assert!(rt; directory.eligible(&TestKey(5), seconds(100)));
     assert_eq!(rt; directory.status(&TestKey(4)), Some(Status::Inert));
     assert_eq!(rt; directory.status(&TestKey(5)), Some(Status::Inert));
     assert!(rt; are_peers(directory.track(2, tracked(alloc, &[3], &[])?)?, &[]));
+    assert!(rt; !directory.eligible(&TestKey(4), seconds(100)));
+    assert!(rt; directory.eligible(&TestKey(5), seconds(100)));
     assert_eq!(rt; directory.status(&TestKey(1)), None);
     assert_eq!(rt; directory.status(&TestKey(4)), None);
     assert_eq!(rt; directory.status(&TestKey(5)), Some(Status::Inert));
@@ -156,7 +161,7 @@ fn test_secondary_sets_remain_until_eviction(rt: HostRuntime) -> Result<(), Fail
 }
 
 #[test]
-fn test_demotion_from_primary_to_secondary(rt: HostRuntime) -> Result<(), Fail> {
+fn a_demoted_peer_stays_until_its_last_set_goes(rt: HostRuntime) -> Result<(), Fail> {
     let alloc = rt.alloc();
     let mut directory = directory_of(alloc, NonZeroUsize::MIN.saturating_add(1))?;
     assert!(rt; are_peers(directory.track(0, tracked(alloc, &[1, 2], &[2])?)?, &[]));

@@ -1,5 +1,5 @@
 -- A sorted list is known by its members, and a least moment by being least: such answers are determined.
-use Rattle.std.proofs.Common.{◌≡◌, ℕ, Bool, List, length, Option, Some, None, refl, sym, ◌∙◌, ap, arith}
+use Rattle.std.proofs.Common.{◌≡◌, ◌<◌, ℕ, Bool, List, length, Option, Some, None, refl, sym, ◌∙◌, ap, arith}
 use Rattle.std.specs.List.Sorted.{IsStrictlySortedBy}
 use Rattle.std.specs.Ordering.{is_eq}
 use Rattle.std.specs.Cmp.{IsTotalOrder}
@@ -7,11 +7,31 @@ use Rattle.p2p_directory.proofs.Definitions.Members
 use Rattle.p2p_directory.specs.Calls.{Setup}
 use Rattle.p2p_directory.specs.History.{is_in, IsExact}
 use Rattle.p2p_directory.specs.World.{World}
-use Rattle.p2p_directory.specs.Answers.{Lists, IsLeastOf, IsNumberTracked, is_tracked}
+use Rattle.p2p_directory.specs.Answers.{IsNumberTracked, is_tracked}
+use Rattle.p2p_directory.specs.Lists.{Lists, IsLeastOf, Somebody}
+use Rattle.p2p_directory.specs.Laws.Dials.{IsBefore}
+use Rattle.std.specs.declared.cmp.Ordering.{Ordering}
+
+-- a list of the keys with a property is one of those with the same
+pub lists_alike : {C : Type 0} (cmp : C → C → Ordering) (f g : C → Bool) (ps : List C) → ((q : C) → f q ≡ g q) → Lists cmp f ps → Lists cmp g ps
+lists_alike cmp f g ps alike listed = record { sorted = listed.sorted; members = λ q. listed.members q ∙ alike q }
+
+pub somebody_alike : {C : Type 0} (f g : C → Bool) → ((q : C) → f q ≡ g q) → Somebody f → Somebody g
+somebody_alike f g alike some = (some.0, sym (alike some.0) ∙ some.1)
+
+-- .. and so is the least moment
+pub least_alike : {C : Type 0} (f g : C → Option ℕ) (next : Option ℕ) → ((p : C) → g p ≡ f p) → IsLeastOf f next → IsLeastOf g next
+least_alike f g None alike least = λ p. alike p ∙ least p
+least_alike f g (Some m) alike least = ((least.0.0, alike least.0.0 ∙ least.0.1), λ p n e. least.1 p n (sym (alike p) ∙ e))
+
+-- what comes before the least moment comes before that of each key
+pub least_later : {C : Type 0} (f : C → Option ℕ) (u : ℕ) (next : Option ℕ) → IsBefore u next → IsLeastOf f next → (p : C) (n : ℕ) → f p ≡ Some n → u < n
+least_later f u None before least p n e = absurd (let f = sym (least p) ∙ e in cc)
+least_later f u (Some m) before least p n e = omega (arith, before, least.1 p n e)
 
 module _ {C S : Type 0} (s : Setup C S) where
   -- two least moments of the same keys are one
-  pub one_least : (moment : C → Option ℕ) (a b : Option ℕ) → IsLeastOf s moment a → IsLeastOf s moment b → a ≡ b
+  pub one_least : (moment : C → Option ℕ) (a b : Option ℕ) → IsLeastOf moment a → IsLeastOf moment b → a ≡ b
   one_least moment None None x y = refl
   one_least moment None (Some n) x y = absurd (let e = sym (x y.0.0) ∙ y.0.1 in cc)
   one_least moment (Some m) None x y = absurd (let e = sym (y x.0.0) ∙ x.0.1 in cc)
@@ -22,7 +42,7 @@ module _ {C S : Type 0} (s : Setup C S) (total : IsTotalOrder s.cmp) (exact : Is
   same_members xs ys sx sy members = Members.same_members total (λ x y e. exact x y (ap is_eq e)) xs ys sx sy members
 
   -- so an answer that lists is determined
-  pub one_list : (test : C → Bool) (xs ys : List C) → Lists s test xs → Lists s test ys → xs ≡ ys
+  pub one_list : (test : C → Bool) (xs ys : List C) → Lists s.cmp test xs → Lists s.cmp test ys → xs ≡ ys
   one_list test xs ys a b = same_members xs ys a.sorted b.sorted (λ p. a.members p ∙ sym (b.members p))
 
   -- and so is a number of keys

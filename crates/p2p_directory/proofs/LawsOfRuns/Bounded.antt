@@ -17,7 +17,8 @@ use Rattle.p2p_directory.specs.Calls.{Setup, Call, SetAt}
 use Rattle.p2p_directory.specs.History
 use Rattle.p2p_directory.specs.World
 use Rattle.p2p_directory.specs.World.{World}
-use Rattle.p2p_directory.specs.Answers.{Lists, is_present_in}
+use Rattle.p2p_directory.specs.Answers.{is_present_in}
+use Rattle.p2p_directory.specs.Lists.{Lists}
 use Rattle.p2p_directory.specs.Laws.Bounds.{names_in, NamesAtMost, is_left_over, IsBounded}
 
 -- what each has, each that is left has
@@ -81,7 +82,7 @@ module _ {C S : Type 0} (s : Setup C S) (n : ℕ) where
     in_member ps p e = any_more (λ q. History.same s q p) (eq_by_cmp s.cmp p) (λ q h. (eq_by_cmp_equiv total).symm p q ∙ h) ps e
 
     -- a present key is one of the three
-    one_of : (w : World C S) (h : AllByRecursion (NamesAtMost s n) w.sets) (qs rs : List C) → Lists s (History.is_persistent s) qs → Lists s (is_left_over s w) rs → (p : C) → is_present_in s w p ≡ true →
+    one_of : (w : World C S) (h : AllByRecursion (NamesAtMost s n) w.sets) (qs rs : List C) → Lists s.cmp (History.is_persistent s) qs → Lists s.cmp (is_left_over s w) rs → (p : C) → is_present_in s w p ≡ true →
         History.is_in s p (named_by w.sets h ++ (qs ++ rs)) ≡ true
     one_of w h qs rs persistent left_over p e =
         list_any-append (λ q. History.same s q p) (named_by w.sets h) (qs ++ rs)

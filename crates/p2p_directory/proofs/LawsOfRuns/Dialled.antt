@@ -15,7 +15,8 @@ use Rattle.p2p_directory.specs.History
 use Rattle.p2p_directory.specs.History.{last_with}
 use Rattle.p2p_directory.specs.World
 use Rattle.p2p_directory.specs.World.{World, Peer}
-use Rattle.p2p_directory.specs.Answers.{Lists, is_dialable, is_dialable_with}
+use Rattle.p2p_directory.specs.Answers.{is_dialable, is_dialable_with}
+use Rattle.p2p_directory.specs.Lists.{Lists}
 use Rattle.p2p_directory.specs.Laws.Isolation.{SameFor}
 use Rattle.p2p_directory.specs.Laws.Dials.{IsApart, AreChosen, IsDialled, AreDialled}
 use Rattle.p2p_directory.proofs.LawsOfRuns.Isolation
@@ -97,13 +98,13 @@ module _ {C S : Type 0} (s : Setup C S) where
     all_dialled some t xs (Dial x.0 t x.1 ∷ cs) (still_dialable some x.0 t x.1 xs cs dialable.1 dialable.2),
   )
 
-  pub chosen_dialable : (w : World C S) (t : ℕ) (ps : List C) (xs : List (C × ℕ)) → Lists s (is_dialable s w t) ps → AreChosen s ps xs → AreDialable w t xs
+  pub chosen_dialable : (w : World C S) (t : ℕ) (ps : List C) (xs : List (C × ℕ)) → Lists s.cmp (is_dialable s w t) ps → AreChosen s ps xs → AreDialable w t xs
   chosen_dialable w t ps [] listed chosen = tt
   chosen_dialable w t ps (x ∷ xs) listed chosen = (sym (listed.members x.0) ∙ chosen.0, chosen.1, chosen_dialable w t ps xs listed chosen.2)
 
   -- in any order
   pub chosen_dialled : 1 ≤ s.max_sets → (cs : List (Call C S)) (t : ℕ) (ps : List C) (xs : List (C × ℕ)) →
-      Lists s (is_dialable s (World.world_at s (World.past s cs)) t) ps → AreChosen s ps xs → AreDialled s t xs cs
+      Lists s.cmp (is_dialable s (World.world_at s (World.past s cs)) t) ps → AreChosen s ps xs → AreDialled s t xs cs
   chosen_dialled some cs t ps xs listed chosen = all_dialled some t xs cs (chosen_dialable (World.world_at s (World.past s cs)) t ps xs listed chosen)
 
   -- in the order of the list
@@ -130,5 +131,5 @@ module _ {C S : Type 0} (s : Setup C S) where
   )
 
   pub listed_dialled : IsTotalOrder s.cmp → 1 ≤ s.max_sets → (cs : List (Call C S)) (t : ℕ) (xs : List (C × ℕ)) →
-      Lists s (is_dialable s (World.world_at s (World.past s cs)) t) (map (λ x. x.0) xs) → AreDialled s t xs cs
+      Lists s.cmp (is_dialable s (World.world_at s (World.past s cs)) t) (map (λ x. x.0) xs) → AreDialled s t xs cs
   listed_dialled total some cs t xs listed = chosen_dialled some cs t (map (λ x. x.0) xs) xs listed (chosen_whole total xs listed.sorted)

@@ -1,22 +1,23 @@
 -- Grants and blocks by the replies to a run.
-use Rattle.std.proofs.Common.{◌≡◌, ℕ, ◌+◌, ◌≤◌, Bool, true, false, not, ◌&&◌, List, [], ◌∷◌, ◌++◌, map, Option, Some, None, ◌⊎◌, inl, inr, refl, sym, ◌∙◌, ap, subst}
+use Rattle.std.proofs.Common.{◌≡◌, ℕ, ◌+◌, ◌≤◌, Bool, true, false, not, ◌&&◌, List, [], ◌∷◌, ◌++◌, map, Option, Some, None, ◌⊎◌, inl, inr, refl, sym, ◌∙◌, ap, subst, arith}
 use Rattle.std.specs.Prelude.{if◌then◌else◌, nat_lt, option_to_list, filter}
 use Rattle.std.specs.Option.{option_map}
 use Rattle.std.specs.List.{list_all, AllByRecursion}
+use Rattle.p2p_discovery.specs.declared.types.ingress.Ingress.{Ingress}
 use Rattle.p2p_directory.specs.declared.record.Status.{Status}
 use Rattle.p2p_directory.specs.Calls.{Setup, SetAt, Call, Grant, Event}
 use Rattle.p2p_directory.specs.Calls.Call.{Track, Dial, Listen, Connect, Release, Update, Block, UnblockExpired, Ask}
-use Rattle.p2p_directory.specs.Calls.Direction.{Listener}
+use Rattle.p2p_directory.specs.Calls.Direction.{Listener, Dialer}
 use Rattle.p2p_directory.specs.Calls.Event.{Nothing, Tracked, Blocked}
 use Rattle.p2p_directory.specs.Moments.{cap}
 use Rattle.p2p_directory.specs.History
 use Rattle.p2p_directory.specs.World
 use Rattle.p2p_directory.specs.World.{World}
-use Rattle.p2p_directory.specs.Laws.Grants.{grants_in, AreCooled, IsCooledAt}
+use Rattle.p2p_directory.specs.Laws.Grants.{grants_in, AreCooled, IsCooledAt, or_now, moment_or, moment_of, NeverGoBack, blocks_in, IsOverAt}
 use Rattle.p2p_directory.specs.Run
 use Rattle.p2p_directory.specs.declared.run.commands.Reply.{Reply}
 use Rattle.p2p_directory.specs.declared.run.commands.Reply.TheVariants as reply
-use Rattle.p2p_directory.specs.Laws.GrantRuns.{granted_by, IsCooledAfter, grants_after, KeepCooldown}
+use Rattle.p2p_directory.specs.Laws.GrantRuns.{granted_by, blocked_by, IsCooledAfter, grants_after, KeepCooldown, GoForward, IsAfter, KeepBlocks}
 use Rattle.p2p_directory.proofs.LawsOfRuns.Spacing
 
 module _ {C S : Type 0} (s : Setup C S) where
@@ -26,14 +27,26 @@ module _ {C S : Type 0} (s : Setup C S) where
   pub replied : (e : Event C S) (w v : World C S) (c : Call C S) (r : Reply C S) → Run.MayReply s e w v c r → (r ≡ reply.OutOfMemory) ⊎ Run.Replies s e w v c r
   replied e w v c reply.OutOfMemory a = inl refl
   replied e w v c (reply.Track torn) a = inr a
+  replied e w v c (reply.Dial granted) a = inr a
   replied e w v c (reply.Listen granted) a = inr a
   replied e w v c reply.Connect a = inr a
   replied e w v c reply.Release a = inr a
   replied e w v c reply.UpdatePeers a = inr a
+  replied e w v c (reply.Block taken) a = inr a
+  replied e w v c (reply.UnblockExpired any) a = inr a
+  replied e w v c (reply.NextUnblock moment) a = inr a
+  replied e w v c (reply.BlockedPeers peers) a = inr a
   replied e w v c (reply.Status status) a = inr a
+  replied e w v c (reply.GetPeerSet peers) a = inr a
   replied e w v c (reply.LatestSetIndex index) a = inr a
+  replied e w v c (reply.LatestUpdate update) a = inr a
+  replied e w v c (reply.All all) a = inr a
   replied e w v c (reply.Info info) a = inr a
+  replied e w v c (reply.Infos infos) a = inr a
   replied e w v c (reply.GetRandomBitVec bits) a = inr a
+  replied e w v c (reply.Eligible eligible) a = inr a
+  replied e w v c (reply.Acceptable acceptable) a = inr a
+  replied e w v c (reply.Dialable answer) a = inr a
   replied e w v c (reply.Tracked count) a = inr a
   replied e w v c reply.NotReserved a = inr a
   replied e w v c reply.NotHeld a = inr a
@@ -53,45 +66,51 @@ module _ {C S : Type 0} (s : Setup C S) where
   -- the reply says whether p was granted, and when; and until when it was blocked
   record IsTold (p : C) (c : Call C S) (r : Reply C S) (e : Event C S) : Type 0 where
     granted : granted_by s p c r ≡ if_accepted (Run.is_accepted s r) (moment_by p e)
+    blocked : blocked_by s p c r ≡ if_accepted (Run.is_accepted s r) (History.block_by s p e)
 
   told : (p : C) (sets : List (SetAt C)) (w v : World C S) (c : Call C S) (r : Reply C S) → Run.MayReply s (World.event_in s sets w c) w v c r → IsTold p c r (World.event_in s sets w c)
   told p sets w v (Track index primary secondary) r a = go (list_all (λ x. nat_lt x.index index) sets)
     where
       go : (b : Bool) → IsTold p (Track index primary secondary) r (if b then Tracked (record { index = index; primary = primary; secondary = filter (λ q. not (History.is_in s q primary)) secondary }) else Nothing)
-      go true = record { granted = nothing (Run.is_accepted s r) }
-      go false = record { granted = nothing (Run.is_accepted s r) }
-  told p sets w v (Dial q t draw) r a = go (replied (World.event_in s sets w (Dial q t draw)) w v (Dial q t draw) r a)
+      go true = record { granted = nothing (Run.is_accepted s r); blocked = nothing (Run.is_accepted s r) }
+      go false = record { granted = nothing (Run.is_accepted s r); blocked = nothing (Run.is_accepted s r) }
+  told p sets w v (Dial q t draw) r a = go (World.may_dial s q t w.sets (w.peer q) (w.unblock q)) (World.address_with s q (w.peer q).known.info) (replied (World.event_in s sets w (Dial q t draw)) w v (Dial q t draw) r a)
     where
-      go : (r ≡ reply.OutOfMemory) ⊎ ⊥ → IsTold p (Dial q t draw) r (World.event_in s sets w (Dial q t draw))
-      go (inl e) = subst (λ x. IsTold p (Dial q t draw) x (World.event_in s sets w (Dial q t draw))) (sym e) (record { granted = refl })
-      go (inr a) = absurd a
+      go : (b : Bool) (address : Option Ingress) → (r ≡ reply.OutOfMemory) ⊎ Run.Replies s (World.dial_event s q t draw b address) w v (Dial q t draw) r → IsTold p (Dial q t draw) r (World.dial_event s q t draw b address)
+      go b address (inl e) = subst (λ x. IsTold p (Dial q t draw) x (World.dial_event s q t draw b address)) (sym e) (record { granted = refl; blocked = refl })
+      go b None (inr e) = subst (λ x. IsTold p (Dial q t draw) x Nothing) (sym e) (record { granted = refl; blocked = refl })
+      go false (Some x) (inr e) = subst (λ y. IsTold p (Dial q t draw) y Nothing) (sym e) (record { granted = refl; blocked = refl })
+      go true (Some x) (inr e) =
+          subst (λ y. IsTold p (Dial q t draw) y (World.dial_event s q t draw true (Some x))) (sym e)
+          (record { granted = elim (History.same s q p) as (λ b. (if b then Some t else None) ≡ option_map (λ (grant : Grant). grant.t) (if b then Some (record { t = t; draw = draw; direction = Dialer x }) else None)) [ true ↦ refl | false ↦ refl ]; blocked = refl })
   told p sets w v (Listen q t draw) r a = go (World.may_listen s q t w.sets (w.peer q) (w.unblock q)) (replied (World.event_in s sets w (Listen q t draw)) w v (Listen q t draw) r a)
     where
       go : (b : Bool) → (r ≡ reply.OutOfMemory) ⊎ Run.Replies s (World.listen_event s q t draw b) w v (Listen q t draw) r → IsTold p (Listen q t draw) r (World.listen_event s q t draw b)
-      go b (inl e) = subst (λ x. IsTold p (Listen q t draw) x (World.listen_event s q t draw b)) (sym e) (record { granted = refl })
-      go false (inr e) = subst (λ y. IsTold p (Listen q t draw) y Nothing) (sym e) (record { granted = refl })
+      go b (inl e) = subst (λ x. IsTold p (Listen q t draw) x (World.listen_event s q t draw b)) (sym e) (record { granted = refl; blocked = refl })
+      go false (inr e) = subst (λ y. IsTold p (Listen q t draw) y Nothing) (sym e) (record { granted = refl; blocked = refl })
       go true (inr e) =
           subst (λ y. IsTold p (Listen q t draw) y (World.listen_event s q t draw true)) (sym e)
-          (record { granted = elim (History.same s q p) as (λ b. (if b then Some t else None) ≡ option_map (λ (grant : Grant). grant.t) (if b then Some (record { t = t; draw = draw; direction = Listener }) else None)) [ true ↦ refl | false ↦ refl ] })
+          (record { granted = elim (History.same s q p) as (λ b. (if b then Some t else None) ≡ option_map (λ (grant : Grant). grant.t) (if b then Some (record { t = t; draw = draw; direction = Listener }) else None)) [ true ↦ refl | false ↦ refl ]; blocked = refl })
   told p sets w v (Connect q dialer) r a = go (w.peer q).status
     where
       go : (status : Status) → IsTold p (Connect q dialer) r (World.connect_event s q dialer status)
-      go Status.Inert = record { granted = nothing (Run.is_accepted s r) }
-      go Status.Reserved = record { granted = nothing (Run.is_accepted s r) }
-      go Status.Active = record { granted = nothing (Run.is_accepted s r) }
+      go Status.Inert = record { granted = nothing (Run.is_accepted s r); blocked = nothing (Run.is_accepted s r) }
+      go Status.Reserved = record { granted = nothing (Run.is_accepted s r); blocked = nothing (Run.is_accepted s r) }
+      go Status.Active = record { granted = nothing (Run.is_accepted s r); blocked = nothing (Run.is_accepted s r) }
   told p sets w v (Release q) r a = go (w.held q)
     where
       go : (held : Option Grant) → IsTold p (Release q) r (World.release_event s q held)
-      go None = record { granted = nothing (Run.is_accepted s r) }
-      go (Some grant) = record { granted = nothing (Run.is_accepted s r) }
-  told p sets w v (Update infos) r a = record { granted = nothing (Run.is_accepted s r) }
-  told p sets w v (Block q t) r a = go (not (History.is_own s q) && not (World.is_blocked (w.unblock q) t))
+      go None = record { granted = nothing (Run.is_accepted s r); blocked = nothing (Run.is_accepted s r) }
+      go (Some grant) = record { granted = nothing (Run.is_accepted s r); blocked = nothing (Run.is_accepted s r) }
+  told p sets w v (Update infos) r a = record { granted = nothing (Run.is_accepted s r); blocked = nothing (Run.is_accepted s r) }
+  told p sets w v (Block q t) r a = go (not (History.is_own s q) && not (World.is_blocked (w.unblock q) t)) (replied (World.event_in s sets w (Block q t)) w v (Block q t) r a)
     where
-      go : (b : Bool) → IsTold p (Block q t) r (if b then Blocked q t else Nothing)
-      go true = record { granted = nothing (Run.is_accepted s r) }
-      go false = record { granted = nothing (Run.is_accepted s r) }
-  told p sets w v (UnblockExpired t) r a = record { granted = nothing (Run.is_accepted s r) }
-  told p sets w v (Ask question) r a = record { granted = nothing (Run.is_accepted s r) }
+      go : (b : Bool) → (r ≡ reply.OutOfMemory) ⊎ Run.Replies s (if b then Blocked q t else Nothing) w v (Block q t) r → IsTold p (Block q t) r (if b then Blocked q t else Nothing)
+      go b (inl e) = subst (λ x. IsTold p (Block q t) x (if b then Blocked q t else Nothing)) (sym e) (record { granted = refl; blocked = refl })
+      go false (inr e) = subst (λ y. IsTold p (Block q t) y Nothing) (sym e) (record { granted = refl; blocked = refl })
+      go true (inr e) = subst (λ y. IsTold p (Block q t) y (Blocked q t)) (sym e) (record { granted = refl; blocked = refl })
+  told p sets w v (UnblockExpired t) r a = record { granted = nothing (Run.is_accepted s r); blocked = nothing (Run.is_accepted s r) }
+  told p sets w v (Ask question) r a = record { granted = nothing (Run.is_accepted s r); blocked = nothing (Run.is_accepted s r) }
 
   told_after : (p : C) (before : List (Call C S)) (c : Call C S) (r : Reply C S) → Run.IsAnswer s before c r → IsTold p c r (Run.event_of s before c)
   told_after p before c r a = told p (History.taken_sets s (World.past s before)) (Run.world_after s before) (Run.world_after s (c ∷ before)) c r a
@@ -160,3 +179,56 @@ module _ {C S : Type 0} (s : Setup C S) where
   pub keep_cooldown : History.IsExact s → (p : C) (cs : List (Call C S)) (rs : List (Reply C S)) → Run.AreAnswers s [] cs rs → KeepCooldown s p [] [] cs rs
   unfolding History.life
   keep_cooldown exact p cs rs answers = keep_cooldown_from exact p [] [] cs rs refl answers
+
+  -- BLOCKS
+
+  -- a later now is as good
+  later_back : (cs : List (Call C S)) (now later : ℕ) → now ≤ later → NeverGoBack s now cs → NeverGoBack s later cs
+  later_back [] now later le on = tt
+  later_back (c ∷ cs) now later le on = go (moment_of s c) (λ x. later_back cs now later le x) on
+    where
+      go : (o : Option ℕ) → (NeverGoBack s now cs → NeverGoBack s later cs) → (or_now now o ≤ now) × NeverGoBack s (or_now now o) cs → (or_now later o ≤ later) × NeverGoBack s (or_now later o) cs
+      go None more on = (omega arith, more on.1)
+      go (Some t) more on = (omega (arith, on.0), on.1)
+
+  -- a call that comes no earlier than now
+  one_forward : (c : Call C S) (cs : List (Call C S)) (now : ℕ) → now ≤ moment_or s now c → NeverGoBack s now cs → NeverGoBack s (moment_or s now c) (c ∷ cs)
+  one_forward c cs now le on = go (moment_of s c) le
+    where
+      go : (o : Option ℕ) → now ≤ or_now now o → (or_now (or_now now o) o ≤ or_now now o) × NeverGoBack s (or_now (or_now now o) o) cs
+      go None le = (omega arith, on)
+      go (Some t) le = (omega arith, later_back cs now t le on)
+
+  next_forward : (c : Call C S) (cs : List (Call C S)) (now : ℕ) (accepted : Bool) → now ≤ moment_or s now c → NeverGoBack s now cs → NeverGoBack s (moment_or s now c) (if accepted then c ∷ cs else cs)
+  next_forward c cs now true le on = one_forward c cs now le on
+  next_forward c cs now false le on = later_back cs now (moment_or s now c) le on
+
+  over_after : (accepted : Bool) (found : Option Grant) (ms : List ℕ) → IsOverAt s found ms → IsAfter s (if_accepted accepted (option_map (λ (grant : Grant). grant.t) found)) ms
+  over_after false found ms over = tt
+  over_after true None ms over = tt
+  over_after true (Some grant) ms over = over
+
+  kept_blocks : (p : C) (before : List (Call C S)) (c : Call C S) (accepted : Bool) →
+      option_to_list (if_accepted accepted (History.block_by s p (Run.event_of s before c))) ++ blocks_in s p (World.past s before) ≡ blocks_in s p (World.past s (if accepted then c ∷ before else before))
+  kept_blocks p before c true = refl
+  kept_blocks p before c false = refl
+
+  keep_blocks_from : History.IsExact s → (p : C) (ms : List ℕ) (now : ℕ) (before cs : List (Call C S)) (rs : List (Reply C S)) →
+      ms ≡ blocks_in s p (World.past s before) → NeverGoBack s now before → GoForward s now cs → Run.AreAnswers s before cs rs → KeepBlocks s p ms cs rs
+  keep_blocks_from exact p ms now before [] [] kept on forward answers = tt
+  keep_blocks_from exact p ms now before [] (r ∷ rs) kept on forward answers = tt
+  keep_blocks_from exact p ms now before (c ∷ cs) [] kept on forward answers = tt
+  keep_blocks_from exact p ms now before (c ∷ cs) (r ∷ rs) kept on forward answers =
+      let t = told_after p before c r answers.0 in (
+        subst (λ o. IsAfter s o ms) (sym t.granted)
+            (subst (λ xs. IsAfter s (if_accepted (Run.is_accepted s r) (moment_by p (Run.event_of s before c))) xs) (sym kept)
+            (over_after (Run.is_accepted s r) (History.grant_by s p (Run.event_of s before c)) (blocks_in s p (World.past s before))
+            (Spacing.next_over s exact p c before (moment_or s now c) (one_forward c before now forward.0 on)))),
+        keep_blocks_from exact p (option_to_list (blocked_by s p c r) ++ ms) (moment_or s now c) (Run.next s before c r) cs rs
+            ((λ i. option_to_list (t.blocked i) ++ kept i) ∙ kept_blocks p before c (Run.is_accepted s r))
+            (next_forward c before now (Run.is_accepted s r) forward.0 on) forward.1 answers.1,
+      )
+
+  -- by the replies to a whole run whose moments never go back, blocks hold
+  pub keep_blocks : History.IsExact s → (p : C) (cs : List (Call C S)) (rs : List (Reply C S)) → GoForward s 0 cs → Run.AreAnswers s [] cs rs → KeepBlocks s p [] cs rs
+  keep_blocks exact p cs rs forward answers = keep_blocks_from exact p [] 0 [] cs rs refl tt forward answers

@@ -4,7 +4,7 @@ use Rattle.std.specs.Prelude.{if◌then◌else◌, filter, nat_lt}
 use Rattle.std.proofs.lemmas.Bool.{not-true, not-false}
 use Rattle.p2p_discovery.specs.declared.types.ingress.Ingress.{Ingress}
 use Rattle.p2p_directory.specs.declared.record.Status.{Status}
-use Rattle.p2p_directory.specs.Calls.{Setup, Call, SetAt, Grant, Event}
+use Rattle.p2p_directory.specs.Calls.{Setup, Question, Call, SetAt, Grant, Event}
 use Rattle.p2p_directory.specs.Calls.Call.{Track, Dial, Listen, Connect, Release, Update, Block, UnblockExpired, Ask}
 use Rattle.p2p_directory.specs.declared.record.Status.TheVariants.{Inert, Reserved, Active}
 use Rattle.p2p_directory.specs.Calls.Event.{Nothing, Tracked, Granted, Connected, Released, Updated, Blocked, Expired}
@@ -111,6 +111,10 @@ module _ {C S : Type 0} (s : Setup C S) where
     unblock = unblock_quiet p e (History.unblock_at s p h) quiet;
     held = held_quiet p e (History.held_at s p h) quiet;
   }
+
+  -- a question leaves each peer as it was
+  pub asked_alike : (p : C) (question : Question C) (cs : List (Call C S)) → SameFor p (World.world_at s (World.past s (Ask question ∷ cs))) (World.world_at s (World.past s cs))
+  asked_alike p question cs = subst (λ u. SameFor p u (World.world_at s (World.past s cs))) (sym (Law.world_step s Nothing (World.past s cs))) (quiet_world p Nothing (World.past s cs) refl)
 
   another_quiet : (p : C) (sets : List (SetAt C)) (w : World C S) (c : Call C S) → is_on_another s p c ≡ true → is_quiet p (World.event_in s sets w c) ≡ true
   another_quiet p sets w (Dial q t draw) other = go _ _

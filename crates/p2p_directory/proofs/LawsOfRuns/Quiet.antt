@@ -7,22 +7,22 @@ use Rattle.p2p_directory.specs.Calls.{Setup}
 use Rattle.p2p_directory.specs.History
 use Rattle.p2p_directory.specs.World
 use Rattle.p2p_directory.specs.World.{World}
-use Rattle.p2p_directory.specs.Answers.{IsLeastOf, IsDialable, is_dialable, is_target, is_present_in, query_moment}
+use Rattle.p2p_directory.specs.Answers.{IsDialable, is_dialable, is_target, is_present_in, query_moment}
 use Rattle.p2p_directory.specs.Laws.Dials.{IsBefore}
 use Rattle.p2p_directory.proofs.Definitions.Listed
 
 -- the tests of one peer: whether it is a target, and present, its unblock and dial moments, and a moment
-abbrev due : Bool → Option ℕ → ℕ → ℕ → Bool
+abbrev pub due : Bool → Option ℕ → ℕ → ℕ → Bool
 due target o d t = target && not (World.is_blocked o t) && nat_le d t
 
-abbrev query : Bool → Bool → Option ℕ → ℕ → ℕ → Option ℕ
+abbrev pub query : Bool → Bool → Option ℕ → ℕ → ℕ → Option ℕ
 query target present o d t =
     if World.is_blocked o t then (if present then o else None)
     else if target && nat_lt t d then Some d
     else None
 
 -- a peer is alike at both moments
-abbrev StaysAlike : Bool → Bool → Option ℕ → ℕ → ℕ → ℕ → Type 0
+abbrev pub StaysAlike : Bool → Bool → Option ℕ → ℕ → ℕ → ℕ → Type 0
 StaysAlike target present o d t u = (due target o d u ≡ due target o d t) × (query target present o d u ≡ query target present o d t)
 
 -- .. where it isn't blocked at either
@@ -53,7 +53,7 @@ blocked false false true false m d t u before after absent le next = (refl, refl
 blocked true present true true m d t u before after absent le next = (refl, refl)
 blocked false present true true m d t u before after absent le next = (refl, refl)
 
-stays : (target present : Bool) (o : Option ℕ) (d t u : ℕ) → (present ≡ false → target ≡ false) → t ≤ u → ((n : ℕ) → query target present o d t ≡ Some n → u < n) →
+pub stays : (target present : Bool) (o : Option ℕ) (d t u : ℕ) → (present ≡ false → target ≡ false) → t ≤ u → ((n : ℕ) → query target present o d t ≡ Some n → u < n) →
     StaysAlike target present o d t u
 stays target present None d t u absent le next = unblocked target d t u le next
 stays target present (Some m) d t u absent le next = blocked target present (nat_lt t m) (nat_lt u m) m d t u refl refl absent le next
@@ -71,26 +71,17 @@ module _ {C S : Type 0} (s : Setup C S) where
       ap (λ b. b && History.is_inert (w.peer p).status && World.is_valid_address s (World.address_with s p (w.peer p).known.info) && World.is_dial_target s p w.sets)
       (not_entitled (not (History.is_own s p)) (History.is_persistent s p) (History.is_named s p w.sets) (not (History.is_inert (w.peer p).status)) e)
 
-  -- what the next query tells of each peer
-  least_later : (w : World C S) (t u : ℕ) (next : Option ℕ) → IsBefore u next → IsLeastOf s (query_moment s w t) next → (p : C) (n : ℕ) → query_moment s w t p ≡ Some n → u < n
-  least_later w t u None before least p n e = absurd (let f = sym (least p) ∙ e in cc)
-  least_later w t u (Some m) before least p n e = omega (arith, before, least.1 p n e)
-
-  pub least_alike : (f g : C → Option ℕ) (next : Option ℕ) → ((p : C) → g p ≡ f p) → IsLeastOf s f next → IsLeastOf s g next
-  least_alike f g None alike least = λ p. alike p ∙ least p
-  least_alike f g (Some m) alike least = ((least.0.0, alike least.0.0 ∙ least.0.1), λ p n e. least.1 p n (sym (alike p) ∙ e))
-
   -- the whole answer stays
   pub stays_dialable : (w : World C S) (t u : ℕ) (ps : List C) (next : Option ℕ) → IsDialable s w t ps next → t ≤ u → IsBefore u next → IsDialable s w u ps next
   stays_dialable w t u ps next answer le before = (
     record { sorted = answer.0.sorted; members = λ p. answer.0.members p ∙ sym (alike p).0 },
-    least_alike (query_moment s w t) (query_moment s w u) next (λ p. (alike p).1) answer.1,
+    Listed.least_alike (query_moment s w t) (query_moment s w u) next (λ p. (alike p).1) answer.1,
   )
     where
       alike : (p : C) → (is_dialable s w u p ≡ is_dialable s w t p) × (query_moment s w u p ≡ query_moment s w t p)
       alike p =
           stays (is_target s p w.sets (w.peer p)) (is_present_in s w p) (w.unblock p) (w.peer p).known.dial_at t u
-          (absent p w) le (least_later w t u next before answer.1 p)
+          (absent p w) le (Listed.least_later (query_moment s w t) u next before answer.1 p)
 
   -- and there is no other
   pub only_dialable : IsTotalOrder s.cmp → History.IsExact s → (w : World C S) (t : ℕ) (ps qs : List C) (next after : Option ℕ) → IsDialable s w t ps next → IsDialable s w t qs after → (ps ≡ qs) × (next ≡ after)

@@ -11,7 +11,6 @@ use Rattle.p2p_directory.specs.declared.record.Address.TheVariants.{Myself, Boot
 use Rattle.p2p_directory.specs.declared.record.Status.{Status}
 use Rattle.p2p_directory.specs.declared.record.Status.TheVariants.{Inert, Reserved}
 use Rattle.p2p_directory.specs.Calls.{Setup, Call, SetAt, Direction, Grant}
-use Rattle.p2p_directory.specs.Calls.Direction.{Listener}
 use Rattle.p2p_directory.specs.Calls.Event.{Tracked, Granted, Released}
 use Rattle.p2p_directory.specs.Moments.{cap, jitter}
 use Rattle.p2p_directory.specs.History.{same, is_own, is_inert, is_persistent, is_named, is_present_with, last_of}
@@ -20,11 +19,12 @@ use Rattle.p2p_directory.specs.Step
 use Rattle.p2p_directory.specs.World.{World, Known, Peer, last_ingress_by, may_listen}
 use Rattle.p2p_directory.specs.Step.{new_known, world_with}
 use Rattle.p2p_directory.specs.Answers.{is_present_in, IsTeardown, status_in}
-use Rattle.p2p_directory.specs.Record.{RecordView, new_record, is_eligible, may_come, reserved_record, unless_deletable}
+use Rattle.p2p_directory.specs.Record.{RecordView, new_record, is_eligible, reserved_record, unless_deletable}
 use Rattle.p2p_directory.specs.PeerSets.{latest_index, is_above}
-use Rattle.p2p_directory.specs.Directory.{DirectoryView, record_of, first_record, kept_after_release, record_with_sets, is_connectable, ChangesRecord, Reserves, TakesSet, AreTornDown}
+use Rattle.p2p_directory.specs.Blocks.{unblock_in}
+use Rattle.p2p_directory.specs.Directory.{DirectoryView, unblock_of, record_of, first_record, kept_after_release, record_with_sets, is_connectable, ChangesRecord, Reserves, TakesSet, AreTornDown}
 use Rattle.p2p_directory.specs.Refinement.{Refines, config_of, metadata_of, address_known}
-use Rattle.p2p_directory.proofs.Refinement.RecordOfPeer.{record_with, shown, shown_entitled, shown_busy, shown_may_come, shown_with_sets, some_given, release_of_record, settled, failed_once}
+use Rattle.p2p_directory.proofs.Refinement.RecordOfPeer.{record_with, shown, shown_entitled, shown_busy, shown_with_sets, some_given, release_of_record, settled, failed_once}
 use Rattle.p2p_directory.proofs.Definitions.Start.{new_world, new_at_start}
 use Rattle.p2p_directory.proofs.Definitions.Latest
 use Rattle.p2p_directory.proofs.Definitions.Latest.{latest_decides}
@@ -49,13 +49,6 @@ module _ {C S : Type 0} (s : Setup C S) where
       ap (λ sets. is_above index (latest_index sets)) stands.sets
       ∙ above_latest index (last_or None (World.world_at s (World.past s cs)).sets)
       ∙ sym (latest_decides s cs index)
-
-  pub tie_may_listen : (w : World C S) (d : DirectoryView C S) (p : C) (t : ℕ) → Refines s w d → w.unblock p ≡ None →
-      option_map_or (may_come t) (record_of s.cmp d p) false ≡ may_listen s p t w.sets (w.peer p) (w.unblock p)
-  tie_may_listen w d p t stands free =
-      ap (λ o. option_map_or (may_come t) o false) (stands.records p)
-      ∙ shown_may_come s p w.sets (w.peer p) t
-      ∙ ap (λ unblock. may_listen s p t w.sets (w.peer p) unblock) (sym free)
 
   pub tie_torn : (w v : World C S) (d d' : DirectoryView C S) (torn : List C) → Refines s w d → Refines s v d' → AreTornDown s.cmp d d' torn → IsTeardown s w v torn
   tie_torn w v d d' torn stands stands' down = record {
@@ -91,15 +84,20 @@ module _ {C S : Type 0} (s : Setup C S) where
       go false None any e = ap (shown_by false None) e
       go false (Some a) any e = ap (shown_by false (Some a)) e
 
-  pub tie_start : (d : DirectoryView C S) → d.config ≡ config_of s → d.sets ≡ [] → ((q : C) → record_of s.cmp d q ≡ first_record s.cmp s.bootstrappers s.own q) → Refines s (World.world_at s []) d
-  tie_start d config sets records =
+  pub tie_start : (d : DirectoryView C S) → d.config ≡ config_of s → d.sets ≡ [] → d.blocks ≡ [] → ((q : C) → record_of s.cmp d q ≡ first_record s.cmp s.bootstrappers s.own q) → Refines s (World.world_at s []) d
+  tie_start d config sets blocks records =
       let start : Refines s (new_world s) d = record {
         config = config;
         sets = sets;
         records = λ q. records q ∙ started q;
+        blocks = λ q. ap (λ blocks. unblock_in s.cmp blocks q) blocks;
       } in subst (λ w. Refines s w d) (sym (new_at_start s)) start
 
   -- CHANGES
+
+  -- blocks that stay are those of the world
+  pub same_blocks : (w : World C S) (d d' : DirectoryView C S) → Refines s w d → d'.blocks ≡ d.blocks → (q : C) → unblock_of s.cmp d' q ≡ w.unblock q
+  same_blocks w d d' stands same q = ap (λ blocks. unblock_in s.cmp blocks q) same ∙ stands.blocks q
 
   -- a peer that an event does not change
   pub unchanged : (p : C) (sets : List (SetAt C)) (peer : Peer C S) →
@@ -138,11 +136,12 @@ module _ {C S : Type 0} (s : Setup C S) where
     listened_present false false true inert free late e = refl
     listened_present false false false inert free late e = absurd (cc)
 
-    pub tie_listen : (w : World C S) (d d' : DirectoryView C S) (p : C) (t draw : ℕ) → Refines s w d → may_listen s p t w.sets (w.peer p) (w.unblock p) ≡ true → Reserves s.cmp d d' p t draw →
-        Refines s (world_with s (Granted p (record { t = t; draw = draw; direction = Listener })) w) d'
-    tie_listen w d d' p t draw stands may change = record {
+    pub tie_grant : (w : World C S) (d d' : DirectoryView C S) (p : C) (t draw : ℕ) (direction : Direction) → Refines s w d → may_listen s p t w.sets (w.peer p) (w.unblock p) ≡ true → Reserves s.cmp d d' p t draw →
+        Refines s (world_with s (Granted p (record { t = t; draw = draw; direction = direction })) w) d'
+    tie_grant w d d' p t draw direction stands may change = record {
       config = change.config ∙ stands.config;
       sets = change.sets ∙ stands.sets;
+      blocks = same_blocks w d d' stands change.blocks;
       records = λ q. change.records q ∙ at q (is_at (s.cmp p) q) refl;
     }
       where
@@ -150,7 +149,7 @@ module _ {C S : Type 0} (s : Setup C S) where
         present = listened_present (is_own s p) (is_named s p w.sets) (is_persistent s p) (is_inert (w.peer p).status) (not (World.is_blocked (w.unblock p) t)) (nat_le (w.peer p).known.reservable_at t) may
 
         grant : Grant
-        grant = record { t = t; draw = draw; direction = Listener }
+        grant = record { t = t; draw = draw; direction = direction }
 
         at : (q : C) (b : Bool) → is_at (s.cmp p) q ≡ b →
             (if is_at (s.cmp p) q then option_map (reserved_record t draw d.config.cooldown) (record_of s.cmp d q) else record_of s.cmp d q)
@@ -188,6 +187,7 @@ module _ {C S : Type 0} (s : Setup C S) where
     tie_release w d d' p direction stands busy change = record {
       config = change.config ∙ stands.config;
       sets = change.sets ∙ stands.sets;
+      blocks = same_blocks w d d' stands change.blocks;
       records = λ q. change.records q ∙ at q (is_at (s.cmp p) q) refl;
     }
       where
@@ -232,6 +232,7 @@ module _ {C S : Type 0} (s : Setup C S) where
   tie_track w d d' set stands forgotten change = record {
     config = change.config ∙ stands.config;
     sets = sets;
+    blocks = same_blocks w d d' stands change.blocks;
     records = λ q.
         change.records q
         ∙ (λ i. record_with_sets s.cmp (sets i) q (stands.records q i))

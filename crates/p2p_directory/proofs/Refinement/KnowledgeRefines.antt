@@ -1,17 +1,14 @@
 -- What is known of peers: that connects and updates are steps of the world that a directory refines, and what it tells of them.
-use Rattle.std.proofs.Common.{◌≡◌, ℕ, ◌-◌, ◌^◌, ◌<◌, min, Bool, true, false, ◌||◌, ◌&&◌, not, List, [], ◌∷◌, Option, Some, None, sym, ap, refl, ◌∙◌, length, map, filter, cond, arith}
-use Rattle.std.specs.Prelude.{if◌then◌else◌, is_some, nat_lt, nat_le, slice_get}
-use Rattle.std.specs.declared.cmp.Ordering.TheVariants.{Less, Equal}
+use Rattle.std.proofs.Common.{◌≡◌, ℕ, ◌-◌, ◌^◌, ◌<◌, min, Bool, true, false, ◌||◌, ◌&&◌, not, List, [], Option, Some, None, sym, ap, refl, ◌∙◌, length, map, arith, zip, filter_map, ◌==◌}
+use Rattle.std.specs.Prelude.{if◌then◌else◌, nat_lt, nat_le, slice_get}
+use Rattle.std.specs.declared.cmp.Ordering.TheVariants.{Equal}
 use Rattle.std.specs.BTreeMap.{is_at}
-use Rattle.std.specs.Cmp.{IsTotalOrder, eq_by_cmp_equiv}
-use Rattle.std.specs.List.{list_any, AllByRecursion}
+use Rattle.std.specs.Cmp.{IsTotalOrder}
+use Rattle.std.specs.List.{list_any}
 use Rattle.std.specs.List.Sorted.{IsStrictlySortedBy}
 use Rattle.std.specs.Map.{keys_of}
 use Rattle.std.specs.Option.{option_map, option_map_or}
 use Rattle.std.proofs.lemmas.Bool.Decides.{nat_tests}
-use Rattle.std.proofs.lemmas.Map.Entries.{option_filter, lookup-filter-values}
-use Rattle.std.proofs.lemmas.Map.Keys.{IsDistinct-from_sorted}
-use Rattle.std.proofs.lemmas.Map.Made.{is_some-lookup}
 use Rattle.std.proofs.lemmas.Map.Views.{tells_apart}
 use Rattle.p2p_discovery.specs.declared.discovery.Info.{Info}
 use Rattle.p2p_discovery.specs.declared.types.ingress.Ingress.{Ingress}
@@ -20,18 +17,20 @@ use Rattle.p2p_directory.specs.declared.record.Status.{Status}
 use Rattle.p2p_directory.specs.declared.record.Status.TheVariants.{Inert, Reserved, Active}
 use Rattle.p2p_directory.specs.Calls.{Setup, SetAt}
 use Rattle.p2p_directory.specs.Calls.Event.{Connected, Updated}
-use Rattle.p2p_directory.specs.History.{same, is_own, is_in, is_inert, is_reserved, is_persistent, is_named, is_present_with, is_newer, first_greatest, primary_count, secondary_count}
+use Rattle.p2p_directory.specs.History.{same, is_own, is_inert, is_reserved, is_persistent, is_named, is_present_with, is_newer, first_greatest, primary_count, secondary_count}
 use Rattle.p2p_directory.specs.World.{World, Known, Peer, last_ingress}
 use Rattle.p2p_directory.specs.Step
 use Rattle.p2p_directory.specs.Step.{new_known, world_with, status_connected}
-use Rattle.p2p_directory.specs.Answers.{is_present_in, is_tracked, wants, wants_with, active_info, sharable_of, sharable_info, IsNumberTracked}
+use Rattle.p2p_directory.specs.Answers.{is_present_in, wants, wants_with, active_info, sharable_of, sharable_info, shared_info, infos_for, epoch_millis, IsNumberTracked}
+use Rattle.p2p_directory.specs.PeerSets.{set_with}
 use Rattle.p2p_directory.specs.Record.{RecordView, is_myself, after_success, address_after_offer, address_after_infos, wants_by, sharable_by}
-use Rattle.p2p_directory.specs.Directory.{DirectoryView, record_of, connected_record, updated_record, infos_of, sharable_in, sharable_of_record, is_known, bit_vec_at, other_keys, Connects, Updates}
+use Rattle.p2p_directory.specs.Directory.{DirectoryView, record_of, connected_record, updated_record, infos_of, sharable_in, sharable_of_record, shared_at, infos_in, is_known, bit_vec_at, other_keys, Connects, Updates}
 use Rattle.p2p_directory.specs.Refinement.{Refines, address_given, address_known, address_of}
 use Rattle.p2p_directory.specs.Run.{bit_vec_of, bit_vec_in}
+use Rattle.p2p_directory.proofs.SetsAndRecords.Listing.{listed_by_value}
 use Rattle.p2p_directory.proofs.Definitions.Knowledge.{later, updated_all_with_best}
 use Rattle.p2p_directory.proofs.Refinement.RecordOfPeer.{record_with, shown, myself_is_own, absent_parts, inert_only}
-use Rattle.p2p_directory.proofs.Refinement.CallsRefine.{tie_status, unchanged, remains, or_true}
+use Rattle.p2p_directory.proofs.Refinement.CallsRefine.{tie_status, same_blocks, unchanged, remains, or_true}
 
 -- the cap of failures is above each limit
 capped : (limit fails : ℕ) → limit < 2 ^ 64 → nat_le limit (min fails (2 ^ 64 - 1)) ≡ nat_le limit fails
@@ -163,6 +162,7 @@ module _ {C S : Type 0} (s : Setup C S) where
   tie_update w d d' infos stands change = record {
     config = change.config ∙ stands.config;
     sets = change.sets ∙ stands.sets;
+    blocks = same_blocks s w d d' stands change.blocks;
     records = λ q.
         change.records q
         ∙ ap (option_map (updated_record (infos_of s.cmp infos q))) (stands.records q)
@@ -182,6 +182,7 @@ module _ {C S : Type 0} (s : Setup C S) where
     tie_connect w d d' p dialer stands reserved change = record {
       config = change.config ∙ stands.config;
       sets = change.sets ∙ stands.sets;
+      blocks = same_blocks s w d d' stands change.blocks;
       records = λ q. change.records q ∙ at q (is_at (s.cmp p) q) refl;
     }
       where
@@ -252,6 +253,23 @@ module _ {C S : Type 0} (s : Setup C S) where
           let parts = absent_parts s (is_own s p) (list_any (λ b. same s b.0 p) s.bootstrappers) (is_named s p w.sets) (is_inert peer.status) e in
           sym (λ i. if parts.0 i then Some s.own else active_info s (inert_only s peer.status parts.2 i) peer.known.info)
 
+  -- of a peer with its bit
+  told_alike : (w : World C S) (d : DirectoryView C S) (millis : ℕ) (e : C × Bool) → Refines s w d → shared_at s.cmp d.records millis e ≡ shared_info s w millis e
+  told_alike w d millis (q, true) stands = refl
+  told_alike w d millis (q, false) stands = ap (timely millis) (tie_info w d q stands)
+    where
+      timely : ℕ → Option (Info C S) → Option (Info C S)
+      timely millis o = elim o [ None ↦ None | Some i ↦ if nat_le i.timestamp millis then Some i else None ]
+
+  pub tie_infos : (w : World C S) (d : DirectoryView C S) (index : ℕ) (bits : List Bool) (t : ℕ) → Refines s w d → infos_in s.cmp d index bits t ≡ infos_for s w index bits t
+  tie_infos w d index bits t stands = λ i. answered (λ e. told_alike w d (epoch_millis t) e stands i) (set_with index (stands.sets i))
+    where
+      answered : (C × Bool → Option (Info C S)) → Option (SetAt C) → Option (List (Info C S))
+      answered told o = elim o [
+        | None ↦ Some []
+        | Some x ↦ if length bits == length x.primary then Some (filter_map told (zip x.primary bits)) else None
+      ]
+
   -- BITS
 
   wanted_given : (limit : ℕ) (given : Option Ingress) (status : Status) → wants_by {C = C} {S = S} limit status (address_given given) ≡ true
@@ -298,47 +316,22 @@ module _ {C S : Type 0} (s : Setup C S) where
 
   -- HOW MANY
 
-  all_others : (P : C → Type 0) (test : C × RecordView C S → Bool) (es : List (C × RecordView C S)) → AllByRecursion P (keys_of es) → AllByRecursion P (keys_of (filter test es))
-  all_others P test [] all = all
-  all_others P test (e ∷ es) all = go (test e) (all_others P test es all.1)
-    where
-      go : (b : Bool) → AllByRecursion P (keys_of (filter test es)) → AllByRecursion P (keys_of (cond b (e ∷ filter test es) (filter test es)))
-      go true rest = (all.0, rest)
-      go false rest = rest
-
-  -- the keys of some records are in order, where those of all are
-  sorted_others : (test : C × RecordView C S → Bool) (es : List (C × RecordView C S)) → IsStrictlySortedBy s.cmp (keys_of es) → IsStrictlySortedBy s.cmp (keys_of (filter test es))
-  unfolding IsStrictlySortedBy
-  sorted_others test [] up = up
-  sorted_others test (e ∷ es) up = go (test e) (sorted_others test es up.1)
-    where
-      go : (b : Bool) → IsStrictlySortedBy s.cmp (keys_of (filter test es)) → IsStrictlySortedBy s.cmp (keys_of (cond b (e ∷ filter test es) (filter test es)))
-      go true rest = (all_others (λ y. s.cmp e.0 y ≡ Less) test es up.0, rest)
-      go false rest = rest
-
   -- of a peer whose record is kept, whether it is another than the own one
-  other_shown : (p : C) (sets : List (SetAt C)) (peer : Peer C S) → is_some (option_filter (λ (r : RecordView C S). not (is_myself r.address)) (shown s p sets peer))
+  other_shown : (p : C) (sets : List (SetAt C)) (peer : Peer C S) → option_map_or (λ (r : RecordView C S). not (is_myself r.address)) (shown s p sets peer) false
       ≡ (is_present_with s p sets peer.status && not (is_own s p))
   other_shown p sets peer = go (is_present_with s p sets peer.status)
     where
-      kept : (own : Bool) → is_some (cond (not own) (Some (record_with s p sets peer)) None) ≡ not own
-      kept true = refl
-      kept false = refl
-
-      go : (b : Bool) → is_some (option_filter (λ (r : RecordView C S). not (is_myself r.address)) (if b then Some (record_with s p sets peer) else None)) ≡ (b && not (is_own s p))
-      go true = kept (is_myself (address_of s p peer.known)) ∙ ap not (myself_is_own s p peer.known)
+      go : (b : Bool) → option_map_or (λ (r : RecordView C S). not (is_myself r.address)) (if b then Some (record_with s p sets peer) else None) false ≡ (b && not (is_own s p))
+      go true = ap not (myself_is_own s p peer.known)
       go false = refl
 
   pub tie_tracked : IsTotalOrder s.cmp → (w : World C S) (d : DirectoryView C S) → Refines s w d → IsStrictlySortedBy s.cmp (keys_of d.records) → IsNumberTracked s w (length (other_keys d.records))
-  tie_tracked total w d stands up = (other_keys d.records, record { sorted = sorted_others (λ e. other e.1) d.records up; members = members }, refl)
-    where
-      other : RecordView C S → Bool
-      other r = not (is_myself r.address)
-
-      members : (p : C) → is_in s p (other_keys d.records) ≡ is_tracked s w p
-      members p =
-          (λ i. list_any (λ q. (eq_by_cmp_equiv total).symm q p i) (other_keys d.records))
-          ∙ sym (is_some-lookup (is_at (s.cmp p)) (filter (λ e. other e.1) d.records))
-          ∙ ap is_some (lookup-filter-values (eq_by_cmp_equiv total) other p d.records (IsDistinct-from_sorted s.cmp (keys_of d.records) up))
-          ∙ ap (λ o. is_some (option_filter other o)) (stands.records p)
-          ∙ other_shown p w.sets (w.peer p)
+  tie_tracked total w d stands up =
+      let lists = listed_by_value total (λ (r : RecordView C S). not (is_myself r.address)) d.records up in (
+        other_keys d.records,
+        record {
+          sorted = lists.sorted;
+          members = λ p. lists.members p ∙ ap (λ o. option_map_or (λ (r : RecordView C S). not (is_myself r.address)) o false) (stands.records p) ∙ other_shown p w.sets (w.peer p);
+        },
+        refl,
+      )

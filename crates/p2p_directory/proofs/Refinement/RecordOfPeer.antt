@@ -63,7 +63,7 @@ module _ {C S : Type 0} (s : Setup C S) where
   pub eligible_is_entitled : (p : C) (sets : List (SetAt C)) (peer : Peer C S) → is_eligible (record_with p sets peer) ≡ is_entitled s p sets
   eligible_is_entitled p sets peer = ap (λ b. not b && (is_named s p sets || is_persistent s p)) (myself_is_own p peer.known)
 
-  absent_not_entitled : (own named persistent inert : Bool) → ((persistent || named) || not inert) ≡ false → (not own && (named || persistent)) ≡ false
+  pub absent_not_entitled : (own named persistent inert : Bool) → ((persistent || named) || not inert) ≡ false → (not own && (named || persistent)) ≡ false
   absent_not_entitled true named persistent inert e = refl
   absent_not_entitled false true true inert e = absurd (cc)
   absent_not_entitled false true false inert e = absurd (cc)
@@ -94,34 +94,43 @@ module _ {C S : Type 0} (s : Setup C S) where
           ∙ ap (λ b. not (is_inert peer.status) && b) (sym (absent_not_entitled (is_own s p) (is_named s p sets) (is_persistent s p) (is_inert peer.status) e))
 
   -- it may come
-  le_not_lt : (m n : ℕ) → nat_le m n ≡ not (nat_lt n m)
+  pub le_not_lt : (m n : ℕ) → nat_le m n ≡ not (nat_lt n m)
   le_not_lt m n = grind (arith, nat_tests)
 
-  is_granted : (m i late : Bool) → is_grant (if m || not i then reserve.Unavailable else if late then reserve.RateLimited else reserve.Reserved) ≡ (not m && i && not late)
+  pub is_granted : (m i late : Bool) → is_grant (if m || not i then reserve.Unavailable else if late then reserve.RateLimited else reserve.Reserved) ≡ (not m && i && not late)
   is_granted true i late = refl
   is_granted false true true = refl
   is_granted false true false = refl
   is_granted false false late = refl
 
-  pub shown_may_come : (p : C) (sets : List (SetAt C)) (peer : Peer C S) (t : ℕ) →
-      option_map_or (may_come t) (shown p sets peer) false ≡ World.may_listen s p t sets peer None
-  shown_may_come p sets peer t = go (is_present_with s p sets peer.status) refl
+  pub shown_may_come : (p : C) (sets : List (SetAt C)) (peer : Peer C S) (unblock : Option ℕ) (t : ℕ) →
+      (not (World.is_blocked unblock t) && option_map_or (may_come t) (shown p sets peer) false) ≡ World.may_listen s p t sets peer unblock
+  shown_may_come p sets peer unblock t = go (is_present_with s p sets peer.status) refl
     where
-      bools : (own wanted inert late : Bool) → ((not own && wanted) && (not own && inert && not late)) ≡ ((((not own && wanted) && inert) && true) && not late)
-      bools true wanted inert late = refl
-      bools false true true late = refl
-      bools false true false late = refl
-      bools false false inert late = refl
+      bools : (free own wanted inert late : Bool) → (free && ((not own && wanted) && (not own && inert && not late))) ≡ ((((not own && wanted) && inert) && free) && not late)
+      bools true true wanted inert late = refl
+      bools true false true true late = refl
+      bools true false true false late = refl
+      bools true false false inert late = refl
+      bools false true wanted inert late = refl
+      bools false false true true late = refl
+      bools false false true false late = refl
+      bools false false false inert late = refl
+
+      neither : (free : Bool) → (free && false) ≡ false
+      neither true = refl
+      neither false = refl
 
       go : (b : Bool) → is_present_with s p sets peer.status ≡ b →
-          option_map_or (may_come t) (if b then Some (record_with p sets peer) else None) false
-          ≡ (((is_entitled s p sets && is_inert peer.status) && true) && nat_le peer.known.reservable_at t)
+          (not (World.is_blocked unblock t) && option_map_or (may_come t) (if b then Some (record_with p sets peer) else None) false)
+          ≡ (((is_entitled s p sets && is_inert peer.status) && not (World.is_blocked unblock t)) && nat_le peer.known.reservable_at t)
       go true e =
-          (λ i. eligible_is_entitled p sets peer i && is_granted (myself_is_own p peer.known i) (is_inert peer.status) (nat_lt t peer.known.reservable_at) i)
-          ∙ bools (is_own s p) (is_named s p sets || is_persistent s p) (is_inert peer.status) (nat_lt t peer.known.reservable_at)
-          ∙ (λ i. ((is_entitled s p sets && is_inert peer.status) && true) && sym (le_not_lt peer.known.reservable_at t) i)
+          (λ i. not (World.is_blocked unblock t) && (eligible_is_entitled p sets peer i && is_granted (myself_is_own p peer.known i) (is_inert peer.status) (nat_lt t peer.known.reservable_at) i))
+          ∙ bools (not (World.is_blocked unblock t)) (is_own s p) (is_named s p sets || is_persistent s p) (is_inert peer.status) (nat_lt t peer.known.reservable_at)
+          ∙ (λ i. ((is_entitled s p sets && is_inert peer.status) && not (World.is_blocked unblock t)) && sym (le_not_lt peer.known.reservable_at t) i)
       go false e =
-          sym (ap (λ b. ((b && is_inert peer.status) && true) && nat_le peer.known.reservable_at t)
+          neither (not (World.is_blocked unblock t))
+          ∙ sym (ap (λ b. ((b && is_inert peer.status) && not (World.is_blocked unblock t)) && nat_le peer.known.reservable_at t)
           (absent_not_entitled (is_own s p) (is_named s p sets) (is_persistent s p) (is_inert peer.status) e))
 
   -- A RELEASE

@@ -37,6 +37,7 @@ item_has {A} P before rest rest2 all x whole is h =
 -- there are slots for more peers
 pub room_grows : {C S : Type 0} (cmp : C → C → Ordering) (slots slots2 : List (C × Option (Metadata C S))) (x : Command C S) → ((q : C) → has_slot cmp slots q ≡ true → has_slot cmp slots2 q ≡ true)
     → has_room cmp slots x ≡ true → has_room cmp slots2 x ≡ true
+room_grows cmp slots slots2 (command.Dial peer now draw) more h = more peer h
 room_grows cmp slots slots2 (command.Listen peer now draw) more h = more peer h
 room_grows cmp slots slots2 (command.Track index peers) more h = refl
 room_grows cmp slots slots2 (command.Release peer) more h = refl
@@ -44,9 +45,20 @@ room_grows cmp slots slots2 (command.Connect peer dialer) more h = refl
 room_grows cmp slots slots2 (command.UpdatePeers infos) more h = refl
 room_grows cmp slots slots2 (command.Status peer) more h = refl
 room_grows cmp slots slots2 (command.Info peer) more h = refl
+room_grows cmp slots slots2 (command.Infos bit_vec now) more h = refl
 room_grows cmp slots slots2 (command.GetRandomBitVec place) more h = refl
 room_grows cmp slots slots2 command.LatestSetIndex more h = refl
 room_grows cmp slots slots2 command.Tracked more h = refl
+room_grows cmp slots slots2 (command.Block peer now) more h = refl
+room_grows cmp slots slots2 (command.UnblockExpired now) more h = refl
+room_grows cmp slots slots2 command.NextUnblock more h = refl
+room_grows cmp slots slots2 (command.BlockedPeers now) more h = refl
+room_grows cmp slots slots2 (command.GetPeerSet index) more h = refl
+room_grows cmp slots slots2 command.LatestUpdate more h = refl
+room_grows cmp slots slots2 command.All more h = refl
+room_grows cmp slots slots2 (command.Eligible peer now) more h = refl
+room_grows cmp slots slots2 (command.Acceptable peer now) more h = refl
+room_grows cmp slots slots2 (command.Dialable now) more h = refl
 
 -- the slots are for the same peers
 pub room_stays : {C S : Type 0} (cmp : C → C → Ordering) (slots slots2 : List (C × Option (Metadata C S))) (x : Command C S) → ((q : C) → has_slot cmp slots2 q ≡ has_slot cmp slots q)

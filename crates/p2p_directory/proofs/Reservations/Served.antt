@@ -1,43 +1,44 @@
 -- Serving one command answers by the calls accepted before, and leads to the world with it.
-use Rattle.std.proofs.Common.{◌≡◌, ℕ, ◌≤◌, ◌<◌, ◌^◌, Bool, true, false, not, ◌||◌, List, [], ◌∷◌, Option, Some, None, refl, sym, ◌∙◌, ap, subst, length}
-use Rattle.std.specs.Prelude.{if◌then◌else◌, nat_lt, is_some, slice_get}
+use Rattle.std.proofs.Common.{◌≡◌, ℕ, ◌≤◌, ◌<◌, ◌+◌, ◌^◌, Bool, true, false, not, ◌&&◌, ◌||◌, List, [], ◌∷◌, Option, Some, None, refl, sym, ◌∙◌, ap, subst}
+use Rattle.std.specs.Prelude.{if◌then◌else◌, nat_lt, is_some, IfSome, IfNone}
 use Rattle.std.specs.List.{list_all}
 use Rattle.std.specs.Option.{option_map, option_map_or}
 use Rattle.std.specs.BTreeMap.{is_at}
-use Rattle.std.specs.Cmp.{IsTotalOrder}
-use Rattle.std.specs.List.Sorted.{IsStrictlySortedBy}
-use Rattle.std.specs.Map.{keys_of}
 use Rattle.std.specs.declared.cmp.Ordering.TheVariants.{Equal}
 use Rattle.std.proofs.lemmas.Map.Views.{tells_apart}
-use Rattle.p2p_discovery.specs.declared.discovery.BitVec.{BitVec}
+use Rattle.std.proofs.lemmas.Bool.{and_parts}
 use Rattle.p2p_discovery.specs.declared.discovery.Info.{Info}
+use Rattle.p2p_discovery.specs.declared.types.ingress.Ingress.{Ingress}
 use Rattle.p2p_directory.specs.declared.directory.Metadata.{Metadata}
 use Rattle.p2p_directory.specs.declared.directory.Metadata.TheVariants as metadata
 use Rattle.p2p_directory.specs.declared.record.Status.{Status}
 use Rattle.p2p_directory.specs.declared.record.Status.TheVariants.{Inert, Reserved, Active}
 use Rattle.p2p_directory.specs.declared.run.commands.Reply.TheVariants as reply
 use Rattle.p2p_directory.specs.Calls.{Setup, Call, Event, Direction, Grant}
-use Rattle.p2p_directory.specs.Calls.Call.{Track, Listen, Connect, Release, Update, Ask}
-use Rattle.p2p_directory.specs.Calls.Question.{StatusOf, NumberTracked, LatestIndex, InfoOf, BitsAt}
-use Rattle.p2p_directory.specs.Calls.Direction.{Listener}
-use Rattle.p2p_directory.specs.Calls.Event.{Nothing, Tracked, Granted, Connected, Released, Updated}
+use Rattle.p2p_directory.specs.Calls.Call.{Track, Dial, Listen, Connect, Release, Update, Block, UnblockExpired}
+use Rattle.p2p_directory.specs.Calls.Direction.{Listener, Dialer}
+use Rattle.p2p_directory.specs.Calls.Event.{Nothing, Tracked, Granted, Connected, Released, Updated, Blocked, Expired}
 use Rattle.p2p_directory.specs.History
 use Rattle.p2p_directory.specs.History.{is_inert, is_reserved}
 use Rattle.p2p_directory.specs.World
 use Rattle.p2p_directory.specs.World.{World, event_in}
-use Rattle.p2p_directory.specs.Step.{world_with, new_known, unblock_after, status_connected}
-use Rattle.p2p_directory.specs.Answers.{is_present_in, was_taken, was_granted, IsNumberTracked}
-use Rattle.p2p_directory.specs.Record.{RecordView, may_come}
+use Rattle.p2p_directory.specs.Step.{world_with, new_known, status_connected}
+use Rattle.p2p_directory.specs.Moments.{cap}
+use Rattle.p2p_directory.specs.Answers.{is_present_in, was_taken, was_granted, was_blocked}
+use Rattle.p2p_directory.specs.Blocks.{IsAnyUntil}
+use Rattle.p2p_directory.specs.Record.{RecordView}
 use Rattle.p2p_directory.specs.PeerSets.{set_of, latest_index, is_above}
-use Rattle.p2p_directory.specs.Directory.{DirectoryView, is_busy, record_of, first_record, kept_after_release, sharable_in, bit_vec_at, other_keys, ChangesRecord, Reserves, Connects, Updates, TakesSet, AreTornDown}
+use Rattle.p2p_directory.specs.Directory.{DirectoryView, is_busy, record_of, first_record, kept_after_release, unblock_of, may_block, BlocksUntil, EndsBlocks, may_listen_in, may_dial_in, ingress_in, ChangesRecord, Reserves, Connects, Updates, TakesSet, AreTornDown}
 use Rattle.p2p_directory.specs.Held.{AreHeld}
 use Rattle.p2p_directory.specs.Private.Serving.{ServerView, StandsAt, IsServedAt}
 use Rattle.p2p_directory.specs.Private.Slots.{held_in}
 use Rattle.p2p_directory.specs.Refinement.{Refines, config_of, record_in, metadata_of}
-use Rattle.p2p_directory.specs.Run.{world_after, event_of, Holds, HasNoBlock}
+use Rattle.p2p_directory.specs.Run.{world_after, event_of, Holds}
 use Rattle.p2p_directory.proofs.Definitions.Law
 use Rattle.p2p_directory.proofs.LawsOfRuns.Forgotten
 use Rattle.p2p_directory.proofs.Refinement.CallsRefine
+use Rattle.p2p_directory.proofs.Refinement.DialsRefine
+use Rattle.p2p_directory.proofs.Refinement.BlocksRefine
 use Rattle.p2p_directory.proofs.Refinement.KnowledgeRefines
 
 module _ {C S : Type 0} (s : Setup C S) where
@@ -82,28 +83,27 @@ module _ {C S : Type 0} (s : Setup C S) where
     world_of_call : (cs : List (Call C S)) (c : Call C S) (e : Event C S) → event_in s (world_after s cs).sets (world_after s cs) c ≡ e → world_after s (c ∷ cs) ≡ world_with s e (world_after s cs)
     world_of_call cs c e is = Law.recomputed_is_one_step s some cs c ∙ ap (λ e. world_with s e (world_after s cs)) is
 
-    stands_with : (cs : List (Call C S)) (c : Call C S) (e : Event C S) (v : ServerView C S) → s.dial_fail_limit < 2 ^ 64 → ((p : C) → unblock_after s p e ((world_after s cs).unblock p) ≡ None) → event_in s (world_after s cs).sets (world_after s cs) c ≡ e →
+    stands_with : (cs : List (Call C S)) (c : Call C S) (e : Event C S) (v : ServerView C S) → s.dial_fail_limit < 2 ^ 64 → event_in s (world_after s cs).sets (world_after s cs) c ≡ e →
         Refines s (world_with s e (world_after s cs)) v.directory → Holds s (world_with s e (world_after s cs)) (held_in s.cmp v.slots) → StandsAt s (c ∷ cs) v
-    stands_with cs c e v fits unblocked is stands holds =
+    stands_with cs c e v fits is stands holds =
         let back = sym (world_of_call cs c e is) in
-        record { limit_fits = fits; refines = subst (λ w. Refines s w v.directory) back stands; unblocked = subst HasNoBlock back unblocked; holds = subst (λ w. Holds s w (held_in s.cmp v.slots)) back holds }
+        record { limit_fits = fits; refines = subst (λ w. Refines s w v.directory) back stands; holds = subst (λ w. Holds s w (held_in s.cmp v.slots)) back holds }
 
     -- where nothing changes
     pub same_views : (cs : List (Call C S)) (v v2 : ServerView C S) → v2.directory ≡ v.directory → ((q : C) → held_in s.cmp v2.slots q ≡ held_in s.cmp v.slots q) → StandsAt s cs v → StandsAt s cs v2
     same_views cs v v2 directory held at = record {
       limit_fits = at.limit_fits;
       refines = subst (Refines s (world_after s cs)) (sym directory) at.refines;
-      unblocked = at.unblocked;
       holds = record { peers = λ q. ap is_some (held q) ∙ at.holds.peers q; metadata = λ q. held q ∙ at.holds.metadata q };
     }
 
     -- a call that does nothing
-    idle : (cs : List (Call C S)) (c : Call C S) (v v2 : ServerView C S) → event_in s (world_after s cs).sets (world_after s cs) c ≡ Nothing →
+    pub idle : (cs : List (Call C S)) (c : Call C S) (v v2 : ServerView C S) → event_in s (world_after s cs).sets (world_after s cs) c ≡ Nothing →
         v2.directory ≡ v.directory → v2.slots ≡ v.slots → StandsAt s cs v → StandsAt s (c ∷ cs) v2
     idle cs c v v2 is directory slots at =
         let now = same_views cs v v2 directory (λ q. ap (λ slots. held_in s.cmp slots q) slots) at in
         let back = sym (world_of_call cs c Nothing is ∙ nothing_changes (world_after s cs) (Forgotten.absent s cs)) in
-        record { limit_fits = now.limit_fits; refines = subst (λ w. Refines s w v2.directory) back now.refines; unblocked = subst HasNoBlock back now.unblocked; holds = subst (λ w. Holds s w (held_in s.cmp v2.slots)) back now.holds }
+        record { limit_fits = now.limit_fits; refines = subst (λ w. Refines s w v2.directory) back now.refines; holds = subst (λ w. Holds s w (held_in s.cmp v2.slots)) back now.holds }
 
     -- TRACK
 
@@ -164,10 +164,6 @@ module _ {C S : Type 0} (s : Setup C S) where
     only_reserved Reserved e = refl
     only_reserved Active e = absurd (cc)
 
-    some_unless : {A : Type 0} (o : Option A) → (o ≡ None → ⊥) → is_some o ≡ true
-    some_unless None none = absurd (none refl)
-    some_unless (Some a) none = refl
-
     -- ONE COMMAND: v before it, v2 after it
     module _ (cs : List (Call C S)) (v v2 : ServerView C S) (at : StandsAt s cs v) where
       above : (index : ℕ) (b : Bool) → is_above index (latest_index v.directory.sets) ≡ b → list_all (λ x. nat_lt x.index index) (world_after s cs).sets ≡ b
@@ -182,14 +178,14 @@ module _ {C S : Type 0} (s : Setup C S) where
       }
 
       -- track, where the index is not above
-      pub served_untaken : (index : ℕ) (primary secondary : List C) → is_above index (latest_index v.directory.sets) ≡ false → v2.directory ≡ v.directory → v2.slots ≡ v.slots
+      served_untaken : (index : ℕ) (primary secondary : List C) → is_above index (latest_index v.directory.sets) ≡ false → v2.directory ≡ v.directory → v2.slots ≡ v.slots
           → IsServedAt s cs (Track index primary secondary) (reply.Track None) v2
       served_untaken index primary secondary old directory slots =
           let c : Call C S = Track index primary secondary in
           let is = tracked_is cs index primary secondary false (above index false old) in
           record { answer = ap was_taken (event cs c Nothing is); left = idle cs c v v2 is directory slots at }
 
-      pub served_taken : (index : ℕ) (primary secondary torn : List C) → is_above index (latest_index v.directory.sets) ≡ true → TakesSet s.cmp v.directory v2.directory (set_of s.cmp index primary secondary) →
+      served_taken : (index : ℕ) (primary secondary torn : List C) → is_above index (latest_index v.directory.sets) ≡ true → TakesSet s.cmp v.directory v2.directory (set_of s.cmp index primary secondary) →
           AreTornDown s.cmp v.directory v2.directory torn → v2.slots ≡ v.slots → IsServedAt s cs (Track index primary secondary) (reply.Track (Some torn)) v2
       served_taken index primary secondary torn next change down slots =
           let c : Call C S = Track index primary secondary in
@@ -198,35 +194,159 @@ module _ {C S : Type 0} (s : Setup C S) where
           let is = tracked_is cs index primary secondary true (above index true next) in
           let refines : Refines s (world_with s (Tracked set) w) v2.directory = CallsRefine.tie_track s w v.directory v2.directory set at.refines (Forgotten.absent s cs) change in
           let same : Holds s (world_with s (Tracked set) w) (held_in s.cmp v.slots) = record { peers = at.holds.peers; metadata = at.holds.metadata } in
-          let left = stands_with cs c (Tracked set) v2 at.limit_fits at.unblocked is refines (subst (λ slots. Holds s (world_with s (Tracked set) w) (held_in s.cmp slots)) (sym slots) same) in
+          let left = stands_with cs c (Tracked set) v2 at.limit_fits is refines (subst (λ slots. Holds s (world_with s (Tracked set) w) (held_in s.cmp slots)) (sym slots) same) in
           record {
             answer = (ap was_taken (event cs c (Tracked set) is), CallsRefine.tie_torn s w (world_after s (c ∷ cs)) v.directory v2.directory torn at.refines left.refines down);
             left = left;
           }
 
-      pub served_granted : (p : C) (now draw : ℕ) → option_map_or (may_come now) (record_of s.cmp v.directory p) false ≡ true → Reserves s.cmp v.directory v2.directory p now draw →
+      -- whether the set was taken or not
+      pub served_track : (index : ℕ) (primary secondary : List C) (torn : Option (List C)) → is_some torn ≡ is_above index (latest_index v.directory.sets) → IfNone torn (v2.directory ≡ v.directory) →
+          IfSome torn (λ _. TakesSet s.cmp v.directory v2.directory (set_of s.cmp index primary secondary)) → IfSome torn (AreTornDown s.cmp v.directory v2.directory) → v2.slots ≡ v.slots →
+          IsServedAt s cs (Track index primary secondary) (reply.Track torn) v2
+      served_track index primary secondary None answer same taken down slots = served_untaken index primary secondary (sym answer) same slots
+      served_track index primary secondary (Some torn) answer same taken down slots = served_taken index primary secondary torn (sym answer) taken down slots
+
+      -- a grant in either direction: what is granted is held
+      granted_left : (c : Call C S) (p : C) (now draw : ℕ) (direction : Direction) → World.may_listen s p now (world_after s cs).sets ((world_after s cs).peer p) ((world_after s cs).unblock p) ≡ true →
+          event_in s (world_after s cs).sets (world_after s cs) c ≡ Granted p (record { t = now; draw = draw; direction = direction }) → Reserves s.cmp v.directory v2.directory p now draw →
+          ((q : C) → held_in s.cmp v2.slots q ≡ (if is_at (s.cmp p) q then Some (metadata_of p direction) else held_in s.cmp v.slots q)) → StandsAt s (c ∷ cs) v2
+      granted_left c p now draw direction may is change held =
+          let w : World C S = world_after s cs in
+          let grant : Grant = record { t = now; draw = draw; direction = direction } in
+          stands_with cs c (Granted p grant) v2 at.limit_fits is (CallsRefine.tie_grant s exact w v.directory v2.directory p now draw direction at.refines may change)
+          (granted_holds w p grant (held_in s.cmp v.slots) (held_in s.cmp v2.slots) held at.holds)
+
+      -- listen
+      pub served_granted : (p : C) (now draw : ℕ) → may_listen_in s.cmp v.directory now p ≡ true → Reserves s.cmp v.directory v2.directory p now draw →
           ((q : C) → held_in s.cmp v2.slots q ≡ (if is_at (s.cmp p) q then Some (metadata.Listener p) else held_in s.cmp v.slots q)) →
           IsServedAt s cs (Listen p now draw) (reply.Listen true) v2
       served_granted p now draw can change held =
           let c : Call C S = Listen p now draw in
-          let w : World C S = world_after s cs in
           let grant : Grant = record { t = now; draw = draw; direction = Listener } in
-          let may = sym (CallsRefine.tie_may_listen s w v.directory p now at.refines (at.unblocked p)) ∙ can in
-          let is : event_in s w.sets w c ≡ Granted p grant = ap (World.listen_event s p now draw) may in
-          record {
-            answer = ap (λ e. reply.Listen (was_granted e)) (sym (event cs c (Granted p grant) is));
-            left =
-                stands_with cs c (Granted p grant) v2 at.limit_fits at.unblocked is (CallsRefine.tie_listen s exact w v.directory v2.directory p now draw at.refines may change)
-                (granted_holds w p grant (held_in s.cmp v.slots) (held_in s.cmp v2.slots) held at.holds);
-          }
+          let may = sym (DialsRefine.tie_may_listen s (world_after s cs) v.directory p now at.refines) ∙ can in
+          let is : event_in s (world_after s cs).sets (world_after s cs) c ≡ Granted p grant = ap (World.listen_event s p now draw) may in
+          record { answer = ap (λ e. reply.Listen (was_granted e)) (sym (event cs c (Granted p grant) is)); left = granted_left c p now draw Listener may is change held }
 
-      pub served_refused : (p : C) (now draw : ℕ) → option_map_or (may_come now) (record_of s.cmp v.directory p) false ≡ false →
-          v2.directory ≡ v.directory → v2.slots ≡ v.slots → IsServedAt s cs (Listen p now draw) (reply.Listen false) v2
+      pub served_refused : (p : C) (now draw : ℕ) → may_listen_in s.cmp v.directory now p ≡ false → v2.directory ≡ v.directory → v2.slots ≡ v.slots → IsServedAt s cs (Listen p now draw) (reply.Listen false) v2
       served_refused p now draw can directory slots =
           let c : Call C S = Listen p now draw in
-          let may = sym (CallsRefine.tie_may_listen s (world_after s cs) v.directory p now at.refines (at.unblocked p)) ∙ can in
+          let may = sym (DialsRefine.tie_may_listen s (world_after s cs) v.directory p now at.refines) ∙ can in
           let is : event_in s (world_after s cs).sets (world_after s cs) c ≡ Nothing = ap (World.listen_event s p now draw) may in
           record { answer = ap (λ e. reply.Listen (was_granted e)) (sym (event cs c Nothing is)); left = idle cs c v v2 is directory slots at }
+
+      -- dial: where it is granted, there is an address
+      dialled : (p : C) (now draw : ℕ) → may_dial_in s.cmp v.directory now p ≡ true → (a : Ingress) × (ingress_in s.cmp v.directory p ≡ Some a)
+          × (World.may_listen s p now (world_after s cs).sets ((world_after s cs).peer p) ((world_after s cs).unblock p) ≡ true)
+          × (event_in s (world_after s cs).sets (world_after s cs) (Dial p now draw) ≡ Granted p (record { t = now; draw = draw; direction = Dialer a }))
+      dialled p now draw can = go (World.address_with s p (w.peer p).known.info) refl
+        where
+          w : World C S
+          w = world_after s cs
+
+          may : World.may_dial s p now w.sets (w.peer p) (w.unblock p) ≡ true
+          may = sym (DialsRefine.tie_may_dial s w v.directory p now at.refines) ∙ can
+
+          parts : ((World.may_listen s p now w.sets (w.peer p) (w.unblock p) && World.is_dial_target s p w.sets) ≡ true) × (World.is_valid_address s (World.address_with s p (w.peer p).known.info) ≡ true)
+          parts = and_parts _ _ may
+
+          go : (o : Option Ingress) → World.address_with s p (w.peer p).known.info ≡ o → (a : Ingress) × (ingress_in s.cmp v.directory p ≡ Some a)
+              × (World.may_listen s p now w.sets (w.peer p) (w.unblock p) ≡ true)
+              × (event_in s w.sets w (Dial p now draw) ≡ Granted p (record { t = now; draw = draw; direction = Dialer a }))
+          go None e = absurd (let f = sym (ap (World.is_valid_address s) e) ∙ parts.1 in cc)
+          go (Some a) e = (
+            a,
+            DialsRefine.tie_ingress s w v.directory p now at.refines may ∙ e,
+            (and_parts (World.may_listen s p now w.sets (w.peer p) (w.unblock p)) (World.is_dial_target s p w.sets) parts.0).0,
+            (λ i. World.dial_event s p now draw (may i) (e i)),
+          )
+
+      pub served_dialled : (p : C) (now draw : ℕ) (m : Metadata C S) → may_dial_in s.cmp v.directory now p ≡ true → option_map (metadata.Dialer p) (ingress_in s.cmp v.directory p) ≡ Some m →
+          Reserves s.cmp v.directory v2.directory p now draw → ((q : C) → held_in s.cmp v2.slots q ≡ (if is_at (s.cmp p) q then Some m else held_in s.cmp v.slots q)) →
+          IsServedAt s cs (Dial p now draw) (reply.Dial true) v2
+      served_dialled p now draw m can is_for change held =
+          let c : Call C S = Dial p now draw in
+          let found = dialled p now draw can in
+          let grant : Grant = record { t = now; draw = draw; direction = Dialer found.0 } in
+          let same = sym (ap (option_map (metadata.Dialer p)) found.1) ∙ is_for in
+          let kept : (q : C) → held_in s.cmp v2.slots q ≡ (if is_at (s.cmp p) q then Some (metadata_of p (Dialer found.0)) else held_in s.cmp v.slots q) =
+          λ q. held q ∙ (λ i. if is_at (s.cmp p) q then sym same i else held_in s.cmp v.slots q) in
+          record { answer = ap (λ e. reply.Dial (was_granted e)) (sym (event cs c (Granted p grant) found.3)); left = granted_left c p now draw (Dialer found.0) found.2 found.3 change kept }
+
+      -- .. that is refused
+      not_dialled : (p : C) (now draw : ℕ) → may_dial_in s.cmp v.directory now p ≡ false → event_in s (world_after s cs).sets (world_after s cs) (Dial p now draw) ≡ Nothing
+      not_dialled p now draw can = ap (λ b. World.dial_event s p now draw b address) (sym (DialsRefine.tie_may_dial s w v.directory p now at.refines) ∙ can) ∙ nothing address
+        where
+          w : World C S
+          w = world_after s cs
+
+          address : Option Ingress
+          address = World.address_with s p (w.peer p).known.info
+
+          nothing : (o : Option Ingress) → World.dial_event s p now draw false o ≡ Nothing
+          nothing None = refl
+          nothing (Some a) = refl
+
+      pub served_not_dialled : (p : C) (now draw : ℕ) → may_dial_in s.cmp v.directory now p ≡ false → v2.directory ≡ v.directory → v2.slots ≡ v.slots → IsServedAt s cs (Dial p now draw) (reply.Dial false) v2
+      served_not_dialled p now draw can directory slots =
+          let c : Call C S = Dial p now draw in
+          let is = not_dialled p now draw can in
+          record { answer = ap (λ e. reply.Dial (was_granted e)) (sym (event cs c Nothing is)); left = idle cs c v v2 is directory slots at }
+
+      -- .. refused memory
+      pub served_no_dial : (p : C) (now draw : ℕ) → may_dial_in s.cmp v.directory now p ≡ true → v2.directory ≡ v.directory → v2.slots ≡ v.slots → IsServedAt s cs (Dial p now draw) reply.OutOfMemory v2
+      served_no_dial p now draw can directory slots =
+          let found = dialled p now draw can in
+          let grant : Grant = record { t = now; draw = draw; direction = Dialer found.0 } in
+          record { answer = ap was_granted (event cs (Dial p now draw) (Granted p grant) found.3); left = same_views cs v v2 directory (λ q. ap (λ slots. held_in s.cmp slots q) slots) at }
+
+      -- BLOCKS
+
+      block_is : (p : C) (now : ℕ) (b : Bool) → may_block s.cmp v.directory now p ≡ b → event_in s (world_after s cs).sets (world_after s cs) (Block p now) ≡ (if b then Blocked p now else Nothing)
+      block_is p now b can = ap (λ b. if b then Blocked p now else Nothing) (sym (BlocksRefine.tie_may_block s (world_after s cs) v.directory p now at.refines) ∙ can)
+
+      served_blocked : (p : C) (now : ℕ) → may_block s.cmp v.directory now p ≡ true → BlocksUntil s.cmp v.directory v2.directory p (cap (now + v.directory.config.block_duration)) → v2.slots ≡ v.slots →
+          IsServedAt s cs (Block p now) (reply.Block true) v2
+      served_blocked p now can change slots =
+          let w : World C S = world_after s cs in
+          let c : Call C S = Block p now in
+          let is = block_is p now true can in
+          let same : Holds s (world_with s (Blocked p now) w) (held_in s.cmp v.slots) = record { peers = at.holds.peers; metadata = at.holds.metadata } in
+          record {
+            answer = ap (λ e. reply.Block (was_blocked e)) (sym (event cs c (Blocked p now) is));
+            left =
+                stands_with cs c (Blocked p now) v2 at.limit_fits is (BlocksRefine.tie_block s w v.directory v2.directory p now at.refines change)
+                (subst (λ slots. Holds s (world_with s (Blocked p now) w) (held_in s.cmp slots)) (sym slots) same);
+          }
+
+      served_not_blocked : (p : C) (now : ℕ) → may_block s.cmp v.directory now p ≡ false → v2.directory ≡ v.directory → v2.slots ≡ v.slots → IsServedAt s cs (Block p now) (reply.Block false) v2
+      served_not_blocked p now can directory slots =
+          let c : Call C S = Block p now in
+          let is = block_is p now false can in
+          record { answer = ap (λ e. reply.Block (was_blocked e)) (sym (event cs c Nothing is)); left = idle cs c v v2 is directory slots at }
+
+      -- whether it was taken or not
+      pub served_block : (p : C) (now : ℕ) (taken : Bool) → taken ≡ may_block s.cmp v.directory now p → (taken ≡ false → v2.directory ≡ v.directory) →
+          (taken ≡ true → BlocksUntil s.cmp v.directory v2.directory p (cap (now + v.directory.config.block_duration))) → v2.slots ≡ v.slots → IsServedAt s cs (Block p now) (reply.Block taken) v2
+      served_block p now true answer same change slots = served_blocked p now (sym answer) (change refl) slots
+      served_block p now false answer same change slots = served_not_blocked p now (sym answer) (same refl) slots
+
+      -- .. refused memory
+      pub served_no_block : (p : C) (now : ℕ) → may_block s.cmp v.directory now p ≡ true → v2.directory ≡ v.directory → v2.slots ≡ v.slots → IsServedAt s cs (Block p now) reply.OutOfMemory v2
+      served_no_block p now can directory slots =
+          record { answer = ap was_blocked (event cs (Block p now) (Blocked p now) (block_is p now true can)); left = same_views cs v v2 directory (λ q. ap (λ slots. held_in s.cmp slots q) slots) at }
+
+      pub served_expired : (now : ℕ) (any : Bool) → IsAnyUntil (unblock_of s.cmp v.directory) now any → EndsBlocks s.cmp v.directory v2.directory now → v2.slots ≡ v.slots →
+          IsServedAt s cs (UnblockExpired now) (reply.UnblockExpired any) v2
+      served_expired now any told change slots =
+          let w : World C S = world_after s cs in
+          let same : Holds s (world_with s (Expired now) w) (held_in s.cmp v.slots) = record { peers = at.holds.peers; metadata = at.holds.metadata } in
+          record {
+            answer = BlocksRefine.tie_any_expired s w v.directory now any at.refines told;
+            left =
+                stands_with cs (UnblockExpired now) (Expired now) v2 at.limit_fits refl (BlocksRefine.tie_ended s w v.directory v2.directory now at.refines change)
+                (subst (λ slots. Holds s (world_with s (Expired now) w) (held_in s.cmp slots)) (sym slots) same);
+          }
 
       -- the status that is told of p says whether p is reserved
       reserved_is : (p : C) (o : Option Status) (b : Bool) → o ≡ option_map (λ r. r.status) (record_of s.cmp v.directory p) → option_map_or is_reserved o false ≡ b → is_reserved ((world_after s cs).peer p).status ≡ b
@@ -244,7 +364,7 @@ module _ {C S : Type 0} (s : Setup C S) where
           record {
             answer = ap (λ b. if b then reply.Connect else reply.NotReserved) (sym may);
             left =
-                stands_with cs (Connect p dialer) (Connected p dialer) v2 at.limit_fits at.unblocked is (KnowledgeRefines.tie_connect s exact w v.directory v2.directory p dialer at.refines status change)
+                stands_with cs (Connect p dialer) (Connected p dialer) v2 at.limit_fits is (KnowledgeRefines.tie_connect s exact w v.directory v2.directory p dialer at.refines status change)
                 (subst (λ slots. Holds s (world_with s (Connected p dialer) w) (held_in s.cmp slots)) (sym slots) holds);
           }
 
@@ -255,7 +375,7 @@ module _ {C S : Type 0} (s : Setup C S) where
           record {
             answer = refl;
             left =
-                stands_with cs (Update infos) (Updated infos) v2 at.limit_fits at.unblocked refl (KnowledgeRefines.tie_update s w v.directory v2.directory infos at.refines change)
+                stands_with cs (Update infos) (Updated infos) v2 at.limit_fits refl (KnowledgeRefines.tie_update s w v.directory v2.directory infos at.refines change)
                 (subst (λ slots. Holds s (world_with s (Updated infos) w) (held_in s.cmp slots)) (sym slots) same);
           }
 
@@ -283,7 +403,7 @@ module _ {C S : Type 0} (s : Setup C S) where
           record {
             answer = ap (λ b. if not b then reply.Release else reply.NotHeld) (sym live);
             left =
-                stands_with cs (Release p) (Released p direction) v2 at.limit_fits at.unblocked is (CallsRefine.tie_release s exact w v.directory v2.directory p direction at.refines live of_grant)
+                stands_with cs (Release p) (Released p direction) v2 at.limit_fits is (CallsRefine.tie_release s exact w v.directory v2.directory p direction at.refines live of_grant)
                 (released_holds w p direction (held_in s.cmp v.slots) (held_in s.cmp v2.slots) held at.holds);
           }
 
@@ -298,55 +418,11 @@ module _ {C S : Type 0} (s : Setup C S) where
           go q true e = sym (ap (held_in s.cmp v.slots) (sym (one_key p q e)) ∙ none)
           go q false e = refl
 
-      pub served_status : (p : C) (status : Option Status) → status ≡ option_map (λ r. r.status) (record_of s.cmp v.directory p) → v2.directory ≡ v.directory → v2.slots ≡ v.slots
-          → IsServedAt s cs (Ask (StatusOf p)) (reply.Status status) v2
-      served_status p status is directory slots =
-          record { answer = ap reply.Status (is ∙ CallsRefine.tie_status s (world_after s cs) v.directory p at.refines); left = idle cs (Ask (StatusOf p)) v v2 refl directory slots at }
-
-      pub served_latest : (latest : Option ℕ) → latest ≡ latest_index v.directory.sets → v2.directory ≡ v.directory → v2.slots ≡ v.slots
-          → IsServedAt s cs (Ask LatestIndex) (reply.LatestSetIndex latest) v2
-      served_latest latest is directory slots =
-          record { answer = ap reply.LatestSetIndex (is ∙ ap latest_index at.refines.sets); left = idle cs (Ask LatestIndex) v v2 refl directory slots at }
-
-      pub served_info : (p : C) (info : Option (Info C S)) → info ≡ sharable_in s.cmp v.directory p → v2.directory ≡ v.directory → v2.slots ≡ v.slots
-          → IsServedAt s cs (Ask (InfoOf p)) (reply.Info info) v2
-      served_info p info is directory slots =
-          record { answer = ap reply.Info (is ∙ KnowledgeRefines.tie_info s (world_after s cs) v.directory p at.refines); left = idle cs (Ask (InfoOf p)) v v2 refl directory slots at }
-
-      -- .. refused memory
-      pub served_no_info : (p : C) → (sharable_in s.cmp v.directory p ≡ None → ⊥) → v2.directory ≡ v.directory → v2.slots ≡ v.slots → IsServedAt s cs (Ask (InfoOf p)) reply.OutOfMemory v2
-      served_no_info p some_info directory slots = record {
-        answer = sym (ap is_some (KnowledgeRefines.tie_info s (world_after s cs) v.directory p at.refines)) ∙ some_unless (sharable_in s.cmp v.directory p) some_info;
-        left = same_views cs v v2 directory (λ q. ap (λ slots. held_in s.cmp slots q) slots) at;
-      }
-
-      pub served_bits : (place : ℕ) (bits : Option BitVec) → bits ≡ bit_vec_at s.cmp v.directory place → v2.directory ≡ v.directory → v2.slots ≡ v.slots
-          → IsServedAt s cs (Ask (BitsAt place)) (reply.GetRandomBitVec bits) v2
-      served_bits place bits is directory slots = record {
-        answer = ap reply.GetRandomBitVec (is ∙ KnowledgeRefines.tie_bits s at.limit_fits (world_after s cs) v.directory place (Forgotten.absent s cs) at.refines);
-        left = idle cs (Ask (BitsAt place)) v v2 refl directory slots at;
-      }
-
-      -- .. refused memory
-      pub served_no_bits : (place : ℕ) → (slice_get v.directory.sets place ≡ None → ⊥) → v2.directory ≡ v.directory → v2.slots ≡ v.slots → IsServedAt s cs (Ask (BitsAt place)) reply.OutOfMemory v2
-      served_no_bits place some_set directory slots = record {
-        answer = sym (ap (λ sets. is_some (slice_get sets place)) at.refines.sets) ∙ some_unless (slice_get v.directory.sets place) some_set;
-        left = same_views cs v v2 directory (λ q. ap (λ slots. held_in s.cmp slots q) slots) at;
-      }
-
-      pub served_tracked : IsTotalOrder s.cmp → (n : ℕ) → n ≡ length (other_keys v.directory.records) → IsStrictlySortedBy s.cmp (keys_of v.directory.records) → v2.directory ≡ v.directory → v2.slots ≡ v.slots
-          → IsServedAt s cs (Ask NumberTracked) (reply.Tracked n) v2
-      served_tracked total n is up directory slots = record {
-        answer = subst (IsNumberTracked s (world_after s cs)) (sym is) (KnowledgeRefines.tie_tracked s total (world_after s cs) v.directory at.refines up);
-        left = idle cs (Ask NumberTracked) v v2 refl directory slots at;
-      }
-
   -- before any command nothing is held
-  pub stands_at_start : (v : ServerView C S) → s.dial_fail_limit < 2 ^ 64 → v.directory.config ≡ config_of s → v.directory.sets ≡ [] →
+  pub stands_at_start : (v : ServerView C S) → s.dial_fail_limit < 2 ^ 64 → v.directory.config ≡ config_of s → v.directory.sets ≡ [] → v.directory.blocks ≡ [] →
       ((q : C) → record_of s.cmp v.directory q ≡ first_record s.cmp s.bootstrappers s.own q) → ((q : C) → held_in s.cmp v.slots q ≡ None) → StandsAt s [] v
-  stands_at_start v fits config sets records none = record {
+  stands_at_start v fits config sets blocks records none = record {
     limit_fits = fits;
-    refines = CallsRefine.tie_start s v.directory config sets records;
-    unblocked = λ p. refl;
+    refines = CallsRefine.tie_start s v.directory config sets blocks records;
     holds = record { peers = λ q. ap is_some (none q); metadata = none };
   }

@@ -1,14 +1,20 @@
 -- What holds between calls, after the record of one peer changed, and after a set was taken.
-use Rattle.std.proofs.Common.{◌≡◌, ℕ, Bool, true, false, ◌||◌, ◌&&◌, not, List, [], ◌∷◌, ◌++◌, map, Option, Some, None, IfSome, sym, ap, subst, refl, ◌∙◌}
+use Rattle.std.proofs.Common.{◌≡◌, ℕ, Bool, true, false, ◌||◌, ◌&&◌, not, List, [], ◌∷◌, ◌++◌, map, Result, Ok, Err, Option, Some, None, IfSome, sym, ap, subst, refl, ◌∙◌}
 use Rattle.std.specs.Prelude.{if◌then◌else◌, nat_lt, nat_le}
 use Rattle.std.specs.declared.cmp.Ordering.{Ordering}
-use Rattle.std.specs.Option.{option_map, option_map_or}
+use Rattle.std.specs.Option.{option_map, option_map_or, option_and_then}
+use Rattle.std.specs.Result.{OnErr, IfOk}
+use Rattle.std.specs.Option.{IfNone}
+use Rattle.std.specs.Duration.{as_nanos}
+use Rattle.std.specs.declared.alloc.AllocError.{AllocError}
+use Rattle.std.proofs.lemmas.Bool.{and_parts, and_from}
 use Rattle.std.specs.BTreeMap.{is_at}
 use Rattle.std.proofs.lemmas.List.{append-nil}
 use Rattle.std.proofs.lemmas.Map.Lookups.{CmpEqualImpliesEq}
 use Rattle.std.proofs.lemmas.Map.Views.{tells_apart}
 use Rattle.p2p_discovery.specs.declared.discovery.Info.{Info}
 use Rattle.p2p_discovery.specs.declared.types.ingress.Ingress.{Ingress}
+use Rattle.p2p_directory.specs.declared.directory.Config.{Config}
 use Rattle.p2p_directory.specs.declared.directory.Metadata.{Metadata}
 use Rattle.p2p_directory.specs.declared.directory.Metadata.TheVariants.{Dialer, Listener}
 use Rattle.p2p_directory.specs.declared.record.Address.{Address}
@@ -18,11 +24,14 @@ use Rattle.p2p_directory.specs.declared.record.Status.TheVariants.{Inert, Reserv
 use Rattle.p2p_directory.specs.declared.record.ReserveResult.TheVariants as answer
 use Rattle.p2p_directory.specs.Calls.{SetAt}
 use Rattle.p2p_directory.specs.History.{is_inert, first_greatest}
-use Rattle.p2p_directory.specs.Record.{RecordView, is_myself, is_wanted, is_eligible, is_grant, is_active, may_come, wants_by, is_deletable, reserved_record, unless_deletable, after_failure, after_success, address_after_update, address_after_offer}
-use Rattle.p2p_directory.specs.Directory.{ConfigView, DirectoryView, record_of, has_status, ChangesAt, ChangesRecord}
+use Rattle.p2p_directory.specs.Record.{RecordView, is_myself, is_wanted, is_outbound_target, is_dial_candidate, has_valid_ingress, ingress_of, may_be_dialled, reserve_answer, is_eligible, is_grant, is_active, may_come, wants_by, is_deletable, reserved_record, unless_deletable, after_failure, after_success, address_after_update, address_after_offer}
+use Rattle.p2p_directory.specs.Directory.{ConfigView, DirectoryView, record_at, record_of, has_status, ChangesAt, ChangesRecord}
 use Rattle.p2p_directory.specs.Directory.{is_known, released_record, address_after_release, kept_after_release, connected_record, updated_record}
 use Rattle.p2p_directory.specs.Private.Window.{SetWithBits, plain_sets, sets_with_bits, bits_with, with_bit_of}
-use Rattle.p2p_directory.specs.Private.Counts.{IsConsistent, HasOwn, AreMarked, IsInvariant}
+use Rattle.p2p_directory.specs.declared.record.Role.TheVariants.{Primary, Secondary}
+use Rattle.p2p_directory.specs.PeerSets.{set_count}
+use Rattle.p2p_directory.specs.Private.Dialling.{dialled_of, dialled_in, is_primary_record, is_secondary_record, is_record_in_set}
+use Rattle.p2p_directory.specs.Private.Counts.{reserved_if, IsConsistent, HasOwn, AreMarked, IsInvariant}
 use Rattle.p2p_directory.proofs.SetsAndRecords.Counting
 use Rattle.p2p_directory.proofs.SetsAndRecords.Counting.{one}
 use Rattle.p2p_directory.proofs.SetsAndRecords.Infos.{address_after-one_more}
@@ -33,6 +42,12 @@ and_false true = refl
 and_false false = refl
 
 -- ONE RECORD
+
+-- who is not reserved is as before
+pub as_before : {C S : Type 0} (here granted : Bool) (now draw cooldown : ℕ) (o : Option (RecordView C S)) → granted ≡ false → (if here then option_map (reserved_if granted now draw cooldown) o else o) ≡ o
+as_before true granted now draw cooldown None e = refl
+as_before true granted now draw cooldown (Some r) e = ap (λ b. Some (reserved_if b now draw cooldown r)) e
+as_before false granted now draw cooldown o e = refl
 
 module _ {C S : Type 0} where
   -- a record that stands between calls: it isn't deletable, and persists where it is the own one
@@ -201,6 +216,35 @@ module _ {C S : Type 0} (cmp : C → C → Ordering) where
       go None e f = tt
       go (Some r) e f = (e, f)
 
+  -- whether a record is in a set, by the sets
+  pub primary_by_sets : (max : ℕ) (sets : List (SetAt C)) (old : C → Option (RecordView C S)) → IsConsistent cmp max sets old → (q : C) → option_map_or is_primary_record (old q) false ≡ nat_lt 0 (set_count cmp Primary q sets)
+  primary_by_sets max sets old was q = go (old q) ∙ ap (nat_lt 0) (was.counts q).0
+    where
+      go : (o : Option (RecordView C S)) → option_map_or is_primary_record o false ≡ nat_lt 0 (option_map_or (λ r. r.primary_sets) o 0)
+      go None = refl
+      go (Some r) = refl
+
+  pub secondary_by_sets : (max : ℕ) (sets : List (SetAt C)) (old : C → Option (RecordView C S)) → IsConsistent cmp max sets old → (q : C) →
+      option_map_or is_secondary_record (old q) false ≡ (nat_lt 0 (set_count cmp Secondary q sets) && not (nat_lt 0 (set_count cmp Primary q sets)))
+  secondary_by_sets max sets old was q = go (old q) ∙ (λ i. nat_lt 0 ((was.counts q).1 i) && not (nat_lt 0 ((was.counts q).0 i)))
+    where
+      go : (o : Option (RecordView C S)) → option_map_or is_secondary_record o false ≡ (nat_lt 0 (option_map_or (λ r. r.secondary_sets) o 0) && not (nat_lt 0 (option_map_or (λ r. r.primary_sets) o 0)))
+      go None = refl
+      go (Some r) = refl
+
+  pub named_by_sets : (max : ℕ) (sets : List (SetAt C)) (old : C → Option (RecordView C S)) → IsConsistent cmp max sets old → (q : C) →
+      option_map_or is_record_in_set (old q) false ≡ true → (nat_lt 0 (set_count cmp Primary q sets) || nat_lt 0 (set_count cmp Secondary q sets)) ≡ true
+  named_by_sets max sets old was q e = (λ i. nat_lt 0 (sym (was.counts q).0 i) || nat_lt 0 (sym (was.counts q).1 i)) ∙ go (old q) e
+    where
+      either : (p q : Bool) → (p || (q && not p)) ≡ true → (p || q) ≡ true
+      either true q e = refl
+      either false true e = refl
+      either false false e = e
+
+      go : (o : Option (RecordView C S)) → option_map_or is_record_in_set o false ≡ true → (nat_lt 0 (option_map_or (λ r. r.primary_sets) o 0) || nat_lt 0 (option_map_or (λ r. r.secondary_sets) o 0)) ≡ true
+      go None e = absurd cc
+      go (Some r) e = either (nat_lt 0 r.primary_sets) (nat_lt 0 r.secondary_sets) e
+
   pub counts_kept : (max : ℕ) (sets : List (SetAt C)) (old new : C → Option (RecordView C S)) → IsConsistent cmp max sets old → ((q : C) → IsKept (old q) (new q)) → IsConsistent cmp max sets new
   counts_kept max sets old new was keeps = record {
     none_deletable = λ q. stays (new q) (keeps q).sound;
@@ -289,6 +333,40 @@ module _ {C S : Type 0} (cmp : C → C → Ordering) where
           go true e = known_reserved limit now draw cooldown (old q) (ap (λ k. option_map_or (may_come now) (old k) false) (sym (tells_apart exact p q e)) ∙ can)
           go false e = refl
 
+  -- who is dialled may come
+  dialled_may_come : (cfg : Config) (now : ℕ) (o : Option (RecordView C S)) (a : Ingress) → option_and_then (dialled_of cfg now) o ≡ Some a → option_map_or (may_come now) o false ≡ true
+  dialled_may_come cfg now None a e = absurd cc
+  dialled_may_come cfg now (Some r) a e = go (may_be_dialled now cfg.allow_private_ips cfg.allow_dns r) refl e
+    where
+      known : (address : Address C S) → has_valid_ingress cfg.allow_private_ips cfg.allow_dns address ≡ true → not (is_myself address) ≡ true
+      known Unknown h = absurd cc
+      known (Myself own) h = absurd cc
+      known (Bootstrapper ingress) h = refl
+      known (Discovered info fails) h = refl
+
+      wanted : (prim sec pers : Bool) → (prim || pers) ≡ true → (prim || sec || pers) ≡ true
+      wanted true sec pers h = refl
+      wanted false true pers h = refl
+      wanted false false pers h = h
+
+      go : (b : Bool) → may_be_dialled now cfg.allow_private_ips cfg.allow_dns r ≡ b → (if b then ingress_of r.address else None) ≡ Some a → may_come now r ≡ true
+      go true h f =
+          let parts = and_parts (is_dial_candidate cfg.allow_private_ips cfg.allow_dns r) (is_grant (reserve_answer now r)) h in
+          let candidate = and_parts (is_inert r.status && is_outbound_target r) (has_valid_ingress cfg.allow_private_ips cfg.allow_dns r.address) parts.0 in
+          let target = (and_parts (is_inert r.status) (is_outbound_target r) candidate.0).1 in
+          and_from (is_eligible r) (is_grant (reserve_answer now r))
+          (and_from (not (is_myself r.address)) (is_wanted r) (known r.address candidate.1) (wanted (nat_lt 0 r.primary_sets) (nat_lt 0 r.secondary_sets) r.persistent target)) parts.1
+      go false h f = absurd cc
+
+  -- p may have been reserved for a dial
+  pub dialled_at : (max limit : ℕ) (window : List (SetWithBits C)) (old new : List (C × RecordView C S)) (p : C) (now draw : ℕ) (cfg : Config) (r : Result (Option Ingress) AllocError) → CmpEqualImpliesEq cmp →
+      IsInvariant cmp max limit window (record_at cmp old) → OnErr r (new ≡ old) → IfOk r (λ o. o ≡ dialled_in cmp old cfg now p) → IfOk r (λ o. IfNone o (new ≡ old)) →
+      IfOk r (λ o. IfSome o (λ _. ChangesAt cmp old new p (option_map (reserved_record now draw (as_nanos cfg.peer_connection_cooldown))))) → IsInvariant cmp max limit window (record_at cmp new)
+  dialled_at max limit window old new p now draw cfg (Err e) exact was err answer refused change = subst (λ rs. IsInvariant cmp max limit window (record_at cmp rs)) (sym err) was
+  dialled_at max limit window old new p now draw cfg (Ok None) exact was err answer refused change = subst (λ rs. IsInvariant cmp max limit window (record_at cmp rs)) (sym refused) was
+  dialled_at max limit window old new p now draw cfg (Ok (Some a)) exact was err answer refused change =
+      reserved_at max limit window (record_at cmp old) (record_at cmp new) p now draw (as_nanos cfg.peer_connection_cooldown) exact was change (dialled_may_come cfg now (record_at cmp old p) a (sym answer))
+
   -- each record changes, and the bits are right again
   pub changed_with_bits : (max limit : ℕ) (window window2 : List (SetWithBits C)) (old new : C → Option (RecordView C S)) → IsInvariant cmp max limit window old → ((q : C) → IsKept (old q) (new q)) → plain_sets window2 ≡ plain_sets window → AreMarked cmp limit window2 new → IsInvariant cmp max limit window2 new
   changed_with_bits max limit window window2 old new was keeps sets bits = record {
@@ -300,12 +378,12 @@ module _ {C S : Type 0} (cmp : C → C → Ordering) where
   -- WHAT CALLERS SEE
 
   -- one record changes, and nothing else
-  pub changes_view : (d : DirectoryView C S) (config : ConfigView) (window window2 : List (SetWithBits C)) (records records2 : List (C × RecordView C S)) (p : C) (f : Option (RecordView C S) → Option (RecordView C S)) (b : Bool) →
-      record { config = config; sets = plain_sets window; records = records } ≡ d → window2 ≡ map (with_bit_of cmp p b) window → ChangesAt cmp records records2 p f →
-      ChangesRecord cmp d (record { config = config; sets = plain_sets window2; records = records2 }) p f
-  changes_view d config window window2 records records2 p f b view anew change =
-      subst (λ d. ChangesRecord cmp d (record { config = config; sets = plain_sets window2; records = records2 }) p f) view
-      (record { config = refl; sets = ap plain_sets anew ∙ plain_with_bit cmp p b window; records = change })
+  pub changes_view : (d : DirectoryView C S) (config : ConfigView) (window window2 : List (SetWithBits C)) (records records2 : List (C × RecordView C S)) (blocks : List (C × ℕ)) (p : C) (f : Option (RecordView C S) → Option (RecordView C S)) (b : Bool) →
+      record { config = config; sets = plain_sets window; records = records; blocks = blocks } ≡ d → window2 ≡ map (with_bit_of cmp p b) window → ChangesAt cmp records records2 p f →
+      ChangesRecord cmp d (record { config = config; sets = plain_sets window2; records = records2; blocks = blocks }) p f
+  changes_view d config window window2 records records2 blocks p f b view anew change =
+      subst (λ d. ChangesRecord cmp d (record { config = config; sets = plain_sets window2; records = records2; blocks = blocks }) p f) view
+      (record { config = refl; sets = ap plain_sets anew ∙ plain_with_bit cmp p b window; blocks = refl; records = change })
 
   -- whose status passes a test does so again, where the one record that changes does
   pub status_after_change : (test : Status → Bool) (d d2 : DirectoryView C S) (p : C) (f : Option (RecordView C S) → Option (RecordView C S)) → ChangesRecord cmp d d2 p f →

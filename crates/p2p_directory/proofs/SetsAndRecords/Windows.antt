@@ -1,6 +1,6 @@
 -- Retained sets with their bits: what a new bit leaves, and that their indices ascend.
 use Rattle.std.proofs.Common.{◌≡◌, ℕ, zero, suc, ◌<◌, ◌≤◌, ◌+◌, Bool, true, false, cond, ◌||◌, List, [], ◌∷◌, ◌++◌, map, take, drop, length, get_or, Option, Some, None, sym, ap, refl, subst, ◌∙◌, arith}
-use Rattle.std.specs.Prelude.{is_some, nat_lt, nat_eq, option_to_list, find, slice_get}
+use Rattle.std.specs.Prelude.{◌==◌, is_some, nat_lt, nat_eq, option_to_list, find, slice_get}
 use Rattle.std.specs.declared.cmp.Ordering.{Ordering}
 use Rattle.std.specs.declared.cmp.Ordering.TheVariants.{Less, Equal, Greater}
 use Rattle.std.specs.Ordering.{nat_cmp}
@@ -18,11 +18,11 @@ use Rattle.std.proofs.lemmas.Map.Entries.{none_past_head}
 use Rattle.std.proofs.lemmas.Map.Keys.{sorted_tail, IsDistinct-from_sorted}
 use Rattle.std.proofs.lemmas.Map.Made.{is_some-lookup}
 use Rattle.p2p_discovery.specs.BitSets.{with_bit, unset}
-use Rattle.p2p_directory.specs.PeerSets.{has_key, latest_index, is_above}
+use Rattle.p2p_directory.specs.PeerSets.{has_key, latest_index, is_above, set_with}
 use Rattle.p2p_directory.proofs.SetsAndRecords.Counting.{one}
 use Rattle.p2p_directory.proofs.SetsAndRecords.Naming.{all_joined}
 use Rattle.p2p_directory.specs.Calls.{SetAt}
-use Rattle.p2p_directory.specs.Private.Window.{SetWithBits, plain_set, plain_sets, set_with_bits, sets_with_bits, bits_with, with_bit_of, IsAscending}
+use Rattle.p2p_directory.specs.Private.Window.{SetWithBits, plain_set, plain_sets, set_with_bits, sets_with_bits, bits_with, with_bit_of, IsAscending, set_at}
 
 next : (i : ℕ) → suc i ≡ i + 1
 next i = omega arith
@@ -243,3 +243,23 @@ module _ {C : Type 0} where
   -- and there is none where there is no such place
   pub none_shown : (window : List (SetWithBits C)) (place : ℕ) → slice_get window place ≡ None → slice_get (plain_sets window) place ≡ None
   none_shown window place e = slice_get-map plain_set window place ∙ ap (option_map plain_set) e
+
+  -- SETS WITHOUT THEIR BITS
+
+  -- the set with an index
+  pub set_with_plain : (window : List (SetWithBits C)) (index : ℕ) → set_with index (plain_sets window) ≡ option_map plain_set (set_at window index)
+  set_with_plain [] index = refl
+  set_with_plain (x ∷ window) index = go (x.index == index) (set_with_plain window index)
+    where
+      go : (b : Bool) → set_with index (plain_sets window) ≡ option_map plain_set (set_at window index) →
+          cond b (Some (plain_set x)) (set_with index (plain_sets window)) ≡ option_map plain_set (cond b (Some x) (set_at window index))
+      go true rest = refl
+      go false rest = rest
+
+  -- the last set
+  pub last_plain : (window : List (SetWithBits C)) → last_or None (plain_sets window) ≡ option_map plain_set (last_or None window)
+  last_plain window = go None window
+    where
+      go : (o : Option (SetWithBits C)) (window : List (SetWithBits C)) → last_or (option_map plain_set o) (plain_sets window) ≡ option_map plain_set (last_or o window)
+      go o [] = refl
+      go o (x ∷ window) = go (Some x) window

@@ -3,7 +3,8 @@ use Rattle.std.specs.Prelude.{ℕ, ◌+◌, ◌*◌, ◌≤◌, Bool, not, ◌&&
 use Rattle.p2p_directory.specs.Calls.{Setup, SetAt}
 use Rattle.p2p_directory.specs.History.{is_in, is_named, is_inert, is_persistent}
 use Rattle.p2p_directory.specs.World.{World}
-use Rattle.p2p_directory.specs.Answers.{Lists, is_present_in}
+use Rattle.p2p_directory.specs.Answers.{is_present_in}
+use Rattle.p2p_directory.specs.Lists.{Lists}
 
 module _ {C S : Type 0} (s : Setup C S) where
   -- the set names p, in either role
@@ -13,7 +14,7 @@ module _ {C S : Type 0} (s : Setup C S) where
   -- the set names at most n distinct peers
   pub record NamesAtMost (n : ℕ) (x : SetAt C) : Type 0 where
     pub peers : List C
-    pub all : Lists s (names_in x) peers
+    pub all : Lists s.cmp (names_in x) peers
     pub few : length peers ≤ n
 
   -- p isn't inert, and no retained set names it
@@ -24,6 +25,6 @@ module _ {C S : Type 0} (s : Setup C S) where
   -- those that are left over
   abbrev pub IsBounded : ℕ → World C S → Type 0
   IsBounded n w =
-      (present persistent left_over : List C) → Lists s (is_present_in s w) present →
-      Lists s (is_persistent s) persistent → Lists s (is_left_over w) left_over →
+      (present persistent left_over : List C) → Lists s.cmp (is_present_in s w) present →
+      Lists s.cmp (is_persistent s) persistent → Lists s.cmp (is_left_over w) left_over →
       length present ≤ n * s.max_sets + length persistent + length left_over

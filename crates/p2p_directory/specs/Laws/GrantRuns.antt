@@ -5,20 +5,28 @@ use Rattle.std.specs.Prelude.{None, option_to_list}
 use Rattle.std.specs.List.{AllByRecursion}
 use Rattle.p2p_directory.specs.Moments.{cap}
 use Rattle.p2p_directory.specs.Calls.{Setup, Call}
-use Rattle.p2p_directory.specs.Calls.Call.{Listen}
+use Rattle.p2p_directory.specs.Calls.Call.{Dial, Listen, Block}
 use Rattle.p2p_directory.specs.History.{same}
 use Rattle.p2p_directory.specs.Answers.{is_present_in}
 use Rattle.p2p_directory.specs.declared.run.commands.Reply.{Reply}
 use Rattle.p2p_directory.specs.declared.run.commands.Reply.TheVariants as reply
 use Rattle.p2p_directory.specs.Run.{world_after, next}
+use Rattle.p2p_directory.specs.Laws.Grants.{moment_or, AreOver}
 
 module _ {C S : Type 0} (s : Setup C S) where
   -- ONE COMMAND AND ITS REPLY
 
   -- the moment at which p was granted by it
   abbrev pub granted_by : C → Call C S → Reply C S → Option ℕ
+  granted_by p (Dial q t draw) (reply.Dial true) = if same s q p then Some t else None
   granted_by p (Listen q t draw) (reply.Listen true) = if same s q p then Some t else None
   granted_by p _ _ = None
+
+  -- the end of a block of p that was taken by it
+  abbrev pub blocked_by : C → Call C S → Reply C S → Option ℕ
+  blocked_by p (Block q t) (reply.Block true) =
+      if same s q p then Some (cap (t + s.block_duration)) else None
+  blocked_by p _ _ = None
 
   -- COOLDOWN
 
@@ -42,3 +50,24 @@ module _ {C S : Type 0} (s : Setup C S) where
       × KeepCooldown p (grants_after p (next s before c r) (granted_by p c r) ts)
       (next s before c r) cs rs
   KeepCooldown p ts before _ _ = Unit {0}
+
+  -- BLOCKS
+
+  -- the moments of the commands that may grant, block or end a block never go back: each is now or
+  -- later, and none is before that of an earlier command
+  abbrev pub GoForward : ℕ → List (Call C S) → Type 0
+  GoForward now [] = Unit {0}
+  GoForward now (c ∷ cs) = (now ≤ moment_or s now c) × GoForward (moment_or s now c) cs
+
+  -- a grant, if there is one, comes when these moments are over
+  abbrev pub IsAfter : Option ℕ → List ℕ → Type 0
+  IsAfter None ms = Unit {0}
+  IsAfter (Some t) ms = AreOver s t ms
+
+  -- with blocks of p until these moments: each grant of p comes when every block of p that was
+  -- taken before it is over
+  abbrev pub KeepBlocks : C → List ℕ → List (Call C S) → List (Reply C S) → Type 0
+  KeepBlocks p ms (c ∷ cs) (r ∷ rs) =
+      IsAfter (granted_by p c r) ms
+      × KeepBlocks p (option_to_list (blocked_by p c r) ++ ms) cs rs
+  KeepBlocks p ms _ _ = Unit {0}

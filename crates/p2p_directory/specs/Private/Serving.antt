@@ -13,7 +13,7 @@ use Rattle.p2p_directory.specs.Directory.{DirectoryView}
 use Rattle.p2p_directory.specs.Refinement.{Refines}
 use Rattle.p2p_directory.specs.Private.Slots.{has_slot, held_in}
 use Rattle.p2p_directory.specs.Run.{setup_of, call_of, world_after}
-use Rattle.p2p_directory.specs.Run.{IsAnswer, next, Holds, HasNoBlock}
+use Rattle.p2p_directory.specs.Run.{IsAnswer, next, Holds}
 
 -- a directory, and slots for the reservations that it granted
 pub record ServerView (C S : Type 0) : Type 0 where
@@ -23,6 +23,7 @@ pub record ServerView (C S : Type 0) : Type 0 where
 module _ {C S : Type 0} (cmp : C → C → Ordering) where
   -- there is a slot for what the command may be granted
   abbrev pub has_room : List (C × Option (Metadata C S)) → Command C S → Bool
+  has_room slots (command.Dial peer now draw) = has_slot cmp slots peer
   has_room slots (command.Listen peer now draw) = has_slot cmp slots peer
   has_room slots _ = true
 
@@ -31,7 +32,6 @@ module _ {C S : Type 0} (s : Setup C S) where
   pub record StandsAt (calls : List (Call C S)) (v : ServerView C S) : Type 0 where
     pub limit_fits : s.dial_fail_limit < 2 ^ 64
     pub refines : Refines s (world_after s calls) v.directory
-    pub unblocked : HasNoBlock (world_after s calls)
     pub holds : Holds s (world_after s calls) (held_in s.cmp v.slots)
 
   -- the reply to one more call answers at its point, and what is left stands at the next

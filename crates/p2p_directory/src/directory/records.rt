@@ -1,6 +1,7 @@
 //! What a directory keeps of each peer, seen at each key.
 
-ghost use Rattle.std.specs.Prelude.{◌≡◌, ◌∷◌, [], false, true, IfOk, IfSome, IfNone, Some};
+ghost use Rattle.std.specs.Prelude.{◌≡◌, ◌∷◌, [], false, true, not, IfOk, IfSome, IfNone, Some};
+ghost use Rattle.std.specs.Prelude.{None, IsOk, OnErr};
 ghost use Rattle.std.specs.Prelude.{if◌then◌else◌, length};
 ghost use Rattle.std.specs.Option.{option_map, option_map_or, option_copied};
 ghost use Rattle.std.specs.Map.{keys_of};
@@ -9,15 +10,18 @@ ghost use Rattle.std.specs.Duration.{as_nanos};
 ghost use Rattle.std.specs.BTreeMap.{is_at, get};
 ghost use Rattle.p2p_directory.specs.History.{is_inert, is_reserved};
 ghost use Rattle.p2p_directory.specs.Record.{may_come, reserved_record};
+ghost use Rattle.p2p_discovery.specs.Ingress.{takes_none};
+ghost use Rattle.p2p_directory.specs.Record.{is_myself};
 ghost use Rattle.p2p_directory.specs.Private.Counts.{reserved_if};
+ghost use Rattle.p2p_directory.specs.Private.Dialling.{dialled_of, dialled_in, is_grant_of};
 ghost use Rattle.p2p_directory.specs.Directory.{key_of, has_status, is_busy, is_known, record_at};
 ghost use Rattle.p2p_directory.specs.Directory.{first_record};
 ghost use Rattle.p2p_directory.specs.Directory.{released_record, kept_after_release};
 ghost use Rattle.p2p_directory.specs.Directory.{connected_record, updated_record, ChangesAt};
 
-use crate::directory::Metadata;
+use crate::directory::{Config, Metadata};
 use crate::kept::forget;
-use crate::record::{Record, ReserveResult};
+use crate::record::{DialStatus, Record, ReserveResult};
 use p2p_discovery::codec::PublicKey;
 use p2p_discovery::discovery::Info;
 use p2p_discovery::types::Ingress;
@@ -27,6 +31,7 @@ use std::marker::Model;
 use std::time::Duration;
 
 pub mod counts;
+mod listing;
 
 /// The records of peers. A contract sees the list of keys with their records, in ascending order.
 #[derive(Drop)]
@@ -94,6 +99,70 @@ impl<C: PublicKey> Records<C> {
         let reserved = self.ask(peer, now, draw, cooldown);
         let _after = self.map.len();
         reserved
+    }
+
+    // Reserves the peer for a dial, where one is granted by its record, and answers the ingress
+    // that is to be dialled.
+    fn ask_dial(
+        &mut self,
+        peer: &C,
+        now: Duration,
+        draw: Duration,
+        cfg: &Config,
+    ) -> Result<Option<Ingress>, AllocError>
+        ensures none { IfNone (dialled_in C.cmp self.old cfg.now (as_nanos now) peer.now)
+            (result ≡ Ok None) }
+        ensures socket { IfSome (dialled_in C.cmp self.old cfg.now (as_nanos now) peer.now)
+            (λ ingress. takes_none ingress ≡ true → IsOk result) }
+        ensures answer { IfOk result (λ ingress.
+            ingress ≡ dialled_in C.cmp self.old cfg.now (as_nanos now) peer.now) }
+        ensures change { ChangesAt C.cmp self.old self.new peer.now
+            (option_map (reserved_if (is_grant_of result) (as_nanos now) (as_nanos draw)
+            (as_nanos cfg.now.peer_connection_cooldown))) }
+    {
+        match self.map.get_mut(peer) {
+            Some(found) => dial_record(found, now, draw, cfg),
+            None => Ok(None),
+        }
+    }
+
+    /// Reserves the peer for a dial, where one is granted by its record, and answers the ingress
+    /// that is to be dialled. Else, and where memory for it is refused, all is as it was.
+    pub fn dial(
+        &mut self,
+        peer: &C,
+        now: Duration,
+        draw: Duration,
+        cfg: &Config,
+    ) -> Result<Option<Ingress>, AllocError>
+        ensures err { OnErr result (self.new ≡ self.old) }
+        ensures none { IfNone (dialled_in C.cmp self.old cfg.now (as_nanos now) peer.now)
+            (result ≡ Ok None) }
+        ensures socket { IfSome (dialled_in C.cmp self.old cfg.now (as_nanos now) peer.now)
+            (λ ingress. takes_none ingress ≡ true → IsOk result) }
+        ensures answer { IfOk result (λ ingress.
+            ingress ≡ dialled_in C.cmp self.old cfg.now (as_nanos now) peer.now) }
+        ensures refused { IfOk result (λ ingress. IfNone ingress (self.new ≡ self.old)) }
+        ensures granted { IfOk result (λ ingress. IfSome ingress (λ _.
+            ChangesAt C.cmp self.old self.new peer.now (option_map (reserved_record
+            (as_nanos now) (as_nanos draw) (as_nanos cfg.now.peer_connection_cooldown))))) }
+    {
+        // For the proof: the clauses of `len` say that the keys are in order.
+        let _before = self.map.len();
+        let dialled = self.ask_dial(peer, now, draw, cfg);
+        let _after = self.map.len();
+        dialled
+    }
+
+    /// Whether the peer may be blocked: it is not the local node.
+    pub fn is_blockable(&self, peer: &C) -> bool
+        ensures { result ≡ not (option_map_or (λ r. is_myself r.address)
+            (record_at C.cmp self.now peer.now) false) }
+    {
+        match self.map.get(peer) {
+            Some(found) => found.is_blockable(),
+            None => true,
+        }
     }
 
     /// Ends the reservation of its peer, and takes out the record where it is deletable then. Says
@@ -191,6 +260,37 @@ fn reserve_record<C: PublicKey>(
     match found.reserve(now, draw, cooldown) {
         ReserveResult::Reserved => true,
         ReserveResult::RateLimited | ReserveResult::Unavailable => false,
+    }
+}
+
+// Reserves the peer of the record for a dial, where one is granted, and answers the ingress that is
+// to be dialled. The room for it is taken before the record changes.
+fn dial_record<C: PublicKey>(
+    found: &mut Record<C>,
+    now: Duration,
+    draw: Duration,
+    cfg: &Config,
+) -> Result<Option<Ingress>, AllocError>
+    ensures none { IfNone (dialled_of cfg.now (as_nanos now) found.old) (result ≡ Ok None) }
+    ensures socket { IfSome (dialled_of cfg.now (as_nanos now) found.old)
+        (λ ingress. takes_none ingress ≡ true → IsOk result) }
+    ensures answer { IfOk result (λ ingress.
+        ingress ≡ dialled_of cfg.now (as_nanos now) found.old) }
+    ensures after { found.new ≡ reserved_if (is_grant_of result) (as_nanos now) (as_nanos draw)
+        (as_nanos cfg.now.peer_connection_cooldown) found.old }
+{
+    if found.dialable(now, cfg.allow_private_ips, cfg.allow_dns) == DialStatus::Unavailable
+        || found.reserve_result(now) != ReserveResult::Reserved
+    {
+        return Ok(None);
+    }
+    match found.ingress() {
+        Some(ingress) => {
+            let ingress = ingress.clone()?;
+            found.set_reserved(now, draw, cfg.peer_connection_cooldown);
+            Ok(Some(ingress))
+        }
+        None => Ok(None),
     }
 }
 

@@ -15,6 +15,10 @@ use std::num::NonZeroUsize;
 use std::test::Fail;
 use std::time::Duration;
 
+mod blocks;
+mod dialling;
+mod peer_sets;
+
 fn now() -> Duration {
     Duration::from_secs(100)
 }
@@ -56,6 +60,11 @@ fn has_bits(
         Some(found) => Ok(found.index == index && found.bits == bits),
         None => Ok(false),
     }
+}
+
+// Whether the peers are just those with these keys, in their order.
+fn are_keys(peers: &[TestKey], keys: &[u64]) -> bool {
+    peers.len() == keys.len() && peers.iter().zip(keys).all(|(peer, key)| peer.0 == *key)
 }
 
 // The timestamp and the port of the info that others may be told of a peer.

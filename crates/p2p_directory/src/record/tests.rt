@@ -1,6 +1,6 @@
 //! Each call of a record, by its answers.
 
-use crate::record::{Address, DialStatus, Record, ReserveResult, Status};
+use crate::record::{Address, DialStatus, Dialable, Record, ReserveResult, Status};
 use p2p_discovery::codec::{TestKey, TestSignature};
 use p2p_discovery::discovery::Info;
 use p2p_discovery::types::{Hostname, Ingress, IpAddr, SocketAddr};
@@ -74,6 +74,13 @@ fn release(rt: &impl Abort, record: &mut Record<TestKey>) {
     assert!(rt; record.status() != Status::Inert);
     record.release();
     assert_eq!(rt; record.status(), Status::Inert);
+}
+
+#[test]
+fn nobody_is_dialable_at_first(rt: HostRuntime) {
+    let dialable: Dialable<TestKey> = Dialable::new(rt.alloc());
+    assert!(rt; dialable.peers.is_empty());
+    assert_eq!(rt; dialable.next_query_at, None);
 }
 
 #[test]

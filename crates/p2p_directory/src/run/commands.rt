@@ -1,7 +1,7 @@
 //! Commands and their replies.
 
-use crate::directory::TrackedPeers;
-use crate::record::Status;
+use crate::directory::{PeerSetUpdate, TrackedPeers};
+use crate::record::{Dialable, Status};
 use p2p_discovery::codec::PublicKey;
 use p2p_discovery::discovery::{BitVec, Info};
 use p2p_discovery::sets::OrderedSet;
@@ -17,6 +17,15 @@ pub enum Command<C: PublicKey> {
         index: u64,
         /// Its peers.
         peers: TrackedPeers<C>,
+    },
+    /// [`Directory::dial`]: reserves a peer that is to be dialled. What is granted is held.
+    Dial {
+        /// The peer to be dialled.
+        peer: C,
+        /// The present moment, as the time since the epoch.
+        now: Duration,
+        /// How much later than reservable the peer is to be dialable again, within its bound.
+        draw: Duration,
     },
     /// [`Directory::listen`]: reserves a peer that comes. What is granted is held.
     Listen {
@@ -38,14 +47,56 @@ pub enum Command<C: PublicKey> {
     Release(C),
     /// [`Directory::update_peers`] with these infos.
     UpdatePeers(Vec<Info<C>>),
+    /// [`Directory::block`]: blocks a peer.
+    Block {
+        /// The peer.
+        peer: C,
+        /// The present moment, as the time since the epoch.
+        now: Duration,
+    },
+    /// [`Directory::unblock_expired`] at this moment, the time since the epoch.
+    UnblockExpired(Duration),
+    /// [`Directory::next_unblock`].
+    NextUnblock,
+    /// [`Directory::blocked_peers`] at this moment, the time since the epoch.
+    BlockedPeers(Duration),
     /// [`Directory::status`] of this peer.
     Status(C),
+    /// [`Directory::get_peer_set`] with this index.
+    GetPeerSet(u64),
+    /// [`Directory::latest_update`].
+    LatestUpdate,
     /// [`Directory::latest_set_index`].
     LatestSetIndex,
+    /// [`Directory::all`].
+    All,
     /// [`Directory::info`] of this peer.
     Info(C),
+    /// [`Directory::infos`] for one who knows some bits.
+    Infos {
+        /// The bits, with the index of their set.
+        bit_vec: BitVec,
+        /// The present moment, as the time since the epoch.
+        now: Duration,
+    },
     /// [`Directory::get_random_bit_vec`] at this place.
     GetRandomBitVec(usize),
+    /// [`Directory::eligible`] of a peer.
+    Eligible {
+        /// The peer.
+        peer: C,
+        /// The present moment, as the time since the epoch.
+        now: Duration,
+    },
+    /// [`Directory::acceptable`] of a peer.
+    Acceptable {
+        /// The peer.
+        peer: C,
+        /// The present moment, as the time since the epoch.
+        now: Duration,
+    },
+    /// [`Directory::dialable`] at this moment, the time since the epoch.
+    Dialable(Duration),
     /// [`Directory::tracked`].
     Tracked,
 }
@@ -56,7 +107,9 @@ pub enum Reply<C: PublicKey> {
     /// The answer of [`Directory::track`]: the peers whose connections have to end, or `None`
     /// where the set was not taken.
     Track(Option<OrderedSet<C>>),
-    /// Whether the reservation was granted.
+    /// Whether the reservation was granted, for a dial.
+    Dial(bool),
+    /// Whether the reservation was granted, for a peer that comes.
     Listen(bool),
     /// The peer is connected.
     Connect,
@@ -64,14 +117,37 @@ pub enum Reply<C: PublicKey> {
     Release,
     /// The infos were offered to the records of their peers.
     UpdatePeers,
+    /// The answer of [`Directory::block`]: whether the block was taken.
+    Block(bool),
+    /// The answer of [`Directory::unblock_expired`]: whether any block had ended.
+    UnblockExpired(bool),
+    /// The answer of [`Directory::next_unblock`]: `None` where there is no block.
+    NextUnblock(Option<Duration>),
+    /// The answer of [`Directory::blocked_peers`].
+    BlockedPeers(OrderedSet<C>),
     /// The answer of [`Directory::status`]: `None` where there is no record of the peer.
     Status(Option<Status>),
+    /// The answer of [`Directory::get_peer_set`]: `None` where no retained set has the index.
+    GetPeerSet(Option<TrackedPeers<C>>),
     /// The answer of [`Directory::latest_set_index`]: `None` where no set was taken.
     LatestSetIndex(Option<u64>),
+    /// The answer of [`Directory::latest_update`]: `None` where no set was taken.
+    LatestUpdate(Option<PeerSetUpdate<C>>),
+    /// The answer of [`Directory::all`]: the peers of the retained sets, by role.
+    All(TrackedPeers<C>),
     /// The answer of [`Directory::info`]: `None` where there is no info that others may be told.
     Info(Option<Info<C>>),
+    /// The answer of [`Directory::infos`]: `None` where the bits are of another number than the
+    /// primary peers of the set.
+    Infos(Option<Vec<Info<C>>>),
     /// The answer of [`Directory::get_random_bit_vec`]: `None` where there is no such place.
     GetRandomBitVec(Option<BitVec>),
+    /// The answer of [`Directory::eligible`]: whether the peer may be connected.
+    Eligible(bool),
+    /// The answer of [`Directory::acceptable`]: whether a connection of the peer may be accepted.
+    Acceptable(bool),
+    /// The answer of [`Directory::dialable`]: who may be dialled, and when to ask again.
+    Dialable(Dialable<C>),
     /// The answer of [`Directory::tracked`]: how many peers have a record, but for the local node.
     Tracked(usize),
     /// There is nothing to connect: the peer is not reserved, and nothing has changed.
@@ -89,14 +165,26 @@ where
     fn fmt<W: fmt::Write>(&self, f: &mut fmt::Formatter<W>) -> fmt::Result {
         match self {
             Reply::Track(torn) => write!(f, "Track({torn:?})"),
+            Reply::Dial(granted) => write!(f, "Dial({granted})"),
             Reply::Listen(granted) => write!(f, "Listen({granted})"),
             Reply::Connect => f.write_str("Connect"),
             Reply::Release => f.write_str("Release"),
             Reply::UpdatePeers => f.write_str("UpdatePeers"),
+            Reply::Block(taken) => write!(f, "Block({taken})"),
+            Reply::UnblockExpired(any) => write!(f, "UnblockExpired({any})"),
+            Reply::NextUnblock(moment) => write!(f, "NextUnblock({moment:?})"),
+            Reply::BlockedPeers(peers) => write!(f, "BlockedPeers({peers:?})"),
             Reply::Status(status) => write!(f, "Status({status:?})"),
+            Reply::GetPeerSet(peers) => write!(f, "GetPeerSet({peers:?})"),
             Reply::LatestSetIndex(index) => write!(f, "LatestSetIndex({index:?})"),
+            Reply::LatestUpdate(update) => write!(f, "LatestUpdate({update:?})"),
+            Reply::All(peers) => write!(f, "All({peers:?})"),
             Reply::Info(info) => write!(f, "Info({info:?})"),
+            Reply::Infos(infos) => write!(f, "Infos({infos:?})"),
             Reply::GetRandomBitVec(bits) => write!(f, "GetRandomBitVec({bits:?})"),
+            Reply::Eligible(eligible) => write!(f, "Eligible({eligible})"),
+            Reply::Acceptable(acceptable) => write!(f, "Acceptable({acceptable})"),
+            Reply::Dialable(dialable) => write!(f, "Dialable({dialable:?})"),
             Reply::Tracked(count) => write!(f, "Tracked({count})"),
             Reply::NotReserved => f.write_str("NotReserved"),
             Reply::NotHeld => f.write_str("NotHeld"),

@@ -1,18 +1,27 @@
 //! A directory that serves commands, and holds what it grants.
 
-ghost use Rattle.std.specs.Prelude.{◌≡◌, true};
+ghost use Rattle.std.specs.Prelude.{◌≡◌, true, OnOk, OnErr};
+ghost use Rattle.p2p_directory.specs.Directory.{Updates};
 ghost use Rattle.p2p_directory.specs.Held.{held_of, AreHeld};
-ghost use Rattle.p2p_directory.specs.Private.Slots.{has_slot, held_in};
+ghost use Rattle.p2p_directory.specs.Private.Slots.{has_slot, held_in, AreSlots};
 ghost use Rattle.p2p_directory.specs.Private.Serving.{has_room, IsServed};
+ghost use Rattle.p2p_directory.specs.Nodes.{may_reserve};
+ghost use Rattle.p2p_directory.specs.Run.{call_of};
 
-use crate::directory::Directory;
+use crate::directory::{Directory, TrackedPeers};
 use crate::record::Status;
 use crate::run::commands::{Command, Reply};
+use crate::run::held::Held;
+use crate::run::make_slot;
 use crate::run::outcome::Run;
 use crate::run::slots::Slots;
 use p2p_discovery::codec::PublicKey;
+use p2p_discovery::discovery::Info;
 use std::alloc::AllocError;
 use std::marker::Model;
+use std::time::Duration;
+
+mod questions;
 
 /// A directory, and slots with the reservations that it granted and that were not released: they
 /// are those of exactly the peers that are reserved or connected.
@@ -50,35 +59,124 @@ impl<C: PublicKey> Server<C> {
             has_slot C.cmp self.new.slots q ≡ has_slot C.cmp self.old.slots q }
     {
         match command {
-            Command::Track { index, peers } => match self.directory.track(index, peers) {
-                Ok(Some(torn)) => Reply::Track(Some(torn)),
-                Ok(None) => Reply::Track(None),
-                Err(_) => Reply::OutOfMemory,
-            },
-            Command::Listen { peer, now, draw } => match self.directory.listen(&peer, now, draw) {
-                Some(reservation) => {
-                    self.slots.put(reservation);
-                    Reply::Listen(true)
-                }
-                None => Reply::Listen(false),
-            },
+            Command::Track { index, peers } => self.track(index, peers),
+            Command::Dial { peer, now, draw } => self.dial(&peer, now, draw),
+            Command::Listen { peer, now, draw } => self.listen(&peer, now, draw),
             Command::Connect { peer, dialer } => self.connect(&peer, dialer),
-            Command::Release(peer) => match self.slots.take(&peer) {
-                Some(reservation) => {
-                    self.directory.release(reservation);
-                    Reply::Release
-                }
-                None => Reply::NotHeld,
-            },
-            Command::UpdatePeers(infos) => {
-                self.directory.update_peers(infos);
-                Reply::UpdatePeers
+            Command::Release(peer) => self.release(&peer),
+            Command::UpdatePeers(infos) => self.update_peers(infos),
+            Command::Block { peer, now } => self.block(&peer, now),
+            Command::UnblockExpired(now) => self.unblock_expired(now),
+            Command::NextUnblock => self.next_unblock(),
+            Command::BlockedPeers(now) => self.blocked_peers(now),
+            Command::Status(peer) => self.status(&peer),
+            Command::GetPeerSet(index) => self.get_peer_set(index),
+            Command::LatestSetIndex => self.latest_set_index(),
+            Command::LatestUpdate => self.latest_update(),
+            Command::All => self.all(),
+            Command::Info(peer) => self.info(&peer),
+            Command::Infos { bit_vec, now } => self.infos(&bit_vec, now),
+            Command::GetRandomBitVec(place) => self.get_random_bit_vec(place),
+            Command::Eligible { peer, now } => self.eligible(&peer, now),
+            Command::Acceptable { peer, now } => self.acceptable(&peer, now),
+            Command::Dialable(now) => self.dialable(now),
+            Command::Tracked => self.tracked(),
+        }
+    }
+
+    /// The directory.
+    pub fn directory(&self) -> &Directory<C>
+        ensures { result.now ≡ self.now.directory }
+    {
+        &self.directory
+    }
+
+    /// Makes a slot for what the command may be granted, where there is none.
+    pub fn make_room(&mut self, command: &Command<C>) -> Result<(), AllocError>
+        ensures err { OnErr result (self.new ≡ self.old) }
+        ensures reserves { OnErr result (may_reserve (call_of command.now) ≡ true) }
+        ensures room { OnOk result (has_room C.cmp self.new.slots command.now ≡ true) }
+        ensures directory { self.new.directory ≡ self.old.directory }
+        ensures held { (q : C) →
+            held_in C.cmp self.new.slots q ≡ held_in C.cmp self.old.slots q }
+    {
+        make_slot(&mut self.slots, command)
+    }
+
+    /// Takes the slot of the peer out, where it is empty. Takes no memory.
+    pub fn drop_room(&mut self, peer: Option<C>)
+        ensures directory { self.new.directory ≡ self.old.directory }
+        ensures held { (q : C) →
+            held_in C.cmp self.new.slots q ≡ held_in C.cmp self.old.slots q }
+        ensures slots { AreSlots C.cmp self.new.slots }
+    {
+        if let Some(peer) = peer {
+            self.slots.drop_empty(&peer);
+        }
+        self.slots.in_order();
+    }
+
+    /// Offers infos to the records of their peers. Takes no memory.
+    pub fn update(&mut self, infos: Vec<Info<C>>)
+        ensures updated { Updates C.cmp self.old.directory self.new.directory infos.items }
+        ensures slots { self.new.slots ≡ self.old.slots }
+    {
+        self.directory.update_peers(infos);
+    }
+
+    /// The directory, and what is held. Takes no memory.
+    pub fn into_parts(self) -> (Directory<C>, Held<C>)
+        ensures directory { result.0 ≡ self.directory }
+        ensures held { (q : C) → held_of C.cmp result.1 q ≡ held_in C.cmp self.slots q }
+        ensures agree { AreHeld C.cmp result.0 (held_of C.cmp result.1) }
+    {
+        let Server { directory, slots } = self;
+        (directory, slots.into_held())
+    }
+
+    // Takes a peer set.
+    fn track(&mut self, index: u64, peers: TrackedPeers<C>) -> Reply<C>
+        ensures served { IsServed C.cmp (Command.Track index peers) result self.old self.new }
+        ensures slots { self.new.slots ≡ self.old.slots }
+    {
+        match self.directory.track(index, peers) {
+            Ok(torn) => Reply::Track(torn),
+            Err(AllocError) => Reply::OutOfMemory,
+        }
+    }
+
+    // Reserves the peer for a dial, where that is granted.
+    fn dial(&mut self, peer: &C, now: Duration, draw: Duration) -> Reply<C>
+        requires room { has_slot C.cmp self.old.slots peer.now ≡ true }
+        ensures served { IsServed C.cmp (Command.Dial peer.now now draw)
+            result self.old self.new }
+        ensures slots { (q : C) →
+            has_slot C.cmp self.new.slots q ≡ has_slot C.cmp self.old.slots q }
+    {
+        match self.directory.dial(peer, now, draw) {
+            Ok(Some(reservation)) => {
+                self.slots.put(reservation);
+                Reply::Dial(true)
             }
-            Command::Status(peer) => Reply::Status(self.directory.status(&peer)),
-            Command::LatestSetIndex => Reply::LatestSetIndex(self.directory.latest_set_index()),
-            Command::Info(peer) => self.tell_info(&peer),
-            Command::GetRandomBitVec(place) => self.tell_bits(place),
-            Command::Tracked => Reply::Tracked(self.directory.tracked()),
+            Ok(None) => Reply::Dial(false),
+            Err(AllocError) => Reply::OutOfMemory,
+        }
+    }
+
+    // Reserves the peer that comes, where that is granted.
+    fn listen(&mut self, peer: &C, now: Duration, draw: Duration) -> Reply<C>
+        requires room { has_slot C.cmp self.old.slots peer.now ≡ true }
+        ensures served { IsServed C.cmp (Command.Listen peer.now now draw)
+            result self.old self.new }
+        ensures slots { (q : C) →
+            has_slot C.cmp self.new.slots q ≡ has_slot C.cmp self.old.slots q }
+    {
+        match self.directory.listen(peer, now, draw) {
+            Some(reservation) => {
+                self.slots.put(reservation);
+                Reply::Listen(true)
+            }
+            None => Reply::Listen(false),
         }
     }
 
@@ -97,24 +195,47 @@ impl<C: PublicKey> Server<C> {
         }
     }
 
-    // The info of the peer that others may be told.
-    fn tell_info(&self, peer: &C) -> Reply<C>
-        ensures { IsServed C.cmp (Command.Info peer.now) result self.now self.now }
+    // Releases the reservation of the peer, where one is held.
+    fn release(&mut self, peer: &C) -> Reply<C>
+        ensures served { IsServed C.cmp (Command.Release peer.now) result self.old self.new }
+        ensures slots { (q : C) →
+            has_slot C.cmp self.new.slots q ≡ has_slot C.cmp self.old.slots q }
     {
-        match self.directory.info(peer) {
-            Ok(info) => Reply::Info(info),
+        match self.slots.take(peer) {
+            Some(reservation) => {
+                self.directory.release(reservation);
+                Reply::Release
+            }
+            None => Reply::NotHeld,
+        }
+    }
+
+    // Offers the infos to the records of their peers.
+    fn update_peers(&mut self, infos: Vec<Info<C>>) -> Reply<C>
+        ensures served { IsServed C.cmp (Command.UpdatePeers infos) result self.old self.new }
+        ensures slots { self.new.slots ≡ self.old.slots }
+    {
+        self.directory.update_peers(infos);
+        Reply::UpdatePeers
+    }
+
+    // Blocks the peer.
+    fn block(&mut self, peer: &C, now: Duration) -> Reply<C>
+        ensures served { IsServed C.cmp (Command.Block peer.now now) result self.old self.new }
+        ensures slots { self.new.slots ≡ self.old.slots }
+    {
+        match self.directory.block(peer, now) {
+            Ok(taken) => Reply::Block(taken),
             Err(AllocError) => Reply::OutOfMemory,
         }
     }
 
-    // The bits of the retained set at the place.
-    fn tell_bits(&self, place: usize) -> Reply<C>
-        ensures { IsServed C.cmp (Command.GetRandomBitVec place) result self.now self.now }
+    // Ends the blocks that hold until the moment, or until an earlier one.
+    fn unblock_expired(&mut self, now: Duration) -> Reply<C>
+        ensures served { IsServed C.cmp (Command.UnblockExpired now) result self.old self.new }
+        ensures slots { self.new.slots ≡ self.old.slots }
     {
-        match self.directory.get_random_bit_vec(place) {
-            Ok(bits) => Reply::GetRandomBitVec(bits),
-            Err(AllocError) => Reply::OutOfMemory,
-        }
+        Reply::UnblockExpired(self.directory.unblock_expired(now))
     }
 
     /// The directory, what is held, and these replies. Takes no memory.

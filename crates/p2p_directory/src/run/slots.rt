@@ -1,4 +1,5 @@
-//! Slots for the reservations that may be granted, made before the first command.
+//! Slots for the reservations that may be granted: those of a run are made before its first
+//! command, that of a node's command before it.
 
 ghost use Rattle.std.specs.Prelude.{◌≡◌, [], false, true, ◌||◌, if◌then◌else◌};
 ghost use Rattle.std.specs.Prelude.{IfSome, OnOk, OnErr, None, Some};
@@ -11,6 +12,7 @@ use crate::directory::Reservation;
 use crate::run::held::Held;
 use p2p_discovery::codec::PublicKey;
 use std::alloc::{AllocError, AllocFailed, Global};
+use std::cmp::Ordering;
 use std::collections::BTreeMap;
 use std::marker::Model;
 
@@ -100,6 +102,28 @@ impl<C: PublicKey> Slots<C> {
         }
     }
 
+    /// Takes the slot of the peer out, where it is empty. Takes no memory.
+    ///
+    /// # Cost
+    ///
+    /// One pass over the peers of the slots.
+    pub fn drop_empty(&mut self, peer: &C)
+        ensures { (q : C) → held_in C.cmp self.new q ≡ held_in C.cmp self.old q }
+    {
+        remove_empty(&mut self.reservations, peer);
+        if !self.reservations.contains_key(peer) {
+            self.peers
+                .retain(|listed| listed.cmp(peer) != Ordering::Equal);
+        }
+    }
+
+    // For the proof: the slots are in order, and each is of its peer.
+    pub fn in_order(&self)
+        ensures { AreSlots C.cmp self.now }
+    {
+        let _count = self.peers.len();
+    }
+
     /// What is held. The empty slots go. Takes no memory.
     pub fn into_held(self) -> Held<C>
         ensures { (q : C) → held_of C.cmp result q ≡ held_in C.cmp self q }
@@ -128,6 +152,8 @@ fn remove_empty<C: PublicKey>(slots: &mut BTreeMap<C, Option<Reservation<C>>>, p
     ensures slots { AreSlots C.cmp slots.new.entries }
     ensures held { (q : C) →
         held_in C.cmp slots.new.entries q ≡ held_in C.cmp slots.old.entries q }
+    ensures fewer { (q : C) →
+        has_slot C.cmp slots.new.entries q ≡ true → has_slot C.cmp slots.old.entries q ≡ true }
     ensures empty { (q : C) → slot_of C.cmp slots.new.entries q ≡ Some None →
         (slot_of C.cmp slots.old.entries q ≡ Some None) × (is_at (C.cmp q) peer.now ≡ false) }
 {

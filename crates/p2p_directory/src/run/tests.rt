@@ -6,11 +6,11 @@ ghost use Rattle.std.specs.Int.NonZero.{non_zero_usize_get};
 
 use crate::directory::{Config, Directory};
 use crate::record::Status;
+use crate::run::tests::told::Told;
 use crate::run::{Command, Held, Reply, Run, run};
 use crate::tests::{config, info, tracked};
 use p2p_discovery::codec::{PublicKey, TestKey, TestSignature};
 use p2p_discovery::discovery::Info;
-use p2p_discovery::sets::BitMap;
 use p2p_discovery::types::{Ingress, IpAddr, SocketAddr};
 use std::alloc::{AllocError, Global};
 use std::num::NonZeroUsize;
@@ -18,77 +18,8 @@ use std::process::Abort;
 use std::test::Fail;
 use std::time::Duration;
 
-// A reply, with keys as numbers.
-#[derive(Clone, Copy, Debug, PartialEq, Eq)]
-enum Told {
-    Track(Option<&'static [u64]>),
-    Listen(bool),
-    Connect,
-    Release,
-    UpdatePeers,
-    Status(Option<Status>),
-    LatestSetIndex(Option<u64>),
-    // The key, the timestamp and the port.
-    Info(Option<(u64, u64, u16)>),
-    // The index and the bits.
-    Bits(Option<(u64, &'static [bool])>),
-    Tracked(usize),
-    NotReserved,
-    NotHeld,
-}
-
-fn is_info(info: &Info<TestKey>, told: (u64, u64, u16)) -> bool {
-    let (key, timestamp, port) = told;
-    info.public_key.0 == key && info.timestamp == timestamp && info.ingress == ingress(port)
-}
-
-fn are_bits(bits: &BitMap, told: &[bool]) -> bool {
-    let mut rest = told.iter();
-    for place in 0..bits.len() {
-        match rest.next() {
-            Some(bit) if *bit == bits.get(place) => {}
-            _ => return false,
-        }
-    }
-    rest.next().is_none()
-}
-
-impl Told {
-    fn is(self, reply: &Reply<TestKey>) -> bool {
-        match reply {
-            Reply::Track(None) => self == Told::Track(None),
-            Reply::Track(Some(torn)) => match self {
-                Told::Track(Some(keys)) => {
-                    torn.len() == keys.len()
-                        && torn.iter().zip(keys).all(|(peer, key)| peer.0 == *key)
-                }
-                _ => false,
-            },
-            Reply::Listen(granted) => self == Told::Listen(*granted),
-            Reply::Connect => self == Told::Connect,
-            Reply::Release => self == Told::Release,
-            Reply::UpdatePeers => self == Told::UpdatePeers,
-            Reply::Status(status) => self == Told::Status(*status),
-            Reply::LatestSetIndex(latest) => self == Told::LatestSetIndex(*latest),
-            Reply::Info(None) => self == Told::Info(None),
-            Reply::Info(Some(info)) => match self {
-                Told::Info(Some(told)) => is_info(info, told),
-                _ => false,
-            },
-            Reply::GetRandomBitVec(None) => self == Told::Bits(None),
-            Reply::GetRandomBitVec(Some(bits)) => match self {
-                Told::Bits(Some((index, told))) => {
-                    bits.index == index && are_bits(&bits.bits, told)
-                }
-                _ => false,
-            },
-            Reply::Tracked(count) => self == Told::Tracked(*count),
-            Reply::NotReserved => self == Told::NotReserved,
-            Reply::NotHeld => self == Told::NotHeld,
-            Reply::OutOfMemory => false,
-        }
-    }
-}
+mod dialling;
+mod told;
 
 fn assert_told(rt: &impl Abort, replies: &[Reply<TestKey>], told: &[Told]) {
     assert_eq!(rt; replies.len(), told.len());

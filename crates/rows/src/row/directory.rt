@@ -13,6 +13,11 @@ use std::alloc::{AllocError, Global};
 use std::io::Write;
 use std::mem::replace;
 
+pub mod blocks;
+pub mod dialling;
+pub mod gossip;
+pub mod peer_sets;
+
 /// A reserved peer is torn down with the last set that names it, and its release ends its record.
 pub fn teardown<W: Write>(alloc: Global, out: &mut W) -> Result<(), Stop> {
     let steps = [
@@ -26,7 +31,7 @@ pub fn teardown<W: Write>(alloc: Global, out: &mut W) -> Result<(), Stop> {
         Step::Track(2, &[1]),
         Step::Listen(1, At(105, 0)),
     ];
-    print_replies(alloc, config(), &steps, out)
+    print_replies(alloc, config(), &[], &steps, out)
 }
 
 /// A new set is counted before the oldest goes, so what is known of a peer that both have stays.
@@ -38,7 +43,7 @@ pub fn knowledge<W: Write>(alloc: Global, out: &mut W) -> Result<(), Stop> {
         Step::Bits(0),
         Step::Tracked,
     ];
-    print_replies(alloc, config(), &steps, out)
+    print_replies(alloc, config(), &[], &steps, out)
 }
 
 /// A peer is reserved again after the cooldown, or once its record is made anew.
@@ -54,33 +59,44 @@ pub fn cooldown<W: Write>(alloc: Global, out: &mut W) -> Result<(), Stop> {
         Step::Track(2, &[1]),
         Step::Listen(1, At(111, 0)),
     ];
-    print_replies(alloc, config(), &steps, out)
+    print_replies(alloc, config(), &[], &steps, out)
 }
 
-// Runs the steps under a configuration, and prints a line for each reply.
+// Runs what is prepared and then the steps under a configuration, and prints a line for the reply
+// to each step.
 fn print_replies<W: Write>(
     alloc: Global,
     cfg: Config,
+    prepared: &[Step],
     steps: &[Step],
     out: &mut W,
 ) -> Result<(), Stop>
     requires { non_zero_usize_get cfg.max_sets < 2 ^ 64 - 1 }
 {
-    for reply in &replies(alloc, cfg, steps)? {
+    let replies = replies(alloc, cfg, prepared, steps)?;
+    for (place, reply) in replies.iter().enumerate() {
         if let Reply::OutOfMemory = reply {
             return Err(Stop::Memory);
         }
-        print(out, &Line(reply))?;
+        if place >= prepared.len() {
+            print(out, &Line(reply))?;
+        }
     }
     Ok(())
 }
 
-// The replies to the steps. What is held in the end is released.
-fn replies(alloc: Global, cfg: Config, steps: &[Step]) -> Result<Vec<Reply<TestKey>>, AllocError>
+// The replies to what is prepared and to the steps. What is held in the end is released.
+fn replies(
+    alloc: Global,
+    cfg: Config,
+    prepared: &[Step],
+    steps: &[Step],
+) -> Result<Vec<Reply<TestKey>>, AllocError>
     requires { non_zero_usize_get cfg.max_sets < 2 ^ 64 - 1 }
 {
-    let mut commands = Vec::with_capacity(alloc, steps.len())?;
-    for step in steps {
+    let count = prepared.len().saturating_add(steps.len());
+    let mut commands = Vec::with_capacity(alloc, count)?;
+    for step in prepared.iter().chain(steps) {
         commands.push(step.command(alloc)?)?;
     }
     let bootstrappers = Vec::new(alloc);

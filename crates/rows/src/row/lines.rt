@@ -1,5 +1,7 @@
 //! The printed forms of values.
 
+use p2p_directory::directory::{PeerSetUpdate, TrackedPeers};
+use p2p_directory::record::Dialable;
 use p2p_directory::run::Reply;
 use p2p_discovery::codec::TestKey;
 use p2p_discovery::data::Data;
@@ -7,6 +9,7 @@ use p2p_discovery::discovery::{BitVec, Info};
 use p2p_discovery::sets::{BitMap, OrderedSet};
 use p2p_discovery::types::{Ingress, IpAddr};
 use std::fmt;
+use std::time::Duration;
 
 /// A value in its printed form.
 #[derive(Drop)]
@@ -27,6 +30,10 @@ impl fmt::Display for Hex<'_> {
         Ok(())
     }
 }
+
+/// Peers as a list of their numbers.
+#[derive(Drop)]
+struct Keys<'a>(&'a [TestKey]);
 
 /// Truth values as a digit each, and no values as a hyphen.
 #[derive(Drop)]
@@ -78,6 +85,23 @@ impl fmt::Display for Line<'_, Info<TestKey>> {
     }
 }
 
+/// Infos in brackets, with commas between.
+#[derive(Drop)]
+struct Infos<'a>(&'a [Info<TestKey>]);
+
+impl fmt::Display for Infos<'_> {
+    fn fmt<W: fmt::Write>(&self, f: &mut fmt::Formatter<W>) -> fmt::Result {
+        f.write_str("[")?;
+        for (place, info) in self.0.iter().enumerate() {
+            if place > 0 {
+                f.write_str(", ")?;
+            }
+            write!(f, "{}", Line(info))?;
+        }
+        f.write_str("]")
+    }
+}
+
 impl fmt::Display for Line<'_, Data> {
     fn fmt<W: fmt::Write>(&self, f: &mut fmt::Formatter<W>) -> fmt::Result {
         let channel = self.0.channel;
@@ -86,10 +110,10 @@ impl fmt::Display for Line<'_, Data> {
     }
 }
 
-impl fmt::Display for Line<'_, OrderedSet<TestKey>> {
+impl fmt::Display for Keys<'_> {
     fn fmt<W: fmt::Write>(&self, f: &mut fmt::Formatter<W>) -> fmt::Result {
         f.write_str("[")?;
-        for (place, peer) in self.0.as_slice().iter().enumerate() {
+        for (place, peer) in self.0.iter().enumerate() {
             if place > 0 {
                 f.write_str(", ")?;
             }
@@ -100,22 +124,79 @@ impl fmt::Display for Line<'_, OrderedSet<TestKey>> {
     }
 }
 
+impl fmt::Display for Line<'_, OrderedSet<TestKey>> {
+    fn fmt<W: fmt::Write>(&self, f: &mut fmt::Formatter<W>) -> fmt::Result {
+        write!(f, "{}", Keys(self.0.as_slice()))
+    }
+}
+
+impl fmt::Display for Line<'_, TrackedPeers<TestKey>> {
+    fn fmt<W: fmt::Write>(&self, f: &mut fmt::Formatter<W>) -> fmt::Result {
+        let primary = Line(&self.0.primary);
+        let secondary = Line(&self.0.secondary);
+        write!(f, "{primary} / {secondary}")
+    }
+}
+
+impl fmt::Display for Line<'_, PeerSetUpdate<TestKey>> {
+    fn fmt<W: fmt::Write>(&self, f: &mut fmt::Formatter<W>) -> fmt::Result {
+        let index = self.0.index;
+        let latest = Line(&self.0.latest);
+        let all = Line(&self.0.all);
+        write!(f, "{index}, {latest}, {all}")
+    }
+}
+
+impl fmt::Display for Line<'_, Duration> {
+    fn fmt<W: fmt::Write>(&self, f: &mut fmt::Formatter<W>) -> fmt::Result {
+        let seconds = self.0.as_secs();
+        let nanoseconds = self.0.subsec_nanos();
+        write!(f, "{seconds}.{nanoseconds:09}")
+    }
+}
+
+impl fmt::Display for Line<'_, Dialable<TestKey>> {
+    fn fmt<W: fmt::Write>(&self, f: &mut fmt::Formatter<W>) -> fmt::Result {
+        let peers = Keys(self.0.peers.as_slice());
+        match &self.0.next_query_at {
+            Some(moment) => write!(f, "{peers} Some({})", Line(moment)),
+            None => write!(f, "{peers} None"),
+        }
+    }
+}
+
 impl fmt::Display for Line<'_, Reply<TestKey>> {
     fn fmt<W: fmt::Write>(&self, f: &mut fmt::Formatter<W>) -> fmt::Result {
         match self.0 {
-            Reply::Track(Some(torn)) => write!(f, "Some({})", Line(torn)),
             Reply::Track(None)
+            | Reply::NextUnblock(None)
             | Reply::Status(None)
+            | Reply::GetPeerSet(None)
             | Reply::LatestSetIndex(None)
+            | Reply::LatestUpdate(None)
             | Reply::Info(None)
+            | Reply::Infos(None)
             | Reply::GetRandomBitVec(None) => f.write_str("None"),
-            Reply::Listen(true) => f.write_str("granted"),
-            Reply::Listen(false) => f.write_str("refused"),
+            Reply::Track(Some(torn)) => write!(f, "Some({})", Line(torn)),
+            Reply::Dial(granted) | Reply::Listen(granted) => {
+                f.write_str(if *granted { "granted" } else { "refused" })
+            }
             Reply::Connect | Reply::Release | Reply::UpdatePeers => f.write_str("done"),
+            Reply::Block(answer)
+            | Reply::UnblockExpired(answer)
+            | Reply::Eligible(answer)
+            | Reply::Acceptable(answer) => write!(f, "{answer}"),
+            Reply::NextUnblock(Some(moment)) => write!(f, "Some({})", Line(moment)),
+            Reply::BlockedPeers(peers) => write!(f, "{}", Line(peers)),
             Reply::Status(Some(status)) => write!(f, "{status:?}"),
+            Reply::GetPeerSet(Some(peers)) => write!(f, "Some({})", Line(peers)),
             Reply::LatestSetIndex(Some(index)) => write!(f, "Some({index})"),
+            Reply::LatestUpdate(Some(update)) => write!(f, "Some({})", Line(update)),
+            Reply::All(peers) => write!(f, "{}", Line(peers)),
             Reply::Info(Some(info)) => write!(f, "{}", Line(info)),
+            Reply::Infos(Some(infos)) => write!(f, "Some({})", Infos(infos.as_slice())),
             Reply::GetRandomBitVec(Some(bits)) => write!(f, "{}", Line(bits)),
+            Reply::Dialable(dialable) => write!(f, "{}", Line(dialable)),
             Reply::Tracked(count) => write!(f, "{count}"),
             Reply::NotReserved => f.write_str("NotReserved"),
             Reply::NotHeld => f.write_str("NotHeld"),

@@ -15,6 +15,8 @@ use std::process::Abort;
 use std::test::Fail;
 use std::time::Duration;
 
+mod dialling;
+
 const ROW_STEPS: usize = 768;
 
 const CALL_STEPS: usize = 3_072;
@@ -205,8 +207,8 @@ fn a_start_is_refused_or_whole(rt: HostRuntime) -> Result<(), Fail> {
     Ok(())
 }
 
-/// Asks for the own info, which has a name, and for the bits of the set at a budget; how often memory
-/// was refused.
+/// Asks for the own info, which has a name, and for the bits of the set at a budget; how often
+/// memory was refused.
 fn asks_at(
     rt: &impl Abort,
     alloc: Global,

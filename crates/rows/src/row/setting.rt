@@ -6,8 +6,8 @@ ghost use Rattle.std.specs.Int.NonZero.{non_zero_usize_get};
 use p2p_directory::directory::{Config, TrackedPeers};
 use p2p_directory::run::Command;
 use p2p_discovery::codec::TestKey;
-use p2p_discovery::discovery::Info;
-use p2p_discovery::sets::OrderedSet;
+use p2p_discovery::discovery::{BitVec, Info};
+use p2p_discovery::sets::{BitMap, OrderedSet};
 use p2p_discovery::types::{Ingress, IpAddr, SocketAddr};
 use std::alloc::{AllocError, Global};
 use std::num::NonZeroUsize;
@@ -24,7 +24,11 @@ pub fn own_info() -> Info<TestKey> {
 
 /// The info of a peer at 1.2.3.4, with its number past 8000 as the port, signed in a namespace.
 pub fn info_in(namespace: &[u8], peer: u16, timestamp: u64) -> Info<TestKey> {
-    let port = peer.saturating_add(8000);
+    info_at(namespace, peer, timestamp, peer.saturating_add(8000))
+}
+
+// The info of a peer at 1.2.3.4 and a port, signed in a namespace.
+fn info_at(namespace: &[u8], peer: u16, timestamp: u64, port: u16) -> Info<TestKey> {
     let ingress = Ingress::Socket(SocketAddr::new(IpAddr::V4([1, 2, 3, 4]), port));
     signed(TestKey(u64::from(peer)), namespace, ingress, timestamp)
 }
@@ -49,29 +53,75 @@ pub fn config() -> Config
     }
 }
 
-/// A moment: seconds and nanoseconds since the epoch.
+/// A moment or a draw: seconds, and nanoseconds below a second, since the epoch or as a length.
 #[derive(Clone, Copy)]
 pub struct At(pub u64, pub u32);
 
-/// One call of a row, with keys as numbers and no draw.
+impl At {
+    /// The last moment: the greatest `Duration`.
+    pub const LAST: At = At(u64::MAX, 999_999_999);
+
+    fn moment(self) -> Duration {
+        let At(seconds, nanoseconds) = self;
+        Duration::from_secs(seconds).saturating_add(Duration::from_nanos(u64::from(nanoseconds)))
+    }
+}
+
+const NO_DRAW: At = At(0, 0);
+
+/// One call of a row, with keys as numbers. Where no draw is named it is 0.
 #[derive(Clone, Copy)]
 pub enum Step {
     /// `track` of an index and its primary peers.
     Track(u64, &'static [u64]),
+    /// `track` of an index, its primary and its secondary peers.
+    TrackRoles(u64, &'static [u64], &'static [u64]),
+    /// `dial` of a peer at a moment.
+    Dial(u64, At),
+    /// `dial` of a peer at a moment, with a draw.
+    DialDrawn(u64, At, At),
     /// `listen` of a peer at a moment.
     Listen(u64, At),
+    /// `listen` of a peer at a moment, with a draw.
+    ListenDrawn(u64, At, At),
     /// `connect` of a peer, as its dialer or not.
     Connect(u64, bool),
     /// `release` of a peer.
     Release(u64),
     /// `update_peers` with the infos of peers, each with a timestamp.
     Update(&'static [(u16, u64)]),
+    /// `update_peers` with the infos of peers, each with a timestamp and a port.
+    UpdateAt(&'static [(u16, u64, u16)]),
+    /// `block` of a peer at a moment.
+    Block(u64, At),
+    /// `unblock_expired` at a moment.
+    UnblockExpired(At),
+    /// `next_unblock`.
+    NextUnblock,
+    /// `blocked_peers` at a moment.
+    BlockedPeers(At),
     /// `status` of a peer.
     Status(u64),
+    /// `get_peer_set` of an index.
+    PeerSet(u64),
+    /// `latest_set_index`.
+    LatestSetIndex,
+    /// `latest_update`.
+    LatestUpdate,
+    /// `all`.
+    All,
     /// `info` of a peer.
     Info(u64),
+    /// `infos` for an index and bits, at a moment.
+    Infos(u64, &'static [bool], At),
     /// `get_random_bit_vec` at a place.
     Bits(usize),
+    /// `eligible` of a peer at a moment.
+    Eligible(u64, At),
+    /// `acceptable` of a peer at a moment.
+    Acceptable(u64, At),
+    /// `dialable` at a moment.
+    Dialable(At),
     /// `tracked`.
     Tracked,
 }
@@ -80,26 +130,99 @@ impl Step {
     /// The command that the step stands for.
     pub fn command(self, alloc: Global) -> Result<Command<TestKey>, AllocError> {
         Ok(match self {
-            Step::Track(index, primary) => Command::Track {
-                index,
-                peers: TrackedPeers::new(peers(alloc, primary)?, peers(alloc, &[])?),
-            },
-            Step::Listen(peer, At(seconds, nanoseconds)) => Command::Listen {
-                peer: TestKey(peer),
-                now: moment(seconds, nanoseconds),
-                draw: Duration::ZERO,
-            },
-            Step::Connect(peer, dialer) => Command::Connect {
-                peer: TestKey(peer),
-                dialer,
-            },
+            Step::Track(index, primary) => track(alloc, index, primary, &[])?,
+            Step::TrackRoles(index, primary, other) => track(alloc, index, primary, other)?,
+            Step::Dial(peer, at) => dial(peer, at, NO_DRAW),
+            Step::DialDrawn(peer, at, draw) => dial(peer, at, draw),
+            Step::Listen(peer, at) => listen(peer, at, NO_DRAW),
+            Step::ListenDrawn(peer, at, draw) => listen(peer, at, draw),
+            Step::Connect(peer, dialer) => connect(peer, dialer),
             Step::Release(peer) => Command::Release(TestKey(peer)),
             Step::Update(infos) => Command::UpdatePeers(signed_infos(alloc, infos)?),
+            Step::UpdateAt(infos) => Command::UpdatePeers(signed_infos_at(alloc, infos)?),
+            Step::Block(peer, at) => block(peer, at),
+            Step::UnblockExpired(at) => Command::UnblockExpired(at.moment()),
+            Step::NextUnblock => Command::NextUnblock,
+            Step::BlockedPeers(at) => Command::BlockedPeers(at.moment()),
             Step::Status(peer) => Command::Status(TestKey(peer)),
+            Step::PeerSet(index) => Command::GetPeerSet(index),
+            Step::LatestSetIndex => Command::LatestSetIndex,
+            Step::LatestUpdate => Command::LatestUpdate,
+            Step::All => Command::All,
             Step::Info(peer) => Command::Info(TestKey(peer)),
+            Step::Infos(index, bits, at) => infos(alloc, index, bits, at)?,
             Step::Bits(place) => Command::GetRandomBitVec(place),
+            Step::Eligible(peer, at) => eligible(peer, at),
+            Step::Acceptable(peer, at) => acceptable(peer, at),
+            Step::Dialable(at) => Command::Dialable(at.moment()),
             Step::Tracked => Command::Tracked,
         })
+    }
+}
+
+fn track(
+    alloc: Global,
+    index: u64,
+    primary: &[u64],
+    secondary: &[u64],
+) -> Result<Command<TestKey>, AllocError> {
+    Ok(Command::Track {
+        index,
+        peers: TrackedPeers::new(peers(alloc, primary)?, peers(alloc, secondary)?),
+    })
+}
+
+fn dial(peer: u64, at: At, draw: At) -> Command<TestKey> {
+    Command::Dial {
+        peer: TestKey(peer),
+        now: at.moment(),
+        draw: draw.moment(),
+    }
+}
+
+fn listen(peer: u64, at: At, draw: At) -> Command<TestKey> {
+    Command::Listen {
+        peer: TestKey(peer),
+        now: at.moment(),
+        draw: draw.moment(),
+    }
+}
+
+fn connect(peer: u64, dialer: bool) -> Command<TestKey> {
+    Command::Connect {
+        peer: TestKey(peer),
+        dialer,
+    }
+}
+
+fn block(peer: u64, at: At) -> Command<TestKey> {
+    Command::Block {
+        peer: TestKey(peer),
+        now: at.moment(),
+    }
+}
+
+fn infos(alloc: Global, index: u64, bits: &[bool], at: At) -> Result<Command<TestKey>, AllocError> {
+    Ok(Command::Infos {
+        bit_vec: BitVec {
+            index,
+            bits: BitMap::from_bools(alloc, bits)?,
+        },
+        now: at.moment(),
+    })
+}
+
+fn eligible(peer: u64, at: At) -> Command<TestKey> {
+    Command::Eligible {
+        peer: TestKey(peer),
+        now: at.moment(),
+    }
+}
+
+fn acceptable(peer: u64, at: At) -> Command<TestKey> {
+    Command::Acceptable {
+        peer: TestKey(peer),
+        now: at.moment(),
     }
 }
 
@@ -112,8 +235,16 @@ fn signed_infos(alloc: Global, infos: &[(u16, u64)]) -> Result<Vec<Info<TestKey>
     Ok(signed)
 }
 
-fn moment(seconds: u64, nanoseconds: u32) -> Duration {
-    Duration::from_secs(seconds).saturating_add(Duration::from_nanos(u64::from(nanoseconds)))
+// The infos of the peers with these numbers, timestamps and ports.
+fn signed_infos_at(
+    alloc: Global,
+    infos: &[(u16, u64, u16)],
+) -> Result<Vec<Info<TestKey>>, AllocError> {
+    let mut signed = Vec::new(alloc);
+    for (peer, timestamp, port) in infos {
+        signed.push(info_at(NAMESPACE, *peer, *timestamp, *port))?;
+    }
+    Ok(signed)
 }
 
 /// The set of the peers with these numbers.

@@ -29,7 +29,7 @@ impl Write for Short {
 }
 
 /// The rows that there are: the word that names each, and the lines that it prints.
-pub(crate) const ROWS: [(&str, &str); 12] = [
+pub(crate) const ROWS: [(&str, &str); 22] = [
     (
         "1",
         "b9600d48656c6c6f2c20776f726c6421\nData(12345, 48656c6c6f2c20776f726c6421)\n\
@@ -55,7 +55,50 @@ pub(crate) const ROWS: [(&str, &str); 12] = [
         "8",
         "Some([])\ngranted\ndone\nrefused\ngranted\ndone\nSome([])\nSome([])\ngranted\n",
     ),
+    (
+        "9",
+        "Some([])\ndone\ngranted\ndone\n[] Some(120.000000000)\ngranted\n",
+    ),
+    (
+        "10",
+        "granted\ndone\n[] Some(100.000000009)\n[1] None\ngranted\ndone\ngranted\n",
+    ),
+    ("11", "true\ntrue\n[]\nSome(100.000000000)\ntrue\nfalse\n"),
+    (
+        "12",
+        "Some([])\ntrue\nSome([])\nNone\nSome([])\nrefused\ngranted\ndone\ntrue\nSome([1])\n\
+         done\nNone\n[1]\n",
+    ),
+    (
+        "13",
+        "BitVec(0, 1)\ngranted\ndone\nBitVec(0, 1)\ndone\nBitVec(0, 0)\nBitVec(0, 0)\n",
+    ),
+    (
+        "14",
+        "Info(1, 1000, 1.2.3.4:8001)\ndone\nInfo(1, 1000, 1.2.3.4:8001)\ndone\n\
+         Info(1, 1001, 1.2.3.4:8004)\ndone\ngranted\ndone\nBitVec(0, 0)\ndone\nBitVec(0, 1)\n",
+    ),
+    (
+        "15",
+        "Some([])\nNone\n\
+         Some([Info(1, 100000, 1.2.3.4:8001), Info(9, 0, 8.8.8.8:9000)])\nSome([])\n\
+         Some([Info(2, 100001, 1.2.3.4:8002)])\n",
+    ),
     ("17", "9190\n12514\n287\n"),
+    (
+        "18",
+        "Some([])\nNone\nNone\nNotReserved\nNotHeld\nrefused\nrefused\nrefused\nNone\n\
+         Some(18446744073709551615)\n",
+    ),
+    (
+        "19",
+        "Some([])\nSome([1] / [2])\ndone\nrefused\ngranted\nSome([])\n[1, 2] / []\n\
+         Some(1, [2] / [], [1, 2] / [])\nSome([])\nSome([2])\n",
+    ),
+    (
+        "20",
+        "true\n[1] Some(160.000000000)\n[1] None\nSome(160.000000000)\n",
+    ),
     ("21", "0\n7\n4294967295\n14\n2\n3\n3\n3\n4\n"),
     (
         "22",
@@ -105,7 +148,7 @@ fn refuses_other_words(rt: HostRuntime) -> Result<(), Fail> {
         &["6", "6"],
         &["0"],
         &["24"],
-        &["9"],
+        &["16"],
         &[""],
         &["rows"],
     ];

@@ -2,5 +2,8 @@ use Rattle.p2p_directory.proofs.LawsOfRuns.GrantRuns
 use Rattle.p2p_directory.proofs.Definitions.Keys.{exact_from}
 use Rattle.p2p_directory.proofs.laws.grants_of_a_run.Goals as goal
 
-pub returns : goal.returns
-returns g c = λ s order p cs rs answers. GrantRuns.keep_cooldown s (exact_from s g.C.Ord.cmp order g.met.C.PublicKey.exact) p cs rs answers
+pub returns-clause-spaced : goal.returns-clause-spaced
+returns-clause-spaced g c = λ s order p cs rs answers. GrantRuns.keep_cooldown s (exact_from s g.C.Ord.cmp order g.met.C.PublicKey.exact) p cs rs answers
+
+pub returns-clause-blocked : goal.returns-clause-blocked
+returns-clause-blocked g c = λ s order p cs rs forward answers. GrantRuns.keep_blocks s (exact_from s g.C.Ord.cmp order g.met.C.PublicKey.exact) p cs rs forward answers

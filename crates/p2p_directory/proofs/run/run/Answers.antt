@@ -1,12 +1,15 @@
-use Rattle.std.proofs.Common.{◌≡◌, [], true, length, sym, ap, subst, ◌∙◌, refl, arith, rules}
+use Rattle.std.proofs.Common.{◌≡◌, ◌<◌, ◌^◌, [], true, length, sym, ap, subst, ◌∙◌, refl, arith, rules}
 use Rattle.std.specs.Prelude.{is_some}
 use Rattle.std.proofs.lemmas.List.{length_push}
 use Rattle.p2p_directory.specs.Refinement.{Refines}
 use Rattle.p2p_directory.specs.Directory.{bit_vec_at}
-use Rattle.p2p_directory.specs.Run.{setup_of, calls_of, world_after, accepted, AreAnswers, bit_vec_in, Holds, HasNoBlock}
+use Rattle.p2p_directory.specs.Run.{setup_of, calls_of, world_after, accepted, AreAnswers, bit_vec_in, Holds}
 use Rattle.p2p_directory.specs.Private.Serving.{has_room}
 use Rattle.p2p_directory.specs.Private.Slots.{held_in}
+use Rattle.p2p_directory.proofs.Definitions.Keys.{exact_from}
 use Rattle.p2p_directory.proofs.LawsOfRuns.Forgotten
+use Rattle.p2p_directory.proofs.LawsOfRuns.GrantRuns.{keep_cooldown, keep_blocks}
+use Rattle.p2p_directory.proofs.LawsOfRuns.DialRuns.{keep_dialable}
 use Rattle.p2p_directory.proofs.Refinement.KnowledgeRefines.{tie_bits}
 use Rattle.p2p_directory.proofs.Reservations.Served.{are_held, stands_at_start}
 use Rattle.p2p_directory.proofs.Reservations.Replies.{item_left, item_moved, item_has, all_moved, one_more, room_stays}
@@ -15,8 +18,12 @@ use Rattle.p2p_directory.proofs.run.run.Goals as goal
 pub new-server-requires : goal.new-server-requires
 new-server-requires g c =
     let s = setup_of g.C.Ord.cmp c.args.bootstrappers.items c.args.myself c.args.cfg in
-    let at = stands_at_start s (record { directory = c.in-Ok.directory; slots = c.in_ok-slots.slots }) (search rules) c.in-Ok.ensures.config c.in-Ok.ensures.sets c.in-Ok.ensures.records c.in_ok-slots.ensures.empty in
+    let at = stands_at_start s (record { directory = c.in-Ok.directory; slots = c.in_ok-slots.slots }) (search rules) c.in-Ok.ensures.config c.in-Ok.ensures.sets c.in-Ok.ensures.blocks c.in-Ok.ensures.records c.in_ok-slots.ensures.empty in
     are_held s (world_after s []) c.in-Ok.directory (held_in g.C.Ord.cmp c.in_ok-slots.slots) at.refines at.holds
+
+-- the limit is a `usize`
+fits : (g : _) (c : goal.After-into_iter-command-iterator g) → c.args.cfg.dial_fail_limit < 2 ^ 64
+fits g c = omega (arith, c.well_formed)
 
 pub loop-command-init : goal.loop-command-init
 loop-command-init g c =
@@ -26,7 +33,7 @@ loop-command-init g c =
       answers = rw c.in_ok-replies.ensures.items tt;
       left =
           rw c.new-server.ensures
-          (stands_at_start s (record { directory = c.in-Ok.directory; slots = c.in_ok-slots.slots }) (search rules) c.in-Ok.ensures.config c.in-Ok.ensures.sets c.in-Ok.ensures.records c.in_ok-slots.ensures.empty);
+          (stands_at_start s (record { directory = c.in-Ok.directory; slots = c.in_ok-slots.slots }) (fits g c) c.in-Ok.ensures.config c.in-Ok.ensures.sets c.in-Ok.ensures.blocks c.in-Ok.ensures.records c.in_ok-slots.ensures.empty);
       replies = rw c.in_ok-replies.ensures.items refl;
       room_for_replies = omega (arith, c.in_ok-replies.ensures.exact, c.len.ensures);
       slots = rw (c.new-server.ensures, ← c.deref.ensures.value) c.in_ok-slots.ensures.room;
@@ -101,10 +108,19 @@ returns-clause-held g c =
     let held = c.into_run.ensures.held in
     rw c.into_run.ensures.replies (record { peers = λ q. ap is_some (held q) ∙ holds.peers q; metadata = λ q. held q ∙ holds.metadata q })
 
-pub returns-clause-unblocked : goal.returns-clause-unblocked
-returns-clause-unblocked g c =
+-- WHAT THE REPLIES SAY OF EACH OTHER
+
+pub returns-clause-cooldown : goal.returns-clause-cooldown
+returns-clause-cooldown g c = λ p.
     let s = setup_of g.C.Ord.cmp c.args.bootstrappers.items c.args.myself c.args.cfg in
-    let kept = c.loop-command.invariant in
-    let rest = c.loop-command.command-iterator.rest in
-    let all = all_moved c.loop-command.yielded rest.items c.args.commands.items kept.rest (sym rest.ok.0 ∙ c.in-None.ensures.steps.0) in
-    rw c.into_run.ensures.replies (subst (λ xs. HasNoBlock (world_after s (accepted s [] (calls_of xs) c.loop-command.replies.items))) all kept.left.unblocked)
+    keep_cooldown s (exact_from s g.C.Ord.cmp refl g.met.C.PublicKey.exact) p (calls_of c.args.commands.items) c.into_run.result.replies.items (returns-clause-answers g c)
+
+pub returns-clause-blocks : goal.returns-clause-blocks
+returns-clause-blocks g c = λ forward p.
+    let s = setup_of g.C.Ord.cmp c.args.bootstrappers.items c.args.myself c.args.cfg in
+    keep_blocks s (exact_from s g.C.Ord.cmp refl g.met.C.PublicKey.exact) p (calls_of c.args.commands.items) c.into_run.result.replies.items forward (returns-clause-answers g c)
+
+pub returns-clause-dials : goal.returns-clause-dials
+returns-clause-dials g c =
+    let s = setup_of g.C.Ord.cmp c.args.bootstrappers.items c.args.myself c.args.cfg in
+    keep_dialable s g.met.C.Ord.total (exact_from s g.C.Ord.cmp refl g.met.C.PublicKey.exact) c.args.cfg.max_sets.ok [] (calls_of c.args.commands.items) c.into_run.result.replies.items (returns-clause-answers g c)

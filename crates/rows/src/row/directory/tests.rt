@@ -27,7 +27,7 @@ fn assert_lines(
     lines: &str,
 ) -> Result<(), Fail> {
     let mut out: Vec<u8> = Vec::new(alloc);
-    let ended = print_replies(alloc, two_sets(dial_fail_limit), steps, &mut out);
+    let ended = print_replies(alloc, two_sets(dial_fail_limit), &[], steps, &mut out);
     assert!(rt; ended.is_ok());
     assert_eq!(rt; out.as_slice(), lines.as_bytes());
     Ok(())
@@ -84,4 +84,104 @@ fn an_info_is_told_of_an_active_peer_and_of_the_own(rt: HostRuntime) -> Result<(
     let after = "Info(1, 1000, 1.2.3.4:8001)\nNone\n1\n";
     let text = [before, after].concat(rt.alloc())?;
     assert_lines(&rt, rt.alloc(), 1, &steps, text.as_str())
+}
+
+// Runs the steps in the shared setting, after what is prepared.
+fn assert_row(
+    rt: &impl Abort,
+    alloc: Global,
+    prepared: &[Step],
+    steps: &[Step],
+    lines: &str,
+) -> Result<(), Fail> {
+    let mut out: Vec<u8> = Vec::new(alloc);
+    let ended = print_replies(alloc, config(), prepared, steps, &mut out);
+    assert!(rt; ended.is_ok());
+    assert_eq!(rt; out.as_slice(), lines.as_bytes());
+    Ok(())
+}
+
+#[test]
+fn each_peer_that_is_dialable_is_dialled(rt: HostRuntime) -> Result<(), Fail> {
+    let prepared = [
+        Step::Track(0, &[1, 2, 3]),
+        Step::Update(&[(1, 1_000), (2, 1_000)]),
+    ];
+    let steps = [
+        Step::Dialable(At(100, 0)),
+        Step::Dial(1, At(100, 0)),
+        Step::Dial(2, At(100, 0)),
+        Step::Dialable(At(100, 0)),
+    ];
+    let lines = "[1, 2] None\ngranted\ngranted\n[] None\n";
+    assert_row(&rt, rt.alloc(), &prepared, &steps, lines)
+}
+
+#[test]
+fn a_block_that_holds_is_not_renewed(rt: HostRuntime) -> Result<(), Fail> {
+    let steps = [
+        Step::Block(1, At(100, 0)),
+        Step::Block(1, At(159, 999_999_999)),
+        Step::Block(1, At(160, 0)),
+        Step::NextUnblock,
+        Step::UnblockExpired(At(219, 999_999_999)),
+        Step::UnblockExpired(At(220, 0)),
+        Step::NextUnblock,
+    ];
+    let lines = "true\nfalse\ntrue\nSome(220.000000000)\nfalse\ntrue\nNone\n";
+    assert_row(&rt, rt.alloc(), &[], &steps, lines)
+}
+
+#[test]
+fn the_local_node_is_not_blocked(rt: HostRuntime) -> Result<(), Fail> {
+    let steps = [Step::Block(9, At(100, 0)), Step::BlockedPeers(At(100, 0))];
+    assert_row(&rt, rt.alloc(), &[], &steps, "false\n[]\n")
+}
+
+#[test]
+fn who_may_be_accepted_is_eligible_and_inert(rt: HostRuntime) -> Result<(), Fail> {
+    let prepared = [Step::TrackRoles(0, &[1], &[2])];
+    let steps = [
+        Step::Acceptable(1, At(100, 0)),
+        Step::Acceptable(2, At(100, 0)),
+        Step::Acceptable(3, At(100, 0)),
+        Step::Acceptable(9, At(100, 0)),
+        Step::Listen(1, At(100, 0)),
+        Step::Acceptable(1, At(100, 0)),
+        Step::Eligible(1, At(100, 0)),
+        Step::Block(2, At(100, 0)),
+        Step::Acceptable(2, At(159, 999_999_999)),
+        Step::Eligible(2, At(159, 999_999_999)),
+        Step::Acceptable(2, At(160, 0)),
+        Step::Eligible(2, At(160, 0)),
+        Step::Eligible(3, At(160, 0)),
+        Step::Eligible(9, At(160, 0)),
+    ];
+    let before = "true\ntrue\nfalse\nfalse\ngranted\nfalse\ntrue\ntrue\n";
+    let after = "false\nfalse\ntrue\ntrue\nfalse\nfalse\n";
+    let text = [before, after].concat(rt.alloc())?;
+    assert_row(&rt, rt.alloc(), &prepared, &steps, text.as_str())
+}
+
+#[test]
+fn without_a_set_there_is_none_to_tell_of(rt: HostRuntime) -> Result<(), Fail> {
+    let steps = [
+        Step::All,
+        Step::LatestUpdate,
+        Step::LatestSetIndex,
+        Step::PeerSet(0),
+        Step::NextUnblock,
+        Step::Dialable(At(100, 0)),
+        Step::Track(4, &[]),
+        Step::PeerSet(4),
+        Step::LatestUpdate,
+        Step::Track(5, &[9]),
+        Step::PeerSet(4),
+        Step::LatestUpdate,
+        Step::Tracked,
+    ];
+    let before = "[] / []\nNone\nNone\nNone\nNone\n[] None\nSome([])\nSome([] / [])\n";
+    let after = "Some(4, [] / [], [] / [])\nSome([])\nNone\nSome(5, [9] / [], [9] / [])\n0\n";
+    let text = [before, after].concat(rt.alloc())?;
+    assert_row(&rt, rt.alloc(), &[], &steps, text.as_str())
 }

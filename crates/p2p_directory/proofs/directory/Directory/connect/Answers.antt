@@ -16,7 +16,7 @@ invariant_of-self g c =
 
 pub returns-clause-connected : goal.returns-clause-connected
 returns-clause-connected g c =
-    changes_view g.C.Ord.cmp c.args.self.now (config_view c.self.inside.config) c.self.inside.sets c.refresh.new.self c.self.inside.records c.connect-known.new.self
+    changes_view g.C.Ord.cmp c.args.self.now (config_view c.self.inside.config) c.self.inside.sets c.refresh.new.self c.self.inside.records c.connect-known.new.self c.self.inside.blocks
     c.args.peer.now (option_map (connected_record c.args.dialer)) c.connect-known.result c.self.view_is c.refresh.ensures.sets c.connect-known.ensures.change
 
 busy : {C S : Type 0} (dialer : Bool) (o : Option (RecordView C S)) → is_busy o ≡ true → is_busy (option_map (connected_record dialer) o) ≡ true

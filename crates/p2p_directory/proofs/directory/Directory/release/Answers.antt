@@ -23,7 +23,7 @@ returns-clause-released g c =
     let cmp = g.C.Ord.cmp in
     let m = c.reservation.inside.metadata in
     rw (← c.reservation.view_is)
-    (changes_view cmp c.args.self.now (config_view c.self.inside.config) c.self.inside.sets c.refresh.new.self c.self.inside.records c.release-known.new.self
+    (changes_view cmp c.args.self.now (config_view c.self.inside.config) c.self.inside.sets c.refresh.new.self c.self.inside.records c.release-known.new.self c.self.inside.blocks
     (key_of m) (kept_after_release m) c.release-known.result c.self.view_is (of_peer (λ key. map (with_bit_of cmp key c.release-known.result) c.self.inside.sets) c.refresh.ensures.sets c.public_key.ensures) c.release-known.ensures.change)
 
 pub returns-clause-others : goal.returns-clause-others

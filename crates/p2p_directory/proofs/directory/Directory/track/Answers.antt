@@ -47,7 +47,7 @@ on_err (Err e) h = h
 pub returns-in_err-add-clause-err : goal.returns-in_err-add-clause-err
 returns-in_err-add-clause-err g c =
     on_err c.from_residual-in_err-add.result
-    ((λ i. record { config = config_view c.self.inside.config; sets = plain_sets (c.in_err-add.ensures.sets i); records = same g c i }) ∙ c.self.view_is)
+    ((λ i. record { config = config_view c.self.inside.config; sets = plain_sets (c.in_err-add.ensures.sets i); records = same g c i; blocks = c.self.inside.blocks }) ∙ c.self.view_is)
 
 -- .. and each status too
 status_same : (g : _) (c : goal.After-drop-torn g) (test : Status → Bool) (q : g.row.C.Denot) → has_status test (record_at g.C.Ord.cmp c.add.new.records q) ≡ has_status test (record_of g.C.Ord.cmp c.args.self.now q)
@@ -80,6 +80,7 @@ returns-clause-taken g c =
     record {
       config = ap (λ (d : DirectoryView g.row.C.Denot g.row.C-Signature.Denot). d.config) c.self.view_is;
       sets = (taken g c).kept ∙ ap (λ (d : DirectoryView g.row.C.Denot g.row.C-Signature.Denot). last_of d.config.max_sets (d.sets ++ set ∷ [])) c.self.view_is;
+      blocks = ap (λ (d : DirectoryView g.row.C.Denot g.row.C-Signature.Denot). d.blocks) c.self.view_is;
       records = λ q. (taken g c).records q ∙ ap (λ (d : DirectoryView g.row.C.Denot g.row.C-Signature.Denot). record_with_sets cmp (plain_sets c.drop_oldest.new.sets) q (record_at cmp d.records q)) c.self.view_is;
     }
 

@@ -24,10 +24,11 @@ invariant_of-self g c =
 
 pub returns-clause-updated : goal.returns-clause-updated
 returns-clause-updated g c =
-    let new : DirectoryView g.row.C.Denot g.row.C-Signature.Denot = record { config = config_view c.self.inside.config; sets = plain_sets c.update_each.new.sets; records = c.update_each.new.records } in
+    let new : DirectoryView g.row.C.Denot g.row.C-Signature.Denot = record { config = config_view c.self.inside.config; sets = plain_sets c.update_each.new.sets; records = c.update_each.new.records; blocks = c.self.inside.blocks } in
     subst (λ d. Updates g.C.Ord.cmp d new c.args.infos.items) c.self.view_is (record {
       config = refl;
       sets = c.update_each.ensures.sets;
+      blocks = refl;
       records = c.update_each.ensures.records;
     })
 

@@ -1,0 +1,217 @@
+-- Dials by the replies to a run.
+use Rattle.std.proofs.Common.{◌≡◌, ℕ, ◌≤◌, Bool, true, false, cond, not, ◌||◌, List, [], ◌∷◌, Option, ◌⊎◌, inl, inr, refl, sym, ◌∙◌, ap, subst}
+use Rattle.std.specs.Cmp.{IsTotalOrder}
+use Rattle.p2p_directory.specs.Calls.{Setup, Question, Call}
+use Rattle.p2p_directory.specs.Calls.Question.{StatusOf, NumberTracked, NextUnblock, BlockedAt, PeerSet, LatestIndex, AllPeers, LatestUpdate, InfoOf, InfosFor, BitsAt, IsEligible, IsAcceptable, DialableAt}
+use Rattle.p2p_directory.specs.Calls.Call.{Track, Dial, Listen, Connect, Release, Update, Block, UnblockExpired, Ask}
+use Rattle.p2p_directory.specs.History
+use Rattle.p2p_directory.specs.History.{last_with}
+use Rattle.p2p_directory.specs.World
+use Rattle.p2p_directory.specs.World.{World}
+use Rattle.p2p_directory.specs.Answers.{IsDialable, is_dialable, query_moment, was_granted}
+use Rattle.p2p_directory.specs.Laws.Isolation.{SameFor}
+use Rattle.p2p_directory.specs.Laws.Dials.{IsDialled}
+use Rattle.p2p_directory.specs.Run
+use Rattle.p2p_directory.specs.declared.run.commands.Reply.{Reply}
+use Rattle.p2p_directory.specs.declared.run.commands.Reply.TheVariants as reply
+use Rattle.p2p_directory.specs.Laws.DialRuns.{IsGrantedOrOutOfMemory, next_query, without, AreGrantedAt, IsRepeated, IsQuiet, IsDialableKept, KeepDialable}
+use Rattle.p2p_directory.proofs.LawsOfRuns.Isolation
+use Rattle.p2p_directory.proofs.LawsOfRuns.Dialled
+use Rattle.p2p_directory.proofs.Definitions.Listed
+use Rattle.p2p_directory.proofs.LawsOfRuns.Quiet
+use Rattle.p2p_directory.proofs.LawsOfRuns.GrantRuns.{replied}
+
+module _ {C S : Type 0} (s : Setup C S) where
+  -- DIALS
+
+  or_right : (a b : Bool) → b ≡ true → (a || b) ≡ true
+  or_right true b e = refl
+  or_right false b e = e
+
+  without_in : History.IsExact s → (p q : C) (ps : List C) → History.is_in s p (without s q ps) ≡ true → (History.is_in s p ps ≡ true) × (History.same s q p ≡ false)
+  without_in exact p q [] e = absurd (cc)
+  without_in exact p q (x ∷ ps) e = go (History.same s q x) (History.same s x p) refl refl (without_in exact p q ps) e
+    where
+      go : (b d : Bool) → History.same s q x ≡ b → History.same s x p ≡ d →
+          (History.is_in s p (without s q ps) ≡ true → (History.is_in s p ps ≡ true) × (History.same s q p ≡ false)) →
+          History.is_in s p (cond (not b) (x ∷ without s q ps) (without s q ps)) ≡ true → ((d || History.is_in s p ps) ≡ true) × (History.same s q p ≡ false)
+      go true d f g more h = let m = more h in (or_right d (History.is_in s p ps) m.0, m.1)
+      go false true f g more h = (refl, ap (λ y. History.same s q y) (sym (exact x p g)) ∙ f)
+      go false false f g more h = more (sym (ap (λ d. d || History.is_in s p (without s q ps)) g) ∙ h)
+
+  -- these are dialable in a world
+  abbrev AreReady : World C S → ℕ → List C → Type 0
+  AreReady w t ps = (p : C) → History.is_in s p ps ≡ true → is_dialable s w t p ≡ true
+
+  -- the reply to a dial of a dialable peer, and what holds of those after it
+  one_granted : {X : Type 0} (p : C) (t draw : ℕ) (before cs : List (Call C S)) (r : Reply C S) (rs : List (Reply C S)) →
+      IsDialled s p t draw (Run.event_of s before (Dial p t draw)) →
+      (r ≡ reply.OutOfMemory) ⊎ Run.Replies s (Run.event_of s before (Dial p t draw)) (Run.world_after s before) (Run.world_after s (Dial p t draw ∷ before)) (Dial p t draw) r →
+      (Run.AreAnswers s before cs rs → X) → (Run.AreAnswers s (Dial p t draw ∷ before) cs rs → X) →
+      Run.AreAnswers s (Run.next s before (Dial p t draw) r) cs rs → IsGrantedOrOutOfMemory r × X
+  one_granted {X} p t draw before cs r rs granted (inl e) refused more =
+      subst (λ y. Run.AreAnswers s (Run.next s before (Dial p t draw) y) cs rs → IsGrantedOrOutOfMemory y × X) (sym e) (λ answers. (tt, refused answers))
+  one_granted {X} p t draw before cs r rs granted (inr e) refused more =
+      subst (λ y. Run.AreAnswers s (Run.next s before (Dial p t draw) y) cs rs → IsGrantedOrOutOfMemory y × X)
+      (sym (e ∙ ap (λ x. reply.Dial (was_granted x)) granted.1)) (λ answers. (tt, more answers))
+
+  all_granted : 1 ≤ s.max_sets → History.IsExact s → (t : ℕ) (ps : List C) (before cs : List (Call C S)) (rs : List (Reply C S)) →
+      AreReady (Run.world_after s before) t ps → Run.AreAnswers s before cs rs → AreGrantedAt s t ps cs rs
+  all_granted some exact t ps before (Dial q u draw ∷ cs) (r ∷ rs) ready answers = λ e listed.
+      one_granted q u draw before cs r rs
+      (Dialled.granted s q u draw (Run.world_after s before) (Dialled.reservable_first s (last_with (History.grant_by s q) (History.life s q (World.past s before))))
+      (subst (λ m. is_dialable s (Run.world_after s before) m q ≡ true) (sym e) (ready q listed)))
+      (replied s (Run.event_of s before (Dial q u draw)) (Run.world_after s before) (Run.world_after s (Dial q u draw ∷ before)) (Dial q u draw) r answers.0)
+      (λ a. all_granted some exact t (without s q ps) before cs rs (λ p other. ready p (without_in exact p q ps other).0) a)
+      (λ a. all_granted some exact t (without s q ps) (Dial q u draw ∷ before) cs rs
+      (λ p other. Dialled.dialable_alike s p t _ _ (Isolation.another_alike s some p (Dial q u draw) before (ap not (without_in exact p q ps other).1)) ∙ ready p (without_in exact p q ps other).0) a)
+      answers.1
+  all_granted some exact t ps before (Dial q u draw ∷ cs) [] ready answers = tt
+  all_granted some exact t ps before [] rs ready answers = tt
+  all_granted some exact t ps before (Track index primary secondary ∷ cs) rs ready answers = tt
+  all_granted some exact t ps before (Listen q u draw ∷ cs) rs ready answers = tt
+  all_granted some exact t ps before (Connect q dialer ∷ cs) rs ready answers = tt
+  all_granted some exact t ps before (Release q ∷ cs) rs ready answers = tt
+  all_granted some exact t ps before (Update infos ∷ cs) rs ready answers = tt
+  all_granted some exact t ps before (Block q u ∷ cs) rs ready answers = tt
+  all_granted some exact t ps before (UnblockExpired u ∷ cs) rs ready answers = tt
+  all_granted some exact t ps before (Ask question ∷ cs) rs ready answers = tt
+
+  -- QUIET
+
+  turned : (p : C) (w v : World C S) → SameFor p w v → SameFor p v w
+  turned p w v alike = record { sets = sym alike.sets; peer = sym alike.peer; unblock = sym alike.unblock; held = sym alike.held }
+
+  same_answer : History.IsExact s → (w v : World C S) → ((p : C) → SameFor p w v) → (t : ℕ) (ps : List C) (next : Option ℕ) → IsDialable s w t ps next → IsDialable s v t ps next
+  same_answer exact w v alike t ps next answer = (
+    record { sorted = answer.0.sorted; members = λ p. answer.0.members p ∙ (Isolation.answers_alike s exact p w v (alike p)).dialable t },
+    Listed.least_alike (query_moment s w t) (query_moment s v t) next (λ p. sym ((Isolation.answers_alike s exact p w v (alike p)).query t)) answer.1,
+  )
+
+  -- a question, accepted or not, leaves the answer as it was
+  asked_answer : History.IsExact s → (question : Question C) (before : List (Call C S)) (accepted : Bool) (t : ℕ) (ps : List C) (next : Option ℕ) →
+      IsDialable s (Run.world_after s before) t ps next → IsDialable s (Run.world_after s (cond accepted (Ask question ∷ before) before)) t ps next
+  asked_answer exact question before true t ps next answer =
+      same_answer exact (Run.world_after s before) (Run.world_after s (Ask question ∷ before)) (λ p. turned p _ _ (Isolation.asked_alike s p question before)) t ps next answer
+  asked_answer exact question before false t ps next answer = answer
+
+  module _ (total : IsTotalOrder s.cmp) (exact : History.IsExact s) where
+    repeated : (t : ℕ) (ps : List C) (next : Option ℕ) (before : List (Call C S)) (question : Question C) (r : Reply C S) →
+        IsDialable s (Run.world_after s before) t ps next → Run.IsAnswer s before (Ask question) r → IsRepeated s t ps next question r
+    repeated t ps next before (DialableAt u) (reply.Dialable answer) first again = λ le soon.
+        Quiet.only_dialable s total exact (Run.world_after s before) u answer.peers.items ps (next_query answer) next again (Quiet.stays_dialable s (Run.world_after s before) t u ps next first le soon)
+    repeated t ps next before (DialableAt u) (reply.Track torn) first again = tt
+    repeated t ps next before (DialableAt u) (reply.Dial granted) first again = tt
+    repeated t ps next before (DialableAt u) (reply.Listen granted) first again = tt
+    repeated t ps next before (DialableAt u) reply.Connect first again = tt
+    repeated t ps next before (DialableAt u) reply.Release first again = tt
+    repeated t ps next before (DialableAt u) reply.UpdatePeers first again = tt
+    repeated t ps next before (DialableAt u) (reply.Block taken) first again = tt
+    repeated t ps next before (DialableAt u) (reply.UnblockExpired any) first again = tt
+    repeated t ps next before (DialableAt u) (reply.NextUnblock moment) first again = tt
+    repeated t ps next before (DialableAt u) (reply.BlockedPeers peers) first again = tt
+    repeated t ps next before (DialableAt u) (reply.Status status) first again = tt
+    repeated t ps next before (DialableAt u) (reply.GetPeerSet peers) first again = tt
+    repeated t ps next before (DialableAt u) (reply.LatestSetIndex index) first again = tt
+    repeated t ps next before (DialableAt u) (reply.LatestUpdate update) first again = tt
+    repeated t ps next before (DialableAt u) (reply.All all) first again = tt
+    repeated t ps next before (DialableAt u) (reply.Info info) first again = tt
+    repeated t ps next before (DialableAt u) (reply.Infos infos) first again = tt
+    repeated t ps next before (DialableAt u) (reply.GetRandomBitVec bits) first again = tt
+    repeated t ps next before (DialableAt u) (reply.Eligible eligible) first again = tt
+    repeated t ps next before (DialableAt u) (reply.Acceptable acceptable) first again = tt
+    repeated t ps next before (DialableAt u) (reply.Tracked count) first again = tt
+    repeated t ps next before (DialableAt u) reply.NotReserved first again = tt
+    repeated t ps next before (DialableAt u) reply.NotHeld first again = tt
+    repeated t ps next before (DialableAt u) reply.OutOfMemory first again = tt
+    repeated t ps next before (StatusOf p) r first again = tt
+    repeated t ps next before NumberTracked r first again = tt
+    repeated t ps next before NextUnblock r first again = tt
+    repeated t ps next before (BlockedAt u) r first again = tt
+    repeated t ps next before (PeerSet index) r first again = tt
+    repeated t ps next before LatestIndex r first again = tt
+    repeated t ps next before AllPeers r first again = tt
+    repeated t ps next before LatestUpdate r first again = tt
+    repeated t ps next before (InfoOf p) r first again = tt
+    repeated t ps next before (InfosFor index bits u) r first again = tt
+    repeated t ps next before (BitsAt place) r first again = tt
+    repeated t ps next before (IsEligible p u) r first again = tt
+    repeated t ps next before (IsAcceptable p u) r first again = tt
+
+    all_quiet : (t : ℕ) (ps : List C) (next : Option ℕ) (before cs : List (Call C S)) (rs : List (Reply C S)) →
+        IsDialable s (Run.world_after s before) t ps next → Run.AreAnswers s before cs rs → IsQuiet s t ps next cs rs
+    all_quiet t ps next before (Ask question ∷ cs) (r ∷ rs) first answers = (
+      repeated t ps next before question r first answers.0,
+      all_quiet t ps next (Run.next s before (Ask question) r) cs rs (asked_answer exact question before (Run.is_accepted s r) t ps next first) answers.1,
+    )
+    all_quiet t ps next before (Ask question ∷ cs) [] first answers = tt
+    all_quiet t ps next before [] rs first answers = tt
+    all_quiet t ps next before (Track index primary secondary ∷ cs) rs first answers = tt
+    all_quiet t ps next before (Dial q u draw ∷ cs) rs first answers = tt
+    all_quiet t ps next before (Listen q u draw ∷ cs) rs first answers = tt
+    all_quiet t ps next before (Connect q dialer ∷ cs) rs first answers = tt
+    all_quiet t ps next before (Release q ∷ cs) rs first answers = tt
+    all_quiet t ps next before (Update infos ∷ cs) rs first answers = tt
+    all_quiet t ps next before (Block q u ∷ cs) rs first answers = tt
+    all_quiet t ps next before (UnblockExpired u ∷ cs) rs first answers = tt
+
+    -- THE RUN
+
+    kept_after : 1 ≤ s.max_sets → (before : List (Call C S)) (c : Call C S) (r : Reply C S) (cs : List (Call C S)) (rs : List (Reply C S)) →
+        Run.IsAnswer s before c r → Run.AreAnswers s (Run.next s before c r) cs rs → IsDialableKept s c r cs rs
+    kept_after least before (Ask (DialableAt t)) (reply.Dialable given) cs rs answer answers =
+        let ps = given.peers.items in
+        let next = next_query given in
+        let still = asked_answer exact (DialableAt t) before true t ps next answer in
+        (all_granted least exact t ps (Ask (DialableAt t) ∷ before) cs rs (λ p listed. sym (still.0.members p) ∙ listed) answers, all_quiet t ps next (Ask (DialableAt t) ∷ before) cs rs still answers)
+    kept_after least before (Ask (DialableAt t)) (reply.Track torn) cs rs answer answers = tt
+    kept_after least before (Ask (DialableAt t)) (reply.Dial granted) cs rs answer answers = tt
+    kept_after least before (Ask (DialableAt t)) (reply.Listen granted) cs rs answer answers = tt
+    kept_after least before (Ask (DialableAt t)) reply.Connect cs rs answer answers = tt
+    kept_after least before (Ask (DialableAt t)) reply.Release cs rs answer answers = tt
+    kept_after least before (Ask (DialableAt t)) reply.UpdatePeers cs rs answer answers = tt
+    kept_after least before (Ask (DialableAt t)) (reply.Block taken) cs rs answer answers = tt
+    kept_after least before (Ask (DialableAt t)) (reply.UnblockExpired any) cs rs answer answers = tt
+    kept_after least before (Ask (DialableAt t)) (reply.NextUnblock moment) cs rs answer answers = tt
+    kept_after least before (Ask (DialableAt t)) (reply.BlockedPeers peers) cs rs answer answers = tt
+    kept_after least before (Ask (DialableAt t)) (reply.Status status) cs rs answer answers = tt
+    kept_after least before (Ask (DialableAt t)) (reply.GetPeerSet peers) cs rs answer answers = tt
+    kept_after least before (Ask (DialableAt t)) (reply.LatestSetIndex index) cs rs answer answers = tt
+    kept_after least before (Ask (DialableAt t)) (reply.LatestUpdate update) cs rs answer answers = tt
+    kept_after least before (Ask (DialableAt t)) (reply.All all) cs rs answer answers = tt
+    kept_after least before (Ask (DialableAt t)) (reply.Info info) cs rs answer answers = tt
+    kept_after least before (Ask (DialableAt t)) (reply.Infos infos) cs rs answer answers = tt
+    kept_after least before (Ask (DialableAt t)) (reply.GetRandomBitVec bits) cs rs answer answers = tt
+    kept_after least before (Ask (DialableAt t)) (reply.Eligible eligible) cs rs answer answers = tt
+    kept_after least before (Ask (DialableAt t)) (reply.Acceptable acceptable) cs rs answer answers = tt
+    kept_after least before (Ask (DialableAt t)) (reply.Tracked count) cs rs answer answers = tt
+    kept_after least before (Ask (DialableAt t)) reply.NotReserved cs rs answer answers = tt
+    kept_after least before (Ask (DialableAt t)) reply.NotHeld cs rs answer answers = tt
+    kept_after least before (Ask (DialableAt t)) reply.OutOfMemory cs rs answer answers = tt
+    kept_after least before (Ask (StatusOf p)) r cs rs answer answers = tt
+    kept_after least before (Ask NumberTracked) r cs rs answer answers = tt
+    kept_after least before (Ask NextUnblock) r cs rs answer answers = tt
+    kept_after least before (Ask (BlockedAt u)) r cs rs answer answers = tt
+    kept_after least before (Ask (PeerSet index)) r cs rs answer answers = tt
+    kept_after least before (Ask LatestIndex) r cs rs answer answers = tt
+    kept_after least before (Ask AllPeers) r cs rs answer answers = tt
+    kept_after least before (Ask LatestUpdate) r cs rs answer answers = tt
+    kept_after least before (Ask (InfoOf p)) r cs rs answer answers = tt
+    kept_after least before (Ask (InfosFor index bits u)) r cs rs answer answers = tt
+    kept_after least before (Ask (BitsAt place)) r cs rs answer answers = tt
+    kept_after least before (Ask (IsEligible p u)) r cs rs answer answers = tt
+    kept_after least before (Ask (IsAcceptable p u)) r cs rs answer answers = tt
+    kept_after least before (Track index primary secondary) r cs rs answer answers = tt
+    kept_after least before (Dial q u draw) r cs rs answer answers = tt
+    kept_after least before (Listen q u draw) r cs rs answer answers = tt
+    kept_after least before (Connect q dialer) r cs rs answer answers = tt
+    kept_after least before (Release q) r cs rs answer answers = tt
+    kept_after least before (Update infos) r cs rs answer answers = tt
+    kept_after least before (Block q u) r cs rs answer answers = tt
+    kept_after least before (UnblockExpired u) r cs rs answer answers = tt
+
+    -- each reply of `dialable` in a run says this of those after it
+    pub keep_dialable : 1 ≤ s.max_sets → (before cs : List (Call C S)) (rs : List (Reply C S)) → Run.AreAnswers s before cs rs → KeepDialable s cs rs
+    keep_dialable least before [] rs answers = tt
+    keep_dialable least before (c ∷ cs) [] answers = tt
+    keep_dialable least before (c ∷ cs) (r ∷ rs) answers = (kept_after least before c r cs rs answers.0 answers.1, keep_dialable least (Run.next s before c r) cs rs answers.1)

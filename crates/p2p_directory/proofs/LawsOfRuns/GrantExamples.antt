@@ -1,0 +1,105 @@
+-- Worked runs: replies that the laws of grants, blocks and dials allow, and replies that they refuse.
+use Rattle.std.proofs.Common.{◌≡◌, ℕ, true, false, Bool, List, [], ◌∷◌, Some, None, refl, sym, ◌∙◌, subst, arith}
+use Rattle.std.specs.List.Sorted.{IsStrictlySortedBy}
+use Rattle.p2p_directory.specs.Calls.{Call}
+use Rattle.p2p_directory.specs.Calls.Call.{Block, UnblockExpired, Release, Ask}
+use Rattle.p2p_directory.specs.Calls.Question.{NumberTracked, DialableAt}
+use Rattle.p2p_directory.specs.History.{life}
+use Rattle.p2p_directory.specs.declared.record.Dialable.{Dialable}
+use Rattle.p2p_directory.specs.declared.run.commands.Reply.{Reply}
+use Rattle.p2p_directory.specs.declared.run.commands.Reply.TheVariants as reply
+use Rattle.p2p_directory.specs.Run.{AreAnswers}
+use Rattle.p2p_directory.specs.Laws.GrantRuns.{KeepCooldown, GoForward, KeepBlocks}
+use Rattle.p2p_directory.specs.Laws.Dials.{IsBefore}
+use Rattle.p2p_directory.specs.Laws.DialRuns.{next_query, AreGrantedAt, KeepDialable}
+use Rattle.p2p_directory.proofs.Definitions.Setting.{sec, setup, track, listen, dial}
+
+-- COOLDOWN, of 10 s
+
+abbrev listened : ℕ → List (Call ℕ ℕ)
+listened t = track 0 (1 ∷ []) ∷ listen 1 100 ∷ Release 1 ∷ listen 1 t ∷ []
+
+abbrev listen_replies : Bool → List (Reply ℕ ℕ)
+listen_replies granted = reply.Track (Some []) ∷ reply.Listen true ∷ reply.Release ∷ reply.Listen granted ∷ []
+
+refused_is_answer : AreAnswers setup [] (listened 109) (listen_replies false)
+unfolding life IsStrictlySortedBy
+refused_is_answer = ((refl, record { sorted = tt; members = λ p. refl }), (refl, (refl, (refl, tt))))
+
+refused_is_kept : KeepCooldown setup 1 [] [] (listened 109) (listen_replies false)
+unfolding life
+refused_is_kept = (tt, (tt, (tt, (tt, tt))))
+
+granted_too_soon : KeepCooldown setup 1 [] [] (listened 109) (listen_replies true) → ⊥
+unfolding life
+granted_too_soon kept = absurd (omega (arith, kept.1.1.1.0.0))
+
+granted_in_time : KeepCooldown setup 1 [] [] (listened 110) (listen_replies true)
+unfolding life
+granted_in_time = (tt, (tt, (tt, ((omega arith, tt), tt))))
+
+-- of another peer, or of one that was absent in between, a grant may follow at once
+
+granted_another : KeepCooldown setup 2 [] [] (listened 109) (listen_replies true)
+unfolding life
+granted_another = (tt, (tt, (tt, (tt, tt))))
+
+granted_as_new : KeepCooldown setup 1 [] [] (track 0 (1 ∷ []) ∷ listen 1 100 ∷ Release 1 ∷ track 1 (2 ∷ []) ∷ track 2 (1 ∷ []) ∷ listen 1 100 ∷ [])
+    (reply.Track (Some []) ∷ reply.Listen true ∷ reply.Release ∷ reply.Track (Some []) ∷ reply.Track (Some []) ∷ reply.Listen true ∷ [])
+unfolding life
+granted_as_new = (tt, (tt, (tt, (tt, (tt, (tt, tt))))))
+
+-- BLOCKS, of 60 s
+
+granted_while_blocked : KeepBlocks setup 1 [] (Block 1 (sec 100) ∷ listen 1 159 ∷ []) (reply.Block true ∷ reply.Listen true ∷ []) → ⊥
+granted_while_blocked kept = absurd (omega (arith, kept.1.0.0))
+
+dialled_while_blocked : KeepBlocks setup 1 [] (Block 1 (sec 100) ∷ dial 1 159 ∷ []) (reply.Block true ∷ reply.Dial true ∷ []) → ⊥
+dialled_while_blocked kept = absurd (omega (arith, kept.1.0.0))
+
+granted_at_the_end : KeepBlocks setup 1 [] (Block 1 (sec 100) ∷ listen 1 160 ∷ []) (reply.Block true ∷ reply.Listen true ∷ [])
+granted_at_the_end = (tt, ((omega arith, tt), tt))
+
+granted_where_not_taken : KeepBlocks setup 1 [] (Block 1 (sec 100) ∷ listen 1 159 ∷ []) (reply.Block false ∷ reply.Listen true ∷ [])
+granted_where_not_taken = (tt, (tt, tt))
+
+-- moments go back: of such a run the law says nothing
+goes_back : GoForward setup 0 (UnblockExpired (sec 1000) ∷ listen 1 120 ∷ []) → ⊥
+goes_back forward = absurd (omega (arith, forward.1.0))
+
+-- DIALS of those whom an answer lists
+
+abbrev dialled : List (Call ℕ ℕ)
+dialled = Ask (DialableAt (sec 100)) ∷ dial 2 100 ∷ dial 1 100 ∷ []
+
+abbrev dial_replies : Dialable ℕ ℕ → Bool → List (Reply ℕ ℕ)
+dial_replies answer granted = reply.Dialable answer ∷ reply.OutOfMemory ∷ reply.Dial granted ∷ []
+
+dial_is_refused : (answer : Dialable ℕ ℕ) → answer.peers.items ≡ 1 ∷ 2 ∷ [] → KeepDialable setup dialled (dial_replies answer false) → ⊥
+dial_is_refused answer lists kept =
+    let dials = subst (λ ps. AreGrantedAt setup (sec 100) ps (dial 2 100 ∷ dial 1 100 ∷ []) (reply.OutOfMemory ∷ reply.Dial false ∷ [])) lists kept.0.0 in
+    ((dials refl refl).1 refl refl).0
+
+dials_are_granted : (answer : Dialable ℕ ℕ) → KeepDialable setup dialled (dial_replies answer true)
+dials_are_granted answer = (((λ at listed. (tt, λ at listed. (tt, tt))), tt), (tt, (tt, tt)))
+
+-- QUIET TIME: an answer at 100 s, and one at t
+
+abbrev asked : ℕ → List (Call ℕ ℕ)
+asked t = Ask (DialableAt (sec 100)) ∷ Ask NumberTracked ∷ Ask (DialableAt (sec t)) ∷ []
+
+abbrev ask_replies : Dialable ℕ ℕ → Dialable ℕ ℕ → List (Reply ℕ ℕ)
+ask_replies first later = reply.Dialable first ∷ reply.Tracked 1 ∷ reply.Dialable later ∷ []
+
+changes_too_soon : (first later : Dialable ℕ ℕ) → first.peers.items ≡ [] → later.peers.items ≡ 1 ∷ [] → next_query first ≡ Some (sec 105) →
+    KeepDialable setup (asked 104) (ask_replies first later) → ⊥
+changes_too_soon first later none one next kept =
+    let same = kept.0.1.1.0 (omega arith) (subst (λ o. IsBefore (sec 104) o) (sym next) (omega arith)) in
+    absurd (let e = sym one ∙ same.0 ∙ none in cc)
+
+changes_in_time : (first later : Dialable ℕ ℕ) → next_query first ≡ Some (sec 105) → KeepDialable setup (asked 105) (ask_replies first later)
+changes_in_time first later next =
+    ((tt, (tt, ((λ from before. absurd (let e = subst (λ o. IsBefore (sec 105) o) next before in omega (arith, e))), tt))), (tt, ((tt, tt), tt)))
+
+stays_for_ever : (first later : Dialable ℕ ℕ) → next_query first ≡ None → KeepDialable setup (asked 1_000_000) (ask_replies first later) → later.peers.items ≡ first.peers.items
+stays_for_ever first later next kept = (kept.0.1.1.0 (omega arith) (subst (λ o. IsBefore (sec 1_000_000) o) (sym next) tt)).0

@@ -1,0 +1,50 @@
+-- A node stands where its server does.
+use Rattle.std.proofs.Common.{◌≡◌, true, List, Option, is_some, inl, inr, refl, sym, ◌∙◌, ap, subst}
+use Rattle.p2p_directory.specs.declared.directory.Metadata.{Metadata}
+use Rattle.p2p_directory.specs.declared.run.commands.Command.{Command}
+use Rattle.p2p_directory.specs.declared.run.commands.Reply.{Reply}
+use Rattle.p2p_directory.specs.declared.run.commands.Reply.TheVariants as reply
+use Rattle.p2p_directory.specs.Calls.{Setup, Call}
+use Rattle.p2p_directory.specs.World.{World}
+use Rattle.p2p_directory.specs.Held.{held_of}
+use Rattle.p2p_directory.specs.Refinement.{Refines}
+use Rattle.p2p_directory.specs.Run.{call_of, world_after, next, Holds}
+use Rattle.p2p_directory.specs.Nodes.{Made, NodeView, NodeStandsAt, IsSteppedAt, may_reserve}
+use Rattle.p2p_directory.specs.Private.Serving.{ServerView, StandsAt, IsServedAt}
+use Rattle.p2p_directory.specs.Private.Slots.{held_in}
+
+holds_alike : {C S : Type 0} (s : Setup C S) (w : World C S) (h h2 : C → Option (Metadata C S)) → ((q : C) → h2 q ≡ h q) → Holds s w h → Holds s w h2
+holds_alike s w h h2 same holds = record { peers = λ q. ap is_some (same q) ∙ holds.peers q; metadata = λ q. same q ∙ holds.metadata q }
+
+module _ {C S : Type 0} (m : Made C S) (calls : List (Call C S)) (n : NodeView C S) (v : ServerView C S)
+    (directory : n.directory ≡ v.directory) (held : (q : C) → held_of m.directory.cmp n.held q ≡ held_in m.directory.cmp v.slots q) where
+  pub of_node : NodeStandsAt m calls n → StandsAt m.directory calls v
+  of_node at = record {
+    limit_fits = at.limit_fits;
+    refines = subst (Refines m.directory (world_after m.directory calls)) directory at.refines;
+    holds = holds_alike m.directory (world_after m.directory calls) (held_of m.directory.cmp n.held) (held_in m.directory.cmp v.slots) (λ q. sym (held q)) at.holds;
+  }
+
+  pub of_server : n.limits ≡ m.limits → n.verifier ≡ m.verifier → StandsAt m.directory calls v → NodeStandsAt m calls n
+  of_server limits verifier at = record {
+    limit_fits = at.limit_fits;
+    refines = subst (Refines m.directory (world_after m.directory calls)) (sym directory) at.refines;
+    holds = holds_alike m.directory (world_after m.directory calls) (held_in m.directory.cmp v.slots) (held_of m.directory.cmp n.held) held at.holds;
+    limits = limits;
+    verifier = verifier;
+  }
+
+-- STEPS
+
+module _ {C S : Type 0} (m : Made C S) (calls : List (Call C S)) (n n2 : NodeView C S) (v v2 : ServerView C S) where
+  -- a command that was served: v is the server with room for it, v2 after it
+  pub stepped : (x : Command C S) (r : Reply C S) → n.directory ≡ v.directory → ((q : C) → held_of m.directory.cmp n.held q ≡ held_in m.directory.cmp v.slots q) →
+      n2.directory ≡ v2.directory → ((q : C) → held_of m.directory.cmp n2.held q ≡ held_in m.directory.cmp v2.slots q) → n2.limits ≡ n.limits → n2.verifier ≡ n.verifier →
+      (StandsAt m.directory calls v → IsServedAt m.directory calls (call_of x) r v2) → NodeStandsAt m calls n → IsSteppedAt m calls (call_of x) r n2
+  stepped x r directory held directory2 held2 limits verifier serves at =
+      let served = serves (of_node m calls n v directory held at) in
+      record { answer = inl served.answer; left = of_server m (next m.directory calls (call_of x) r) n2 v2 directory2 held2 (limits ∙ at.limits) (verifier ∙ at.verifier) served.left }
+
+-- room for what a command may be granted was refused
+pub no_room : {C S : Type 0} (m : Made C S) (calls : List (Call C S)) (n n2 : NodeView C S) (c : Call C S) → n2 ≡ n → may_reserve c ≡ true → NodeStandsAt m calls n → IsSteppedAt m calls c reply.OutOfMemory n2
+no_room m calls n n2 c same reserves at = record { answer = inr (reserves, refl); left = subst (NodeStandsAt m calls) (sym same) at }

@@ -1,0 +1,72 @@
+-- What a node answers by what is seen is what it answers in the world that the accepted calls make.
+use Rattle.std.proofs.Common.{◌≡◌, ◌≤◌, ℕ, true, List, ◌∷◌, Option, Some, None, Result, is_some, sym, ◌∙◌, ap, subst}
+use Rattle.std.specs.Prelude.{IfOk, OnErr, slice_get}
+use Rattle.p2p_discovery.specs.declared.discovery.Info.{Info}
+use Rattle.p2p_discovery.specs.Judgement.{judge_of}
+use Rattle.p2p_directory.specs.declared.node.Received.{Received}
+use Rattle.p2p_directory.specs.Calls.{Call}
+use Rattle.p2p_directory.specs.Calls.Call.{Update}
+use Rattle.p2p_directory.specs.Calls.Event.{Updated}
+use Rattle.p2p_directory.specs.World.{World}
+use Rattle.p2p_directory.specs.Step.{world_with}
+use Rattle.p2p_directory.specs.Directory.{Updates}
+use Rattle.p2p_directory.specs.Held.{held_of}
+use Rattle.p2p_directory.specs.Refinement.{Refines}
+use Rattle.p2p_directory.specs.Run.{world_after, Holds}
+use Rattle.p2p_directory.specs.Received as frames
+use Rattle.p2p_directory.specs.Received.{Wire, Standing, Outcome, received_at, may_want_memory, ask_frame_at, applied_with}
+use Rattle.p2p_directory.specs.Nodes.{Made, NodeView, NodeStandsAt, IsReceivedAt, IsAskedAt, standing_of, standing_in, calls_with, IsLeft, Answers, AsksWith}
+use Rattle.p2p_directory.proofs.Definitions.Law
+use Rattle.p2p_directory.proofs.LawsOfRuns.Forgotten
+use Rattle.p2p_directory.proofs.Refinement.KnowledgeRefines
+
+module _ {C S : Type 0} (m : Made C S) (wire : Wire C S) (calls : List (Call C S)) (v : NodeView C S) (at : NodeStandsAt m calls v) where
+  abbrev w : World C S
+  w = world_after m.directory calls
+
+  abbrev seen : Standing C S
+  seen = standing_of m.directory.cmp wire v
+
+  abbrev made : Standing C S
+  made = standing_in m wire w
+
+  -- how it stands, by what is seen, is how it stands in the world
+  stands_alike : seen ≡ made
+  stands_alike = λ i. record {
+    limits = at.limits i;
+    judge = judge_of m.directory.cmp wire.verifies (at.verifier i);
+    bits = λ place. KnowledgeRefines.tie_bits m.directory at.limit_fits w v.directory place (Forgotten.absent m.directory calls) at.refines i;
+    infos = λ index bits t. KnowledgeRefines.tie_infos m.directory w v.directory index bits t at.refines i;
+  }
+
+  -- once infos were applied it stands after one more call
+  updated : 1 ≤ m.directory.max_sets → (infos : List (Info C S)) (v2 : NodeView C S) → Updates m.directory.cmp v.directory v2.directory infos → v2 ≡ record v { directory = v2.directory } →
+      NodeStandsAt m (Update infos ∷ calls) v2
+  updated some infos v2 change same =
+      let s = m.directory in
+      let back : world_with s (Updated infos) w ≡ world_after s (Update infos ∷ calls) = sym (Law.recomputed_is_one_step s some calls (Update infos)) in
+      let holds : Holds s (world_with s (Updated infos) w) (held_of s.cmp v.held) = record { peers = at.holds.peers; metadata = at.holds.metadata } in
+      record {
+        limit_fits = at.limit_fits;
+        refines = subst (λ w. Refines s w v2.directory) back (KnowledgeRefines.tie_update s w v.directory v2.directory infos at.refines change);
+        holds = subst (λ held. Holds s (world_after s (Update infos ∷ calls)) (held_of s.cmp held)) (sym (ap (λ v. v.held) same)) (subst (λ w. Holds s w (held_of s.cmp v.held)) back holds);
+        limits = ap (λ v. v.limits) same ∙ at.limits;
+        verifier = ap (λ v. v.verifier) same ∙ at.verifier;
+      }
+
+  left_at : 1 ≤ m.directory.max_sets → (o : Option (List (Info C S))) (v2 : NodeView C S) → IsLeft m.directory.cmp v o v2 → NodeStandsAt m (calls_with o calls) v2
+  left_at some None v2 same = subst (NodeStandsAt m calls) (sym same) at
+  left_at some (Some infos) v2 change = updated some infos v2 change.0 change.1
+
+  pub received_in : 1 ≤ m.directory.max_sets → (frame : List ℕ) (now : ℕ) (r : Received) (v2 : NodeView C S) →
+      Answers m.directory.cmp (may_want_memory wire seen frame now) (received_at wire seen frame now) r v v2 → IsReceivedAt m wire calls frame now r v2
+  received_in some frame now r v2 answers = record {
+    answer = subst (λ node. frames.IsAnswer (may_want_memory wire node frame now) (received_at wire node frame now) r) stands_alike answers.answer;
+    left = subst (λ node. NodeStandsAt m (calls_with (applied_with (received_at wire node frame now) r) calls) v2) stands_alike (left_at some (applied_with (received_at wire seen frame now) r) v2 answers.left);
+  }
+
+  pub asked_in : {E : Type 0} (place : ℕ) (r : Result (Option (List ℕ)) E) → AsksWith m.directory.cmp wire place r v → IsAskedAt m wire calls place r
+  asked_in place r asks = record {
+    frame = subst (λ node. IfOk r (λ frame. frame ≡ ask_frame_at wire node place)) stands_alike asks.frame;
+    err = subst (λ sets. OnErr r (is_some (slice_get sets place) ≡ true)) at.refines.sets asks.err;
+  }

@@ -1,0 +1,279 @@
+-- Who may be dialled, who is blocked, and what is told of the sets: a directory answers what the world that it refines says.
+use Rattle.std.proofs.Common.{◌≡◌, ℕ, Bool, true, false, ◌||◌, ◌&&◌, not, List, Option, Some, None, sym, ap, refl, ◌∙◌}
+use Rattle.std.specs.Prelude.{if◌then◌else◌, nat_lt, nat_le}
+use Rattle.std.specs.Cmp.{both_ways}
+use Rattle.std.specs.Option.{option_map_or, option_and_then}
+use Rattle.std.proofs.lemmas.Bool.{and_parts, and_from}
+use Rattle.p2p_discovery.specs.declared.types.ingress.Ingress.{Ingress}
+use Rattle.p2p_discovery.specs.declared.discovery.Info.{Info}
+use Rattle.p2p_directory.specs.declared.record.Address.TheVariants.{Myself}
+use Rattle.p2p_directory.specs.Calls.{Setup, SetAt}
+use Rattle.p2p_directory.specs.History.{is_own, is_inert, is_persistent, is_named, is_present_with, is_entitled, primary_count, secondary_count}
+use Rattle.p2p_directory.specs.World
+use Rattle.p2p_directory.specs.World.{World, Known, Peer, last_ingress}
+use Rattle.p2p_directory.specs.Answers
+use Rattle.p2p_directory.specs.Answers.{is_present_in, AreAll, IsLatestUpdate, is_eligible_at, is_acceptable_at, is_target, is_dialable, query_moment, IsDialable}
+use Rattle.p2p_directory.specs.Record.{RecordView, DialView, is_eligible, is_grant, may_come, has_valid_ingress, ingress_of, is_dial_candidate, may_be_dialled, reserve_answer, dial_status, is_now, later_moment}
+use Rattle.p2p_directory.specs.Directory.{DirectoryView, may_listen_in, may_dial_in, ingress_in, is_dialable_in, query_moment_in, AreDialableIn}
+use Rattle.p2p_directory.specs.Refinement.{Refines, address_given, address_known, address_of}
+use Rattle.p2p_directory.proofs.Definitions.Listed
+use Rattle.p2p_directory.proofs.Definitions.Listed.{lists_alike, somebody_alike}
+use Rattle.p2p_directory.proofs.SetsAndRecords.Dialables.{later_parts, later_moments, shuffle}
+use Rattle.p2p_directory.proofs.Refinement.RecordOfPeer.{record_with, shown, shown_may_come, eligible_is_entitled, absent_not_entitled}
+
+neither : (b : Bool) → (b && false) ≡ false
+neither true = refl
+neither false = refl
+
+module _ {C S : Type 0} (s : Setup C S) where
+  -- ONE PEER
+
+  -- an address is valid where the peer isn't the local node, and its ingress is known and valid
+  valid_shown : (p : C) (known : Known C S) → has_valid_ingress s.allow_private_ips s.allow_dns (address_of s p known) ≡ (not (is_own s p) && World.is_valid_address s (World.address_with s p known.info))
+  valid_shown p known = go (is_own s p)
+    where
+      given : (o : Option Ingress) → has_valid_ingress {C = C} {S = S} s.allow_private_ips s.allow_dns (address_given o) ≡ World.is_valid_address s o
+      given None = refl
+      given (Some a) = refl
+
+      known_by : (info : Option (Info C S)) → has_valid_ingress s.allow_private_ips s.allow_dns (address_known (last_ingress s p s.bootstrappers) known.fails info) ≡ World.is_valid_address s (World.address_with s p info)
+      known_by None = given (last_ingress s p s.bootstrappers)
+      known_by (Some i) = refl
+
+      go : (own : Bool) → has_valid_ingress s.allow_private_ips s.allow_dns (if own then Myself s.own else address_known (last_ingress s p s.bootstrappers) known.fails known.info)
+          ≡ (not own && World.is_valid_address s (World.address_with s p known.info))
+      go true = refl
+      go false = known_by known.info
+
+  -- the parts of what makes a dial
+  record Parts (inert target own valid : Bool) : Type 0 where
+    is_inert : inert ≡ true
+    is_target : target ≡ true
+    is_other : not own ≡ true
+    is_valid : valid ≡ true
+
+  parts_of : (inert target own valid : Bool) → ((inert && target) && (not own && valid)) ≡ true → Parts inert target own valid
+  parts_of inert target own valid h =
+      let all = and_parts (inert && target) (not own && valid) h in
+      let first = and_parts inert target all.0 in
+      let second = and_parts (not own) valid all.1 in
+      record { is_inert = first.0; is_target = first.1; is_other = second.0; is_valid = second.1 }
+
+  -- who is to be dialled is in a set, or persistent
+  target_wanted : (prim sec pers : Bool) → (prim || pers) ≡ true → ((prim || sec) || pers) ≡ true
+  target_wanted true sec pers e = refl
+  target_wanted false true pers e = refl
+  target_wanted false false pers e = e
+
+  abbrev candidate : C → List (SetAt C) → Peer C S → Bool
+  candidate p sets peer =
+      (is_inert peer.status && World.is_dial_target s p sets) && (not (is_own s p) && World.is_valid_address s (World.address_with s p peer.known.info))
+
+  -- a record is a candidate where its peer is a target
+  candidate_target : (p : C) (sets : List (SetAt C)) (peer : Peer C S) → candidate p sets peer ≡ is_target s p sets peer
+  candidate_target p sets peer = both_ways (candidate p sets peer) (is_target s p sets peer) to from
+    where
+      i : Bool
+      i = is_inert peer.status
+
+      t : Bool
+      t = World.is_dial_target s p sets
+
+      v : Bool
+      v = World.is_valid_address s (World.address_with s p peer.known.info)
+
+      to : candidate p sets peer ≡ true → is_target s p sets peer ≡ true
+      to h =
+          let parts = parts_of i t (is_own s p) v h in
+          and_from _ t (and_from _ v (and_from (is_entitled s p sets) i (and_from (not (is_own s p)) _ parts.is_other
+          (target_wanted (nat_lt 0 (primary_count s p sets)) (nat_lt 0 (secondary_count s p sets)) (is_persistent s p) parts.is_target)) parts.is_inert) parts.is_valid) parts.is_target
+
+      from : is_target s p sets peer ≡ true → candidate p sets peer ≡ true
+      from h =
+          let h3 = and_parts ((is_entitled s p sets && i) && v) t h in
+          let h2 = and_parts (is_entitled s p sets && i) v h3.0 in
+          let h1 = and_parts (is_entitled s p sets) i h2.0 in
+          let h0 = and_parts (not (is_own s p)) _ h1.0 in
+          and_from (i && t) _ (and_from i t h1.1 h3.1) (and_from (not (is_own s p)) v h0.0 h2.1)
+
+  shown_candidate : (p : C) (sets : List (SetAt C)) (peer : Peer C S) → is_dial_candidate s.allow_private_ips s.allow_dns (record_with s p sets peer) ≡ is_target s p sets peer
+  shown_candidate p sets peer = ap (λ b. (is_inert peer.status && World.is_dial_target s p sets) && b) (valid_shown p peer.known) ∙ candidate_target p sets peer
+
+  -- who is absent is no target
+  absent_no_target : (p : C) (sets : List (SetAt C)) (peer : Peer C S) → is_present_with s p sets peer.status ≡ false → is_target s p sets peer ≡ false
+  absent_no_target p sets peer e =
+      ap (λ b. ((b && is_inert peer.status) && World.is_valid_address s (World.address_with s p peer.known.info)) && World.is_dial_target s p sets)
+      (absent_not_entitled s (is_own s p) (is_named s p sets) (is_persistent s p) (is_inert peer.status) e)
+
+  -- a dial is granted to a target that may come
+  dial_parts : (p : C) (t : ℕ) (sets : List (SetAt C)) (peer : Peer C S) (unblock : Option ℕ) →
+      (is_target s p sets peer && World.may_listen s p t sets peer unblock) ≡ World.may_dial s p t sets peer unblock
+  dial_parts p t sets peer unblock = both_ways _ _ to from
+    where
+      tgt : Bool
+      tgt = World.is_dial_target s p sets
+
+      v : Bool
+      v = World.is_valid_address s (World.address_with s p peer.known.info)
+
+      l : Bool
+      l = World.may_listen s p t sets peer unblock
+
+      e : Bool
+      e = is_entitled s p sets
+
+      i : Bool
+      i = is_inert peer.status
+
+      to : (is_target s p sets peer && l) ≡ true → World.may_dial s p t sets peer unblock ≡ true
+      to h =
+          let h1 = and_parts (is_target s p sets peer) l h in
+          let h2 = and_parts ((e && i) && v) tgt h1.0 in
+          let h3 = and_parts (e && i) v h2.0 in
+          and_from (l && tgt) v (and_from l tgt h1.1 h2.1) h3.1
+
+      from : World.may_dial s p t sets peer unblock ≡ true → (is_target s p sets peer && l) ≡ true
+      from h =
+          let h1 = and_parts (l && tgt) v h in
+          let h2 = and_parts l tgt h1.0 in
+          let h3 = and_parts _ (nat_le peer.known.reservable_at t) h2.0 in
+          let h4 = and_parts (e && i) _ h3.0 in
+          and_from _ l (and_from _ tgt (and_from (e && i) v h4.0 h1.1) h2.1) h2.0
+
+  shown_may_dial : (p : C) (sets : List (SetAt C)) (peer : Peer C S) (unblock : Option ℕ) (t : ℕ) →
+      (not (World.is_blocked unblock t) && option_map_or (may_be_dialled t s.allow_private_ips s.allow_dns) (shown s p sets peer) false) ≡ World.may_dial s p t sets peer unblock
+  shown_may_dial p sets peer unblock t = go (is_present_with s p sets peer.status) refl ∙ dial_parts p t sets peer unblock
+    where
+      free : Bool
+      free = not (World.is_blocked unblock t)
+
+      come : RecordView C S → Bool
+      come r = may_come t r
+
+      -- what may be dialled may come, since a target is entitled
+      grants : (target entitled grant : Bool) → (target ≡ true → entitled ≡ true) → (target && grant) ≡ (target && (entitled && grant))
+      grants true true grant h = refl
+      grants true false grant h = absurd (let f = h refl in cc)
+      grants false entitled grant h = refl
+
+      swap : (a b c : Bool) → (a && (b && c)) ≡ (b && (a && c))
+      swap true true c = refl
+      swap true false c = refl
+      swap false true c = refl
+      swap false false c = refl
+
+      entitled : is_target s p sets peer ≡ true → is_eligible (record_with s p sets peer) ≡ true
+      entitled h =
+          let h3 = and_parts ((is_entitled s p sets && is_inert peer.status) && World.is_valid_address s (World.address_with s p peer.known.info)) (World.is_dial_target s p sets) h in
+          let h2 = and_parts (is_entitled s p sets && is_inert peer.status) (World.is_valid_address s (World.address_with s p peer.known.info)) h3.0 in
+          eligible_is_entitled s p sets peer ∙ (and_parts (is_entitled s p sets) (is_inert peer.status) h2.0).0
+
+      go : (b : Bool) → is_present_with s p sets peer.status ≡ b →
+          (free && option_map_or (may_be_dialled t s.allow_private_ips s.allow_dns) (if b then Some (record_with s p sets peer) else None) false)
+          ≡ (is_target s p sets peer && World.may_listen s p t sets peer unblock)
+      go true h =
+          (λ i. free && (shown_candidate p sets peer i && is_grant (reserve_answer t (record_with s p sets peer))))
+          ∙ ap (λ b. free && b) (grants (is_target s p sets peer) (is_eligible (record_with s p sets peer)) (is_grant (reserve_answer t (record_with s p sets peer))) entitled)
+          ∙ swap free (is_target s p sets peer) (may_come t (record_with s p sets peer))
+          ∙ ap (λ b. is_target s p sets peer && b) ((λ i. free && option_map_or come (if sym h i then Some (record_with s p sets peer) else None) false) ∙ shown_may_come s p sets peer unblock t)
+      go false h = neither free ∙ sym (ap (λ b. b && World.may_listen s p t sets peer unblock) (absent_no_target p sets peer h))
+
+  -- DIALS
+
+  pub tie_may_listen : (w : World C S) (d : DirectoryView C S) (p : C) (t : ℕ) → Refines s w d → may_listen_in s.cmp d t p ≡ World.may_listen s p t w.sets (w.peer p) (w.unblock p)
+  tie_may_listen w d p t stands =
+      (λ i. not (World.is_blocked (stands.blocks p i) t) && option_map_or (may_come t) (stands.records p i) false) ∙ shown_may_come s p w.sets (w.peer p) (w.unblock p) t
+
+  pub tie_may_dial : (w : World C S) (d : DirectoryView C S) (p : C) (t : ℕ) → Refines s w d → may_dial_in s.cmp d t p ≡ World.may_dial s p t w.sets (w.peer p) (w.unblock p)
+  tie_may_dial w d p t stands =
+      (λ i. not (World.is_blocked (stands.blocks p i) t) && option_map_or (may_be_dialled t (stands.config i).allow_private_ips (stands.config i).allow_dns) (stands.records p i) false)
+      ∙ shown_may_dial p w.sets (w.peer p) (w.unblock p) t
+
+  -- the ingress that is kept of a peer that may be dialled
+  pub tie_ingress : (w : World C S) (d : DirectoryView C S) (p : C) (t : ℕ) → Refines s w d → World.may_dial s p t w.sets (w.peer p) (w.unblock p) ≡ true →
+      ingress_in s.cmp d p ≡ World.address_with s p (w.peer p).known.info
+  tie_ingress w d p t stands may = ap (option_and_then (λ r. ingress_of r.address)) (stands.records p) ∙ go (is_present_in s w p) refl (is_own s p) refl
+    where
+      l : Bool
+      l = World.may_listen s p t w.sets (w.peer p) (w.unblock p)
+
+      entitled : is_entitled s p w.sets ≡ true
+      entitled =
+          let h1 = and_parts (l && World.is_dial_target s p w.sets) _ may in
+          let h2 = and_parts l (World.is_dial_target s p w.sets) h1.0 in
+          let h3 = and_parts _ (nat_le (w.peer p).known.reservable_at t) h2.0 in
+          let h4 = and_parts (is_entitled s p w.sets && is_inert (w.peer p).status) _ h3.0 in
+          (and_parts (is_entitled s p w.sets) (is_inert (w.peer p).status) h4.0).0
+
+      given : (o : Option Ingress) → ingress_of {C = C} {S = S} (address_given o) ≡ o
+      given None = refl
+      given (Some a) = refl
+
+      known_by : (info : Option (Info C S)) → ingress_of (address_known (last_ingress s p s.bootstrappers) (w.peer p).known.fails info) ≡ World.address_with s p info
+      known_by None = given (last_ingress s p s.bootstrappers)
+      known_by (Some i) = refl
+
+      go : (b : Bool) → is_present_in s w p ≡ b → (own : Bool) → is_own s p ≡ own →
+          option_and_then (λ r. ingress_of r.address) (if b then Some (record_with s p w.sets (w.peer p)) else None) ≡ World.address_with s p (w.peer p).known.info
+      go true h true o = absurd (let f = sym (ap (λ b. not b && (is_named s p w.sets || is_persistent s p)) o) ∙ entitled in cc)
+      go true h false o =
+          (λ i. ingress_of (if o i then Myself s.own else address_known (last_ingress s p s.bootstrappers) (w.peer p).known.fails (w.peer p).known.info))
+          ∙ known_by (w.peer p).known.info
+      go false h own o = absurd (let f = sym (absent_not_entitled s (is_own s p) (is_named s p w.sets) (is_persistent s p) (is_inert (w.peer p).status) h) ∙ entitled in cc)
+
+  -- DIALABLE
+
+  shown_dialable : (p : C) (sets : List (SetAt C)) (peer : Peer C S) (unblock : Option ℕ) (t : ℕ) →
+      (not (World.is_blocked unblock t) && option_map_or (λ r. is_now (dial_status t s.allow_private_ips s.allow_dns r)) (shown s p sets peer) false)
+      ≡ Answers.is_dialable_with s p t sets peer unblock
+  shown_dialable p sets peer unblock t = go (is_present_with s p sets peer.status) refl ∙ shuffle (is_target s p sets peer) free (nat_le peer.known.dial_at t)
+    where
+      free : Bool
+      free = not (World.is_blocked unblock t)
+
+      go : (b : Bool) → is_present_with s p sets peer.status ≡ b →
+          (free && option_map_or (λ r. is_now (dial_status t s.allow_private_ips s.allow_dns r)) (if b then Some (record_with s p sets peer) else None) false) ≡ (free && (is_target s p sets peer && nat_le peer.known.dial_at t))
+      go true h =
+          (λ i. free && is_now (if not (shown_candidate p sets peer i) then DialView.Unavailable else if nat_lt t peer.known.dial_at then DialView.After peer.known.dial_at else DialView.Now))
+          ∙ ap (λ b. free && b) (later_parts (is_target s p sets peer) peer.known.dial_at t)
+      go false h = ap (λ b. free && (b && nat_le peer.known.dial_at t)) (sym (absent_no_target p sets peer h))
+
+  shown_query : (p : C) (sets : List (SetAt C)) (peer : Peer C S) (unblock : Option ℕ) (t : ℕ) →
+      option_and_then (λ r. if World.is_blocked unblock t then unblock else later_moment (dial_status t s.allow_private_ips s.allow_dns r)) (shown s p sets peer)
+      ≡ (if World.is_blocked unblock t then (if is_present_with s p sets peer.status then unblock else None)
+      else if is_target s p sets peer && nat_lt t peer.known.dial_at then Some peer.known.dial_at else None)
+  shown_query p sets peer unblock t = go (is_present_with s p sets peer.status) refl
+    where
+      nothing : Option ℕ
+      nothing = None
+
+      none : (b : Bool) → nothing ≡ (if b then nothing else nothing)
+      none true = refl
+      none false = refl
+
+      go : (b : Bool) → is_present_with s p sets peer.status ≡ b →
+          option_and_then (λ r. if World.is_blocked unblock t then unblock else later_moment (dial_status t s.allow_private_ips s.allow_dns r)) (if b then Some (record_with s p sets peer) else None)
+          ≡ (if World.is_blocked unblock t then (if b then unblock else None) else if is_target s p sets peer && nat_lt t peer.known.dial_at then Some peer.known.dial_at else None)
+      go true h =
+          (λ i. if World.is_blocked unblock t then unblock
+          else later_moment (if not (shown_candidate p sets peer i) then DialView.Unavailable else if nat_lt t peer.known.dial_at then DialView.After peer.known.dial_at else DialView.Now))
+          ∙ ap (λ o. if World.is_blocked unblock t then unblock else o) (later_moments (is_target s p sets peer) peer.known.dial_at t)
+      go false h =
+          none (World.is_blocked unblock t)
+          ∙ ap (λ b. if World.is_blocked unblock t then None else if b && nat_lt t peer.known.dial_at then Some peer.known.dial_at else None) (sym (absent_no_target p sets peer h))
+
+  pub tie_is_dialable : (w : World C S) (d : DirectoryView C S) (t : ℕ) → Refines s w d → (p : C) → is_dialable_in s.cmp d t p ≡ is_dialable s w t p
+  tie_is_dialable w d t stands p =
+      (λ i. not (World.is_blocked (stands.blocks p i) t) && option_map_or (λ r. is_now (dial_status t (stands.config i).allow_private_ips (stands.config i).allow_dns r)) (stands.records p i) false)
+      ∙ shown_dialable p w.sets (w.peer p) (w.unblock p) t
+
+  tie_query : (w : World C S) (d : DirectoryView C S) (t : ℕ) → Refines s w d → (p : C) → query_moment_in s.cmp d t p ≡ query_moment s w t p
+  tie_query w d t stands p =
+      (λ i. option_and_then (λ r. if World.is_blocked (stands.blocks p i) t then stands.blocks p i else later_moment (dial_status t (stands.config i).allow_private_ips (stands.config i).allow_dns r)) (stands.records p i))
+      ∙ shown_query p w.sets (w.peer p) (w.unblock p) t
+
+  pub tie_dialable : (w : World C S) (d : DirectoryView C S) (t : ℕ) (ps : List C) (next : Option ℕ) → Refines s w d → AreDialableIn s.cmp d t ps next → IsDialable s w t ps next
+  tie_dialable w d t ps next stands told = (
+    lists_alike s.cmp (is_dialable_in s.cmp d t) (is_dialable s w t) ps (tie_is_dialable w d t stands) told.0,
+    Listed.least_alike (query_moment_in s.cmp d t) (query_moment s w t) next (λ p. sym (tie_query w d t stands p)) told.1,
+  )

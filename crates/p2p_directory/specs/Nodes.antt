@@ -1,0 +1,192 @@
+-- Nodes: what contracts see of one, what it is made from, and how it stands at the point after the
+-- calls that its directory accepted.
+use Rattle.std.specs.Prelude.{ℕ, ◌≡◌, ◌<◌, ◌^◌, ◌∷◌, Bool, true, false, ◌⊎◌, List, Option, Some}
+use Rattle.std.specs.Prelude.{None, Result}
+use Rattle.std.specs.Prelude.{IfOk, OnErr, is_some, slice_get}
+use Rattle.std.specs.Duration.{as_nanos}
+use Rattle.std.specs.List.{AllByRecursion}
+use Rattle.std.specs.declared.cmp.Ordering.{Ordering}
+use Rattle.p2p_discovery.specs.declared.discovery.Info.{Info}
+use Rattle.p2p_discovery.specs.declared.discovery.PayloadConfig.{PayloadConfig}
+use Rattle.p2p_discovery.specs.Info.{IsInfo, IsKeyed}
+use Rattle.p2p_discovery.specs.Judgement.{Verifier, judge_of}
+use Rattle.p2p_directory.specs.declared.directory.Metadata.{Metadata}
+use Rattle.p2p_directory.specs.declared.node.Received.{Received}
+use Rattle.p2p_directory.specs.declared.node.Setup.{Setup as Given}
+use Rattle.p2p_directory.specs.declared.run.commands.Command.{Command}
+use Rattle.p2p_directory.specs.declared.run.commands.Reply.{Reply}
+use Rattle.p2p_directory.specs.declared.run.commands.Reply.TheVariants as reply
+use Rattle.p2p_directory.specs.Calls.{Setup, Call}
+use Rattle.p2p_directory.specs.Calls.Call.{Dial, Listen, Update}
+use Rattle.p2p_directory.specs.World.{World}
+use Rattle.p2p_directory.specs.Answers.{infos_for, set_at_place}
+use Rattle.p2p_directory.specs.Directory.{DirectoryView, Updates, bit_vec_at, infos_in}
+use Rattle.p2p_directory.specs.Held.{held_of}
+use Rattle.p2p_directory.specs.Refinement.{Refines}
+use Rattle.p2p_directory.specs.Run.{setup_of, call_of, world_after, next, bit_vec_in}
+use Rattle.p2p_directory.specs.Run.{IsAnswer, Holds}
+use Rattle.p2p_directory.specs.Received as frames
+use Rattle.p2p_directory.specs.Received.{Wire, Standing, Outcome, received_at, may_want_memory}
+use Rattle.p2p_directory.specs.Received.{ask_frame_at, applied_with, told_with}
+
+-- WHAT IS SEEN
+
+-- a node's directory, what is held of its grants, its limits, and what its verifier holds
+pub record NodeView (C S : Type 0) : Type 0 where
+  pub directory : DirectoryView C S
+  pub held : List (Metadata C S)
+  pub limits : PayloadConfig
+  pub verifier : Verifier C
+
+-- how it stands, by what is seen
+abbrev pub standing_of : {C S : Type 0} → (C → C → Ordering) → Wire C S → NodeView C S →
+    Standing C S
+standing_of cmp wire v = record {
+  limits = v.limits;
+  judge = judge_of cmp wire.verifies v.verifier;
+  bits = bit_vec_at cmp v.directory;
+  infos = infos_in cmp v.directory;
+}
+
+-- WHAT IT IS MADE FROM
+
+-- that of its directory, its limits, and by what it judges
+pub record Made (C S : Type 0) : Type 0 where
+  pub directory : Setup C S
+  pub limits : PayloadConfig
+  pub verifier : Verifier C
+
+-- .. as a caller gives it, with the order of the keys: its own key is that of its own info
+abbrev pub made_of : {C S : Type 0} → (C → C → Ordering) → Given C S → Made C S
+made_of cmp given = record {
+  directory = setup_of cmp given.bootstrappers.items given.myself given.cfg;
+  limits = given.payload;
+  verifier = record {
+    me = given.myself.public_key;
+    greatest_count = given.peer_gossip_max_count;
+    synchrony_bound = as_nanos given.synchrony_bound;
+    namespace = given.namespace.items;
+  };
+}
+
+-- a call may be granted a reservation
+abbrev pub may_reserve : {C S : Type 0} → Call C S → Bool
+may_reserve (Dial p t draw) = true
+may_reserve (Listen p t draw) = true
+may_reserve _ = false
+
+-- the calls accepted after some, where an update with these infos was one more
+abbrev pub calls_with : {C S : Type 0} → Option (List (Info C S)) → List (Call C S) →
+    List (Call C S)
+calls_with None calls = calls
+calls_with (Some infos) calls = Update infos ∷ calls
+
+module _ {C S : Type 0} (m : Made C S) where
+  -- how it stands where its directory stands at the world w
+  abbrev pub standing_in : Wire C S → World C S → Standing C S
+  standing_in wire w = record {
+    limits = m.limits;
+    judge = judge_of m.directory.cmp wire.verifies m.verifier;
+    bits = bit_vec_in m.directory w;
+    infos = infos_for m.directory w;
+  }
+
+  -- a node stands at the point after these calls: its directory refines the world that they make,
+  -- what is held are its grants, and it is made from m; the limit of failures is a `usize`
+  pub record NodeStandsAt (calls : List (Call C S)) (v : NodeView C S) : Type 0 where
+    pub limit_fits : m.directory.dial_fail_limit < 2 ^ 64
+    pub refines : Refines m.directory (world_after m.directory calls) v.directory
+    pub holds : Holds m.directory (world_after m.directory calls) (held_of m.directory.cmp v.held)
+    pub limits : v.limits ≡ m.limits
+    pub verifier : v.verifier ≡ m.verifier
+
+  -- A COMMAND
+
+  -- the reply is that of a run, or want of memory for the room of what a dial or listen may be
+  -- granted
+  abbrev pub IsStepAnswer : List (Call C S) → Call C S → Reply C S → Type 0
+  IsStepAnswer calls c r =
+      IsAnswer m.directory calls c r ⊎ ((may_reserve c ≡ true) × (r ≡ reply.OutOfMemory))
+
+  -- the reply to one more call is that at its point, and the node then stands at the next
+  pub record IsSteppedAt
+      (calls : List (Call C S)) (c : Call C S) (r : Reply C S) (v : NodeView C S) : Type 0 where
+    pub answer : IsStepAnswer calls c r
+    pub left : NodeStandsAt (next m.directory calls c r) v
+
+  -- A FRAME
+
+  -- the answer to a frame is that at its point, and the node then stands at the point after the
+  -- update that it made, if it made one
+  pub record IsReceivedAt (wire : Wire C S) (calls : List (Call C S)) (frame : List ℕ) (now : ℕ)
+      (r : Received) (v : NodeView C S) : Type 0 where
+    pub answer :
+        let node = standing_in wire (world_after m.directory calls) in
+        frames.IsAnswer (may_want_memory wire node frame now) (received_at wire node frame now) r
+    pub left : let node = standing_in wire (world_after m.directory calls) in
+        NodeStandsAt (calls_with (applied_with (received_at wire node frame now) r) calls) v
+
+  -- the frame that is asked with, and want of memory only where there is a set at the place
+  pub record IsAskedAt (wire : Wire C S) (calls : List (Call C S)) (place : ℕ)
+      {E : Type 0} (r : Result (Option (List ℕ)) E) : Type 0 where
+    pub frame : IfOk r (λ frame.
+        frame ≡ ask_frame_at wire (standing_in wire (world_after m.directory calls)) place)
+    pub err : OnErr r
+        (is_some (set_at_place m.directory (world_after m.directory calls) place) ≡ true)
+
+-- EACH CALL, whatever the node was made from, and wherever the calls accepted before led: v before
+-- it, v2 after it
+
+module _ {C S : Type 0} (cmp : C → C → Ordering) where
+  -- it stands somewhere
+  abbrev pub AtEach : NodeView C S → (Made C S → List (Call C S) → Type 0) → Type 0
+  AtEach v P = (given : Given C S) (calls : List (Call C S)) →
+      NodeStandsAt (made_of cmp given) calls v → P (made_of cmp given) calls
+
+  abbrev pub IsStepped : Command C S → Reply C S → NodeView C S → NodeView C S → Type 0
+  IsStepped x r v v2 = AtEach v (λ m calls. IsSteppedAt m calls (call_of x) r v2)
+
+  abbrev pub IsReceived : Wire C S → List ℕ → ℕ → Received → NodeView C S → NodeView C S → Type 0
+  IsReceived wire frame now r v v2 = AtEach v (λ m calls. IsReceivedAt m wire calls frame now r v2)
+
+  abbrev pub IsAsked : Wire C S → ℕ → {E : Type 0} → Result (Option (List ℕ)) E → NodeView C S →
+      Type 0
+  IsAsked wire place r v = AtEach v (λ m calls. IsAskedAt m wire calls place r)
+
+-- infos are made of values of their types
+abbrev pub AreValues : {C S : Type 0} → (C → Type 0) → (S → Type 0) → List (Info C S) → Type 0
+AreValues IsKey IsSignature infos =
+    AllByRecursion IsInfo infos × AllByRecursion (IsKeyed IsKey IsSignature) infos
+
+-- EACH CALL BY WHAT IS SEEN: v before it, v2 after it
+
+module _ {C S : Type 0} (cmp : C → C → Ordering) where
+  -- what is left of a node once these infos were applied, or nothing was
+  abbrev pub IsLeft : NodeView C S → Option (List (Info C S)) → NodeView C S → Type 0
+  IsLeft v None v2 = v2 ≡ v
+  IsLeft v (Some infos) v2 =
+      Updates cmp v.directory v2.directory infos × (v2 ≡ record v { directory = v2.directory })
+
+  -- an answer that may be want of memory or not, and what is left
+  pub record Answers
+      (may : Bool) (o : Outcome C S) (r : Received) (v v2 : NodeView C S) : Type 0 where
+    pub answer : frames.IsAnswer may o r
+    pub left : IsLeft v (applied_with o r) v2
+
+  -- .. to a frame at a moment
+  abbrev pub AnswersFrame : Wire C S → List ℕ → ℕ → Received → NodeView C S → NodeView C S → Type 0
+  AnswersFrame wire frame now r v v2 = let node = standing_of cmp wire v in
+      Answers (may_want_memory wire node frame now) (received_at wire node frame now) r v v2
+
+  -- the infos that it tells have a spelling: they are made of values of their types
+  abbrev pub TellsValues : Wire C S → (C → Type 0) → (S → Type 0) →
+      List ℕ → ℕ → Received → NodeView C S → Type 0
+  TellsValues wire IsKey IsSignature frame now r v =
+      let node = standing_of cmp wire v in
+      AreValues IsKey IsSignature (told_with (received_at wire node frame now) r)
+
+  -- the frame that is asked with, and want of memory only where there is a set at the place
+  pub record AsksWith (wire : Wire C S) (place : ℕ) {E : Type 0}
+      (r : Result (Option (List ℕ)) E) (v : NodeView C S) : Type 0 where
+    pub frame : IfOk r (λ frame. frame ≡ ask_frame_at wire (standing_of cmp wire v) place)
+    pub err : OnErr r (is_some (slice_get v.directory.sets place) ≡ true)

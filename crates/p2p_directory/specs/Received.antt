@@ -1,0 +1,130 @@
+-- What a node asks and what it answers to a frame, and which infos are applied with that. Frames
+-- are bytes, moments nanoseconds.
+use Rattle.std.specs.Prelude.{ℕ, ◌≡◌, Bool, true, false, ◌||◌, List, [], ◌∷◌, length}
+use Rattle.std.specs.Prelude.{Option, Some, None, option_map, Result, Ok, Err}
+use Rattle.p2p_discovery.specs.declared.codec.error.CodecError.{CodecError}
+use Rattle.p2p_discovery.specs.declared.discovery.BitVec.{BitVec}
+use Rattle.p2p_discovery.specs.declared.discovery.Error.{Error}
+use Rattle.p2p_discovery.specs.declared.discovery.Info.{Info}
+use Rattle.p2p_discovery.specs.declared.discovery.Payload.{Payload}
+use Rattle.p2p_discovery.specs.declared.discovery.Payload.TheVariants as said
+use Rattle.p2p_discovery.specs.declared.discovery.PayloadConfig.{PayloadConfig}
+use Rattle.p2p_discovery.specs.Reading.{Reading, whole}
+use Rattle.p2p_discovery.specs.Judgement.{Judge, refusal, list_refusal}
+use Rattle.p2p_discovery.specs.Payload.{payload_spelling, payload_at}
+use Rattle.p2p_directory.specs.declared.node.Received.{Received}
+use Rattle.p2p_directory.specs.declared.node.Received.TheVariants as received
+
+-- what all nodes have in common: how payloads are spelled and read, and which signatures are right
+pub record Wire (C S : Type 0) : Type 0 where
+  pub spelling : Payload C S → List ℕ
+  pub reading : PayloadConfig → List ℕ → Reading (Payload C S)
+  pub verifies : C → List ℕ → List ℕ → S → Bool
+
+-- .. by the sizes of keys and of signatures, their bytes and what bytes spell, and the right
+-- signatures
+abbrev pub wire_of : {C S : Type 0} → ℕ → (C → List ℕ) → (List ℕ → Option C) →
+    ℕ → (S → List ℕ) → (List ℕ → Option S) → (C → List ℕ → List ℕ → S → Bool) → Wire C S
+wire_of key_size key key_of size signature signature_of verifies = record {
+  spelling = payload_spelling key signature;
+  reading = payload_at key_size key_of size signature_of;
+  verifies = verifies;
+}
+
+-- a node as it stands: its limits, by what it judges, and what its directory answers
+pub record Standing (C S : Type 0) : Type 0 where
+  pub limits : PayloadConfig
+  pub judge : Judge C S
+  -- the bits of the set at a place, with its index, if there is one
+  pub bits : ℕ → Option BitVec
+  -- the infos for an index and bits at a moment, or none at all
+  pub infos : ℕ → List Bool → ℕ → Option (List (Info C S))
+
+-- an answer, the infos that an update call applies with it, if it makes one, and the infos that
+-- are told by it
+pub record Outcome (C S : Type 0) : Type 0 where
+  pub answer : Received
+  pub applied : Option (List (Info C S))
+  pub told : List (Info C S)
+
+-- an answer with which nothing is applied, and no info is told
+abbrev pub only : {C S : Type 0} → Received → Outcome C S
+only answer = record { answer = answer; applied = None; told = [] }
+
+-- .. with which these infos are applied
+abbrev pub applying : {C S : Type 0} → Received → List (Info C S) → Outcome C S
+applying answer infos = record { answer = answer; applied = Some infos; told = [] }
+
+-- an answer to which room is asked for: to a greeting that is applied, and a reply
+abbrev pub takes_room : Received → Bool
+takes_room received.Greeted = true
+takes_room (received.Reply frame) = true
+takes_room _ = false
+
+-- an answer with which infos are applied: all others leave the node as it was
+abbrev pub applies : Received → Bool
+applies received.Greeted = true
+applies (received.Applied count) = true
+applies _ = false
+
+module _ {C S : Type 0} where
+  -- want of memory where it is allowed, else this answer
+  abbrev pub IsAnswer : Bool → Outcome C S → Received → Type 0
+  IsAnswer may o received.Memory = may ≡ true
+  IsAnswer may o r = r ≡ o.answer
+
+  -- the infos that are applied with an answer: where memory was refused none
+  abbrev pub applied_with : Outcome C S → Received → Option (List (Info C S))
+  applied_with o received.Memory = None
+  applied_with o r = o.applied
+
+  -- the infos that are told with an answer: where memory was refused none
+  abbrev pub told_with : Outcome C S → Received → List (Info C S)
+  told_with o received.Memory = []
+  told_with o r = o.told
+
+module _ {C S : Type 0} (wire : Wire C S) where
+  -- a greeting, by why it is refused, if it is
+  abbrev pub greeted : Info C S → Option Error → Outcome C S
+  greeted info None = applying received.Greeted (info ∷ [])
+  greeted info (Some e) = only (received.Invalid e)
+
+  -- bits, by the infos for them, if there are any at all
+  abbrev pub replied : Option (List (Info C S)) → Outcome C S
+  replied None = only received.Malformed
+  replied (Some infos) = record {
+    answer = received.Reply (wire.spelling (said.Peers infos));
+    applied = None;
+    told = infos;
+  }
+
+  -- infos, by why they are refused, if they are
+  abbrev pub taken : List (Info C S) → Option Error → Outcome C S
+  taken infos None = applying (received.Applied (length infos)) infos
+  taken infos (Some e) = only (received.Invalid e)
+
+  -- what a node answers to a payload at a moment
+  abbrev pub answered_at : Standing C S → ℕ → Payload C S → Outcome C S
+  answered_at node now (said.Data message) = only (received.Data message)
+  answered_at node now (said.Greeting info) = greeted info (refusal node.judge now info)
+  answered_at node now (said.BitVec v) = replied (node.infos v.index v.bits now)
+  answered_at node now (said.Peers infos) = taken infos (list_refusal node.judge now infos)
+
+  -- .. to what comes of reading a frame: its fault, if it spells no payload that is admitted
+  abbrev pub read_at : Standing C S → ℕ → Result (Payload C S × List ℕ) CodecError → Outcome C S
+  read_at node now (Ok x) = answered_at node now x.0
+  read_at node now (Err fault) = only (received.Codec fault)
+
+  -- RECEIVED: what a node answers to a frame at a moment
+  abbrev pub received_at : Standing C S → List ℕ → ℕ → Outcome C S
+  received_at node frame now = read_at node now (whole (wire.reading node.limits) frame).outcome
+
+  -- `ask`: the frame of the bits of the set at a place
+  abbrev pub ask_frame_at : Standing C S → ℕ → Option (List ℕ)
+  ask_frame_at node place = option_map (λ v. wire.spelling (said.BitVec v)) (node.bits place)
+
+  -- WANT OF MEMORY: where reading the frame asks for some, and for an answer that takes room
+  abbrev pub may_want_memory : Standing C S → List ℕ → ℕ → Bool
+  may_want_memory node frame now =
+      (whole (wire.reading node.limits) frame).grows
+      || takes_room (received_at node frame now).answer

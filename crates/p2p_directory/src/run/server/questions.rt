@@ -1,0 +1,135 @@
+//! The commands that change nothing.
+
+ghost use Rattle.p2p_directory.specs.declared.run.commands.Command.{Command};
+ghost use Rattle.p2p_directory.specs.Private.Serving.{IsServed};
+
+use crate::run::commands::Reply;
+use crate::run::server::Server;
+use p2p_discovery::codec::PublicKey;
+use p2p_discovery::discovery::BitVec;
+use std::alloc::AllocError;
+use std::time::Duration;
+
+impl<C: PublicKey> Server<C> {
+    // The least moment until which a block holds.
+    pub(super) fn next_unblock(&self) -> Reply<C>
+        ensures { IsServed C.cmp Command.NextUnblock result self.now self.now }
+    {
+        Reply::NextUnblock(self.directory.next_unblock())
+    }
+
+    // The peers that are blocked at a moment.
+    pub(super) fn blocked_peers(&self, now: Duration) -> Reply<C>
+        ensures { IsServed C.cmp (Command.BlockedPeers now) result self.now self.now }
+    {
+        match self.directory.blocked_peers(now) {
+            Ok(peers) => Reply::BlockedPeers(peers),
+            Err(AllocError) => Reply::OutOfMemory,
+        }
+    }
+
+    // Whether the peer is connected.
+    pub(super) fn status(&self, peer: &C) -> Reply<C>
+        ensures { IsServed C.cmp (Command.Status peer.now) result self.now self.now }
+    {
+        Reply::Status(self.directory.status(peer))
+    }
+
+    // The peers of the retained set with an index.
+    pub(super) fn get_peer_set(&self, index: u64) -> Reply<C>
+        ensures { IsServed C.cmp (Command.GetPeerSet index) result self.now self.now }
+    {
+        match self.directory.get_peer_set(index) {
+            Ok(peers) => Reply::GetPeerSet(peers),
+            Err(AllocError) => Reply::OutOfMemory,
+        }
+    }
+
+    // The index of the latest set.
+    pub(super) fn latest_set_index(&self) -> Reply<C>
+        ensures { IsServed C.cmp Command.LatestSetIndex result self.now self.now }
+    {
+        Reply::LatestSetIndex(self.directory.latest_set_index())
+    }
+
+    // The latest set, and all peers of the retained sets.
+    pub(super) fn latest_update(&self) -> Reply<C>
+        ensures { IsServed C.cmp Command.LatestUpdate result self.now self.now }
+    {
+        match self.directory.latest_update() {
+            Ok(update) => Reply::LatestUpdate(update),
+            Err(AllocError) => Reply::OutOfMemory,
+        }
+    }
+
+    // All peers of the retained sets.
+    pub(super) fn all(&self) -> Reply<C>
+        ensures { IsServed C.cmp Command.All result self.now self.now }
+    {
+        match self.directory.all() {
+            Ok(peers) => Reply::All(peers),
+            Err(AllocError) => Reply::OutOfMemory,
+        }
+    }
+
+    // The info of the peer that others may be told.
+    pub(super) fn info(&self, peer: &C) -> Reply<C>
+        ensures { IsServed C.cmp (Command.Info peer.now) result self.now self.now }
+    {
+        match self.directory.info(peer) {
+            Ok(info) => Reply::Info(info),
+            Err(AllocError) => Reply::OutOfMemory,
+        }
+    }
+
+    // The infos for one who knows the bits.
+    pub(super) fn infos(&self, bit_vec: &BitVec, now: Duration) -> Reply<C>
+        ensures { IsServed C.cmp (Command.Infos bit_vec.now now) result self.now self.now }
+    {
+        match self.directory.infos(bit_vec, now) {
+            Ok(infos) => Reply::Infos(infos),
+            Err(AllocError) => Reply::OutOfMemory,
+        }
+    }
+
+    // The bits of the retained set at the place.
+    pub(super) fn get_random_bit_vec(&self, place: usize) -> Reply<C>
+        ensures { IsServed C.cmp (Command.GetRandomBitVec place) result self.now self.now }
+    {
+        match self.directory.get_random_bit_vec(place) {
+            Ok(bits) => Reply::GetRandomBitVec(bits),
+            Err(AllocError) => Reply::OutOfMemory,
+        }
+    }
+
+    // Whether the peer may be connected.
+    pub(super) fn eligible(&self, peer: &C, now: Duration) -> Reply<C>
+        ensures { IsServed C.cmp (Command.Eligible peer.now now) result self.now self.now }
+    {
+        Reply::Eligible(self.directory.eligible(peer, now))
+    }
+
+    // Whether a connection of the peer may be accepted.
+    pub(super) fn acceptable(&self, peer: &C, now: Duration) -> Reply<C>
+        ensures { IsServed C.cmp (Command.Acceptable peer.now now) result self.now self.now }
+    {
+        Reply::Acceptable(self.directory.acceptable(peer, now))
+    }
+
+    // The peers that may be dialled at a moment, and when to ask again.
+    pub(super) fn dialable(&self, now: Duration) -> Reply<C>
+        ensures { IsServed C.cmp (Command.Dialable now) result self.now self.now }
+    {
+        match self.directory.dialable(now) {
+            Ok(dialable) => Reply::Dialable(dialable),
+            Err(AllocError) => Reply::OutOfMemory,
+        }
+    }
+
+    // How many peers have a record, but for the local node.
+    pub(super) fn tracked(&self) -> Reply<C>
+        ensures { IsServed C.cmp Command.Tracked result self.now self.now }
+    {
+        Reply::Tracked(self.directory.tracked())
+    }
+}
