@@ -35,8 +35,6 @@ use std::time::Duration;
 pub(crate) mod blocked;
 mod infos;
 pub(crate) mod records;
-#[cfg(test)]
-mod tests;
 mod track;
 mod update;
 

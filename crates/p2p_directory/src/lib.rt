@@ -7,5 +7,3 @@ pub mod laws;
 pub mod node;
 pub mod record;
 pub mod run;
-#[cfg(test)]
-mod tests;

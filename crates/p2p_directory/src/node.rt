@@ -29,11 +29,7 @@ use std::alloc::{AllocError, Global};
 use std::marker::Model;
 use std::time::Duration;
 
-#[cfg(test)]
-mod memory_tests;
 mod room;
-#[cfg(test)]
-mod tests;
 
 /// What a node is made from.
 #[derive(Drop)]

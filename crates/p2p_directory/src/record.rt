@@ -527,6 +527,3 @@ fn jittered(moment: Duration, draw: Duration, cooldown: Duration) -> Duration
         moment.saturating_add(width)
     }
 }
-
-#[cfg(test)]
-mod tests;

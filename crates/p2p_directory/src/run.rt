@@ -27,13 +27,9 @@ use std::alloc::{AllocError, Global};
 
 mod commands;
 mod held;
-#[cfg(test)]
-mod infos_tests;
 mod outcome;
 pub(crate) mod server;
 pub(crate) mod slots;
-#[cfg(test)]
-mod tests;
 
 /// Makes a directory and serves the commands in turn. Each reply is that of the call, by what was
 /// called before it; a command that is replied `NotReserved`, `NotHeld` or `OutOfMemory` is as not

@@ -24,6 +24,3 @@ pub(crate) use lists::{read_items, write_items};
 pub use reader::Reader;
 pub(crate) use reader::are_bytes;
 pub use test_key::{TestKey, TestSignature};
-
-#[cfg(test)]
-pub(crate) mod tests;

@@ -178,6 +178,3 @@ fn encoded_header(alloc: Global, channel: u64, total: u32) -> Result<Bytes, Allo
     total.write(&mut buf);
     Ok(buf.freeze()?)
 }
-
-#[cfg(test)]
-pub(crate) mod tests;

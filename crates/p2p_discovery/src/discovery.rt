@@ -103,6 +103,3 @@ pub enum Error {
     #[error("synchrony bound violated")]
     SynchronyBound,
 }
-
-#[cfg(test)]
-mod tests;

@@ -4,8 +4,6 @@
 pub mod codec;
 pub mod data;
 pub mod discovery;
-#[cfg(test)]
-mod out_of_memory;
 pub mod sets;
 pub mod sizing;
 pub mod types;

@@ -191,8 +191,3 @@ impl<'a, P: PublicKey> IntoIterator for &'a OrderedSet<P> {
         self.iter()
     }
 }
-
-#[cfg(test)]
-mod bits_tests;
-#[cfg(test)]
-mod tests;

@@ -121,6 +121,3 @@ fn union_size<P: PublicKey>(primary: &[P], secondary: &[P]) -> usize
     }
     primary.len() + (secondary.len() - both)
 }
-
-#[cfg(test)]
-mod tests;

@@ -65,9 +65,9 @@ fn runs_at_each_budget(
 fn rows_end_with_out_of_memory_or_whole(rt: HostRuntime) -> Result<(), Fail> {
     let alloc = rt.alloc();
     let mut memory = LowMemory::new(alloc)?;
-    for (word, lines) in ROWS {
+    for (word, lines) in &ROWS {
         // The others take none.
-        if !matches!(word, "2" | "17" | "21" | "22") {
+        if !matches!(*word, "2" | "17" | "21" | "22") {
             runs_at_each_budget(&rt, alloc, &mut memory, word, lines)?;
         }
     }
@@ -82,8 +82,11 @@ fn peers(alloc: Global, first: u64, count: u64) -> Result<TrackedPeers<TestKey>,
     Ok(TrackedPeers::new(primary, secondary))
 }
 
+/// The latest index, and the statuses of the peers that the tests name.
+type Answers = (Option<u64>, [Option<Status>; 5]);
+
 /// The answers of the calls that change nothing, for the peers that the tests name.
-fn answers(directory: &Directory<TestKey>) -> (Option<u64>, [Option<Status>; 5]) {
+fn answers(directory: &Directory<TestKey>) -> Answers {
     let statuses = [
         directory.status(&TestKey(0)),
         directory.status(&TestKey(1)),
@@ -113,7 +116,73 @@ fn first_bits(directory: &Directory<TestKey>) -> Result<Option<(u64, u64, bool)>
     }
 }
 
+/// Tracks the set of 1 to 3, and tells of peer 1.
+fn tracks_three(alloc: Global, directory: &mut Directory<TestKey>) -> Result<(), AllocError> {
+    let _ = directory.track(0, peers(alloc, 1, 3)?)?;
+    directory.update_peers(vec![in alloc; info_of(TestKey(1))]?);
+    Ok(())
+}
+
+/// A refused set changed nothing, and is tracked now.
+fn tracks_again(
+    rt: &impl Abort,
+    directory: &mut Directory<TestKey>,
+    again: TrackedPeers<TestKey>,
+    before: (Answers, usize),
+    budget: usize,
+) -> Result<(), AllocError> {
+    let after = (answers(directory), directory.tracked());
+    assert_eq!(rt; after, before, "budget {budget}");
+    assert_eq!(rt;
+        first_bits(directory)?,
+        Some((0, 3, true)),
+        "budget {budget}"
+    );
+    let torn = directory.track(1, again)?;
+    assert_eq!(rt; torn.map(|torn| torn.len()), Some(0), "budget {budget}");
+    Ok(())
+}
+
+/// The set of many peers is tracked.
+fn assert_many(
+    rt: &impl Abort,
+    directory: &Directory<TestKey>,
+    budget: usize,
+) -> Result<(), AllocError> {
+    let inert = Some(Status::Inert);
+    let after = (Some(1), [inert, inert, None, inert, inert]);
+    assert_eq!(rt; answers(directory), after, "budget {budget}");
+    assert_eq!(rt;
+        first_bits(directory)?,
+        Some((1, 150, false)),
+        "budget {budget}"
+    );
+    Ok(())
+}
+
 /// Tracks many peers at a budget, after some others; whether memory was refused.
+fn tracks_within(
+    rt: &impl Abort,
+    alloc: Global,
+    memory: &mut LowMemory,
+    directory: &mut Directory<TestKey>,
+    budget: usize,
+) -> Result<bool, Fail> {
+    tracks_three(alloc, directory)?;
+    let before = (answers(directory), directory.tracked());
+    let next = peers(alloc, 200, 150)?;
+    let again = peers(alloc, 200, 150)?;
+    memory.limit(alloc, budget)?;
+    let refused = directory.track(1, next).is_err();
+    memory.lift();
+    if refused {
+        tracks_again(rt, directory, again, before, budget)?;
+    }
+    assert_many(rt, directory, budget)?;
+    Ok(refused)
+}
+
+/// .. with a directory of its own.
 fn tracks_at(
     rt: &impl Abort,
     alloc: Global,
@@ -121,33 +190,7 @@ fn tracks_at(
     budget: usize,
 ) -> Result<bool, Fail> {
     let mut directory = Directory::init(alloc, Vec::new(alloc), own_info(), config())?;
-    let _ = directory.track(0, peers(alloc, 1, 3)?)?;
-    directory.update_peers(vec![in alloc; info_of(TestKey(1))]?);
-    let before = (answers(&directory), directory.tracked(), Some((0, 3, true)));
-    let (next, again) = (peers(alloc, 200, 150)?, peers(alloc, 200, 150)?);
-    memory.limit(alloc, budget)?;
-    let answer = directory.track(1, next);
-    memory.lift();
-    let refused = answer.is_err();
-    if refused {
-        let after = (
-            answers(&directory),
-            directory.tracked(),
-            first_bits(&directory)?,
-        );
-        assert_eq!(rt; after, before, "budget {budget}");
-        let torn = directory.track(1, again)?;
-        assert_eq!(rt; torn.map(|torn| torn.len()), Some(0), "budget {budget}");
-    }
-    let inert = Some(Status::Inert);
-    let after = (Some(1), [inert, inert, None, inert, inert]);
-    assert_eq!(rt; answers(&directory), after, "budget {budget}");
-    assert_eq!(rt;
-        first_bits(&directory)?,
-        Some((1, 150, false)),
-        "budget {budget}"
-    );
-    Ok(refused)
+    tracks_within(rt, alloc, memory, &mut directory, budget)
 }
 
 #[test]
@@ -163,6 +206,16 @@ fn a_set_refused_for_memory_changes_nothing(rt: HostRuntime) -> Result<(), Fail>
     Ok(())
 }
 
+/// The peers 1 to 100 at 8.8.8.8:9000.
+fn hundred(alloc: Global) -> Result<Vec<(TestKey, Ingress)>, AllocError> {
+    let mut bootstrappers: Vec<(TestKey, Ingress)> = Vec::with_capacity(alloc, 100)?;
+    for number in 1..=100 {
+        let ingress = Ingress::Socket(SocketAddr::new(IpAddr::V4([8, 8, 8, 8]), 9000));
+        bootstrappers.push((TestKey(number), ingress))?;
+    }
+    Ok(bootstrappers)
+}
+
 /// Starts a directory with many bootstrappers at a budget; whether memory was refused.
 fn starts_at(
     rt: &impl Abort,
@@ -170,24 +223,15 @@ fn starts_at(
     memory: &mut LowMemory,
     budget: usize,
 ) -> Result<bool, Fail> {
-    let mut bootstrappers: Vec<(TestKey, Ingress)> = Vec::with_capacity(alloc, 100)?;
-    for number in 1..=100 {
-        let ingress = Ingress::Socket(SocketAddr::new(IpAddr::V4([8, 8, 8, 8]), 9000));
-        bootstrappers.push((TestKey(number), ingress))?;
-    }
+    let bootstrappers = hundred(alloc)?;
     memory.limit(alloc, budget)?;
     let answer = Directory::init(alloc, bootstrappers, own_info(), config());
     memory.lift();
     match answer {
         Ok(directory) => {
             let inert = Some(Status::Inert);
-            let (latest, statuses) = answers(&directory);
-            assert_eq!(rt; latest, None, "budget {budget}");
-            assert_eq!(rt;
-                statuses,
-                [None, inert, inert, inert, None],
-                "budget {budget}"
-            );
+            let started = (None, [None, inert, inert, inert, None]);
+            assert_eq!(rt; answers(&directory), started, "budget {budget}");
             Ok(false)
         }
         Err(AllocError) => Ok(true),
@@ -238,10 +282,34 @@ fn asks_at(
     Ok(refused)
 }
 
-#[test]
-fn questions_are_refused_or_whole(rt: HostRuntime) -> Result<(), Fail> {
-    let alloc = rt.alloc();
-    let mut memory = LowMemory::new(alloc)?;
+/// Asks at each budget.
+fn asks_at_each_budget(
+    rt: &impl Abort,
+    alloc: Global,
+    memory: &mut LowMemory,
+    directory: &Directory<TestKey>,
+) -> Result<(), Fail> {
+    let before = answers(directory);
+    let mut refused = 0usize;
+    for step in 0..QUESTION_STEPS {
+        let budget = step.saturating_mul(STEP);
+        refused = refused.saturating_add(asks_at(rt, alloc, memory, directory, budget)?);
+        assert_eq!(rt; answers(directory), before, "budget {budget}");
+    }
+    assert!(rt;
+        refused > 1 && refused < QUESTION_STEPS,
+        "{refused} refused"
+    );
+    let zeroes = BitMap::zeroes(alloc, 300)?;
+    match directory.get_random_bit_vec(0)? {
+        Some(found) => assert!(rt; found.bits == zeroes),
+        None => panic!(rt; "the set is retained"),
+    }
+    Ok(())
+}
+
+/// A directory at a name, with the set of 10 to 309.
+fn named(alloc: Global) -> Result<Directory<TestKey>, Fail> {
     let mut own = own_info();
     own.ingress = Ingress::Dns {
         host: Hostname::new(alloc, "a.name.of.some.length.example.com")?,
@@ -249,21 +317,85 @@ fn questions_are_refused_or_whole(rt: HostRuntime) -> Result<(), Fail> {
     };
     let mut directory = Directory::init(alloc, Vec::new(alloc), own, config())?;
     let _ = directory.track(0, peers(alloc, 10, 300)?)?;
-    let before = answers(&directory);
-    let mut refused = 0usize;
-    for step in 0..QUESTION_STEPS {
-        let budget = step.saturating_mul(STEP);
-        refused = refused.saturating_add(asks_at(&rt, alloc, &mut memory, &directory, budget)?);
-        assert_eq!(rt; answers(&directory), before, "budget {budget}");
+    Ok(directory)
+}
+
+#[test]
+fn questions_are_refused_or_whole(rt: HostRuntime) -> Result<(), Fail> {
+    let alloc = rt.alloc();
+    let mut memory = LowMemory::new(alloc)?;
+    let directory = named(alloc)?;
+    asks_at_each_budget(&rt, alloc, &mut memory, &directory)
+}
+
+/// The timestamp that is told of peer 1.
+fn timestamp(directory: &Directory<TestKey>) -> Option<u64> {
+    directory
+        .info(&TestKey(1))
+        .ok()
+        .flatten()
+        .map(|info| info.timestamp)
+}
+
+/// Listens for peer 1, connects and releases it: its status if that was granted, and the timestamp
+/// that was told of it.
+fn holds(directory: &mut Directory<TestKey>) -> Option<(Option<Status>, Option<u64>)> {
+    match directory.listen(&TestKey(1), Duration::from_secs(100), Duration::ZERO) {
+        Some(reservation) => {
+            let during = directory.status(&TestKey(1));
+            directory.connect(&TestKey(1), true);
+            let told = timestamp(directory);
+            directory.release(reservation);
+            Some((during, told))
+        }
+        None => None,
     }
-    assert!(rt;
-        refused > 1 && refused < QUESTION_STEPS,
-        "{refused} refused"
-    );
-    assert!(rt;
-        directory.get_random_bit_vec(0)?.map(|found| found.bits)
-            == Some(BitMap::zeroes(alloc, 300)?)
-    );
+}
+
+/// Whether sets of index 3, the latest, and 2 are untaken, each without memory.
+fn are_untaken(
+    directory: &mut Directory<TestKey>,
+    same: TrackedPeers<TestKey>,
+    older: TrackedPeers<TestKey>,
+) -> bool {
+    let first = matches!(directory.track(3, same), Ok(None));
+    let second = matches!(directory.track(2, older), Ok(None));
+    first && second
+}
+
+/// Whether nothing is told of peer 1, and of a second set.
+fn is_nothing_told(directory: &Directory<TestKey>) -> bool {
+    let info = matches!(directory.info(&TestKey(1)), Ok(None));
+    let bits = matches!(directory.get_random_bit_vec(1), Ok(None));
+    info && bits
+}
+
+fn answers_without_memory(
+    rt: &impl Abort,
+    alloc: Global,
+    memory: &mut LowMemory,
+    directory: &mut Directory<TestKey>,
+) -> Result<(), Fail> {
+    let _ = directory.track(3, peers(alloc, 1, 3)?)?;
+    let same = peers(alloc, 1, 3)?;
+    let older = peers(alloc, 1, 2)?;
+    let infos = vec![in alloc; info_of(TestKey(1))]?;
+    memory.limit(alloc, 0)?;
+    let untaken = are_untaken(directory, same, older);
+    let first = answers(directory);
+    let none = is_nothing_told(directory);
+    directory.update_peers(infos);
+    let held = holds(directory);
+    let count = directory.tracked();
+    let second = answers(directory);
+    memory.lift();
+    assert!(rt; none);
+    assert_eq!(rt; held, Some((Some(Status::Reserved), Some(7))));
+    assert_eq!(rt; count, 4);
+    assert!(rt; untaken);
+    let inert = Some(Status::Inert);
+    assert_eq!(rt; first, (Some(3), [inert, inert, inert, inert, None]));
+    assert_eq!(rt; second, first);
     Ok(())
 }
 
@@ -272,38 +404,5 @@ fn calls_that_take_no_memory_answer_without_any(rt: HostRuntime) -> Result<(), F
     let alloc = rt.alloc();
     let mut memory = LowMemory::new(alloc)?;
     let mut directory = Directory::init(alloc, Vec::new(alloc), own_info(), config())?;
-    let _ = directory.track(3, peers(alloc, 1, 3)?)?;
-    let (same, older) = (peers(alloc, 1, 3)?, peers(alloc, 1, 2)?);
-    let infos = vec![in alloc; info_of(TestKey(1))]?;
-    memory.limit(alloc, 0)?;
-    let untaken = (directory.track(3, same), directory.track(2, older));
-    let first = answers(&directory);
-    let none = (directory.info(&TestKey(1)), directory.get_random_bit_vec(1));
-    directory.update_peers(infos);
-    let held = directory.listen(&TestKey(1), Duration::from_secs(100), Duration::ZERO);
-    let during = directory.status(&TestKey(1));
-    let was_held = held.is_some();
-    let mut told = None;
-    if let Some(reservation) = held {
-        directory.connect(&TestKey(1), true);
-        told = directory
-            .info(&TestKey(1))
-            .ok()
-            .flatten()
-            .map(|info| info.timestamp);
-        directory.release(reservation);
-    }
-    let count = directory.tracked();
-    let second = answers(&directory);
-    memory.lift();
-    assert!(rt; matches!(none, (Ok(None), Ok(None))));
-    assert_eq!(rt; told, Some(7));
-    assert_eq!(rt; count, 4);
-    assert!(rt; matches!(untaken, (Ok(None), Ok(None))));
-    let inert = Some(Status::Inert);
-    assert!(rt; was_held);
-    assert_eq!(rt; during, Some(Status::Reserved));
-    assert_eq!(rt; first, (Some(3), [inert, inert, inert, inert, None]));
-    assert_eq!(rt; second, first);
-    Ok(())
+    answers_without_memory(&rt, alloc, &mut memory, &mut directory)
 }

@@ -29,7 +29,7 @@ impl Write for Short {
 }
 
 /// The rows that there are: the word that names each, and the lines that it prints.
-pub(crate) const ROWS: [(&str, &str); 22] = [
+pub(crate) static ROWS: [(&'static str, &'static str); 22] = [
     (
         "1",
         "b9600d48656c6c6f2c20776f726c6421\nData(12345, 48656c6c6f2c20776f726c6421)\n\
@@ -134,8 +134,8 @@ fn assert_run(
 
 #[test]
 fn prints_each_row(rt: HostRuntime) -> Result<(), Fail> {
-    for (word, text) in ROWS {
-        assert_run(&rt, rt.alloc(), &[word], 0, text)?;
+    for (word, text) in &ROWS {
+        assert_run(&rt, rt.alloc(), &[*word], 0, text)?;
     }
     Ok(())
 }
@@ -186,7 +186,7 @@ fn fails_at_each_byte(
 
 #[test]
 fn ends_with_status_one_where_a_write_fails(rt: HostRuntime) -> Result<(), Fail> {
-    for (word, text) in ROWS {
+    for (word, text) in &ROWS {
         fails_at_each_byte(&rt, rt.alloc(), word, text, 0)?;
     }
     fails_at_each_byte(&rt, rt.alloc(), "0", "no such row\n", 2)

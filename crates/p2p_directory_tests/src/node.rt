@@ -1,0 +1,373 @@
+//! Nodes, by their answers to commands and frames.
+
+use crate::calls::{config, tracked};
+use bytes::Bytes;
+use p2p_directory::node::{Node, Received, Setup};
+use p2p_directory::record::Status;
+use p2p_directory::run::{Command, Reply, Run};
+use p2p_discovery::codec::{CodecError, TestKey, Write};
+use p2p_discovery::data::Data;
+use p2p_discovery::discovery::{Error, Info, PayloadConfig};
+use p2p_discovery::types::{Ingress, IpAddr, SocketAddr};
+use std::alloc::{AllocError, Global};
+use std::process::Abort;
+use std::test::Fail;
+use std::time::Duration;
+
+mod memory;
+
+const ROWS: &[u8] = b"rows";
+
+const MEBIBYTE: usize = 1 << 20;
+
+// The info of a key at 1.2.3.4, port 8000 and the key, signed by the key.
+fn info(key: u16, timestamp: u64) -> Info<TestKey> {
+    let public_key = TestKey(key as u64);
+    let address = SocketAddr::new(IpAddr::V4([1, 2, 3, 4]), key.saturating_add(8000));
+    Info::sign(
+        public_key,
+        ROWS,
+        Ingress::Socket(address),
+        timestamp,
+        |namespace, message| public_key.sign(namespace, message),
+    )
+}
+
+// A node with own key 9, which takes 8 bits, 8 infos and messages of so many bytes.
+pub(crate) fn node(alloc: Global, max_data_length: usize) -> Result<Node<TestKey>, AllocError> {
+    Node::new(
+        alloc,
+        Setup {
+            bootstrappers: Vec::new(alloc),
+            myself: info(9, 0),
+            cfg: config(),
+            payload: PayloadConfig {
+                max_bit_vec: 8,
+                max_peers: 8,
+                max_data_length,
+            },
+            peer_gossip_max_count: 8,
+            synchrony_bound: Duration::from_secs(30),
+            namespace: ROWS.to_vec(alloc)?,
+        },
+    )
+}
+
+// Releases all that the node holds.
+pub(crate) fn spend(alloc: Global, node: Node<TestKey>) {
+    let (directory, held) = node.parts();
+    let run = Run {
+        directory,
+        held,
+        replies: Vec::new(alloc),
+    };
+    run.finish();
+}
+
+// The set of 1 and 2, at an index.
+pub(crate) fn track(alloc: Global, index: u64) -> Result<Command<TestKey>, AllocError> {
+    let peers = tracked(alloc, &[1, 2], &[])?;
+    Ok(Command::Track { index, peers })
+}
+
+// The frame of a greeting.
+pub(crate) fn greeting(alloc: Global, key: u16, timestamp: u64) -> Result<Bytes, Fail> {
+    let mut bytes = [1].as_slice().to_vec(alloc)?;
+    bytes.extend_from_slice(info(key, timestamp).encode(alloc)?.as_slice())?;
+    Ok(Bytes::from_vec(bytes)?)
+}
+
+// The frame of so many infos.
+pub(crate) fn infos(alloc: Global, count: u8, told: &[(u16, u64)]) -> Result<Bytes, Fail> {
+    let mut bytes = [3, count].as_slice().to_vec(alloc)?;
+    for (key, timestamp) in told {
+        bytes.extend_from_slice(info(*key, *timestamp).encode(alloc)?.as_slice())?;
+    }
+    Ok(Bytes::from_vec(bytes)?)
+}
+
+// What is answered to a frame, with bytes as slices.
+#[derive(Clone, Copy, Debug, PartialEq, Eq)]
+pub(crate) enum Told {
+    Data(u64, &'static [u8]),
+    Greeted,
+    Reply(&'static [u8]),
+    Applied(usize),
+    Codec(CodecError),
+    Malformed,
+    Invalid(Error),
+}
+
+impl Told {
+    pub(crate) fn is(self, received: &Received) -> bool {
+        match received {
+            Received::Data(Data { channel, message }) => match self {
+                Told::Data(told, bytes) => *channel == told && message.as_slice() == bytes,
+                _ => false,
+            },
+            Received::Greeted => self == Told::Greeted,
+            Received::Reply(frame) => match self {
+                Told::Reply(bytes) => frame.as_slice() == bytes,
+                _ => false,
+            },
+            Received::Applied(count) => self == Told::Applied(*count),
+            Received::Codec(fault) => self == Told::Codec(*fault),
+            Received::Malformed => self == Told::Malformed,
+            Received::Invalid(error) => self == Told::Invalid(*error),
+            Received::Memory => false,
+        }
+    }
+}
+
+// What the node asks for of the set at place 0.
+pub(crate) fn assert_asked(
+    rt: &impl Abort,
+    node: &Node<TestKey>,
+    asked: &[u8],
+) -> Result<(), Fail> {
+    match node.ask(0)? {
+        Some(frame) => assert_eq!(rt; frame.as_slice(), asked),
+        None => panic!(rt; "the set is retained"),
+    }
+    Ok(())
+}
+
+// What is answered at 100 to a frame, and what is asked for afterwards.
+fn assert_received(
+    rt: &impl Abort,
+    node: &mut Node<TestKey>,
+    bytes: Bytes,
+    told: Told,
+    asked: &[u8],
+) -> Result<(), Fail> {
+    let received = node.receive(bytes, Duration::from_secs(100));
+    assert!(rt; told.is(&received), "not {told:?}");
+    assert_asked(rt, node, asked)
+}
+
+// .. to these bytes.
+fn assert_frame(
+    rt: &impl Abort,
+    alloc: Global,
+    node: &mut Node<TestKey>,
+    bytes: &[u8],
+    told: Told,
+    asked: &[u8],
+) -> Result<(), Fail> {
+    assert_received(rt, node, Bytes::copy_from_slice(alloc, bytes)?, told, asked)
+}
+
+// .. to a greeting of a key.
+fn assert_greeting(
+    rt: &impl Abort,
+    alloc: Global,
+    node: &mut Node<TestKey>,
+    key: u16,
+    told: Told,
+    asked: &[u8],
+) -> Result<(), Fail> {
+    assert_received(rt, node, greeting(alloc, key, 1000)?, told, asked)
+}
+
+// .. to the infos of two keys.
+fn assert_infos(
+    rt: &impl Abort,
+    alloc: Global,
+    node: &mut Node<TestKey>,
+    two: [(u16, u64); 2],
+    told: Told,
+    asked: &[u8],
+) -> Result<(), Fail> {
+    assert_received(rt, node, infos(alloc, 2, &two)?, told, asked)
+}
+
+// The set of 1 and 2 is taken at index 0.
+pub(crate) fn tracks(
+    rt: &impl Abort,
+    alloc: Global,
+    node: &mut Node<TestKey>,
+) -> Result<(), AllocError> {
+    let reply = node.step(track(alloc, 0)?);
+    assert!(rt; matches!(reply, Reply::Track(Some(_))));
+    Ok(())
+}
+
+// Peer 1 is listened for at 50.
+fn listens(rt: &impl Abort, node: &mut Node<TestKey>) {
+    let listen = Command::Listen {
+        peer: TestKey(1),
+        now: Duration::from_secs(50),
+        draw: Duration::ZERO,
+    };
+    let reply = node.step(listen);
+    assert!(rt; matches!(reply, Reply::Listen(true)));
+}
+
+// Peer 1, which is reserved, is connected.
+fn is_connected(rt: &impl Abort, node: &mut Node<TestKey>) {
+    let connect = Command::Connect {
+        peer: TestKey(1),
+        dialer: false,
+    };
+    let reply = node.step(connect);
+    assert!(rt; matches!(reply, Reply::Connect));
+}
+
+// Peer 1 is listened for and connected.
+pub(crate) fn listens_and_connects(rt: &impl Abort, node: &mut Node<TestKey>) {
+    listens(rt, node);
+    is_connected(rt, node);
+}
+
+pub(crate) const NOBODY: &[u8] = b"\x02\0\x02\0";
+
+pub(crate) const ONE: &[u8] = b"\x02\0\x02\x01";
+
+const BOTH: &[u8] = b"\x02\0\x02\x03";
+
+// What is answered by a node that knows nobody's info yet.
+fn answers_before_it_knows(
+    rt: &impl Abort,
+    alloc: Global,
+    node: &mut Node<TestKey>,
+) -> Result<(), Fail> {
+    let told = Told::Invalid(Error::ReceivedSelf);
+    assert_infos(rt, alloc, node, [(1, 1000), (9, 1000)], told, NOBODY)?;
+    assert_frame(rt, alloc, node, NOBODY, Told::Reply(b"\x03\0"), NOBODY)?;
+    assert_frame(
+        rt,
+        alloc,
+        node,
+        b"\x02\x07\0",
+        Told::Reply(b"\x03\0"),
+        NOBODY,
+    )?;
+    assert_frame(rt, alloc, node, b"\x02\0\x01\0", Told::Malformed, NOBODY)?;
+    let told = Told::Codec(CodecError::InvalidLength(9));
+    assert_frame(rt, alloc, node, b"\x02\0\x09\0\0", told, NOBODY)?;
+    let told = Told::Invalid(Error::ReceivedSelf);
+    assert_greeting(rt, alloc, node, 9, told, NOBODY)
+}
+
+fn answers_frames(rt: &impl Abort, alloc: Global, node: &mut Node<TestKey>) -> Result<(), Fail> {
+    tracks(rt, alloc, node)?;
+    assert!(rt; node.ask(1)?.is_none());
+    answers_before_it_knows(rt, alloc, node)?;
+    assert_greeting(rt, alloc, node, 1, Told::Greeted, ONE)?;
+    let told = Told::Invalid(Error::SynchronyBound);
+    assert_infos(rt, alloc, node, [(2, 1000), (3, 130_001)], told, ONE)?;
+    assert_infos(
+        rt,
+        alloc,
+        node,
+        [(2, 1000), (3, 1000)],
+        Told::Applied(2),
+        BOTH,
+    )?;
+    assert_frame(
+        rt,
+        alloc,
+        node,
+        b"\0\x01\x05hello",
+        Told::Data(1, b"hello"),
+        BOTH,
+    )
+}
+
+#[test]
+fn a_node_answers_frames(rt: HostRuntime) -> Result<(), Fail> {
+    let alloc = rt.alloc();
+    let mut node = node(alloc, 32)?;
+    let outcome = answers_frames(&rt, alloc, &mut node);
+    spend(alloc, node);
+    outcome
+}
+
+// Who knows nobody is told of peer 1 alone, by this frame.
+pub(crate) fn tells_of_one(
+    rt: &impl Abort,
+    node: &mut Node<TestKey>,
+    nobody: Bytes,
+    known: &Bytes,
+) {
+    match node.receive(nobody, Duration::from_secs(100)) {
+        Received::Reply(reply) => assert_eq!(rt; reply.as_slice(), known.as_slice()),
+        _ => panic!(rt; "no reply"),
+    }
+}
+
+// Peer 1 is not held, and so not released.
+fn is_not_held(rt: &impl Abort, node: &mut Node<TestKey>) {
+    let reply = node.step(Command::Release(TestKey(1)));
+    assert!(rt; matches!(reply, Reply::NotHeld));
+}
+
+fn is_active(rt: &impl Abort, node: &Node<TestKey>) {
+    assert_eq!(rt; node.directory().status(&TestKey(1)), Some(Status::Active));
+}
+
+// Peer 1 is connected, and told of to one who doesn't know it.
+fn tells_of_the_connected(
+    rt: &impl Abort,
+    alloc: Global,
+    node: &mut Node<TestKey>,
+) -> Result<(), Fail> {
+    tracks(rt, alloc, node)?;
+    is_not_held(rt, node);
+    listens_and_connects(rt, node);
+    is_active(rt, node);
+    assert_greeting(rt, alloc, node, 1, Told::Greeted, ONE)?;
+    let known = infos(alloc, 1, &[(1, 1000)])?;
+    tells_of_one(rt, node, Bytes::copy_from_slice(alloc, NOBODY)?, &known);
+    Ok(())
+}
+
+#[test]
+fn a_node_tells_of_the_connected_and_hands_out_what_it_holds(rt: HostRuntime) -> Result<(), Fail> {
+    let alloc = rt.alloc();
+    let mut node = node(alloc, 32)?;
+    let outcome = tells_of_the_connected(&rt, alloc, &mut node);
+    let (directory, held) = node.parts();
+    let first = held.first();
+    let run = Run {
+        directory,
+        held,
+        replies: Vec::new(alloc),
+    };
+    let directory = run.finish();
+    outcome?;
+    assert_eq!(rt; first, Some(TestKey(1)));
+    assert_eq!(rt; directory.status(&TestKey(1)), Some(Status::Inert));
+    Ok(())
+}
+
+// A long message is a cut of its frame, which has two owners as long as the caller keeps it.
+fn receives_a_long_message(
+    rt: &impl Abort,
+    alloc: Global,
+    node: &mut Node<TestKey>,
+) -> Result<(), Fail> {
+    let mut bytes = b"\0\x01\x80\x80\x40".as_slice().to_vec(alloc)?;
+    bytes.resize(MEBIBYTE + 5, 7)?;
+    let frame = Bytes::from_vec(bytes)?;
+    let kept = frame.clone()?;
+    match node.receive(frame, Duration::from_secs(100)) {
+        Received::Data(data) => {
+            assert_eq!(rt; data.message.len(), MEBIBYTE);
+            assert!(rt; !kept.is_unique());
+            drop(data);
+            assert!(rt; kept.is_unique());
+        }
+        _ => panic!(rt; "no data"),
+    }
+    Ok(())
+}
+
+#[test]
+fn a_message_is_a_cut_of_its_frame(rt: HostRuntime) -> Result<(), Fail> {
+    let alloc = rt.alloc();
+    let mut node = node(alloc, MEBIBYTE)?;
+    let outcome = receives_a_long_message(&rt, alloc, &mut node);
+    spend(alloc, node);
+    outcome
+}

@@ -1,0 +1,234 @@
+//! Codecs by their bytes.
+
+ghost use Rattle.std.specs.Prelude.{◌≡◌, ◌<◌, ◌^◌};
+
+pub(crate) mod array_keys;
+pub(crate) mod small_keys;
+
+use bytes::{Bytes, BytesMut};
+use p2p_discovery::codec::{
+    CodecError, EncodeSize, FixedBytes, PublicKey, RangeCfg, Read, Reader, TestKey, TestSignature,
+    What, Write, bounded_size, cut_short, read_back,
+};
+use std::alloc::Global;
+use std::fmt::Debug;
+use std::process::Abort;
+use std::test::Fail;
+
+/// Bytes that stand behind a value that is read.
+const REST: &[u8] = b"\xff\x00";
+
+/// The value is spelled so, and read again with and without bytes behind it.
+pub(crate) fn is_spelled<T: Write + Read<Cfg = ()> + PartialEq + Debug>(
+    rt: &impl Abort,
+    alloc: Global,
+    value: &T,
+    spelling: &[u8],
+) -> Result<(), Fail>
+    requires { T.CanSpell value.now }
+{
+    let bytes = value.encode(alloc)?;
+    assert_eq!(rt; bytes.as_slice(), spelling);
+    assert_eq!(rt; value.encode_size(), spelling.len(), "{spelling:?}");
+    assert_eq!(rt; &T::decode(alloc, bytes)?, value);
+    is_read_before_others(rt, alloc, value, spelling)
+}
+
+/// The value is read again with bytes behind it.
+fn is_read_before_others<T: Read<Cfg = ()> + PartialEq + Debug>(
+    rt: &impl Abort,
+    alloc: Global,
+    value: &T,
+    spelling: &[u8],
+) -> Result<(), Fail> {
+    let mut longer = spelling.to_vec(alloc)?;
+    longer.extend_from_slice(REST)?;
+    let mut buf = Bytes::copy_from_slice(alloc, &longer)?;
+    assert_eq!(rt; &T::read_cfg(alloc, &mut buf, &())?, value);
+    assert_eq!(rt; buf.as_slice(), REST, "behind {spelling:?}");
+    assert_eq!(rt;
+        T::decode(alloc, Bytes::copy_from_slice(alloc, &longer)?).err(),
+        Some(CodecError::ExtraData(2)),
+        "{longer:?}"
+    );
+    Ok(())
+}
+
+/// The bytes are refused with this fault, by `decode` and by `read_cfg`, which leaves its buffer.
+pub(crate) fn is_refused<T: Read<Cfg = ()>>(
+    rt: &impl Abort,
+    alloc: Global,
+    bytes: &[u8],
+    fault: CodecError,
+) -> Result<(), Fail> {
+    let mut buf = Bytes::copy_from_slice(alloc, bytes)?;
+    assert_eq!(rt;
+        T::decode(alloc, buf.clone()?).err(),
+        Some(fault),
+        "{bytes:?}"
+    );
+    assert_eq!(rt;
+        T::read_cfg(alloc, &mut buf, &()).err(),
+        Some(fault),
+        "{bytes:?}"
+    );
+    assert_eq!(rt; buf.as_slice(), bytes, "after a refusal");
+    Ok(())
+}
+
+static SPELLED_NUMBERS: [(u64, &'static [u8]); 9] = [
+    (0u64, b"\x00"),
+    (127, b"\x7f"),
+    (128, b"\x80\x01"),
+    (253, b"\xfd\x01"),
+    (300, b"\xac\x02"),
+    (1000, b"\xe8\x07"),
+    (12345, b"\xb9\x60"),
+    (100_000, b"\xa0\x8d\x06"),
+    (u64::MAX, b"\xff\xff\xff\xff\xff\xff\xff\xff\xff\x01"),
+];
+
+#[test]
+fn spells_whole_numbers(rt: HostRuntime) -> Result<(), Fail> {
+    for (number, spelling) in SPELLED_NUMBERS {
+        is_spelled(&rt, rt.alloc(), &number, spelling)?;
+    }
+    is_spelled(&rt, rt.alloc(), &u32::MAX, b"\xff\xff\xff\xff\x0f")
+}
+
+static REFUSED_NUMBERS_64: [(&'static [u8], CodecError); 6] = [
+    (b"", CodecError::EndOfBuffer),
+    (b"\x80", CodecError::EndOfBuffer),
+    (b"\x80\x00", CodecError::InvalidVarint(10)),
+    (b"\x81\x80\x00", CodecError::InvalidVarint(10)),
+    (
+        b"\xff\xff\xff\xff\xff\xff\xff\xff\xff\x02",
+        CodecError::InvalidVarint(10),
+    ),
+    (
+        b"\xff\xff\xff\xff\xff\xff\xff\xff\xff\x81\x00",
+        CodecError::InvalidVarint(10),
+    ),
+];
+
+static REFUSED_NUMBERS_32: [(&'static [u8], CodecError); 4] = [
+    (b"\xff\xff\xff\xff", CodecError::EndOfBuffer),
+    (b"\xff\xff\xff\xff\x10", CodecError::InvalidVarint(5)),
+    (b"\xff\xff\xff\xff\x80\x00", CodecError::InvalidVarint(5)),
+    (b"\x80\x00", CodecError::InvalidVarint(5)),
+];
+
+#[test]
+fn refuses_other_spellings_of_numbers(rt: HostRuntime) -> Result<(), Fail> {
+    for (bytes, fault) in REFUSED_NUMBERS_64 {
+        is_refused::<u64>(&rt, rt.alloc(), bytes, fault)?;
+    }
+    for (bytes, fault) in REFUSED_NUMBERS_32 {
+        is_refused::<u32>(&rt, rt.alloc(), bytes, fault)?;
+    }
+    Ok(())
+}
+
+#[test]
+#[tactic(auto, unfolding(p2p_discovery::specs::Varint::groups))]
+fn writes_behind_what_is_there(rt: HostRuntime) -> Result<(), Fail> {
+    let mut buf = BytesMut::with_capacity(rt.alloc(), 16)?;
+    300u64.write(&mut buf);
+    7u32.write(&mut buf);
+    assert_eq!(rt; buf.as_slice(), b"\xac\x02\x07".as_slice());
+    assert_eq!(rt; bounded_size(&300u64), 2);
+    assert_eq!(rt; read_back(rt.alloc(), &300u64, &())?, 300);
+    let cut = cut_short::<u64>(rt.alloc(), Bytes::from_static(b"\xac"), &());
+    assert_eq!(rt; cut.err(), Some(CodecError::EndOfBuffer));
+    Ok(())
+}
+
+#[test]
+fn reads_from_left_to_right(rt: HostRuntime) -> Result<(), Fail> {
+    let bytes = Bytes::from_static(b"\x05abc");
+    let mut reader = Reader::new(&bytes);
+    assert_eq!(rt; reader.len(), 4);
+    assert_eq!(rt; reader.byte()?, 5);
+    assert_eq!(rt; reader.counted(4).err(), Some(CodecError::EndOfBuffer));
+    assert_eq!(rt; reader.counted(1)?, b"a".as_slice());
+    assert_eq!(rt; reader.rest(), b"bc".as_slice());
+    assert_eq!(rt; reader.cut(3).err(), Some(CodecError::EndOfBuffer));
+    assert_eq!(rt; reader.cut(2)?.as_slice(), b"bc".as_slice());
+    assert!(rt; reader.is_empty());
+    assert_eq!(rt; reader.byte().err(), Some(CodecError::EndOfBuffer));
+    Ok(())
+}
+
+#[test]
+fn allows_both_ends_of_a_limit(rt: HostRuntime) {
+    let limit = RangeCfg {
+        least: 2,
+        greatest: 4,
+    };
+    for (length, allowed) in [(1, false), (2, true), (4, true), (5, false)] {
+        assert_eq!(rt; limit.contains(length), allowed, "{length}");
+    }
+}
+
+#[test]
+fn spells_test_keys(rt: HostRuntime) -> Result<(), Fail> {
+    let mut out = [0u8; 8];
+    TestKey(0x0102_0304_0506_0708).write_fixed(&mut out);
+    assert_eq!(rt; out, [1, 2, 3, 4, 5, 6, 7, 8]);
+    assert_eq!(rt;
+        TestKey::read_fixed(&out),
+        Some(TestKey(0x0102_0304_0506_0708))
+    );
+    TestSignature(256).write_fixed(&mut out);
+    assert_eq!(rt; out, [0, 0, 0, 0, 0, 0, 1, 0]);
+    assert_eq!(rt; TestSignature::read_fixed(&out), Some(TestSignature(256)));
+    Ok(())
+}
+
+/// 1, then `1 * 257 + 97 + 1` for `a`, then that times 257 and 98 and 1 for `b`; the greatest
+/// number with one byte 255 is `257 * 2^64 - 257 + 256`, which is `2^64 - 1` without its front.
+#[test]
+fn signs_by_the_bytes(rt: HostRuntime) {
+    assert_eq!(rt; TestKey(0).sign(b"", b""), TestSignature(0));
+    assert_eq!(rt; TestKey(1).sign(b"", b""), TestSignature(1));
+    assert_eq!(rt; TestKey(1).sign(b"rows", b""), TestSignature(6_321_977_040));
+    assert_eq!(rt;
+        TestKey(1).sign(b"r", b"ows"),
+        TestSignature(0x0000_0001_78d1_b6d0)
+    );
+    assert_eq!(rt; TestKey(1).sign(b"a", b"b"), TestSignature(91_334));
+    assert_eq!(rt; TestKey(1).sign(b"", b"ab"), TestSignature(91_334));
+    assert_eq!(rt;
+        TestKey(u64::MAX).sign(b"\xff", b""),
+        TestSignature(u64::MAX)
+    );
+    assert!(rt; TestKey(1).verify(b"a", b"b", &TestSignature(91_334)));
+    assert!(rt; !TestKey(1).verify(b"a", b"b", &TestSignature(91_335)));
+}
+
+#[test]
+fn tells_why_bytes_are_refused(rt: HostRuntime) -> Result<(), Fail> {
+    let cases = [
+        (CodecError::EndOfBuffer, "the bytes end within a field"),
+        (CodecError::ExtraData(9), "9 bytes behind the value"),
+        (
+            CodecError::InvalidLength(13),
+            "a length of 13 is not allowed",
+        ),
+        (
+            CodecError::InvalidVarint(10),
+            "no whole number of at most 10 bytes",
+        ),
+        (CodecError::InvalidEnum(5), "no form has the prefix 5"),
+        (
+            CodecError::Invalid(What::Hostname),
+            "not the proper form: Hostname",
+        ),
+        (CodecError::Memory, "memory was refused"),
+    ];
+    for (error, text) in cases {
+        let told = format!(in rt.alloc(); "{error}")?;
+        assert_eq!(rt; told.as_str(), text);
+    }
+    Ok(())
+}

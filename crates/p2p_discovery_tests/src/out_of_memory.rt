@@ -1,0 +1,456 @@
+//! What each call leaves where memory is refused.
+
+use crate::data::buffers;
+use bytes::Bytes;
+use low_memory::{LowMemory, STEP};
+use p2p_discovery::codec::{CodecError, RangeCfg, Read, TestKey, Write};
+use p2p_discovery::data::{Data, EncodedData};
+use p2p_discovery::discovery::{Info, Infos, Payload, PayloadConfig};
+use p2p_discovery::types::{Address, Hostname, Ingress, IpAddr, SocketAddr};
+use std::alloc::{AllocError, Global};
+use std::process::Abort;
+use std::test::Fail;
+use std::time::Duration;
+
+pub(crate) const STEPS: usize = 256;
+
+const NAME: &str = "a-name-of-a-machine-that-takes-memory.and-not-a-little.example.com";
+
+/// What was done at each budget: how often memory was refused, and how often it sufficed.
+#[derive(Clone, Copy)]
+pub(crate) struct Tally {
+    pub(crate) refused: usize,
+    pub(crate) done: usize,
+}
+
+impl Tally {
+    pub(crate) const EMPTY: Tally = Tally {
+        refused: 0,
+        done: 0,
+    };
+
+    pub(crate) fn count(&mut self, refused: bool) {
+        if refused {
+            self.refused = self.refused.saturating_add(1);
+        } else {
+            self.done = self.done.saturating_add(1);
+        }
+    }
+
+    /// Memory was refused at some budget, and sufficed at another.
+    pub(crate) fn is_mixed(&self, rt: &impl Abort) {
+        assert!(rt; self.refused > 0, "nothing was refused");
+        assert!(rt; self.done > 0, "each call was refused");
+    }
+}
+
+/// What was read is the value, and the buffer is empty. Where memory was refused, it is as before.
+fn assert_read<T: PartialEq + Drop>(
+    rt: &impl Abort,
+    value: &T,
+    frame: &[u8],
+    read: Result<T, CodecError>,
+    buf: &Bytes,
+    step: usize,
+) {
+    match read {
+        Ok(read) => {
+            assert!(rt; read == *value, "step {step}");
+            assert!(rt; buf.is_empty(), "step {step}");
+        }
+        Err(error) => {
+            assert_eq!(rt; error, CodecError::Memory, "step {step}");
+            assert_eq!(rt; buf.as_slice(), frame, "step {step}");
+        }
+    }
+}
+
+/// Whether memory was refused, and else the value was decoded.
+fn is_undecoded<T: PartialEq + Drop>(
+    rt: &impl Abort,
+    value: &T,
+    decoded: Result<T, CodecError>,
+    step: usize,
+) -> bool {
+    match decoded {
+        Ok(decoded) => {
+            assert!(rt; decoded == *value, "step {step}");
+            false
+        }
+        Err(error) => {
+            assert_eq!(rt; error, CodecError::Memory, "step {step}");
+            true
+        }
+    }
+}
+
+/// Whether memory was refused, and else the frame was encoded.
+fn is_unencoded(
+    rt: &impl Abort,
+    frame: &[u8],
+    encoded: Result<Bytes, AllocError>,
+    step: usize,
+) -> bool {
+    match encoded {
+        Ok(encoded) => {
+            assert_eq!(rt; encoded.as_slice(), frame, "step {step}");
+            false
+        }
+        Err(_) => true,
+    }
+}
+
+/// Reads a frame at a budget: the answer is the same or `Memory`, and then the buffer is too.
+/// Whether memory was refused to decoding, and whether to encoding.
+fn reads_within<T: Read<Cfg = ()> + Write + PartialEq>(
+    rt: &impl Abort,
+    alloc: Global,
+    memory: &mut LowMemory,
+    value: &T,
+    frame: &[u8],
+    step: usize,
+) -> Result<(bool, bool), Fail>
+    requires { T.CanSpell value.now }
+{
+    let mut buf = Bytes::copy_from_slice(alloc, frame)?;
+    let whole = Bytes::copy_from_slice(alloc, frame)?;
+    memory.limit(alloc, step.saturating_mul(STEP))?;
+    let read = T::read_cfg(alloc, &mut buf, &());
+    let decoded = T::decode(alloc, whole);
+    let encoded = value.encode(alloc);
+    memory.lift();
+    assert_read(rt, value, frame, read, &buf, step);
+    let undecoded = is_undecoded(rt, value, decoded, step);
+    Ok((undecoded, is_unencoded(rt, frame, encoded, step)))
+}
+
+/// .. at each budget.
+fn reads_at_each_budget<T: Read<Cfg = ()> + Write + PartialEq>(
+    rt: &impl Abort,
+    alloc: Global,
+    memory: &mut LowMemory,
+    value: &T,
+) -> Result<(), Fail>
+    requires { T.CanSpell value.now }
+{
+    let frame = value.encode(alloc)?;
+    let mut tally = Tally::EMPTY;
+    for step in 0..STEPS {
+        let refused = reads_within(rt, alloc, memory, value, frame.as_slice(), step)?;
+        tally.count(refused.0);
+        tally.count(refused.1);
+    }
+    tally.is_mixed(rt);
+    Ok(())
+}
+
+fn named_ingress(host: &Hostname) -> Result<Ingress, AllocError> {
+    Ok(Ingress::Dns {
+        host: host.clone()?,
+        port: 80,
+    })
+}
+
+fn named_address(host: &Hostname) -> Result<Address, AllocError> {
+    Ok(Address::Asymmetric {
+        ingress: named_ingress(host)?,
+        egress: SocketAddr::new(IpAddr::V4([1, 2, 3, 4]), 5),
+    })
+}
+
+#[test]
+fn codecs_of_addresses_are_refused(rt: HostRuntime) -> Result<(), Fail> {
+    let alloc = rt.alloc();
+    let mut memory = LowMemory::new(alloc)?;
+    let host = Hostname::new(alloc, NAME)?;
+    reads_at_each_budget(&rt, alloc, &mut memory, &host)?;
+    reads_at_each_budget(&rt, alloc, &mut memory, &named_ingress(&host)?)?;
+    reads_at_each_budget(&rt, alloc, &mut memory, &named_address(&host)?)
+}
+
+/// Whether memory was refused, and else the host was named.
+fn is_unnamed(
+    rt: &impl Abort,
+    host: &Hostname,
+    named: Result<Hostname, CodecError>,
+    step: usize,
+) -> bool {
+    match named {
+        Ok(named) => {
+            assert!(rt; named == *host, "step {step}");
+            false
+        }
+        Err(error) => {
+            assert_eq!(rt; error, CodecError::Memory, "step {step}");
+            true
+        }
+    }
+}
+
+/// The copies that were made are those of the address and of its ingress.
+fn assert_copies(
+    rt: &impl Abort,
+    address: &Address,
+    copy: Result<Address, AllocError>,
+    ingress: Result<Ingress, AllocError>,
+    step: usize,
+) -> Result<(), AllocError> {
+    if let Ok(copy) = copy {
+        assert!(rt; copy == *address, "step {step}");
+    }
+    if let Ok(ingress) = ingress {
+        assert!(rt; ingress == address.ingress()?, "step {step}");
+    }
+    Ok(())
+}
+
+/// Names and copies at a budget; whether memory was refused to the name.
+fn names_within(
+    rt: &impl Abort,
+    alloc: Global,
+    memory: &mut LowMemory,
+    host: &Hostname,
+    address: &Address,
+    step: usize,
+) -> Result<bool, Fail> {
+    memory.limit(alloc, step.saturating_mul(STEP))?;
+    let named = Hostname::new(alloc, NAME);
+    let no_name = Hostname::new(alloc, "a..b").err();
+    let copy = address.clone();
+    let ingress = address.ingress();
+    memory.lift();
+    assert!(rt; no_name != Some(CodecError::Memory), "step {step}");
+    let refused = is_unnamed(rt, host, named, step);
+    assert_copies(rt, address, copy, ingress, step)?;
+    Ok(refused)
+}
+
+#[test]
+fn names_and_copies_are_refused(rt: HostRuntime) -> Result<(), Fail> {
+    let alloc = rt.alloc();
+    let host = Hostname::new(alloc, NAME)?;
+    let address = named_address(&host)?;
+    let mut memory = LowMemory::new(alloc)?;
+    let mut tally = Tally::EMPTY;
+    for step in 0..STEPS {
+        tally.count(names_within(&rt, alloc, &mut memory, &host, &address, step)?);
+    }
+    tally.is_mixed(&rt);
+    Ok(())
+}
+
+/// What holds no text takes no memory.
+#[test]
+fn reads_sockets_with_no_memory(rt: HostRuntime) -> Result<(), Fail> {
+    let alloc = rt.alloc();
+    let mut memory = LowMemory::new(alloc)?;
+    memory.limit(alloc, 0)?;
+    let read = Ingress::decode(alloc, Bytes::from_static(b"\0\x04\x7f\0\0\x01\x1f\x90"));
+    let faulty = Ingress::decode(alloc, Bytes::from_static(b"\x01\x01-\0P"));
+    let encoded = 7u64.encode(alloc).is_ok();
+    memory.lift();
+    assert!(rt; !encoded);
+    assert_eq!(rt; read?.port(), 8080);
+    assert!(rt; faulty.err() != Some(CodecError::Memory));
+    Ok(())
+}
+
+/// Makes a frame at a budget: refused, it hands back the buffers that it was given. Whether it was.
+fn frames_within(
+    rt: &impl Abort,
+    alloc: Global,
+    memory: &mut LowMemory,
+    step: usize,
+) -> Result<bool, Fail> {
+    let message = buffers(alloc, &[b"hello ", b"world", b"!"])?;
+    let same = buffers(alloc, &[b"hello ", b"world", b"!"])?;
+    memory.limit(alloc, step.saturating_mul(STEP))?;
+    let encoded = EncodedData::new(alloc, 12345, message);
+    memory.lift();
+    match encoded {
+        Ok(encoded) => {
+            assert_eq!(rt; encoded.payload.len(), 4, "step {step}");
+            Ok(false)
+        }
+        Err(back) => {
+            assert_eq!(rt; back, same, "step {step}");
+            Ok(true)
+        }
+    }
+}
+
+#[test]
+fn frames_are_refused(rt: HostRuntime) -> Result<(), Fail> {
+    let alloc = rt.alloc();
+    let mut memory = LowMemory::new(alloc)?;
+    let mut tally = Tally::EMPTY;
+    for step in 0..STEPS {
+        tally.count(frames_within(&rt, alloc, &mut memory, step)?);
+    }
+    tally.is_mixed(&rt);
+    Ok(())
+}
+
+/// The message was read and the next byte is left. Where memory was refused, all is.
+fn assert_message(
+    rt: &impl Abort,
+    read: Result<Data, CodecError>,
+    buf: &Bytes,
+    spelled: &[u8],
+    step: usize,
+) {
+    match read {
+        Ok(read) => {
+            assert_eq!(rt; read.message.as_slice(), b"hello".as_slice(), "step {step}");
+            assert_eq!(rt; buf.as_slice(), b"!".as_slice(), "step {step}");
+        }
+        Err(error) => {
+            assert_eq!(rt; error, CodecError::Memory, "step {step}");
+            assert_eq!(rt; buf.as_slice(), spelled, "step {step}");
+        }
+    }
+}
+
+/// Reads and spells messages at a budget; whether memory was refused to spelling.
+fn messages_within(
+    rt: &impl Abort,
+    alloc: Global,
+    memory: &mut LowMemory,
+    step: usize,
+) -> Result<bool, Fail> {
+    let limit = RangeCfg {
+        least: 0,
+        greatest: 64,
+    };
+    let spelled = b"\x01\x05hello!".as_slice();
+    let mut buf = Bytes::copy_from_slice(alloc, spelled)?;
+    let empty = Bytes::from_static(b"\x01\0");
+    memory.limit(alloc, step.saturating_mul(STEP))?;
+    let read = Data::read_cfg(alloc, &mut buf, &limit);
+    let none = Data::decode_cfg(alloc, empty, &limit);
+    let other = Data {
+        channel: 1,
+        message: Bytes::from_static(b"a message that is long enough to want memory"),
+    };
+    let encoded = other.encode(alloc);
+    memory.lift();
+    assert!(rt; none.is_ok(), "no bytes take no memory, step {step}");
+    assert_message(rt, read, &buf, spelled, step);
+    Ok(encoded.is_err())
+}
+
+#[test]
+fn messages_are_refused(rt: HostRuntime) -> Result<(), Fail> {
+    let alloc = rt.alloc();
+    let mut memory = LowMemory::new(alloc)?;
+    let mut tally = Tally::EMPTY;
+    for step in 0..STEPS {
+        tally.count(messages_within(&rt, alloc, &mut memory, step)?);
+    }
+    tally.is_mixed(&rt);
+    Ok(())
+}
+
+/// Reads a frame at each budget: where that is refused, the buffer is as it was, and the same bytes
+/// are read afterwards.
+fn refused_at_each_budget<T: Read>(
+    rt: &impl Abort,
+    alloc: Global,
+    memory: &mut LowMemory,
+    frame: &[u8],
+    cfg: &T::Cfg,
+) -> Result<Tally, Fail> {
+    let mut tally = Tally::EMPTY;
+    for step in 0..STEPS {
+        let mut buf = Bytes::copy_from_slice(alloc, frame)?;
+        memory.limit(alloc, step.saturating_mul(STEP))?;
+        let fault = T::read_cfg(alloc, &mut buf, cfg).err();
+        memory.lift();
+        tally.count(fault.is_some());
+        if let Some(error) = fault {
+            assert_eq!(rt; error, CodecError::Memory, "step {step}");
+            assert_eq!(rt; buf.as_slice(), frame, "step {step}");
+            assert!(rt; T::decode_cfg(alloc, buf, cfg).is_ok(), "step {step}");
+        }
+    }
+    Ok(tally)
+}
+
+/// A frame of an info that has a name.
+fn named_info(alloc: Global) -> Result<Vec<u8>, Fail> {
+    let key = TestKey(1);
+    let ingress = named_ingress(&Hostname::new(alloc, NAME)?)?;
+    let named = Info::sign(key, b"rows", ingress, 1, |namespace, message| {
+        key.sign(namespace, message)
+    });
+    let mut peers = b"\x03\x01".as_slice().to_vec(alloc)?;
+    peers.extend_from_slice(named.encode(alloc)?.as_slice())?;
+    Ok(peers)
+}
+
+/// A frame of a hundred bits.
+fn hundred_bits(alloc: Global) -> Result<Vec<u8>, AllocError> {
+    let mut bits = b"\x02\x05\x64".as_slice().to_vec(alloc)?;
+    bits.extend_from_slice(&[0; 13])?;
+    Ok(bits)
+}
+
+/// Each growth of the payload of a frame is refused at some budget, and none at another.
+fn is_refused_somewhere(
+    rt: &impl Abort,
+    alloc: Global,
+    memory: &mut LowMemory,
+    frame: Vec<u8>,
+) -> Result<(), Fail> {
+    let limits = PayloadConfig {
+        max_bit_vec: 100,
+        max_peers: 2,
+        max_data_length: 0,
+    };
+    let tally = refused_at_each_budget::<Payload<TestKey>>(rt, alloc, memory, &frame, &limits)?;
+    tally.is_mixed(rt);
+    Ok(())
+}
+
+/// A frame of infos, of which one has a name, and a frame of bits: each growth is refused at some
+/// budget, and then the buffer is as it was; the same bytes read again give the payload.
+#[test]
+fn payloads_are_refused(rt: HostRuntime) -> Result<(), Fail> {
+    let alloc = rt.alloc();
+    let mut memory = LowMemory::new(alloc)?;
+    is_refused_somewhere(&rt, alloc, &mut memory, named_info(alloc)?)?;
+    is_refused_somewhere(&rt, alloc, &mut memory, hundred_bits(alloc)?)
+}
+
+/// Signing and judging take no memory, and no room is asked for infos that can't be there.
+#[test]
+fn judges_with_no_memory(rt: HostRuntime) -> Result<(), Fail> {
+    let alloc = rt.alloc();
+    let verifier = Info::verifier(
+        TestKey(9),
+        1,
+        Duration::ZERO,
+        b"rows".as_slice().to_vec(alloc)?,
+    );
+    let key = TestKey(1);
+    let limit = RangeCfg {
+        least: 0,
+        greatest: usize::MAX,
+    };
+    let mut memory = LowMemory::new(alloc)?;
+    memory.limit(alloc, 0)?;
+    let ingress = Ingress::Socket(SocketAddr::new(IpAddr::V4([1, 2, 3, 4]), 5));
+    let info = Info::sign(key, b"rows", ingress, 0, |namespace, message| {
+        key.sign(namespace, message)
+    });
+    let judged = verifier.validate_info(Duration::ZERO, &info);
+    let none = Infos::<TestKey>::decode_cfg(
+        alloc,
+        Bytes::from_static(b"\xff\xff\xff\xff\x0f\0"),
+        &limit,
+    );
+    memory.lift();
+    assert_eq!(rt; judged, Ok(()));
+    assert_eq!(rt; none.err(), Some(CodecError::EndOfBuffer));
+    Ok(())
+}

@@ -1,0 +1,112 @@
+//! Maps of bits, and sets of peers with a bit for each.
+
+use crate::out_of_memory::{STEPS, Tally};
+use low_memory::{LowMemory, STEP};
+use p2p_discovery::codec::TestKey;
+use p2p_discovery::sets::{BitMap, BitSet, OrderedSet};
+use std::alloc::{AllocError, Global};
+use std::test::Fail;
+
+#[test]
+fn maps_places_to_values(rt: HostRuntime) -> Result<(), Fail> {
+    let alloc = rt.alloc();
+    let mut bits = BitMap::zeroes(alloc, 11)?;
+    if bits.len() > 9 {
+        bits.set(9, true);
+    }
+    if bits.len() > 9 {
+        assert!(rt; bits.get(9) && !bits.get(8));
+    }
+    let same = [
+        false, false, false, false, false, false, false, false, false, true, false,
+    ];
+    assert!(rt; bits == BitMap::from_bools(alloc, &same)?);
+    assert!(rt; bits.clone()? == bits);
+    assert!(rt; BitMap::ones(alloc, 3)? == BitMap::from_bools(alloc, &[true, true, true])?);
+    assert!(rt; BitMap::ones(alloc, 8)? != BitMap::ones(alloc, 9)?);
+    assert!(rt; BitMap::zeroes(alloc, 8)? != BitMap::zeroes(alloc, 9)?);
+    Ok(())
+}
+
+/// The peers 1, 2 and 3, none of them known.
+fn three(alloc: Global) -> Result<BitSet<TestKey>, AllocError> {
+    let peers = OrderedSet::from_iter_dedup(alloc, [3, 1, 2].into_iter().map(TestKey))?;
+    BitSet::new(alloc, peers)
+}
+
+#[test]
+fn changes_the_bit_at_a_place(rt: HostRuntime) -> Result<(), Fail> {
+    let alloc = rt.alloc();
+    let mut set = three(alloc)?;
+    assert!(rt; set.update_at(1, true));
+    assert!(rt; !set.update_at(10, true));
+    let want = BitMap::from_bools(alloc, &[false, true, false])?;
+    assert!(rt; set.knowledge()? == want);
+    Ok(())
+}
+
+#[test]
+fn changes_the_bit_of_a_peer(rt: HostRuntime) -> Result<(), Fail> {
+    let alloc = rt.alloc();
+    let mut set = three(alloc)?;
+    assert!(rt; set.update(&TestKey(2), true));
+    assert!(rt; !set.update(&TestKey(4), true));
+    let want = BitMap::from_bools(alloc, &[false, true, false])?;
+    assert!(rt; set.clone()?.knowledge()? == want);
+    Ok(())
+}
+
+#[test]
+fn walks_the_peers_of_bits_in_order(rt: HostRuntime) -> Result<(), Fail> {
+    let set = three(rt.alloc())?;
+    assert_eq!(rt; set.ordered().position(&TestKey(3)), Some(2));
+    let mut last = None;
+    for peer in &set {
+        last = Some(*peer);
+    }
+    assert_eq!(rt; last, Some(TestKey(3)));
+    if set.len() > 1 {
+        assert_eq!(rt; set[1], TestKey(2));
+    }
+    Ok(())
+}
+
+/// Each call that takes memory is whole or refused.
+#[test]
+fn bits_are_whole_or_refused_for_memory(rt: HostRuntime) -> Result<(), Fail> {
+    let alloc = rt.alloc();
+    let values = [true; 100];
+    let whole = BitMap::ones(alloc, 100)?;
+    let peers = OrderedSet::from_iter_dedup(alloc, (0..100).map(TestKey))?;
+    let set = BitSet::new(alloc, peers)?;
+    let mut memory = LowMemory::new(alloc)?;
+    let mut tally = Tally::EMPTY;
+    for step in 0..STEPS {
+        let peers = set.ordered().clone()?;
+        memory.limit(alloc, step.saturating_mul(STEP))?;
+        let ones = BitMap::ones(alloc, 100);
+        let given = BitMap::from_bools(alloc, &values);
+        let copy = whole.clone();
+        let known = set.knowledge();
+        let same = set.clone();
+        let made = BitSet::new(alloc, peers);
+        memory.lift();
+        for bits in [ones, given, copy] {
+            tally.count(bits.is_err());
+            if let Ok(bits) = bits {
+                assert!(rt; bits == whole, "step {step}");
+            }
+        }
+        if let Ok(bits) = known {
+            assert_eq!(rt; bits.len(), 100, "step {step}");
+        }
+        for set in [same, made] {
+            tally.count(set.is_err());
+            if let Ok(set) = set {
+                assert_eq!(rt; set.len(), 100, "step {step}");
+            }
+        }
+    }
+    tally.is_mixed(&rt);
+    Ok(())
+}
