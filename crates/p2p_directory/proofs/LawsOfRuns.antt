@@ -7,5 +7,9 @@ pub mod Dialled
 pub mod Quiet
 pub mod GrantRuns
 pub mod DialRuns
+pub mod IsolationRuns
+pub mod OrderRuns
+pub mod BoundRuns
 pub mod Forgotten
 mod GrantExamples
+mod RunExamples

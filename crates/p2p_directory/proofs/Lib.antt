@@ -4,3 +4,4 @@ pub mod SetsAndRecords
 pub mod Refinement
 pub mod Reservations
 pub mod Nodes
+pub mod LawsOfGossip

@@ -1,4 +1,8 @@
--- Nodes: what holds of their servers holds of them, and what they answer by what is seen they answer
--- in their worlds.
+-- Nodes: what holds of their servers holds of them, what they answer by what is seen they answer in
+-- their worlds, and what was spelled they read as it is.
 pub mod Standing
 pub mod Worlds
+pub mod ReadBack
+pub mod Exchanging
+-- .. and what one of two nodes answers is what is replied to both.
+pub mod Pairs

@@ -383,3 +383,15 @@ module _ {C S : Type 0} (cmp : C → C → Ordering) where
   IsUpdateOf d None = last_or None d.sets ≡ None
   IsUpdateOf d (Some update) =
       (last_or None d.sets ≡ Some (set_in update)) × AreAllOf d update.all
+
+  -- OTHERS
+
+  -- what is kept of q, and until when it is blocked, is as it was
+  pub record IsAsBefore (old new : DirectoryView C S) (q : C) : Type 0 where
+    pub record_stays : record_of new q ≡ record_of old q
+    pub unblock_stays : unblock_of new q ≡ unblock_of old q
+
+  -- so of each key but p, and the retained sets stay
+  pub record LeavesOthers (old new : DirectoryView C S) (p : C) : Type 0 where
+    pub sets : new.sets ≡ old.sets
+    pub others : (q : C) → is_at (cmp p) q ≡ false → IsAsBefore old new q

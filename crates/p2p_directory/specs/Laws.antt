@@ -1,5 +1,5 @@
--- Words of the laws of whole runs. Those in GrantRuns and DialRuns, and what they rest on, are in
--- the promises of `run`.
+-- Words of the laws of whole runs. Those in GrantRuns, DialRuns, IsolationRuns, OrderRuns and
+-- BoundRuns, and what they rest on, are in the promises of `run`.
 pub mod Isolation
 pub mod Order
 pub mod Bounds
@@ -7,3 +7,9 @@ pub mod Grants
 pub mod Dials
 pub mod GrantRuns
 pub mod DialRuns
+pub mod IsolationRuns
+pub mod OrderRuns
+pub mod BoundRuns
+-- .. and those in Gossip and LateFrames in the promises of `run_pair`.
+pub mod Gossip
+pub mod LateFrames

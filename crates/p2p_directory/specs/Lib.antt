@@ -14,11 +14,14 @@ pub mod Run
 -- What nodes promise rests on these, too.
 pub mod Received
 pub mod Nodes
+-- .. and what an exchange and a run of two nodes promise, on these.
+pub mod Exchange
+pub mod Pairs
 -- What is held of grants.
 pub mod Held
 -- The step of one accepted call: the main law and other laws alone speak of it.
 pub mod Step
--- Laws of whole runs. What `run` says of grants, blocks and dials rests on two of them, `GrantRuns`
--- and `DialRuns`.
+-- Laws of whole runs. What `run` says of its replies together rests on those whose names end in
+-- `Runs`.
 pub mod Laws
 pub mod Private

@@ -5,3 +5,6 @@ pub mod Dialling
 pub mod Slots
 pub mod Serving
 pub mod Frames
+pub mod Endpoints
+pub mod Exchanging
+pub mod Pairing

@@ -1,7 +1,7 @@
 //! Laws of whole runs.
 
-ghost use Rattle.std.specs.Prelude.{◌≡◌, ◌≤◌, ℕ, Bool, true, false, List, [], ◌∷◌, ◌++◌, map};
-ghost use Rattle.std.specs.Prelude.{Option};
+ghost use Rattle.std.specs.Prelude.{◌≡◌, ◌≤◌, ◌<◌, ◌^◌, ℕ, Bool, true, false, List, [], ◌∷◌, ◌++◌};
+ghost use Rattle.std.specs.Prelude.{map, Option};
 ghost use Rattle.std.specs.List.{AllByRecursion};
 ghost use Rattle.p2p_discovery.specs.declared.discovery.Info.{Info};
 ghost use Rattle.p2p_directory.specs.Calls.{Setup, Call};
@@ -12,6 +12,10 @@ ghost use Rattle.p2p_directory.specs.Step.{step, new_known};
 ghost use Rattle.p2p_directory.specs.Lists.{Lists, IsLeastOf};
 ghost use Rattle.p2p_directory.specs.Answers.{is_present_in, IsNumberTracked};
 ghost use Rattle.p2p_directory.specs.Answers.{is_torn_down, IsDialable};
+ghost use Rattle.p2p_directory.specs.declared.directory.Metadata.{Metadata};
+ghost use Rattle.p2p_directory.specs.Directory.{DirectoryView, Reserves, Connects, Releases};
+ghost use Rattle.p2p_directory.specs.Directory.{BlocksUntil, Updates, LeavesOthers, IsAsBefore};
+ghost use Rattle.p2p_directory.specs.Directory.{key_of, infos_of};
 ghost use Rattle.p2p_directory.specs.Laws.Isolation.{SameFor, AnswersAlike, left_for};
 ghost use Rattle.p2p_directory.specs.Laws.Isolation.{is_on_another, narrowed};
 ghost use Rattle.p2p_directory.specs.Laws.Order.{HaveSame, IsUnambiguous};
@@ -22,6 +26,19 @@ ghost use Rattle.p2p_directory.specs.declared.run.commands.Reply.{Reply};
 ghost use Rattle.p2p_directory.specs.Run.{AreAnswers};
 ghost use Rattle.p2p_directory.specs.Laws.GrantRuns.{KeepCooldown, GoForward, KeepBlocks};
 ghost use Rattle.p2p_directory.specs.Laws.DialRuns.{KeepDialable};
+ghost use Rattle.p2p_directory.specs.Laws.IsolationRuns.{KeepAlone};
+ghost use Rattle.p2p_directory.specs.Laws.OrderRuns.{KeepOrder};
+ghost use Rattle.p2p_directory.specs.Laws.BoundRuns.{KeepBound};
+ghost use Rattle.p2p_discovery.specs.Info.{IsInfo, IsKeyed};
+ghost use Rattle.p2p_directory.specs.declared.node.pair.PairCommand.{PairCommand};
+ghost use Rattle.p2p_directory.specs.declared.node.pair.PairReply.{PairReply};
+ghost use Rattle.p2p_directory.specs.Received.{Wire, wire_of};
+ghost use Rattle.p2p_directory.specs.Nodes.{Made, NodeView, IsReceivedAt};
+ghost use Rattle.p2p_directory.specs.Pairs.{ArePairAnswers};
+ghost use Rattle.p2p_directory.specs.Laws.Gossip.{IsMade, KeepExchanges, KeepSigned, KeepGreetings};
+ghost use Rattle.p2p_directory.specs.Laws.LateFrames.{AreWritten, KeepReplies, KeepLate};
+ghost use Rattle.p2p_directory.specs.Laws.LateFrames.{TakesLateAt};
+ghost use Rattle.p2p_directory.specs.declared.node.Received.{Received};
 
 use p2p_discovery::codec::PublicKey;
 
@@ -67,6 +84,26 @@ pub fn each_call_keeps_others<C: PublicKey>()
         SameFor p (world_at s (past s (c ∷ cs))) (world_at s (past s cs)) }
     ensures narrowed { (s : Setup C C.Signature) (p : C) (w : World C C.Signature)
         (c : Call C C.Signature) → SameFor p (step s w c) (step s w (narrowed s p c)) }
+{}
+
+/// Call by call, on a directory: what `dial` and `listen`, `connect`, `release` and `block` do to
+/// one peer leaves the retained sets as they are, and of each other peer what is kept and until
+/// when it is blocked. Infos that are offered change what is kept of a peer by those of its own key
+/// alone, and nothing else.
+pub fn effects_keep_others<C: PublicKey>()
+    ensures reserves { (old new : DirectoryView C C.Signature) (p : C) (now draw : ℕ) →
+        Reserves C.cmp old new p now draw → LeavesOthers C.cmp old new p }
+    ensures connects { (old new : DirectoryView C C.Signature) (p : C) (dialer : Bool) →
+        Connects C.cmp old new p dialer → LeavesOthers C.cmp old new p }
+    ensures releases { (old new : DirectoryView C C.Signature) (metadata : Metadata C C.Signature) →
+        Releases C.cmp old new metadata → LeavesOthers C.cmp old new (key_of metadata) }
+    ensures blocks { (old new : DirectoryView C C.Signature) (p : C) (until : ℕ) →
+        BlocksUntil C.cmp old new p until → LeavesOthers C.cmp old new p }
+    ensures updates { (old new other : DirectoryView C C.Signature)
+        (infos only : List (Info C C.Signature)) (q : C) →
+        Updates C.cmp old new infos → Updates C.cmp old other only →
+        infos_of C.cmp infos q ≡ infos_of C.cmp only q →
+        (new.sets ≡ old.sets) × IsAsBefore C.cmp other new q }
 {}
 
 /// The order of infos in an update, or in several that follow each other directly, is of no matter
@@ -163,4 +200,95 @@ pub fn dials_of_a_run<C: PublicKey>()
     ensures { (s : Setup C C.Signature) → s.cmp ≡ C.cmp → 1 ≤ s.max_sets →
         (cs : List (Call C C.Signature)) (rs : List (Reply C C.Signature)) →
         AreAnswers s [] cs rs → KeepDialable s cs rs }
+{}
+
+/// Isolation, order and bounds by the replies to a run from its start.
+///
+/// At each point of the run, leave out of the accepted calls those on single other peers, and out
+/// of the updates the infos of others: all that is said of p is the same, a reply to a call on p
+/// answers it after these calls, too, and a reply to a track or to `dialable` lists p just where it
+/// is listed after these.
+///
+/// Where updates that follow each other directly hold no two infos of one key with one timestamp,
+/// other updates may give the infos in their place, in any order: all replies after them are
+/// answers then, too, and at each point after them all stands as it does.
+///
+/// At each point at which the sets that were taken name at most n distinct peers each, the present
+/// keys are at most n for each set that may be retained, the persistent keys, and the peers not
+/// inert that no set names; so is the number that is replied.
+pub fn isolation_of_a_run<C: PublicKey>()
+    ensures isolation { (s : Setup C C.Signature) → s.cmp ≡ C.cmp → 1 ≤ s.max_sets →
+        (p : C) (cs : List (Call C C.Signature)) (rs : List (Reply C C.Signature)) →
+        AreAnswers s [] cs rs → KeepAlone s p [] cs rs }
+    ensures order { (s : Setup C C.Signature) → 1 ≤ s.max_sets →
+        (cs : List (Call C C.Signature)) (rs : List (Reply C C.Signature)) →
+        AreAnswers s [] cs rs → KeepOrder s [] cs rs }
+    ensures bounds { (s : Setup C C.Signature) → s.cmp ≡ C.cmp →
+        (n : ℕ) (cs : List (Call C C.Signature)) (rs : List (Reply C C.Signature)) →
+        AreAnswers s [] cs rs → KeepBound s n [] cs rs }
+{}
+
+/// Gossip of two nodes by the replies to what is done to them from their start, where both own
+/// infos, and the infos of each command and of each frame that was accepted before, are signed in
+/// the namespaces of both.
+///
+/// At each point, an exchange of a set whose primary peers the replier retains at its index, within
+/// the limits of both and with the replier's moment at most the asker's bound ahead, is applied
+/// with exactly the wanted infos that may be shared, unless memory is refused. Afterwards the
+/// asker's info of each of their peers is at least as new. The same exchange directly repeated is
+/// applied and changes nothing, unless memory is refused. Each info that either node holds is
+/// signed in the namespaces of both. A greeting with the own info of the other node is taken,
+/// unless memory is refused, where the own keys differ and its timestamp is within the bound.
+pub fn gossip_of_a_run<C: PublicKey>()
+    ensures exchanges { (wire : Wire C C.Signature) (l r : Made C C.Signature) →
+        IsMade C.cmp l → IsMade C.cmp r →
+        (cs : List (PairCommand C C.Signature)) (rs : List (PairReply C C.Signature)) →
+        ArePairAnswers wire l r [] cs rs → KeepExchanges wire l r [] cs rs }
+    ensures infos { (wire : Wire C C.Signature) (l r : Made C C.Signature) →
+        IsMade C.cmp l → IsMade C.cmp r →
+        (cs : List (PairCommand C C.Signature)) (rs : List (PairReply C C.Signature)) →
+        ArePairAnswers wire l r [] cs rs → KeepSigned wire l r [] cs rs }
+    ensures greetings { (l r : Made C C.Signature) → IsMade C.cmp l → IsMade C.cmp r →
+        IsInfo l.directory.own → IsKeyed C.IsValue C.Signature.IsValue l.directory.own →
+        IsInfo r.directory.own → IsKeyed C.IsValue C.Signature.IsValue r.directory.own →
+        (cs : List (PairCommand C C.Signature)) (rs : List (PairReply C C.Signature)) →
+        let wire = wire_of C.SIZE C.spelled C.value
+        C.Signature.SIZE C.Signature.spelled C.Signature.value C.verifies in
+        ArePairAnswers wire l r [] cs rs → KeepGreetings wire l r [] cs rs }
+{}
+
+/// Replies of infos to bits, which may come late, and more than once.
+///
+/// At each point, where all infos that were given are signed in the namespaces of both nodes: a
+/// reply to bits that the other node was asked for earlier, where the replier retains a set of
+/// their index with the primary peers that the other's then had, is a frame of infos that are
+/// signed for both, none with the asker's key, none with a timestamp above the present
+/// milliseconds.
+///
+/// A frame of such infos, of any number that the node takes, at a moment from which that of the
+/// reply is at most the bound ahead, is applied, unless memory is refused, whatever was done to the
+/// node before. Afterwards the node's info of each of their peers that has a record is at least as
+/// new. Nothing changes where all were so before, and by a copy that follows at once.
+pub fn replies_may_come_late<C: PublicKey>()
+    ensures replies { (l r : Made C C.Signature) → IsMade C.cmp l → IsMade C.cmp r →
+        l.limits.max_bit_vec < 2 ^ 32 → r.limits.max_bit_vec < 2 ^ 32 →
+        (cs : List (PairCommand C C.Signature)) (rs : List (PairReply C C.Signature)) →
+        let wire = wire_of C.SIZE C.spelled C.value
+        C.Signature.SIZE C.Signature.spelled C.Signature.value C.verifies in
+        ArePairAnswers wire l r [] cs rs →
+        AreWritten wire C.IsValue C.Signature.IsValue l r [] cs rs →
+        KeepReplies wire C.IsValue C.Signature.IsValue l r [] cs rs }
+    ensures late { (l r : Made C C.Signature) → IsMade C.cmp l → IsMade C.cmp r →
+        (cs : List (PairCommand C C.Signature)) (rs : List (PairReply C C.Signature)) →
+        let wire = wire_of C.SIZE C.spelled C.value
+        C.Signature.SIZE C.Signature.spelled C.Signature.value C.verifies in
+        ArePairAnswers wire l r [] cs rs →
+        KeepLate wire C.IsValue C.Signature.IsValue l r [] cs rs }
+    ensures received { (m : Made C C.Signature) → IsMade C.cmp m →
+        (calls : List (Call C C.Signature)) (frame : List ℕ) (now : ℕ) (r : Received)
+        (v : NodeView C C.Signature) →
+        let wire = wire_of C.SIZE C.spelled C.value
+        C.Signature.SIZE C.Signature.spelled C.Signature.value C.verifies in
+        IsReceivedAt m wire calls frame now r v →
+        TakesLateAt wire C.IsValue C.Signature.IsValue m calls frame now r }
 {}

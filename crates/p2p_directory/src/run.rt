@@ -13,6 +13,9 @@ ghost use Rattle.p2p_directory.specs.Run.{setup_of, call_of, calls_of, world_lef
 ghost use Rattle.p2p_directory.specs.Run.{bit_vec_in, Holds};
 ghost use Rattle.p2p_directory.specs.Laws.GrantRuns.{KeepCooldown, GoForward, KeepBlocks};
 ghost use Rattle.p2p_directory.specs.Laws.DialRuns.{KeepDialable};
+ghost use Rattle.p2p_directory.specs.Laws.IsolationRuns.{KeepAlone};
+ghost use Rattle.p2p_directory.specs.Laws.OrderRuns.{KeepOrder};
+ghost use Rattle.p2p_directory.specs.Laws.BoundRuns.{KeepBound};
 
 use crate::directory::{Config, Directory};
 pub use crate::run::commands::{Command, Reply};
@@ -61,6 +64,16 @@ pub(crate) mod slots;
 ///   nothing: `NextUnblock`, `BlockedPeers`, `Status`, `GetPeerSet`, `LatestUpdate`,
 ///   `LatestSetIndex`, `All`, `Info`, `Infos`, `GetRandomBitVec`, `Eligible`, `Acceptable`,
 ///   `Dialable` and `Tracked`.
+/// - Isolation: leave out of the commands accepted so far those that dial, listen for, connect,
+///   release or block another peer than one, and out of each `UpdatePeers` the infos of others. All
+///   that is kept of the one peer is the same, and so are the replies to the commands that name it
+///   alone, and whether `Track` and `Dialable` list it.
+/// - Order: infos of one `UpdatePeers`, or of several that follow each other directly, may be given
+///   in any order, and by other `UpdatePeers` in their place, where no two are of one peer with one
+///   timestamp: all that is kept is the same after them, and so are all later replies.
+/// - Bounds: where each set that was taken names at most n distinct peers, the peers with a record
+///   are at most `n * max_sets`, beside the local node, the bootstrappers, and the peers that are
+///   not `Inert` and that no retained set names. `Tracked` is replied no greater number.
 ///
 /// What is left is given back by [`Run::finish`].
 ///
@@ -101,6 +114,12 @@ pub fn run<C: PublicKey>(
         (p : C) → KeepBlocks s p [] (calls_of commands.items) run.replies.items) }
     ensures dials { IfOk result (λ run. let s = setup_of C.cmp bootstrappers.items myself cfg in
         KeepDialable s (calls_of commands.items) run.replies.items) }
+    ensures isolation { IfOk result (λ run. let s = setup_of C.cmp bootstrappers.items myself cfg in
+        (p : C) → KeepAlone s p [] (calls_of commands.items) run.replies.items) }
+    ensures order { IfOk result (λ run. let s = setup_of C.cmp bootstrappers.items myself cfg in
+        KeepOrder s [] (calls_of commands.items) run.replies.items) }
+    ensures bounds { IfOk result (λ run. let s = setup_of C.cmp bootstrappers.items myself cfg in
+        (n : ℕ) → KeepBound s n [] (calls_of commands.items) run.replies.items) }
 {
     let mut replies = Vec::with_capacity(alloc, commands.len())?;
     let slots = slots_for(alloc, &commands)?;

@@ -1,7 +1,8 @@
 -- The present keys are at most those that the retained sets name, the persistent ones, and those that are held and not named.
-use Rattle.std.proofs.Common.{◌≡◌, ℕ, zero, suc, ◌-◌, ◌*◌, ◌<◌, ◌≤◌, Bool, true, false, cond, ◌||◌, List, [], ◌∷◌, ◌++◌, length, drop, refl, sym, ◌∙◌, ap, inl, inr, arith}
+use Rattle.std.proofs.Common.{◌≡◌, ℕ, zero, suc, ◌+◌, ◌-◌, ◌*◌, ◌<◌, ◌≤◌, Bool, true, false, cond, ◌||◌, List, [], ◌∷◌, ◌++◌, length, drop, refl, sym, ◌∙◌, ap, inl, inr, arith}
 use Rattle.std.specs.Prelude.{count_by, nat_lt, not, ◌⊎◌}
 use Rattle.std.specs.List.{AllByRecursion, list_any}
+use Rattle.std.specs.List.Sorted.{IsStrictlySortedBy}
 use Rattle.std.specs.Cmp.{IsTotalOrder}
 use Rattle.std.specs.Ordering.{eq_by_cmp}
 use Rattle.std.specs.Set.{is_member}
@@ -97,14 +98,25 @@ module _ {C S : Type 0} (s : Setup C S) (n : ℕ) where
         go false false true x y z named f = or_right (History.is_in s p (named_by w.sets h)) (History.is_in s p qs || History.is_in s p rs) (or_right (History.is_in s p qs) (History.is_in s p rs) (z named refl))
         go false false false x y z named f = absurd (cc)
 
-    present_bounded : (w : World C S) (h : AllByRecursion (NamesAtMost s n) w.sets) → length w.sets ≤ s.max_sets → IsBounded s n w
-    present_bounded w h sets = λ ps qs rs present persistent left_over.
+    -- keys that are present, each once, are at most so many
+    pub some_bounded : (w : World C S) (h : AllByRecursion (NamesAtMost s n) w.sets) → length w.sets ≤ s.max_sets → (ps qs rs : List C) → IsStrictlySortedBy s.cmp ps →
+        ((p : C) → History.is_in s p ps ≡ true → is_present_in s w p ≡ true) → Lists s.cmp (History.is_persistent s) qs → Lists s.cmp (is_left_over s w) rs →
+        length ps ≤ n * s.max_sets + length qs + length rs
+    some_bounded w h sets ps qs rs sorted present persistent left_over =
         let all : List C = named_by w.sets h ++ (qs ++ rs) in
-        let most : length ps ≤ length all = length-le_from_is_member (eq_by_cmp_equiv total) ps all (IsDistinct-from_sorted s.cmp ps present.sorted) (λ p e. in_member all p (one_of w h qs rs persistent left_over p (sym (present.members p) ∙ member_in ps p e))) in
+        let most : length ps ≤ length all = length-le_from_is_member (eq_by_cmp_equiv total) ps all (IsDistinct-from_sorted s.cmp ps sorted) (λ p e. in_member all p (one_of w h qs rs persistent left_over p (present p (member_in ps p e)))) in
         omega (arith, most, length-append (named_by w.sets h) (qs ++ rs), length-append qs rs, named_few w.sets h, mul-le-mul_left n sets)
+
+    -- the sets that are retained name at most n, and there are at most so many
+    pub retained_few : (cs : List (Call C S)) → AllByRecursion (NamesAtMost s n) (History.taken_sets s (World.past s cs)) →
+        AllByRecursion (NamesAtMost s n) (World.world_at s (World.past s cs)).sets × (length (World.world_at s (World.past s cs)).sets ≤ s.max_sets)
+    retained_few cs h =
+        let taken = History.taken_sets s (World.past s cs) in
+        (all_drop (NamesAtMost s n) (length taken - s.max_sets) taken h, omega (arith, length-drop (length taken - s.max_sets) taken))
 
     -- at every point, where each set that was taken names at most n
     pub bounded : (cs : List (Call C S)) → AllByRecursion (NamesAtMost s n) (History.taken_sets s (World.past s cs)) → IsBounded s n (World.world_at s (World.past s cs))
     bounded cs h =
-        let taken = History.taken_sets s (World.past s cs) in
-        present_bounded (World.world_at s (World.past s cs)) (all_drop (NamesAtMost s n) (length taken - s.max_sets) taken h) (omega (arith, length-drop (length taken - s.max_sets) taken))
+        let few = retained_few cs h in
+        λ ps qs rs present persistent left_over.
+        some_bounded (World.world_at s (World.past s cs)) few.0 few.1 ps qs rs present.sorted (λ p e. sym (present.members p) ∙ e) persistent left_over

@@ -1,16 +1,18 @@
 -- A node stands where its server does.
 use Rattle.std.proofs.Common.{◌≡◌, true, List, Option, is_some, inl, inr, refl, sym, ◌∙◌, ap, subst}
+use Rattle.std.specs.declared.cmp.Ordering.{Ordering}
 use Rattle.p2p_directory.specs.declared.directory.Metadata.{Metadata}
-use Rattle.p2p_directory.specs.declared.run.commands.Command.{Command}
 use Rattle.p2p_directory.specs.declared.run.commands.Reply.{Reply}
 use Rattle.p2p_directory.specs.declared.run.commands.Reply.TheVariants as reply
 use Rattle.p2p_directory.specs.Calls.{Setup, Call}
 use Rattle.p2p_directory.specs.World.{World}
 use Rattle.p2p_directory.specs.Held.{held_of}
 use Rattle.p2p_directory.specs.Refinement.{Refines}
-use Rattle.p2p_directory.specs.Run.{call_of, world_after, next, Holds}
+use Rattle.p2p_directory.specs.Run.{world_after, next, Holds}
 use Rattle.p2p_directory.specs.Nodes.{Made, NodeView, NodeStandsAt, IsSteppedAt, may_reserve}
-use Rattle.p2p_directory.specs.Private.Serving.{ServerView, StandsAt, IsServedAt}
+use Rattle.p2p_directory.specs.Private.Endpoints.{AreAlike, IsServedAt}
+use Rattle.p2p_directory.specs.Private.Serving.{ServerView, StandsAt}
+use Rattle.p2p_directory.specs.Private.Serving as serving
 use Rattle.p2p_directory.specs.Private.Slots.{held_in}
 
 holds_alike : {C S : Type 0} (s : Setup C S) (w : World C S) (h h2 : C → Option (Metadata C S)) → ((q : C) → h2 q ≡ h q) → Holds s w h → Holds s w h2
@@ -34,17 +36,40 @@ module _ {C S : Type 0} (m : Made C S) (calls : List (Call C S)) (n : NodeView C
     verifier = verifier;
   }
 
+-- what differs at most in how what is held is listed stands where the other does
+pub alike_stands : {C S : Type 0} (m : Made C S) (calls : List (Call C S)) (n n2 : NodeView C S) → AreAlike m.directory.cmp n n2 → NodeStandsAt m calls n → NodeStandsAt m calls n2
+alike_stands m calls n n2 alike at = record {
+  limit_fits = at.limit_fits;
+  refines = subst (Refines m.directory (world_after m.directory calls)) (sym alike.directory) at.refines;
+  holds = holds_alike m.directory (world_after m.directory calls) (held_of m.directory.cmp n.held) (held_of m.directory.cmp n2.held) alike.held at.holds;
+  limits = alike.limits ∙ at.limits;
+  verifier = alike.verifier ∙ at.verifier;
+}
+
 -- STEPS
 
-module _ {C S : Type 0} (m : Made C S) (calls : List (Call C S)) (n n2 : NodeView C S) (v v2 : ServerView C S) where
-  -- a command that was served: v is the server with room for it, v2 after it
-  pub stepped : (x : Command C S) (r : Reply C S) → n.directory ≡ v.directory → ((q : C) → held_of m.directory.cmp n.held q ≡ held_in m.directory.cmp v.slots q) →
-      n2.directory ≡ v2.directory → ((q : C) → held_of m.directory.cmp n2.held q ≡ held_in m.directory.cmp v2.slots q) → n2.limits ≡ n.limits → n2.verifier ≡ n.verifier →
-      (StandsAt m.directory calls v → IsServedAt m.directory calls (call_of x) r v2) → NodeStandsAt m calls n → IsSteppedAt m calls (call_of x) r n2
-  stepped x r directory held directory2 held2 limits verifier serves at =
-      let served = serves (of_node m calls n v directory held at) in
-      record { answer = inl served.answer; left = of_server m (next m.directory calls (call_of x) r) n2 v2 directory2 held2 (limits ∙ at.limits) (verifier ∙ at.verifier) served.left }
+-- a command that was served: v is the server before it, v2 after it
+pub served : {C S : Type 0} (m : Made C S) (calls : List (Call C S)) (n n2 : NodeView C S) (v v2 : ServerView C S) (c : Call C S) (r : Reply C S) →
+    n.directory ≡ v.directory → ((q : C) → held_of m.directory.cmp n.held q ≡ held_in m.directory.cmp v.slots q) →
+    n2.directory ≡ v2.directory → ((q : C) → held_of m.directory.cmp n2.held q ≡ held_in m.directory.cmp v2.slots q) → n2.limits ≡ n.limits → n2.verifier ≡ n.verifier →
+    (StandsAt m.directory calls v → serving.IsServedAt m.directory calls c r v2) → NodeStandsAt m calls n → IsServedAt m calls c r n2
+served m calls n n2 v v2 c r directory held directory2 held2 limits verifier serves at =
+    let answers = serves (of_node m calls n v directory held at) in
+    record { answer = answers.answer; left = of_server m (next m.directory calls c r) n2 v2 directory2 held2 (limits ∙ at.limits) (verifier ∙ at.verifier) answers.left }
+
+-- a step: n2 has room for the command, n3 has served it, and n4 has no more room than it needs
+pub stepped : {C S : Type 0} (m : Made C S) (calls : List (Call C S)) (n n2 n3 n4 : NodeView C S) (c : Call C S) (r : Reply C S) → AreAlike m.directory.cmp n n2 → AreAlike m.directory.cmp n3 n4 →
+    (NodeStandsAt m calls n2 → IsServedAt m calls c r n3) → NodeStandsAt m calls n → IsSteppedAt m calls c r n4
+stepped m calls n n2 n3 n4 c r room less serves at =
+    let answers = serves (alike_stands m calls n n2 room at) in
+    record { answer = inl answers.answer; left = alike_stands m (next m.directory calls c r) n3 n4 less answers.left }
 
 -- room for what a command may be granted was refused
 pub no_room : {C S : Type 0} (m : Made C S) (calls : List (Call C S)) (n n2 : NodeView C S) (c : Call C S) → n2 ≡ n → may_reserve c ≡ true → NodeStandsAt m calls n → IsSteppedAt m calls c reply.OutOfMemory n2
 no_room m calls n n2 c same reserves at = record { answer = inr (reserves, refl); left = subst (NodeStandsAt m calls) (sym same) at }
+
+pub alike_itself : {C S : Type 0} (cmp : C → C → Ordering) (n : NodeView C S) → AreAlike cmp n n
+alike_itself cmp n = record { directory = refl; held = λ q. refl; limits = refl; verifier = refl }
+
+pub alike_through : {C S : Type 0} (cmp : C → C → Ordering) (n n2 n3 : NodeView C S) → AreAlike cmp n n2 → AreAlike cmp n2 n3 → AreAlike cmp n n3
+alike_through cmp n n2 n3 h h2 = record { directory = h2.directory ∙ h.directory; held = λ q. h2.held q ∙ h.held q; limits = h2.limits ∙ h.limits; verifier = h2.verifier ∙ h.verifier }

@@ -1,6 +1,7 @@
 -- What a node answers by what is seen is what it answers in the world that the accepted calls make.
-use Rattle.std.proofs.Common.{◌≡◌, ◌≤◌, ℕ, true, List, ◌∷◌, Option, Some, None, Result, is_some, sym, ◌∙◌, ap, subst}
-use Rattle.std.specs.Prelude.{IfOk, OnErr, slice_get}
+use Rattle.std.proofs.Common.{◌≡◌, ◌≤◌, ◌<◌, ◌^◌, ℕ, true, List, ◌∷◌, length, Option, Some, None, Result, Ok, Err, is_some, sym, ◌∙◌, ap, subst}
+use Rattle.std.specs.Prelude.{IfOk, IfSome, OnErr, slice_get}
+use Rattle.p2p_discovery.specs.declared.discovery.BitVec.{BitVec}
 use Rattle.p2p_discovery.specs.declared.discovery.Info.{Info}
 use Rattle.p2p_discovery.specs.Judgement.{judge_of}
 use Rattle.p2p_directory.specs.declared.node.Received.{Received}
@@ -9,13 +10,17 @@ use Rattle.p2p_directory.specs.Calls.Call.{Update}
 use Rattle.p2p_directory.specs.Calls.Event.{Updated}
 use Rattle.p2p_directory.specs.World.{World}
 use Rattle.p2p_directory.specs.Step.{world_with}
-use Rattle.p2p_directory.specs.Directory.{Updates}
+use Rattle.p2p_directory.specs.Directory.{Updates, bit_vec_at}
 use Rattle.p2p_directory.specs.Held.{held_of}
 use Rattle.p2p_directory.specs.Refinement.{Refines}
 use Rattle.p2p_directory.specs.Run.{world_after, Holds}
 use Rattle.p2p_directory.specs.Received as frames
-use Rattle.p2p_directory.specs.Received.{Wire, Standing, Outcome, received_at, may_want_memory, ask_frame_at, applied_with}
-use Rattle.p2p_directory.specs.Nodes.{Made, NodeView, NodeStandsAt, IsReceivedAt, IsAskedAt, standing_of, standing_in, calls_with, IsLeft, Answers, AsksWith}
+use Rattle.p2p_directory.specs.Received.{Wire, Standing, received_at, may_want_memory, ask_frame_at, applied_with, told_with}
+use Rattle.p2p_directory.specs.declared.node.exchanged.Exchanged.{Exchanged}
+use Rattle.p2p_directory.specs.Exchange as exchange
+use Rattle.p2p_directory.specs.Exchange.{exchanged_at, infos_applied, IsExchangedAt}
+use Rattle.p2p_directory.specs.Nodes.{Made, NodeView, NodeStandsAt, IsReceivedAt, IsAskedAt, standing_of, standing_in, calls_with, IsLeft, Answers, AsksWith, AreValues}
+use Rattle.p2p_directory.specs.Private.Frames.{HasSpelling}
 use Rattle.p2p_directory.proofs.Definitions.Law
 use Rattle.p2p_directory.proofs.LawsOfRuns.Forgotten
 use Rattle.p2p_directory.proofs.Refinement.KnowledgeRefines
@@ -69,4 +74,32 @@ module _ {C S : Type 0} (m : Made C S) (wire : Wire C S) (calls : List (Call C S
   asked_in place r asks = record {
     frame = subst (λ node. IfOk r (λ frame. frame ≡ ask_frame_at wire node place)) stands_alike asks.frame;
     err = subst (λ sets. OnErr r (is_some (slice_get sets place) ≡ true)) at.refines.sets asks.err;
+  }
+
+  -- what is told has a spelling
+  pub told_in : (IsKey : C → Type 0) (IsSignature : S → Type 0) (frame : List ℕ) (now : ℕ) (r : Received) → AreValues IsKey IsSignature (told_with (received_at wire seen frame now) r) →
+      AreValues IsKey IsSignature (told_with (received_at wire made frame now) r)
+  told_in IsKey IsSignature frame now r values = subst (λ node. AreValues IsKey IsSignature (told_with (received_at wire node frame now) r)) stands_alike values
+
+  pub bits_in : {E A : Type 0} (place : ℕ) (r : Result A E) → IfOk r (λ _. IfSome (bit_vec_at m.directory.cmp v.directory place) HasSpelling) →
+      IfOk r (λ _. IfSome (made.bits place) (λ bits. (bits.index < 2 ^ 64) × (length bits.bits < 2 ^ 64)))
+  bits_in place (Err e) spelled = tt
+  bits_in place (Ok x) spelled = subst (λ node. IfSome (node.bits place) (λ bits. (bits.index < 2 ^ 64) × (length bits.bits < 2 ^ 64))) stands_alike (sized (bit_vec_at m.directory.cmp v.directory place) spelled)
+    where
+      sized : (o : Option BitVec) → IfSome o HasSpelling → IfSome o (λ bits. (bits.index < 2 ^ 64) × (length bits.bits < 2 ^ 64))
+      sized None h = tt
+      sized (Some bits) h = (h.index, h.count)
+
+-- AN EXCHANGE OF TWO NODES
+
+module _ {C S : Type 0} (m n : Made C S) (wire : Wire C S) (cs ds : List (Call C S)) (a b : NodeView C S) (at : NodeStandsAt m cs a) (there : NodeStandsAt n ds b) where
+  pub exchanged_in : 1 ≤ m.directory.max_sets → (place s t : ℕ) (r : Exchanged C S) (a2 : NodeView C S) →
+      (let asker = standing_of m.directory.cmp wire a in exchange.IsAnswer (exchange.may_want_memory asker place) (exchanged_at asker (standing_of n.directory.cmp wire b) place s t) r) →
+      IsLeft m.directory.cmp a (infos_applied r) a2 → IsExchangedAt m n wire cs ds place s t r a2
+  exchanged_in some place s t r a2 answer left = record {
+    answer =
+        let asker = standing_in m wire (world_after m.directory cs) in
+        subst (λ replier. exchange.IsAnswer (exchange.may_want_memory asker place) (exchanged_at asker replier place s t) r) (stands_alike n wire ds b there)
+        (subst (λ asker. exchange.IsAnswer (exchange.may_want_memory asker place) (exchanged_at asker (standing_of n.directory.cmp wire b) place s t) r) (stands_alike m wire cs a at) answer);
+    left = left_at m wire cs a at some (infos_applied r) a2 left;
   }

@@ -96,6 +96,8 @@ impl<C: PublicKey> Server<C> {
         ensures err { OnErr result (self.new ≡ self.old) }
         ensures reserves { OnErr result (may_reserve (call_of command.now) ≡ true) }
         ensures room { OnOk result (has_room C.cmp self.new.slots command.now ≡ true) }
+        ensures slots { OnOk result ((q : C) →
+            has_slot C.cmp self.old.slots q ≡ true → has_slot C.cmp self.new.slots q ≡ true) }
         ensures directory { self.new.directory ≡ self.old.directory }
         ensures held { (q : C) →
             held_in C.cmp self.new.slots q ≡ held_in C.cmp self.old.slots q }
@@ -108,11 +110,16 @@ impl<C: PublicKey> Server<C> {
         ensures directory { self.new.directory ≡ self.old.directory }
         ensures held { (q : C) →
             held_in C.cmp self.new.slots q ≡ held_in C.cmp self.old.slots q }
-        ensures slots { AreSlots C.cmp self.new.slots }
     {
         if let Some(peer) = peer {
             self.slots.drop_empty(&peer);
         }
+    }
+
+    // For the proof: the slots are in order, and each is of its peer.
+    pub fn in_order(&self)
+        ensures { AreSlots C.cmp self.now.slots }
+    {
         self.slots.in_order();
     }
 

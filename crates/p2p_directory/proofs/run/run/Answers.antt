@@ -10,6 +10,9 @@ use Rattle.p2p_directory.proofs.Definitions.Keys.{exact_from}
 use Rattle.p2p_directory.proofs.LawsOfRuns.Forgotten
 use Rattle.p2p_directory.proofs.LawsOfRuns.GrantRuns.{keep_cooldown, keep_blocks}
 use Rattle.p2p_directory.proofs.LawsOfRuns.DialRuns.{keep_dialable}
+use Rattle.p2p_directory.proofs.LawsOfRuns.IsolationRuns.{keep_alone}
+use Rattle.p2p_directory.proofs.LawsOfRuns.OrderRuns.{keep_order}
+use Rattle.p2p_directory.proofs.LawsOfRuns.BoundRuns.{keep_bound}
 use Rattle.p2p_directory.proofs.Refinement.KnowledgeRefines.{tie_bits}
 use Rattle.p2p_directory.proofs.Reservations.Served.{are_held, stands_at_start}
 use Rattle.p2p_directory.proofs.Reservations.Replies.{item_left, item_moved, item_has, all_moved, one_more, room_stays}
@@ -124,3 +127,18 @@ pub returns-clause-dials : goal.returns-clause-dials
 returns-clause-dials g c =
     let s = setup_of g.C.Ord.cmp c.args.bootstrappers.items c.args.myself c.args.cfg in
     keep_dialable s g.met.C.Ord.total (exact_from s g.C.Ord.cmp refl g.met.C.PublicKey.exact) c.args.cfg.max_sets.ok [] (calls_of c.args.commands.items) c.into_run.result.replies.items (returns-clause-answers g c)
+
+pub returns-clause-isolation : goal.returns-clause-isolation
+returns-clause-isolation g c = λ p.
+    let s = setup_of g.C.Ord.cmp c.args.bootstrappers.items c.args.myself c.args.cfg in
+    keep_alone s c.args.cfg.max_sets.ok (exact_from s g.C.Ord.cmp refl g.met.C.PublicKey.exact) p (calls_of c.args.commands.items) c.into_run.result.replies.items (returns-clause-answers g c)
+
+pub returns-clause-order : goal.returns-clause-order
+returns-clause-order g c =
+    let s = setup_of g.C.Ord.cmp c.args.bootstrappers.items c.args.myself c.args.cfg in
+    keep_order s c.args.cfg.max_sets.ok (calls_of c.args.commands.items) c.into_run.result.replies.items (returns-clause-answers g c)
+
+pub returns-clause-bounds : goal.returns-clause-bounds
+returns-clause-bounds g c = λ n.
+    let s = setup_of g.C.Ord.cmp c.args.bootstrappers.items c.args.myself c.args.cfg in
+    keep_bound s n g.met.C.Ord.total (calls_of c.args.commands.items) c.into_run.result.replies.items (returns-clause-answers g c)

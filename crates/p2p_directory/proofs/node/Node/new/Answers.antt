@@ -8,8 +8,8 @@ use Rattle.p2p_directory.proofs.Nodes.Standing.{of_server}
 use Rattle.p2p_directory.proofs.Reservations.Served.{are_held, stands_at_start}
 use Rattle.p2p_directory.proofs.node.Node.new.Goals as goal
 
-pub new-requires-2 : goal.new-requires-2
-new-requires-2 g c =
+pub new-server-requires : goal.new-server-requires
+new-server-requires g c =
     let s = setup_of g.C.Ord.cmp c.args.setup.bootstrappers.items c.args.setup.myself c.args.setup.cfg in
     let made = c.in_ok-directory.ensures in
     let at = stands_at_start s (record { directory = c.in_ok-directory.directory; slots = c.new.result }) (search rules) made.config made.sets made.blocks made.records (λ q. ap (λ slots. held_in g.C.Ord.cmp slots q) c.new.ensures) in
@@ -23,6 +23,6 @@ returns-clause-stands g c =
     let v : ServerView g.row.C.Denot g.row.C-Signature.Denot = record { directory = c.in_ok-directory.directory; slots = c.new.result } in
     let at = stands_at_start s v (search rules) made.config made.sets made.blocks made.records (λ q. ap (λ slots. held_in cmp slots q) c.new.ensures) in
     let m = made_of cmp c.args.setup in
-    rw (c.new-2.ensures, c.verifier.ensures)
+    rw (c.new-2.ensures, c.new-server.ensures, c.verifier-verifier.ensures)
     (of_server m [] (record { directory = v.directory; held = contents v.slots; limits = m.limits; verifier = m.verifier }) v refl
     (λ q. ap (λ slots. held_of cmp (contents slots) q) c.new.ensures ∙ sym (ap (λ slots. held_in cmp slots q) c.new.ensures)) refl refl at)

@@ -1,0 +1,225 @@
+-- What concerns others leaves p as it was, by the replies to a run.
+use Rattle.std.proofs.Common.{◌≡◌, ℕ, ◌≤◌, true, false, not, List, [], ◌∷◌, Option, Some, None, refl, sym, ◌∙◌, ap, subst}
+use Rattle.std.specs.Prelude.{if◌then◌else◌, is_some}
+use Rattle.std.specs.Option.{option_map}
+use Rattle.p2p_directory.specs.Calls.{Setup, Question, Call, Event}
+use Rattle.p2p_directory.specs.Calls.Question.{StatusOf, NumberTracked, NextUnblock, BlockedAt, PeerSet, LatestIndex, AllPeers, LatestUpdate, InfoOf, InfosFor, BitsAt, IsEligible, IsAcceptable, DialableAt}
+use Rattle.p2p_directory.specs.Calls.Call.{Track, Dial, Listen, Connect, Release, Update, Block, UnblockExpired, Ask}
+use Rattle.p2p_directory.specs.History
+use Rattle.p2p_directory.specs.World.{World}
+use Rattle.p2p_directory.specs.Answers.{was_granted, was_blocked, was_taken, is_torn_down}
+use Rattle.p2p_directory.specs.Run
+use Rattle.p2p_directory.specs.declared.run.commands.Reply.{Reply}
+use Rattle.p2p_directory.specs.declared.run.commands.Reply.TheVariants as reply
+use Rattle.p2p_directory.specs.Laws.Isolation.{SameFor, is_on_another, left_for}
+use Rattle.p2p_directory.specs.Laws.IsolationRuns.{asks_of, is_on, torn_after, IsListedAfter, KeepAlone}
+use Rattle.p2p_directory.proofs.Definitions.Law
+use Rattle.p2p_directory.proofs.LawsOfRuns.Isolation
+
+module _ {C S : Type 0} (s : Setup C S) where
+  -- a reply is an answer elsewhere, too, where want of memory and the reply are
+  moved : (e f : Event C S) (w v w2 v2 : World C S) (c : Call C S) (r : Reply C S) → (Run.MayWantMemory s e w c → Run.MayWantMemory s f w2 c) → (Run.Replies s e w v c r → Run.Replies s f w2 v2 c r) →
+      Run.MayReply s e w v c r → Run.MayReply s f w2 v2 c r
+  moved e f w v w2 v2 c reply.OutOfMemory want more a = want a
+  moved e f w v w2 v2 c (reply.Track torn) want more a = more a
+  moved e f w v w2 v2 c (reply.Dial granted) want more a = more a
+  moved e f w v w2 v2 c (reply.Listen granted) want more a = more a
+  moved e f w v w2 v2 c reply.Connect want more a = more a
+  moved e f w v w2 v2 c reply.Release want more a = more a
+  moved e f w v w2 v2 c reply.UpdatePeers want more a = more a
+  moved e f w v w2 v2 c (reply.Block taken) want more a = more a
+  moved e f w v w2 v2 c (reply.UnblockExpired any) want more a = more a
+  moved e f w v w2 v2 c (reply.NextUnblock moment) want more a = more a
+  moved e f w v w2 v2 c (reply.BlockedPeers peers) want more a = more a
+  moved e f w v w2 v2 c (reply.Status status) want more a = more a
+  moved e f w v w2 v2 c (reply.GetPeerSet peers) want more a = more a
+  moved e f w v w2 v2 c (reply.LatestSetIndex index) want more a = more a
+  moved e f w v w2 v2 c (reply.LatestUpdate update) want more a = more a
+  moved e f w v w2 v2 c (reply.All all) want more a = more a
+  moved e f w v w2 v2 c (reply.Info info) want more a = more a
+  moved e f w v w2 v2 c (reply.Infos infos) want more a = more a
+  moved e f w v w2 v2 c (reply.GetRandomBitVec bits) want more a = more a
+  moved e f w v w2 v2 c (reply.Eligible eligible) want more a = more a
+  moved e f w v w2 v2 c (reply.Acceptable acceptable) want more a = more a
+  moved e f w v w2 v2 c (reply.Dialable answer) want more a = more a
+  moved e f w v w2 v2 c (reply.Tracked count) want more a = more a
+  moved e f w v w2 v2 c reply.NotReserved want more a = more a
+  moved e f w v w2 v2 c reply.NotHeld want more a = more a
+
+  -- a question about a peer that stands alike
+  asked_alike : (e : Event C S) (q : C) (w v w2 v2 : World C S) (question : Question C) (r : Reply C S) → SameFor q w v → asks_of s q question ≡ true → History.IsExact s →
+      Run.MayReply s e w w2 (Ask question) r → Run.MayReply s e v v2 (Ask question) r
+  asked_alike e q w v w2 v2 (StatusOf p) r alike mine exact a =
+      let b = subst (λ x. SameFor x w v) (sym (exact p q mine)) alike in
+      moved e e w w2 v v2 (Ask (StatusOf p)) r (λ x. x) (λ x. x ∙ ap reply.Status ((Isolation.answers_alike s exact p w v b).status)) a
+  asked_alike e q w v w2 v2 (InfoOf p) r alike mine exact a =
+      let b = subst (λ x. SameFor x w v) (sym (exact p q mine)) alike in
+      let info = (Isolation.answers_alike s exact p w v b).info in
+      moved e e w w2 v v2 (Ask (InfoOf p)) r (λ x. ap is_some (sym info) ∙ x) (λ x. x ∙ ap reply.Info info) a
+  asked_alike e q w v w2 v2 (IsEligible p t) r alike mine exact a =
+      let b = subst (λ x. SameFor x w v) (sym (exact p q mine)) alike in
+      moved e e w w2 v v2 (Ask (IsEligible p t)) r (λ x. x) (λ x. x ∙ ap reply.Eligible ((Isolation.answers_alike s exact p w v b).eligible t)) a
+  asked_alike e q w v w2 v2 (IsAcceptable p t) r alike mine exact a =
+      let b = subst (λ x. SameFor x w v) (sym (exact p q mine)) alike in
+      moved e e w w2 v v2 (Ask (IsAcceptable p t)) r (λ x. x) (λ x. x ∙ ap reply.Acceptable ((Isolation.answers_alike s exact p w v b).acceptable t)) a
+  asked_alike e q w v w2 v2 NumberTracked r alike mine exact a = absurd (cc)
+  asked_alike e q w v w2 v2 NextUnblock r alike mine exact a = absurd (cc)
+  asked_alike e q w v w2 v2 (BlockedAt t) r alike mine exact a = absurd (cc)
+  asked_alike e q w v w2 v2 (PeerSet index) r alike mine exact a = absurd (cc)
+  asked_alike e q w v w2 v2 LatestIndex r alike mine exact a = absurd (cc)
+  asked_alike e q w v w2 v2 AllPeers r alike mine exact a = absurd (cc)
+  asked_alike e q w v w2 v2 LatestUpdate r alike mine exact a = absurd (cc)
+  asked_alike e q w v w2 v2 (InfosFor index bits t) r alike mine exact a = absurd (cc)
+  asked_alike e q w v w2 v2 (BitsAt place) r alike mine exact a = absurd (cc)
+  asked_alike e q w v w2 v2 (DialableAt t) r alike mine exact a = absurd (cc)
+
+  -- a call on a single peer that stands alike, where it does the same
+  on_alike : (e f : Event C S) (p : C) (w v w2 v2 : World C S) (c : Call C S) (r : Reply C S) → SameFor p w v → is_on s p c ≡ true → History.IsExact s → e ≡ f →
+      Run.MayReply s e w w2 c r → Run.MayReply s f v v2 c r
+  on_alike e f p w v w2 v2 (Dial q t draw) r alike mine exact same a =
+      moved e f w w2 v v2 (Dial q t draw) r (λ x. ap was_granted (sym same) ∙ x) (λ x. x ∙ ap (λ y. reply.Dial (was_granted y)) same) a
+  on_alike e f p w v w2 v2 (Listen q t draw) r alike mine exact same a =
+      moved e f w w2 v v2 (Listen q t draw) r (λ x. x) (λ x. x ∙ ap (λ y. reply.Listen (was_granted y)) same) a
+  on_alike e f p w v w2 v2 (Connect q dialer) r alike mine exact same a =
+      let b = subst (λ x. SameFor x w v) (sym (exact q p mine)) alike in
+      moved e f w w2 v v2 (Connect q dialer) r (λ x. x) (λ x. x ∙ ap (λ peer. if History.is_reserved peer.status then reply.Connect else reply.NotReserved) b.peer) a
+  on_alike e f p w v w2 v2 (Release q) r alike mine exact same a =
+      let b = subst (λ x. SameFor x w v) (sym (exact q p mine)) alike in
+      moved e f w w2 v v2 (Release q) r (λ x. x) (λ x. x ∙ ap (λ peer. if not (History.is_inert peer.status) then reply.Release else reply.NotHeld) b.peer) a
+  on_alike e f p w v w2 v2 (Block q t) r alike mine exact same a =
+      moved e f w w2 v v2 (Block q t) r (λ x. ap was_blocked (sym same) ∙ x) (λ x. x ∙ ap (λ y. reply.Block (was_blocked y)) same) a
+  on_alike e f p w v w2 v2 (Ask question) r alike mine exact same a =
+      moved e f v v2 v v2 (Ask question) r (λ x. x) (λ x. x) (asked_alike e p w v w2 v2 question r alike mine exact a)
+  on_alike e f p w v w2 v2 (Track index primary secondary) r alike mine exact same a = absurd (cc)
+  on_alike e f p w v w2 v2 (Update infos) r alike mine exact same a = absurd (cc)
+  on_alike e f p w v w2 v2 (UnblockExpired t) r alike mine exact same a = absurd (cc)
+
+  -- such a call is on no other peer
+  on_it : (p : C) (c : Call C S) → is_on s p c ≡ true → is_on_another s p c ≡ false
+  on_it p (Dial q t draw) mine = ap not mine
+  on_it p (Listen q t draw) mine = ap not mine
+  on_it p (Connect q dialer) mine = ap not mine
+  on_it p (Release q) mine = ap not mine
+  on_it p (Block q t) mine = ap not mine
+  on_it p (Ask question) mine = refl
+  on_it p (Track index primary secondary) mine = absurd (cc)
+  on_it p (Update infos) mine = absurd (cc)
+  on_it p (UnblockExpired t) mine = absurd (cc)
+
+  module _ (least : 1 ≤ s.max_sets) (exact : History.IsExact s) where
+    does_alone : (p : C) (before : List (Call C S)) (c : Call C S) → is_on_another s p c ≡ false → Run.event_of s before c ≡ Run.event_of s (left_for s p before) c
+    does_alone p before c mine =
+        let w = Run.world_after s before in
+        let v = Run.world_after s (left_for s p before) in
+        Law.does_same s before c least ∙ Isolation.does_alike s p w v c exact (Isolation.isolated s least exact p before) mine ∙ sym (Law.does_same s (left_for s p before) c least)
+
+    answer_alone : (p : C) (before : List (Call C S)) (c : Call C S) (r : Reply C S) → is_on s p c ≡ true → Run.IsAnswer s before c r → Run.IsAnswer s (left_for s p before) c r
+    answer_alone p before c r mine a =
+        on_alike (Run.event_of s before c) (Run.event_of s (left_for s p before) c) p (Run.world_after s before) (Run.world_after s (left_for s p before))
+        (Run.world_after s (c ∷ before)) (Run.world_after s (c ∷ left_for s p before)) c r (Isolation.isolated s least exact p before) mine exact
+        (does_alone p before c (on_it p c mine)) a
+
+    -- whom a track lists, by what it did
+    torn_by : (p : C) (e : Event C S) (w v : World C S) (torn : Option (List C)) → Run.Replies s e w v (Track 0 [] []) (reply.Track torn) →
+        option_map (λ peers. History.is_in s p peers) torn ≡ (if was_taken e then Some (is_torn_down s w v p) else None)
+    torn_by p e w v None a = ap (λ b. if b then Some (is_torn_down s w v p) else None) (sym a)
+    torn_by p e w v (Some peers) a = ap Some (a.1.members p) ∙ ap (λ b. if b then Some (is_torn_down s w v p) else None) (sym a.0)
+
+    track_alone : (p : C) (before : List (Call C S)) (index : ℕ) (primary secondary : List C) →
+        torn_after s p before (Track index primary secondary) ≡ torn_after s p (left_for s p before) (Track index primary secondary)
+    track_alone p before index primary secondary = λ i.
+        if was_taken (does_alone p before (Track index primary secondary) refl i)
+        then Some (Isolation.torn_down_alike s p _ _ _ _ (Isolation.isolated s least exact p before) (Isolation.isolated s least exact p (Track index primary secondary ∷ before)) i)
+        else None
+
+    listed_alone : (p : C) (before : List (Call C S)) (c : Call C S) (r : Reply C S) → Run.IsAnswer s before c r → IsListedAfter s p (left_for s p before) c r
+    listed_alone p before (Track index primary secondary) (reply.Track torn) a =
+        torn_by p (Run.event_of s before (Track index primary secondary)) (Run.world_after s before) (Run.world_after s (Track index primary secondary ∷ before)) torn a
+        ∙ track_alone p before index primary secondary
+    listed_alone p before (Track index primary secondary) (reply.Dial granted) a = tt
+    listed_alone p before (Track index primary secondary) (reply.Listen granted) a = tt
+    listed_alone p before (Track index primary secondary) reply.Connect a = tt
+    listed_alone p before (Track index primary secondary) reply.Release a = tt
+    listed_alone p before (Track index primary secondary) reply.UpdatePeers a = tt
+    listed_alone p before (Track index primary secondary) (reply.Block taken) a = tt
+    listed_alone p before (Track index primary secondary) (reply.UnblockExpired any) a = tt
+    listed_alone p before (Track index primary secondary) (reply.NextUnblock moment) a = tt
+    listed_alone p before (Track index primary secondary) (reply.BlockedPeers peers) a = tt
+    listed_alone p before (Track index primary secondary) (reply.Status status) a = tt
+    listed_alone p before (Track index primary secondary) (reply.GetPeerSet peers) a = tt
+    listed_alone p before (Track index primary secondary) (reply.LatestSetIndex latest) a = tt
+    listed_alone p before (Track index primary secondary) (reply.LatestUpdate update) a = tt
+    listed_alone p before (Track index primary secondary) (reply.All all) a = tt
+    listed_alone p before (Track index primary secondary) (reply.Info info) a = tt
+    listed_alone p before (Track index primary secondary) (reply.Infos infos) a = tt
+    listed_alone p before (Track index primary secondary) (reply.GetRandomBitVec bits) a = tt
+    listed_alone p before (Track index primary secondary) (reply.Eligible eligible) a = tt
+    listed_alone p before (Track index primary secondary) (reply.Acceptable acceptable) a = tt
+    listed_alone p before (Track index primary secondary) (reply.Dialable answer) a = tt
+    listed_alone p before (Track index primary secondary) (reply.Tracked count) a = tt
+    listed_alone p before (Track index primary secondary) reply.NotReserved a = tt
+    listed_alone p before (Track index primary secondary) reply.NotHeld a = tt
+    listed_alone p before (Track index primary secondary) reply.OutOfMemory a = tt
+    listed_alone p before (Ask (DialableAt t)) (reply.Dialable answer) a =
+        a.0.members p ∙ (Isolation.answers_alike s exact p _ _ (Isolation.isolated s least exact p before)).dialable t
+    listed_alone p before (Ask (DialableAt t)) (reply.Track torn) a = tt
+    listed_alone p before (Ask (DialableAt t)) (reply.Dial granted) a = tt
+    listed_alone p before (Ask (DialableAt t)) (reply.Listen granted) a = tt
+    listed_alone p before (Ask (DialableAt t)) reply.Connect a = tt
+    listed_alone p before (Ask (DialableAt t)) reply.Release a = tt
+    listed_alone p before (Ask (DialableAt t)) reply.UpdatePeers a = tt
+    listed_alone p before (Ask (DialableAt t)) (reply.Block taken) a = tt
+    listed_alone p before (Ask (DialableAt t)) (reply.UnblockExpired any) a = tt
+    listed_alone p before (Ask (DialableAt t)) (reply.NextUnblock moment) a = tt
+    listed_alone p before (Ask (DialableAt t)) (reply.BlockedPeers peers) a = tt
+    listed_alone p before (Ask (DialableAt t)) (reply.Status status) a = tt
+    listed_alone p before (Ask (DialableAt t)) (reply.GetPeerSet peers) a = tt
+    listed_alone p before (Ask (DialableAt t)) (reply.LatestSetIndex index) a = tt
+    listed_alone p before (Ask (DialableAt t)) (reply.LatestUpdate update) a = tt
+    listed_alone p before (Ask (DialableAt t)) (reply.All all) a = tt
+    listed_alone p before (Ask (DialableAt t)) (reply.Info info) a = tt
+    listed_alone p before (Ask (DialableAt t)) (reply.Infos infos) a = tt
+    listed_alone p before (Ask (DialableAt t)) (reply.GetRandomBitVec bits) a = tt
+    listed_alone p before (Ask (DialableAt t)) (reply.Eligible eligible) a = tt
+    listed_alone p before (Ask (DialableAt t)) (reply.Acceptable acceptable) a = tt
+    listed_alone p before (Ask (DialableAt t)) (reply.Tracked count) a = tt
+    listed_alone p before (Ask (DialableAt t)) reply.NotReserved a = tt
+    listed_alone p before (Ask (DialableAt t)) reply.NotHeld a = tt
+    listed_alone p before (Ask (DialableAt t)) reply.OutOfMemory a = tt
+    listed_alone p before (Ask (StatusOf q)) r a = tt
+    listed_alone p before (Ask NumberTracked) r a = tt
+    listed_alone p before (Ask NextUnblock) r a = tt
+    listed_alone p before (Ask (BlockedAt t)) r a = tt
+    listed_alone p before (Ask (PeerSet index)) r a = tt
+    listed_alone p before (Ask LatestIndex) r a = tt
+    listed_alone p before (Ask AllPeers) r a = tt
+    listed_alone p before (Ask LatestUpdate) r a = tt
+    listed_alone p before (Ask (InfoOf q)) r a = tt
+    listed_alone p before (Ask (InfosFor index bits t)) r a = tt
+    listed_alone p before (Ask (BitsAt place)) r a = tt
+    listed_alone p before (Ask (IsEligible q t)) r a = tt
+    listed_alone p before (Ask (IsAcceptable q t)) r a = tt
+    listed_alone p before (Dial q t draw) r a = tt
+    listed_alone p before (Listen q t draw) r a = tt
+    listed_alone p before (Connect q dialer) r a = tt
+    listed_alone p before (Release q) r a = tt
+    listed_alone p before (Update infos) r a = tt
+    listed_alone p before (Block q t) r a = tt
+    listed_alone p before (UnblockExpired t) r a = tt
+
+    keep_alone_from : (p : C) (before cs : List (Call C S)) (rs : List (Reply C S)) → Run.AreAnswers s before cs rs → KeepAlone s p before cs rs
+    keep_alone_from p before [] [] answers = Isolation.isolated s least exact p before
+    keep_alone_from p before [] (r ∷ rs) answers = Isolation.isolated s least exact p before
+    keep_alone_from p before (c ∷ cs) [] answers = Isolation.isolated s least exact p before
+    keep_alone_from p before (c ∷ cs) (r ∷ rs) answers = (
+      record {
+        stands = Isolation.isolated s least exact p before;
+        answer = λ mine. answer_alone p before c r mine answers.0;
+        listed = listed_alone p before c r answers.0;
+      },
+      keep_alone_from p (Run.next s before c r) cs rs answers.1,
+    )
+
+    -- by the replies to a whole run, p stands alone, and is answered and listed so
+    pub keep_alone : (p : C) (cs : List (Call C S)) (rs : List (Reply C S)) → Run.AreAnswers s [] cs rs → KeepAlone s p [] cs rs
+    keep_alone p cs rs answers = keep_alone_from p [] cs rs answers

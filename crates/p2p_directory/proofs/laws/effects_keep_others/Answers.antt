@@ -1,0 +1,45 @@
+use Rattle.std.proofs.Common.{Option, Some, cond, sym, ◌∙◌, ap}
+use Rattle.std.specs.Prelude.{option_map}
+use Rattle.std.specs.declared.cmp.Ordering.{Ordering}
+use Rattle.p2p_directory.specs.Directory.{DirectoryView, ChangesRecord, LeavesOthers, record_at, record_of, unblock_of, updated_record}
+use Rattle.p2p_directory.specs.Record.{RecordView}
+use Rattle.p2p_directory.specs.Blocks.{unblock_in}
+use Rattle.p2p_directory.proofs.laws.effects_keep_others.Goals as goal
+
+-- a change of one record leaves the others
+of_one : {C S : Type 0} (cmp : C → C → Ordering) (old new : DirectoryView C S) (p : C) (f : Option (RecordView C S) → Option (RecordView C S)) →
+    ChangesRecord cmp old new p f → LeavesOthers cmp old new p
+of_one cmp old new p f h = record {
+  sets = h.sets;
+  others = λ q apart. record {
+    record_stays = h.records q ∙ ap (λ b. cond b (f (record_of cmp old q)) (record_of cmp old q)) apart;
+    unblock_stays = ap (λ bs. unblock_in cmp bs q) h.blocks;
+  };
+}
+
+pub returns-clause-reserves : goal.returns-clause-reserves
+returns-clause-reserves g c = λ old new p now draw h. of_one g.C.Ord.cmp old new p _ h
+
+pub returns-clause-connects : goal.returns-clause-connects
+returns-clause-connects g c = λ old new p dialer h. of_one g.C.Ord.cmp old new p _ h
+
+pub returns-clause-releases : goal.returns-clause-releases
+returns-clause-releases g c = λ old new metadata h. of_one g.C.Ord.cmp old new _ _ h
+
+pub returns-clause-blocks : goal.returns-clause-blocks
+returns-clause-blocks g c = λ old new p until h. record {
+  sets = h.sets;
+  others = λ q apart. record {
+    record_stays = ap (λ rs. record_at g.C.Ord.cmp rs q) h.records;
+    unblock_stays = h.blocks q ∙ ap (λ b. cond b (Some until) (unblock_of g.C.Ord.cmp old q)) apart;
+  };
+}
+
+pub returns-clause-updates : goal.returns-clause-updates
+returns-clause-updates g c = λ old new other infos only q h h2 same. (
+  h.sets,
+  record {
+    record_stays = h.records q ∙ ap (λ is. option_map (updated_record is) (record_of g.C.Ord.cmp old q)) same ∙ sym (h2.records q);
+    unblock_stays = ap (λ bs. unblock_in g.C.Ord.cmp bs q) (h.blocks ∙ sym h2.blocks);
+  },
+)

@@ -1,0 +1,106 @@
+-- What an exchange of infos comes to, by how both nodes stand, each at a moment of its own.
+use Rattle.std.specs.Prelude.{ℕ, ◌≡◌, Bool, true, if◌then◌else◌, List, length, Option, Some, None}
+use Rattle.std.specs.Prelude.{is_some, nat_lt}
+use Rattle.std.specs.declared.cmp.Ordering.{Ordering}
+use Rattle.p2p_discovery.specs.declared.codec.error.CodecError.{CodecError}
+use Rattle.p2p_discovery.specs.declared.codec.error.CodecError.TheVariants.{InvalidLength}
+use Rattle.p2p_discovery.specs.declared.discovery.BitVec.{BitVec}
+use Rattle.p2p_discovery.specs.declared.discovery.Error.{Error}
+use Rattle.p2p_discovery.specs.declared.discovery.Info.{Info}
+use Rattle.p2p_discovery.specs.Judgement.{list_refusal}
+use Rattle.p2p_directory.specs.declared.node.exchanged.Exchanged.{Exchanged}
+use Rattle.p2p_directory.specs.declared.node.exchanged.Exchanged.TheVariants as exchanged
+use Rattle.p2p_directory.specs.Calls.{Call}
+use Rattle.p2p_directory.specs.Received.{Wire, Standing}
+use Rattle.p2p_directory.specs.Nodes.{NodeView, Made, NodeStandsAt, AtEach, IsLeft, calls_with}
+use Rattle.p2p_directory.specs.Nodes.{standing_of, standing_in}
+use Rattle.p2p_directory.specs.Run.{world_after}
+
+-- what an exchange comes to, want of memory aside
+pub data Outcome (C S : Type 0) : Type 0 where
+  -- the asker has no set at the place
+  NoSet : Outcome C S
+  -- the replier cannot read the bits
+  AskRefused : (fault : CodecError) → Outcome C S
+  -- the replier has infos for another number of bits
+  Malformed : Outcome C S
+  -- the asker cannot read the infos
+  ReplyRefused : (fault : CodecError) → Outcome C S
+  -- the asker refuses an info, or their number
+  Invalid : (error : Error) → Outcome C S
+  -- an update with these infos is one more call of the asker
+  Applied : (infos : List (Info C S)) → Outcome C S
+
+module _ {C S : Type 0} where
+  -- the asker judged the infos: why they are refused, if they are
+  abbrev pub judged_at : List (Info C S) → Option Error → Outcome C S
+  judged_at infos (Some error) = Invalid error
+  judged_at infos None = Applied infos
+
+  -- the replier has infos for the bits, or none at all; the asker reads them at its moment
+  abbrev pub replied_at : Standing C S → ℕ → Option (List (Info C S)) → Outcome C S
+  replied_at asker asker_now None = Malformed
+  replied_at asker asker_now (Some infos) =
+      if nat_lt asker.limits.max_peers (length infos)
+      then ReplyRefused (InvalidLength (length infos))
+      else judged_at infos (list_refusal asker.judge asker_now infos)
+
+  -- the asker has bits at the place, or no set; the replier reads them at its moment
+  abbrev pub asked_at : Standing C S → Standing C S → ℕ → ℕ → Option BitVec → Outcome C S
+  asked_at asker replier asker_now replier_now None = NoSet
+  asked_at asker replier asker_now replier_now (Some v) =
+      if nat_lt replier.limits.max_bit_vec (length v.bits)
+      then AskRefused (InvalidLength (length v.bits))
+      else replied_at asker asker_now (replier.infos v.index v.bits replier_now)
+
+  -- EXCHANGE: what it comes to at a place of the asker
+  abbrev pub exchanged_at : Standing C S → Standing C S → ℕ → ℕ → ℕ → Outcome C S
+  exchanged_at asker replier place asker_now replier_now =
+      asked_at asker replier asker_now replier_now (asker.bits place)
+
+  -- WANT OF MEMORY: where there is a set at the place
+  abbrev pub may_want_memory : Standing C S → ℕ → Bool
+  may_want_memory asker place = is_some (asker.bits place)
+
+  -- what is answered: want of memory where it is allowed, else what the exchange comes to
+  abbrev pub IsAnswer : Bool → Outcome C S → Exchanged C S → Type 0
+  IsAnswer may o exchanged.NoSet = o ≡ NoSet
+  IsAnswer may o (exchanged.AskRefused fault) = o ≡ AskRefused fault
+  IsAnswer may o exchanged.Malformed = o ≡ Malformed
+  IsAnswer may o (exchanged.ReplyRefused fault) = o ≡ ReplyRefused fault
+  IsAnswer may o (exchanged.Invalid error) = o ≡ Invalid error
+  IsAnswer may o exchanged.Memory = may ≡ true
+  IsAnswer may o (exchanged.Applied infos) = o ≡ Applied infos.items
+
+  -- the infos that are applied to the asker's directory with an answer: with all others none are
+  abbrev pub infos_applied : Exchanged C S → Option (List (Info C S))
+  infos_applied (exchanged.Applied infos) = Some infos.items
+  infos_applied _ = None
+
+-- AN EXCHANGE BY WHAT IS SEEN: a is the asker before it and a2 after it, b the replier, which it
+-- leaves as it was; s is the asker's moment, t the replier's
+
+pub record Exchanges {C S : Type 0} (cmp : C → C → Ordering) (wire : Wire C S) (place s t : ℕ)
+    (r : Exchanged C S) (a b a2 : NodeView C S) : Type 0 where
+  pub answer : let asker = standing_of cmp wire a in
+      IsAnswer (may_want_memory asker place)
+      (exchanged_at asker (standing_of cmp wire b) place s t) r
+  pub left : IsLeft cmp a (infos_applied r) a2
+
+-- AN EXCHANGE IN WORLDS: the asker is made from m, with the calls cs accepted before, the replier
+-- from n, with ds
+
+-- the answer is that at their points, and the asker then stands at the point after the update that
+-- it made, if it made one
+pub record IsExchangedAt {C S : Type 0} (m n : Made C S) (wire : Wire C S)
+    (cs ds : List (Call C S)) (place s t : ℕ) (r : Exchanged C S) (a2 : NodeView C S) : Type 0 where
+  pub answer : let asker = standing_in m wire (world_after m.directory cs) in
+      IsAnswer (may_want_memory asker place)
+      (exchanged_at asker (standing_in n wire (world_after n.directory ds)) place s t) r
+  pub left : NodeStandsAt m (calls_with (infos_applied r) cs) a2
+
+-- .. whatever the two were made from, and wherever the calls accepted before led
+abbrev pub IsExchanged : {C S : Type 0} → (C → C → Ordering) → Wire C S → ℕ → ℕ → ℕ →
+    Exchanged C S → NodeView C S → NodeView C S → NodeView C S → Type 0
+IsExchanged cmp wire place s t r a b a2 =
+    AtEach cmp a (λ m cs. AtEach cmp b (λ n ds. IsExchangedAt m n wire cs ds place s t r a2))

@@ -1,0 +1,282 @@
+//! What a node is: a directory that serves commands, by what infos are judged, and limits.
+
+ghost use Rattle.std.specs.Prelude.{◌≡◌, ◌<◌, ◌^◌, true, false, IfOk, IfSome, OnOk, OnErr, length};
+ghost use Rattle.std.specs.Prelude.{is_some, option_map};
+ghost use Rattle.std.specs.Duration.{as_nanos};
+ghost use Rattle.p2p_discovery.specs.Payload.{CanSpell, payload_spelling, IsPayload};
+ghost use Rattle.p2p_discovery.specs.Payload.{IsKeyedPayload};
+ghost use Rattle.p2p_discovery.specs.Judgement.{judge_of, refusal, list_refusal};
+ghost use Rattle.p2p_discovery.specs.declared.discovery.Payload.TheVariants.{Peers};
+ghost use Rattle.p2p_directory.specs.Directory.{bit_vec_at, infos_in};
+ghost use Rattle.p2p_directory.specs.Held.{held_of, AreHeld};
+ghost use Rattle.p2p_directory.specs.Run.{call_of};
+ghost use Rattle.p2p_directory.specs.Received.{wire_of, greeted, replied, taken, takes_room};
+ghost use Rattle.p2p_directory.specs.Received.{applies, told_with};
+ghost use Rattle.p2p_directory.specs.Nodes.{may_reserve, Answers, AnswersFrame, AsksWith};
+ghost use Rattle.p2p_directory.specs.Nodes.{AreValues, TellsValues};
+ghost use Rattle.p2p_directory.specs.Private.Frames.{fault_answer, HasSpelling, HaveSpelling};
+ghost use Rattle.p2p_directory.specs.Private.Serving.{has_room};
+ghost use Rattle.p2p_directory.specs.Private.Slots.{contents, has_slot};
+ghost use Rattle.p2p_directory.specs.Private.Endpoints.{node_of, AreAlike, IsServedBy};
+
+use crate::directory::Directory;
+use crate::node::Received;
+use crate::run::server::Server;
+use crate::run::{Command, Held, Reply};
+use bytes::Bytes;
+use p2p_discovery::codec::{CodecError, PublicKey, Read, Write};
+use p2p_discovery::discovery::{BitVec, Info, InfoVerifier, Infos, Payload, PayloadConfig};
+use std::alloc::{AllocError, Global};
+use std::marker::Model;
+use std::time::Duration;
+
+mod exchanges;
+
+/// A server, by what infos are judged, and the limits under which frames are read. A contract sees
+/// its directory and its slots, and these two. It must be spent, by [`Endpoint::into_parts`].
+pub struct Endpoint<C: PublicKey> {
+    server: Server<C>,
+    verifier: InfoVerifier<C>,
+    payload: PayloadConfig,
+}
+
+impl<C: PublicKey> Model for Endpoint<C> {
+    ghost use Rattle.std.specs.Prelude.{◌≡◌, ◌<◌, ◌^◌};
+    ghost use Rattle.p2p_directory.specs.Held.{held_of};
+    ghost use Rattle.p2p_directory.specs.Private.Endpoints.{EndpointView};
+    ghost use Rattle.p2p_directory.specs.Private.Slots.{contents, held_in};
+
+    ghost Value = { EndpointView C C.Signature };
+
+    ghost view = { λ e. record {
+      directory = e.server.directory;
+      slots = e.server.slots;
+      limits = e.payload;
+      verifier = e.verifier;
+    } };
+
+    ghost invariant = { λ e. (e.payload.max_bit_vec < 2 ^ 32) × ((q : C) →
+        held_of C.cmp (contents e.server.slots) q ≡ held_in C.cmp e.server.slots q) };
+}
+
+impl<C: PublicKey> Endpoint<C> {
+    /// An endpoint of this server, which judges and reads by these.
+    pub fn new(server: Server<C>, verifier: InfoVerifier<C>, payload: PayloadConfig) -> Self
+        requires { payload.max_bit_vec < 2 ^ 32 }
+        ensures { result ≡ record {
+          directory = server.directory;
+          slots = server.slots;
+          limits = payload;
+          verifier = verifier;
+        } }
+    {
+        server.in_order();
+        Endpoint {
+            server,
+            verifier,
+            payload,
+        }
+    }
+
+    /// Serves one command, where there is a slot for what it may be granted.
+    pub fn serve(&mut self, command: Command<C>) -> Reply<C>
+        requires room { has_room C.cmp self.old.slots command ≡ true }
+        ensures served { IsServedBy C.cmp command result self.old self.new }
+        ensures slots { (q : C) →
+            has_slot C.cmp self.new.slots q ≡ has_slot C.cmp self.old.slots q }
+    {
+        let reply = self.server.serve(command);
+        self.server.in_order();
+        reply
+    }
+
+    /// Makes a slot for what the command may be granted, where there is none.
+    pub fn make_room(&mut self, command: &Command<C>) -> Result<(), AllocError>
+        ensures err { OnErr result (self.new ≡ self.old) }
+        ensures reserves { OnErr result (may_reserve (call_of command.now) ≡ true) }
+        ensures room { OnOk result (has_room C.cmp self.new.slots command.now ≡ true) }
+        ensures slots { OnOk result ((q : C) →
+            has_slot C.cmp self.old.slots q ≡ true → has_slot C.cmp self.new.slots q ≡ true) }
+        ensures alike { AreAlike C.cmp (node_of self.old) (node_of self.new) }
+    {
+        let made = self.server.make_room(command);
+        self.server.in_order();
+        made
+    }
+
+    /// Takes the slot of the peer out, where it is empty. Takes no memory.
+    pub fn drop_room(&mut self, peer: Option<C>)
+        ensures { AreAlike C.cmp (node_of self.old) (node_of self.new) }
+    {
+        self.server.drop_room(peer);
+        self.server.in_order();
+    }
+
+    /// The directory.
+    pub fn directory(&self) -> &Directory<C>
+        ensures { result.now ≡ self.now.directory }
+    {
+        self.server.directory()
+    }
+
+    /// The frame of the bits of the set at a place, or `None` where there is no such place.
+    pub fn ask(&self, place: usize) -> Result<Option<Bytes>, AllocError>
+        ensures seen { AsksWith C.cmp (wire_of C.SIZE C.spelled C.value
+            C.Signature.SIZE C.Signature.spelled C.Signature.value C.verifies)
+            place result (node_of self.now) }
+        ensures spelled { IfOk result (λ _.
+            IfSome (bit_vec_at C.cmp self.now.directory place) HasSpelling) }
+    {
+        let directory = self.server.directory();
+        match directory.get_random_bit_vec(place)? {
+            Some(bits) => {
+                // For the proof: the number of bits fits.
+                let _count = bits.bits.len();
+                let frame = frame_of::<C>(directory.allocator(), Payload::BitVec(bits))?;
+                Ok(Some(frame))
+            }
+            None => Ok(None),
+        }
+    }
+
+    /// Takes a frame at a moment, and answers it.
+    pub fn answer(&mut self, frame: Bytes, now: Duration) -> Received
+        ensures seen { AnswersFrame C.cmp (wire_of C.SIZE C.spelled C.value
+            C.Signature.SIZE C.Signature.spelled C.Signature.value C.verifies)
+            frame (as_nanos now) result (node_of self.old) (node_of self.new) }
+        ensures unchanged { applies result ≡ false → self.new ≡ self.old }
+        ensures values { TellsValues C.cmp (wire_of C.SIZE C.spelled C.value
+            C.Signature.SIZE C.Signature.spelled C.Signature.value C.verifies)
+            C.IsValue C.Signature.IsValue frame (as_nanos now) result (node_of self.old) }
+        ensures slots { self.new.slots ≡ self.old.slots }
+    {
+        let alloc = self.server.directory().allocator();
+        match Payload::<C>::decode_cfg(alloc, frame, &self.payload) {
+            Ok(Payload::Data(message)) => Received::Data(message),
+            Ok(Payload::Greeting(info)) => self.greet(info, now),
+            Ok(Payload::BitVec(bits)) => self.reply(&bits, now),
+            Ok(Payload::Peers(infos)) => self.take(infos, now),
+            Err(fault) => refused(fault),
+        }
+    }
+
+    /// The directory, and what is held. Takes no memory.
+    pub fn into_parts(self) -> (Directory<C>, Held<C>)
+        ensures directory { result.0 ≡ self.directory }
+        ensures held { (q : C) →
+            held_of C.cmp result.1 q ≡ held_of C.cmp (contents self.slots) q }
+        ensures agree { AreHeld C.cmp result.0 (held_of C.cmp result.1) }
+    {
+        let Endpoint {
+            server,
+            verifier: _,
+            payload: _,
+        } = self;
+        server.into_parts()
+    }
+
+    // Judges the info of a greeting, and applies it.
+    fn greet(&mut self, info: Info<C>, now: Duration) -> Received
+        ensures unchanged { applies result ≡ false → self.new ≡ self.old }
+        ensures seen { let o = greeted (wire_of C.SIZE C.spelled C.value
+            C.Signature.SIZE C.Signature.spelled C.Signature.value C.verifies) info
+            (refusal (judge_of C.cmp C.verifies self.old.verifier) (as_nanos now) info) in
+            Answers C.cmp (takes_room o.answer) o result (node_of self.old) (node_of self.new) }
+        ensures slots { self.new.slots ≡ self.old.slots }
+    {
+        if let Err(error) = self.verifier.validate_info(now, &info) {
+            return Received::Invalid(error);
+        }
+        match Vec::with_capacity(self.server.directory().allocator(), 1) {
+            Ok(mut infos) => {
+                infos.push_reserved(info);
+                self.server.update(infos);
+                Received::Greeted
+            }
+            Err(AllocError) => Received::Memory,
+        }
+    }
+
+    // Answers bits with the infos for them.
+    fn reply(&self, bits: &BitVec, now: Duration) -> Received
+        requires { length bits.now.bits < 2 ^ 32 }
+        ensures seen { let o = replied (wire_of C.SIZE C.spelled C.value
+            C.Signature.SIZE C.Signature.spelled C.Signature.value C.verifies)
+            (infos_in C.cmp self.now.directory bits.now.index bits.now.bits (as_nanos now)) in
+            Answers C.cmp (takes_room o.answer) o result (node_of self.now) (node_of self.now) }
+        ensures values { AreValues C.IsValue C.Signature.IsValue (told_with
+            (replied (wire_of C.SIZE C.spelled C.value
+            C.Signature.SIZE C.Signature.spelled C.Signature.value C.verifies)
+            (infos_in C.cmp self.now.directory bits.now.index bits.now.bits (as_nanos now)))
+            result) }
+    {
+        match self.reply_frame(bits, now) {
+            Ok(Some(frame)) => Received::Reply(frame),
+            Ok(None) => Received::Malformed,
+            Err(AllocError) => Received::Memory,
+        }
+    }
+
+    // The frame of the infos for bits, or `None` where they are of another number than the peers.
+    fn reply_frame(&self, bits: &BitVec, now: Duration) -> Result<Option<Bytes>, AllocError>
+        requires { length bits.now.bits < 2 ^ 32 }
+        ensures frame { IfOk result (λ frame. frame ≡ option_map
+            (λ infos. payload_spelling C.spelled C.Signature.spelled (Peers infos))
+            (infos_in C.cmp self.now.directory bits.now.index bits.now.bits (as_nanos now))) }
+        ensures spelled { IfOk result (λ _.
+            IfSome (infos_in C.cmp self.now.directory bits.now.index bits.now.bits (as_nanos now))
+            (HaveSpelling C.IsValue C.Signature.IsValue)) }
+        ensures err { OnErr result (is_some
+            (infos_in C.cmp self.now.directory bits.now.index bits.now.bits (as_nanos now))
+            ≡ true) }
+    {
+        let directory = self.server.directory();
+        match directory.infos(bits, now)? {
+            Some(infos) => {
+                let infos = Infos::from_vec(infos);
+                let frame = frame_of::<C>(directory.allocator(), Payload::Peers(infos))?;
+                Ok(Some(frame))
+            }
+            None => Ok(None),
+        }
+    }
+
+    // Judges infos, all of them, and applies them.
+    fn take(&mut self, infos: Infos<C>, now: Duration) -> Received
+        ensures unchanged { applies result ≡ false → self.new ≡ self.old }
+        ensures seen { Answers C.cmp false (taken (wire_of C.SIZE C.spelled C.value
+            C.Signature.SIZE C.Signature.spelled C.Signature.value C.verifies) infos
+            (list_refusal (judge_of C.cmp C.verifies self.old.verifier) (as_nanos now) infos))
+            result (node_of self.old) (node_of self.new) }
+        ensures slots { self.new.slots ≡ self.old.slots }
+    {
+        if let Err(error) = self.verifier.validate(now, infos.as_slice()) {
+            return Received::Invalid(error);
+        }
+        let infos = infos.into_vec();
+        let count = infos.len();
+        self.server.update(infos);
+        Received::Applied(count)
+    }
+}
+
+// The spelling of a payload.
+fn frame_of<C: PublicKey>(alloc: Global, payload: Payload<C>) -> Result<Bytes, AllocError>
+    requires { CanSpell payload }
+    ensures frame { IfOk result (λ frame.
+        frame ≡ payload_spelling C.spelled C.Signature.spelled payload) }
+    ensures value { IfOk result (λ _. IsPayload payload) }
+    ensures keyed { IfOk result (λ _. IsKeyedPayload C.IsValue C.Signature.IsValue payload) }
+{
+    payload.encode(alloc)
+}
+
+// A fault of a frame, or want of memory.
+fn refused(fault: CodecError) -> Received
+    ensures { result ≡ fault_answer fault }
+{
+    match fault {
+        CodecError::Memory => Received::Memory,
+        _ => Received::Codec(fault),
+    }
+}

@@ -1,0 +1,202 @@
+//! An exchange of infos: the asker's bits and the replier's infos are spelled, and read.
+
+ghost use Rattle.std.specs.Prelude.{◌≡◌, ◌<◌, ◌^◌, true, None, Some, List, IfOk, length, nat_lt};
+ghost use Rattle.std.specs.Duration.{as_nanos};
+ghost use Rattle.p2p_discovery.specs.declared.discovery.BitVec.{BitVec};
+ghost use Rattle.p2p_discovery.specs.declared.discovery.Info.{Info};
+ghost use Rattle.p2p_discovery.specs.declared.discovery.Payload.TheVariants as said;
+ghost use Rattle.p2p_discovery.specs.Judgement.{judge_of, list_refusal};
+ghost use Rattle.p2p_discovery.specs.Payload.{IsAdmitted, payload_spelling};
+ghost use Rattle.p2p_directory.specs.Directory.{infos_in};
+ghost use Rattle.p2p_directory.specs.Received.{wire_of};
+ghost use Rattle.p2p_directory.specs.Nodes.{standing_of, IsLeft};
+ghost use Rattle.p2p_directory.specs.Exchange.{asked_at, replied_at, judged_at, IsAnswer};
+ghost use Rattle.p2p_directory.specs.Exchange.{infos_applied, Exchanges};
+ghost use Rattle.p2p_directory.specs.Private.Endpoints.{node_of};
+ghost use Rattle.p2p_directory.specs.Private.Exchanging.{Replies, ask_fault, reply_fault};
+ghost use Rattle.p2p_directory.specs.Private.Frames.{HasSpelling, HaveSpelling, IsReadBack};
+ghost use Rattle.p2p_directory.specs.Private.Frames.{SpellsBits, SpellsInfos};
+
+use crate::node::endpoint::Endpoint;
+use crate::node::exchanged::Exchanged;
+use bytes::Bytes;
+use p2p_discovery::codec::{CodecError, PublicKey, Read};
+use p2p_discovery::discovery::{BitVec, Info, Infos, Payload};
+use std::alloc::{AllocError, Global};
+use std::time::Duration;
+
+impl<C: PublicKey> Endpoint<C> {
+    /// Asks the replier for what is wanted of the set at a place, and applies what it replies.
+    pub fn exchange_with(
+        &mut self,
+        replier: &Endpoint<C>,
+        place: usize,
+        asker_now: Duration,
+        replier_now: Duration,
+    ) -> Exchanged<C>
+        ensures seen { Exchanges C.cmp (wire_of C.SIZE C.spelled C.value
+            C.Signature.SIZE C.Signature.spelled C.Signature.value C.verifies)
+            place (as_nanos asker_now) (as_nanos replier_now) result
+            (node_of self.old) (node_of replier.now) (node_of self.new) }
+        ensures unchanged { infos_applied result ≡ None → self.new ≡ self.old }
+        ensures slots { self.new.slots ≡ self.old.slots }
+    {
+        match self.ask(place) {
+            Ok(Some(frame)) => self.hand_to(replier, frame, asker_now, replier_now),
+            Ok(None) => Exchanged::NoSet,
+            Err(AllocError) => Exchanged::Memory,
+        }
+    }
+
+    // Hands a frame of bits to the replier, and takes what it replies.
+    fn hand_to(
+        &mut self,
+        replier: &Endpoint<C>,
+        frame: Bytes,
+        asker_now: Duration,
+        replier_now: Duration,
+    ) -> Exchanged<C>
+        requires { SpellsBits (payload_spelling C.spelled C.Signature.spelled) frame }
+        ensures answer { (v : BitVec) → HasSpelling v →
+            frame ≡ payload_spelling C.spelled C.Signature.spelled (said.BitVec v) →
+            let wire = wire_of C.SIZE C.spelled C.value
+            C.Signature.SIZE C.Signature.spelled C.Signature.value C.verifies in
+            IsAnswer true (asked_at (standing_of C.cmp wire (node_of self.old))
+            (standing_of C.cmp wire (node_of replier.now))
+            (as_nanos asker_now) (as_nanos replier_now) (Some v)) result }
+        ensures left { IsLeft C.cmp
+            (node_of self.old) (infos_applied result) (node_of self.new) }
+        ensures unchanged { infos_applied result ≡ None → self.new ≡ self.old }
+        ensures slots { self.new.slots ≡ self.old.slots }
+    {
+        match replier.reply_to(frame, replier_now) {
+            Ok(reply) => self.take_reply(reply, asker_now),
+            Err(ended) => ended,
+        }
+    }
+
+    // The replier's part: reads a frame of bits, and replies.
+    fn reply_to(&self, frame: Bytes, now: Duration) -> Result<Bytes, Exchanged<C>>
+        requires { SpellsBits (payload_spelling C.spelled C.Signature.spelled) frame }
+        ensures { (v : BitVec) → HasSpelling v →
+            frame ≡ payload_spelling C.spelled C.Signature.spelled (said.BitVec v) →
+            Replies C.IsValue C.Signature.IsValue (payload_spelling C.spelled C.Signature.spelled)
+            (λ asker asker_now. asked_at asker (standing_of C.cmp (wire_of C.SIZE C.spelled C.value
+            C.Signature.SIZE C.Signature.spelled C.Signature.value C.verifies)
+            (node_of self.now)) asker_now (as_nanos now) (Some v)) result }
+    {
+        match self.read(frame) {
+            Ok(Payload::BitVec(bits)) => self.reply_with(&bits, now),
+            Ok(Payload::Data(_) | Payload::Greeting(_) | Payload::Peers(_)) => unreachable!(),
+            Err(fault) => Err(ask_refused(fault)),
+        }
+    }
+
+    // Replies to bits with a frame of the infos for them.
+    fn reply_with(&self, bits: &BitVec, now: Duration) -> Result<Bytes, Exchanged<C>>
+        requires { length bits.now.bits < 2 ^ 32 }
+        ensures { Replies C.IsValue C.Signature.IsValue
+            (payload_spelling C.spelled C.Signature.spelled)
+            (λ asker asker_now. replied_at asker asker_now
+            (infos_in C.cmp self.now.directory bits.now.index bits.now.bits (as_nanos now)))
+            result }
+    {
+        match self.reply_frame(bits, now) {
+            Ok(Some(reply)) => Ok(reply),
+            Ok(None) => Err(Exchanged::Malformed),
+            Err(AllocError) => Err(Exchanged::Memory),
+        }
+    }
+
+    // The asker's part: reads a frame of infos, and takes them.
+    fn take_reply(&mut self, reply: Bytes, now: Duration) -> Exchanged<C>
+        requires { SpellsInfos C.IsValue C.Signature.IsValue
+            (payload_spelling C.spelled C.Signature.spelled) reply }
+        ensures answer { (infos : List (Info C C.Signature)) →
+            HaveSpelling C.IsValue C.Signature.IsValue infos →
+            reply ≡ payload_spelling C.spelled C.Signature.spelled (said.Peers infos) →
+            IsAnswer true (replied_at (standing_of C.cmp (wire_of C.SIZE C.spelled C.value
+            C.Signature.SIZE C.Signature.spelled C.Signature.value C.verifies)
+            (node_of self.old)) (as_nanos now) (Some infos)) result }
+        ensures left { IsLeft C.cmp
+            (node_of self.old) (infos_applied result) (node_of self.new) }
+        ensures unchanged { infos_applied result ≡ None → self.new ≡ self.old }
+        ensures slots { self.new.slots ≡ self.old.slots }
+    {
+        match self.read(reply) {
+            Ok(Payload::Peers(infos)) => self.take_infos(infos, now),
+            Ok(Payload::Data(_) | Payload::Greeting(_) | Payload::BitVec(_)) => unreachable!(),
+            Err(fault) => reply_refused(fault),
+        }
+    }
+
+    // Judges infos, all of them, and applies them. A copy of them is told.
+    fn take_infos(&mut self, infos: Infos<C>, now: Duration) -> Exchanged<C>
+        ensures answer { IsAnswer true (judged_at infos (list_refusal
+            (judge_of C.cmp C.verifies self.old.verifier) (as_nanos now) infos)) result }
+        ensures left { IsLeft C.cmp
+            (node_of self.old) (infos_applied result) (node_of self.new) }
+        ensures unchanged { infos_applied result ≡ None → self.new ≡ self.old }
+        ensures slots { self.new.slots ≡ self.old.slots }
+    {
+        if let Err(error) = self.verifier.validate(now, infos.as_slice()) {
+            return Exchanged::Invalid(error);
+        }
+        match copied(self.server.directory().allocator(), infos.as_slice()) {
+            Ok(copy) => {
+                self.server.update(infos.into_vec());
+                Exchanged::Applied(copy)
+            }
+            Err(AllocError) => Exchanged::Memory,
+        }
+    }
+
+    // Reads a frame under the limits.
+    fn read(&self, frame: Bytes) -> Result<Payload<C>, CodecError>
+        ensures bits { (v : BitVec) → HasSpelling v →
+            frame ≡ payload_spelling C.spelled C.Signature.spelled (said.BitVec v) →
+            IsReadBack (nat_lt self.now.limits.max_bit_vec (length v.bits)) (length v.bits)
+            (said.BitVec v) result }
+        ensures infos { (infos : List (Info C C.Signature)) →
+            HaveSpelling C.IsValue C.Signature.IsValue infos →
+            frame ≡ payload_spelling C.spelled C.Signature.spelled (said.Peers infos) →
+            IsReadBack (nat_lt self.now.limits.max_peers (length infos)) (length infos)
+            (said.Peers infos) result }
+        ensures admitted { IfOk result (λ payload.
+            IsAdmitted C.IsValue C.Signature.IsValue self.now.limits payload) }
+        ensures limit { self.now.limits.max_bit_vec < 2 ^ 32 }
+    {
+        Payload::<C>::decode_cfg(self.server.directory().allocator(), frame, &self.payload)
+    }
+}
+
+// Equal infos, in their order.
+fn copied<C: PublicKey>(alloc: Global, infos: &[Info<C>]) -> Result<Vec<Info<C>>, AllocError>
+    ensures { IfOk result (λ copy. copy.items ≡ infos.now) }
+{
+    let mut copy = Vec::with_capacity(alloc, infos.len())?;
+    for info in infos {
+        copy.push_reserved(info.clone()?);
+    }
+    Ok(copy)
+}
+
+// The bits cannot be read, or memory was refused.
+fn ask_refused<C: PublicKey>(fault: CodecError) -> Exchanged<C>
+    ensures { result ≡ ask_fault fault }
+{
+    match fault {
+        CodecError::Memory => Exchanged::Memory,
+        _ => Exchanged::AskRefused(fault),
+    }
+}
+
+// The infos cannot be read, or memory was refused.
+fn reply_refused<C: PublicKey>(fault: CodecError) -> Exchanged<C>
+    ensures { result ≡ reply_fault fault }
+{
+    match fault {
+        CodecError::Memory => Exchanged::Memory,
+        _ => Exchanged::ReplyRefused(fault),
+    }
+}

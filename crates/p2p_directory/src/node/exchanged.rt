@@ -1,0 +1,80 @@
+//! An exchange of infos between two nodes.
+
+ghost use Rattle.std.specs.Prelude.{◌≡◌, None};
+ghost use Rattle.std.specs.Duration.{as_nanos};
+ghost use Rattle.p2p_directory.specs.Received.{wire_of};
+ghost use Rattle.p2p_directory.specs.Exchange.{Exchanges, IsExchanged, infos_applied};
+
+use crate::node::Node;
+use p2p_discovery::codec::{CodecError, PublicKey};
+use p2p_discovery::discovery::{Error, Info};
+use std::time::Duration;
+
+/// What an exchange comes to.
+#[derive(Drop)]
+pub enum Exchanged<C: PublicKey> {
+    /// The asker retains no set at the place. Nothing has changed.
+    NoSet,
+    /// The replier's limits do not admit the asker's bits: its first fault. Nothing has changed.
+    AskRefused(CodecError),
+    /// The replier has another number of primary peers at the index. Nothing has changed.
+    Malformed,
+    /// The asker's limits do not admit the reply: its first fault. Nothing has changed.
+    ReplyRefused(CodecError),
+    /// The asker refuses an info of the reply, or their number. Nothing has changed.
+    Invalid(Error),
+    /// Memory was refused. Nothing has changed.
+    Memory,
+    /// All infos of the reply were applied: these, in their order.
+    Applied(Vec<Info<C>>),
+}
+
+/// The asker asks the replier for what is wanted of the asker's retained set at a place, counted
+/// from 0 in order of index, and applies what is replied: as [`Node::ask`] of the asker,
+/// [`Node::receive`] of that frame by the replier, and of its reply by the asker. The replier
+/// replies at `replier_now`, the asker judges at `asker_now`, times since the epoch. The replier
+/// stays as it was.
+///
+/// It comes to the first of these that holds, unless memory is refused:
+///
+/// - `NoSet`: there is no such place. No memory is taken.
+/// - `AskRefused`: the replier's limits do not admit the bits, one for each primary peer of the
+///   set. The fault is `InvalidLength` of their number.
+/// - `Malformed`: the replier retains a set of the index, with another number of primary peers.
+/// - `ReplyRefused`: the asker's limits do not admit the infos that
+///   [`infos`](crate::directory::Directory::infos) of the replier gives for the bits. The fault is
+///   `InvalidLength` of their number.
+/// - `Invalid`: the asker refuses the infos, by
+///   [`validate`](p2p_discovery::discovery::InfoVerifier::validate), for the first reason.
+/// - `Applied`: the asker applied the infos, also where there are none, by
+///   [`update_peers`](crate::directory::Directory::update_peers).
+///
+/// # Errors
+///
+/// `Memory` where memory is refused; that is, where there is such a place. All but `Applied` leave
+/// the asker as it was.
+///
+/// # Cost
+///
+/// That of [`Node::ask`] and of [`Node::receive`] of each frame, and a copy of the infos.
+pub fn exchange<C: PublicKey>(
+    asker: &mut Node<C>,
+    replier: &Node<C>,
+    place: usize,
+    asker_now: Duration,
+    replier_now: Duration,
+) -> Exchanged<C>
+    ensures seen { Exchanges C.cmp (wire_of C.SIZE C.spelled C.value
+        C.Signature.SIZE C.Signature.spelled C.Signature.value C.verifies)
+        place (as_nanos asker_now) (as_nanos replier_now) result
+        asker.old replier.now asker.new }
+    ensures unchanged { infos_applied result ≡ None → asker.new ≡ asker.old }
+    ensures exchanged { IsExchanged C.cmp (wire_of C.SIZE C.spelled C.value
+        C.Signature.SIZE C.Signature.spelled C.Signature.value C.verifies)
+        place (as_nanos asker_now) (as_nanos replier_now) result
+        asker.old replier.now asker.new }
+{
+    asker
+        .endpoint
+        .exchange_with(&replier.endpoint, place, asker_now, replier_now)
+}
