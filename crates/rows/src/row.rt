@@ -13,6 +13,7 @@ mod directory;
 mod frames;
 mod judged;
 mod lines;
+mod pair;
 mod setting;
 mod sizes;
 
@@ -103,6 +104,7 @@ pub fn run_rows<W: Write>(alloc: Global, words: &[String], out: &mut W) -> u8
         "13" => directory::dialling::failed_dials(alloc, out),
         "14" => directory::dialling::newest_info(alloc, out),
         "15" => directory::gossip::infos_for_bits(alloc, out),
+        "16" => pair::exchanges(alloc, out),
         "17" => sizes::gossip_sizes(out),
         "18" => directory::peer_sets::greatest_index(alloc, out),
         "19" => directory::peer_sets::roles(alloc, out),

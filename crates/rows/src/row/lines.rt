@@ -1,6 +1,7 @@
 //! The printed forms of values.
 
 use p2p_directory::directory::{PeerSetUpdate, TrackedPeers};
+use p2p_directory::node::{Exchanged, PairReply, Received};
 use p2p_directory::record::Dialable;
 use p2p_directory::run::Reply;
 use p2p_discovery::codec::TestKey;
@@ -201,6 +202,48 @@ impl fmt::Display for Line<'_, Reply<TestKey>> {
             Reply::NotReserved => f.write_str("NotReserved"),
             Reply::NotHeld => f.write_str("NotHeld"),
             Reply::OutOfMemory => f.write_str("OutOfMemory"),
+        }
+    }
+}
+
+impl fmt::Display for Line<'_, Received> {
+    fn fmt<W: fmt::Write>(&self, f: &mut fmt::Formatter<W>) -> fmt::Result {
+        match self.0 {
+            Received::Data(data) => write!(f, "{}", Line(data)),
+            Received::Greeted => f.write_str("Greeted"),
+            Received::Reply(frame) => write!(f, "Reply({})", Hex(frame.as_slice())),
+            Received::Applied(count) => write!(f, "Applied({count})"),
+            Received::Codec(fault) => write!(f, "Codec({fault:?})"),
+            Received::Malformed => f.write_str("Malformed"),
+            Received::Invalid(error) => write!(f, "Invalid({error:?})"),
+            Received::Memory => f.write_str("Memory"),
+        }
+    }
+}
+
+impl fmt::Display for Line<'_, Exchanged<TestKey>> {
+    fn fmt<W: fmt::Write>(&self, f: &mut fmt::Formatter<W>) -> fmt::Result {
+        match self.0 {
+            Exchanged::NoSet => f.write_str("NoSet"),
+            Exchanged::AskRefused(fault) => write!(f, "AskRefused({fault:?})"),
+            Exchanged::Malformed => f.write_str("Malformed"),
+            Exchanged::ReplyRefused(fault) => write!(f, "ReplyRefused({fault:?})"),
+            Exchanged::Invalid(error) => write!(f, "Invalid({error:?})"),
+            Exchanged::Memory => f.write_str("Memory"),
+            Exchanged::Applied(infos) => write!(f, "Applied({})", Infos(infos.as_slice())),
+        }
+    }
+}
+
+impl fmt::Display for Line<'_, PairReply<TestKey>> {
+    fn fmt<W: fmt::Write>(&self, f: &mut fmt::Formatter<W>) -> fmt::Result {
+        match self.0 {
+            PairReply::Call(reply) => write!(f, "{}", Line(reply)),
+            PairReply::Ask(Some(frame)) => write!(f, "{}", Hex(frame.as_slice())),
+            PairReply::Ask(None) => f.write_str("None"),
+            PairReply::Frame(received) => write!(f, "{}", Line(received)),
+            PairReply::Exchange(exchanged) => write!(f, "{}", Line(exchanged)),
+            PairReply::OutOfMemory => f.write_str("OutOfMemory"),
         }
     }
 }

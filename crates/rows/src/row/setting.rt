@@ -18,8 +18,13 @@ pub const NAMESPACE: &[u8] = b"rows";
 
 /// The info of the local node: key 9 at 8.8.8.8:9000, with timestamp 0.
 pub fn own_info() -> Info<TestKey> {
-    let ingress = Ingress::Socket(SocketAddr::new(IpAddr::V4([8, 8, 8, 8]), 9000));
-    signed(TestKey(9), NAMESPACE, ingress, 0)
+    own_info_of(9, [8, 8, 8, 8])
+}
+
+/// The own info of a node with this key, at this address and port 9000, with timestamp 0.
+pub fn own_info_of(key: u64, address: [u8; 4]) -> Info<TestKey> {
+    let ingress = Ingress::Socket(SocketAddr::new(IpAddr::V4(address), 9000));
+    signed(TestKey(key), NAMESPACE, ingress, 0)
 }
 
 /// The info of a peer at 1.2.3.4, with its number past 8000 as the port, signed in a namespace.
@@ -61,7 +66,8 @@ impl At {
     /// The last moment: the greatest `Duration`.
     pub const LAST: At = At(u64::MAX, 999_999_999);
 
-    fn moment(self) -> Duration {
+    /// The moment, or the length.
+    pub fn moment(self) -> Duration {
         let At(seconds, nanoseconds) = self;
         Duration::from_secs(seconds).saturating_add(Duration::from_nanos(u64::from(nanoseconds)))
     }

@@ -29,7 +29,7 @@ impl Write for Short {
 }
 
 /// The rows that there are: the word that names each, and the lines that it prints.
-pub(crate) static ROWS: [(&'static str, &'static str); 22] = [
+pub(crate) static ROWS: [(&'static str, &'static str); 23] = [
     (
         "1",
         "b9600d48656c6c6f2c20776f726c6421\nData(12345, 48656c6c6f2c20776f726c6421)\n\
@@ -83,6 +83,13 @@ pub(crate) static ROWS: [(&'static str, &'static str); 22] = [
         "Some([])\nNone\n\
          Some([Info(1, 100000, 1.2.3.4:8001), Info(9, 0, 8.8.8.8:9000)])\nSome([])\n\
          Some([Info(2, 100001, 1.2.3.4:8002)])\n",
+    ),
+    (
+        "16",
+        "02000200\nInvalid(SynchronyBound)\nInvalid(SynchronyBound)\nBitVec(0, 00)\n\
+         Applied([Info(1, 100000, 1.2.3.4:8001)])\nBitVec(0, 10)\nApplied([])\n\
+         Invalid(ReceivedSelf)\nMalformed\nAskRefused(InvalidLength(2))\nNoSet\n\
+         Applied([])\nReplyRefused(InvalidLength(1))\n",
     ),
     ("17", "9190\n12514\n287\n"),
     (
@@ -148,7 +155,7 @@ fn refuses_other_words(rt: HostRuntime) -> Result<(), Fail> {
         &["6", "6"],
         &["0"],
         &["24"],
-        &["16"],
+        &["016"],
         &[""],
         &["rows"],
     ];

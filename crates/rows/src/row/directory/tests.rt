@@ -230,3 +230,54 @@ fn without_a_set_there_is_none_to_tell_of(rt: HostRuntime) -> Result<(), Fail> {
         lines,
     )
 }
+
+// .. with one retained set, after what is prepared.
+fn assert_lines_after(
+    rt: &impl Abort,
+    alloc: Global,
+    prepared: &[Step],
+    steps: &[Step],
+    lines: &str,
+) -> Result<(), Fail> {
+    let mut out: Vec<u8> = Vec::new(alloc);
+    let ended = print_replies(alloc, config(), prepared, steps, &mut out);
+    assert!(rt; ended.is_ok());
+    assert_eq!(rt; out.as_slice(), lines.as_bytes());
+    Ok(())
+}
+
+static MOMENTS_THAT_GO_BACK: [Step; 11] = [
+    Step::Track(0, &[1]),
+    Step::Listen(1, At(100, 0)),
+    Step::Release(1),
+    Step::Listen(1, At(50, 0)),
+    Step::Block(1, At(100, 0)),
+    Step::Eligible(1, At(200, 0)),
+    Step::Eligible(1, At(100, 0)),
+    Step::Block(1, At(50, 0)),
+    Step::UnblockExpired(At(159, 999_999_999)),
+    Step::UnblockExpired(At(160, 0)),
+    Step::Eligible(1, At(100, 0)),
+];
+
+#[test]
+fn moments_may_go_back(rt: HostRuntime) -> Result<(), Fail> {
+    let lines = "Some([])\ngranted\ndone\nrefused\ntrue\ntrue\nfalse\nfalse\nfalse\ntrue\ntrue\n";
+    assert_lines_after(&rt, rt.alloc(), &[], &MOMENTS_THAT_GO_BACK, lines)
+}
+
+static ONE_PEER: [Step; 1] = [Step::Track(0, &[1])];
+
+static THE_LAST_MOMENT: [Step; 5] = [
+    Step::Block(1, At(u64::MAX, 999_999_999)),
+    Step::Eligible(1, At(u64::MAX, 999_999_999)),
+    Step::Eligible(1, At(100, 0)),
+    Step::NextUnblock,
+    Step::UnblockExpired(At(u64::MAX, 999_999_999)),
+];
+
+#[test]
+fn a_block_ends_at_the_last_moment(rt: HostRuntime) -> Result<(), Fail> {
+    let lines = "true\ntrue\nfalse\nSome(18446744073709551615.999999999)\ntrue\n";
+    assert_lines_after(&rt, rt.alloc(), &ONE_PEER, &THE_LAST_MOMENT, lines)
+}
