@@ -1,6 +1,7 @@
 //! Tests of directories, runs and nodes by their public calls.
 //!
-//! They stand apart from the library so that it is proved once, and its must-fail edits wait for no test.
+//! They stand apart from the library so that it is proved once, and its must-fail edits wait for
+//! no test.
 #![tactic(auto)]
 
 #[cfg(test)]
@@ -9,6 +10,8 @@ mod calls;
 mod directory;
 #[cfg(test)]
 mod node;
+#[cfg(test)]
+mod pair;
 #[cfg(test)]
 mod record;
 #[cfg(test)]

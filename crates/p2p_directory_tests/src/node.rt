@@ -14,7 +14,8 @@ use std::process::Abort;
 use std::test::Fail;
 use std::time::Duration;
 
-mod memory;
+pub(crate) mod memory;
+mod steps;
 
 const ROWS: &[u8] = b"rows";
 

@@ -22,6 +22,7 @@ use std::time::Duration;
 mod dialling;
 pub(crate) mod given;
 mod infos;
+mod laws;
 pub(crate) mod told;
 
 fn track(alloc: Global, index: u64, primary: &[u64]) -> Result<Command<TestKey>, AllocError> {

@@ -1,6 +1,7 @@
 //! Tests of codecs, addresses, sets, infos and sizes by their public calls.
 //!
-//! They stand apart from the library so that it is proved once, and its must-fail edits wait for no test.
+//! They stand apart from the library so that it is proved once, and its must-fail edits wait for
+//! no test.
 #![tactic(auto)]
 
 #[cfg(test)]

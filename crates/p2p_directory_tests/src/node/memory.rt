@@ -29,18 +29,18 @@ fn hundred() -> Duration {
 
 // What was done at each budget: how often memory was refused, and how often it sufficed.
 #[derive(Clone, Copy)]
-struct Tally {
+pub(crate) struct Tally {
     refused: usize,
     done: usize,
 }
 
 impl Tally {
-    const EMPTY: Tally = Tally {
+    pub(crate) const EMPTY: Tally = Tally {
         refused: 0,
         done: 0,
     };
 
-    fn count(&mut self, refused: bool) {
+    pub(crate) fn count(&mut self, refused: bool) {
         if refused {
             self.refused = self.refused.saturating_add(1);
         } else {
@@ -49,7 +49,7 @@ impl Tally {
     }
 
     // Memory was refused at some budget, and sufficed at another.
-    fn is_mixed(&self, rt: &impl Abort) {
+    pub(crate) fn assert_mixed(&self, rt: &impl Abort) {
         assert!(rt; self.refused > 0, "nothing was refused");
         assert!(rt; self.done > 0, "each call was refused");
     }
@@ -118,7 +118,7 @@ fn is_refused_somewhere(
     frame: Bytes,
     told: Told,
 ) -> Result<(), Fail> {
-    receives_at_each_budget(rt, alloc, memory, &frame, told)?.is_mixed(rt);
+    receives_at_each_budget(rt, alloc, memory, &frame, told)?.assert_mixed(rt);
     Ok(())
 }
 
@@ -208,9 +208,9 @@ fn a_node_is_refused_memory(rt: HostRuntime) -> Result<(), Fail> {
         asked.count(refused.0);
         listened.count(refused.1);
     }
-    made.is_mixed(&rt);
-    asked.is_mixed(&rt);
-    listened.is_mixed(&rt);
+    made.assert_mixed(&rt);
+    asked.assert_mixed(&rt);
+    listened.assert_mixed(&rt);
     Ok(())
 }
 
@@ -319,7 +319,7 @@ fn infos_are_refused_memory(rt: HostRuntime) -> Result<(), Fail> {
         told.count(refused.0);
         replied.count(refused.1);
     }
-    told.is_mixed(&rt);
-    replied.is_mixed(&rt);
+    told.assert_mixed(&rt);
+    replied.assert_mixed(&rt);
     Ok(())
 }

@@ -46,6 +46,7 @@ pub enum Told {
     Tracked(usize),
     NotReserved,
     NotHeld,
+    OutOfMemory,
 }
 
 impl Told {
@@ -71,6 +72,7 @@ impl Told {
             (Told::Tracked(told), Reply::Tracked(count)) => told == *count,
             (Told::NotReserved, Reply::NotReserved) => true,
             (Told::NotHeld, Reply::NotHeld) => true,
+            (Told::OutOfMemory, Reply::OutOfMemory) => true,
             (told, reply) => told.is_of_sets(reply),
         }
     }
