@@ -342,6 +342,3 @@ fn refresh_at<C: PublicKey>(
         None => 0,
     }
 }
-
-#[cfg(test)]
-mod tests;

@@ -148,6 +148,3 @@ fn ends_before<C: PublicKey>(moment: Duration, other: &Option<(C, Duration)>) ->
         None => true,
     }
 }
-
-#[cfg(test)]
-mod tests;
