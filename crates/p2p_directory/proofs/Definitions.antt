@@ -8,5 +8,9 @@ pub mod Keys
 pub mod Listed
 pub mod Members
 pub mod Setting
+pub mod Probes
+mod Frames
+mod Premises
+mod Late
 mod Examples
 mod Corners

@@ -15,7 +15,10 @@ use Rattle.p2p_directory.specs.declared.run.commands.Reply.{Reply}
 use Rattle.p2p_directory.specs.declared.run.commands.Reply.TheVariants as reply
 use Rattle.p2p_directory.specs.declared.directory.PeerSetUpdate.{PeerSetUpdate}
 use Rattle.p2p_directory.specs.declared.directory.Metadata.{Metadata}
-use Rattle.p2p_directory.specs.Calls.{Setup, SetAt, Question, Call, Event}
+use Rattle.p2p_discovery.specs.Ingress.{takes_none}
+use Rattle.p2p_directory.specs.Calls.{Setup, SetAt, Question, Call, Direction, Event}
+use Rattle.p2p_directory.specs.Calls.Direction.{Listener, Dialer}
+use Rattle.p2p_directory.specs.Calls.Event.{Granted}
 use Rattle.p2p_directory.specs.Calls.Question.{StatusOf, NumberTracked, NextUnblock, BlockedAt}
 use Rattle.p2p_directory.specs.Calls.Question.{PeerSet, LatestIndex, AllPeers, LatestUpdate}
 use Rattle.p2p_directory.specs.Calls.Question.{InfoOf, InfosFor, BitsAt, IsEligible, IsAcceptable}
@@ -90,6 +93,16 @@ bit_vec_of (index, bits) = record { index = index; bits = bits }
 abbrev pub update_in : {C S : Type 0} → PeerSetUpdate C S → SetAt C × List C × List C
 update_in update = (set_in update, update.all.primary, update.all.secondary)
 
+-- a dial at a name
+abbrev pub is_name_dial : Direction → Bool
+is_name_dial Listener = false
+is_name_dial (Dialer a) = not (takes_none a)
+
+-- .. that was granted
+abbrev pub dials_name : {C S : Type 0} → Event C S → Bool
+dials_name (Granted p grant) = is_name_dial grant.direction
+dials_name _ = false
+
 module _ {C S : Type 0} (s : Setup C S) where
   -- the bits of the set at a place in the world w, with its index, if there is one
   abbrev pub bit_vec_in : World C S → ℕ → Option BitVec
@@ -143,7 +156,7 @@ module _ {C S : Type 0} (s : Setup C S) where
       IsSomeAnd (set_with_index s w index) (λ x. has_peers x ≡ true)
   MayWantToTell w LatestUpdate = Somebody (λ p. is_named s p w.sets)
   MayWantToTell w AllPeers = Somebody (λ p. is_named s p w.sets)
-  MayWantToTell w (InfoOf p) = is_some (sharable_info s w p) ≡ true
+  MayWantToTell w (InfoOf p) = IsSomeAnd (sharable_info s w p) (λ i. takes_none i.ingress ≡ false)
   MayWantToTell w (InfosFor index bits t) =
       IsSomeAnd (infos_for s w index bits t) (λ infos. 0 < length infos)
   MayWantToTell w (BitsAt place) = is_some (set_at_place s w place) ≡ true
@@ -154,7 +167,7 @@ module _ {C S : Type 0} (s : Setup C S) where
   -- question, and no other
   abbrev pub MayWantMemory : Event C S → World C S → Call C S → Type 0
   MayWantMemory e w (Track index primary secondary) = was_taken e ≡ true
-  MayWantMemory e w (Dial p t draw) = was_granted e ≡ true
+  MayWantMemory e w (Dial p t draw) = dials_name e ≡ true
   MayWantMemory e w (Block p t) = was_blocked e ≡ true
   MayWantMemory e w (Ask question) = MayWantToTell w question
   MayWantMemory e w _ = ⊥

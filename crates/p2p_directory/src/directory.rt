@@ -175,8 +175,9 @@ impl<C: PublicKey> Directory<C> {
     ghost use Rattle.p2p_directory.specs.Blocks.{IsAnyUntil};
     ghost use Rattle.p2p_directory.specs.Laws.Dials.{IsBefore};
     ghost use Rattle.p2p_directory.specs.Moments.{cap};
-    ghost use Rattle.p2p_directory.specs.Record.{is_eligible, is_acceptable};
-    ghost use Rattle.p2p_directory.specs.PeerSets.{has_peers, set_with};
+    ghost use Rattle.p2p_directory.specs.Record.{is_eligible, is_acceptable, is_deletable};
+    ghost use Rattle.p2p_directory.specs.declared.record.Role.TheVariants as Role;
+    ghost use Rattle.p2p_directory.specs.PeerSets.{has_peers, set_with, set_count};
 
     /// A directory that retains no set and blocks nobody. Its records are the own one and those of
     /// the bootstrappers: a later bootstrapper of the same key replaces an earlier one, and the own
@@ -732,6 +733,20 @@ impl<C: PublicKey> Directory<C> {
     {
         self.records
             .dialable(self.sets.allocator(), &self.blocks, now, &self.config)
+    }
+
+    /// What holds between calls: a record counts the retained sets that have its peer, a peer that
+    /// some set has is one with a record, and no record is kept that may go. Does nothing.
+    pub fn agrees(&self)
+        ensures counts { (q : C) → IfSome (record_of C.cmp self.now q) (λ r.
+            (r.primary_sets ≡ set_count C.cmp Role.Primary q self.now.sets)
+            × (r.secondary_sets ≡ set_count C.cmp Role.Secondary q self.now.sets)) }
+        ensures named { (q : C) → is_named_of C.cmp self.now q ≡ true →
+            is_some (record_of C.cmp self.now q) ≡ true }
+        ensures kept { (q : C) → IfSome (record_of C.cmp self.now q) (λ r.
+            is_deletable r ≡ false) }
+    {
+        let _count = self.records.len();
     }
 
     // The allocator of its collections.

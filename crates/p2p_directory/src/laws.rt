@@ -24,7 +24,7 @@ ghost use Rattle.p2p_directory.specs.Laws.Grants.{KeepsCooldown, NeverGoBack, Ke
 ghost use Rattle.p2p_directory.specs.Laws.Dials.{AreChosen, AreDialled, IsBefore};
 ghost use Rattle.p2p_directory.specs.declared.run.commands.Reply.{Reply};
 ghost use Rattle.p2p_directory.specs.Run.{AreAnswers};
-ghost use Rattle.p2p_directory.specs.Laws.GrantRuns.{KeepCooldown, GoForward, KeepBlocks};
+ghost use Rattle.p2p_directory.specs.Laws.GrantRuns.{KeepCooldown, KeepBlocks};
 ghost use Rattle.p2p_directory.specs.Laws.DialRuns.{KeepDialable};
 ghost use Rattle.p2p_directory.specs.Laws.IsolationRuns.{KeepAlone};
 ghost use Rattle.p2p_directory.specs.Laws.OrderRuns.{KeepOrder};
@@ -118,6 +118,10 @@ pub fn order_is_free<C: PublicKey>()
     ensures later { (s : Setup C C.Signature) → 1 ≤ s.max_sets →
         (es cs ds : List (Call C C.Signature)) → world_at s (past s cs) ≡ world_at s (past s ds) →
         world_at s (past s (es ++ cs)) ≡ world_at s (past s (es ++ ds)) }
+    ensures effects { (s : Setup C C.Signature) → s.cmp ≡ C.cmp →
+        (old new : DirectoryView C C.Signature) (xs ys : List (Info C C.Signature)) →
+        HaveSame xs ys → IsUnambiguous s xs →
+        Updates C.cmp old new xs → Updates C.cmp old new ys }
 {}
 
 /// Where each set that was taken names at most n distinct peers, the present keys are at most n for
@@ -188,7 +192,7 @@ pub fn grants_of_a_run<C: PublicKey>()
         AreAnswers s [] cs rs → KeepCooldown s p [] [] cs rs }
     ensures blocked { (s : Setup C C.Signature) → s.cmp ≡ C.cmp →
         (p : C) (cs : List (Call C C.Signature)) (rs : List (Reply C C.Signature)) →
-        GoForward s 0 cs → AreAnswers s [] cs rs → KeepBlocks s p [] cs rs }
+        AreAnswers s [] cs rs → KeepBlocks s p 0 [] cs rs }
 {}
 
 /// Dials by the replies to a run. After each reply to `dialable`, as long as the commands are dials

@@ -11,7 +11,7 @@ ghost use Rattle.p2p_directory.specs.Nodes.{may_reserve};
 ghost use Rattle.p2p_directory.specs.Refinement.{Refines};
 ghost use Rattle.p2p_directory.specs.Run.{setup_of, call_of, calls_of, world_left, AreAnswers};
 ghost use Rattle.p2p_directory.specs.Run.{bit_vec_in, Holds};
-ghost use Rattle.p2p_directory.specs.Laws.GrantRuns.{KeepCooldown, GoForward, KeepBlocks};
+ghost use Rattle.p2p_directory.specs.Laws.GrantRuns.{KeepCooldown, KeepBlocks};
 ghost use Rattle.p2p_directory.specs.Laws.DialRuns.{KeepDialable};
 ghost use Rattle.p2p_directory.specs.Laws.IsolationRuns.{KeepAlone};
 ghost use Rattle.p2p_directory.specs.Laws.OrderRuns.{KeepOrder};
@@ -110,8 +110,7 @@ pub fn run<C: PublicKey>(
     ensures cooldown { IfOk result (λ run. let s = setup_of C.cmp bootstrappers.items myself cfg in
         (p : C) → KeepCooldown s p [] [] (calls_of commands.items) run.replies.items) }
     ensures blocks { IfOk result (λ run. let s = setup_of C.cmp bootstrappers.items myself cfg in
-        GoForward s 0 (calls_of commands.items) →
-        (p : C) → KeepBlocks s p [] (calls_of commands.items) run.replies.items) }
+        (p : C) → KeepBlocks s p 0 [] (calls_of commands.items) run.replies.items) }
     ensures dials { IfOk result (λ run. let s = setup_of C.cmp bootstrappers.items myself cfg in
         KeepDialable s (calls_of commands.items) run.replies.items) }
     ensures isolation { IfOk result (λ run. let s = setup_of C.cmp bootstrappers.items myself cfg in

@@ -9,7 +9,7 @@ use Rattle.p2p_directory.specs.declared.record.Dialable.{Dialable}
 use Rattle.p2p_directory.specs.declared.run.commands.Reply.{Reply}
 use Rattle.p2p_directory.specs.declared.run.commands.Reply.TheVariants as reply
 use Rattle.p2p_directory.specs.Run.{AreAnswers}
-use Rattle.p2p_directory.specs.Laws.GrantRuns.{KeepCooldown, GoForward, KeepBlocks}
+use Rattle.p2p_directory.specs.Laws.GrantRuns.{KeepCooldown, KeepBlocks}
 use Rattle.p2p_directory.specs.Laws.Dials.{IsBefore}
 use Rattle.p2p_directory.specs.Laws.DialRuns.{next_query, AreGrantedAt, KeepDialable}
 use Rattle.p2p_directory.proofs.Definitions.Setting.{sec, setup, track, listen, dial}
@@ -51,21 +51,21 @@ granted_as_new = (tt, (tt, (tt, (tt, (tt, (tt, tt))))))
 
 -- BLOCKS, of 60 s
 
-granted_while_blocked : KeepBlocks setup 1 [] (Block 1 (sec 100) ∷ listen 1 159 ∷ []) (reply.Block true ∷ reply.Listen true ∷ []) → ⊥
-granted_while_blocked kept = absurd (omega (arith, kept.1.0.0))
+granted_while_blocked : KeepBlocks setup 1 0 [] (Block 1 (sec 100) ∷ listen 1 159 ∷ []) (reply.Block true ∷ reply.Listen true ∷ []) → ⊥
+granted_while_blocked kept = absurd (omega (arith, ((kept (omega arith)).1 (omega arith)).0.0))
 
-dialled_while_blocked : KeepBlocks setup 1 [] (Block 1 (sec 100) ∷ dial 1 159 ∷ []) (reply.Block true ∷ reply.Dial true ∷ []) → ⊥
-dialled_while_blocked kept = absurd (omega (arith, kept.1.0.0))
+dialled_while_blocked : KeepBlocks setup 1 0 [] (Block 1 (sec 100) ∷ dial 1 159 ∷ []) (reply.Block true ∷ reply.Dial true ∷ []) → ⊥
+dialled_while_blocked kept = absurd (omega (arith, ((kept (omega arith)).1 (omega arith)).0.0))
 
-granted_at_the_end : KeepBlocks setup 1 [] (Block 1 (sec 100) ∷ listen 1 160 ∷ []) (reply.Block true ∷ reply.Listen true ∷ [])
-granted_at_the_end = (tt, ((omega arith, tt), tt))
+granted_at_the_end : KeepBlocks setup 1 0 [] (Block 1 (sec 100) ∷ listen 1 160 ∷ []) (reply.Block true ∷ reply.Listen true ∷ [])
+granted_at_the_end = λ from. (tt, λ on. ((omega arith, tt), tt))
 
-granted_where_not_taken : KeepBlocks setup 1 [] (Block 1 (sec 100) ∷ listen 1 159 ∷ []) (reply.Block false ∷ reply.Listen true ∷ [])
-granted_where_not_taken = (tt, (tt, tt))
+granted_where_not_taken : KeepBlocks setup 1 0 [] (Block 1 (sec 100) ∷ listen 1 159 ∷ []) (reply.Block false ∷ reply.Listen true ∷ [])
+granted_where_not_taken = λ from. (tt, λ on. (tt, tt))
 
 -- moments go back: of such a run the law says nothing
-goes_back : GoForward setup 0 (UnblockExpired (sec 1000) ∷ listen 1 120 ∷ []) → ⊥
-goes_back forward = absurd (omega (arith, forward.1.0))
+goes_back : KeepBlocks setup 1 0 [] (Block 1 (sec 100) ∷ UnblockExpired (sec 1000) ∷ listen 1 120 ∷ []) (reply.Block true ∷ reply.UnblockExpired true ∷ reply.Listen true ∷ [])
+goes_back = λ from. (tt, λ on. (tt, λ back. absurd (omega (arith, back))))
 
 -- DIALS of those whom an answer lists
 

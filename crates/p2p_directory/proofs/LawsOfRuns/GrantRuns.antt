@@ -17,7 +17,7 @@ use Rattle.p2p_directory.specs.Laws.Grants.{grants_in, AreCooled, IsCooledAt, or
 use Rattle.p2p_directory.specs.Run
 use Rattle.p2p_directory.specs.declared.run.commands.Reply.{Reply}
 use Rattle.p2p_directory.specs.declared.run.commands.Reply.TheVariants as reply
-use Rattle.p2p_directory.specs.Laws.GrantRuns.{granted_by, blocked_by, IsCooledAfter, grants_after, KeepCooldown, GoForward, IsAfter, KeepBlocks}
+use Rattle.p2p_directory.specs.Laws.GrantRuns.{granted_by, blocked_by, IsCooledAfter, grants_after, KeepCooldown, IsAfter, KeepBlocks}
 use Rattle.p2p_directory.proofs.LawsOfRuns.Spacing
 
 module _ {C S : Type 0} (s : Setup C S) where
@@ -214,21 +214,21 @@ module _ {C S : Type 0} (s : Setup C S) where
   kept_blocks p before c false = refl
 
   keep_blocks_from : History.IsExact s → (p : C) (ms : List ℕ) (now : ℕ) (before cs : List (Call C S)) (rs : List (Reply C S)) →
-      ms ≡ blocks_in s p (World.past s before) → NeverGoBack s now before → GoForward s now cs → Run.AreAnswers s before cs rs → KeepBlocks s p ms cs rs
-  keep_blocks_from exact p ms now before [] [] kept on forward answers = tt
-  keep_blocks_from exact p ms now before [] (r ∷ rs) kept on forward answers = tt
-  keep_blocks_from exact p ms now before (c ∷ cs) [] kept on forward answers = tt
-  keep_blocks_from exact p ms now before (c ∷ cs) (r ∷ rs) kept on forward answers =
-      let t = told_after p before c r answers.0 in (
+      ms ≡ blocks_in s p (World.past s before) → NeverGoBack s now before → Run.AreAnswers s before cs rs → KeepBlocks s p now ms cs rs
+  keep_blocks_from exact p ms now before [] [] kept on answers = tt
+  keep_blocks_from exact p ms now before [] (r ∷ rs) kept on answers = tt
+  keep_blocks_from exact p ms now before (c ∷ cs) [] kept on answers = tt
+  keep_blocks_from exact p ms now before (c ∷ cs) (r ∷ rs) kept on answers =
+      λ forward. let t = told_after p before c r answers.0 in (
         subst (λ o. IsAfter s o ms) (sym t.granted)
             (subst (λ xs. IsAfter s (if_accepted (Run.is_accepted s r) (moment_by p (Run.event_of s before c))) xs) (sym kept)
             (over_after (Run.is_accepted s r) (History.grant_by s p (Run.event_of s before c)) (blocks_in s p (World.past s before))
-            (Spacing.next_over s exact p c before (moment_or s now c) (one_forward c before now forward.0 on)))),
+            (Spacing.next_over s exact p c before (moment_or s now c) (one_forward c before now forward on)))),
         keep_blocks_from exact p (option_to_list (blocked_by s p c r) ++ ms) (moment_or s now c) (Run.next s before c r) cs rs
             ((λ i. option_to_list (t.blocked i) ++ kept i) ∙ kept_blocks p before c (Run.is_accepted s r))
-            (next_forward c before now (Run.is_accepted s r) forward.0 on) forward.1 answers.1,
+            (next_forward c before now (Run.is_accepted s r) forward on) answers.1,
       )
 
   -- by the replies to a whole run whose moments never go back, blocks hold
-  pub keep_blocks : History.IsExact s → (p : C) (cs : List (Call C S)) (rs : List (Reply C S)) → GoForward s 0 cs → Run.AreAnswers s [] cs rs → KeepBlocks s p [] cs rs
-  keep_blocks exact p cs rs forward answers = keep_blocks_from exact p [] 0 [] cs rs refl tt forward answers
+  pub keep_blocks : History.IsExact s → (p : C) (cs : List (Call C S)) (rs : List (Reply C S)) → Run.AreAnswers s [] cs rs → KeepBlocks s p 0 [] cs rs
+  keep_blocks exact p cs rs answers = keep_blocks_from exact p [] 0 [] cs rs refl tt answers

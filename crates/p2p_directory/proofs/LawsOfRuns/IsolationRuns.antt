@@ -1,7 +1,8 @@
 -- What concerns others leaves p as it was, by the replies to a run.
 use Rattle.std.proofs.Common.{◌≡◌, ℕ, ◌≤◌, true, false, not, List, [], ◌∷◌, Option, Some, None, refl, sym, ◌∙◌, ap, subst}
 use Rattle.std.specs.Prelude.{if◌then◌else◌, is_some}
-use Rattle.std.specs.Option.{option_map}
+use Rattle.std.specs.Option.{option_map, IsSomeAnd}
+use Rattle.p2p_discovery.specs.Ingress.{takes_none}
 use Rattle.p2p_directory.specs.Calls.{Setup, Question, Call, Event}
 use Rattle.p2p_directory.specs.Calls.Question.{StatusOf, NumberTracked, NextUnblock, BlockedAt, PeerSet, LatestIndex, AllPeers, LatestUpdate, InfoOf, InfosFor, BitsAt, IsEligible, IsAcceptable, DialableAt}
 use Rattle.p2p_directory.specs.Calls.Call.{Track, Dial, Listen, Connect, Release, Update, Block, UnblockExpired, Ask}
@@ -11,7 +12,7 @@ use Rattle.p2p_directory.specs.Answers.{was_granted, was_blocked, was_taken, is_
 use Rattle.p2p_directory.specs.Run
 use Rattle.p2p_directory.specs.declared.run.commands.Reply.{Reply}
 use Rattle.p2p_directory.specs.declared.run.commands.Reply.TheVariants as reply
-use Rattle.p2p_directory.specs.Laws.Isolation.{SameFor, is_on_another, left_for}
+use Rattle.p2p_directory.specs.Laws.Isolation.{SameFor, is_on_another, asks_of_another, left_for}
 use Rattle.p2p_directory.specs.Laws.IsolationRuns.{asks_of, is_on, torn_after, IsListedAfter, KeepAlone}
 use Rattle.p2p_directory.proofs.Definitions.Law
 use Rattle.p2p_directory.proofs.LawsOfRuns.Isolation
@@ -55,7 +56,7 @@ module _ {C S : Type 0} (s : Setup C S) where
   asked_alike e q w v w2 v2 (InfoOf p) r alike mine exact a =
       let b = subst (λ x. SameFor x w v) (sym (exact p q mine)) alike in
       let info = (Isolation.answers_alike s exact p w v b).info in
-      moved e e w w2 v v2 (Ask (InfoOf p)) r (λ x. ap is_some (sym info) ∙ x) (λ x. x ∙ ap reply.Info info) a
+      moved e e w w2 v v2 (Ask (InfoOf p)) r (λ x. subst (λ o. IsSomeAnd o (λ i. takes_none i.ingress ≡ false)) info x) (λ x. x ∙ ap reply.Info info) a
   asked_alike e q w v w2 v2 (IsEligible p t) r alike mine exact a =
       let b = subst (λ x. SameFor x w v) (sym (exact p q mine)) alike in
       moved e e w w2 v v2 (Ask (IsEligible p t)) r (λ x. x) (λ x. x ∙ ap reply.Eligible ((Isolation.answers_alike s exact p w v b).eligible t)) a
@@ -77,7 +78,7 @@ module _ {C S : Type 0} (s : Setup C S) where
   on_alike : (e f : Event C S) (p : C) (w v w2 v2 : World C S) (c : Call C S) (r : Reply C S) → SameFor p w v → is_on s p c ≡ true → History.IsExact s → e ≡ f →
       Run.MayReply s e w w2 c r → Run.MayReply s f v v2 c r
   on_alike e f p w v w2 v2 (Dial q t draw) r alike mine exact same a =
-      moved e f w w2 v v2 (Dial q t draw) r (λ x. ap was_granted (sym same) ∙ x) (λ x. x ∙ ap (λ y. reply.Dial (was_granted y)) same) a
+      moved e f w w2 v v2 (Dial q t draw) r (λ x. ap Run.dials_name (sym same) ∙ x) (λ x. x ∙ ap (λ y. reply.Dial (was_granted y)) same) a
   on_alike e f p w v w2 v2 (Listen q t draw) r alike mine exact same a =
       moved e f w w2 v v2 (Listen q t draw) r (λ x. x) (λ x. x ∙ ap (λ y. reply.Listen (was_granted y)) same) a
   on_alike e f p w v w2 v2 (Connect q dialer) r alike mine exact same a =
@@ -94,6 +95,22 @@ module _ {C S : Type 0} (s : Setup C S) where
   on_alike e f p w v w2 v2 (Update infos) r alike mine exact same a = absurd (cc)
   on_alike e f p w v w2 v2 (UnblockExpired t) r alike mine exact same a = absurd (cc)
 
+  asks_it : (p : C) (question : Question C) → asks_of s p question ≡ true → asks_of_another s p question ≡ false
+  asks_it p (StatusOf q) mine = ap not mine
+  asks_it p (InfoOf q) mine = ap not mine
+  asks_it p (IsEligible q t) mine = ap not mine
+  asks_it p (IsAcceptable q t) mine = ap not mine
+  asks_it p NumberTracked mine = refl
+  asks_it p NextUnblock mine = refl
+  asks_it p (BlockedAt t) mine = refl
+  asks_it p (PeerSet index) mine = refl
+  asks_it p LatestIndex mine = refl
+  asks_it p AllPeers mine = refl
+  asks_it p LatestUpdate mine = refl
+  asks_it p (InfosFor index bits t) mine = refl
+  asks_it p (BitsAt place) mine = refl
+  asks_it p (DialableAt t) mine = refl
+
   -- such a call is on no other peer
   on_it : (p : C) (c : Call C S) → is_on s p c ≡ true → is_on_another s p c ≡ false
   on_it p (Dial q t draw) mine = ap not mine
@@ -101,7 +118,7 @@ module _ {C S : Type 0} (s : Setup C S) where
   on_it p (Connect q dialer) mine = ap not mine
   on_it p (Release q) mine = ap not mine
   on_it p (Block q t) mine = ap not mine
-  on_it p (Ask question) mine = refl
+  on_it p (Ask question) mine = asks_it p question mine
   on_it p (Track index primary secondary) mine = absurd (cc)
   on_it p (Update infos) mine = absurd (cc)
   on_it p (UnblockExpired t) mine = absurd (cc)

@@ -52,7 +52,7 @@ module _ {C S : Type 0} (s : Setup C S) where
   mine p xs = filter (λ i. History.same s i.public_key p) xs
 
   -- lists with the same infos have the same best one
-  same_greatest : (p : C) (xs ys : List (Info C S)) → HaveSame xs ys → IsUnambiguous s xs →
+  pub same_greatest : (p : C) (xs ys : List (Info C S)) → HaveSame xs ys → IsUnambiguous s xs →
       first_greatest (filter (λ i. History.same s i.public_key p) xs) ≡ first_greatest (filter (λ i. History.same s i.public_key p) ys)
   same_greatest p xs ys have one = go (first_greatest fx) (first_greatest fy) (greatest fx) (greatest fy)
     where

@@ -33,7 +33,8 @@ use Rattle.p2p_directory.specs.Held.{AreHeld}
 use Rattle.p2p_directory.specs.Private.Serving.{ServerView, StandsAt, IsServedAt}
 use Rattle.p2p_directory.specs.Private.Slots.{held_in}
 use Rattle.p2p_directory.specs.Refinement.{Refines, config_of, record_in, metadata_of}
-use Rattle.p2p_directory.specs.Run.{world_after, event_of, Holds}
+use Rattle.p2p_discovery.specs.Ingress.{takes_none}
+use Rattle.p2p_directory.specs.Run.{world_after, event_of, Holds, dials_name}
 use Rattle.p2p_directory.proofs.Definitions.Law
 use Rattle.p2p_directory.proofs.LawsOfRuns.Forgotten
 use Rattle.p2p_directory.proofs.Refinement.CallsRefine
@@ -294,11 +295,11 @@ module _ {C S : Type 0} (s : Setup C S) where
           record { answer = ap (λ e. reply.Dial (was_granted e)) (sym (event cs c Nothing is)); left = idle cs c v v2 is directory slots at }
 
       -- .. refused memory
-      pub served_no_dial : (p : C) (now draw : ℕ) → may_dial_in s.cmp v.directory now p ≡ true → v2.directory ≡ v.directory → v2.slots ≡ v.slots → IsServedAt s cs (Dial p now draw) reply.OutOfMemory v2
-      served_no_dial p now draw can directory slots =
+      pub served_no_dial : (p : C) (now draw : ℕ) → may_dial_in s.cmp v.directory now p ≡ true → ((a : Ingress) → ingress_in s.cmp v.directory p ≡ Some a → takes_none a ≡ false) → v2.directory ≡ v.directory → v2.slots ≡ v.slots → IsServedAt s cs (Dial p now draw) reply.OutOfMemory v2
+      served_no_dial p now draw can named directory slots =
           let found = dialled p now draw can in
           let grant : Grant = record { t = now; draw = draw; direction = Dialer found.0 } in
-          record { answer = ap was_granted (event cs (Dial p now draw) (Granted p grant) found.3); left = same_views cs v v2 directory (λ q. ap (λ slots. held_in s.cmp slots q) slots) at }
+          record { answer = ap dials_name (event cs (Dial p now draw) (Granted p grant) found.3) ∙ ap not (named found.0 found.1); left = same_views cs v v2 directory (λ q. ap (λ slots. held_in s.cmp slots q) slots) at }
 
       -- BLOCKS
 

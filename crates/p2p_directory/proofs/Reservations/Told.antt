@@ -1,5 +1,5 @@
 -- Serving a question answers by the calls accepted before.
-use Rattle.std.proofs.Common.{Vec, Global, ◌≡◌, ℕ, ◌≤◌, ◌<◌, Bool, true, List, Option, Some, None, refl, sym, ◌∙◌, ap, subst, length}
+use Rattle.std.proofs.Common.{false, Vec, Global, ◌≡◌, ℕ, ◌≤◌, ◌<◌, Bool, true, List, Option, Some, None, refl, sym, ◌∙◌, ap, subst, length}
 use Rattle.std.specs.Prelude.{is_some, slice_get}
 use Rattle.std.specs.Option.{option_map}
 use Rattle.std.specs.Cmp.{IsTotalOrder}
@@ -7,6 +7,7 @@ use Rattle.std.specs.List.Sorted.{IsStrictlySortedBy}
 use Rattle.std.specs.Map.{keys_of}
 use Rattle.std.specs.declared.cmp.Ordering.TheVariants.{Equal}
 use Rattle.p2p_discovery.specs.declared.discovery.Info.{Info}
+use Rattle.p2p_discovery.specs.Ingress.{takes_none}
 use Rattle.p2p_directory.specs.declared.record.Status.{Status}
 use Rattle.p2p_directory.specs.declared.run.commands.Reply.TheVariants as reply
 use Rattle.p2p_directory.specs.Calls.{Setup, Call}
@@ -64,9 +65,9 @@ module _ {C S : Type 0} (s : Setup C S) where
           record { answer = ap reply.Info (is ∙ KnowledgeRefines.tie_info s (world_after s cs) v.directory p at.refines); left = idle s some exact cs (Ask (InfoOf p)) v v2 refl directory slots at }
 
       -- .. refused memory
-      pub served_no_info : (p : C) → (sharable_in s.cmp v.directory p ≡ None → ⊥) → v2.directory ≡ v.directory → v2.slots ≡ v.slots → IsServedAt s cs (Ask (InfoOf p)) reply.OutOfMemory v2
-      served_no_info p some_info directory slots = record {
-        answer = sym (ap is_some (KnowledgeRefines.tie_info s (world_after s cs) v.directory p at.refines)) ∙ some_unless (sharable_in s.cmp v.directory p) some_info;
+      pub served_no_info : (p : C) → IsSomeAnd (sharable_in s.cmp v.directory p) (λ i. takes_none i.ingress ≡ false) → v2.directory ≡ v.directory → v2.slots ≡ v.slots → IsServedAt s cs (Ask (InfoOf p)) reply.OutOfMemory v2
+      served_no_info p named directory slots = record {
+        answer = subst (λ o. IsSomeAnd o (λ i. takes_none i.ingress ≡ false)) (KnowledgeRefines.tie_info s (world_after s cs) v.directory p at.refines) named;
         left = same_views s some exact cs v v2 directory (λ q. ap (λ slots. held_in s.cmp slots q) slots) at;
       }
 

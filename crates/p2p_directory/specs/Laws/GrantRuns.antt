@@ -53,21 +53,16 @@ module _ {C S : Type 0} (s : Setup C S) where
 
   -- BLOCKS
 
-  -- the moments of the commands that may grant, block or end a block never go back: each is now or
-  -- later, and none is before that of an earlier command
-  abbrev pub GoForward : ℕ → List (Call C S) → Type 0
-  GoForward now [] = Unit {0}
-  GoForward now (c ∷ cs) = (now ≤ moment_or s now c) × GoForward (moment_or s now c) cs
-
   -- a grant, if there is one, comes when these moments are over
   abbrev pub IsAfter : Option ℕ → List ℕ → Type 0
   IsAfter None ms = Unit {0}
   IsAfter (Some t) ms = AreOver s t ms
 
-  -- with blocks of p until these moments: each grant of p comes when every block of p that was
-  -- taken before it is over
-  abbrev pub KeepBlocks : C → List ℕ → List (Call C S) → List (Reply C S) → Type 0
-  KeepBlocks p ms (c ∷ cs) (r ∷ rs) =
+  -- with blocks of p until these moments: as long as the moments of the commands that may grant,
+  -- block or end a block never go back, each grant of p comes when every block of p that was taken
+  -- before it is over
+  abbrev pub KeepBlocks : C → ℕ → List ℕ → List (Call C S) → List (Reply C S) → Type 0
+  KeepBlocks p now ms (c ∷ cs) (r ∷ rs) = (now ≤ moment_or s now c) →
       IsAfter (granted_by p c r) ms
-      × KeepBlocks p (option_to_list (blocked_by p c r) ++ ms) cs rs
-  KeepBlocks p ms _ _ = Unit {0}
+      × KeepBlocks p (moment_or s now c) (option_to_list (blocked_by p c r) ++ ms) cs rs
+  KeepBlocks p now ms _ _ = Unit {0}

@@ -1,7 +1,8 @@
 -- What the calls on other single peers leave as it was.
 use Rattle.std.specs.Prelude.{◌≡◌, ℕ, Bool, false, not, if◌then◌else◌, List, [], ◌∷◌, filter}
-use Rattle.p2p_directory.specs.Calls.{Setup, Call}
-use Rattle.p2p_directory.specs.Calls.Call.{Dial, Listen, Connect, Release, Update, Block}
+use Rattle.p2p_directory.specs.Calls.{Setup, Question, Call}
+use Rattle.p2p_directory.specs.Calls.Question.{StatusOf, InfoOf, IsEligible, IsAcceptable}
+use Rattle.p2p_directory.specs.Calls.Call.{Dial, Listen, Connect, Release, Update, Block, Ask}
 use Rattle.p2p_directory.specs.History.{same}
 use Rattle.p2p_directory.specs.World.{World, event_in}
 use Rattle.p2p_directory.specs.Answers.{is_present_in, status_in, sharable_info, wants}
@@ -9,6 +10,14 @@ use Rattle.p2p_directory.specs.Answers.{is_blocked_at, is_eligible_at, is_accept
 use Rattle.p2p_directory.specs.Answers.{is_dialable, query_moment}
 
 module _ {C S : Type 0} (s : Setup C S) where
+  -- a question about a single peer other than p
+  abbrev pub asks_of_another : C → Question C → Bool
+  asks_of_another p (StatusOf q) = not (same s q p)
+  asks_of_another p (InfoOf q) = not (same s q p)
+  asks_of_another p (IsEligible q t) = not (same s q p)
+  asks_of_another p (IsAcceptable q t) = not (same s q p)
+  asks_of_another p _ = false
+
   -- a call on a single peer other than p
   abbrev pub is_on_another : C → Call C S → Bool
   is_on_another p (Dial q t draw) = not (same s q p)
@@ -16,6 +25,7 @@ module _ {C S : Type 0} (s : Setup C S) where
   is_on_another p (Connect q dialer) = not (same s q p)
   is_on_another p (Release q) = not (same s q p)
   is_on_another p (Block q t) = not (same s q p)
+  is_on_another p (Ask question) = asks_of_another p question
   is_on_another p _ = false
 
   -- an update with p's infos alone

@@ -33,6 +33,7 @@ impl<C: PublicKey> Run<C> {
     pub fn finish(self) -> Directory<C>
         ensures config { result.config ≡ self.directory.config }
         ensures sets { result.sets ≡ self.directory.sets }
+        ensures blocks { result.blocks ≡ self.directory.blocks }
         ensures records { (q : C) → record_of C.cmp result q
             ≡ after_release (held_of C.cmp self.held q) (record_of C.cmp self.directory q) }
     {

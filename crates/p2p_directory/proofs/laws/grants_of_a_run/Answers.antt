@@ -6,4 +6,4 @@ pub returns-clause-spaced : goal.returns-clause-spaced
 returns-clause-spaced g c = λ s order p cs rs answers. GrantRuns.keep_cooldown s (exact_from s g.C.Ord.cmp order g.met.C.PublicKey.exact) p cs rs answers
 
 pub returns-clause-blocked : goal.returns-clause-blocked
-returns-clause-blocked g c = λ s order p cs rs forward answers. GrantRuns.keep_blocks s (exact_from s g.C.Ord.cmp order g.met.C.PublicKey.exact) p cs rs forward answers
+returns-clause-blocked g c = λ s order p cs rs answers. GrantRuns.keep_blocks s (exact_from s g.C.Ord.cmp order g.met.C.PublicKey.exact) p cs rs answers

@@ -119,9 +119,9 @@ returns-clause-cooldown g c = λ p.
     keep_cooldown s (exact_from s g.C.Ord.cmp refl g.met.C.PublicKey.exact) p (calls_of c.args.commands.items) c.into_run.result.replies.items (returns-clause-answers g c)
 
 pub returns-clause-blocks : goal.returns-clause-blocks
-returns-clause-blocks g c = λ forward p.
+returns-clause-blocks g c = λ p.
     let s = setup_of g.C.Ord.cmp c.args.bootstrappers.items c.args.myself c.args.cfg in
-    keep_blocks s (exact_from s g.C.Ord.cmp refl g.met.C.PublicKey.exact) p (calls_of c.args.commands.items) c.into_run.result.replies.items forward (returns-clause-answers g c)
+    keep_blocks s (exact_from s g.C.Ord.cmp refl g.met.C.PublicKey.exact) p (calls_of c.args.commands.items) c.into_run.result.replies.items (returns-clause-answers g c)
 
 pub returns-clause-dials : goal.returns-clause-dials
 returns-clause-dials g c =

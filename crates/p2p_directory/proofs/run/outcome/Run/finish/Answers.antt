@@ -15,6 +15,7 @@ loop-peer-preserved-in-Some-take g c =
       agree = held_by_release cmp d d2 c.in-Some.peer c.in-Some-take.reservation (held_of cmp c.loop-peer.held) (held_of cmp c.take.new.self) c.loop-peer.invariant.agree change c.in-Some-take.ensures.left;
       config = change.config ∙ c.loop-peer.invariant.config;
       sets = change.sets ∙ c.loop-peer.invariant.sets;
+      blocks = change.blocks ∙ c.loop-peer.invariant.blocks;
       records = λ q. given_back cmp g.met.C.PublicKey.exact d d2 c.in-Some.peer c.in-Some-take.reservation (held_of cmp c.loop-peer.held) (held_of cmp c.take.new.self) (sym c.in-Some-take.ensures.taken) change c.in-Some-take.ensures.left q
           ∙ c.loop-peer.invariant.records q;
     }

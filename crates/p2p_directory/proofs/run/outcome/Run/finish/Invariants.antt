@@ -11,6 +11,7 @@ invariant-loop-peer g l =
       agree : AreHeld cmp l.directory (held_of cmp l.held);
       config : l.directory.config ≡ l.initial.directory.config;
       sets : l.directory.sets ≡ l.initial.directory.sets;
+      blocks : l.directory.blocks ≡ l.initial.directory.blocks;
       records : (q : g.row.C.Denot) → after_release (held_of cmp l.held q) (record_of cmp l.directory q)
           ≡ after_release (held_of cmp l.initial.held q) (record_of cmp l.initial.directory q);
     }

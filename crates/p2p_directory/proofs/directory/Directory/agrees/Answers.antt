@@ -1,0 +1,31 @@
+use Rattle.std.proofs.Common.{◌≡◌, ℕ, Bool, true, false, ◌||◌, List, Option, Some, None, refl, sym, ◌∙◌, subst}
+use Rattle.std.specs.Prelude.{IfSome, is_some, nat_lt}
+use Rattle.std.specs.declared.cmp.Ordering.{Ordering}
+use Rattle.p2p_directory.specs.declared.record.Role.TheVariants.{Primary, Secondary}
+use Rattle.p2p_directory.specs.Calls.{SetAt}
+use Rattle.p2p_directory.specs.PeerSets.{set_count}
+use Rattle.p2p_directory.specs.Record.{RecordView, is_deletable}
+use Rattle.p2p_directory.specs.Directory.{DirectoryView, record_of, is_named_of}
+use Rattle.p2p_directory.specs.Private.Counts.{AreCounted}
+use Rattle.p2p_directory.proofs.directory.Directory.agrees.Goals as goal
+
+counted : {C S : Type 0} (cmp : C → C → Ordering) (sets : List (SetAt C)) (q : C) (o : Option (RecordView C S)) → AreCounted cmp sets q o →
+    IfSome o (λ r. (r.primary_sets ≡ set_count cmp Primary q sets) × (r.secondary_sets ≡ set_count cmp Secondary q sets))
+counted cmp sets q None h = tt
+counted cmp sets q (Some r) h = h
+
+has_record : {C S : Type 0} (cmp : C → C → Ordering) (sets : List (SetAt C)) (q : C) (o : Option (RecordView C S)) → AreCounted cmp sets q o →
+    (nat_lt 0 (set_count cmp Primary q sets) || nat_lt 0 (set_count cmp Secondary q sets)) ≡ true → is_some o ≡ true
+has_record cmp sets q (Some r) h named = refl
+has_record cmp sets q None h named = absurd (let f = (λ i. nat_lt 0 (h.0 i) || nat_lt 0 (h.1 i)) ∙ named in cc)
+
+pub returns-clause-counts : goal.returns-clause-counts
+returns-clause-counts g c = λ q. counted g.C.Ord.cmp c.args.self.now.sets q (record_of g.C.Ord.cmp c.args.self.now q)
+    (subst (λ (d : DirectoryView g.row.C.Denot g.row.C-Signature.Denot). AreCounted g.C.Ord.cmp d.sets q (record_of g.C.Ord.cmp d q)) c.self.view_is (c.self.invariant.counts.counts q))
+
+pub returns-clause-named : goal.returns-clause-named
+returns-clause-named g c = λ q named. has_record g.C.Ord.cmp c.args.self.now.sets q (record_of g.C.Ord.cmp c.args.self.now q)
+    (subst (λ (d : DirectoryView g.row.C.Denot g.row.C-Signature.Denot). AreCounted g.C.Ord.cmp d.sets q (record_of g.C.Ord.cmp d q)) c.self.view_is (c.self.invariant.counts.counts q)) named
+
+pub returns-clause-kept : goal.returns-clause-kept
+returns-clause-kept g c = λ q. subst (λ (d : DirectoryView g.row.C.Denot g.row.C-Signature.Denot). IfSome (record_of g.C.Ord.cmp d q) (λ r. is_deletable r ≡ false)) c.self.view_is (c.self.invariant.counts.none_deletable q)
