@@ -3,6 +3,8 @@ pub mod Naming
 pub mod Entries
 pub mod Listing
 pub mod Blocks
+pub mod Ends
+pub mod Places
 pub mod Dialables
 pub mod Counting
 pub mod Consistent

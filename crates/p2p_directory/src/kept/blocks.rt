@@ -1,19 +1,21 @@
 //! Until when the blocks of peers hold.
 
-ghost use Rattle.std.specs.Prelude.{◌≡◌, [], not, nat_lt, true, if◌then◌else◌};
+ghost use Rattle.std.specs.Prelude.{ℕ, ◌≡◌, ◌≤◌, ◌<◌, [], length, not, true, false, if◌then◌else◌};
 ghost use Rattle.std.specs.Prelude.{IfNone, IfSome, OnErr, OnOk, Some};
 ghost use Rattle.std.specs.Duration.{as_nanos};
 ghost use Rattle.std.specs.List.{filter, count_by};
 ghost use Rattle.std.specs.List.Sorted.{IsStrictlySortedBy};
 ghost use Rattle.std.specs.Map.{keys_of};
 ghost use Rattle.std.specs.BTreeMap.{is_at};
-ghost use Rattle.std.specs.Option.{option_map, option_map_or};
+ghost use Rattle.std.specs.BTreeSet.{contains};
+ghost use Rattle.std.specs.Option.{option_map};
 ghost use Rattle.p2p_directory.specs.Blocks.{in_nanos, is_later, unblock_in, IsLeastBlock};
+ghost use Rattle.p2p_directory.specs.Private.Ends.{end_cmp, AreEnds};
 
 use crate::kept::forget;
 use p2p_discovery::codec::PublicKey;
 use std::alloc::{AllocError, Global};
-use std::collections::{BTreeMap, btree_map};
+use std::collections::{BTreeMap, BTreeSet, btree_map};
 use std::marker::Model;
 use std::time::Duration;
 
@@ -23,15 +25,19 @@ use std::time::Duration;
 pub struct Blocks<C: PublicKey> {
     alloc: Global,
     moments: BTreeMap<C, Duration>,
+    ends: BTreeSet<(u128, C)>,
 }
 
 impl<C: PublicKey> Model for Blocks<C> {
     ghost use Rattle.std.specs.Prelude.{ℕ, List};
     ghost use Rattle.p2p_directory.specs.Blocks.{in_nanos};
+    ghost use Rattle.p2p_directory.specs.Private.Ends.{AreEnds};
 
     ghost Value = { List (C × ℕ) };
 
     ghost view = { λ b. in_nanos b.moments.entries };
+
+    ghost invariant = { λ b. AreEnds C.cmp b.ends.keys (in_nanos b.moments.entries) };
 }
 
 impl<C: PublicKey> Blocks<C> {
@@ -42,6 +48,7 @@ impl<C: PublicKey> Blocks<C> {
         Blocks {
             alloc,
             moments: BTreeMap::new(alloc),
+            ends: BTreeSet::new(alloc),
         }
     }
 
@@ -65,13 +72,7 @@ impl<C: PublicKey> Blocks<C> {
             (if is_at (C.cmp key) q then Some (as_nanos moment)
             else unblock_in C.cmp self.old q)) }
     {
-        match self.moments.insert(key, moment) {
-            Ok(_before) => Ok(()),
-            Err(refused) => {
-                forget(refused);
-                Err(AllocError)
-            }
-        }
+        put_end(&mut self.moments, &mut self.ends, key, moment)
     }
 
     /// The moment of the peer, or `None` where it has none. Takes no memory.
@@ -95,7 +96,7 @@ impl<C: PublicKey> Blocks<C> {
         ensures none { IfNone result (self.now ≡ []) }
         ensures least { IfSome result (λ e. IsLeastBlock C.cmp self.now (e.0, as_nanos e.1)) }
     {
-        first_to_end(&self.moments)
+        first_to_end(&self.moments, &self.ends)
     }
 
     /// Takes out each peer whose moment is at or before `now`, a time since the epoch, and answers
@@ -109,10 +110,8 @@ impl<C: PublicKey> Blocks<C> {
         ensures left { self.new ≡ filter (is_later (as_nanos now)) self.old }
         ensures count { result ≡ count_by (λ e. not (is_later (as_nanos now) e)) self.old }
     {
-        let before = self.moments.len();
-        self.moments
-            .retain(|_, moment| now.as_nanos() < moment.as_nanos());
-        before - self.moments.len()
+        let _moments = self.moments.len();
+        drop_ended(&mut self.moments, &mut self.ends, now)
     }
 
     /// The peers in ascending order of their keys, each with its moment. Takes no memory.
@@ -124,27 +123,90 @@ impl<C: PublicKey> Blocks<C> {
     }
 }
 
+// Gives the key this moment in both. Where memory is refused both have the same pairs as before.
+fn put_end<C: PublicKey>(
+    moments: &mut BTreeMap<C, Duration>,
+    ends: &mut BTreeSet<(u128, C)>,
+    key: C,
+    moment: Duration,
+) -> Result<(), AllocError>
+    requires { AreEnds C.cmp ends.old.keys (in_nanos moments.old.entries) }
+    ensures ends { AreEnds C.cmp ends.new.keys (in_nanos moments.new.entries) }
+    ensures err { OnErr result (moments.new.entries ≡ moments.old.entries) }
+    ensures ok { OnOk result ((q : C) → unblock_in C.cmp (in_nanos moments.new.entries) q ≡
+        (if is_at (C.cmp key) q then Some (as_nanos moment)
+        else unblock_in C.cmp (in_nanos moments.old.entries) q)) }
+{
+    if let Err(refused) = ends.insert((moment.as_nanos(), key)) {
+        forget(refused);
+        return Err(AllocError);
+    }
+    match moments.insert(key, moment) {
+        Ok(Some(before)) => {
+            if before.as_nanos() != moment.as_nanos() {
+                ends.remove(&(before.as_nanos(), key));
+            }
+            Ok(())
+        }
+        Ok(None) => Ok(()),
+        Err(refused) => {
+            ends.remove(&(moment.as_nanos(), key));
+            forget(refused);
+            Err(AllocError)
+        }
+    }
+}
+
 // The least moment with its key, of equal moments the one of the least key.
-fn first_to_end<C: PublicKey>(moments: &BTreeMap<C, Duration>) -> Option<(C, Duration)>
+fn first_to_end<C: PublicKey>(
+    moments: &BTreeMap<C, Duration>,
+    ends: &BTreeSet<(u128, C)>,
+) -> Option<(C, Duration)>
+    requires { AreEnds C.cmp ends.now.keys (in_nanos moments.now.entries) }
     ensures none { IfNone result (moments.now.entries ≡ []) }
     ensures least { IfSome result (λ e.
         IsLeastBlock C.cmp (in_nanos moments.now.entries) (e.0, as_nanos e.1)) }
 {
-    let mut first = None;
-    for (key, moment) in moments {
-        if ends_before(*moment, &first) {
-            first = Some((*key, *moment));
-        }
-    }
-    first
+    let (_, key) = ends.first()?;
+    let moment = moments.get(key)?;
+    Some((*key, *moment))
 }
 
-// Whether a moment is before that of another block, if there is one.
-fn ends_before<C: PublicKey>(moment: Duration, other: &Option<(C, Duration)>) -> bool
-    ensures { result ≡ option_map_or (λ e. nat_lt (as_nanos moment) (as_nanos e.1)) other.now true }
+// Takes the first of the ends, where it is at or before `now`.
+fn take_ended<C: PublicKey>(ends: &mut BTreeSet<(u128, C)>, now: Duration) -> Option<(u128, C)>
+    ensures some { IfSome result (λ end. (end.0 ≤ as_nanos now)
+        × (contains (end_cmp C.cmp) ends.old end ≡ true)
+        × ((e : ℕ × C) → contains (end_cmp C.cmp) ends.new e ≡
+            (if is_at (end_cmp C.cmp end) e then false else contains (end_cmp C.cmp) ends.old e))
+        × (length ends.new.keys < length ends.old.keys)) }
+    ensures none { IfNone result ((e : ℕ × C)
+        → contains (end_cmp C.cmp) ends.old e ≡ true → as_nanos now < e.0) }
+    ensures stay { IfNone result (ends.new.keys ≡ ends.old.keys) }
 {
-    match other {
-        Some((_, end)) => moment.as_nanos() < end.as_nanos(),
-        None => true,
+    match ends.first() {
+        Some((end, _)) if *end <= now.as_nanos() => ends.pop_first(),
+        _ => None,
     }
+}
+
+// Takes out each pair whose moment is at or before `now`, and answers how many there were.
+fn drop_ended<C: PublicKey>(
+    moments: &mut BTreeMap<C, Duration>,
+    ends: &mut BTreeSet<(u128, C)>,
+    now: Duration,
+) -> usize
+    requires { AreEnds C.cmp ends.old.keys (in_nanos moments.old.entries) }
+    ensures ends { AreEnds C.cmp ends.new.keys (in_nanos moments.new.entries) }
+    ensures left { in_nanos moments.new.entries ≡
+        filter (is_later (as_nanos now)) (in_nanos moments.old.entries) }
+    ensures count { result ≡
+        count_by (λ e. not (is_later (as_nanos now) e)) (in_nanos moments.old.entries) }
+{
+    let mut count = 0;
+    let _most = moments.len();
+    while let Some(end) = take_ended(ends, now) {
+        moments.remove(&end.1);
+        count += 1;
+    }
+    count
 }

@@ -1,34 +1,32 @@
-use Rattle.std.proofs.Common.{true, false, refl, sym, ◌∙◌, ap}
-use Rattle.std.specs.declared.time.Duration.{Duration}
-use Rattle.std.specs.Option.{option_map}
-use Rattle.std.specs.List.Sorted.{IsStrictlySortedBy}
-use Rattle.std.specs.Map.{keys_of}
-use Rattle.std.specs.Map.Iter.{deref_pair}
-use Rattle.std.proofs.lemmas.Map.Iter.{rest_more, rest_all}
-use Rattle.p2p_directory.specs.Blocks.{in_nanos}
-use Rattle.p2p_directory.proofs.SetsAndRecords.Blocks.{nanos_of, soonest_with, soonest_more, sorted-in_nanos, least_entry}
+use Rattle.std.proofs.Common.{◌≡◌, ap, sym, ◌∙◌, Some, None, true, []}
+use Rattle.std.specs.BTreeMap.{is_at}
+use Rattle.std.specs.Duration.{as_nanos}
+use Rattle.std.specs.Option.{option_map, option_copied}
+use Rattle.p2p_directory.specs.Blocks.{in_nanos, unblock_in, IsLeastBlock}
+use Rattle.p2p_directory.proofs.SetsAndRecords.Blocks.{lookup-in_nanos}
+use Rattle.p2p_directory.proofs.SetsAndRecords.Ends.{end_is, no_ends, none_first, none_in_nanos, first_is_least}
 use Rattle.p2p_directory.proofs.kept.blocks.first_to_end.Goals as goal
 
-pub loop-key-preserved-then-ends_before : goal.loop-key-preserved-then-ends_before
-loop-key-preserved-then-ends_before g c =
-    let e : g.row.C.Denot × Duration = (c.in-Some.key.now, c.in-Some.moment.now) in
-    let rest = rest_more deref_pair c.loop-key.key-iterator c.next.new.self c.next.result (c.in-Some.key, c.in-Some.moment) c.in-Some.is c.next.ensures.steps in
-    soonest_more c.loop-key.first e c.next.new.self true (sym c.if-ends_before.true ∙ c.ends_before.ensures)
-    ∙ ap (λ es. soonest_with (option_map nanos_of c.loop-key.first) (in_nanos es)) (sym rest)
-    ∙ c.loop-key.invariant
+pub returns-in_err-key-clause-none : goal.returns-in_err-key-clause-none
+returns-in_err-key-clause-none g c =
+    let es = c.args.moments.now.entries in
+    let none = none_first c.first.result c.args.ends.now.keys c.in_err-key.was c.first.ensures.variant in
+    rw c.from_residual.ensures (none_in_nanos es (no_ends g.met.C.Ord.total c.args.ends.now.keys (in_nanos es) c.requires none))
 
-pub loop-key-preserved : goal.loop-key-preserved
-loop-key-preserved g c =
-    let e : g.row.C.Denot × Duration = (c.in-Some.key.now, c.in-Some.moment.now) in
-    let rest = rest_more deref_pair c.loop-key.key-iterator c.next.new.self c.next.result (c.in-Some.key, c.in-Some.moment) c.in-Some.is c.next.ensures.steps in
-    soonest_more c.loop-key.first e c.next.new.self false (sym c.if-ends_before.false ∙ c.ends_before.ensures)
-    ∙ ap (λ es. soonest_with (option_map nanos_of c.loop-key.first) (in_nanos es)) (sym rest)
-    ∙ c.loop-key.invariant
+pub returns-in_err-moment-clause-none : goal.returns-in_err-moment-clause-none
+returns-in_err-moment-clause-none g c =
+    let es = c.args.moments.now.entries in
+    let e = c.in_ok-key.field-0.now in
+    let found = end_is g.met.C.PublicKey.exact c.args.ends.now.keys (in_nanos es) e c.requires c.in_ok-key.ensures.member in
+    let seen = lookup-in_nanos (is_at (g.C.Ord.cmp e.1)) es ∙ ap (option_map as_nanos) (sym c.get.ensures.value ∙ ap option_copied c.in_err-moment.was) in
+    absurd (let both = sym found ∙ seen in cc)
 
 pub returns-clause-least : goal.returns-clause-least
 returns-clause-least g c =
     let cmp = g.C.Ord.cmp in
     let es = c.args.moments.now.entries in
-    let ordered : IsStrictlySortedBy cmp (keys_of (in_nanos es)) = sorted-in_nanos cmp es (in_nanos es) refl c.into_iter-key-iterator.ensures.into_iter_gives.5 in
-    let rest = rest_all deref_pair c.loop-key.key-iterator c.next.new.self c.next.result c.in-None.is c.next.ensures.steps in
-    least_entry g.met.C.Ord.total g.met.C.PublicKey.exact c.loop-key.first es c.loop-key.key-iterator ordered rest c.loop-key.invariant
+    let e = c.in_ok-key.field-0.now in
+    let found = end_is g.met.C.PublicKey.exact c.args.ends.now.keys (in_nanos es) e c.requires c.in_ok-key.ensures.member in
+    let seen = lookup-in_nanos (is_at (cmp e.1)) es ∙ ap (option_map as_nanos) (sym c.get.ensures.value ∙ ap option_copied c.in_ok-moment.was) in
+    let both : e.0 ≡ as_nanos c.in_ok-moment.moment.now = let f = sym found ∙ seen in cc in
+    rw both at (first_is_least g.met.C.PublicKey.exact c.args.ends.now.keys (in_nanos es) e c.requires c.in_ok-key.ensures.member c.in_ok-key.ensures.least)

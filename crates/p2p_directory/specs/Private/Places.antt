@@ -1,0 +1,38 @@
+-- Private: keys with the queues of their places, and the places of a key in retained sets.
+use Rattle.std.specs.Prelude.{ℕ, ◌≡◌, ◌<◌, length, Bool, List, [], ◌∷◌, ◌++◌, Option, Some, None, IfSome, map, suc, if◌then◌else◌}
+use Rattle.std.specs.Map.{lookup, keys_of}
+use Rattle.std.specs.BTreeMap.{is_at}
+use Rattle.std.specs.Option.{unwrap_or}
+use Rattle.std.specs.declared.cmp.Ordering.{Ordering}
+use Rattle.std.specs.declared.alloc.Global.{Global}
+use Rattle.std.specs.declared.collections.VecDeque.{VecDeque}
+use Rattle.p2p_directory.specs.declared.kept.places.Place.{Place}
+use Rattle.p2p_directory.specs.Private.Window.{SetWithBits}
+
+module _ {C : Type 0} where
+  -- the queues as lists
+  abbrev pub queues_of : List (C × VecDeque Place Global) → List (C × List Place)
+  queues_of entries = map (λ e. (e.0, e.1.items)) entries
+
+module _ {C : Type 0} (cmp : C → C → Ordering) where
+  -- the places of a key
+  abbrev pub places_of : List (C × List Place) → C → List Place
+  places_of places q = unwrap_or (lookup (is_at (cmp q)) places) []
+
+  -- each key has a place
+  abbrev pub HasNoEmpty : List (C × List Place) → Type 0
+  HasNoEmpty places = (q : C) → IfSome (lookup (is_at (cmp q)) places) (λ queue. 0 < length queue)
+
+  -- where the key stands in a list, counted from n
+  abbrev pub places_from : ℕ → ℕ → List C → C → List Place
+  places_from set n [] q = []
+  places_from set n (k ∷ ks) q = if is_at (cmp k) q then (record { set = set; at = n }) ∷ [] else places_from set (suc n) ks q
+
+  -- where the key stands in the lists of primary peers
+  abbrev pub places_in : List (SetWithBits C) → C → List Place
+  places_in [] q = []
+  places_in (x ∷ sets) q = places_from x.index 0 (keys_of x.primary) q ++ places_in sets q
+
+  -- the index: each key's queue is exactly its places in the sets
+  abbrev pub AreThePlaces : List (C × List Place) → List (SetWithBits C) → Type 0
+  AreThePlaces places sets = (q : C) → places_of places q ≡ places_in sets q
