@@ -40,7 +40,7 @@ frame_is channel buffers frame e =
     ap concat e ∙ ap (λ (w : List ℕ). 0 ∷ w)
     (append_assoc (varint64 channel) (varint32 (length (concat buffers))) (concat buffers))
 
-payload_short : (d : Data) → length (data_payload d) ≤ length d.message + 16
+pub payload_short : (d : Data) → length (data_payload d) ≤ length d.message + 16
 payload_short d =
     omega (
       arith,

@@ -99,3 +99,19 @@ spellings_short sp P most each (x ∷ xs) h =
       spellings_short sp P most each xs h.1,
       length-append (sp x) (spellings sp xs),
     )
+
+-- spellings of at least so many bytes each
+pub spellings_long : {A : Type 0} (sp : A → List ℕ) (P : A → Type 0) (least : ℕ)
+    → ((x : A) → P x → least ≤ length (sp x)) → (xs : List A) → AllByRecursion P xs
+    → length xs * least ≤ length (spellings sp xs)
+unfolding spellings
+spellings_long sp P least each [] h = omega arith
+spellings_long sp P least each (x ∷ xs) h =
+    let one : suc (length xs) * least ≡ least + length xs * least = omega arith in
+    omega (
+      arith,
+      one,
+      each x h.0,
+      spellings_long sp P least each xs h.1,
+      length-append (sp x) (spellings sp xs),
+    )

@@ -1,5 +1,5 @@
 -- What peers tell each other: which payloads there are, their spelling, and what limits admit.
-use Rattle.std.specs.Prelude.{ℕ, ◌+◌, ◌*◌, ◌<◌, ◌^◌, max, List, ◌∷◌, length, Option, ◌==◌}
+use Rattle.std.specs.Prelude.{ℕ, ◌+◌, ◌*◌, ◌<◌, ◌≤◌, ◌^◌, max, List, ◌∷◌, length, Option, ◌==◌}
 use Rattle.std.specs.Prelude.{if◌then◌else◌}
 use Rattle.std.specs.List.{AllByRecursion}
 use Rattle.p2p_discovery.specs.declared.codec.error.CodecError.TheVariants.{InvalidEnum}
@@ -96,3 +96,10 @@ abbrev pub gossip_size : ℕ → ℕ → ℕ → ℕ
 gossip_size info max_bit_vec max_peers =
     1 + max info (max (10 + (length (varint64 max_bit_vec) + byte_count max_bit_vec))
     (max_peers * info + 5))
+
+-- what a payload holds needs no more than so many bytes, where an info has at least `least` of them
+abbrev pub IsBoundedBy : {C S : Type 0} → ℕ → ℕ → Payload C S → Type 0
+IsBoundedBy least bytes (said.Data d) = length d.message ≤ bytes
+IsBoundedBy least bytes (said.Greeting i) = least ≤ bytes
+IsBoundedBy least bytes (said.BitVec v) = length v.bits ≤ 8 * bytes
+IsBoundedBy least bytes (said.Peers is) = length is * least ≤ bytes

@@ -17,19 +17,34 @@ use Rattle.p2p_discovery.specs.Varint.{varint32, varint64}
 use Rattle.p2p_discovery.specs.VarintLaws.{groups_short, groups_less}
 use Rattle.p2p_discovery.specs.Data as messages
 use Rattle.p2p_discovery.specs.DataLaws.{lawful_data}
-use Rattle.p2p_discovery.specs.Info.{IsInfo, info_spelling, info_at, infos_at}
-use Rattle.p2p_discovery.specs.InfoLaws.{lawful_info, lawful_infos, info_short}
+use Rattle.p2p_discovery.specs.Info.{IsInfo, info_spelling, infos_spelling, info_at, infos_at}
+use Rattle.p2p_discovery.specs.InfoLaws.{lawful_info, lawful_infos, info_short, info_long}
 use Rattle.p2p_discovery.specs.Lists.{spellings}
-use Rattle.p2p_discovery.specs.ListsLaws.{spellings_short}
+use Rattle.p2p_discovery.specs.ListsLaws.{spellings_short, spellings_long}
 use Rattle.p2p_discovery.specs.Bits.{packed}
 use Rattle.p2p_discovery.specs.BitsLaws.{length-packed}
 use Rattle.p2p_discovery.specs.BitVec as bits
 use Rattle.p2p_discovery.specs.BitVecLaws.{lawful_bit_vec}
 use Rattle.p2p_discovery.specs.Payload.{up_to, prefix_of, IsPayload, IsAdmitted, body_spelling}
 use Rattle.p2p_discovery.specs.Payload.{payload_spelling, body_at, payload_at, gossip_size}
+use Rattle.p2p_discovery.specs.Payload.{IsBoundedBy}
+use Rattle.p2p_discovery.specs.Counted.{counted_spelling}
+use Rattle.p2p_discovery.specs.declared.discovery.BitVec.{BitVec}
+use Rattle.p2p_discovery.specs.declared.discovery.Info.{Info}
+use Rattle.std.specs.List.{AllByRecursion}
 
 within_up_to : (n greatest : ℕ) → is_within (up_to greatest) n ≡ true → n ≤ greatest
 within_up_to n greatest h = grind (arith, nat_tests)
+
+-- bits need no more than the bytes of their spelling
+pub bits_bounded : (v : BitVec) → length v.bits ≤ 8 * length (bits.bit_vec_spelling v)
+bits_bounded v =
+    omega (
+      arith,
+      length-packed v.bits,
+      length-append (varint64 v.index) (varint64 (length v.bits) ++ packed v.bits),
+      length-append (varint64 (length v.bits)) (packed v.bits),
+    )
 
 module _ {C S : Type 0} {key_size signature_size : ℕ} {spell_key : C → List ℕ}
     {spell_signature : S → List ℕ} {key : List ℕ → Option C} {signature : List ℕ → Option S}
@@ -166,3 +181,29 @@ module _ {C S : Type 0} {key_size signature_size : ℕ} {spell_key : C → List 
         length-append (varint32 (length is))
             (spellings (info_spelling spell_key spell_signature) is),
       )
+
+  -- what is spelled needs no more than the bytes of its spelling
+  pub infos_bounded : (is : List (Info C S)) → AllByRecursion IsInfo is
+      → length is * (6 + key_size + signature_size)
+      ≤ length (infos_spelling spell_key spell_signature is)
+  infos_bounded is h =
+      omega (
+        arith,
+        spellings_long (info_spelling spell_key spell_signature) IsInfo
+            (6 + key_size + signature_size) (info_long k s) is h,
+        length-append (varint32 (length is))
+            (spellings (info_spelling spell_key spell_signature) is),
+      )
+
+  pub payload_bounded : (p : Payload C S) → IsPayload p
+      → IsBoundedBy (6 + key_size + signature_size)
+      (length (payload_spelling spell_key spell_signature p)) p
+  payload_bounded (said.Data d) h =
+      omega (
+        arith,
+        length-append (varint64 d.channel) (counted_spelling d.message),
+        length-append (varint32 (length d.message)) d.message,
+      )
+  payload_bounded (said.Greeting i) h = omega (arith, info_long k s i h)
+  payload_bounded (said.BitVec v) h = omega (arith, bits_bounded v)
+  payload_bounded (said.Peers is) h = omega (arith, infos_bounded is h)

@@ -9,6 +9,7 @@ mod bits_codec;
 mod info_codec;
 mod info_list;
 mod info_signing;
+pub mod laws;
 mod payload_codec;
 mod verifier;
 

@@ -6,7 +6,7 @@ ghost use Rattle.std.specs.Ordering.{nat_cmp};
 ghost use Rattle.p2p_discovery.specs.declared.codec.error.CodecError.TheVariants.{EndOfBuffer};
 ghost use Rattle.p2p_discovery.specs.declared.codec.error.CodecError.TheVariants.{Memory};
 ghost use Rattle.p2p_discovery.specs.declared.codec.test_key.TestKey.{TestKey};
-ghost use Rattle.p2p_discovery.specs.Reading.{Leaves};
+ghost use Rattle.p2p_discovery.specs.Reading.{Gives, Leaves, whole};
 ghost use Rattle.p2p_discovery.specs.Varint.{varint32, varint64, SpellsU32, SpellsU64};
 
 use crate::codec::{CodecError, MaxEncodeSize, Read, TestKey, Write};
@@ -27,9 +27,10 @@ pub fn one_spelling<T: Read>(cfg: &T::Cfg)
 /// Of a proper front `EndOfBuffer`, for its bytes end too early, or `Memory` where memory was asked
 /// for on the way and refused. Those of [`Read::decode_cfg`] else.
 pub fn cut_short<T: Read>(alloc: Global, front: Bytes, cfg: &T::Cfg) -> Result<T, CodecError>
-    ensures { (v : T) (rest : List ℕ) → T.IsValue v → T.Admits cfg.now v
+    ensures short { (v : T) (rest : List ℕ) → T.IsValue v → T.Admits cfg.now v
         → T.spelling v ≡ front ++ rest → 0 < length rest
         → IsErrAnd result (λ e. e ≢ Memory → e ≡ EndOfBuffer) }
+    ensures exact { Gives result [] (whole (T.reading cfg.now) front) }
 {
     T::decode_cfg(alloc, front, cfg)
 }

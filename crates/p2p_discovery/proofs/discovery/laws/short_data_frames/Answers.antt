@@ -1,0 +1,5 @@
+use Rattle.p2p_discovery.specs.DataLaws.{payload_short}
+use Rattle.p2p_discovery.proofs.discovery.laws.short_data_frames.Goals as goal
+
+pub returns : goal.returns
+returns g c = payload_short

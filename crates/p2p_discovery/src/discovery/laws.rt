@@ -1,0 +1,65 @@
+//! Laws of what is read from frames: each function's contract is one, and it only reads.
+
+ghost use Rattle.std.specs.Prelude.{◌≡◌, ◌+◌, ◌*◌, ◌≤◌, length, IfOk};
+ghost use Rattle.p2p_discovery.specs.declared.data.Data.{Data as Message};
+ghost use Rattle.p2p_discovery.specs.declared.discovery.Payload.TheVariants as payload;
+ghost use Rattle.p2p_discovery.specs.Payload.{payload_spelling, IsBoundedBy};
+
+use crate::codec::{CodecError, FixedBytes, PublicKey, RangeCfg, Read};
+use crate::discovery::{BitVec, Infos, Payload, PayloadConfig};
+use bytes::Bytes;
+use std::alloc::Global;
+
+/// A data frame is longer than its message by [`MAX_PAYLOAD_OVERHEAD`] bytes at most.
+///
+/// [`MAX_PAYLOAD_OVERHEAD`]: crate::data::MAX_PAYLOAD_OVERHEAD
+pub fn short_data_frames<C: PublicKey>()
+    ensures { (message : Message) →
+        length (payload_spelling C.spelled C.Signature.spelled (payload.Data message))
+        ≤ length message.message + 16 }
+{}
+
+/// Reads infos, as [`Read::read_cfg`]: no more than the bytes that were read can hold, at the least
+/// size of an info.
+///
+/// # Errors
+///
+/// Those of [`Read::read_cfg`].
+pub fn bounded_infos<C: PublicKey>(
+    alloc: Global,
+    buf: &mut Bytes,
+    limit: &RangeCfg,
+) -> Result<Infos<C>, CodecError>
+    ensures { IfOk result (λ infos. length infos * (6 + C.SIZE + C.Signature.SIZE)
+        + length buf.new ≤ length buf.old) }
+{
+    Infos::read_cfg(alloc, buf, limit)
+}
+
+/// Reads bits and their index, as [`Read::read_cfg`]: no more bits than the bytes that were read
+/// have.
+///
+/// # Errors
+///
+/// Those of [`Read::read_cfg`].
+pub fn bounded_bits(alloc: Global, buf: &mut Bytes, limit: &u64) -> Result<BitVec, CodecError>
+    ensures { IfOk result (λ v. length v.bits + 8 * length buf.new ≤ 8 * length buf.old) }
+{
+    BitVec::read_cfg(alloc, buf, limit)
+}
+
+/// Reads the payload of a frame, as [`Read::decode_cfg`]: what it holds, a message, bits or infos,
+/// is no more than the bytes of the frame can hold, whatever the limits are.
+///
+/// # Errors
+///
+/// Those of [`Read::decode_cfg`].
+pub fn bounded_payload<C: PublicKey>(
+    alloc: Global,
+    frame: Bytes,
+    limits: &PayloadConfig,
+) -> Result<Payload<C>, CodecError>
+    ensures { IfOk result (IsBoundedBy (6 + C.SIZE + C.Signature.SIZE) (length frame)) }
+{
+    Payload::decode_cfg(alloc, frame, limits)
+}
