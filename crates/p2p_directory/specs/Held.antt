@@ -24,6 +24,14 @@ module _ {C S : Type 0} (cmp : C → C → Ordering) where
   abbrev pub all_but : C → List (Metadata C S) → List (Metadata C S)
   all_but q held = filter (λ metadata. not (is_at (cmp q) (key_of metadata))) held
 
+  -- all that is held was released: each record is that after its release, and all else stays
+  pub record ReleasesAll (held : List (Metadata C S)) (old new : DirectoryView C S) : Type 0 where
+    pub config : new.config ≡ old.config
+    pub sets : new.sets ≡ old.sets
+    pub blocks : new.blocks ≡ old.blocks
+    pub records : (q : C) →
+        record_of cmp new q ≡ after_release (held_of held q) (record_of cmp old q)
+
   -- a reservation is held exactly of the peers that are reserved or connected
   abbrev pub AreHeld : DirectoryView C S → (C → Option (Metadata C S)) → Type 0
   AreHeld d held = (q : C) → is_some (held q) ≡ is_busy (record_of cmp d q)

@@ -103,6 +103,13 @@ abbrev pub dials_name : {C S : Type 0} → Event C S → Bool
 dials_name (Granted p grant) = is_name_dial grant.direction
 dials_name _ = false
 
+-- a reply counts its command as made
+abbrev pub was_made : {C S : Type 0} → Reply C S → Bool
+was_made reply.OutOfMemory = false
+was_made reply.NotReserved = false
+was_made reply.NotHeld = false
+was_made _ = true
+
 module _ {C S : Type 0} (s : Setup C S) where
   -- the bits of the set at a place in the world w, with its index, if there is one
   abbrev pub bit_vec_in : World C S → ℕ → Option BitVec
@@ -194,10 +201,7 @@ module _ {C S : Type 0} (s : Setup C S) where
 
   -- whether a command was an accepted call, by its reply
   abbrev pub is_accepted : Reply C S → Bool
-  is_accepted reply.OutOfMemory = false
-  is_accepted reply.NotReserved = false
-  is_accepted reply.NotHeld = false
-  is_accepted _ = true
+  is_accepted = was_made
 
   -- the accepted calls after one more, by its reply
   abbrev pub next : List (Call C S) → Call C S → Reply C S → List (Call C S)

@@ -3,7 +3,8 @@
 ghost use Rattle.std.specs.Prelude.{◌≡◌, ◌-◌, ◌<◌, ◌^◌, [], false, IfOk};
 ghost use Rattle.std.specs.Duration.{as_nanos};
 ghost use Rattle.std.specs.Int.NonZero.{non_zero_usize_get};
-ghost use Rattle.p2p_directory.specs.Held.{held_of, AreHeld};
+ghost use Rattle.p2p_directory.specs.Held.{held_of, AreHeld, ReleasesAll};
+ghost use Rattle.p2p_directory.specs.Run.{was_made};
 ghost use Rattle.p2p_discovery.specs.Info.{IsInfo, IsKeyed};
 ghost use Rattle.p2p_directory.specs.Received.{wire_of, applies};
 ghost use Rattle.p2p_directory.specs.Nodes.{NodeStandsAt, made_of, IsStepped, IsAsked, IsReceived};
@@ -72,7 +73,8 @@ pub enum Received {
 }
 
 /// A directory with what is held of its grants, by what infos are judged, and the limits under
-/// which frames are read. A contract sees these four. It must be spent, by [`Node::parts`].
+/// which frames are read. A contract sees these four. It must be spent, by
+/// [`Node::finish`] or [`Node::parts`].
 pub struct Node<C: PublicKey> {
     endpoint: Endpoint<C>,
 }
@@ -139,7 +141,10 @@ impl<C: PublicKey> Node<C> {
     ///
     /// That of the call, and for a `Dial`, a `Listen` and a `Release` one pass over what is held.
     pub fn step(&mut self, command: Command<C>) -> Reply<C>
-        ensures { IsStepped C.cmp command result self.old self.new }
+        ensures stepped { IsStepped C.cmp command result self.old self.new }
+        ensures unchanged { was_made result ≡ false → self.new ≡ self.old }
+        ensures limits { self.new.limits ≡ self.old.limits }
+        ensures verifier { self.new.verifier ≡ self.old.verifier }
     {
         let peer = room::peer_of(&command);
         if let Err(AllocError) = self.endpoint.make_room(&command) {
@@ -233,5 +238,17 @@ impl<C: PublicKey> Node<C> {
     {
         let Node { endpoint } = self;
         endpoint.into_parts()
+    }
+
+    /// Releases all that is held, and answers the directory. Takes no memory.
+    ///
+    /// # Cost
+    ///
+    /// That of [`Held::release_all`].
+    pub fn finish(self) -> Directory<C>
+        ensures { ReleasesAll C.cmp self.held self.directory result }
+    {
+        let Node { endpoint } = self;
+        endpoint.finish()
     }
 }

@@ -10,7 +10,7 @@ use Rattle.p2p_directory.specs.Held.{held_of}
 use Rattle.p2p_directory.specs.Refinement.{Refines}
 use Rattle.p2p_directory.specs.Run.{world_after, next, Holds}
 use Rattle.p2p_directory.specs.Nodes.{Made, NodeView, NodeStandsAt, IsSteppedAt, may_reserve}
-use Rattle.p2p_directory.specs.Private.Endpoints.{AreAlike, IsServedAt}
+use Rattle.p2p_directory.specs.Private.Endpoints.{IsServedAt}
 use Rattle.p2p_directory.specs.Private.Serving.{ServerView, StandsAt}
 use Rattle.p2p_directory.specs.Private.Serving as serving
 use Rattle.p2p_directory.specs.Private.Slots.{held_in}
@@ -36,16 +36,6 @@ module _ {C S : Type 0} (m : Made C S) (calls : List (Call C S)) (n : NodeView C
     verifier = verifier;
   }
 
--- what differs at most in how what is held is listed stands where the other does
-pub alike_stands : {C S : Type 0} (m : Made C S) (calls : List (Call C S)) (n n2 : NodeView C S) → AreAlike m.directory.cmp n n2 → NodeStandsAt m calls n → NodeStandsAt m calls n2
-alike_stands m calls n n2 alike at = record {
-  limit_fits = at.limit_fits;
-  refines = subst (Refines m.directory (world_after m.directory calls)) (sym alike.directory) at.refines;
-  holds = holds_alike m.directory (world_after m.directory calls) (held_of m.directory.cmp n.held) (held_of m.directory.cmp n2.held) alike.held at.holds;
-  limits = alike.limits ∙ at.limits;
-  verifier = alike.verifier ∙ at.verifier;
-}
-
 -- STEPS
 
 -- a command that was served: v is the server before it, v2 after it
@@ -58,18 +48,12 @@ served m calls n n2 v v2 c r directory held directory2 held2 limits verifier ser
     record { answer = answers.answer; left = of_server m (next m.directory calls c r) n2 v2 directory2 held2 (limits ∙ at.limits) (verifier ∙ at.verifier) answers.left }
 
 -- a step: n2 has room for the command, n3 has served it, and n4 has no more room than it needs
-pub stepped : {C S : Type 0} (m : Made C S) (calls : List (Call C S)) (n n2 n3 n4 : NodeView C S) (c : Call C S) (r : Reply C S) → AreAlike m.directory.cmp n n2 → AreAlike m.directory.cmp n3 n4 →
+pub stepped : {C S : Type 0} (m : Made C S) (calls : List (Call C S)) (n n2 n3 n4 : NodeView C S) (c : Call C S) (r : Reply C S) → n2 ≡ n → n4 ≡ n3 →
     (NodeStandsAt m calls n2 → IsServedAt m calls c r n3) → NodeStandsAt m calls n → IsSteppedAt m calls c r n4
 stepped m calls n n2 n3 n4 c r room less serves at =
-    let answers = serves (alike_stands m calls n n2 room at) in
-    record { answer = inl answers.answer; left = alike_stands m (next m.directory calls c r) n3 n4 less answers.left }
+    let answers = serves (subst (NodeStandsAt m calls) (sym room) at) in
+    record { answer = inl answers.answer; left = subst (NodeStandsAt m (next m.directory calls c r)) (sym less) answers.left }
 
 -- room for what a command may be granted was refused
 pub no_room : {C S : Type 0} (m : Made C S) (calls : List (Call C S)) (n n2 : NodeView C S) (c : Call C S) → n2 ≡ n → may_reserve c ≡ true → NodeStandsAt m calls n → IsSteppedAt m calls c reply.OutOfMemory n2
 no_room m calls n n2 c same reserves at = record { answer = inr (reserves, refl); left = subst (NodeStandsAt m calls) (sym same) at }
-
-pub alike_itself : {C S : Type 0} (cmp : C → C → Ordering) (n : NodeView C S) → AreAlike cmp n n
-alike_itself cmp n = record { directory = refl; held = λ q. refl; limits = refl; verifier = refl }
-
-pub alike_through : {C S : Type 0} (cmp : C → C → Ordering) (n n2 n3 : NodeView C S) → AreAlike cmp n n2 → AreAlike cmp n2 n3 → AreAlike cmp n n3
-alike_through cmp n n2 n3 h h2 = record { directory = h2.directory ∙ h.directory; held = λ q. h2.held q ∙ h.held q; limits = h2.limits ∙ h.limits; verifier = h2.verifier ∙ h.verifier }

@@ -1,7 +1,9 @@
 -- A list of slots in strict order of their peers: what is found in it, and what a removal leaves.
-use Rattle.std.proofs.Common.{◌≡◌, ◌+◌, Bool, true, false, not, ◌||◌, List, [], ◌∷◌, length, map, Option, Some, None, refl, sym, ◌∙◌, ap, subst, cond, arith}
+use Rattle.std.proofs.Common.{◌≡◌, ◌+◌, Bool, true, false, not, ◌&&◌, ◌||◌, T, List, [], ◌∷◌, length, map, Option, Some, None, refl, sym, ◌∙◌, ap, subst, cond, arith}
 use Rattle.std.specs.Prelude.{is_some, IfSome, slice_get, if◌then◌else◌}
-use Rattle.std.specs.Ordering.{is_eq}
+use Rattle.std.specs.Ordering.{is_eq, is_lt}
+use Rattle.std.specs.FinMap.Entries.{find, below_all, is_sorted, same_entries}
+use Rattle.std.specs.declared.cmp.Ordering.TheVariants.{Less}
 use Rattle.std.specs.Cmp.{IsTotalOrder, eq_by_cmp_equiv}
 use Rattle.std.specs.List.{AllByRecursion, cons_option, list_any}
 use Rattle.std.specs.List.Sorted.{IsStrictlySortedBy}
@@ -176,6 +178,69 @@ module _ {C S : Type 0} {cmp : C → C → Ordering} (total : IsTotalOrder cmp) 
       go q None e h = tt
       go q (Some None) e h = none q e
       go q (Some (Some m)) e h = h
+
+  -- WHAT IS HELD, AS A LIST
+
+  -- what is held in slots is in the order of its peers
+  above_contents : (k : C) (slots : List (C × Option (Metadata C S))) → AllByRecursion (λ y. cmp k y ≡ Less) (keys_of slots)
+      → AllByRecursion IsKeyed slots → AllByRecursion (λ y. cmp k y ≡ Less) (map key_of (contents slots))
+  above_contents k [] above keyed = tt
+  above_contents k ((q, None) ∷ slots) above keyed = above_contents k slots above.1 keyed.1
+  above_contents k ((q, Some m) ∷ slots) above keyed =
+      (ap (cmp k) keyed.0 ∙ above.0, above_contents k slots above.1 keyed.1)
+
+  ordered_contents : (slots : List (C × Option (Metadata C S))) → IsStrictlySortedBy cmp (keys_of slots)
+      → AllByRecursion IsKeyed slots → IsStrictlySortedBy cmp (map key_of (contents slots))
+  unfolding IsStrictlySortedBy
+  ordered_contents [] up keyed = tt
+  ordered_contents ((k, None) ∷ slots) up keyed = ordered_contents slots up.1 keyed.1
+  ordered_contents ((k, Some m) ∷ slots) up keyed = (
+    subst (λ p. AllByRecursion (λ y. cmp p y ≡ Less) (map key_of (contents slots))) (sym keyed.0)
+        (above_contents k slots up.0 keyed.1),
+    ordered_contents slots up.1 keyed.1,
+  )
+
+  -- what is held, beside its peers
+  abbrev pairs : List (Metadata C S) → List (C × Metadata C S)
+  pairs held = map (λ m. (key_of m, m)) held
+
+  found_pairs : (held : List (Metadata C S)) (q : C) → find cmp q (pairs held) ≡ held_of cmp held q
+  found_pairs [] q = refl
+  found_pairs (m ∷ held) q = ap (cond (is_at (cmp q) (key_of m)) (Some m)) (found_pairs held q)
+
+  above_pairs : (k : C) (held : List (Metadata C S)) → AllByRecursion (λ y. cmp k y ≡ Less) (map key_of held)
+      → below_all cmp k (pairs held) ≡ true
+  above_pairs k [] above = refl
+  above_pairs k (m ∷ held) above = ap (λ r. is_lt r && below_all cmp k (pairs held)) above.0 ∙ above_pairs k held above.1
+
+  ordered_pairs : (held : List (Metadata C S)) → IsStrictlySortedBy cmp (map key_of held) → is_sorted cmp (pairs held) ≡ true
+  unfolding IsStrictlySortedBy
+  ordered_pairs [] up = refl
+  ordered_pairs (m ∷ held) up =
+      ap (λ b. b && is_sorted cmp (pairs held)) (above_pairs (key_of m) held up.0) ∙ ordered_pairs held up.1
+
+  held_pairs : (held : List (Metadata C S)) → map (λ e. e.1) (pairs held) ≡ held
+  held_pairs [] = refl
+  held_pairs (m ∷ held) = ap (λ ms. m ∷ ms) (held_pairs held)
+
+  -- lists in order of what is held are the same where the same is held of each peer
+  same_held : (held held2 : List (Metadata C S)) → IsStrictlySortedBy cmp (map key_of held) → IsStrictlySortedBy cmp (map key_of held2)
+      → ((q : C) → held_of cmp held q ≡ held_of cmp held2 q) → held ≡ held2
+  same_held held held2 up up2 same =
+      sym (held_pairs held)
+      ∙ ap (map (λ e. e.1)) (same_entries cmp total exact (pairs held) (pairs held2)
+      (subst T (sym (ordered_pairs held up)) tt) (subst T (sym (ordered_pairs held2 up2)) tt)
+      (λ q. found_pairs held q ∙ same q ∙ sym (found_pairs held2 q)))
+      ∙ held_pairs held2
+
+  -- .. and so are those of slots
+  pub same_contents : (slots slots2 : List (C × Option (Metadata C S))) → AreSlots cmp slots → AreSlots cmp slots2
+      → ((q : C) → held_in cmp slots2 q ≡ held_in cmp slots q) → contents slots2 ≡ contents slots
+  same_contents slots slots2 are are2 same =
+      let keyed = λ (xs : List (C × Option (Metadata C S))) (h : AreSlots cmp xs). each (λ q slot. IfSome slot (λ m. key_of m ≡ q)) xs h.ordered h.keyed in
+      same_held (contents slots2) (contents slots)
+      (ordered_contents slots2 are2.ordered (keyed slots2 are2)) (ordered_contents slots are.ordered (keyed slots are))
+      (λ q. held_is slots2 are2 q ∙ same q ∙ sym (held_is slots are q))
 
 -- of no peer a reservation is held
 pub nothing_held : {C S : Type 0} {cmp : C → C → Ordering} → IsTotalOrder cmp → (held : List (Metadata C S)) → ((q : C) → held_of cmp held q ≡ None) → held ≡ []

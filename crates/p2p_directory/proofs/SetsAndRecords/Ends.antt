@@ -88,7 +88,7 @@ module _ {C : Type 0} {cmp : C → C → Ordering} (exact : CmpEqualImpliesEq cm
   -- .. and had another
   pub ends_instead : (ends new_ends : List (ℕ × C)) (old new : List (C × ℕ)) (key : C) (m before : ℕ) → AreEnds cmp ends old →
       ((e : ℕ × C) → list_any (is_at (end_cmp cmp e)) new_ends ≡
-          cond (is_at (end_cmp cmp (before, key)) e) false (cond (is_at (end_cmp cmp (m, key)) e) true (list_any (is_at (end_cmp cmp e)) ends))) →
+      cond (is_at (end_cmp cmp (before, key)) e) false (cond (is_at (end_cmp cmp (m, key)) e) true (list_any (is_at (end_cmp cmp e)) ends))) →
       ((q : C) → unblock_in cmp new q ≡ cond (is_at (cmp key) q) (Some m) (unblock_in cmp old q)) →
       unblock_in cmp old key ≡ Some before → nat_eq before m ≡ false → AreEnds cmp new_ends new
   ends_instead ends new_ends old new key m before are instead put found other n q =
@@ -111,7 +111,7 @@ module _ {C : Type 0} {cmp : C → C → Ordering} (exact : CmpEqualImpliesEq cm
   -- what was added is taken back
   pub ends_back : (ends new_ends : List (ℕ × C)) (old : List (C × ℕ)) (key : C) (m : ℕ) → AreEnds cmp ends old →
       ((e : ℕ × C) → list_any (is_at (end_cmp cmp e)) new_ends ≡
-          cond (is_at (end_cmp cmp (m, key)) e) false (cond (is_at (end_cmp cmp (m, key)) e) true (list_any (is_at (end_cmp cmp e)) ends))) →
+      cond (is_at (end_cmp cmp (m, key)) e) false (cond (is_at (end_cmp cmp (m, key)) e) true (list_any (is_at (end_cmp cmp e)) ends))) →
       unblock_in cmp old key ≡ None → AreEnds cmp new_ends old
   ends_back ends new_ends old key m are back none n q = back (n, q) ∙ (λ i. cond (tied cmp m n key q i) false (cond (tied cmp m n key q i) true (Has ends n q))) ∙ go (is_at (cmp key) q) refl ∙ are n q
     where
@@ -173,9 +173,9 @@ pub no_ends : {C : Type 0} {cmp : C → C → Ordering} → IsTotalOrder cmp →
 no_ends total ends [] are none = refl
 no_ends {C} {cmp} total ends (b ∷ bs) are none =
     absurd (
-      let here : unblock_in cmp (b ∷ bs) b.0 ≡ Some b.1 = ap (λ o. cond (is_eq o) (Some b.1) (unblock_in cmp bs b.0)) (tied_itself total b.0) in
-      let e = sym (are b.1 b.0 ∙ until_is b.1 (unblock_in cmp (b ∷ bs) b.0) here) ∙ ap (list_any (is_at (end_cmp cmp (b.1, b.0)))) none in
-      cc
+    let here : unblock_in cmp (b ∷ bs) b.0 ≡ Some b.1 = ap (λ o. cond (is_eq o) (Some b.1) (unblock_in cmp bs b.0)) (tied_itself total b.0) in
+    let e = sym (are b.1 b.0 ∙ until_is b.1 (unblock_in cmp (b ∷ bs) b.0) here) ∙ ap (list_any (is_at (end_cmp cmp (b.1, b.0)))) none in
+    cc
     )
 
 -- WHAT IS LEFT
@@ -256,9 +256,10 @@ module _ {C : Type 0} (now : ℕ) where
   all_later {cmp} total (b ∷ bs) up later =
       let here : unblock_in cmp (b ∷ bs) b.0 ≡ Some b.1 = ap (λ o. cond (is_eq o) (Some b.1) (unblock_in cmp bs b.0)) (tied_itself total b.0) in
       let rest = all_later total bs (sorted_tail cmp b.0 (keys_of bs) up) (λ q n found. past q n (is_at (cmp q) b.0) refl found) in
-      let passes : nat_lt now b.1 ≡ true = lt-ltb now b.1 (later b.0 b.1 here) in
-      (ap (λ t. cond t (b ∷ filter (is_later now) bs) (filter (is_later now) bs)) passes ∙ ap (λ ds. b ∷ ds) rest.0,
-       ap (λ t. length (cond (not t) (b ∷ filter ends_by bs) (filter ends_by bs))) passes ∙ rest.1)
+      let passes : nat_lt now b.1 ≡ true = lt-ltb now b.1 (later b.0 b.1 here) in (
+        ap (λ t. cond t (b ∷ filter (is_later now) bs) (filter (is_later now) bs)) passes ∙ ap (λ ds. b ∷ ds) rest.0,
+        ap (λ t. length (cond (not t) (b ∷ filter ends_by bs) (filter ends_by bs))) passes ∙ rest.1,
+      )
     where
       past : (q : C) (n : ℕ) (t : Bool) → is_at (cmp q) b.0 ≡ t → unblock_in cmp bs q ≡ Some n → now < n
       past q n true same found = absurd (let none = lookup-none (is_at (cmp q)) bs (none_past_head (eq_by_cmp_equiv total) q b bs (IsDistinct-from_sorted cmp (keys_of (b ∷ bs)) up) same) in cc)

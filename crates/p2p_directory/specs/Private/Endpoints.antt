@@ -29,13 +29,6 @@ node_of e = record {
   verifier = e.verifier;
 }
 
--- two nodes that differ at most in how what is held is listed
-pub record AreAlike {C S : Type 0} (cmp : C → C → Ordering) (v v2 : NodeView C S) : Type 0 where
-  pub directory : v2.directory ≡ v.directory
-  pub held : (q : C) → held_of cmp v2.held q ≡ held_of cmp v.held q
-  pub limits : v2.limits ≡ v.limits
-  pub verifier : v2.verifier ≡ v.verifier
-
 -- the reply to one more call answers at its point, and the node then stands at the next
 pub record IsServedAt {C S : Type 0} (m : Made C S) (calls : List (Call C S)) (c : Call C S)
     (r : Reply C S) (v : NodeView C S) : Type 0 where

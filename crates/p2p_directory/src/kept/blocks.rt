@@ -177,7 +177,7 @@ fn take_ended<C: PublicKey>(ends: &mut BTreeSet<(u128, C)>, now: Duration) -> Op
     ensures some { IfSome result (λ end. (end.0 ≤ as_nanos now)
         × (contains (end_cmp C.cmp) ends.old end ≡ true)
         × ((e : ℕ × C) → contains (end_cmp C.cmp) ends.new e ≡
-            (if is_at (end_cmp C.cmp end) e then false else contains (end_cmp C.cmp) ends.old e))
+        (if is_at (end_cmp C.cmp end) e then false else contains (end_cmp C.cmp) ends.old e))
         × (length ends.new.keys < length ends.old.keys)) }
     ensures none { IfNone result ((e : ℕ × C)
         → contains (end_cmp C.cmp) ends.old e ≡ true → as_nanos now < e.0) }

@@ -119,7 +119,7 @@ impl<C: PublicKey> Places<C> {
     pub fn remove_last(&mut self, key: &C)
         ensures { (q : C) → places_of C.cmp self.new q ≡
             (if is_at (C.cmp key.now) q then take (length (places_of C.cmp self.old q) - 1)
-                (places_of C.cmp self.old q)
+            (places_of C.cmp self.old q)
             else places_of C.cmp self.old q) }
     {
         if let Some(queue) = self.queues.get_mut(key) {

@@ -1,6 +1,6 @@
 //! What a node is: a directory that serves commands, by what infos are judged, and limits.
 
-ghost use Rattle.std.specs.Prelude.{◌≡◌, ◌<◌, ◌^◌, true, false, IfOk, IfSome, OnOk, OnErr, length};
+ghost use Rattle.std.specs.Prelude.{◌≡◌, ◌<◌, ◌^◌, true, false, None, IfOk, IfSome, OnOk, OnErr, length};
 ghost use Rattle.std.specs.Prelude.{is_some, option_map};
 ghost use Rattle.std.specs.Duration.{as_nanos};
 ghost use Rattle.p2p_discovery.specs.Payload.{CanSpell, payload_spelling, IsPayload};
@@ -8,16 +8,16 @@ ghost use Rattle.p2p_discovery.specs.Payload.{IsKeyedPayload};
 ghost use Rattle.p2p_discovery.specs.Judgement.{judge_of, refusal, list_refusal};
 ghost use Rattle.p2p_discovery.specs.declared.discovery.Payload.TheVariants.{Peers};
 ghost use Rattle.p2p_directory.specs.Directory.{bit_vec_at, infos_in};
-ghost use Rattle.p2p_directory.specs.Held.{held_of, AreHeld};
-ghost use Rattle.p2p_directory.specs.Run.{call_of};
+ghost use Rattle.p2p_directory.specs.Held.{held_of, AreHeld, ReleasesAll};
+ghost use Rattle.p2p_directory.specs.Run.{call_of, was_made};
 ghost use Rattle.p2p_directory.specs.Received.{wire_of, greeted, replied, taken, takes_room};
 ghost use Rattle.p2p_directory.specs.Received.{applies, told_with};
 ghost use Rattle.p2p_directory.specs.Nodes.{may_reserve, Answers, AnswersFrame, AsksWith};
 ghost use Rattle.p2p_directory.specs.Nodes.{AreValues, TellsValues};
 ghost use Rattle.p2p_directory.specs.Private.Frames.{fault_answer, HasSpelling, HaveSpelling};
 ghost use Rattle.p2p_directory.specs.Private.Serving.{has_room};
-ghost use Rattle.p2p_directory.specs.Private.Slots.{contents, has_slot};
-ghost use Rattle.p2p_directory.specs.Private.Endpoints.{node_of, AreAlike, IsServedBy};
+ghost use Rattle.p2p_directory.specs.Private.Slots.{contents, has_slot, held_in};
+ghost use Rattle.p2p_directory.specs.Private.Endpoints.{node_of, IsServedBy};
 
 use crate::directory::Directory;
 use crate::node::Received;
@@ -82,6 +82,9 @@ impl<C: PublicKey> Endpoint<C> {
     pub fn serve(&mut self, command: Command<C>) -> Reply<C>
         requires room { has_room C.cmp self.old.slots command ≡ true }
         ensures served { IsServedBy C.cmp command result self.old self.new }
+        ensures unchanged { was_made result ≡ false → self.new ≡ self.old }
+        ensures limits { self.new.limits ≡ self.old.limits }
+        ensures verifier { self.new.verifier ≡ self.old.verifier }
         ensures slots { (q : C) →
             has_slot C.cmp self.new.slots q ≡ has_slot C.cmp self.old.slots q }
     {
@@ -97,8 +100,10 @@ impl<C: PublicKey> Endpoint<C> {
         ensures room { OnOk result (has_room C.cmp self.new.slots command.now ≡ true) }
         ensures slots { OnOk result ((q : C) →
             has_slot C.cmp self.old.slots q ≡ true → has_slot C.cmp self.new.slots q ≡ true) }
-        ensures alike { AreAlike C.cmp (node_of self.old) (node_of self.new) }
+        ensures same { node_of self.new ≡ node_of self.old }
     {
+        // For the proof: the slots are in order before, and after.
+        self.server.in_order();
         let made = self.server.make_room(command);
         self.server.in_order();
         made
@@ -106,8 +111,12 @@ impl<C: PublicKey> Endpoint<C> {
 
     /// Takes the slot of the peer out, where it is empty. Takes no memory.
     pub fn drop_room(&mut self, peer: Option<C>)
-        ensures { AreAlike C.cmp (node_of self.old) (node_of self.new) }
+        ensures dropped { IfSome peer (λ p. held_in C.cmp self.old.slots p ≡ None →
+            has_slot C.cmp self.new.slots p ≡ false) }
+        ensures same { node_of self.new ≡ node_of self.old }
     {
+        // For the proof: the slots are in order before, and after.
+        self.server.in_order();
         self.server.drop_room(peer);
         self.server.in_order();
     }
@@ -158,6 +167,15 @@ impl<C: PublicKey> Endpoint<C> {
             Ok(Payload::Peers(infos)) => self.take(infos, now),
             Err(fault) => refused(fault),
         }
+    }
+
+    /// Releases all that is held, and answers the directory. Takes no memory.
+    pub fn finish(self) -> Directory<C>
+        ensures { ReleasesAll C.cmp (contents self.slots) self.directory result }
+    {
+        let (mut directory, held) = self.into_parts();
+        held.release_all(&mut directory);
+        directory
     }
 
     /// The directory, and what is held. Takes no memory.

@@ -10,7 +10,7 @@ ghost use Rattle.p2p_directory.specs.Nodes.{NodeStandsAt, made_of};
 ghost use Rattle.p2p_directory.specs.Pairs.{ArePairAnswers, calls_left};
 ghost use Rattle.p2p_directory.specs.Laws.Gossip.{KeepExchanges, KeepSigned, KeepGreetings};
 ghost use Rattle.p2p_directory.specs.Laws.LateFrames.{KeepReplies, KeepLate};
-ghost use Rattle.p2p_directory.specs.Private.Endpoints.{node_of, AreAlike};
+ghost use Rattle.p2p_directory.specs.Private.Endpoints.{node_of};
 ghost use Rattle.p2p_directory.specs.Private.Pairing.{has_pair_room, IsPairServed, IsPairWritten};
 ghost use Rattle.p2p_directory.specs.Private.Pairing as pairing;
 ghost use Rattle.p2p_directory.specs.Private.Slots.{has_slot};
@@ -18,7 +18,7 @@ ghost use Rattle.p2p_directory.specs.Private.Slots.{has_slot};
 use crate::node::endpoint::Endpoint;
 use crate::node::exchanged::Exchanged;
 use crate::node::{Node, Received, Setup};
-use crate::run::{Command, Reply, Run};
+use crate::run::{Command, Reply};
 use bytes::Bytes;
 use p2p_discovery::codec::PublicKey;
 use std::alloc::{AllocError, Global};
@@ -71,7 +71,7 @@ pub enum PairReply<C: PublicKey> {
     OutOfMemory,
 }
 
-/// What a run of two nodes leaves. Both must be spent, by [`Node::parts`].
+/// What a run of two nodes leaves. Both must be spent, by [`Node::finish`] or [`Node::parts`].
 pub struct PairRun<C: PublicKey> {
     /// The first node after the last command.
     pub left: Node<C>,
@@ -113,7 +113,7 @@ pub struct PairRun<C: PublicKey> {
 ///   changes where all were so before, and by a copy that follows at once. What else was given to
 ///   either node is of no matter here.
 ///
-/// Both nodes that are left must be spent, by [`Node::parts`].
+/// Both nodes that are left must be spent, by [`Node::finish`] or [`Node::parts`].
 ///
 /// # Conditions
 ///
@@ -204,13 +204,13 @@ fn ends_of<C: PublicKey>(
     let mut right = match end_of(alloc, right) {
         Ok(right) => right,
         Err(AllocError) => {
-            spend(alloc, left);
+            left.finish();
             return Err(AllocError);
         }
     };
     if make_room(&mut left, &mut right, commands).is_err() {
-        spend(alloc, left);
-        spend(alloc, right);
+        left.finish();
+        right.finish();
         return Err(AllocError);
     }
     Ok((left, right))
@@ -234,8 +234,8 @@ fn make_room<C: PublicKey>(
     right: &mut Endpoint<C>,
     commands: &[PairCommand<C>],
 ) -> Result<(), AllocError>
-    ensures left { AreAlike C.cmp (node_of left.old) (node_of left.new) }
-    ensures right { AreAlike C.cmp (node_of right.old) (node_of right.new) }
+    ensures left { node_of left.new ≡ node_of left.old }
+    ensures right { node_of right.new ≡ node_of right.old }
     ensures room { OnOk result
         (AllPass (has_pair_room C.cmp left.new.slots right.new.slots) commands.now) }
 {
@@ -251,8 +251,8 @@ fn make_one<C: PublicKey>(
     right: &mut Endpoint<C>,
     command: &PairCommand<C>,
 ) -> Result<(), AllocError>
-    ensures left { AreAlike C.cmp (node_of left.old) (node_of left.new) }
-    ensures right { AreAlike C.cmp (node_of right.old) (node_of right.new) }
+    ensures left { node_of left.new ≡ node_of left.old }
+    ensures right { node_of right.new ≡ node_of right.old }
     ensures left_slots { OnOk result ((q : C) →
         has_slot C.cmp left.old.slots q ≡ true → has_slot C.cmp left.new.slots q ≡ true) }
     ensures right_slots { OnOk result ((q : C) →
@@ -265,17 +265,6 @@ fn make_one<C: PublicKey>(
         PairCommand::Call(Side::Right, command) => right.make_room(command),
         _ => Ok(()),
     }
-}
-
-// Ends a node, and releases all that it holds.
-fn spend<C: PublicKey>(alloc: Global, endpoint: Endpoint<C>) {
-    let (directory, held) = endpoint.into_parts();
-    let run = Run {
-        directory,
-        held,
-        replies: Vec::new(alloc),
-    };
-    run.finish();
 }
 
 // Serves one command to two nodes, where there is room for what it may be granted.

@@ -6,16 +6,16 @@ ghost use Rattle.std.specs.Option.{option_map};
 ghost use Rattle.std.specs.BTreeMap.{is_at};
 ghost use Rattle.std.specs.List.Sorted.{IsStrictlySortedBy};
 ghost use Rattle.p2p_directory.specs.Directory.{key_of};
-ghost use Rattle.p2p_directory.specs.Held.{held_of, all_but};
+ghost use Rattle.p2p_directory.specs.Held.{held_of, all_but, AreHeld, ReleasesAll};
 ghost use Rattle.p2p_directory.specs.Private.Slots.{held_in, AreFull};
 
-use crate::directory::Reservation;
+use crate::directory::{Directory, Reservation};
 use p2p_discovery::codec::PublicKey;
 use std::collections::BTreeMap;
 use std::marker::Model;
 
 /// The reservations that are held, in ascending order of their peers. A contract sees the list of
-/// what they are for. It must be spent, by [`Held::close`].
+/// what they are for. It must be spent, by [`Held::release_all`] or [`Held::close`].
 pub struct Held<C: PublicKey> {
     // Each has its value.
     reservations: BTreeMap<C, Option<Reservation<C>>>,
@@ -79,8 +79,30 @@ impl<C: PublicKey> Held<C> {
         self.reservations.remove(peer).flatten()
     }
 
-    /// Ends it. Takes no memory. What is held goes first: [`Held::take`] of each
-    /// [`Held::first`], and [`Directory::release`](crate::directory::Directory::release) of it.
+    /// Releases all that is held, in the directory that granted it. Takes no memory.
+    ///
+    /// # Conditions
+    ///
+    /// A reservation is held of exactly the peers that are reserved or connected in the directory,
+    /// as it is after a run and of the parts of a node.
+    ///
+    /// # Cost
+    ///
+    /// A release, which is logarithmic in the records, for each reservation that is held.
+    pub fn release_all(self, directory: &mut Directory<C>)
+        requires { AreHeld C.cmp directory.old (held_of C.cmp self) }
+        ensures { ReleasesAll C.cmp self directory.old directory.new }
+    {
+        let mut held = self;
+        while let Some(peer) = held.first() {
+            if let Some(reservation) = held.take(&peer) {
+                directory.release(reservation);
+            }
+        }
+        held.close();
+    }
+
+    /// Ends it. Takes no memory. What is held goes first, by [`Held::release_all`].
     ///
     /// # Conditions
     ///

@@ -20,34 +20,23 @@ pub struct Run<C: PublicKey> {
 }
 
 impl<C: PublicKey> Run<C> {
-    ghost use Rattle.std.specs.Prelude.{◌≡◌};
-    ghost use Rattle.p2p_directory.specs.Directory.{record_of};
-    ghost use Rattle.p2p_directory.specs.Held.{held_of, after_release};
+    ghost use Rattle.p2p_directory.specs.Held.{ReleasesAll};
 
     /// Releases all that is held, and answers the directory. Takes no memory; the replies are
     /// dropped.
     ///
     /// # Cost
     ///
-    /// A release, which is logarithmic in the records, for each reservation that is held.
+    /// That of [`Held::release_all`].
     pub fn finish(self) -> Directory<C>
-        ensures config { result.config ≡ self.directory.config }
-        ensures sets { result.sets ≡ self.directory.sets }
-        ensures blocks { result.blocks ≡ self.directory.blocks }
-        ensures records { (q : C) → record_of C.cmp result q
-            ≡ after_release (held_of C.cmp self.held q) (record_of C.cmp self.directory q) }
+        ensures { ReleasesAll C.cmp self.held self.directory result }
     {
         let Run {
             mut directory,
-            mut held,
+            held,
             replies: _,
         } = self;
-        while let Some(peer) = held.first() {
-            if let Some(reservation) = held.take(&peer) {
-                directory.release(reservation);
-            }
-        }
-        held.close();
+        held.release_all(&mut directory);
         directory
     }
 }

@@ -1,12 +1,12 @@
 //! A directory that serves commands, and holds what it grants.
 
-ghost use Rattle.std.specs.Prelude.{◌≡◌, true, OnOk, OnErr};
+ghost use Rattle.std.specs.Prelude.{◌≡◌, true, false, None, OnOk, OnErr, IfSome};
 ghost use Rattle.p2p_directory.specs.Directory.{Updates};
 ghost use Rattle.p2p_directory.specs.Held.{held_of, AreHeld};
 ghost use Rattle.p2p_directory.specs.Private.Slots.{has_slot, held_in, AreSlots};
 ghost use Rattle.p2p_directory.specs.Private.Serving.{has_room, IsServed};
 ghost use Rattle.p2p_directory.specs.Nodes.{may_reserve};
-ghost use Rattle.p2p_directory.specs.Run.{call_of};
+ghost use Rattle.p2p_directory.specs.Run.{call_of, was_made};
 
 use crate::directory::{Directory, TrackedPeers};
 use crate::record::Status;
@@ -55,6 +55,7 @@ impl<C: PublicKey> Server<C> {
     pub fn serve(&mut self, command: Command<C>) -> Reply<C>
         requires room { has_room C.cmp self.old.slots command ≡ true }
         ensures served { IsServed C.cmp command result self.old self.new }
+        ensures unchanged { was_made result ≡ false → self.new ≡ self.old }
         ensures slots { (q : C) →
             has_slot C.cmp self.new.slots q ≡ has_slot C.cmp self.old.slots q }
     {
@@ -107,6 +108,8 @@ impl<C: PublicKey> Server<C> {
 
     /// Takes the slot of the peer out, where it is empty. Takes no memory.
     pub fn drop_room(&mut self, peer: Option<C>)
+        ensures dropped { IfSome peer (λ p. held_in C.cmp self.old.slots p ≡ None →
+            has_slot C.cmp self.new.slots p ≡ false) }
         ensures directory { self.new.directory ≡ self.old.directory }
         ensures held { (q : C) →
             held_in C.cmp self.new.slots q ≡ held_in C.cmp self.old.slots q }
@@ -144,6 +147,7 @@ impl<C: PublicKey> Server<C> {
     // Takes a peer set.
     fn track(&mut self, index: u64, peers: TrackedPeers<C>) -> Reply<C>
         ensures served { IsServed C.cmp (Command.Track index peers) result self.old self.new }
+        ensures unchanged { was_made result ≡ false → self.new ≡ self.old }
         ensures slots { self.new.slots ≡ self.old.slots }
     {
         match self.directory.track(index, peers) {
@@ -157,6 +161,7 @@ impl<C: PublicKey> Server<C> {
         requires room { has_slot C.cmp self.old.slots peer.now ≡ true }
         ensures served { IsServed C.cmp (Command.Dial peer.now now draw)
             result self.old self.new }
+        ensures unchanged { was_made result ≡ false → self.new ≡ self.old }
         ensures slots { (q : C) →
             has_slot C.cmp self.new.slots q ≡ has_slot C.cmp self.old.slots q }
     {
@@ -175,6 +180,7 @@ impl<C: PublicKey> Server<C> {
         requires room { has_slot C.cmp self.old.slots peer.now ≡ true }
         ensures served { IsServed C.cmp (Command.Listen peer.now now draw)
             result self.old self.new }
+        ensures unchanged { was_made result ≡ false → self.new ≡ self.old }
         ensures slots { (q : C) →
             has_slot C.cmp self.new.slots q ≡ has_slot C.cmp self.old.slots q }
     {
@@ -191,6 +197,7 @@ impl<C: PublicKey> Server<C> {
     fn connect(&mut self, peer: &C, dialer: bool) -> Reply<C>
         ensures served { IsServed C.cmp (Command.Connect peer.now dialer)
             result self.old self.new }
+        ensures unchanged { was_made result ≡ false → self.new ≡ self.old }
         ensures slots { self.new.slots ≡ self.old.slots }
     {
         match self.directory.status(peer) {
@@ -205,6 +212,7 @@ impl<C: PublicKey> Server<C> {
     // Releases the reservation of the peer, where one is held.
     fn release(&mut self, peer: &C) -> Reply<C>
         ensures served { IsServed C.cmp (Command.Release peer.now) result self.old self.new }
+        ensures unchanged { was_made result ≡ false → self.new ≡ self.old }
         ensures slots { (q : C) →
             has_slot C.cmp self.new.slots q ≡ has_slot C.cmp self.old.slots q }
     {
@@ -220,6 +228,7 @@ impl<C: PublicKey> Server<C> {
     // Offers the infos to the records of their peers.
     fn update_peers(&mut self, infos: Vec<Info<C>>) -> Reply<C>
         ensures served { IsServed C.cmp (Command.UpdatePeers infos) result self.old self.new }
+        ensures unchanged { was_made result ≡ false → self.new ≡ self.old }
         ensures slots { self.new.slots ≡ self.old.slots }
     {
         self.directory.update_peers(infos);
@@ -229,6 +238,7 @@ impl<C: PublicKey> Server<C> {
     // Blocks the peer.
     fn block(&mut self, peer: &C, now: Duration) -> Reply<C>
         ensures served { IsServed C.cmp (Command.Block peer.now now) result self.old self.new }
+        ensures unchanged { was_made result ≡ false → self.new ≡ self.old }
         ensures slots { self.new.slots ≡ self.old.slots }
     {
         match self.directory.block(peer, now) {
@@ -240,6 +250,7 @@ impl<C: PublicKey> Server<C> {
     // Ends the blocks that hold until the moment, or until an earlier one.
     fn unblock_expired(&mut self, now: Duration) -> Reply<C>
         ensures served { IsServed C.cmp (Command.UnblockExpired now) result self.old self.new }
+        ensures unchanged { was_made result ≡ false → self.new ≡ self.old }
         ensures slots { self.new.slots ≡ self.old.slots }
     {
         Reply::UnblockExpired(self.directory.unblock_expired(now))

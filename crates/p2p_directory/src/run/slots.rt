@@ -2,7 +2,7 @@
 //! command, that of a node's command before it.
 
 ghost use Rattle.std.specs.Prelude.{◌≡◌, [], false, true, ◌||◌, if◌then◌else◌};
-ghost use Rattle.std.specs.Prelude.{IfSome, OnOk, OnErr, None, Some};
+ghost use Rattle.std.specs.Prelude.{IfSome, IfNone, OnOk, OnErr, None, Some, is_some};
 ghost use Rattle.std.specs.BTreeMap.{is_at};
 ghost use Rattle.p2p_directory.specs.Directory.{key_of};
 ghost use Rattle.p2p_directory.specs.Held.{held_of};
@@ -95,10 +95,24 @@ impl<C: PublicKey> Slots<C> {
         ensures slots { (q : C) → has_slot C.cmp self.new q ≡ has_slot C.cmp self.old q }
         ensures held { (q : C) → held_in C.cmp self.new q
             ≡ (if is_at (C.cmp peer.now) q then None else held_in C.cmp self.old q) }
+        ensures none { IfNone result (self.new ≡ self.old) }
     {
+        if !self.holds(peer) {
+            return None;
+        }
         match self.reservations.get_mut(peer) {
             Some(slot) => slot.take(),
             None => None,
+        }
+    }
+
+    // Whether a reservation of the peer is held.
+    fn holds(&self, peer: &C) -> bool
+        ensures { result ≡ is_some (held_in C.cmp self.now peer.now) }
+    {
+        match self.reservations.get(peer) {
+            Some(slot) => slot.is_some(),
+            None => false,
         }
     }
 
@@ -108,7 +122,9 @@ impl<C: PublicKey> Slots<C> {
     ///
     /// One pass over the peers of the slots.
     pub fn drop_empty(&mut self, peer: &C)
-        ensures { (q : C) → held_in C.cmp self.new q ≡ held_in C.cmp self.old q }
+        ensures dropped { held_in C.cmp self.old peer.now ≡ None →
+            has_slot C.cmp self.new peer.now ≡ false }
+        ensures held { (q : C) → held_in C.cmp self.new q ≡ held_in C.cmp self.old q }
     {
         remove_empty(&mut self.reservations, peer);
         if !self.reservations.contains_key(peer) {
@@ -154,6 +170,8 @@ fn remove_empty<C: PublicKey>(slots: &mut BTreeMap<C, Option<Reservation<C>>>, p
         held_in C.cmp slots.new.entries q ≡ held_in C.cmp slots.old.entries q }
     ensures fewer { (q : C) →
         has_slot C.cmp slots.new.entries q ≡ true → has_slot C.cmp slots.old.entries q ≡ true }
+    ensures dropped { held_in C.cmp slots.old.entries peer.now ≡ None →
+        has_slot C.cmp slots.new.entries peer.now ≡ false }
     ensures empty { (q : C) → slot_of C.cmp slots.new.entries q ≡ Some None →
         (slot_of C.cmp slots.old.entries q ≡ Some None) × (is_at (C.cmp q) peer.now ≡ false) }
 {

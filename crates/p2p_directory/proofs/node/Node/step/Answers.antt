@@ -4,7 +4,7 @@ use Rattle.p2p_directory.specs.Private.Endpoints.{node_of}
 use Rattle.p2p_directory.proofs.Nodes.Standing.{stepped}
 use Rattle.p2p_directory.proofs.node.Node.step.Goals as goal
 
-pub returns : goal.returns
-returns g c = rw (← c.self.view_is) (λ given calls at.
+pub returns-clause-stepped : goal.returns-clause-stepped
+returns-clause-stepped g c = rw (← c.self.view_is) (λ given calls at.
     stepped (made_of g.C.Ord.cmp given) calls _ (node_of c.make_room.new.self) (node_of c.serve-reply.new.self) _ (call_of c.args.command) c.serve-reply.result
-    c.make_room.ensures.alike c.drop_room.ensures (c.serve-reply.ensures.served given calls) at)
+    c.make_room.ensures.same c.drop_room.ensures.same (c.serve-reply.ensures.served given calls) at)

@@ -1,25 +1,22 @@
-use Rattle.std.proofs.Common.{◌≡◌, true, ◌∙◌, subst, get_or, below_more, arith}
+use Rattle.std.proofs.Common.{◌≡◌, true, refl, ◌∙◌, subst, get_or, below_more, arith}
 use Rattle.std.proofs.lemmas.List.{get_or_default}
 use Rattle.p2p_directory.specs.Private.Endpoints.{node_of}
 use Rattle.p2p_directory.specs.Private.Pairing.{has_pair_room}
 use Rattle.p2p_directory.proofs.Nodes.Pairs.{pair_room_grows}
-use Rattle.p2p_directory.proofs.Nodes.Standing.{alike_itself, alike_through}
 use Rattle.p2p_directory.proofs.node.pair.make_room.Goals as goal
 
 pub loop-command-init : goal.loop-command-init
 loop-command-init g c = record {
   room = λ k d lt. absurd (omega (arith, lt));
-  left = alike_itself g.C.Ord.cmp (node_of c.args.left.now);
-  right = alike_itself g.C.Ord.cmp (node_of c.args.right.now);
+  left = refl;
+  right = refl;
 }
 
 pub returns-in_err-make_one-clause-left : goal.returns-in_err-make_one-clause-left
-returns-in_err-make_one-clause-left g c =
-    alike_through g.C.Ord.cmp _ (node_of c.loop-command.left) (node_of c.make_one.new.left) c.loop-command.invariant.left c.make_one.ensures.left
+returns-in_err-make_one-clause-left g c = c.make_one.ensures.left ∙ c.loop-command.invariant.left
 
 pub returns-in_err-make_one-clause-right : goal.returns-in_err-make_one-clause-right
-returns-in_err-make_one-clause-right g c =
-    alike_through g.C.Ord.cmp _ (node_of c.loop-command.right) (node_of c.make_one.new.right) c.loop-command.invariant.right c.make_one.ensures.right
+returns-in_err-make_one-clause-right g c = c.make_one.ensures.right ∙ c.loop-command.invariant.right
 
 pub loop-command-preserved : goal.loop-command-preserved
 loop-command-preserved g c =
@@ -32,8 +29,8 @@ loop-command-preserved g c =
           (λ k lt. pair_room_grows g.C.Ord.cmp ls rs ls2 rs2 (get_or c.args.commands.now k d) c.in_ok-make_one.ensures.left_slots c.in_ok-make_one.ensures.right_slots (c.loop-command.invariant.room k d lt))
           (subst (λ x. has_pair_room g.C.Ord.cmp ls2 rs2 x ≡ true) (c.command-item.is ∙ get_or_default c.args.commands.now c.loop-command.command-index c.command-item.result d c.loop-command-test.true)
           c.in_ok-make_one.ensures.room) k lt;
-      left = alike_through g.C.Ord.cmp (node_of c.args.left.now) (node_of c.loop-command.left) (node_of c.make_one.new.left) c.loop-command.invariant.left c.make_one.ensures.left;
-      right = alike_through g.C.Ord.cmp (node_of c.args.right.now) (node_of c.loop-command.right) (node_of c.make_one.new.right) c.loop-command.invariant.right c.make_one.ensures.right;
+      left = c.make_one.ensures.left ∙ c.loop-command.invariant.left;
+      right = c.make_one.ensures.right ∙ c.loop-command.invariant.right;
     }
 
 pub returns-clause-left : goal.returns-clause-left

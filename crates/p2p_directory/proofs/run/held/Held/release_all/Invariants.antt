@@ -1,7 +1,7 @@
 use Rattle.std.proofs.Common.{◌≡◌, length}
 use Rattle.p2p_directory.specs.Directory.{record_of}
 use Rattle.p2p_directory.specs.Held.{held_of, AreHeld, after_release}
-use Rattle.p2p_directory.proofs.run.outcome.Run.finish.Given as goal
+use Rattle.p2p_directory.proofs.run.held.Held.release_all.Given as goal
 
 -- once what is still held were released, each record would be as promised
 abbrev pub invariant-loop-peer : goal.invariant-loop-peer

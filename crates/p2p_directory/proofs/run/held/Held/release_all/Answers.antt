@@ -2,7 +2,7 @@ use Rattle.std.proofs.Common.{ap, sym, ◌∙◌}
 use Rattle.p2p_directory.specs.Directory.{record_of}
 use Rattle.p2p_directory.specs.Held.{held_of, after_release}
 use Rattle.p2p_directory.proofs.Reservations.Holding.{held_by_release, held_record, given_back}
-use Rattle.p2p_directory.proofs.run.outcome.Run.finish.Goals as goal
+use Rattle.p2p_directory.proofs.run.held.Held.release_all.Goals as goal
 
 pub loop-peer-preserved-in-Some-take : goal.loop-peer-preserved-in-Some-take
 loop-peer-preserved-in-Some-take g c =
@@ -24,6 +24,12 @@ pub release-requires : goal.release-requires
 release-requires g c =
     held_record g.C.Ord.cmp c.loop-peer.directory (held_of g.C.Ord.cmp c.loop-peer.held) c.in-Some.peer c.in-Some-take.reservation c.loop-peer.invariant.agree (sym c.in-Some-take.ensures.taken) c.in-Some-take.ensures.peer
 
-pub returns-clause-records : goal.returns-clause-records
-returns-clause-records g c = λ q.
-    ap (λ held. after_release (held_of g.C.Ord.cmp held q) (record_of g.C.Ord.cmp c.loop-peer.directory q)) (sym c.in_default.ensures.none) ∙ c.loop-peer.invariant.records q
+pub returns : goal.returns
+returns g c = record {
+  config = c.loop-peer.invariant.config;
+  sets = c.loop-peer.invariant.sets;
+  blocks = c.loop-peer.invariant.blocks;
+  records = λ q.
+      ap (λ held. after_release (held_of g.C.Ord.cmp held q) (record_of g.C.Ord.cmp c.loop-peer.directory q)) (sym c.in_default.ensures.none)
+      ∙ c.loop-peer.invariant.records q;
+}
