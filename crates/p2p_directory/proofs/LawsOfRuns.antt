@@ -6,6 +6,7 @@ pub mod Spacing
 pub mod Dialled
 pub mod Quiet
 pub mod GrantRuns
+pub mod BlockRuns
 pub mod DialRuns
 pub mod IsolationRuns
 pub mod OrderRuns

@@ -1,4 +1,4 @@
--- Words of the laws of whole runs. Those in GrantRuns, DialRuns, IsolationRuns, OrderRuns and
+-- Words of the laws of whole runs. Those in GrantRuns, BlockRuns, DialRuns, IsolationRuns, OrderRuns and
 -- BoundRuns, and what they rest on, are in the promises of `run`.
 pub mod Isolation
 pub mod Order
@@ -6,6 +6,7 @@ pub mod Bounds
 pub mod Grants
 pub mod Dials
 pub mod GrantRuns
+pub mod BlockRuns
 pub mod DialRuns
 pub mod IsolationRuns
 pub mod OrderRuns

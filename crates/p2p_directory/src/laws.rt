@@ -25,6 +25,7 @@ ghost use Rattle.p2p_directory.specs.Laws.Dials.{AreChosen, AreDialled, IsBefore
 ghost use Rattle.p2p_directory.specs.declared.run.commands.Reply.{Reply};
 ghost use Rattle.p2p_directory.specs.Run.{AreAnswers};
 ghost use Rattle.p2p_directory.specs.Laws.GrantRuns.{KeepCooldown, KeepBlocks};
+ghost use Rattle.p2p_directory.specs.Laws.BlockRuns.{KeepLastBlock};
 ghost use Rattle.p2p_directory.specs.Laws.DialRuns.{KeepDialable};
 ghost use Rattle.p2p_directory.specs.Laws.IsolationRuns.{KeepAlone};
 ghost use Rattle.p2p_directory.specs.Laws.OrderRuns.{KeepOrder};
@@ -185,7 +186,8 @@ pub fn dialable_is_quiet<C: PublicKey>()
 /// greatest moment, unless the peer was absent in between. Moments may go back. Where the moments
 /// of the commands that may grant, block or end a block never go back, whatever they were replied,
 /// a peer whose block was taken is granted by no later command before the block's end, at most the
-/// greatest moment.
+/// greatest moment. Of any moments, each grant and each further block of a peer comes no earlier
+/// than the end of its last block that no accepted `UnblockExpired` has ended.
 pub fn grants_of_a_run<C: PublicKey>()
     ensures spaced { (s : Setup C C.Signature) → s.cmp ≡ C.cmp →
         (p : C) (cs : List (Call C C.Signature)) (rs : List (Reply C C.Signature)) →
@@ -193,6 +195,9 @@ pub fn grants_of_a_run<C: PublicKey>()
     ensures blocked { (s : Setup C C.Signature) → s.cmp ≡ C.cmp →
         (p : C) (cs : List (Call C C.Signature)) (rs : List (Reply C C.Signature)) →
         AreAnswers s [] cs rs → KeepBlocks s p 0 [] cs rs }
+    ensures last_block { (s : Setup C C.Signature) → s.cmp ≡ C.cmp →
+        (p : C) (cs : List (Call C C.Signature)) (rs : List (Reply C C.Signature)) →
+        AreAnswers s [] cs rs → KeepLastBlock s p None cs rs }
 {}
 
 /// Dials by the replies to a run. After each reply to `dialable`, as long as the commands are dials

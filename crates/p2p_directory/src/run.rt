@@ -12,6 +12,7 @@ ghost use Rattle.p2p_directory.specs.Refinement.{Refines};
 ghost use Rattle.p2p_directory.specs.Run.{setup_of, call_of, calls_of, world_left, AreAnswers};
 ghost use Rattle.p2p_directory.specs.Run.{bit_vec_in, Holds};
 ghost use Rattle.p2p_directory.specs.Laws.GrantRuns.{KeepCooldown, KeepBlocks};
+ghost use Rattle.p2p_directory.specs.Laws.BlockRuns.{KeepLastBlock};
 ghost use Rattle.p2p_directory.specs.Laws.DialRuns.{KeepDialable};
 ghost use Rattle.p2p_directory.specs.Laws.IsolationRuns.{KeepAlone};
 ghost use Rattle.p2p_directory.specs.Laws.OrderRuns.{KeepOrder};
@@ -51,10 +52,12 @@ pub(crate) mod slots;
 /// - Cooldown: each grant of a peer, for a `Dial` or a `Listen`, comes no earlier than
 ///   `peer_connection_cooldown` after each grant of it before, unless there was no record of the
 ///   peer in between. Moments may go back.
-/// - Blocks: where the moments of all `Dial`, `Listen`, `Block` and `UnblockExpired` never go back,
-///   whatever these are replied, a peer whose block was taken is granted by no later command before
-///   the block's end, `block_duration` after its moment, also where there was no record of the peer
-///   in between.
+/// - Blocks: as long as the moments of all `Dial`, `Listen`, `Block` and `UnblockExpired` never go
+///   back, whatever these are replied, a peer whose block was taken is granted by no later command
+///   before the block's end, `block_duration` after its moment, also where there was no record of
+///   the peer in between. Whether moments go back or not, each grant of a peer, and each further
+///   block, comes no earlier than the end of its last block, unless an `UnblockExpired` at that end
+///   or later came in between.
 /// - Dials: directly after a reply to `Dialable` at a moment, `Dial` commands at that moment of the
 ///   peers that it lists, each once, one after the other and in any order, are all granted, unless
 ///   replied `OutOfMemory`.
@@ -111,6 +114,8 @@ pub fn run<C: PublicKey>(
         (p : C) → KeepCooldown s p [] [] (calls_of commands.items) run.replies.items) }
     ensures blocks { IfOk result (λ run. let s = setup_of C.cmp bootstrappers.items myself cfg in
         (p : C) → KeepBlocks s p 0 [] (calls_of commands.items) run.replies.items) }
+    ensures last_block { IfOk result (λ run. let s = setup_of C.cmp bootstrappers.items myself cfg in
+        (p : C) → KeepLastBlock s p None (calls_of commands.items) run.replies.items) }
     ensures dials { IfOk result (λ run. let s = setup_of C.cmp bootstrappers.items myself cfg in
         KeepDialable s (calls_of commands.items) run.replies.items) }
     ensures isolation { IfOk result (λ run. let s = setup_of C.cmp bootstrappers.items myself cfg in

@@ -4,7 +4,7 @@ use crate::calls::{config, tracked};
 use bytes::Bytes;
 use p2p_directory::node::{Node, Received, Setup};
 use p2p_directory::record::Status;
-use p2p_directory::run::{Command, Reply, Run};
+use p2p_directory::run::{Command, Reply};
 use p2p_discovery::codec::{CodecError, TestKey, Write};
 use p2p_discovery::data::Data;
 use p2p_discovery::discovery::{Error, Info, PayloadConfig};
@@ -52,17 +52,6 @@ pub(crate) fn node(alloc: Global, max_data_length: usize) -> Result<Node<TestKey
             namespace: ROWS.to_vec(alloc)?,
         },
     )
-}
-
-// Releases all that the node holds.
-pub(crate) fn spend(alloc: Global, node: Node<TestKey>) {
-    let (directory, held) = node.parts();
-    let run = Run {
-        directory,
-        held,
-        replies: Vec::new(alloc),
-    };
-    run.finish();
 }
 
 // The set of 1 and 2, at an index.
@@ -280,7 +269,7 @@ fn a_node_answers_frames(rt: HostRuntime) -> Result<(), Fail> {
     let alloc = rt.alloc();
     let mut node = node(alloc, 32)?;
     let outcome = answers_frames(&rt, alloc, &mut node);
-    spend(alloc, node);
+    node.finish();
     outcome
 }
 
@@ -328,14 +317,9 @@ fn a_node_tells_of_the_connected_and_hands_out_what_it_holds(rt: HostRuntime) ->
     let alloc = rt.alloc();
     let mut node = node(alloc, 32)?;
     let outcome = tells_of_the_connected(&rt, alloc, &mut node);
-    let (directory, held) = node.parts();
+    let (mut directory, held) = node.parts();
     let first = held.first();
-    let run = Run {
-        directory,
-        held,
-        replies: Vec::new(alloc),
-    };
-    let directory = run.finish();
+    held.release_all(&mut directory);
     outcome?;
     assert_eq!(rt; first, Some(TestKey(1)));
     assert_eq!(rt; directory.status(&TestKey(1)), Some(Status::Inert));
@@ -369,6 +353,6 @@ fn a_message_is_a_cut_of_its_frame(rt: HostRuntime) -> Result<(), Fail> {
     let alloc = rt.alloc();
     let mut node = node(alloc, MEBIBYTE)?;
     let outcome = receives_a_long_message(&rt, alloc, &mut node);
-    spend(alloc, node);
+    node.finish();
     outcome
 }

@@ -4,7 +4,7 @@ ghost use Rattle.std.specs.Prelude.{◌≡◌, ◌<◌, ◌^◌, IfOk};
 ghost use Rattle.std.specs.Int.NonZero.{non_zero_usize_get};
 
 use crate::calls::config;
-use crate::node::{greeting, infos, spend};
+use crate::node::{greeting, infos};
 use crate::run::given::Given;
 use crate::run::told::Told;
 use bytes::Bytes;
@@ -232,8 +232,8 @@ fn replies_to(
         right,
         replies,
     } = run_pair(alloc, left, right, commands)?;
-    spend(alloc, left);
-    spend(alloc, right);
+    left.finish();
+    right.finish();
     Ok(replies)
 }
 

@@ -1,16 +1,14 @@
 //! Runs of commands, by their replies and by what they leave.
 
-ghost use Rattle.std.specs.Prelude.{◌≡◌, ◌+◌, [], IfNone, IfSome, length};
-ghost use Rattle.p2p_directory.specs.Held.{held_of, AreHeld};
 ghost use Rattle.std.specs.Int.NonZero.{non_zero_usize_get};
 
 use crate::calls::{config, info, tracked};
 use crate::run::given::{Given, served, served_from};
 use crate::run::told::Told;
-use p2p_directory::directory::{Config, Directory};
+use p2p_directory::directory::Config;
 use p2p_directory::record::Status;
-use p2p_directory::run::{Command, Held, Reply, Run, run};
-use p2p_discovery::codec::{PublicKey, TestKey, TestSignature};
+use p2p_directory::run::{Command, Reply, Run, run};
+use p2p_discovery::codec::{TestKey, TestSignature};
 use p2p_discovery::discovery::Info;
 use p2p_discovery::types::{Ingress, IpAddr, SocketAddr};
 use std::alloc::{AllocError, Global};
@@ -381,58 +379,6 @@ fn finish_gives_all_back(rt: HostRuntime) -> Result<(), Fail> {
     let directory = left.finish();
     for key in 10..5_010 {
         assert_eq!(rt; directory.status(&TestKey(key)), Some(Status::Inert));
-    }
-    Ok(())
-}
-
-// Releases the least of the peers that are held, if one is.
-fn release_first<C: PublicKey>(directory: &mut Directory<C>, held: &mut Held<C>) -> Option<C>
-    requires { AreHeld C.cmp directory.old (held_of C.cmp held.old) }
-    ensures agree { AreHeld C.cmp directory.new (held_of C.cmp held.new) }
-    ensures less { IfSome result (λ _. length held.old ≡ length held.new + 1) }
-    ensures none { IfNone result (held.new ≡ []) }
-{
-    match held.first() {
-        Some(peer) => {
-            if let Some(reservation) = held.take(&peer) {
-                directory.release(reservation);
-            }
-            Some(peer)
-        }
-        None => None,
-    }
-}
-
-// What `finish` does, by hand: the peers in the order in which they were released.
-fn release_each<C: PublicKey>(
-    alloc: Global,
-    left: Run<C>,
-) -> Result<(Directory<C>, Vec<C>), AllocError> {
-    let mut released = Vec::new(alloc);
-    let Run {
-        mut directory,
-        mut held,
-        replies: _,
-    } = left;
-    let mut refused = false;
-    while let Some(peer) = release_first(&mut directory, &mut held) {
-        refused = released.push(peer).is_err() || refused;
-    }
-    held.close();
-    if refused {
-        return Err(AllocError);
-    }
-    Ok((directory, released))
-}
-
-#[test]
-fn releases_by_hand_in_ascending_order(rt: HostRuntime) -> Result<(), Fail> {
-    let alloc = rt.alloc();
-    let (directory, released) = release_each(alloc, run_and_hold(alloc, 3_000)?)?;
-    assert_eq!(rt; released.len(), 3_000);
-    for (place, peer) in released.iter().enumerate() {
-        assert_eq!(rt; peer.0, 10 + place as u64);
-        assert_eq!(rt; directory.status(peer), Some(Status::Inert));
     }
     Ok(())
 }

@@ -52,11 +52,11 @@ module _ {C S : Type 0} (s : Setup C S) where
   replied e w v c reply.NotHeld a = inr a
 
   -- when the grant was made
-  abbrev moment_by : C → Event C S → Option ℕ
+  abbrev pub moment_by : C → Event C S → Option ℕ
   moment_by p e = option_map (λ (grant : Grant). grant.t) (History.grant_by s p e)
 
   -- what an event says, where its call was accepted
-  abbrev if_accepted : Bool → Option ℕ → Option ℕ
+  abbrev pub if_accepted : Bool → Option ℕ → Option ℕ
   if_accepted accepted o = if accepted then o else None
 
   nothing : (b : Bool) → None ≡ if_accepted b None
@@ -64,9 +64,9 @@ module _ {C S : Type 0} (s : Setup C S) where
   nothing false = refl
 
   -- the reply says whether p was granted, and when; and until when it was blocked
-  record IsTold (p : C) (c : Call C S) (r : Reply C S) (e : Event C S) : Type 0 where
-    granted : granted_by s p c r ≡ if_accepted (Run.is_accepted s r) (moment_by p e)
-    blocked : blocked_by s p c r ≡ if_accepted (Run.is_accepted s r) (History.block_by s p e)
+  pub record IsTold (p : C) (c : Call C S) (r : Reply C S) (e : Event C S) : Type 0 where
+    pub granted : granted_by s p c r ≡ if_accepted (Run.is_accepted s r) (moment_by p e)
+    pub blocked : blocked_by s p c r ≡ if_accepted (Run.is_accepted s r) (History.block_by s p e)
 
   told : (p : C) (sets : List (SetAt C)) (w v : World C S) (c : Call C S) (r : Reply C S) → Run.MayReply s (World.event_in s sets w c) w v c r → IsTold p c r (World.event_in s sets w c)
   told p sets w v (Track index primary secondary) r a = go (list_all (λ x. nat_lt x.index index) sets)
@@ -112,7 +112,7 @@ module _ {C S : Type 0} (s : Setup C S) where
   told p sets w v (UnblockExpired t) r a = record { granted = nothing (Run.is_accepted s r); blocked = nothing (Run.is_accepted s r) }
   told p sets w v (Ask question) r a = record { granted = nothing (Run.is_accepted s r); blocked = nothing (Run.is_accepted s r) }
 
-  told_after : (p : C) (before : List (Call C S)) (c : Call C S) (r : Reply C S) → Run.IsAnswer s before c r → IsTold p c r (Run.event_of s before c)
+  pub told_after : (p : C) (before : List (Call C S)) (c : Call C S) (r : Reply C S) → Run.IsAnswer s before c r → IsTold p c r (Run.event_of s before c)
   told_after p before c r a = told p (History.taken_sets s (World.past s before)) (Run.world_after s before) (Run.world_after s (c ∷ before)) c r a
 
   -- COOLDOWN
@@ -179,56 +179,3 @@ module _ {C S : Type 0} (s : Setup C S) where
   pub keep_cooldown : History.IsExact s → (p : C) (cs : List (Call C S)) (rs : List (Reply C S)) → Run.AreAnswers s [] cs rs → KeepCooldown s p [] [] cs rs
   unfolding History.life
   keep_cooldown exact p cs rs answers = keep_cooldown_from exact p [] [] cs rs refl answers
-
-  -- BLOCKS
-
-  -- a later now is as good
-  later_back : (cs : List (Call C S)) (now later : ℕ) → now ≤ later → NeverGoBack s now cs → NeverGoBack s later cs
-  later_back [] now later le on = tt
-  later_back (c ∷ cs) now later le on = go (moment_of s c) (λ x. later_back cs now later le x) on
-    where
-      go : (o : Option ℕ) → (NeverGoBack s now cs → NeverGoBack s later cs) → (or_now now o ≤ now) × NeverGoBack s (or_now now o) cs → (or_now later o ≤ later) × NeverGoBack s (or_now later o) cs
-      go None more on = (omega arith, more on.1)
-      go (Some t) more on = (omega (arith, on.0), on.1)
-
-  -- a call that comes no earlier than now
-  one_forward : (c : Call C S) (cs : List (Call C S)) (now : ℕ) → now ≤ moment_or s now c → NeverGoBack s now cs → NeverGoBack s (moment_or s now c) (c ∷ cs)
-  one_forward c cs now le on = go (moment_of s c) le
-    where
-      go : (o : Option ℕ) → now ≤ or_now now o → (or_now (or_now now o) o ≤ or_now now o) × NeverGoBack s (or_now (or_now now o) o) cs
-      go None le = (omega arith, on)
-      go (Some t) le = (omega arith, later_back cs now t le on)
-
-  next_forward : (c : Call C S) (cs : List (Call C S)) (now : ℕ) (accepted : Bool) → now ≤ moment_or s now c → NeverGoBack s now cs → NeverGoBack s (moment_or s now c) (if accepted then c ∷ cs else cs)
-  next_forward c cs now true le on = one_forward c cs now le on
-  next_forward c cs now false le on = later_back cs now (moment_or s now c) le on
-
-  over_after : (accepted : Bool) (found : Option Grant) (ms : List ℕ) → IsOverAt s found ms → IsAfter s (if_accepted accepted (option_map (λ (grant : Grant). grant.t) found)) ms
-  over_after false found ms over = tt
-  over_after true None ms over = tt
-  over_after true (Some grant) ms over = over
-
-  kept_blocks : (p : C) (before : List (Call C S)) (c : Call C S) (accepted : Bool) →
-      option_to_list (if_accepted accepted (History.block_by s p (Run.event_of s before c))) ++ blocks_in s p (World.past s before) ≡ blocks_in s p (World.past s (if accepted then c ∷ before else before))
-  kept_blocks p before c true = refl
-  kept_blocks p before c false = refl
-
-  keep_blocks_from : History.IsExact s → (p : C) (ms : List ℕ) (now : ℕ) (before cs : List (Call C S)) (rs : List (Reply C S)) →
-      ms ≡ blocks_in s p (World.past s before) → NeverGoBack s now before → Run.AreAnswers s before cs rs → KeepBlocks s p now ms cs rs
-  keep_blocks_from exact p ms now before [] [] kept on answers = tt
-  keep_blocks_from exact p ms now before [] (r ∷ rs) kept on answers = tt
-  keep_blocks_from exact p ms now before (c ∷ cs) [] kept on answers = tt
-  keep_blocks_from exact p ms now before (c ∷ cs) (r ∷ rs) kept on answers =
-      λ forward. let t = told_after p before c r answers.0 in (
-        subst (λ o. IsAfter s o ms) (sym t.granted)
-            (subst (λ xs. IsAfter s (if_accepted (Run.is_accepted s r) (moment_by p (Run.event_of s before c))) xs) (sym kept)
-            (over_after (Run.is_accepted s r) (History.grant_by s p (Run.event_of s before c)) (blocks_in s p (World.past s before))
-            (Spacing.next_over s exact p c before (moment_or s now c) (one_forward c before now forward on)))),
-        keep_blocks_from exact p (option_to_list (blocked_by s p c r) ++ ms) (moment_or s now c) (Run.next s before c r) cs rs
-            ((λ i. option_to_list (t.blocked i) ++ kept i) ∙ kept_blocks p before c (Run.is_accepted s r))
-            (next_forward c before now (Run.is_accepted s r) forward on) answers.1,
-      )
-
-  -- by the replies to a whole run whose moments never go back, blocks hold
-  pub keep_blocks : History.IsExact s → (p : C) (cs : List (Call C S)) (rs : List (Reply C S)) → Run.AreAnswers s [] cs rs → KeepBlocks s p 0 [] cs rs
-  keep_blocks exact p cs rs answers = keep_blocks_from exact p [] 0 [] cs rs refl tt answers

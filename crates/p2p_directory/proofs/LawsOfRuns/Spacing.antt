@@ -23,9 +23,9 @@ module _ {C S : Type 0} (s : Setup C S) where
   -- WHAT AN EVENT TELLS OF THE WORLD BEFORE IT
 
   -- p's cooldown is over at t, and it isn't blocked
-  record IsFree (p : C) (w : World C S) (t : ℕ) : Type 0 where
-    cool : (w.peer p).known.reservable_at ≤ t
-    unblocked : World.is_blocked (w.unblock p) t ≡ false
+  pub record IsFree (p : C) (w : World C S) (t : ℕ) : Type 0 where
+    pub cool : (w.peer p).known.reservable_at ≤ t
+    pub unblocked : World.is_blocked (w.unblock p) t ≡ false
 
   -- an event of a call at t
   abbrev Fits : World C S → ℕ → Event C S → Type 0
@@ -78,7 +78,7 @@ module _ {C S : Type 0} (s : Setup C S) where
   fits sets w (Ask question) now = tt
 
   -- a grant of p, at its call's moment
-  abbrev GrantFits : C → World C S → ℕ → Option Grant → Type 0
+  abbrev pub GrantFits : C → World C S → ℕ → Option Grant → Type 0
   GrantFits p w t None = Unit {0}
   GrantFits p w t (Some grant) = (grant.t ≡ t) × IsFree p w t
 
@@ -97,16 +97,16 @@ module _ {C S : Type 0} (s : Setup C S) where
   grant_fits exact p w t (Expired u) f = tt
 
   -- the world before a further call, and what that call does
-  abbrev world_before : List (Call C S) → World C S
+  abbrev pub world_before : List (Call C S) → World C S
   world_before cs = World.world_at s (World.past s cs)
 
-  abbrev event_of : Call C S → List (Call C S) → Event C S
+  abbrev pub event_of : Call C S → List (Call C S) → Event C S
   event_of c cs = World.event_in s (History.taken_sets s (World.past s cs)) (world_before cs) c
 
   call_fits : (c : Call C S) (cs : List (Call C S)) (now : ℕ) → Fits (world_before cs) (moment_or s now c) (event_of c cs)
   call_fits c cs now = fits (History.taken_sets s (World.past s cs)) (world_before cs) c now
 
-  event_fits : History.IsExact s → (p : C) (c : Call C S) (cs : List (Call C S)) (now : ℕ) → GrantFits p (world_before cs) (moment_or s now c) (History.grant_by s p (event_of c cs))
+  pub event_fits : History.IsExact s → (p : C) (c : Call C S) (cs : List (Call C S)) (now : ℕ) → GrantFits p (world_before cs) (moment_or s now c) (History.grant_by s p (event_of c cs))
   event_fits exact p c cs now = grant_fits exact p (world_before cs) (moment_or s now c) (event_of c cs) (call_fits c cs now)
 
   -- COOLDOWN

@@ -158,37 +158,39 @@ pub enum Reply<C: PublicKey> {
     OutOfMemory,
 }
 
-impl<C: PublicKey + fmt::Debug> fmt::Debug for Reply<C>
-where
-    C::Signature: fmt::Debug,
-{
+impl<C: PublicKey> fmt::Debug for Reply<C> {
+    /// Writes the name of the variant alone.
     fn fmt<W: fmt::Write>(&self, f: &mut fmt::Formatter<W>) -> fmt::Result {
-        match self {
-            Reply::Track(torn) => write!(f, "Track({torn:?})"),
-            Reply::Dial(granted) => write!(f, "Dial({granted})"),
-            Reply::Listen(granted) => write!(f, "Listen({granted})"),
-            Reply::Connect => f.write_str("Connect"),
-            Reply::Release => f.write_str("Release"),
-            Reply::UpdatePeers => f.write_str("UpdatePeers"),
-            Reply::Block(taken) => write!(f, "Block({taken})"),
-            Reply::UnblockExpired(any) => write!(f, "UnblockExpired({any})"),
-            Reply::NextUnblock(moment) => write!(f, "NextUnblock({moment:?})"),
-            Reply::BlockedPeers(peers) => write!(f, "BlockedPeers({peers:?})"),
-            Reply::Status(status) => write!(f, "Status({status:?})"),
-            Reply::GetPeerSet(peers) => write!(f, "GetPeerSet({peers:?})"),
-            Reply::LatestSetIndex(index) => write!(f, "LatestSetIndex({index:?})"),
-            Reply::LatestUpdate(update) => write!(f, "LatestUpdate({update:?})"),
-            Reply::All(peers) => write!(f, "All({peers:?})"),
-            Reply::Info(info) => write!(f, "Info({info:?})"),
-            Reply::Infos(infos) => write!(f, "Infos({infos:?})"),
-            Reply::GetRandomBitVec(bits) => write!(f, "GetRandomBitVec({bits:?})"),
-            Reply::Eligible(eligible) => write!(f, "Eligible({eligible})"),
-            Reply::Acceptable(acceptable) => write!(f, "Acceptable({acceptable})"),
-            Reply::Dialable(dialable) => write!(f, "Dialable({dialable:?})"),
-            Reply::Tracked(count) => write!(f, "Tracked({count})"),
-            Reply::NotReserved => f.write_str("NotReserved"),
-            Reply::NotHeld => f.write_str("NotHeld"),
-            Reply::OutOfMemory => f.write_str("OutOfMemory"),
-        }
+        f.write_str(variant_name(self))
+    }
+}
+
+fn variant_name<C: PublicKey>(reply: &Reply<C>) -> &'static str {
+    match reply {
+        Reply::Track(_) => "Track",
+        Reply::Dial(_) => "Dial",
+        Reply::Listen(_) => "Listen",
+        Reply::Connect => "Connect",
+        Reply::Release => "Release",
+        Reply::UpdatePeers => "UpdatePeers",
+        Reply::Block(_) => "Block",
+        Reply::UnblockExpired(_) => "UnblockExpired",
+        Reply::NextUnblock(_) => "NextUnblock",
+        Reply::BlockedPeers(_) => "BlockedPeers",
+        Reply::Status(_) => "Status",
+        Reply::GetPeerSet(_) => "GetPeerSet",
+        Reply::LatestSetIndex(_) => "LatestSetIndex",
+        Reply::LatestUpdate(_) => "LatestUpdate",
+        Reply::All(_) => "All",
+        Reply::Info(_) => "Info",
+        Reply::Infos(_) => "Infos",
+        Reply::GetRandomBitVec(_) => "GetRandomBitVec",
+        Reply::Eligible(_) => "Eligible",
+        Reply::Acceptable(_) => "Acceptable",
+        Reply::Dialable(_) => "Dialable",
+        Reply::Tracked(_) => "Tracked",
+        Reply::NotReserved => "NotReserved",
+        Reply::NotHeld => "NotHeld",
+        Reply::OutOfMemory => "OutOfMemory",
     }
 }

@@ -1,7 +1,7 @@
 //! What nodes answer where memory is refused, and that they are then as before.
 
 use crate::node::{
-    NOBODY, ONE, Told, assert_asked, greeting, infos, listens_and_connects, node, spend,
+    NOBODY, ONE, Told, assert_asked, greeting, infos, listens_and_connects, node,
     tells_of_one, tracks,
 };
 use bytes::Bytes;
@@ -104,7 +104,7 @@ fn receives_at_each_budget(
         let mut node = node(alloc, 32)?;
         let budget = step.saturating_mul(STEP);
         let refused = receives_within(rt, alloc, memory, &mut node, budget, frame, told);
-        spend(alloc, node);
+        node.finish();
         tally.count(refused?);
     }
     Ok(tally)
@@ -197,13 +197,13 @@ fn a_node_is_refused_memory(rt: HostRuntime) -> Result<(), Fail> {
         match refused {
             Ok(node) => {
                 made.count(false);
-                spend(alloc, node);
+                node.finish();
             }
             Err(_) => made.count(true),
         }
         let mut node = node(alloc, 32)?;
         let refused = asks_and_listens_within(&rt, alloc, &mut memory, &mut node, budget);
-        spend(alloc, node);
+        node.finish();
         let refused = refused?;
         asked.count(refused.0);
         listened.count(refused.1);
@@ -314,7 +314,7 @@ fn infos_are_refused_memory(rt: HostRuntime) -> Result<(), Fail> {
         let budget = step.saturating_mul(STEP);
         let mut node = node(alloc, 32)?;
         let refused = tells_within(&rt, alloc, &mut memory, &mut node, budget);
-        spend(alloc, node);
+        node.finish();
         let refused = refused?;
         told.count(refused.0);
         replied.count(refused.1);

@@ -2,7 +2,7 @@
 
 use crate::calls::tracked;
 use crate::node::memory::Tally;
-use crate::node::{ONE, assert_asked, greeting, node, spend, tracks};
+use crate::node::{ONE, assert_asked, greeting, node, tracks};
 use low_memory::{LowMemory, STEP};
 use p2p_directory::directory::Directory;
 use p2p_directory::node::{Node, Received};
@@ -123,7 +123,7 @@ fn steps_at_each_budget(
         let mut node = node(alloc, 32)?;
         let budget = step.saturating_mul(STEP);
         let refused = steps_within(rt, alloc, memory, &mut node, tried, budget);
-        spend(alloc, node);
+        node.finish();
         tally.count(refused?);
     }
     Ok(tally)

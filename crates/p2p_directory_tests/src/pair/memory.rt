@@ -1,7 +1,7 @@
 //! What two nodes answer where memory is refused, and that they are then as before.
 
 use crate::node::memory::Tally;
-use crate::node::{NOBODY, ONE, spend};
+use crate::node::{NOBODY, ONE};
 use crate::pair::{Deed, ROWS, Said, setup};
 use crate::run::given::Given;
 use crate::run::told::Told;
@@ -115,8 +115,8 @@ fn exchanges_are_refused_memory(rt: HostRuntime) -> Result<(), Fail> {
             replies: _,
         } = run_of(alloc, &PREPARED)?;
         let refused = exchanges_within(&rt, alloc, &mut memory, &mut left, &right, budget);
-        spend(alloc, left);
-        spend(alloc, right);
+        left.finish();
+        right.finish();
         tally.count(refused?);
     }
     tally.assert_mixed(&rt);
@@ -184,8 +184,8 @@ fn runs_within(
                 replies,
             },
         ) => {
-            spend(alloc, left);
-            spend(alloc, right);
+            left.finish();
+            right.finish();
             is_some_refused(rt, alloc, &replies)
         }
         Err(AllocError) => Ok(true),

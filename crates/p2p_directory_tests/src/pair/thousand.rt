@@ -1,6 +1,5 @@
 //! An exchange over one set of a thousand peers.
 
-use crate::node::spend;
 use crate::pair::{ROWS, setup, signed};
 use p2p_directory::directory::TrackedPeers;
 use p2p_directory::node::{Exchanged, PairCommand, PairReply, PairRun, Side, run_pair};
@@ -87,8 +86,8 @@ fn replies(alloc: Global) -> Result<Vec<PairReply<TestKey>>, AllocError> {
         right,
         replies,
     } = run_pair(alloc, left, right, commands)?;
-    spend(alloc, left);
-    spend(alloc, right);
+    left.finish();
+    right.finish();
     Ok(replies)
 }
 

@@ -5,7 +5,9 @@ ghost use Rattle.std.specs.Int.NonZero.{non_zero_usize_get};
 ghost use Rattle.p2p_directory.specs.Held.{held_of, AreHeld};
 
 use super::*;
-use p2p_directory::directory::{Metadata, TrackedPeers};
+use p2p_directory::directory::{Directory, Metadata, TrackedPeers};
+use p2p_directory::run::Held;
+use p2p_discovery::codec::PublicKey;
 use p2p_discovery::sets::OrderedSet;
 use p2p_discovery::types::Hostname;
 

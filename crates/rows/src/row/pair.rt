@@ -9,7 +9,7 @@ use crate::row::{Stop, print};
 use p2p_directory::node::{
     Exchanged, Node, PairCommand, PairReply, PairRun, Received, Setup, Side, run_pair,
 };
-use p2p_directory::run::{Reply, Run};
+use p2p_directory::run::Reply;
 use p2p_discovery::codec::TestKey;
 use p2p_discovery::discovery::{Info, PayloadConfig};
 use std::alloc::{AllocError, Global};
@@ -177,8 +177,8 @@ fn replies(
         right,
         replies,
     } = run_pair(alloc, left, right, commands)?;
-    spend(alloc, left);
-    spend(alloc, right);
+    left.finish();
+    right.finish();
     Ok(replies)
 }
 
@@ -200,15 +200,4 @@ fn setup(alloc: Global, myself: Info<TestKey>, limits: Limits) -> Result<Setup<T
         synchrony_bound: Duration::from_secs(30),
         namespace: NAMESPACE.to_vec(alloc)?,
     })
-}
-
-// Releases all that the node holds.
-fn spend(alloc: Global, node: Node<TestKey>) {
-    let (directory, held) = node.parts();
-    let run = Run {
-        directory,
-        held,
-        replies: Vec::new(alloc),
-    };
-    run.finish();
 }

@@ -8,7 +8,8 @@ use Rattle.p2p_directory.specs.Private.Serving.{has_room}
 use Rattle.p2p_directory.specs.Private.Slots.{held_in}
 use Rattle.p2p_directory.proofs.Definitions.Keys.{exact_from}
 use Rattle.p2p_directory.proofs.LawsOfRuns.Forgotten
-use Rattle.p2p_directory.proofs.LawsOfRuns.GrantRuns.{keep_cooldown, keep_blocks}
+use Rattle.p2p_directory.proofs.LawsOfRuns.GrantRuns.{keep_cooldown}
+use Rattle.p2p_directory.proofs.LawsOfRuns.BlockRuns.{keep_last_block, keep_blocks}
 use Rattle.p2p_directory.proofs.LawsOfRuns.DialRuns.{keep_dialable}
 use Rattle.p2p_directory.proofs.LawsOfRuns.IsolationRuns.{keep_alone}
 use Rattle.p2p_directory.proofs.LawsOfRuns.OrderRuns.{keep_order}
@@ -118,10 +119,15 @@ returns-clause-cooldown g c = λ p.
     let s = setup_of g.C.Ord.cmp c.args.bootstrappers.items c.args.myself c.args.cfg in
     keep_cooldown s (exact_from s g.C.Ord.cmp refl g.met.C.PublicKey.exact) p (calls_of c.args.commands.items) c.into_run.result.replies.items (returns-clause-answers g c)
 
+pub returns-clause-last_block : goal.returns-clause-last_block
+returns-clause-last_block g c = λ p.
+    let s = setup_of g.C.Ord.cmp c.args.bootstrappers.items c.args.myself c.args.cfg in
+    keep_last_block s (exact_from s g.C.Ord.cmp refl g.met.C.PublicKey.exact) p (calls_of c.args.commands.items) c.into_run.result.replies.items (returns-clause-answers g c)
+
 pub returns-clause-blocks : goal.returns-clause-blocks
 returns-clause-blocks g c = λ p.
     let s = setup_of g.C.Ord.cmp c.args.bootstrappers.items c.args.myself c.args.cfg in
-    keep_blocks s (exact_from s g.C.Ord.cmp refl g.met.C.PublicKey.exact) p (calls_of c.args.commands.items) c.into_run.result.replies.items (returns-clause-answers g c)
+    keep_blocks s p (calls_of c.args.commands.items) c.into_run.result.replies.items (returns-clause-last_block g c p)
 
 pub returns-clause-dials : goal.returns-clause-dials
 returns-clause-dials g c =
