@@ -247,6 +247,10 @@ module _ {C S : Type 0} (cmp : C → C → Ordering) where
     | Some set ↦ shared_for d.records (epoch_millis now) set.primary bits
   ]
 
+  -- a peer's info is wanted: by its record, and where there is none
+  abbrev pub wants_in : DirectoryView C S → C → Bool
+  wants_in d q = option_map_or (wants_info d.config.dial_fail_limit) (record_of d q) true
+
   -- for each primary peer of a set, whether its info is known, and not wanted
   abbrev pub known_bits : DirectoryView C S → SetAt C → List Bool
   known_bits d set = map (λ q. is_known d.config.dial_fail_limit (record_of d q)) set.primary

@@ -11,6 +11,8 @@ pub mod DialRuns
 pub mod IsolationRuns
 pub mod OrderRuns
 pub mod BoundRuns
+-- What is kept answers as a world does.
+pub mod Refined
 -- .. and those in Gossip and LateFrames in the promises of `run_pair`.
 pub mod Gossip
 pub mod LateFrames

@@ -2,7 +2,7 @@
 //! persistent, reserved or connected.
 
 ghost use Rattle.std.specs.Prelude.{ℕ, ◌≡◌, ◌<◌, ◌≤◌, ◌^◌, ◌+◌, ◌-◌, [], false, true, Some, None};
-ghost use Rattle.std.specs.Prelude.{IfSome, IfNone, IfOk, IsOk, OnErr, is_some, length, slice_get};
+ghost use Rattle.std.specs.Prelude.{IfSome, IfNone, IfOk, IsOk, OnErr, is_some, length, map, not, slice_get};
 ghost use Rattle.std.specs.List.Sorted.{IsStrictlySortedBy};
 ghost use Rattle.std.specs.Option.{option_map, IsSomeAnd};
 ghost use Rattle.std.specs.BTreeMap.{is_at};
@@ -170,7 +170,7 @@ impl<C: PublicKey> Directory<C> {
     ghost use Rattle.p2p_directory.specs.Directory.{BlocksUntil, EndsBlocks, is_free_and};
     ghost use Rattle.p2p_directory.specs.Directory.{may_listen_in, may_dial_in, ingress_in};
     ghost use Rattle.p2p_directory.specs.Directory.{peer_set_in, is_named_of, AreAllOf, IsUpdateOf};
-    ghost use Rattle.p2p_directory.specs.Directory.{is_dialable_in, AreDialableIn};
+    ghost use Rattle.p2p_directory.specs.Directory.{is_dialable_in, AreDialableIn, wants_in};
     ghost use Rattle.p2p_directory.specs.Lists.{Lists, IsLeastOf, Somebody};
     ghost use Rattle.p2p_directory.specs.Blocks.{IsAnyUntil};
     ghost use Rattle.p2p_directory.specs.Laws.Dials.{IsBefore};
@@ -736,7 +736,9 @@ impl<C: PublicKey> Directory<C> {
     }
 
     /// What holds between calls: a record counts the retained sets that have its peer, a peer that
-    /// some set has is one with a record, and no record is kept that may go. Does nothing.
+    /// some set has is one with a record, no record is kept that may go, and the bits of a retained
+    /// set, which [`Directory::get_random_bit_vec`] answers, are for each primary peer in order the
+    /// opposite of want. Does nothing.
     pub fn agrees(&self)
         ensures counts { (q : C) → IfSome (record_of C.cmp self.now q) (λ r.
             (r.primary_sets ≡ set_count C.cmp Role.Primary q self.now.sets)
@@ -745,6 +747,10 @@ impl<C: PublicKey> Directory<C> {
             is_some (record_of C.cmp self.now q) ≡ true }
         ensures kept { (q : C) → IfSome (record_of C.cmp self.now q) (λ r.
             is_deletable r ≡ false) }
+        ensures bits { (place : ℕ) → bit_vec_at C.cmp self.now place ≡ option_map (λ set. record {
+          index = set.index;
+          bits = map (λ q. not (wants_in C.cmp self.now q)) set.primary;
+        }) (slice_get self.now.sets place) }
     {
         let _count = self.records.len();
     }

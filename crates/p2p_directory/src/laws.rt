@@ -1,7 +1,7 @@
 //! Laws of whole runs.
 
 ghost use Rattle.std.specs.Prelude.{◌≡◌, ◌≤◌, ◌<◌, ◌^◌, ℕ, Bool, true, false, List, [], ◌∷◌, ◌++◌};
-ghost use Rattle.std.specs.Prelude.{map, Option};
+ghost use Rattle.std.specs.Prelude.{map, Option, None};
 ghost use Rattle.std.specs.List.{AllByRecursion};
 ghost use Rattle.p2p_discovery.specs.declared.discovery.Info.{Info};
 ghost use Rattle.p2p_directory.specs.Calls.{Setup, Call};
@@ -23,7 +23,9 @@ ghost use Rattle.p2p_directory.specs.Laws.Bounds.{NamesAtMost, IsBounded};
 ghost use Rattle.p2p_directory.specs.Laws.Grants.{KeepsCooldown, NeverGoBack, KeepsBlocks};
 ghost use Rattle.p2p_directory.specs.Laws.Dials.{AreChosen, AreDialled, IsBefore};
 ghost use Rattle.p2p_directory.specs.declared.run.commands.Reply.{Reply};
-ghost use Rattle.p2p_directory.specs.Run.{AreAnswers};
+ghost use Rattle.p2p_directory.specs.Refinement.{Refines};
+ghost use Rattle.p2p_directory.specs.Run.{AreAnswers, world_after};
+ghost use Rattle.p2p_directory.specs.Laws.Refined.{AnswersAs};
 ghost use Rattle.p2p_directory.specs.Laws.GrantRuns.{KeepCooldown, KeepBlocks};
 ghost use Rattle.p2p_directory.specs.Laws.BlockRuns.{KeepLastBlock};
 ghost use Rattle.p2p_directory.specs.Laws.DialRuns.{KeepDialable};
@@ -50,6 +52,18 @@ pub fn recomputed_is_one_step<C: PublicKey>()
     ensures { (s : Setup C C.Signature) → s.cmp ≡ C.cmp → 1 ≤ s.max_sets →
         (cs : List (Call C C.Signature)) (c : Call C C.Signature) →
         world_at s (past s (c ∷ cs)) ≡ step s (world_at s (past s cs)) c }
+{}
+
+/// Whoever goes on with a directory that a run or a node leaves gets the answers of the world that
+/// the accepted calls make. Where the directory refines that world, as the clause `directory` of
+/// [`run`](crate::run::run) says of the one that it hands back, each answer by what is kept, in the
+/// words of the calls of [`Directory`](crate::directory::Directory), is that of the world: those
+/// of each question, who is granted, and whether a block has ended. The limit of failures fits
+/// `usize`, as in each `Config`.
+pub fn refined_answers<C: PublicKey>()
+    ensures { (s : Setup C C.Signature) → s.cmp ≡ C.cmp → s.dial_fail_limit < 2 ^ 64 →
+        (cs : List (Call C C.Signature)) (d : DirectoryView C C.Signature) →
+        Refines s (world_after s cs) d → AnswersAs s (world_after s cs) d }
 {}
 
 /// An answer that lists the keys with a property, tells the least moment of some keys, or counts

@@ -1,11 +1,12 @@
 use Rattle.std.proofs.Common.{◌≡◌, ℕ, Bool, true, false, ◌||◌, List, Option, Some, None, refl, sym, ◌∙◌, subst}
-use Rattle.std.specs.Prelude.{IfSome, is_some, nat_lt}
+use Rattle.std.specs.Prelude.{IfSome, is_some, nat_lt, not, map, slice_get}
+use Rattle.std.specs.Option.{option_map, option_map_or}
 use Rattle.std.specs.declared.cmp.Ordering.{Ordering}
 use Rattle.p2p_directory.specs.declared.record.Role.TheVariants.{Primary, Secondary}
 use Rattle.p2p_directory.specs.Calls.{SetAt}
 use Rattle.p2p_directory.specs.PeerSets.{set_count}
-use Rattle.p2p_directory.specs.Record.{RecordView, is_deletable}
-use Rattle.p2p_directory.specs.Directory.{DirectoryView, record_of, is_named_of}
+use Rattle.p2p_directory.specs.Record.{RecordView, is_deletable, wants_info}
+use Rattle.p2p_directory.specs.Directory.{DirectoryView, record_of, is_named_of, is_known}
 use Rattle.p2p_directory.specs.Private.Counts.{AreCounted}
 use Rattle.p2p_directory.proofs.directory.Directory.agrees.Goals as goal
 
@@ -18,6 +19,18 @@ has_record : {C S : Type 0} (cmp : C → C → Ordering) (sets : List (SetAt C))
     (nat_lt 0 (set_count cmp Primary q sets) || nat_lt 0 (set_count cmp Secondary q sets)) ≡ true → is_some o ≡ true
 has_record cmp sets q (Some r) h named = refl
 has_record cmp sets q None h named = absurd (let f = (λ i. nat_lt 0 (h.0 i) || nat_lt 0 (h.1 i)) ∙ named in cc)
+
+-- the opposite of want, by a record or none
+opposite : {C S : Type 0} (limit : ℕ) (o : Option (RecordView C S)) → is_known limit o ≡ not (option_map_or (wants_info limit) o true)
+opposite limit None = refl
+opposite limit (Some r) = refl
+
+pub returns-clause-bits : goal.returns-clause-bits
+returns-clause-bits g c = λ place i.
+    option_map (λ (set : SetAt g.row.C.Denot). record {
+      index = set.index;
+      bits = map (λ q. opposite c.args.self.now.config.dial_fail_limit (record_of g.C.Ord.cmp c.args.self.now q) i) set.primary;
+    }) (slice_get c.args.self.now.sets place)
 
 pub returns-clause-counts : goal.returns-clause-counts
 returns-clause-counts g c = λ q. counted g.C.Ord.cmp c.args.self.now.sets q (record_of g.C.Ord.cmp c.args.self.now q)
