@@ -8,9 +8,9 @@ pub mod Keys
 pub mod Listed
 pub mod Members
 pub mod Setting
-pub mod Probes
-mod Frames
-mod Premises
-mod Late
+pub mod GossipExamples
+mod FrameExamples
+mod ExchangePremises
+mod LatePremises
 mod Examples
 mod Corners

@@ -10,6 +10,7 @@ use Rattle.p2p_directory.specs.declared.run.commands.Reply.{Reply}
 use Rattle.p2p_directory.specs.declared.run.commands.Reply.TheVariants as reply
 use Rattle.p2p_directory.specs.Run.{AreAnswers}
 use Rattle.p2p_directory.specs.Laws.GrantRuns.{KeepCooldown, KeepBlocks}
+use Rattle.p2p_directory.specs.Laws.BlockRuns.{KeepLastBlock}
 use Rattle.p2p_directory.specs.Laws.Dials.{IsBefore}
 use Rattle.p2p_directory.specs.Laws.DialRuns.{next_query, AreGrantedAt, KeepDialable}
 use Rattle.p2p_directory.proofs.Definitions.Setting.{sec, setup, track, listen, dial}
@@ -66,6 +67,17 @@ granted_where_not_taken = λ from. (tt, λ on. (tt, tt))
 -- moments go back: of such a run the law says nothing
 goes_back : KeepBlocks setup 1 0 [] (Block 1 (sec 100) ∷ UnblockExpired (sec 1000) ∷ listen 1 120 ∷ []) (reply.Block true ∷ reply.UnblockExpired true ∷ reply.Listen true ∷ [])
 goes_back = λ from. (tt, λ on. (tt, λ back. absurd (omega (arith, back))))
+
+-- .. but that of the last block does: a block that was ended is over, one that holds isn't
+ended_is_over : KeepLastBlock setup 1 None (Block 1 (sec 100) ∷ UnblockExpired (sec 1000) ∷ listen 1 120 ∷ []) (reply.Block true ∷ reply.UnblockExpired true ∷ reply.Listen true ∷ [])
+ended_is_over = (tt, tt, (tt, tt, (tt, tt, tt)))
+
+granted_before_the_end : KeepLastBlock setup 1 None (Block 1 (sec 100) ∷ UnblockExpired (sec 159) ∷ listen 1 50 ∷ []) (reply.Block true ∷ reply.UnblockExpired false ∷ reply.Listen true ∷ []) → ⊥
+granted_before_the_end kept = absurd (omega (arith, kept.2.2.0))
+
+-- an end that was refused memory ends nothing; a block may not be taken while one holds
+blocked_twice : KeepLastBlock setup 1 None (Block 1 (sec 100) ∷ UnblockExpired (sec 160) ∷ Block 1 (sec 159) ∷ []) (reply.Block true ∷ reply.OutOfMemory ∷ reply.Block true ∷ []) → ⊥
+blocked_twice kept = absurd (omega (arith, kept.2.2.1))
 
 -- DIALS of those whom an answer lists
 

@@ -1,4 +1,5 @@
--- Probes of the newer definitions, expected values by the spec and the original source.
+-- Computed values of exchanges and corners of gossip. What is expected was worked out by hand from
+-- the definitions in words, and not by these.
 use Rattle.std.proofs.Common.{◌≡◌, ℕ, ◌+◌, ◌-◌, ◌*◌, ◌^◌, Bool, true, false, List, [], ◌∷◌, ◌++◌, Option, Some, None, refl}
 use Rattle.std.specs.Prelude.{filter, filter_map, ◌==◌, length, Result, Ok, Err}
 use Rattle.std.specs.Duration.{max_nanos}
@@ -40,23 +41,23 @@ one _ = None
 abbrev pub wire : Wire ℕ ℕ
 wire = wire_of 1 (λ p. p ∷ []) one 1 (λ s. s ∷ []) one (λ p ns m s. s == p + 10 * length ns)
 
-abbrev pub rows_ns : List ℕ
-rows_ns = 114 ∷ 111 ∷ 119 ∷ 115 ∷ []
+abbrev pub namespace_rows : List ℕ
+namespace_rows = 114 ∷ 111 ∷ 119 ∷ 115 ∷ []
 
-abbrev pub si_at : ℕ → ℕ → ℕ → Info ℕ ℕ
-si_at p t port = record (info_at p t port) { signature = p + 40 }
+abbrev pub signed_at : ℕ → ℕ → ℕ → Info ℕ ℕ
+signed_at p t port = record (info_at p t port) { signature = p + 40 }
 
-abbrev pub si : ℕ → ℕ → Info ℕ ℕ
-si p t = si_at p t (8000 + p)
+abbrev pub signed : ℕ → ℕ → Info ℕ ℕ
+signed p t = signed_at p t (8000 + p)
 
-abbrev pub other_ns : ℕ → ℕ → Info ℕ ℕ
-other_ns p t = record (info p t) { signature = p + 50 }
+abbrev pub signed_elsewhere : ℕ → ℕ → Info ℕ ℕ
+signed_elsewhere p t = record (info p t) { signature = p + 50 }
 
-abbrev pub own9 : Info ℕ ℕ
-own9 = record own { signature = 49 }
+abbrev pub own_of_9 : Info ℕ ℕ
+own_of_9 = record own { signature = 49 }
 
-abbrev pub own8 : Info ℕ ℕ
-own8 = record { ingress = Socket (record { ip = V4 (8 ∷ 8 ∷ 4 ∷ 4 ∷ []); port = 9000 }); timestamp = 0; public_key = 8; signature = 48 }
+abbrev pub own_of_8 : Info ℕ ℕ
+own_of_8 = record { ingress = Socket (record { ip = V4 (8 ∷ 8 ∷ 4 ∷ 4 ∷ []); port = 9000 }); timestamp = 0; public_key = 8; signature = 48 }
 
 abbrev pub limits : ℕ → ℕ → PayloadConfig
 limits bits peers = record { max_bit_vec = bits; max_peers = peers; max_data_length = 32 }
@@ -65,14 +66,14 @@ abbrev pub made : Info ℕ ℕ → ℕ → ℕ → ℕ → Made ℕ ℕ
 made me bits peers count = record {
   directory = record setup { own = me };
   limits = limits bits peers;
-  verifier = record { me = me.public_key; greatest_count = count; synchrony_bound = sec 30; namespace = rows_ns };
+  verifier = record { me = me.public_key; greatest_count = count; synchrony_bound = sec 30; namespace = namespace_rows };
 }
 
 abbrev pub asker : Made ℕ ℕ
-asker = made own9 8 8 8
+asker = made own_of_9 8 8 8
 
 abbrev pub replier : Made ℕ ℕ
-replier = made own8 8 8 8
+replier = made own_of_8 8 8 8
 
 abbrev pub at : Made ℕ ℕ → List (Call ℕ ℕ) → World ℕ ℕ
 at m cs = world_at m.directory (after_calls m.directory [] cs)
@@ -83,66 +84,66 @@ stands m cs = standing_in m wire (at m cs)
 abbrev pub x : Made ℕ ℕ → List (Call ℕ ℕ) → Made ℕ ℕ → List (Call ℕ ℕ) → ℕ → ℕ → ℕ → exchange.Outcome ℕ ℕ
 x a cs r ds place s t = exchanged_at (stands a cs) (stands r ds) place s t
 
-abbrev pub a_cs : List (Call ℕ ℕ)
-a_cs = track 0 (1 ∷ 2 ∷ []) ∷ []
+abbrev pub asker_calls : List (Call ℕ ℕ)
+asker_calls = track 0 (1 ∷ 2 ∷ []) ∷ []
 
-abbrev pub r_ds : List (Call ℕ ℕ)
-r_ds = track 0 (1 ∷ 2 ∷ []) ∷ Update (si 1 100000 ∷ []) ∷ listen 1 50 ∷ Connect 1 false ∷ []
+abbrev pub replier_calls : List (Call ℕ ℕ)
+replier_calls = track 0 (1 ∷ 2 ∷ []) ∷ Update (signed 1 100000 ∷ []) ∷ listen 1 50 ∷ Connect 1 false ∷ []
 
 -- ---- exchanges: row 16, parts a to g
 
 row16 :
-    (x asker a_cs replier r_ds 0 69_999_000_000 (sec 100) ≡ Invalid SynchronyBound)
-    × (x asker a_cs replier r_ds 0 69_999_999_999 (sec 100) ≡ Invalid SynchronyBound)
-    × (x asker a_cs replier r_ds 0 (sec 70) (sec 100) ≡ Applied (si 1 100000 ∷ []))
-    × (bits_at asker.directory (at asker (a_cs ++ Update (si 1 100000 ∷ []) ∷ [])) 0 ≡ Some (0, true ∷ false ∷ []))
-    × (x asker (a_cs ++ Update (si 1 100000 ∷ []) ∷ []) replier r_ds 0 (sec 70) (sec 100) ≡ Applied [])
-    × (x asker a_cs replier (track 0 (1 ∷ 9 ∷ []) ∷ Update (si 9 1000 ∷ []) ∷ listen 9 50 ∷ Connect 9 false ∷ []) 0 (sec 100) (sec 100) ≡ Invalid ReceivedSelf)
-    × (x asker a_cs replier (track 0 (1 ∷ []) ∷ []) 0 (sec 100) (sec 100) ≡ Malformed)
-    × (x asker a_cs (made own8 1 8 8) a_cs 0 (sec 100) (sec 100) ≡ AskRefused (InvalidLength 2))
+    (x asker asker_calls replier replier_calls 0 69_999_000_000 (sec 100) ≡ Invalid SynchronyBound)
+    × (x asker asker_calls replier replier_calls 0 69_999_999_999 (sec 100) ≡ Invalid SynchronyBound)
+    × (x asker asker_calls replier replier_calls 0 (sec 70) (sec 100) ≡ Applied (signed 1 100000 ∷ []))
+    × (bits_at asker.directory (at asker (asker_calls ++ Update (signed 1 100000 ∷ []) ∷ [])) 0 ≡ Some (0, true ∷ false ∷ []))
+    × (x asker (asker_calls ++ Update (signed 1 100000 ∷ []) ∷ []) replier replier_calls 0 (sec 70) (sec 100) ≡ Applied [])
+    × (x asker asker_calls replier (track 0 (1 ∷ 9 ∷ []) ∷ Update (signed 9 1000 ∷ []) ∷ listen 9 50 ∷ Connect 9 false ∷ []) 0 (sec 100) (sec 100) ≡ Invalid ReceivedSelf)
+    × (x asker asker_calls replier (track 0 (1 ∷ []) ∷ []) 0 (sec 100) (sec 100) ≡ Malformed)
+    × (x asker asker_calls (made own_of_8 1 8 8) asker_calls 0 (sec 100) (sec 100) ≡ AskRefused (InvalidLength 2))
     × (x asker [] replier [] 0 (sec 100) (sec 100) ≡ NoSet)
-    × (x asker a_cs replier (track 4 (1 ∷ 2 ∷ []) ∷ []) 0 (sec 100) (sec 100) ≡ Applied [])
-    × (x (made own9 8 0 8) a_cs replier r_ds 0 (sec 70) (sec 100) ≡ ReplyRefused (InvalidLength 1))
+    × (x asker asker_calls replier (track 4 (1 ∷ 2 ∷ []) ∷ []) 0 (sec 100) (sec 100) ≡ Applied [])
+    × (x (made own_of_9 8 0 8) asker_calls replier replier_calls 0 (sec 70) (sec 100) ≡ ReplyRefused (InvalidLength 1))
 unfolding History.life
 row16 = (refl, refl, refl, refl, refl, refl, refl, refl, refl, refl, refl)
 
 -- ---- exchanges: corners
 
 -- the limit before the index and the number; the limit of peers before the count; bits of no peers
-corners18 :
-    (x asker a_cs (made own8 1 8 8) [] 0 (sec 100) (sec 100) ≡ AskRefused (InvalidLength 2))
-    × (x asker a_cs (made own8 1 8 8) (track 0 (1 ∷ []) ∷ []) 0 (sec 100) (sec 100) ≡ AskRefused (InvalidLength 2))
-    × (x (made own9 8 0 0) a_cs replier r_ds 0 (sec 70) (sec 100) ≡ ReplyRefused (InvalidLength 1))
-    × (x (made own9 8 8 0) a_cs replier r_ds 0 (sec 70) (sec 100) ≡ Invalid (TooManyPeers 1))
-    × (x (made own9 8 8 0) a_cs replier (track 0 (1 ∷ 2 ∷ []) ∷ []) 0 (sec 70) (sec 100) ≡ Applied [])
-    × (x (made own9 0 0 0) (track 0 [] ∷ []) (made own8 0 0 0) (track 0 [] ∷ []) 0 0 0 ≡ Applied [])
+exchange_corners :
+    (x asker asker_calls (made own_of_8 1 8 8) [] 0 (sec 100) (sec 100) ≡ AskRefused (InvalidLength 2))
+    × (x asker asker_calls (made own_of_8 1 8 8) (track 0 (1 ∷ []) ∷ []) 0 (sec 100) (sec 100) ≡ AskRefused (InvalidLength 2))
+    × (x (made own_of_9 8 0 0) asker_calls replier replier_calls 0 (sec 70) (sec 100) ≡ ReplyRefused (InvalidLength 1))
+    × (x (made own_of_9 8 8 0) asker_calls replier replier_calls 0 (sec 70) (sec 100) ≡ Invalid (TooManyPeers 1))
+    × (x (made own_of_9 8 8 0) asker_calls replier (track 0 (1 ∷ 2 ∷ []) ∷ []) 0 (sec 70) (sec 100) ≡ Applied [])
+    × (x (made own_of_9 0 0 0) (track 0 [] ∷ []) (made own_of_8 0 0 0) (track 0 [] ∷ []) 0 0 0 ≡ Applied [])
     × (x asker (track 0 [] ∷ []) replier (track 0 (1 ∷ []) ∷ []) 0 0 0 ≡ Malformed)
     -- own keys in the list: the asker's is never asked for, the replier's is told without a connection
-    × (x asker (track 0 (8 ∷ 9 ∷ []) ∷ []) replier (track 0 (8 ∷ 9 ∷ []) ∷ []) 0 0 0 ≡ Applied (own8 ∷ []))
+    × (x asker (track 0 (8 ∷ 9 ∷ []) ∷ []) replier (track 0 (8 ∷ 9 ∷ []) ∷ []) 0 0 0 ≡ Applied (own_of_8 ∷ []))
     -- one millisecond of the future is not told; then the bound to the nanosecond
-    × (x asker a_cs replier (track 0 (1 ∷ 2 ∷ []) ∷ Update (si 1 100001 ∷ []) ∷ listen 1 50 ∷ Connect 1 false ∷ []) 0 (sec 100) 100_000_999_999 ≡ Applied [])
-    × (x asker a_cs replier (track 0 (1 ∷ 2 ∷ []) ∷ Update (si 1 100001 ∷ []) ∷ listen 1 50 ∷ Connect 1 false ∷ []) 0 70_000_999_999 100_001_000_000 ≡ Invalid SynchronyBound)
-    × (x asker a_cs replier (track 0 (1 ∷ 2 ∷ []) ∷ Update (si 1 100001 ∷ []) ∷ listen 1 50 ∷ Connect 1 false ∷ []) 0 70_001_000_000 100_001_000_000 ≡ Applied (si 1 100001 ∷ []))
+    × (x asker asker_calls replier (track 0 (1 ∷ 2 ∷ []) ∷ Update (signed 1 100001 ∷ []) ∷ listen 1 50 ∷ Connect 1 false ∷ []) 0 (sec 100) 100_000_999_999 ≡ Applied [])
+    × (x asker asker_calls replier (track 0 (1 ∷ 2 ∷ []) ∷ Update (signed 1 100001 ∷ []) ∷ listen 1 50 ∷ Connect 1 false ∷ []) 0 70_000_999_999 100_001_000_000 ≡ Invalid SynchronyBound)
+    × (x asker asker_calls replier (track 0 (1 ∷ 2 ∷ []) ∷ Update (signed 1 100001 ∷ []) ∷ listen 1 50 ∷ Connect 1 false ∷ []) 0 70_001_000_000 100_001_000_000 ≡ Applied (signed 1 100001 ∷ []))
     -- a reserved peer is not told, nor one that was released
-    × (x asker a_cs replier (track 0 (1 ∷ 2 ∷ []) ∷ Update (si 1 100000 ∷ []) ∷ listen 1 50 ∷ []) 0 (sec 100) (sec 100) ≡ Applied [])
-    × (x asker a_cs replier (r_ds ++ Release 1 ∷ []) 0 (sec 100) (sec 100) ≡ Applied [])
+    × (x asker asker_calls replier (track 0 (1 ∷ 2 ∷ []) ∷ Update (signed 1 100000 ∷ []) ∷ listen 1 50 ∷ []) 0 (sec 100) (sec 100) ≡ Applied [])
+    × (x asker asker_calls replier (replier_calls ++ Release 1 ∷ []) 0 (sec 100) (sec 100) ≡ Applied [])
     -- the first refusal in list order; the own key before the bound and the signature
-    × (x asker a_cs replier (track 0 (1 ∷ 2 ∷ []) ∷ Update (other_ns 1 7 ∷ si 2 100000 ∷ []) ∷ listen 1 50 ∷ Connect 1 false ∷ listen 2 50 ∷ Connect 2 false ∷ []) 0 0 (sec 100) ≡ Invalid InvalidSignature)
-    × (x asker a_cs replier (track 0 (1 ∷ 2 ∷ []) ∷ Update (si 1 100000 ∷ other_ns 2 7 ∷ []) ∷ listen 1 50 ∷ Connect 1 false ∷ listen 2 50 ∷ Connect 2 false ∷ []) 0 0 (sec 100) ≡ Invalid SynchronyBound)
+    × (x asker asker_calls replier (track 0 (1 ∷ 2 ∷ []) ∷ Update (signed_elsewhere 1 7 ∷ signed 2 100000 ∷ []) ∷ listen 1 50 ∷ Connect 1 false ∷ listen 2 50 ∷ Connect 2 false ∷ []) 0 0 (sec 100) ≡ Invalid InvalidSignature)
+    × (x asker asker_calls replier (track 0 (1 ∷ 2 ∷ []) ∷ Update (signed 1 100000 ∷ signed_elsewhere 2 7 ∷ []) ∷ listen 1 50 ∷ Connect 1 false ∷ listen 2 50 ∷ Connect 2 false ∷ []) 0 0 (sec 100) ≡ Invalid SynchronyBound)
     -- the same with secondary peers: they are no part of bits
-    × (x asker (Track 0 (1 ∷ []) (2 ∷ []) ∷ []) replier (Track 0 (1 ∷ []) (7 ∷ []) ∷ Update (si 1 5 ∷ []) ∷ listen 1 50 ∷ Connect 1 false ∷ []) 0 (sec 100) (sec 100) ≡ Applied (si 1 5 ∷ []))
+    × (x asker (Track 0 (1 ∷ []) (2 ∷ []) ∷ []) replier (Track 0 (1 ∷ []) (7 ∷ []) ∷ Update (signed 1 5 ∷ []) ∷ listen 1 50 ∷ Connect 1 false ∷ []) 0 (sec 100) (sec 100) ≡ Applied (signed 1 5 ∷ []))
 unfolding History.life
-corners18 = (refl, refl, refl, refl, refl, refl, refl, refl, refl, refl, refl, refl, refl, refl, refl, refl)
+exchange_corners = (refl, refl, refl, refl, refl, refl, refl, refl, refl, refl, refl, refl, refl, refl, refl, refl)
 
 -- ---- what an exchange is to bring
 
 wants_less :
-    (wanted_infos asker (at asker a_cs) replier (at replier r_ds) (sec 100) (1 ∷ 2 ∷ []) ≡ si 1 100000 ∷ [])
-    × (wanted_infos asker (at asker (a_cs ++ Update (si 1 5 ∷ []) ∷ [])) replier (at replier r_ds) (sec 100) (1 ∷ 2 ∷ []) ≡ [])
-    × (wanted_infos asker (at asker a_cs) replier (at replier r_ds) 99_999_999_999 (1 ∷ 2 ∷ []) ≡ [])
+    (wanted_infos asker (at asker asker_calls) replier (at replier replier_calls) (sec 100) (1 ∷ 2 ∷ []) ≡ signed 1 100000 ∷ [])
+    × (wanted_infos asker (at asker (asker_calls ++ Update (signed 1 5 ∷ []) ∷ [])) replier (at replier replier_calls) (sec 100) (1 ∷ 2 ∷ []) ≡ [])
+    × (wanted_infos asker (at asker asker_calls) replier (at replier replier_calls) 99_999_999_999 (1 ∷ 2 ∷ []) ≡ [])
     -- an old info that failed too often is wanted again, unless its peer is active
-    × (wanted_infos asker (at asker (a_cs ++ Update (si 1 5 ∷ []) ∷ dial 1 1 ∷ Release 1 ∷ [])) replier (at replier r_ds) (sec 100) (1 ∷ 2 ∷ []) ≡ si 1 100000 ∷ [])
-    × (wanted_infos asker (at asker (a_cs ++ Update (si 1 5 ∷ []) ∷ dial 1 1 ∷ Release 1 ∷ listen 1 11 ∷ Connect 1 false ∷ [])) replier (at replier r_ds) (sec 100) (1 ∷ 2 ∷ []) ≡ [])
+    × (wanted_infos asker (at asker (asker_calls ++ Update (signed 1 5 ∷ []) ∷ dial 1 1 ∷ Release 1 ∷ [])) replier (at replier replier_calls) (sec 100) (1 ∷ 2 ∷ []) ≡ signed 1 100000 ∷ [])
+    × (wanted_infos asker (at asker (asker_calls ++ Update (signed 1 5 ∷ []) ∷ dial 1 1 ∷ Release 1 ∷ listen 1 11 ∷ Connect 1 false ∷ [])) replier (at replier replier_calls) (sec 100) (1 ∷ 2 ∷ []) ≡ [])
 unfolding History.life is_valid
 wants_less = (refl, refl, refl, refl, refl)
 
@@ -157,10 +158,10 @@ fails s cs p = ((world_at s (after_calls s [] cs)).peer p).known.fails
 abbrev granted : Setup ℕ ℕ → List (Call ℕ ℕ) → Call ℕ ℕ → Bool
 granted s cs c = let h = after_calls s [] cs in was_granted (event_in s (History.taken_sets s h) (world_at s h) c)
 
-abbrev wat : Setup ℕ ℕ → List (Call ℕ ℕ) → World ℕ ℕ
-wat s cs = world_at s (after_calls s [] cs)
+abbrev world_after_calls : Setup ℕ ℕ → List (Call ℕ ℕ) → World ℕ ℕ
+world_after_calls s cs = world_at s (after_calls s [] cs)
 
-corners7 :
+failure_corners :
     -- a dial at the bootstrapper's address; its info with that very address comes before the release: it counts
     (fails (with_boot 8001) (dial 1 100 ∷ Update (info_at 1 5 8001 ∷ []) ∷ Release 1 ∷ []) 1 ≡ 1)
     -- .. with another address, or after the release: it does not
@@ -177,35 +178,35 @@ corners7 :
     -- .. but one that is named again before the release keeps it
     × (fails setup (track 0 (1 ∷ []) ∷ Update (info_at 1 1 8001 ∷ []) ∷ dial 1 100 ∷ track 1 (2 ∷ []) ∷ track 2 (1 ∷ []) ∷ Release 1 ∷ []) 1 ≡ 1)
 unfolding History.life is_valid
-corners7 = (refl, refl, refl, refl, refl, refl, refl, refl)
+failure_corners = (refl, refl, refl, refl, refl, refl, refl, refl)
 
 abbrev no_cooldown : Setup ℕ ℕ
 no_cooldown = record setup { cooldown = 0 }
 
-corners10 :
+moment_corners :
     -- no cooldown: again at the same moment, and not at an earlier one
     (granted no_cooldown (track 0 (1 ∷ []) ∷ Listen 1 100 7 ∷ Release 1 ∷ []) (Listen 1 100 0) ≡ true)
     × (granted no_cooldown (track 0 (1 ∷ []) ∷ Listen 1 100 7 ∷ Release 1 ∷ []) (Listen 1 99 0) ≡ false)
     -- a listener's grant moves the dial moment too, and a secondary peer keeps it when it becomes primary
-    × (query_moment setup (wat setup (Track 0 [] (1 ∷ []) ∷ Update (info 1 5 ∷ []) ∷ Listen 1 (sec 100) (sec 4) ∷ Release 1 ∷ track 1 (1 ∷ []) ∷ [])) (sec 111) 1 ≡ Some (sec 114))
+    × (query_moment setup (world_after_calls setup (Track 0 [] (1 ∷ []) ∷ Update (info 1 5 ∷ []) ∷ Listen 1 (sec 100) (sec 4) ∷ Release 1 ∷ track 1 (1 ∷ []) ∷ [])) (sec 111) 1 ≡ Some (sec 114))
     -- a bootstrapper that is blocked and is active is asked for at its block's end, too
-    × (query_moment (with_boot 1) (wat (with_boot 1) (listen 1 100 ∷ Connect 1 false ∷ Block 1 (sec 101) ∷ [])) (sec 102) 1 ≡ Some (sec 161))
+    × (query_moment (with_boot 1) (world_after_calls (with_boot 1) (listen 1 100 ∷ Connect 1 false ∷ Block 1 (sec 101) ∷ [])) (sec 102) 1 ≡ Some (sec 161))
     -- a block beats the later dial moment of a target
-    × (query_moment (with_boot 1) (wat (with_boot 1) (Listen 1 (sec 100) (sec 10) ∷ Release 1 ∷ Block 1 (sec 101) ∷ [])) (sec 102) 1 ≡ Some (sec 161))
-    × (query_moment (with_boot 1) (wat (with_boot 1) (Listen 1 (sec 100) (sec 10) ∷ Release 1 ∷ Block 1 (sec 101) ∷ [])) (sec 161) 1 ≡ None)
-    × (is_dialable (with_boot 1) (wat (with_boot 1) (Listen 1 (sec 100) (sec 10) ∷ Release 1 ∷ Block 1 (sec 101) ∷ [])) (sec 161) 1 ≡ true)
+    × (query_moment (with_boot 1) (world_after_calls (with_boot 1) (Listen 1 (sec 100) (sec 10) ∷ Release 1 ∷ Block 1 (sec 101) ∷ [])) (sec 102) 1 ≡ Some (sec 161))
+    × (query_moment (with_boot 1) (world_after_calls (with_boot 1) (Listen 1 (sec 100) (sec 10) ∷ Release 1 ∷ Block 1 (sec 101) ∷ [])) (sec 161) 1 ≡ None)
+    × (is_dialable (with_boot 1) (world_after_calls (with_boot 1) (Listen 1 (sec 100) (sec 10) ∷ Release 1 ∷ Block 1 (sec 101) ∷ [])) (sec 161) 1 ≡ true)
     -- moments that go back: a block that holds later is not renewed by one of an earlier moment
-    × ((wat setup (Block 1 (sec 200) ∷ Block 1 (sec 170) ∷ [])).unblock 1 ≡ Some (sec 260))
-    × ((wat setup (Block 1 (sec 200) ∷ UnblockExpired (sec 259) ∷ Block 1 (sec 259) ∷ [])).unblock 1 ≡ Some (sec 260))
+    × ((world_after_calls setup (Block 1 (sec 200) ∷ Block 1 (sec 170) ∷ [])).unblock 1 ≡ Some (sec 260))
+    × ((world_after_calls setup (Block 1 (sec 200) ∷ UnblockExpired (sec 259) ∷ Block 1 (sec 259) ∷ [])).unblock 1 ≡ Some (sec 260))
     -- the greatest index with one set, and none after it
-    × (latest_index_in setup (wat setup (track 0 (1 ∷ []) ∷ track (2 ^ 64 - 1) (2 ∷ []) ∷ track 5 (3 ∷ []) ∷ [])) ≡ Some (2 ^ 64 - 1))
+    × (latest_index_in setup (world_after_calls setup (track 0 (1 ∷ []) ∷ track (2 ^ 64 - 1) (2 ∷ []) ∷ track 5 (3 ∷ []) ∷ [])) ≡ Some (2 ^ 64 - 1))
     -- the own key as a bootstrapper is no other peer
-    × (is_tracked (record setup { bootstrappers = (9, Socket (record { ip = V4 (1 ∷ 1 ∷ 1 ∷ 1 ∷ []); port = 1 })) ∷ [] }) (wat setup []) 9 ≡ false)
+    × (is_tracked (record setup { bootstrappers = (9, Socket (record { ip = V4 (1 ∷ 1 ∷ 1 ∷ 1 ∷ []); port = 1 })) ∷ [] }) (world_after_calls setup []) 9 ≡ false)
     -- first of greatest across updates: a tie with an earlier update keeps the earlier
-    × (sharable_info setup (wat setup (track 0 (1 ∷ []) ∷ listen 1 1 ∷ Connect 1 false ∷ Update (info_at 1 7 8001 ∷ []) ∷ Update (info_at 1 6 8002 ∷ info_at 1 7 8003 ∷ []) ∷ [])) 1 ≡ Some (info_at 1 7 8001))
+    × (sharable_info setup (world_after_calls setup (track 0 (1 ∷ []) ∷ listen 1 1 ∷ Connect 1 false ∷ Update (info_at 1 7 8001 ∷ []) ∷ Update (info_at 1 6 8002 ∷ info_at 1 7 8003 ∷ []) ∷ [])) 1 ≡ Some (info_at 1 7 8001))
     × (epoch_millis max_nanos ≡ 2 ^ 64 - 1)
 unfolding History.life is_valid
-corners10 = (refl, refl, refl, refl, refl, refl, refl, refl, refl, refl, refl, refl, refl)
+moment_corners = (refl, refl, refl, refl, refl, refl, refl, refl, refl, refl, refl, refl, refl)
 
 -- ---- isolation: what is left for 1
 left_out :
