@@ -16,3 +16,5 @@ mod pair;
 mod record;
 #[cfg(test)]
 mod run;
+#[cfg(test)]
+mod sizes;

@@ -20,8 +20,8 @@ use std::process::Abort;
 use std::test::Fail;
 use std::time::Duration;
 
+mod many;
 mod memory;
-mod thousand;
 
 pub(crate) const ROWS: &[u8] = b"rows";
 

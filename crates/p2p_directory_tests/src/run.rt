@@ -359,8 +359,8 @@ fn run_and_hold(alloc: Global, count: u64) -> Result<Run<TestKey>, AllocError> {
 #[test]
 fn finish_gives_all_back(rt: HostRuntime) -> Result<(), Fail> {
     let alloc = rt.alloc();
-    let left = run_and_hold(alloc, 5_000)?;
-    assert_eq!(rt; left.replies.len(), 5_001);
+    let left = run_and_hold(alloc, 12_000)?;
+    assert_eq!(rt; left.replies.len(), 12_001);
     for (place, reply) in left.replies.iter().enumerate() {
         let told = if place == 0 {
             Told::Track(Some(&[]))
@@ -370,14 +370,14 @@ fn finish_gives_all_back(rt: HostRuntime) -> Result<(), Fail> {
         assert!(rt; told.is(reply), "reply {place} is {reply:?}");
     }
     assert_eq!(rt; left.held.first(), Some(TestKey(10)));
-    for key in 10..5_010 {
+    for key in 10..12_010 {
         assert_eq!(rt;
             left.directory.status(&TestKey(key)),
             Some(Status::Reserved)
         );
     }
     let directory = left.finish();
-    for key in 10..5_010 {
+    for key in 10..12_010 {
         assert_eq!(rt; directory.status(&TestKey(key)), Some(Status::Inert));
     }
     Ok(())

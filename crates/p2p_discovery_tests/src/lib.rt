@@ -15,6 +15,8 @@ mod out_of_memory;
 #[cfg(test)]
 mod sets;
 #[cfg(test)]
+mod sizes;
+#[cfg(test)]
 mod sizing;
 #[cfg(test)]
 mod types;

@@ -1,8 +1,8 @@
 //! What nodes answer where memory is refused, and that they are then as before.
 
 use crate::node::{
-    NOBODY, ONE, Told, assert_asked, greeting, infos, listens_and_connects, node,
-    tells_of_one, tracks,
+    NOBODY, ONE, Told, assert_asked, greeting, infos, listens_and_connects, node, tells_of_one,
+    tracks,
 };
 use bytes::Bytes;
 use low_memory::{LowMemory, STEP};

@@ -1,4 +1,4 @@
-//! An exchange over one set of a thousand peers.
+//! An exchange over one set of ten thousand peers.
 
 use crate::pair::{ROWS, setup, signed};
 use p2p_directory::directory::TrackedPeers;
@@ -11,7 +11,7 @@ use std::process::Abort;
 use std::test::Fail;
 use std::time::Duration;
 
-const COUNT: u16 = 1_000;
+const COUNT: u16 = 10_000;
 
 fn hundred() -> Duration {
     Duration::from_secs(100)
@@ -125,16 +125,16 @@ fn is_nothing(exchanged: &Exchanged<TestKey>) -> bool {
 }
 
 #[test]
-fn an_exchange_brings_a_thousand_infos(rt: HostRuntime) -> Result<(), Fail> {
+fn an_exchange_brings_ten_thousand_infos(rt: HostRuntime) -> Result<(), Fail> {
     let replies = replies(rt.alloc())?;
-    assert_eq!(rt; replies.len(), 2_006);
+    assert_eq!(rt; replies.len(), 20_006);
     for (place, reply) in replies.iter().enumerate() {
         let wanted = match (place, reply) {
             (0 | 1, PairReply::Call(reply)) => matches!(reply, Reply::Track(Some(_))),
             (2, PairReply::Call(reply)) => matches!(reply, Reply::UpdatePeers),
-            (2_003, PairReply::Exchange(exchanged)) => is_brought(exchanged),
-            (2_004, PairReply::Exchange(exchanged)) => is_nothing(exchanged),
-            (2_005, PairReply::Call(reply)) => knows_all(reply),
+            (20_003, PairReply::Exchange(exchanged)) => is_brought(exchanged),
+            (20_004, PairReply::Exchange(exchanged)) => is_nothing(exchanged),
+            (20_005, PairReply::Call(reply)) => knows_all(reply),
             (_, PairReply::Call(reply)) => { matches!(reply, Reply::Listen(true) | Reply::Connect) }
             _ => false,
         };
