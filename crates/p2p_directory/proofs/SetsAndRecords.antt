@@ -10,6 +10,7 @@ pub mod Counting
 pub mod Consistent
 pub mod Retained
 pub mod Windows
+pub mod Indexed
 pub mod Changes
 pub mod Own
 pub mod Bootstrapped

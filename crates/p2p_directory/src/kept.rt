@@ -1,9 +1,9 @@
 //! What is retained of peer sets, with a bit beside each primary peer. It knows nothing of records.
 
 ghost use Rattle.std.specs.Prelude.{◌≡◌, ◌++◌, ◌∷◌, [], true, false, not, map, length, slice_get};
-ghost use Rattle.std.specs.Prelude.{IfNone, IfOk, IfErr, OnErr, OnOk, Some, None, if◌then◌else◌};
-ghost use Rattle.std.specs.Prelude.{option_to_list, ◌≤◌};
-ghost use Rattle.std.specs.List.{filter, count_by, slice_set, last_or};
+ghost use Rattle.std.specs.Prelude.{IfNone, IfOk, IfErr, OnErr, OnOk, None};
+ghost use Rattle.std.specs.Prelude.{option_to_list};
+ghost use Rattle.std.specs.List.{filter, count_by, last_or};
 ghost use Rattle.std.specs.Map.{keys_of};
 ghost use Rattle.std.specs.Option.{option_copied};
 ghost use Rattle.p2p_discovery.specs.BitSets.{with_bit};
@@ -12,8 +12,10 @@ ghost use Rattle.p2p_directory.specs.PeerSets.{AreRolesDisjoint};
 ghost use Rattle.p2p_directory.specs.Private.Counts.{leaving_count};
 ghost use Rattle.p2p_directory.specs.Private.Window.{SetWithBits, plain_set, plain_sets};
 ghost use Rattle.p2p_directory.specs.Private.Window.{set_with_bits, set_at, has_primary};
-ghost use Rattle.p2p_directory.specs.Private.Window.{with_bit_of};
+ghost use Rattle.p2p_directory.specs.Private.Window.{with_bit_of, IsAscending};
+ghost use Rattle.p2p_directory.specs.Private.Places.{IsIndexed, bit_at, bits_at};
 
+use crate::kept::places::{Place, Places};
 use p2p_discovery::codec::PublicKey;
 use p2p_discovery::sets::{BitSet, OrderedSet, SetError};
 use std::alloc::{AllocError, Global};
@@ -105,16 +107,6 @@ impl<C: PublicKey> PeerSet<C> {
     {
         self.primary.update_at(place, known);
     }
-
-    /// Sets the bit of the peer, where it is primary, and says whether it is.
-    pub fn refresh(&mut self, peer: &C, known: bool) -> bool
-        ensures answer { result ≡ has_primary C.cmp peer.now self.old }
-        ensures after { self.new ≡ with_bit_of C.cmp peer.now known self.old }
-    {
-        // For the proof: the clauses of `as_slice` say that the peers are in order.
-        let _peers = self.primary.ordered().as_slice();
-        self.primary.update(peer, known)
-    }
 }
 
 // Whether the peer is in the set.
@@ -165,17 +157,19 @@ fn without<C: PublicKey>(
 #[derive(Drop)]
 pub struct Window<C: PublicKey> {
     sets: VecDeque<PeerSet<C>>,
+    places: Places<C>,
 }
 
 impl<C: PublicKey> Model for Window<C> {
     ghost use Rattle.std.specs.Prelude.{List};
-    ghost use Rattle.p2p_directory.specs.Private.Window.{SetWithBits, IsAscending};
+    ghost use Rattle.p2p_directory.specs.Private.Window.{SetWithBits};
+    ghost use Rattle.p2p_directory.specs.Private.Places.{IsIndexed};
 
     ghost Value = { List (SetWithBits C) };
 
     ghost view = { λ w. w.sets.items };
 
-    ghost invariant = { λ w. IsAscending w.sets.items };
+    ghost invariant = { λ w. IsIndexed C.cmp w.places w.sets.items };
 }
 
 impl<C: PublicKey> Window<C> {
@@ -185,6 +179,7 @@ impl<C: PublicKey> Window<C> {
     {
         Window {
             sets: VecDeque::new(alloc),
+            places: Places::new(alloc),
         }
     }
 
@@ -272,10 +267,7 @@ impl<C: PublicKey> Window<C> {
         ensures err { OnErr result (self.new ≡ self.old) }
         ensures back { IfErr result (λ back. back ≡ set) }
     {
-        match self.sets.push_back(set) {
-            Ok(()) => Ok(()),
-            Err(refused) => Err(refused.value),
-        }
+        push_set(&mut self.sets, &mut self.places, set)
     }
 
     /// Takes out the set with the least index.
@@ -283,7 +275,7 @@ impl<C: PublicKey> Window<C> {
         ensures sets { self.old ≡ option_to_list result ++ self.new }
         ensures none { IfNone result (length self.old ≡ 0) }
     {
-        self.sets.pop_front()
+        pop_set(&mut self.sets, &mut self.places)
     }
 
     /// Sets the peer's bit in every set that has it as primary, and answers in how many. Takes no
@@ -291,12 +283,13 @@ impl<C: PublicKey> Window<C> {
     ///
     /// # Cost
     ///
-    /// One search in each set.
+    /// One search among the primary peers of all sets, and for each set that has this one the search
+    /// of the set by its index. Other sets are not looked at, and no list of peers is searched.
     pub fn refresh(&mut self, peer: &C, known: bool) -> usize
         ensures sets { self.new ≡ map (with_bit_of C.cmp peer.now known) self.old }
         ensures count { result ≡ count_by (has_primary C.cmp peer.now) self.old }
     {
-        refresh_each(&mut self.sets, peer, known)
+        refresh_places(&mut self.sets, &self.places, peer, known)
     }
 }
 
@@ -313,33 +306,90 @@ fn set_with_index<C: PublicKey>(sets: &VecDeque<PeerSet<C>>, index: u64) -> Opti
     None
 }
 
-// Sets the peer's bit in each set that has it as primary, and answers in how many.
-fn refresh_each<C: PublicKey>(sets: &mut VecDeque<PeerSet<C>>, peer: &C, known: bool) -> usize
-    ensures sets { sets.new.items ≡ map (with_bit_of C.cmp peer.now known) sets.old.items }
-    ensures count { result ≡ count_by (has_primary C.cmp peer.now) sets.old.items }
+// Takes in a set as the latest with the places of its primary peers, or leaves both as they were.
+fn push_set<C: PublicKey>(
+    sets: &mut VecDeque<PeerSet<C>>,
+    places: &mut Places<C>,
+    set: PeerSet<C>,
+) -> Result<(), PeerSet<C>>
+    requires indexed { IsIndexed C.cmp places.old sets.old.items }
+    requires above { is_above set.index (latest_index (plain_sets sets.old.items)) ≡ true }
+    ensures indexed { IsIndexed C.cmp places.new sets.new.items }
+    ensures ok { OnOk result (sets.new.items ≡ sets.old.items ++ set ∷ []) }
+    ensures err { OnErr result (sets.new.items ≡ sets.old.items) }
+    ensures back { IfErr result (λ back. back ≡ set) }
 {
-    let mut count = 0;
-    for place in 0..sets.len() {
-        count += refresh_at(sets, place, peer, known);
+    if sets.try_reserve(1).is_err() {
+        return Err(set);
     }
-    count
+    if places
+        .add_each(set.primary.ordered().as_slice(), set.index)
+        .is_err()
+    {
+        return Err(set);
+    }
+    match sets.push_back(set) {
+        Ok(()) => Ok(()),
+        Err(refused) => Err(refused.value),
+    }
 }
 
-// Sets the peer's bit in the set at a place, where it is primary, and counts it then.
-fn refresh_at<C: PublicKey>(
+// Takes out the first set with the places of its primary peers.
+fn pop_set<C: PublicKey>(
     sets: &mut VecDeque<PeerSet<C>>,
-    place: usize,
+    places: &mut Places<C>,
+) -> Option<PeerSet<C>>
+    requires { IsIndexed C.cmp places.old sets.old.items }
+    ensures indexed { IsIndexed C.cmp places.new sets.new.items }
+    ensures sets { sets.old.items ≡ option_to_list result ++ sets.new.items }
+    ensures none { IfNone result (length sets.old.items ≡ 0) }
+{
+    let oldest = sets.pop_front()?;
+    places.remove_first_of_each(oldest.primary.ordered().as_slice());
+    Some(oldest)
+}
+
+// Sets the bit at each place of the peer, and answers how many there are.
+fn refresh_places<C: PublicKey>(
+    sets: &mut VecDeque<PeerSet<C>>,
+    places: &Places<C>,
     peer: &C,
     known: bool,
 ) -> usize
-    ensures count { (set : SetWithBits C) → slice_get sets.old.items place ≡ Some set →
-        result ≡ (if has_primary C.cmp peer.now set then 1 else 0) }
-    ensures after { (set : SetWithBits C) → slice_get sets.old.items place ≡ Some set →
-        sets.new.items ≡ slice_set sets.old.items place (with_bit_of C.cmp peer.now known set) }
-    ensures few { result ≤ 1 }
+    requires { IsIndexed C.cmp places.now sets.old.items }
+    ensures sets { sets.new.items ≡ map (with_bit_of C.cmp peer.now known) sets.old.items }
+    ensures count { result ≡ count_by (has_primary C.cmp peer.now) sets.old.items }
 {
-    match sets.get_mut(place) {
-        Some(set) => { if set.refresh(peer, known) { 1 } else { 0 } }
+    match places.get(peer) {
+        Some(queue) => set_bits(sets, queue, known),
         None => 0,
+    }
+}
+
+// Sets the bit at each of the places, and answers how many there are.
+fn set_bits<C: PublicKey>(
+    sets: &mut VecDeque<PeerSet<C>>,
+    places: &VecDeque<Place>,
+    known: bool,
+) -> usize
+    requires { IsAscending sets.old.items }
+    ensures sets { sets.new.items ≡ bits_at known places.now.items sets.old.items }
+    ensures count { result ≡ length places.now.items }
+{
+    for k in 0..places.len() {
+        set_bit_at(sets, &places[k], known);
+    }
+    places.len()
+}
+
+// Sets the bit at a place, in the set with its index.
+fn set_bit_at<C: PublicKey>(sets: &mut VecDeque<PeerSet<C>>, place: &Place, known: bool)
+    requires { IsAscending sets.old.items }
+    ensures { sets.new.items ≡ map (bit_at known place.now) sets.old.items }
+{
+    if let Ok(found) = sets.binary_search_by_key(&place.set, |set| set.index()) {
+        if let Some(set) = sets.get_mut(found) {
+            set.set_bit(place.at, known);
+        }
     }
 }

@@ -1,5 +1,5 @@
 -- The moments of blocks in order: they stay those of the blocks as blocks come and go.
-use Rattle.std.proofs.Common.{◌≡◌, ℕ, suc, zero, ◌+◌, ◌≤◌, ◌<◌, ◌⊎◌, Bool, true, false, ◌&&◌, ◌||◌, cond, not, nat_lt, nat_eq, List, [], ◌∷◌, filter, length, Option, Some, None, refl, sym, ◌∙◌, ap, subst, arith}
+use Rattle.std.proofs.Common.{◌≡◌, ℕ, suc, ◌+◌, ◌≤◌, ◌<◌, ◌⊎◌, Bool, true, false, ◌&&◌, cond, not, nat_lt, nat_eq, List, [], ◌∷◌, filter, length, Option, Some, None, refl, sym, ◌∙◌, ap, arith}
 use mathlib.Core.Logic.{inl, inr}
 use Rattle.std.specs.Prelude.{IsSome, is_some, ◌↔◌}
 use Rattle.std.specs.declared.cmp.Ordering.{Ordering}
@@ -12,9 +12,9 @@ use Rattle.std.specs.List.{count_by, list_any}
 use Rattle.std.specs.List.Sorted.{IsStrictlySortedBy}
 use Rattle.std.specs.Map.{lookup, keys_of, remove_entry}
 use Rattle.std.specs.Option.{option_map, option_map_or}
-use Rattle.std.specs.Ordering.{is_eq, is_gt, nat_cmp, ordering_then}
+use Rattle.std.specs.Ordering.{is_eq, is_gt, ordering_then}
 use Rattle.std.proofs.lemmas.Bool.Decides.{nat_tests}
-use Rattle.std.proofs.lemmas.Bool.{le-ltb, lt-ltb}
+use Rattle.std.proofs.lemmas.Bool.{lt-ltb}
 use Rattle.std.proofs.lemmas.Cmp.{tied_itself}
 use Rattle.std.proofs.lemmas.List.Sums.{length-filter}
 use Rattle.std.proofs.lemmas.Map.{lookup-none}

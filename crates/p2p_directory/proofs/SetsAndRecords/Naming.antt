@@ -1,5 +1,5 @@
 -- Keys named one after another by a list without repeats.
-use Rattle.std.proofs.Common.{◌≡◌, ℕ, ◌+◌, ◌<◌, Bool, true, false, cond, ◌||◌, ◌&&◌, zero, suc, List, [], ◌∷◌, ◌++◌, take, drop, length, get_or, Option, sym, ap, refl, ◌∙◌, subst, arith}
+use Rattle.std.proofs.Common.{◌≡◌, ℕ, ◌+◌, ◌<◌, Bool, true, false, cond, ◌||◌, ◌&&◌, zero, suc, List, [], ◌∷◌, ◌++◌, take, drop, length, get_or, sym, ap, refl, ◌∙◌, subst, arith}
 use mathlib.Core.Bool.{true≢false}
 use Rattle.std.specs.declared.cmp.Ordering.{Ordering}
 use Rattle.std.specs.declared.cmp.Ordering.TheVariants.{Less}
@@ -17,7 +17,7 @@ use Rattle.std.proofs.lemmas.Map.Views.{tells_apart, any-filter_same}
 use Rattle.p2p_discovery.specs.Ordered.{IsPlaceOf}
 use Rattle.p2p_directory.specs.PeerSets.{has_key}
 
-step : {X : Type 0} (a b : Bool) → (b ≡ true → a ≡ false) → (f : Option X → Option X) (new now old : Option X) → new ≡ cond b (f now) now → now ≡ cond a (f old) old → new ≡ cond (a || b) (f old) old
+step : {X : Type 0} (a b : Bool) → (b ≡ true → a ≡ false) → (f : X → X) (new now old : X) → new ≡ cond b (f now) now → now ≡ cond a (f old) old → new ≡ cond (a || b) (f old) old
 step true true h f new now old d e = absurd (true≢false (h refl))
 step true false h f new now old d e = d ∙ e
 step false true h f new now old d e = d ∙ ap f e
@@ -34,7 +34,7 @@ module _ {C : Type 0} {cmp : C → C → Ordering} (o : IsTotalOrder cmp) (exact
         rw (get_or-take i keys j d before) (ap is_eq less))
 
     -- a change made for the keys before it, and then for it
-    pub one_changed : {X : Type 0} (f : Option X → Option X) (q : C) (new now old : Option X) → new ≡ cond (is_at (cmp key) q) (f now) now → now ≡ cond (has_key cmp (take i keys) q) (f old) old → new ≡ cond (has_key cmp (take (i + 1) keys) q) (f old) old
+    pub one_changed : {X : Type 0} (f : X → X) (q : C) (new now old : X) → new ≡ cond (is_at (cmp key) q) (f now) now → now ≡ cond (has_key cmp (take i keys) q) (f old) old → new ≡ cond (has_key cmp (take (i + 1) keys) q) (f old) old
     one_changed {X} f q new now old d e =
         let test : C → Bool = λ k. is_at (cmp k) q in
         let more = list_any_more test keys i key low ∙ ap (λ k. has_key cmp (take i keys) q || test k) (sym is) in
@@ -121,6 +121,6 @@ unfolding IsDistinct
 none_distinct e = tt
 
 -- what was counted more and then less is as it was
-pub undone : {X : Type 0} (b : Bool) (more less : Option X → Option X) (new now old : Option X) → (b ≡ true → less (more old) ≡ old) → new ≡ cond b (less now) now → now ≡ cond b (more old) old → new ≡ old
+pub undone : {X : Type 0} (b : Bool) (more less : X → X) (new now old : X) → (b ≡ true → less (more old) ≡ old) → new ≡ cond b (less now) now → now ≡ cond b (more old) old → new ≡ old
 undone true more less new now old back d e = d ∙ ap less e ∙ back refl
 undone false more less new now old back d e = d ∙ e

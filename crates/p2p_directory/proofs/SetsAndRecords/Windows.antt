@@ -1,25 +1,20 @@
 -- Retained sets with their bits: what a new bit leaves, and that their indices ascend.
-use Rattle.std.proofs.Common.{◌≡◌, ℕ, zero, suc, ◌<◌, ◌≤◌, ◌+◌, Bool, true, false, cond, ◌||◌, List, [], ◌∷◌, ◌++◌, map, take, drop, length, get_or, Option, Some, None, sym, ap, refl, subst, ◌∙◌, arith}
-use Rattle.std.specs.Prelude.{◌==◌, is_some, nat_lt, nat_eq, option_to_list, find, slice_get}
+use Rattle.std.proofs.Common.{◌≡◌, ℕ, zero, suc, ◌<◌, ◌≤◌, ◌+◌, Bool, true, false, cond, List, [], ◌∷◌, ◌++◌, map, take, drop, length, get_or, Option, Some, None, sym, ap, refl, subst, ◌∙◌, arith}
+use Rattle.std.specs.Prelude.{◌==◌, nat_lt, nat_eq, find, slice_get}
 use Rattle.std.specs.declared.cmp.Ordering.{Ordering}
 use Rattle.std.specs.declared.cmp.Ordering.TheVariants.{Less, Equal, Greater}
 use Rattle.std.specs.Ordering.{nat_cmp}
-use Rattle.std.specs.Cmp.{IsTotalOrder, eq_by_cmp_equiv, nat_cmp_total}
+use Rattle.std.specs.Cmp.{nat_cmp_total}
 use Rattle.std.specs.Option.{option_map}
-use Rattle.std.specs.List.{list_any, last_or, AllByRecursion, slice_set, count_by}
+use Rattle.std.specs.List.{last_or, AllByRecursion}
 use Rattle.std.specs.List.Sorted.{IsStrictlySortedBy}
-use Rattle.std.specs.Map.{keys_of, values_of, set_value, lookup}
+use Rattle.std.specs.Map.{keys_of, values_of}
 use Rattle.std.specs.BTreeMap.{is_at}
 use Rattle.std.proofs.lemmas.List.{map-append}
-use Rattle.std.proofs.lemmas.List.Sums.{count_by_more_yes, count_by_more_no}
 use Rattle.std.proofs.lemmas.Option.{slice_get-map}
 use Rattle.std.proofs.lemmas.Map.{NonePasses}
-use Rattle.std.proofs.lemmas.Map.Entries.{none_past_head}
-use Rattle.std.proofs.lemmas.Map.Keys.{sorted_tail, IsDistinct-from_sorted}
-use Rattle.std.proofs.lemmas.Map.Made.{is_some-lookup}
 use Rattle.p2p_discovery.specs.BitSets.{with_bit, unset}
-use Rattle.p2p_directory.specs.PeerSets.{has_key, latest_index, is_above, set_with}
-use Rattle.p2p_directory.proofs.SetsAndRecords.Counting.{one}
+use Rattle.p2p_directory.specs.PeerSets.{latest_index, is_above, set_with}
 use Rattle.p2p_directory.proofs.SetsAndRecords.Naming.{all_joined}
 use Rattle.p2p_directory.specs.Calls.{SetAt}
 use Rattle.p2p_directory.specs.Private.Window.{SetWithBits, plain_set, plain_sets, set_with_bits, sets_with_bits, bits_with, with_bit_of, IsAscending, set_at}
@@ -78,27 +73,9 @@ module _ {C : Type 0} (cmp : C → C → Ordering) where
   keys_bits_with p b (e ∷ es) = ap (λ ks. e.0 ∷ ks) (keys_bits_with p b es)
 
   -- where p is none of the peers, no bit changes
-  bits_without : (p : C) (b : Bool) (es : List (C × Bool)) → NonePasses (is_at (cmp p)) es → bits_with cmp p b es ≡ es
+  pub bits_without : (p : C) (b : Bool) (es : List (C × Bool)) → NonePasses (is_at (cmp p)) es → bits_with cmp p b es ≡ es
   bits_without p b [] none = refl
   bits_without p b (e ∷ es) none = λ i. (e.0, cond (none.0 i) b e.1) ∷ bits_without p b es none.1 i
-
-  -- the bit of the first p is that of every p
-  pub bit_of_one : IsTotalOrder cmp → (p : C) (b : Bool) (es : List (C × Bool)) → IsStrictlySortedBy cmp (keys_of es) → set_value (is_at (cmp p)) es b ≡ bits_with cmp p b es
-  bit_of_one total p b [] up = refl
-  bit_of_one total p b (e ∷ es) up = go (is_at (cmp p) e.0) refl (bit_of_one total p b es (sorted_tail cmp e.0 (keys_of es) up))
-    where
-      go : (here : Bool) → is_at (cmp p) e.0 ≡ here → set_value (is_at (cmp p)) es b ≡ bits_with cmp p b es →
-          cond here ((e.0, b) ∷ es) (e ∷ set_value (is_at (cmp p)) es b) ≡ (e.0, cond here b e.1) ∷ bits_with cmp p b es
-      go true h later = ap (λ rest. (e.0, b) ∷ rest) (sym (bits_without p b es (none_past_head (eq_by_cmp_equiv total) p e es (IsDistinct-from_sorted cmp (keys_of (e ∷ es)) up) h)))
-      go false h later = ap (λ rest. e ∷ rest) later
-
-  -- p has a bit where it is one of the peers
-  pub has_bit : IsTotalOrder cmp → (p : C) (es : List (C × Bool)) → is_some (lookup (is_at (cmp p)) es) ≡ has_key cmp (keys_of es) p
-  has_bit total p es = is_some-lookup (is_at (cmp p)) es ∙ go (keys_of es)
-    where
-      go : (keys : List C) → list_any (is_at (cmp p)) keys ≡ has_key cmp keys p
-      go [] = refl
-      go (k ∷ keys) = λ i. (eq_by_cmp_equiv total).symm p k i || go keys i
 
   -- a new bit leaves the sets
   pub plain_with_bit : (p : C) (b : Bool) (sets : List (SetWithBits C)) → plain_sets (map (with_bit_of cmp p b) sets) ≡ plain_sets sets
@@ -152,16 +129,6 @@ module _ {C : Type 0} where
       indices (Some x) [] = refl
       indices o (x ∷ sets) = indices (Some x) sets
 
-  -- .. where it is pushed
-  pub ascending_pushed : (ok : Bool) (old new : List (SetWithBits C)) (set : SetWithBits C) → new ≡ cond ok (old ++ set ∷ []) old → IsAscending old → is_above set.index (latest_index (plain_sets old)) ≡ true → IsAscending new
-  ascending_pushed true old new set e up above = subst IsAscending (sym e) (ascending_push old set up above)
-  ascending_pushed false old new set e up above = subst IsAscending (sym e) up
-
-  -- the first of ascending sets goes
-  pub ascending_popped : (o : Option (SetWithBits C)) (old new : List (SetWithBits C)) → old ≡ option_to_list o ++ new → IsAscending old → IsAscending new
-  ascending_popped None old new e up = subst IsAscending e up
-  ascending_popped (Some x) old new e up = sorted_tail nat_cmp x.index (map (λ set. set.index) new) (subst IsAscending e up)
-
   -- new bits leave the indices
   pub ascending_with_bit : (cmp : C → C → Ordering) (p : C) (b : Bool) (old new : List (SetWithBits C)) → new ≡ map (with_bit_of cmp p b) old → IsAscending old → IsAscending new
   ascending_with_bit cmp p b old new e up = subst IsAscending (sym e) (subst (IsStrictlySortedBy nat_cmp) (sym (go old)) up)
@@ -171,15 +138,6 @@ module _ {C : Type 0} where
       go (x ∷ sets) = ap (λ ns. x.index ∷ ns) (go sets)
 
 -- ONE AFTER THE OTHER
-
--- the first i values changed, and one more
-pub changed_more : {A : Type 0} (f : A → A) (xs : List A) (i : ℕ) (x : A) → i < length xs → x ≡ get_or xs i x → slice_set (map f (take i xs) ++ drop i xs) i (f x) ≡ map f (take (i + 1) xs) ++ drop (i + 1) xs
-changed_more f xs i x low is = go f xs i x low is ∙ ap (λ k. map f (take k xs) ++ drop k xs) (next i)
-  where
-    go : {A : Type 0} (f : A → A) (xs : List A) (i : ℕ) (x : A) → i < length xs → x ≡ get_or xs i x → slice_set (map f (take i xs) ++ drop i xs) i (f x) ≡ map f (take (suc i) xs) ++ drop (suc i) xs
-    go f [] i x low is = absurd (omega (arith, low))
-    go f (y ∷ ys) zero x low is = ap (λ z. f z ∷ ys) is
-    go f (y ∷ ys) (suc i) x low is = ap (λ rest. f y ∷ rest) (go f ys i x (omega (arith, low)) is)
 
 -- what is found is the first that passes a test
 pub found_at : {A : Type 0} (test : A → Bool) (xs : List A) (i : ℕ) (x : A) → find test (take i xs) ≡ None → i < length xs → x ≡ get_or xs i x → test x ≡ true → find test xs ≡ Some x
@@ -203,23 +161,6 @@ not_found_more test xs i x none low is fails = ap (λ k. find test (take k xs)) 
     go test [] i x none low is fails = absurd (omega (arith, low))
     go test (y ∷ ys) zero x none low is fails = λ i. cond ((ap test (sym is) ∙ fails) i) (Some y) None
     go test (y ∷ ys) (suc i) x none low is fails = one_more (test y) y (find test (take i ys)) (find test (take (suc i) ys)) none (λ n. go test ys i x n (omega (arith, low)) is fails)
-
--- where the first i values changed, the one at place i is as it was
-pub still_there : {A : Type 0} (f : A → A) (xs : List A) (i : ℕ) → i < length xs → (ys : List A) → ys ≡ map f (take i xs) ++ drop i xs → (x : A) × (slice_get ys i ≡ Some x) × (x ≡ get_or xs i x)
-still_there f xs i low ys e = let found = go f xs i low in (found.0, ap (λ zs. slice_get zs i) e ∙ found.1, found.2)
-  where
-    go : {A : Type 0} (f : A → A) (xs : List A) (i : ℕ) → i < length xs → (x : A) × (slice_get (map f (take i xs) ++ drop i xs) i ≡ Some x) × (x ≡ get_or xs i x)
-    go f [] i low = absurd (omega (arith, low))
-    go f (y ∷ ys) zero low = (y, refl, refl)
-    go f (y ∷ ys) (suc i) low = go f ys i (omega (arith, low))
-
--- how many of the first pass a test, and one more
-pub counted_more : {A : Type 0} (test : A → Bool) (xs : List A) (i : ℕ) (x : A) → i < length xs → x ≡ get_or xs i x → count_by test (take i xs) + one (test x) ≡ count_by test (take (i + 1) xs)
-counted_more test xs i x low is = go (test x) refl
-  where
-    go : (b : Bool) → test x ≡ b → count_by test (take i xs) + one b ≡ count_by test (take (i + 1) xs)
-    go true e = sym (count_by_more_yes test xs i x low (ap test (sym is) ∙ e))
-    go false e = omega (arith, count_by_more_no test xs i x low (ap test (sym is) ∙ e))
 
 -- SHOWN BITS
 

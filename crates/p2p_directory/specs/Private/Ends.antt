@@ -1,5 +1,5 @@
 -- Private: the moments of blocks in order, each with the key whose block it ends.
-use Rattle.std.specs.Prelude.{ℕ, ◌≡◌, Bool, false, List, nat_eq}
+use Rattle.std.specs.Prelude.{ℕ, ◌≡◌, false, List, nat_eq}
 use Rattle.std.specs.List.{list_any}
 use Rattle.std.specs.BTreeMap.{is_at}
 use Rattle.std.specs.Option.{option_map_or}

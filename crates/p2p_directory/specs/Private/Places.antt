@@ -1,5 +1,7 @@
 -- Private: keys with the queues of their places, and the places of a key in retained sets.
-use Rattle.std.specs.Prelude.{ℕ, ◌≡◌, ◌<◌, length, Bool, List, [], ◌∷◌, ◌++◌, Option, Some, None, IfSome, map, suc, if◌then◌else◌}
+use Rattle.std.specs.Prelude.{ℕ, ◌≡◌, ◌<◌, ◌-◌, ◌==◌, length, take, Bool, List, [], ◌∷◌, ◌++◌, IfSome, map, suc, if◌then◌else◌}
+use Rattle.std.specs.List.{AllByRecursion}
+use Rattle.std.specs.List.Sorted.{IsStrictlySortedBy}
 use Rattle.std.specs.Map.{lookup, keys_of}
 use Rattle.std.specs.BTreeMap.{is_at}
 use Rattle.std.specs.Option.{unwrap_or}
@@ -7,12 +9,26 @@ use Rattle.std.specs.declared.cmp.Ordering.{Ordering}
 use Rattle.std.specs.declared.alloc.Global.{Global}
 use Rattle.std.specs.declared.collections.VecDeque.{VecDeque}
 use Rattle.p2p_directory.specs.declared.kept.places.Place.{Place}
-use Rattle.p2p_directory.specs.Private.Window.{SetWithBits}
+use Rattle.p2p_discovery.specs.BitSets.{with_bit}
+use Rattle.p2p_directory.specs.Private.Window.{SetWithBits, IsAscending}
+
+-- the places without the last
+abbrev pub but_last : List Place → List Place
+but_last places = take (length places - 1) places
 
 module _ {C : Type 0} where
   -- the queues as lists
   abbrev pub queues_of : List (C × VecDeque Place Global) → List (C × List Place)
   queues_of entries = map (λ e. (e.0, e.1.items)) entries
+
+  -- the set with this bit at the place, if it is the set of the place
+  abbrev pub bit_at : Bool → Place → SetWithBits C → SetWithBits C
+  bit_at known place set = if set.index == place.set then (record set { primary = with_bit set.primary place.at known }) else set
+
+  -- the sets with this bit at each of the places
+  abbrev pub bits_at : Bool → List Place → List (SetWithBits C) → List (SetWithBits C)
+  bits_at known [] sets = sets
+  bits_at known (place ∷ places) sets = bits_at known places (map (bit_at known place) sets)
 
 module _ {C : Type 0} (cmp : C → C → Ordering) where
   -- the places of a key
@@ -36,3 +52,13 @@ module _ {C : Type 0} (cmp : C → C → Ordering) where
   -- the index: each key's queue is exactly its places in the sets
   abbrev pub AreThePlaces : List (C × List Place) → List (SetWithBits C) → Type 0
   AreThePlaces places sets = (q : C) → places_of places q ≡ places_in sets q
+
+  -- the primary peers of each set are in order
+  abbrev pub AreOrdered : List (SetWithBits C) → Type 0
+  AreOrdered sets = AllByRecursion (λ set. IsStrictlySortedBy cmp (keys_of set.primary)) sets
+
+  -- what is true of retained sets and their index between calls
+  pub record IsIndexed (places : List (C × List Place)) (sets : List (SetWithBits C)) : Type 0 where
+    pub ascending : IsAscending sets
+    pub ordered : AreOrdered sets
+    pub indexed : AreThePlaces places sets

@@ -1,9 +1,11 @@
 //! The places at which keys stand: for each key a queue of them.
 
-ghost use Rattle.std.specs.Prelude.{◌≡◌, ◌++◌, ◌∷◌, ◌-◌, [], drop, take, length, IfNone, IfSome, OnErr, OnOk};
+ghost use Rattle.std.specs.Prelude.{◌≡◌, ◌++◌, ◌∷◌, [], drop, IfNone, IfSome, OnErr, OnOk};
 ghost use Rattle.std.specs.Prelude.{if◌then◌else◌};
 ghost use Rattle.std.specs.BTreeMap.{is_at};
-ghost use Rattle.p2p_directory.specs.Private.Places.{places_of};
+ghost use Rattle.std.specs.List.Sorted.{IsStrictlySortedBy};
+ghost use Rattle.p2p_directory.specs.PeerSets.{has_key};
+ghost use Rattle.p2p_directory.specs.Private.Places.{places_of, places_from, but_last};
 
 use crate::kept::forget;
 use p2p_discovery::codec::PublicKey;
@@ -118,8 +120,7 @@ impl<C: PublicKey> Places<C> {
     /// One search among the keys, and one more where the key goes.
     pub fn remove_last(&mut self, key: &C)
         ensures { (q : C) → places_of C.cmp self.new q ≡
-            (if is_at (C.cmp key.now) q then take (length (places_of C.cmp self.old q) - 1)
-            (places_of C.cmp self.old q)
+            (if is_at (C.cmp key.now) q then but_last (places_of C.cmp self.old q)
             else places_of C.cmp self.old q) }
     {
         if let Some(queue) = self.queues.get_mut(key) {
@@ -127,6 +128,69 @@ impl<C: PublicKey> Places<C> {
             if queue.is_empty() {
                 forget(self.queues.remove(key));
             }
+        }
+    }
+
+    /// Gives each of the keys one more place, after those that it has: where it stands among them,
+    /// in the set with an index.
+    ///
+    /// # Conditions
+    ///
+    /// The keys ascend.
+    ///
+    /// # Errors
+    ///
+    /// `AllocError` where memory is refused; then each key has the places that it had.
+    ///
+    /// # Cost
+    ///
+    /// One search for each of the keys; where memory is refused, one or two more for each that was
+    /// given its place.
+    pub fn add_each(&mut self, keys: &[C], set: u64) -> Result<(), AllocError>
+        requires { IsStrictlySortedBy C.cmp keys.now }
+        ensures ok { OnOk result ((q : C) → places_of C.cmp self.new q ≡
+            places_of C.cmp self.old q ++ places_from C.cmp set 0 keys.now q) }
+        ensures err { OnErr result ((q : C) →
+            places_of C.cmp self.new q ≡ places_of C.cmp self.old q) }
+    {
+        for (at, key) in keys.iter().enumerate() {
+            if let Err(refused) = self.add(*key, Place { set, at }) {
+                self.remove_last_of_each(&keys[..at]);
+                return Err(refused);
+            }
+        }
+        Ok(())
+    }
+
+    /// Takes the first place of each of the keys, and each key with its last one. Takes no memory.
+    ///
+    /// # Conditions
+    ///
+    /// The keys ascend.
+    ///
+    /// # Cost
+    ///
+    /// One search for each of the keys, and one more for each that goes.
+    pub fn remove_first_of_each(&mut self, keys: &[C])
+        requires { IsStrictlySortedBy C.cmp keys.now }
+        ensures { (q : C) → places_of C.cmp self.new q ≡
+            (if has_key C.cmp keys.now q then drop 1 (places_of C.cmp self.old q)
+            else places_of C.cmp self.old q) }
+    {
+        for key in keys {
+            self.remove_first(key);
+        }
+    }
+
+    // Takes the last place of each of the keys.
+    fn remove_last_of_each(&mut self, keys: &[C])
+        requires { IsStrictlySortedBy C.cmp keys.now }
+        ensures { (q : C) → places_of C.cmp self.new q ≡
+            (if has_key C.cmp keys.now q then but_last (places_of C.cmp self.old q)
+            else places_of C.cmp self.old q) }
+    {
+        for key in keys {
+            self.remove_last(key);
         }
     }
 }

@@ -1,9 +1,9 @@
-use Rattle.std.proofs.Common.{◌≡◌, ap, sym, ◌∙◌, Some, filter, not, refl, suc}
+use Rattle.std.proofs.Common.{◌≡◌, ap, sym, ◌∙◌, filter, not, refl, suc}
 use Rattle.std.specs.BTreeMap.{is_at}
 use Rattle.std.specs.Duration.{as_nanos}
 use Rattle.std.specs.List.{count_by}
 use Rattle.std.specs.Map.{remove_entry}
-use Rattle.p2p_directory.specs.Blocks.{in_nanos, is_later, unblock_in}
+use Rattle.p2p_directory.specs.Blocks.{in_nanos, is_later}
 use Rattle.p2p_directory.proofs.SetsAndRecords.Blocks.{sorted-in_nanos}
 use Rattle.p2p_directory.proofs.SetsAndRecords.Ends.{end_is, end_of, ends_taken, unblock_gone, removed-in_nanos, left_removed, count_removed, count_step, count_last, all_left, none_left}
 use Rattle.p2p_directory.proofs.kept.blocks.drop_ended.Goals as goal

@@ -1,8 +1,8 @@
-use Rattle.std.proofs.Common.{◌≡◌, ap, sym, ◌∙◌, Some, None, true, []}
+use Rattle.std.proofs.Common.{◌≡◌, ap, sym, ◌∙◌}
 use Rattle.std.specs.BTreeMap.{is_at}
 use Rattle.std.specs.Duration.{as_nanos}
 use Rattle.std.specs.Option.{option_map, option_copied}
-use Rattle.p2p_directory.specs.Blocks.{in_nanos, unblock_in, IsLeastBlock}
+use Rattle.p2p_directory.specs.Blocks.{in_nanos}
 use Rattle.p2p_directory.proofs.SetsAndRecords.Blocks.{lookup-in_nanos}
 use Rattle.p2p_directory.proofs.SetsAndRecords.Ends.{end_is, no_ends, none_first, none_in_nanos, first_is_least}
 use Rattle.p2p_directory.proofs.kept.blocks.first_to_end.Goals as goal

@@ -1,10 +1,10 @@
-use Rattle.std.proofs.Common.{refl, ap, sym, ◌∙◌, ◌≡◌, cond, None, Some, true, false, nat_eq, arith}
+use Rattle.std.proofs.Common.{refl, ap, sym, ◌∙◌, ◌≡◌, cond, Some, false, nat_eq, arith}
 use Rattle.std.specs.BTreeMap.{is_at}
 use Rattle.std.specs.Duration.{as_nanos}
 use Rattle.std.specs.Option.{option_map}
 use Rattle.std.proofs.lemmas.Bool.Decides.{nat_tests}
-use Rattle.p2p_directory.specs.Blocks.{in_nanos, unblock_in}
-use Rattle.p2p_directory.specs.Private.Ends.{end_cmp, AreEnds}
+use Rattle.p2p_directory.specs.Blocks.{in_nanos}
+use Rattle.p2p_directory.specs.Private.Ends.{end_cmp}
 use Rattle.p2p_directory.proofs.SetsAndRecords.Blocks.{unblock_after, lookup-in_nanos}
 use Rattle.p2p_directory.proofs.SetsAndRecords.Ends.{ends_more, ends_instead, ends_back, same_or_none, same_or_other}
 use Rattle.p2p_directory.proofs.kept.blocks.put_end.Goals as goal

@@ -1,4 +1,4 @@
-use Rattle.std.proofs.Common.{rules, ◌≡◌, ◌<◌, ◌++◌, Bool, true, false, cond, Option, Some, None, IfSome, length, List, [], ◌∷◌, refl, sym, ◌∙◌, ap, arith}
+use Rattle.std.proofs.Common.{rules, ◌≡◌, ◌<◌, ◌++◌, Bool, true, false, cond, Option, Some, None, length, List, [], ◌∷◌, refl, sym, ◌∙◌, ap, arith}
 use Rattle.std.specs.Prelude.{Result, Ok, Err, OnOk, OnErr}
 use Rattle.std.specs.BTreeMap.{is_at}
 use Rattle.std.specs.Map.{lookup}
@@ -7,7 +7,7 @@ use Rattle.std.specs.declared.alloc.Global.{Global}
 use Rattle.std.specs.declared.collections.VecDeque.{VecDeque}
 use Rattle.std.proofs.lemmas.Bool.Decides.{nat_tests}
 use Rattle.p2p_directory.specs.declared.kept.places.Place.{Place}
-use Rattle.p2p_directory.specs.Private.Places.{queues_of, places_of, HasNoEmpty}
+use Rattle.p2p_directory.specs.Private.Places.{queues_of, places_of}
 use Rattle.p2p_directory.proofs.SetsAndRecords.Places.{listed, places_changed, none_empty}
 use Rattle.p2p_directory.proofs.kept.places.Places.add.Goals as goal
 

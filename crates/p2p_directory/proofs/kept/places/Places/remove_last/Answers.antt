@@ -1,10 +1,10 @@
-use Rattle.std.proofs.Common.{◌≡◌, ◌<◌, Bool, true, false, cond, Option, Some, None, IfSome, length, take, ◌-◌, List, [], ◌∷◌, refl, sym, ◌∙◌, ap, arith}
-use Rattle.std.specs.Prelude.{is_some, IsSome}
+use Rattle.std.proofs.Common.{◌≡◌, ◌<◌, Bool, true, false, cond, Option, Some, None, length, take, ◌-◌, List, [], ◌∷◌, refl, sym, ◌∙◌, ap, arith}
+use Rattle.std.specs.Prelude.{is_some}
 use Rattle.std.specs.BTreeMap.{is_at}
 use Rattle.std.specs.Map.{lookup}
 use Rattle.std.proofs.lemmas.Bool.Decides.{nat_tests}
 use Rattle.std.proofs.lemmas.Map.Views.{tells_apart}
-use Rattle.p2p_directory.specs.Private.Places.{queues_of, places_of, HasNoEmpty}
+use Rattle.p2p_directory.specs.Private.Places.{queues_of, places_of}
 use Rattle.p2p_directory.proofs.SetsAndRecords.Places.{listed, places_seen, places_changed, none_empty}
 use Rattle.p2p_directory.proofs.kept.places.Places.remove_last.Goals as goal
 
