@@ -34,12 +34,14 @@ abbrev pub listed : Option (VecDeque Place Global) → List Place
 listed o = unwrap_or (option_map (λ d. d.items) o) []
 
 module _ {C : Type 0} where
-  pub lookup-queues : (test : C → Bool) (es : Entries C) → lookup test (queues_of es) ≡ option_map (λ d. d.items) (lookup test es)
+  pub lookup-queues : (test : C → Bool) (es : Entries C) →
+      lookup test (queues_of es) ≡ option_map (λ d. d.items) (lookup test es)
   lookup-queues test [] = refl
   lookup-queues test (e ∷ es) = go (test e.0) (lookup-queues test es)
     where
       go : (b : Bool) → lookup test (queues_of es) ≡ option_map (λ d. d.items) (lookup test es) →
-          cond b (Some e.1.items) (lookup test (queues_of es)) ≡ option_map (λ d. d.items) (cond b (Some e.1) (lookup test es))
+          cond b (Some e.1.items) (lookup test (queues_of es))
+          ≡ option_map (λ d. d.items) (cond b (Some e.1) (lookup test es))
       go true rest = refl
       go false rest = rest
 
@@ -48,14 +50,20 @@ module _ {C : Type 0} (cmp : C → C → Ordering) where
   places_seen es q = ap (λ o. unwrap_or o []) (lookup-queues (is_at (cmp q)) es)
 
   -- the key has other places, others theirs
-  pub places_changed : CmpEqualImpliesEq cmp → (old new : Entries C) (key : C) (now : Option (VecDeque Place Global)) (f : List Place → List Place) →
+  pub places_changed : CmpEqualImpliesEq cmp →
+      (old new : Entries C) (key : C) (now : Option (VecDeque Place Global)) (f : List Place → List Place) →
       ((q : C) → lookup (is_at (cmp q)) new ≡ cond (is_at (cmp key) q) now (lookup (is_at (cmp q)) old)) →
       listed now ≡ f (listed (lookup (is_at (cmp key)) old)) →
-      (q : C) → places_of cmp (queues_of new) q ≡ cond (is_at (cmp key) q) (f (places_of cmp (queues_of old) q)) (places_of cmp (queues_of old) q)
-  places_changed exact old new key now f change is q = places_seen new q ∙ ap listed (change q) ∙ go (is_at (cmp key) q) refl
+      (q : C) → places_of cmp (queues_of new) q
+      ≡ cond (is_at (cmp key) q) (f (places_of cmp (queues_of old) q)) (places_of cmp (queues_of old) q)
+  places_changed exact old new key now f change is q = places_seen new q ∙ ap listed (change q)
+      ∙ go (is_at (cmp key) q) refl
     where
-      go : (b : Bool) → is_at (cmp key) q ≡ b → listed (cond b now (lookup (is_at (cmp q)) old)) ≡ cond b (f (places_of cmp (queues_of old) q)) (places_of cmp (queues_of old) q)
-      go true e = is ∙ ap (λ p. f (listed (lookup (is_at (cmp p)) old))) (tells_apart exact key q e) ∙ ap f (sym (places_seen old q))
+      go : (b : Bool) → is_at (cmp key) q ≡ b →
+          listed (cond b now (lookup (is_at (cmp q)) old))
+          ≡ cond b (f (places_of cmp (queues_of old) q)) (places_of cmp (queues_of old) q)
+      go true e = is ∙ ap (λ p. f (listed (lookup (is_at (cmp p)) old))) (tells_apart exact key q e)
+          ∙ ap f (sym (places_seen old q))
       go false e = sym (places_seen old q)
 
   -- and none is left empty
@@ -63,17 +71,22 @@ module _ {C : Type 0} (cmp : C → C → Ordering) where
       ((q : C) → lookup (is_at (cmp q)) new ≡ cond (is_at (cmp key) q) now (lookup (is_at (cmp q)) old)) →
       IfSome now (λ d. 0 < length d.items) → HasNoEmpty cmp (queues_of old) → HasNoEmpty cmp (queues_of new)
   none_empty old new key now change some before q =
-      subst (λ o. IfSome o (λ queue. 0 < length queue)) (sym (lookup-queues (is_at (cmp q)) new ∙ ap (option_map (λ d. d.items)) (change q))) (go (is_at (cmp key) q))
+      subst (λ o. IfSome o (λ queue. 0 < length queue))
+      (sym (lookup-queues (is_at (cmp q)) new ∙ ap (option_map (λ d. d.items)) (change q)))
+      (go (is_at (cmp key) q))
     where
-      seen : (o : Option (VecDeque Place Global)) → IfSome o (λ d. 0 < length d.items) → IfSome (option_map (λ d. d.items) o) (λ queue. 0 < length queue)
+      seen : (o : Option (VecDeque Place Global)) → IfSome o (λ d. 0 < length d.items) →
+          IfSome (option_map (λ d. d.items) o) (λ queue. 0 < length queue)
       seen None s = tt
       seen (Some d) s = s
 
-      go : (b : Bool) → IfSome (option_map (λ d. d.items) (cond b now (lookup (is_at (cmp q)) old))) (λ queue. 0 < length queue)
+      go : (b : Bool) → IfSome (option_map (λ d. d.items) (cond b now (lookup (is_at (cmp q)) old)))
+          (λ queue. 0 < length queue)
       go true = seen now some
       go false = subst (λ o. IfSome o (λ queue. 0 < length queue)) (lookup-queues (is_at (cmp q)) old) (before q)
 
-  pub got_some : (o : Option (VecDeque Place Global)) (es : Entries C) (q : C) → o ≡ lookup (is_at (cmp q)) es → listed o ≡ places_of cmp (queues_of es) q
+  pub got_some : (o : Option (VecDeque Place Global)) (es : Entries C) (q : C) → o ≡ lookup (is_at (cmp q)) es →
+      listed o ≡ places_of cmp (queues_of es) q
   got_some o es q e = ap listed e ∙ sym (places_seen es q)
 
   -- keys without q give it no place
@@ -81,29 +94,36 @@ module _ {C : Type 0} (cmp : C → C → Ordering) where
   no_place set n [] q none = refl
   no_place set n (k ∷ ks) q none = go (is_at (cmp k) q) none (no_place set (suc n) ks q)
     where
-      go : (b : Bool) → (b || has_key cmp ks q) ≡ false → (has_key cmp ks q ≡ false → places_from cmp set (suc n) ks q ≡ []) →
+      go : (b : Bool) → (b || has_key cmp ks q) ≡ false →
+          (has_key cmp ks q ≡ false → places_from cmp set (suc n) ks q ≡ []) →
           cond b (only set n) (places_from cmp set (suc n) ks q) ≡ []
       go true e rest = absurd (true≢false e)
       go false e rest = rest e
 
   -- each of ascending keys has its place among them
-  pub place_of : IsTotalOrder cmp → (set n : ℕ) (ks : List C) (i : ℕ) (key : C) → i < length ks → key ≡ get_or ks i key → IsStrictlySortedBy cmp ks →
+  pub place_of : IsTotalOrder cmp → (set n : ℕ) (ks : List C) (i : ℕ) (key : C) → i < length ks →
+      key ≡ get_or ks i key → IsStrictlySortedBy cmp ks →
       places_from cmp set n ks key ≡ only set (n + i)
   place_of o set n [] i key low is up = absurd (omega (arith, low))
   place_of o set n (k ∷ ks) zero key low is up =
       let here : is_at (cmp k) key ≡ true = ap (λ x. is_at (cmp x) key) (sym is) ∙ ap is_eq (tied_itself o key) in
-      ap (λ b. cond b (only set n) (places_from cmp set (suc n) ks key)) here ∙ ap (only set) (let e : n ≡ n + 0 = omega arith in e)
+      ap (λ b. cond b (only set n) (places_from cmp set (suc n) ks key)) here
+      ∙ ap (only set) (let e : n ≡ n + 0 = omega arith in e)
   place_of o set n (k ∷ ks) (suc i) key low is up =
-      let less : cmp k key ≡ Less = ap (cmp k) is ∙ Less-from_sorted cmp (k ∷ ks) 0 (suc i) key up (omega arith) low in
+      let less : cmp k key ≡ Less = ap (cmp k) is
+      ∙ Less-from_sorted cmp (k ∷ ks) 0 (suc i) key up (omega arith) low in
       ap (λ b. cond b (only set n) (places_from cmp set (suc n) ks key)) (ap is_eq less)
       ∙ place_of o set (suc n) ks i key (omega (arith, low)) is (sorted_tail cmp k ks up)
       ∙ ap (only set) (let e : suc n + i ≡ n + suc i = omega arith in e)
 
   -- one more of ascending keys has its place
-  pub one_added : IsTotalOrder cmp → CmpEqualImpliesEq cmp → (set : ℕ) (ks : List C) (i : ℕ) (key : C) → i < length ks → key ≡ get_or ks i key → IsStrictlySortedBy cmp ks →
-      (q : C) (now : List Place) → cond (is_at (cmp key) q) (now ++ only set i) now ≡ cond (is_at (cmp key) q) (now ++ places_from cmp set 0 ks q) now
+  pub one_added : IsTotalOrder cmp → CmpEqualImpliesEq cmp → (set : ℕ) (ks : List C) (i : ℕ) (key : C) →
+      i < length ks → key ≡ get_or ks i key → IsStrictlySortedBy cmp ks →
+      (q : C) (now : List Place) → cond (is_at (cmp key) q) (now ++ only set i) now
+      ≡ cond (is_at (cmp key) q) (now ++ places_from cmp set 0 ks q) now
   one_added o exact set ks i key low is up q now = go (is_at (cmp key) q) (λ e.
-      ap (λ k. places_from cmp set 0 ks k) (sym (tells_apart exact key q e)) ∙ place_of o set 0 ks i key low is up ∙ ap (only set) (let e : 0 + i ≡ i = omega arith in e))
+      ap (λ k. places_from cmp set 0 ks k) (sym (tells_apart exact key q e)) ∙ place_of o set 0 ks i key low is up
+      ∙ ap (only set) (let e : 0 + i ≡ i = omega arith in e))
     where
       go : (b : Bool) → (b ≡ true → places_from cmp set 0 ks q ≡ only set i) →
           cond b (now ++ only set i) now ≡ cond b (now ++ places_from cmp set 0 ks q) now
@@ -111,10 +131,12 @@ module _ {C : Type 0} (cmp : C → C → Ordering) where
       go false same = refl
 
   -- where each of the keys has its place, each key has those among them
-  pub all_added : (set : ℕ) (ks : List C) (q : C) (old : List Place) → cond (has_key cmp ks q) (old ++ places_from cmp set 0 ks q) old ≡ old ++ places_from cmp set 0 ks q
+  pub all_added : (set : ℕ) (ks : List C) (q : C) (old : List Place) →
+      cond (has_key cmp ks q) (old ++ places_from cmp set 0 ks q) old ≡ old ++ places_from cmp set 0 ks q
   all_added set ks q old = go (has_key cmp ks q) (no_place set 0 ks q)
     where
-      go : (b : Bool) → (b ≡ false → places_from cmp set 0 ks q ≡ []) → cond b (old ++ places_from cmp set 0 ks q) old ≡ old ++ places_from cmp set 0 ks q
+      go : (b : Bool) → (b ≡ false → places_from cmp set 0 ks q ≡ []) →
+          cond b (old ++ places_from cmp set 0 ks q) old ≡ old ++ places_from cmp set 0 ks q
       go true none = refl
       go false none = sym (append-nil old) ∙ ap (λ ps. old ++ ps) (sym (none refl))
 
@@ -129,7 +151,8 @@ module _ {C : Type 0} (cmp : C → C → Ordering) where
       go false rest = rest
 
   -- a place that was added last goes as the last, and one that comes first goes as the first
-  pub last_goes : (set : ℕ) (ks : List C) (q : C) (old : List Place) → has_key cmp ks q ≡ true → but_last (old ++ places_from cmp set 0 ks q) ≡ old
+  pub last_goes : (set : ℕ) (ks : List C) (q : C) (old : List Place) → has_key cmp ks q ≡ true →
+      but_last (old ++ places_from cmp set 0 ks q) ≡ old
   last_goes set ks q old has = go (places_from cmp set 0 ks q) (one_place set 0 ks q ∙ ap (λ b. cond b 1 0) has)
     where
       front : (old : List Place) (p : Place) → take (length old) (old ++ p ∷ []) ≡ old
@@ -138,10 +161,13 @@ module _ {C : Type 0} (cmp : C → C → Ordering) where
 
       go : (ps : List Place) → length ps ≡ 1 → but_last (old ++ ps) ≡ old
       go [] e = absurd (omega (arith, e))
-      go (p ∷ []) e = (let n : length (old ++ p ∷ []) - 1 ≡ length old = omega (arith, length-append old (p ∷ [])) in ap (λ k. take k (old ++ p ∷ [])) n) ∙ front old p
+      go (p ∷ []) e = (let n : length (old ++ p ∷ []) - 1 ≡ length old = omega (arith, length-append old (p ∷ [])) in
+          ap (λ k. take k (old ++ p ∷ [])) n) ∙ front old p
       go (p ∷ r ∷ ps) e = absurd (omega (arith, e))
 
-  pub first_goes : (set : ℕ) (ks : List C) (q : C) (rest : List Place) → cond (has_key cmp ks q) (drop 1 (places_from cmp set 0 ks q ++ rest)) (places_from cmp set 0 ks q ++ rest) ≡ rest
+  pub first_goes : (set : ℕ) (ks : List C) (q : C) (rest : List Place) →
+      cond (has_key cmp ks q) (drop 1 (places_from cmp set 0 ks q ++ rest)) (places_from cmp set 0 ks q ++ rest)
+      ≡ rest
   first_goes set ks q rest = go (has_key cmp ks q) (places_from cmp set 0 ks q) (one_place set 0 ks q)
     where
       go : (b : Bool) (ps : List Place) → length ps ≡ cond b 1 0 → cond b (drop 1 (ps ++ rest)) (ps ++ rest) ≡ rest
@@ -152,10 +178,13 @@ module _ {C : Type 0} (cmp : C → C → Ordering) where
       go false (p ∷ ps) e = absurd (omega (arith, e))
 
   -- so its places are as many as the sets that have it
-  pub places_counted : (sets : List (SetWithBits C)) (q : C) → length (places_in cmp sets q) ≡ count_by (has_primary cmp q) sets
+  pub places_counted : (sets : List (SetWithBits C)) (q : C) →
+      length (places_in cmp sets q) ≡ count_by (has_primary cmp q) sets
   places_counted sets q = go sets ∙ length-filter (has_primary cmp q) sets
     where
-      more : (b : Bool) (x : SetWithBits C) (ps rest : List Place) (others : List (SetWithBits C)) → length ps ≡ cond b 1 0 → length rest ≡ length others → length (ps ++ rest) ≡ length (cond b (x ∷ others) others)
+      more : (b : Bool) (x : SetWithBits C) (ps rest : List Place) (others : List (SetWithBits C)) →
+          length ps ≡ cond b 1 0 → length rest ≡ length others →
+          length (ps ++ rest) ≡ length (cond b (x ∷ others) others)
       more true x [] rest others e f = absurd (omega (arith, e))
       more true x (p ∷ []) rest others e f = ap suc f
       more true x (p ∷ r ∷ ps) rest others e f = absurd (omega (arith, e))
@@ -164,4 +193,6 @@ module _ {C : Type 0} (cmp : C → C → Ordering) where
 
       go : (sets : List (SetWithBits C)) → length (places_in cmp sets q) ≡ length (filter (has_primary cmp q) sets)
       go [] = refl
-      go (x ∷ sets) = more (has_primary cmp q x) x (places_from cmp x.index 0 (keys_of x.primary) q) (places_in cmp sets q) (filter (has_primary cmp q) sets) (one_place x.index 0 (keys_of x.primary) q) (go sets)
+      go (x ∷ sets) = more (has_primary cmp q x) x (places_from cmp x.index 0 (keys_of x.primary) q)
+          (places_in cmp sets q) (filter (has_primary cmp q) sets) (one_place x.index 0 (keys_of x.primary) q)
+          (go sets)

@@ -14,4 +14,5 @@ module _ {C : Type 0} (cmp : C → C → Ordering) where
 
   -- these are the moments of the blocks with their keys, and no others
   abbrev pub AreEnds : List (ℕ × C) → List (C × ℕ) → Type 0
-  AreEnds ends blocks = (m : ℕ) (q : C) → list_any (is_at (end_cmp (m, q))) ends ≡ option_map_or (nat_eq m) (unblock_in cmp blocks q) false
+  AreEnds ends blocks = (m : ℕ) (q : C) →
+      list_any (is_at (end_cmp (m, q))) ends ≡ option_map_or (nat_eq m) (unblock_in cmp blocks q) false

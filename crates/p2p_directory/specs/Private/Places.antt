@@ -1,5 +1,6 @@
 -- Private: keys with the queues of their places, and the places of a key in retained sets.
-use Rattle.std.specs.Prelude.{ℕ, ◌≡◌, ◌<◌, ◌-◌, ◌==◌, length, take, Bool, List, [], ◌∷◌, ◌++◌, IfSome, map, suc, if◌then◌else◌}
+use Rattle.std.specs.Prelude.{ℕ, ◌≡◌, ◌<◌, ◌-◌, ◌==◌, length, take, Bool, List, [], ◌∷◌, ◌++◌}
+use Rattle.std.specs.Prelude.{IfSome, map, suc, if◌then◌else◌}
 use Rattle.std.specs.List.{AllByRecursion}
 use Rattle.std.specs.List.Sorted.{IsStrictlySortedBy}
 use Rattle.std.specs.Map.{lookup, keys_of}
@@ -23,7 +24,9 @@ module _ {C : Type 0} where
 
   -- the set with this bit at the place, if it is the set of the place
   abbrev pub bit_at : Bool → Place → SetWithBits C → SetWithBits C
-  bit_at known place set = if set.index == place.set then (record set { primary = with_bit set.primary place.at known }) else set
+  bit_at known place set =
+      if set.index == place.set then (record set { primary = with_bit set.primary place.at known })
+      else set
 
   -- the sets with this bit at each of the places
   abbrev pub bits_at : Bool → List Place → List (SetWithBits C) → List (SetWithBits C)
@@ -42,7 +45,9 @@ module _ {C : Type 0} (cmp : C → C → Ordering) where
   -- where the key stands in a list, counted from n
   abbrev pub places_from : ℕ → ℕ → List C → C → List Place
   places_from set n [] q = []
-  places_from set n (k ∷ ks) q = if is_at (cmp k) q then (record { set = set; at = n }) ∷ [] else places_from set (suc n) ks q
+  places_from set n (k ∷ ks) q =
+      if is_at (cmp k) q then (record { set = set; at = n }) ∷ []
+      else places_from set (suc n) ks q
 
   -- where the key stands in the lists of primary peers
   abbrev pub places_in : List (SetWithBits C) → C → List Place

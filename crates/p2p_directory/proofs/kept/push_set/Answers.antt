@@ -18,11 +18,14 @@ returns-in-Ok-clause-indexed g c =
     let set = c.args.set in
     let old = places_of cmp c.args.places.now in
     let inside : c.as_slice.result.now ≡ keys_of c.set.inside.primary = c.as_slice.ensures.all ∙ c.ordered.ensures in
-    let peers : c.as_slice.result.now ≡ keys_of set.primary = inside ∙ ap (λ (s : SetWithBits g.row.C.Denot). keys_of s.primary) c.set.view_is in
+    let peers : c.as_slice.result.now ≡ keys_of set.primary = inside
+    ∙ ap (λ (s : SetWithBits g.row.C.Denot). keys_of s.primary) c.set.view_is in
     let up = subst (IsStrictlySortedBy cmp) (sym c.as_slice.ensures.all) c.as_slice.ensures.sorted in
     let come = taken c.add_each.result (sym c.is_err-2.ensures.value ∙ c.if-is_err-2.false) c.add_each.ensures.ok in
     let index : c.set.inside.index ≡ set.index = ap (λ (s : SetWithBits g.row.C.Denot). s.index) c.set.view_is in
-    indexed_pushed cmp c.args.places.now c.add_each.new.self c.args.sets.now.items c.push_back.new.self.items set c.requires.indexed
+    indexed_pushed cmp c.args.places.now c.add_each.new.self c.args.sets.now.items c.push_back.new.self.items set
+    c.requires.indexed
     (subst (IsStrictlySortedBy cmp) peers up) c.requires.above
     (λ q. come q ∙ (λ i. old q ++ places_from cmp (index i) 0 (peers i) q))
-    (c.in-Ok.ensures.items ∙ ap (λ (sets : List (SetWithBits g.row.C.Denot)). sets ++ set ∷ []) c.try_reserve.ensures.items)
+    (c.in-Ok.ensures.items ∙ ap (λ (sets : List (SetWithBits g.row.C.Denot)). sets ++ set ∷ [])
+    c.try_reserve.ensures.items)

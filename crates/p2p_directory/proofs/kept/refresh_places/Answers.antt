@@ -10,7 +10,8 @@ returns-in-Some g c =
     let p = c.args.peer.now in
     let queue = c.in-Some.ensures.some ∙ c.requires.indexed p in
     record {
-      sets = c.set_bits.ensures.sets ∙ ap (λ ps. bits_at c.args.known ps sets) queue ∙ bits_of_all g.met.C.Ord.total p c.args.known sets c.requires.ascending c.requires.ordered;
+      sets = c.set_bits.ensures.sets ∙ ap (λ ps. bits_at c.args.known ps sets) queue
+          ∙ bits_of_all g.met.C.Ord.total p c.args.known sets c.requires.ascending c.requires.ordered;
       count = c.set_bits.ensures.count ∙ ap length queue ∙ places_counted g.C.Ord.cmp sets p;
     }
 
@@ -20,6 +21,7 @@ returns-in-None g c =
     let p = c.args.peer.now in
     let none = sym c.in-None.ensures.none ∙ c.requires.indexed p in
     record {
-      sets = ap (λ ps. bits_at c.args.known ps sets) none ∙ bits_of_all g.met.C.Ord.total p c.args.known sets c.requires.ascending c.requires.ordered;
+      sets = ap (λ ps. bits_at c.args.known ps sets) none
+          ∙ bits_of_all g.met.C.Ord.total p c.args.known sets c.requires.ascending c.requires.ordered;
       count = ap length none ∙ places_counted g.C.Ord.cmp sets p;
     }

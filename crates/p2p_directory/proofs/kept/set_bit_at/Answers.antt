@@ -10,7 +10,8 @@ returns-in-Some g c =
     let sets = c.args.sets.now in
     let x = c.in-Some.set.now in
     let low : c.in-Ok.found < length sets.items = omega (arith, c.in-Ok.ensures.bound, sets.ok.0) in
-    let by_index = c.in-Ok.ensures.position (λ (set : SetWithBits g.row.C.Denot). set.index) (answers_always _ _ _ (λ f a r h called. search rules)) in
+    let by_index = c.in-Ok.ensures.position (λ (set : SetWithBits g.row.C.Denot). set.index)
+    (answers_always _ _ _ (λ f a r h called. search rules)) in
     ap (slice_set sets.items c.in-Ok.found) c.set_bit.ensures
     ∙ bit_written c.args.known c.args.place.now sets.items c.in-Ok.found x c.requires low c.in-Some.ensures.value
     (index_found sets.items c.in-Ok.found x c.args.place.now.set c.in-Some.ensures.value (by_index x))
@@ -20,4 +21,5 @@ returns-in_default g c =
     let sets = c.args.sets.now.items in
     sym (bit_nowhere c.args.known c.args.place.now sets
     (index_nowhere sets c.args.place.now.set c.in_default.field-0 c.requires
-    (c.in_default.ensures.position (λ (set : SetWithBits g.row.C.Denot). set.index) (answers_always _ _ _ (λ f a r h called. search rules)))))
+    (c.in_default.ensures.position (λ (set : SetWithBits g.row.C.Denot). set.index)
+    (answers_always _ _ _ (λ f a r h called. search rules)))))

@@ -12,8 +12,10 @@ abbrev pub invariant-loop-end : goal.invariant-loop-end
 invariant-loop-end g l = record {
   ends : AreEnds g.C.Ord.cmp l.ends.keys (in_nanos l.moments.entries);
   sorted : IsStrictlySortedBy g.C.Ord.cmp (keys_of l.moments.entries);
-  left : filter (is_later (as_nanos l.now)) (in_nanos l.moments.entries) ≡ filter (is_later (as_nanos l.now)) (in_nanos l.initial.moments.entries);
-  count : l.count + count_by (λ e. not (is_later (as_nanos l.now) e)) (in_nanos l.moments.entries) ≡ count_by (λ e. not (is_later (as_nanos l.now) e)) (in_nanos l.initial.moments.entries);
+  left : filter (is_later (as_nanos l.now)) (in_nanos l.moments.entries)
+      ≡ filter (is_later (as_nanos l.now)) (in_nanos l.initial.moments.entries);
+  count : l.count + count_by (λ e. not (is_later (as_nanos l.now) e)) (in_nanos l.moments.entries)
+      ≡ count_by (λ e. not (is_later (as_nanos l.now) e)) (in_nanos l.initial.moments.entries);
 }
 
 abbrev pub decreases-loop-end : goal.decreases-loop-end

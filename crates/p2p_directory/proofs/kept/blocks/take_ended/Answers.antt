@@ -9,6 +9,10 @@ use Rattle.p2p_directory.proofs.kept.blocks.take_ended.Goals.{in_default-via-in-
 pub returns-in_default-clause-none : goal.returns-in_default-clause-none
 returns-in_default-clause-none g c =
     elim c.in_default.branch [
-      | in_default-via-in-Some+else-end-as_nanos w ↦ λ e has. (let low = not_before g.C.Ord.cmp w.in-Some.field-0.now e (w.in-Some.ensures.least e has) in omega (arith, w.as_nanos.ensures, w.if-end-as_nanos.false, low))
-      | in_default-via-in_default w ↦ λ e has. absurd (let none = none_first c.first.result c.args.ends.now.keys w.in_default.is c.first.ensures.variant in let f = sym (ap (list_any (is_at (end_cmp g.C.Ord.cmp e))) none) ∙ has in cc)
+      | in_default-via-in-Some+else-end-as_nanos w ↦
+          λ e has. (let low = not_before g.C.Ord.cmp w.in-Some.field-0.now e (w.in-Some.ensures.least e has) in
+          omega (arith, w.as_nanos.ensures, w.if-end-as_nanos.false, low))
+      | in_default-via-in_default w ↦ λ e has. absurd (let none =
+          none_first c.first.result c.args.ends.now.keys w.in_default.is c.first.ensures.variant in let f =
+          sym (ap (list_any (is_at (end_cmp g.C.Ord.cmp e))) none) ∙ has in cc)
     ]

@@ -12,9 +12,13 @@ remove_last_of_each-requires g c = sorted_take g.C.Ord.cmp c.loop-at.at c.args.k
 pub loop-at-preserved : goal.loop-at-preserved
 loop-at-preserved g c = λ q.
     let cmp = g.C.Ord.cmp in
-    one_changed g.met.C.Ord.total g.met.C.PublicKey.exact c.args.keys.now c.loop-at.at c.index-keys-at.result c.loop-at-test.true c.index-keys-at.is c.requires
-    (λ ps. ps ++ places_from cmp c.args.set 0 c.args.keys.now q) q (places_of cmp c.add.new.self q) (places_of cmp c.loop-at.self q) (places_of cmp c.args.self.now q)
-    (c.in_default.ensures.ok q ∙ one_added cmp g.met.C.Ord.total g.met.C.PublicKey.exact c.args.set c.args.keys.now c.loop-at.at c.index-keys-at.result c.loop-at-test.true c.index-keys-at.is c.requires q (places_of cmp c.loop-at.self q))
+    one_changed g.met.C.Ord.total g.met.C.PublicKey.exact c.args.keys.now c.loop-at.at c.index-keys-at.result
+    c.loop-at-test.true c.index-keys-at.is c.requires
+    (λ ps. ps ++ places_from cmp c.args.set 0 c.args.keys.now q) q (places_of cmp c.add.new.self q)
+    (places_of cmp c.loop-at.self q) (places_of cmp c.args.self.now q)
+    (c.in_default.ensures.ok q ∙ one_added cmp g.met.C.Ord.total g.met.C.PublicKey.exact c.args.set c.args.keys.now
+    c.loop-at.at c.index-keys-at.result c.loop-at-test.true c.index-keys-at.is c.requires q
+    (places_of cmp c.loop-at.self q))
     (c.loop-at.invariant q)
 
 pub returns-in-Err-clause-err : goal.returns-in-Err-clause-err
@@ -22,8 +26,10 @@ returns-in-Err-clause-err g c = λ q.
     let cmp = g.C.Ord.cmp in
     let so_far = has_key cmp (take c.loop-at.at c.args.keys.now) q in
     let from = places_from cmp c.args.set 0 c.args.keys.now q in
-    undone so_far (λ ps. ps ++ from) but_last (places_of cmp c.remove_last_of_each.new.self q) (places_of cmp c.add.new.self q) (places_of cmp c.args.self.now q)
-    (λ h. last_goes cmp c.args.set c.args.keys.now q (places_of cmp c.args.self.now q) (of_front cmp c.args.keys.now c.loop-at.at q h))
+    undone so_far (λ ps. ps ++ from) but_last (places_of cmp c.remove_last_of_each.new.self q)
+    (places_of cmp c.add.new.self q) (places_of cmp c.args.self.now q)
+    (λ h. last_goes cmp c.args.set c.args.keys.now q (places_of cmp c.args.self.now q)
+    (of_front cmp c.args.keys.now c.loop-at.at q h))
     (c.remove_last_of_each.ensures q) (c.in-Err.ensures.err q ∙ c.loop-at.invariant q)
 
 pub returns-clause-ok : goal.returns-clause-ok
@@ -32,5 +38,6 @@ returns-clause-ok g c = λ q.
     let old = places_of cmp c.args.self.now q in
     let from = places_from cmp c.args.set 0 c.args.keys.now q in
     c.loop-at.invariant q
-    ∙ ap (λ ks. cond (has_key cmp ks q) (old ++ from) old) (take_all c.loop-at.at c.args.keys.now c.loop-at-test.false)
+    ∙ ap (λ ks. cond (has_key cmp ks q) (old ++ from) old)
+    (take_all c.loop-at.at c.args.keys.now c.loop-at-test.false)
     ∙ all_added cmp c.args.set c.args.keys.now q old

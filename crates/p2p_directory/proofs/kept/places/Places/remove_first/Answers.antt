@@ -27,7 +27,8 @@ invariant_of-self g c =
     let held = c.get_mut.follows.holds w in
     let change = (held.3 (sym (ap is_some c.in-Some.ensures.value))).0 in
     none_empty cmp c.self.inside.queues.entries c.remove.new.self.entries c.args.key.now None
-    (λ q. c.remove.ensures.updates.0 q ∙ ap (cond (is_at (cmp c.args.key.now) q) None) (change q) ∙ twice (is_at (cmp c.args.key.now) q) w (lookup (is_at (cmp q)) c.self.inside.queues.entries))
+    (λ q. c.remove.ensures.updates.0 q ∙ ap (cond (is_at (cmp c.args.key.now) q) None) (change q)
+    ∙ twice (is_at (cmp c.args.key.now) q) w (lookup (is_at (cmp q)) c.self.inside.queues.entries))
     tt c.self.invariant
 
 pub invariant_of-self-else-is_empty : goal.invariant_of-self-else-is_empty
@@ -37,7 +38,8 @@ invariant_of-self-else-is_empty g c =
     let held = c.get_mut.follows.holds w in
     let change = (held.3 (sym (ap is_some c.in-Some.ensures.value))).0 in
     none_empty cmp c.self.inside.queues.entries (c.get_mut.follows.lender w).entries c.args.key.now (Some w) change
-    (let some : 0 < length w.items = grind (arith, nat_tests, c.is_empty.ensures, c.if-is_empty.false, w.ok.0) in some) c.self.invariant
+    (let some : 0 < length w.items = grind (arith, nat_tests, c.is_empty.ensures, c.if-is_empty.false, w.ok.0) in
+    some) c.self.invariant
 
 pub returns-then-is_empty : goal.returns-then-is_empty
 returns-then-is_empty g c = λ q.
@@ -45,9 +47,12 @@ returns-then-is_empty g c = λ q.
     let w = c.pop_front.new.self in
     let held = c.get_mut.follows.holds w in
     let change = (held.3 (sym (ap is_some c.in-Some.ensures.value))).0 in
-    places_changed cmp g.met.C.PublicKey.exact c.self.inside.queues.entries c.remove.new.self.entries c.args.key.now None (drop 1)
-    (λ p. c.remove.ensures.updates.0 p ∙ ap (cond (is_at (cmp c.args.key.now) p) None) (change p) ∙ twice (is_at (cmp c.args.key.now) p) w (lookup (is_at (cmp p)) c.self.inside.queues.entries))
-    (sym (empty w.items (grind (arith, nat_tests, c.is_empty.ensures, c.if-is_empty.true, w.ok.0))) ∙ c.pop_front.ensures.rest ∙ ap (λ o. drop 1 (listed o)) c.in-Some.ensures.value) q
+    places_changed cmp g.met.C.PublicKey.exact c.self.inside.queues.entries c.remove.new.self.entries c.args.key.now
+    None (drop 1)
+    (λ p. c.remove.ensures.updates.0 p ∙ ap (cond (is_at (cmp c.args.key.now) p) None) (change p)
+    ∙ twice (is_at (cmp c.args.key.now) p) w (lookup (is_at (cmp p)) c.self.inside.queues.entries))
+    (sym (empty w.items (grind (arith, nat_tests, c.is_empty.ensures, c.if-is_empty.true, w.ok.0)))
+    ∙ c.pop_front.ensures.rest ∙ ap (λ o. drop 1 (listed o)) c.in-Some.ensures.value) q
     ∙ ap (λ ps. cond (is_at (cmp c.args.key.now) q) (drop 1 (places_of cmp ps q)) (places_of cmp ps q)) c.self.view_is
 
 pub returns-else-is_empty : goal.returns-else-is_empty
@@ -56,7 +61,8 @@ returns-else-is_empty g c = λ q.
     let w = c.pop_front.new.self in
     let held = c.get_mut.follows.holds w in
     let change = (held.3 (sym (ap is_some c.in-Some.ensures.value))).0 in
-    places_changed cmp g.met.C.PublicKey.exact c.self.inside.queues.entries (c.get_mut.follows.lender w).entries c.args.key.now (Some w) (drop 1) change
+    places_changed cmp g.met.C.PublicKey.exact c.self.inside.queues.entries (c.get_mut.follows.lender w).entries
+    c.args.key.now (Some w) (drop 1) change
     (c.pop_front.ensures.rest ∙ ap (λ o. drop 1 (listed o)) c.in-Some.ensures.value) q
     ∙ ap (λ ps. cond (is_at (cmp c.args.key.now) q) (drop 1 (places_of cmp ps q)) (places_of cmp ps q)) c.self.view_is
 
@@ -68,5 +74,6 @@ returns-in_default g c = λ q.
     let held = c.get_mut.follows.holds-at-none in
     ap (λ (m : _). places_of cmp (queues_of m.entries) q) held
     ∙ unchanged (is_at (cmp c.args.key.now) q) (places_of cmp (queues_of es) q)
-    (λ e. places_seen cmp es q ∙ ap (λ p. listed (lookup (is_at (cmp p)) es)) (sym (tells_apart g.met.C.PublicKey.exact c.args.key.now q e)) ∙ ap listed (sym none))
+    (λ e. places_seen cmp es q ∙ ap (λ p. listed (lookup (is_at (cmp p)) es))
+    (sym (tells_apart g.met.C.PublicKey.exact c.args.key.now q e)) ∙ ap listed (sym none))
     ∙ ap (λ ps. cond (is_at (cmp c.args.key.now) q) (drop 1 (places_of cmp ps q)) (places_of cmp ps q)) c.self.view_is

@@ -6,4 +6,5 @@ use Rattle.p2p_directory.proofs.kept.places.Places.remove_first_of_each.Given as
 -- the keys so far have lost their first place
 abbrev pub invariant-loop-key : goal.invariant-loop-key
 invariant-loop-key g l = (q : g.row.C.Denot) →
-    places_of g.C.Ord.cmp l.self q ≡ cond (has_key g.C.Ord.cmp (take l.key-index l.keys) q) (drop 1 (places_of g.C.Ord.cmp l.initial.self q)) (places_of g.C.Ord.cmp l.initial.self q)
+    places_of g.C.Ord.cmp l.self q ≡ cond (has_key g.C.Ord.cmp (take l.key-index l.keys) q)
+    (drop 1 (places_of g.C.Ord.cmp l.initial.self q)) (places_of g.C.Ord.cmp l.initial.self q)

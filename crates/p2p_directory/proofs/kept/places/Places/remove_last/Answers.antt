@@ -30,7 +30,8 @@ invariant_of-self g c =
     let held = c.get_mut.follows.holds w in
     let change = (held.3 (sym (ap is_some c.in-Some.ensures.value))).0 in
     none_empty cmp c.self.inside.queues.entries c.remove.new.self.entries c.args.key.now None
-    (λ q. c.remove.ensures.updates.0 q ∙ ap (cond (is_at (cmp c.args.key.now) q) None) (change q) ∙ twice (is_at (cmp c.args.key.now) q) w (lookup (is_at (cmp q)) c.self.inside.queues.entries))
+    (λ q. c.remove.ensures.updates.0 q ∙ ap (cond (is_at (cmp c.args.key.now) q) None) (change q)
+    ∙ twice (is_at (cmp c.args.key.now) q) w (lookup (is_at (cmp q)) c.self.inside.queues.entries))
     tt c.self.invariant
 
 pub invariant_of-self-else-is_empty : goal.invariant_of-self-else-is_empty
@@ -40,7 +41,8 @@ invariant_of-self-else-is_empty g c =
     let held = c.get_mut.follows.holds w in
     let change = (held.3 (sym (ap is_some c.in-Some.ensures.value))).0 in
     none_empty cmp c.self.inside.queues.entries (c.get_mut.follows.lender w).entries c.args.key.now (Some w) change
-    (let some : 0 < length w.items = grind (arith, nat_tests, c.is_empty.ensures, c.if-is_empty.false, w.ok.0) in some) c.self.invariant
+    (let some : 0 < length w.items = grind (arith, nat_tests, c.is_empty.ensures, c.if-is_empty.false, w.ok.0) in
+    some) c.self.invariant
 
 pub returns-then-is_empty : goal.returns-then-is_empty
 returns-then-is_empty g c = λ q.
@@ -48,10 +50,15 @@ returns-then-is_empty g c = λ q.
     let w = c.pop_back.new.self in
     let held = c.get_mut.follows.holds w in
     let change = (held.3 (sym (ap is_some c.in-Some.ensures.value))).0 in
-    places_changed cmp g.met.C.PublicKey.exact c.self.inside.queues.entries c.remove.new.self.entries c.args.key.now None but_last
-    (λ p. c.remove.ensures.updates.0 p ∙ ap (cond (is_at (cmp c.args.key.now) p) None) (change p) ∙ twice (is_at (cmp c.args.key.now) p) w (lookup (is_at (cmp p)) c.self.inside.queues.entries))
-    (sym (empty w.items (grind (arith, nat_tests, c.is_empty.ensures, c.if-is_empty.true, w.ok.0))) ∙ c.pop_back.ensures.rest ∙ ap (λ n. take (n - 1) c.in-Some.queue.now.items) c.in-Some.queue.now.ok.0 ∙ ap (λ o. but_last (listed o)) c.in-Some.ensures.value) q
-    ∙ ap (λ ps. cond (is_at (cmp c.args.key.now) q) (but_last (places_of cmp ps q)) (places_of cmp ps q)) c.self.view_is
+    places_changed cmp g.met.C.PublicKey.exact c.self.inside.queues.entries c.remove.new.self.entries c.args.key.now
+    None but_last
+    (λ p. c.remove.ensures.updates.0 p ∙ ap (cond (is_at (cmp c.args.key.now) p) None) (change p)
+    ∙ twice (is_at (cmp c.args.key.now) p) w (lookup (is_at (cmp p)) c.self.inside.queues.entries))
+    (sym (empty w.items (grind (arith, nat_tests, c.is_empty.ensures, c.if-is_empty.true, w.ok.0)))
+    ∙ c.pop_back.ensures.rest ∙ ap (λ n. take (n - 1) c.in-Some.queue.now.items) c.in-Some.queue.now.ok.0
+    ∙ ap (λ o. but_last (listed o)) c.in-Some.ensures.value) q
+    ∙ ap (λ ps. cond (is_at (cmp c.args.key.now) q) (but_last (places_of cmp ps q)) (places_of cmp ps q))
+    c.self.view_is
 
 pub returns-else-is_empty : goal.returns-else-is_empty
 returns-else-is_empty g c = λ q.
@@ -59,9 +66,12 @@ returns-else-is_empty g c = λ q.
     let w = c.pop_back.new.self in
     let held = c.get_mut.follows.holds w in
     let change = (held.3 (sym (ap is_some c.in-Some.ensures.value))).0 in
-    places_changed cmp g.met.C.PublicKey.exact c.self.inside.queues.entries (c.get_mut.follows.lender w).entries c.args.key.now (Some w) but_last change
-    (c.pop_back.ensures.rest ∙ ap (λ n. take (n - 1) c.in-Some.queue.now.items) c.in-Some.queue.now.ok.0 ∙ ap (λ o. but_last (listed o)) c.in-Some.ensures.value) q
-    ∙ ap (λ ps. cond (is_at (cmp c.args.key.now) q) (but_last (places_of cmp ps q)) (places_of cmp ps q)) c.self.view_is
+    places_changed cmp g.met.C.PublicKey.exact c.self.inside.queues.entries (c.get_mut.follows.lender w).entries
+    c.args.key.now (Some w) but_last change
+    (c.pop_back.ensures.rest ∙ ap (λ n. take (n - 1) c.in-Some.queue.now.items) c.in-Some.queue.now.ok.0
+    ∙ ap (λ o. but_last (listed o)) c.in-Some.ensures.value) q
+    ∙ ap (λ ps. cond (is_at (cmp c.args.key.now) q) (but_last (places_of cmp ps q)) (places_of cmp ps q))
+    c.self.view_is
 
 pub returns-in_default : goal.returns-in_default
 returns-in_default g c = λ q.
@@ -71,5 +81,7 @@ returns-in_default g c = λ q.
     let held = c.get_mut.follows.holds-at-none in
     ap (λ (m : _). places_of cmp (queues_of m.entries) q) held
     ∙ unchanged (is_at (cmp c.args.key.now) q) (places_of cmp (queues_of es) q)
-    (λ e. places_seen cmp es q ∙ ap (λ p. listed (lookup (is_at (cmp p)) es)) (sym (tells_apart g.met.C.PublicKey.exact c.args.key.now q e)) ∙ ap listed (sym none))
-    ∙ ap (λ ps. cond (is_at (cmp c.args.key.now) q) (but_last (places_of cmp ps q)) (places_of cmp ps q)) c.self.view_is
+    (λ e. places_seen cmp es q ∙ ap (λ p. listed (lookup (is_at (cmp p)) es))
+    (sym (tells_apart g.met.C.PublicKey.exact c.args.key.now q e)) ∙ ap listed (sym none))
+    ∙ ap (λ ps. cond (is_at (cmp c.args.key.now) q) (but_last (places_of cmp ps q)) (places_of cmp ps q))
+    c.self.view_is
