@@ -23,7 +23,7 @@ returns-in-Ok-clause-indexed g c =
     let up = subst (IsStrictlySortedBy cmp) (sym c.as_slice.ensures.all) c.as_slice.ensures.sorted in
     let come = taken c.add_each.result (sym c.is_err-2.ensures.value ∙ c.if-is_err-2.false) c.add_each.ensures.ok in
     let index : c.set.inside.index ≡ set.index = ap (λ (s : SetWithBits g.row.C.Denot). s.index) c.set.view_is in
-    indexed_pushed cmp c.args.places.now c.add_each.new.self c.args.sets.now.items c.push_back.new.self.items set
+    indexed_pushed cmp c.args.places.now c.add_each.new.self c.args.sets.now.items _ set
     c.requires.indexed
     (subst (IsStrictlySortedBy cmp) peers up) c.requires.above
     (λ q. come q ∙ (λ i. old q ++ places_from cmp (index i) 0 (peers i) q))
