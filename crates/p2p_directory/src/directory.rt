@@ -231,7 +231,8 @@ impl<C: PublicKey> Directory<C> {
     /// # Cost
     ///
     /// One search among the records for each peer of the new set, one for each peer of the set that
-    /// goes, and one more for each record that goes with it.
+    /// goes, and one more for each record that goes with it; and for each primary peer of either
+    /// set one search among the places, and one more for each that has no place left.
     pub fn track(
         &mut self,
         index: u64,
@@ -361,7 +362,8 @@ impl<C: PublicKey> Directory<C> {
     ///
     /// # Cost
     ///
-    /// One search among the records, and one more where the record goes.
+    /// One search among the records, and one more where the record goes; one among the places, and
+    /// one step to each of the peer's own places.
     pub fn release(&mut self, reservation: Reservation<C>)
         requires { IsBusy C.cmp self.old (key_of reservation) }
         ensures released { Releases C.cmp self.old self.new reservation }
@@ -386,7 +388,8 @@ impl<C: PublicKey> Directory<C> {
     ///
     /// # Cost
     ///
-    /// One search among the records, and one in each retained set.
+    /// One search among the records, one among the places, and one step to each of the peer's own
+    /// places.
     pub fn connect(&mut self, peer: &C, dialer: bool)
         requires { IsReserved C.cmp self.old peer.now }
         ensures connected { Connects C.cmp self.old self.new peer.now dialer }
@@ -406,7 +409,8 @@ impl<C: PublicKey> Directory<C> {
     ///
     /// # Cost
     ///
-    /// For each info one search among the records, and where it is taken one in each retained set.
+    /// For each info one search among the records, and where it is taken one among the places, and
+    /// one step to each of the peer's own places.
     pub fn update_peers(&mut self, infos: Vec<Info<C>>)
         ensures updated { Updates C.cmp self.old self.new infos.items }
         ensures busy { StayBusy C.cmp self.old self.new }
@@ -548,7 +552,7 @@ impl<C: PublicKey> Directory<C> {
     ///
     /// # Cost
     ///
-    /// One search among the records, and two among the blocks.
+    /// One search among the records, two among the blocks, and one or two among their moments.
     pub fn block(&mut self, peer: &C, now: Duration) -> Result<bool, AllocError>
         ensures err { OnErr result (self.new ≡ self.old) }
         ensures untaken { may_block C.cmp self.old (as_nanos now) peer.now ≡ false →
@@ -574,7 +578,8 @@ impl<C: PublicKey> Directory<C> {
     ///
     /// # Cost
     ///
-    /// One pass over the blocks.
+    /// One step to the first of the moments, and for each block that ends one removal there and one
+    /// among the blocks.
     pub fn unblock_expired(&mut self, now: Duration) -> bool
         ensures answer { IsAnyUntil (unblock_of C.cmp self.old) (as_nanos now) result }
         ensures ended { EndsBlocks C.cmp self.old self.new (as_nanos now) }
@@ -590,7 +595,7 @@ impl<C: PublicKey> Directory<C> {
     ///
     /// # Cost
     ///
-    /// One pass over the blocks.
+    /// One step to the first of the moments, and one search among the blocks.
     pub fn next_unblock(&self) -> Option<Duration>
         ensures { IsLeastOf (unblock_of C.cmp self.now) (option_map as_nanos result) }
     {

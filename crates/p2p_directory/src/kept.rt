@@ -261,6 +261,10 @@ impl<C: PublicKey> Window<C> {
     /// # Conditions
     ///
     /// Its index is above the latest.
+    ///
+    /// # Cost
+    ///
+    /// One search among the places for each primary peer of the set.
     pub fn push(&mut self, set: PeerSet<C>) -> Result<(), PeerSet<C>>
         requires { is_above set.index (latest_index (plain_sets self.old)) ≡ true }
         ensures ok { OnOk result (self.new ≡ self.old ++ set ∷ []) }
@@ -270,7 +274,12 @@ impl<C: PublicKey> Window<C> {
         push_set(&mut self.sets, &mut self.places, set)
     }
 
-    /// Takes out the set with the least index.
+    /// Takes out the set with the least index. Takes no memory.
+    ///
+    /// # Cost
+    ///
+    /// One search among the places for each primary peer of the set, and one more for each that has
+    /// no place left.
     pub fn pop_first(&mut self) -> Option<PeerSet<C>>
         ensures sets { self.old ≡ option_to_list result ++ self.new }
         ensures none { IfNone result (length self.old ≡ 0) }
@@ -283,8 +292,8 @@ impl<C: PublicKey> Window<C> {
     ///
     /// # Cost
     ///
-    /// One search among the primary peers of all sets, and for each set that has this one the search
-    /// of the set by its index. Other sets are not looked at, and no list of peers is searched.
+    /// One search among the places, and for each set that has the peer as primary the search of that
+    /// set by its index, and one bit. No other set is looked at, and no list of peers is searched.
     pub fn refresh(&mut self, peer: &C, known: bool) -> usize
         ensures sets { self.new ≡ map (with_bit_of C.cmp peer.now known) self.old }
         ensures count { result ≡ count_by (has_primary C.cmp peer.now) self.old }

@@ -65,7 +65,8 @@ impl<C: PublicKey> Blocks<C> {
     ///
     /// # Cost
     ///
-    /// One search among the blocks.
+    /// One search among the blocks and one among the moments, and one more there where the peer had
+    /// another moment or memory is refused.
     pub fn put(&mut self, key: C, moment: Duration) -> Result<(), AllocError>
         ensures err { OnErr result (self.new ≡ self.old) }
         ensures ok { OnOk result ((q : C) → unblock_in C.cmp self.new q ≡
@@ -91,7 +92,7 @@ impl<C: PublicKey> Blocks<C> {
     ///
     /// # Cost
     ///
-    /// One pass over the blocks.
+    /// One step to the first of the moments, and one search among the blocks.
     pub fn least(&self) -> Option<(C, Duration)>
         ensures none { IfNone result (self.now ≡ []) }
         ensures least { IfSome result (λ e. IsLeastBlock C.cmp self.now (e.0, as_nanos e.1)) }
@@ -104,7 +105,8 @@ impl<C: PublicKey> Blocks<C> {
     ///
     /// # Cost
     ///
-    /// One pass over the blocks.
+    /// One step to the first of the moments, and for each block that ends one removal there and one
+    /// among the blocks.
     pub fn drop_until(&mut self, now: Duration) -> usize
         ensures sorted { IsStrictlySortedBy C.cmp (keys_of self.old) }
         ensures left { self.new ≡ filter (is_later (as_nanos now)) self.old }
