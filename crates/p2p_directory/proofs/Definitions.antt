@@ -14,3 +14,4 @@ mod ExchangePremises
 mod LatePremises
 mod Examples
 mod Corners
+mod Forgetting

@@ -4,6 +4,7 @@ pub mod Entries
 pub mod Listing
 pub mod Blocks
 pub mod Ends
+pub mod Cooldowns
 pub mod Places
 pub mod Dialables
 pub mod Counting
@@ -17,3 +18,4 @@ pub mod Bootstrapped
 pub mod Infos
 pub mod Shared
 pub mod Taken
+pub mod Cooled

@@ -23,18 +23,20 @@ use Rattle.p2p_directory.specs.declared.directory.TrackedPeers.{TrackedPeers}
 use Rattle.p2p_directory.specs.declared.directory.PeerSetUpdate.{PeerSetUpdate}
 use Rattle.p2p_directory.specs.declared.directory.Metadata.{Metadata}
 use Rattle.p2p_directory.specs.declared.directory.Metadata.TheVariants.{Dialer, Listener}
-use Rattle.p2p_directory.specs.Calls.{SetAt}
+use Rattle.p2p_directory.specs.Calls.{SetAt, Cooldown}
 use Rattle.p2p_directory.specs.History.{last_of, is_inert, is_reserved}
 use Rattle.p2p_directory.specs.World.{last_ingress_by, is_blocked}
-use Rattle.p2p_directory.specs.Answers.{epoch_millis}
-use Rattle.p2p_directory.specs.Record.{RecordView, new_record, blank, is_myself, is_eligible}
+use Rattle.p2p_directory.specs.Answers.{epoch_millis, is_cooled_by}
+use Rattle.p2p_directory.specs.Record.{RecordView, new_record, fresh, is_myself, is_eligible}
 use Rattle.p2p_directory.specs.Record.{after_failure, after_success, reserved_record, with_counts}
 use Rattle.p2p_directory.specs.Record.{unless_deletable, address_after_infos, wants_info}
 use Rattle.p2p_directory.specs.Record.{sharable_by, may_come, may_be_dialled, ingress_of}
 use Rattle.p2p_directory.specs.Record.{DialView, dial_status, is_now, later_moment}
+use Rattle.p2p_directory.specs.Record.{with_cooldown, moments_after}
 use Rattle.p2p_directory.specs.PeerSets.{set_count, set_with}
 use Rattle.p2p_directory.specs.Lists.{Lists, IsLeastOf}
 use Rattle.p2p_directory.specs.Blocks.{unblock_in}
+use Rattle.p2p_directory.specs.Cooldowns.{unless_cooled, cooldown_in}
 
 -- WHAT IS SEEN
 
@@ -57,13 +59,14 @@ config_view cfg = record {
   block_duration = as_nanos cfg.block_duration;
 }
 
--- the retained sets from the oldest on, and in order of their keys what is kept of each peer and
--- until when each block holds
+-- the retained sets from the oldest on, and in order of their keys what is kept of each peer, until
+-- when each block holds, and the moments of each last grant that isn't forgotten
 pub record DirectoryView (C S : Type 0) : Type 0 where
   pub config : ConfigView
   pub sets : List (SetAt C)
   pub records : List (C × RecordView C S)
   pub blocks : List (C × ℕ)
+  pub cooldowns : List (C × Cooldown)
 
 -- the peers of a set, by role
 abbrev pub peers_of : {C S : Type 0} → SetAt C → TrackedPeers C S
@@ -186,12 +189,23 @@ module _ {C S : Type 0} (cmp : C → C → Ordering) where
     pub config : new.config ≡ old.config
     pub sets : new.sets ≡ old.sets
     pub blocks : new.blocks ≡ old.blocks
+    pub cooldowns : new.cooldowns ≡ old.cooldowns
     pub records : ChangesAt old.records new.records p f
 
-  -- p is reserved at a moment, with a draw
-  abbrev pub Reserves : DirectoryView C S → DirectoryView C S → C → ℕ → ℕ → Type 0
-  Reserves old new p now draw =
-      ChangesRecord old new p (option_map (reserved_record now draw old.config.cooldown))
+  -- the moments that are kept of a peer's last grant, if it isn't forgotten
+  abbrev pub cooldown_of : DirectoryView C S → C → Option Cooldown
+  cooldown_of d q = cooldown_in cmp d.cooldowns q
+
+  -- p is reserved at a moment, with a draw, the moments of this grant are kept, and all else stays
+  pub record Reserves (old new : DirectoryView C S) (p : C) (now draw : ℕ) : Type 0 where
+    pub config : new.config ≡ old.config
+    pub sets : new.sets ≡ old.sets
+    pub blocks : new.blocks ≡ old.blocks
+    pub cooldowns : (q : C) → cooldown_of new q ≡ (if is_at (cmp p) q
+        then Some (moments_after now draw old.config.cooldown)
+        else cooldown_of old q)
+    pub records : ChangesAt old.records new.records p
+        (option_map (reserved_record now draw old.config.cooldown))
 
   -- a reservation is released
   abbrev pub Releases : DirectoryView C S → DirectoryView C S → Metadata C S → Type 0
@@ -212,6 +226,7 @@ module _ {C S : Type 0} (cmp : C → C → Ordering) where
     pub config : new.config ≡ old.config
     pub sets : new.sets ≡ old.sets
     pub blocks : new.blocks ≡ old.blocks
+    pub cooldowns : new.cooldowns ≡ old.cooldowns
     pub records : (q : C) →
         record_of new q ≡ option_map (updated_record (infos_of infos q)) (record_of old q)
 
@@ -263,20 +278,22 @@ module _ {C S : Type 0} (cmp : C → C → Ordering) where
 
   -- A SET
 
-  -- what is kept of a peer once these are the retained sets: its counts are theirs, and a record
-  -- that is deletable is none
-  abbrev pub record_with_sets : List (SetAt C) → C → Option (RecordView C S) →
+  -- what is kept of a peer with these moments once these are the retained sets: its counts are
+  -- theirs, a new record begins with the moments, and a record that is deletable is none
+  abbrev pub record_with_sets : List (SetAt C) → Option Cooldown → C → Option (RecordView C S) →
       Option (RecordView C S)
-  record_with_sets sets q o =
+  record_with_sets sets cooldown q o =
       unless_deletable (with_counts (set_count cmp Primary q sets) (set_count cmp Secondary q sets)
-      (unwrap_or o blank))
+      (unwrap_or o (fresh cooldown)))
 
   -- a set is retained, as one of so many at most, and each record has the counts of the sets
   pub record TakesSet (old new : DirectoryView C S) (set : SetAt C) : Type 0 where
     pub config : new.config ≡ old.config
     pub sets : new.sets ≡ last_of old.config.max_sets (old.sets ++ set ∷ [])
     pub blocks : new.blocks ≡ old.blocks
-    pub records : (q : C) → record_of new q ≡ record_with_sets new.sets q (record_of old q)
+    pub cooldowns : new.cooldowns ≡ old.cooldowns
+    pub records : (q : C) →
+        record_of new q ≡ record_with_sets new.sets (cooldown_of old q) q (record_of old q)
 
   -- reserved or connected, and eligible
   abbrev pub is_connectable : Option (RecordView C S) → Bool
@@ -312,6 +329,7 @@ module _ {C S : Type 0} (cmp : C → C → Ordering) where
     pub config : new.config ≡ old.config
     pub sets : new.sets ≡ old.sets
     pub records : new.records ≡ old.records
+    pub cooldowns : new.cooldowns ≡ old.cooldowns
     pub blocks : (q : C) →
         unblock_of new q ≡ (if is_at (cmp p) q then Some moment else unblock_of old q)
 
@@ -320,7 +338,30 @@ module _ {C S : Type 0} (cmp : C → C → Ordering) where
     pub config : new.config ≡ old.config
     pub sets : new.sets ≡ old.sets
     pub records : new.records ≡ old.records
+    pub cooldowns : new.cooldowns ≡ old.cooldowns
     pub blocks : (q : C) → unblock_of new q ≡ if_later now (unblock_of old q)
+
+  -- COOLDOWNS
+
+  -- moments are kept of a peer, and its dial moment is at most now
+  abbrev pub is_cooled_in : DirectoryView C S → ℕ → C → Bool
+  is_cooled_in d now q = is_cooled_by now (cooldown_of d q)
+
+  -- how many such peers there are
+  abbrev pub IsNumberCooledIn : DirectoryView C S → ℕ → ℕ → Type 0
+  IsNumberCooledIn d now n =
+      (ps : List C) × Lists cmp (is_cooled_in d now) ps × (n ≡ length ps)
+
+  -- the moments of each such peer are forgotten, those of its record are the epoch, and all else
+  -- stays
+  pub record ForgetsCooled (old new : DirectoryView C S) (now : ℕ) : Type 0 where
+    pub config : new.config ≡ old.config
+    pub sets : new.sets ≡ old.sets
+    pub blocks : new.blocks ≡ old.blocks
+    pub cooldowns : (q : C) → cooldown_of new q ≡ unless_cooled now (cooldown_of old q)
+    pub records : (q : C) → record_of new q ≡ (if is_cooled_in old now q
+        then option_map (with_cooldown None) (record_of old q)
+        else record_of old q)
 
   -- WHO MAY COME, AND WHO MAY BE DIALLED
 
@@ -390,10 +431,11 @@ module _ {C S : Type 0} (cmp : C → C → Ordering) where
 
   -- OTHERS
 
-  -- what is kept of q, and until when it is blocked, is as it was
+  -- what is kept of q, until when it is blocked, and the moments that are kept are as they were
   pub record IsAsBefore (old new : DirectoryView C S) (q : C) : Type 0 where
     pub record_stays : record_of new q ≡ record_of old q
     pub unblock_stays : unblock_of new q ≡ unblock_of old q
+    pub cooldown_stays : cooldown_of new q ≡ cooldown_of old q
 
   -- so of each key but p, and the retained sets stay
   pub record LeavesOthers (old new : DirectoryView C S) (p : C) : Type 0 where

@@ -29,6 +29,7 @@ module _ {C S : Type 0} (cmp : C → C → Ordering) where
     pub config : new.config ≡ old.config
     pub sets : new.sets ≡ old.sets
     pub blocks : new.blocks ≡ old.blocks
+    pub cooldowns : new.cooldowns ≡ old.cooldowns
     pub records : (q : C) →
         record_of cmp new q ≡ after_release (held_of held q) (record_of cmp old q)
 

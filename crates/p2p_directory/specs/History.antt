@@ -2,7 +2,7 @@
 -- first. p is a key, t a moment.
 use Rattle.std.specs.Prelude.{ℕ, ◌≡◌, ◌+◌, ◌-◌, Bool, true, false, not, ◌&&◌, ◌||◌, if◌then◌else◌}
 use Rattle.std.specs.Prelude.{List, [], ◌∷◌, ◌++◌, length, drop, Option, Some, None, nat_lt, nat_le}
-use Rattle.std.specs.Prelude.{filter, count_by}
+use Rattle.std.specs.Prelude.{filter, count_by, option_map}
 use Rattle.std.specs.List.{list_any}
 use Rattle.std.specs.Ordering.{is_eq}
 use Rattle.p2p_discovery.specs.declared.discovery.Info.{Info}
@@ -10,11 +10,11 @@ use Rattle.p2p_discovery.specs.declared.types.ingress.Ingress.{Ingress}
 use Rattle.p2p_discovery.specs.Ingress.{same_ingress}
 use Rattle.p2p_directory.specs.Moments.{cap, jitter}
 use Rattle.p2p_directory.specs.declared.record.Status.{Status}
-use Rattle.p2p_directory.specs.Calls.{Setup, SetAt, Direction, Grant, Event}
+use Rattle.p2p_directory.specs.Calls.{Setup, SetAt, Direction, Grant, Cooldown, Event}
 use Rattle.p2p_directory.specs.declared.record.Status.TheVariants.{Inert, Reserved, Active}
 use Rattle.p2p_directory.specs.Calls.Direction.{Listener, Dialer}
 use Rattle.p2p_directory.specs.Calls.Event.{Tracked, Granted, Connected, Released, Updated, Blocked}
-use Rattle.p2p_directory.specs.Calls.Event.{Expired}
+use Rattle.p2p_directory.specs.Calls.Event.{Expired, Forgot}
 
 -- LOOKING BACK
 
@@ -227,23 +227,23 @@ module _ {C S : Type 0} (s : Setup C S) where
   abbrev pub fails_in : C → List (Event C S) → ℕ
   fails_in p l = failures_of p (info_in p l) (since_cleared p l)
 
-  -- from when p may be reserved again, by the last grant; without one, the epoch
-  abbrev pub reservable_after : Option (Grant × List (Event C S)) → ℕ
-  reservable_after None = 0
-  reservable_after (Some found) = cap (found.0.t + s.cooldown)
+  -- COOLDOWNS, which know no life
 
-  -- .. by the last grant in the life
-  abbrev pub reservable_in : C → List (Event C S) → ℕ
-  reservable_in p l = reservable_after (last_with (grant_by p) l)
+  -- the moments of a grant
+  abbrev pub cooldown_of : Grant → Cooldown
+  cooldown_of grant = record {
+    reservable_at = cap (grant.t + s.cooldown);
+    dial_at = cap (cap (grant.t + s.cooldown) + jitter grant.draw s.cooldown);
+  }
 
-  -- from when p is dialable again, by the last grant; without one, the epoch
-  abbrev pub dial_after : Option (Grant × List (Event C S)) → ℕ
-  dial_after None = 0
-  dial_after (Some found) = cap (cap (found.0.t + s.cooldown) + jitter found.0.draw s.cooldown)
+  -- the event forgets the grant: its dial moment has come
+  abbrev pub is_forgetting : Grant → Event C S → Bool
+  is_forgetting grant (Forgot t) = nat_le (cooldown_of grant).dial_at t
+  is_forgetting grant _ = false
 
-  -- .. by the last grant in the life
-  abbrev pub dial_moment_in : C → List (Event C S) → ℕ
-  dial_moment_in p l = dial_after (last_with (grant_by p) l)
+  -- the moments of the last grant of p, unless it was forgotten
+  abbrev pub cooldown_at : C → List (Event C S) → Option Cooldown
+  cooldown_at p h = option_map cooldown_of (last_unless_ended (grant_by p) is_forgetting h)
 
   -- BLOCKS, which know no life
 

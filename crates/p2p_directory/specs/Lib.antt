@@ -4,6 +4,7 @@ pub mod Moments
 pub mod PeerSets
 pub mod Lists
 pub mod Blocks
+pub mod Cooldowns
 pub mod History
 pub mod World
 pub mod Answers

@@ -16,7 +16,9 @@ use Rattle.p2p_directory.specs.declared.record.DialStatus.TheVariants as dial
 use Rattle.p2p_directory.specs.declared.record.ReserveResult.{ReserveResult}
 use Rattle.p2p_directory.specs.declared.record.ReserveResult.TheVariants as answer
 use Rattle.p2p_directory.specs.Moments.{cap, jitter}
+use Rattle.p2p_directory.specs.Calls.{Cooldown}
 use Rattle.p2p_directory.specs.History.{is_inert, first_greatest}
+use Rattle.p2p_directory.specs.World.{reservable_from, dialable_from}
 
 -- what is kept of one peer
 pub record RecordView (C S : Type 0) : Type 0 where
@@ -60,6 +62,13 @@ abbrev pub later_moment : DialView → Option ℕ
 later_moment (DialView.After moment) = Some moment
 later_moment _ = None
 
+-- the moments that a grant at a moment leaves, with a draw and a cooldown
+abbrev pub moments_after : ℕ → ℕ → ℕ → Cooldown
+moments_after now draw cooldown = record {
+  reservable_at = cap (now + cooldown);
+  dial_at = cap (cap (now + cooldown) + jitter draw cooldown);
+}
+
 module _ {C S : Type 0} where
   -- A NEW RECORD
 
@@ -78,6 +87,17 @@ module _ {C S : Type 0} where
   -- the record of a peer of which nothing is known
   abbrev pub blank : RecordView C S
   blank = new_record Unknown false
+
+  -- the record with these moments, or from the epoch on where there are none
+  abbrev pub with_cooldown : Option Cooldown → RecordView C S → RecordView C S
+  with_cooldown cooldown r = record r {
+    next_reservable_at = reservable_from cooldown;
+    next_dial_at = dialable_from cooldown;
+  }
+
+  -- the record of a peer of which nothing is known but these moments
+  abbrev pub fresh : Option Cooldown → RecordView C S
+  fresh cooldown = with_cooldown cooldown blank
 
   -- QUESTIONS
 

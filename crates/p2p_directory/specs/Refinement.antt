@@ -10,11 +10,11 @@ use Rattle.p2p_directory.specs.declared.directory.Metadata.TheVariants as metada
 use Rattle.p2p_directory.specs.Calls.{Setup, Direction}
 use Rattle.p2p_directory.specs.Calls.Direction.{Listener, Dialer}
 use Rattle.p2p_directory.specs.History.{is_own, is_persistent, primary_count, secondary_count}
-use Rattle.p2p_directory.specs.World.{World, Known, last_ingress}
+use Rattle.p2p_directory.specs.World.{World, Known, last_ingress, reservable_from, dialable_from}
 use Rattle.p2p_directory.specs.Answers.{is_present_in}
 use Rattle.p2p_directory.specs.Record.{RecordView}
 use Rattle.p2p_directory.specs.Directory.{ConfigView, DirectoryView, record_of}
-use Rattle.p2p_directory.specs.Directory.{unblock_of}
+use Rattle.p2p_directory.specs.Directory.{unblock_of, cooldown_of}
 
 -- the metadata of a reservation of p
 abbrev pub metadata_of : {C S : Type 0} → C → Direction → Metadata C S
@@ -58,15 +58,16 @@ module _ {C S : Type 0} (s : Setup C S) where
     primary_sets = primary_count s p w.sets;
     secondary_sets = secondary_count s p w.sets;
     persistent = is_persistent s p;
-    next_reservable_at = (w.peer p).known.reservable_at;
-    next_dial_at = (w.peer p).known.dial_at;
+    next_reservable_at = reservable_from (w.cooldown p);
+    next_dial_at = dialable_from (w.cooldown p);
   }
 
   -- a directory has the setup's configuration, the retained sets, a record exactly of each present
-  -- peer, and the unblock moments
+  -- peer, the unblock moments, and the moments of the last grants that aren't forgotten
   pub record Refines (w : World C S) (d : DirectoryView C S) : Type 0 where
     pub config : d.config ≡ config_of
     pub sets : d.sets ≡ w.sets
     pub records : (p : C) → record_of s.cmp d p ≡
         (if is_present_in s w p then Some (record_in w p) else None)
     pub blocks : (p : C) → unblock_of s.cmp d p ≡ w.unblock p
+    pub cooldowns : (p : C) → cooldown_of s.cmp d p ≡ w.cooldown p

@@ -16,15 +16,13 @@ use Rattle.p2p_directory.specs.declared.run.commands.Reply.TheVariants as reply
 use Rattle.p2p_directory.specs.declared.directory.PeerSetUpdate.{PeerSetUpdate}
 use Rattle.p2p_directory.specs.declared.directory.Metadata.{Metadata}
 use Rattle.p2p_discovery.specs.Ingress.{takes_none}
-use Rattle.p2p_directory.specs.Calls.{Setup, SetAt, Question, Call, Direction, Event}
-use Rattle.p2p_directory.specs.Calls.Direction.{Listener, Dialer}
-use Rattle.p2p_directory.specs.Calls.Event.{Granted}
+use Rattle.p2p_directory.specs.Calls.{Setup, SetAt, Question, Call, Event}
 use Rattle.p2p_directory.specs.Calls.Question.{StatusOf, NumberTracked, NextUnblock, BlockedAt}
 use Rattle.p2p_directory.specs.Calls.Question.{PeerSet, LatestIndex, AllPeers, LatestUpdate}
 use Rattle.p2p_directory.specs.Calls.Question.{InfoOf, InfosFor, BitsAt, IsEligible, IsAcceptable}
 use Rattle.p2p_directory.specs.Calls.Question.{DialableAt}
 use Rattle.p2p_directory.specs.Calls.Call.{Track, Dial, Listen, Connect, Release, Update, Block}
-use Rattle.p2p_directory.specs.Calls.Call.{UnblockExpired, Ask}
+use Rattle.p2p_directory.specs.Calls.Call.{UnblockExpired, ForgetCooled, Ask}
 use Rattle.p2p_directory.specs.PeerSets.{has_peers}
 use Rattle.p2p_directory.specs.Lists.{Somebody}
 use Rattle.p2p_directory.specs.History.{is_inert, is_named, taken_sets}
@@ -34,7 +32,8 @@ use Rattle.p2p_directory.specs.Answers.{may_connect, may_release, status_in, IsN
 use Rattle.p2p_directory.specs.Answers.{set_with_index, set_at_place, latest_index_in, bits_at}
 use Rattle.p2p_directory.specs.Answers.{AreAll, IsLatestUpdate, sharable_info, infos_for}
 use Rattle.p2p_directory.specs.Answers.{is_blocked_at}
-use Rattle.p2p_directory.specs.Answers.{AreBlocked, IsNextUnblock, IsAnyExpired, is_eligible_at}
+use Rattle.p2p_directory.specs.Answers.{AreBlocked, IsNextUnblock, IsAnyExpired, IsNumberCooled}
+use Rattle.p2p_directory.specs.Answers.{is_eligible_at}
 use Rattle.p2p_directory.specs.Answers.{is_acceptable_at, is_dialable, IsDialable}
 use Rattle.p2p_directory.specs.Directory.{peers_of, set_in}
 use Rattle.p2p_directory.specs.Refinement.{metadata_of}
@@ -66,6 +65,7 @@ call_of (command.Release p) = Release p
 call_of (command.UpdatePeers infos) = Update infos.items
 call_of (command.Block p now) = Block p (as_nanos now)
 call_of (command.UnblockExpired now) = UnblockExpired (as_nanos now)
+call_of (command.ForgetCooled now) = ForgetCooled (as_nanos now)
 call_of command.NextUnblock = Ask NextUnblock
 call_of (command.BlockedPeers now) = Ask (BlockedAt (as_nanos now))
 call_of (command.Status p) = Ask (StatusOf p)
@@ -92,16 +92,6 @@ bit_vec_of (index, bits) = record { index = index; bits = bits }
 -- what an update tells: the last retained set, and the primary and secondary peers of all
 abbrev pub update_in : {C S : Type 0} → PeerSetUpdate C S → SetAt C × List C × List C
 update_in update = (set_in update, update.all.primary, update.all.secondary)
-
--- a dial at a name
-abbrev pub is_name_dial : Direction → Bool
-is_name_dial Listener = false
-is_name_dial (Dialer a) = not (takes_none a)
-
--- .. that was granted
-abbrev pub dials_name : {C S : Type 0} → Event C S → Bool
-dials_name (Granted p grant) = is_name_dial grant.direction
-dials_name _ = false
 
 -- a reply counts its command as made
 abbrev pub was_made : {C S : Type 0} → Reply C S → Bool
@@ -152,6 +142,7 @@ module _ {C S : Type 0} (s : Setup C S) where
   Replies e w v (Update infos) r = r ≡ reply.UpdatePeers
   Replies e w v (Block p t) r = r ≡ reply.Block (was_blocked e)
   Replies e w v (UnblockExpired t) (reply.UnblockExpired some) = IsAnyExpired s w t some
+  Replies e w v (ForgetCooled t) (reply.ForgetCooled n) = IsNumberCooled s w t n
   Replies e w v (Ask question) r = Informs w question r
   Replies e w v _ r = ⊥
 
@@ -170,11 +161,12 @@ module _ {C S : Type 0} (s : Setup C S) where
   MayWantToTell w (DialableAt t) = Somebody (is_dialable s w t)
   MayWantToTell w _ = ⊥
 
-  -- which calls may want memory: a track or block that is taken, a dial that is granted, such a
-  -- question, and no other
+  -- which calls may want memory: a track or block that is taken, a dial or listen that is granted,
+  -- such a question, and no other
   abbrev pub MayWantMemory : Event C S → World C S → Call C S → Type 0
   MayWantMemory e w (Track index primary secondary) = was_taken e ≡ true
-  MayWantMemory e w (Dial p t draw) = dials_name e ≡ true
+  MayWantMemory e w (Dial p t draw) = was_granted e ≡ true
+  MayWantMemory e w (Listen p t draw) = was_granted e ≡ true
   MayWantMemory e w (Block p t) = was_blocked e ≡ true
   MayWantMemory e w (Ask question) = MayWantToTell w question
   MayWantMemory e w _ = ⊥

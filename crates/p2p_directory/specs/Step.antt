@@ -3,13 +3,13 @@
 use Rattle.std.specs.Prelude.{ℕ, suc, ◌+◌, Bool, false, ◌&&◌, if◌then◌else◌, List, [], ◌∷◌, ◌++◌}
 use Rattle.std.specs.Prelude.{Option, Some, None, nat_lt, nat_le, filter}
 use Rattle.p2p_discovery.specs.declared.discovery.Info.{Info}
-use Rattle.p2p_directory.specs.Moments.{cap, jitter}
+use Rattle.p2p_directory.specs.Moments.{cap}
 use Rattle.p2p_directory.specs.declared.record.Status.{Status}
-use Rattle.p2p_directory.specs.Calls.{Setup, Call, SetAt, Direction, Grant, Event}
+use Rattle.p2p_directory.specs.Calls.{Setup, Call, SetAt, Direction, Grant, Cooldown, Event}
 use Rattle.p2p_directory.specs.declared.record.Status.TheVariants.{Inert, Reserved, Active}
 use Rattle.p2p_directory.specs.Calls.Event.{Tracked, Granted, Connected, Released, Updated, Blocked}
-use Rattle.p2p_directory.specs.Calls.Event.{Expired}
-use Rattle.p2p_directory.specs.History.{last_of, same, is_own, is_present_with, is_dial_at}
+use Rattle.p2p_directory.specs.Calls.Event.{Expired, Forgot}
+use Rattle.p2p_directory.specs.History.{last_of, same, is_own, is_present_with, is_dial_at, cooldown_of}
 use Rattle.p2p_directory.specs.World.{Known, Peer, State, World, event_in}
 
 module _ {C S : Type 0} (s : Setup C S) where
@@ -59,13 +59,6 @@ module _ {C S : Type 0} (s : Setup C S) where
   abbrev pub known_after : C → Event C S → Known C S → Known C S
   known_after p (Updated infos) k =
       if is_own s p then k else known_with_infos k (filter (λ i. same s i.public_key p) infos)
-  known_after p (Granted q grant) k =
-      if same s q p
-      then record k {
-        reservable_at = cap (grant.t + s.cooldown);
-        dial_at = cap (cap (grant.t + s.cooldown) + jitter grant.draw s.cooldown);
-      }
-      else k
   known_after p (Connected q dialer) k = if same s q p && dialer then record k { fails = 0 } else k
   known_after p (Released q direction) k =
       if same s q p && is_failed_dial k.info direction then record k { fails = suc k.fails } else k
@@ -73,14 +66,9 @@ module _ {C S : Type 0} (s : Setup C S) where
 
   -- what is known of a peer that is new
   abbrev pub new_known : C → Known C S
-  new_known p = record {
-    info = if is_own s p then Some s.own else None;
-    fails = 0;
-    reservable_at = 0;
-    dial_at = 0;
-  }
+  new_known p = record { info = if is_own s p then Some s.own else None; fails = 0 }
 
-  -- of a peer that is gone all is forgotten
+  -- of a peer that is gone info and failures are forgotten
   abbrev pub peer_after : C → Event C S → List (SetAt C) → Peer C S → Peer C S
   peer_after p e sets peer = record {
     status = status_after p e peer.status;
@@ -97,12 +85,22 @@ module _ {C S : Type 0} (s : Setup C S) where
   unblock_after p (Expired t) (Some moment) = if nat_le moment t then None else Some moment
   unblock_after p _ moment = moment
 
+  -- what an event makes of the moments that are kept of p
+  abbrev pub cooldown_after : C → Event C S → Option Cooldown → Option Cooldown
+  cooldown_after p (Granted q grant) cooldown =
+      if same s q p then Some (cooldown_of s grant) else cooldown
+  cooldown_after p (Forgot t) None = None
+  cooldown_after p (Forgot t) (Some cooldown) =
+      if nat_le cooldown.dial_at t then None else Some cooldown
+  cooldown_after p _ cooldown = cooldown
+
   -- what an event changes of a state
   abbrev pub state_after : Event C S → State C S → State C S
   state_after e d = record {
     sets = sets_after e d.sets;
     peer = λ p. peer_after p e (sets_after e d.sets) (d.peer p);
     unblock = λ p. unblock_after p e (d.unblock p);
+    cooldown = λ p. cooldown_after p e (d.cooldown p);
   }
 
   -- what an event changes of a world

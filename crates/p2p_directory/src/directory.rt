@@ -2,9 +2,10 @@
 //! persistent, reserved or connected.
 
 ghost use Rattle.std.specs.Prelude.{ℕ, ◌≡◌, ◌<◌, ◌≤◌, ◌^◌, ◌+◌, ◌-◌, [], false, true, Some, None};
-ghost use Rattle.std.specs.Prelude.{IfSome, IfNone, IfOk, IsOk, OnErr, is_some, length, map, not, slice_get};
+ghost use Rattle.std.specs.Prelude.{IfSome, IfNone, IfOk, IsOk, OnOk, OnErr, is_some, length};
+ghost use Rattle.std.specs.Prelude.{map, not, slice_get};
 ghost use Rattle.std.specs.List.Sorted.{IsStrictlySortedBy};
-ghost use Rattle.std.specs.Option.{option_map, IsSomeAnd};
+ghost use Rattle.std.specs.Option.{option_map, option_map_or, IsSomeAnd};
 ghost use Rattle.std.specs.BTreeMap.{is_at};
 ghost use Rattle.std.specs.Map.{keys_of};
 ghost use Rattle.std.specs.Duration.{as_nanos};
@@ -16,13 +17,15 @@ ghost use Rattle.p2p_directory.specs.PeerSets.{has_peers};
 ghost use Rattle.p2p_directory.specs.Private.Window.{plain_set};
 
 use crate::directory::blocked::blocked_at;
+use crate::directory::cooled::forget_each;
 use crate::directory::infos::{epoch_millis, shared_for};
 use crate::directory::records::Records;
 use crate::directory::track::{add, drop_oldest};
 use crate::directory::update::update_each;
 use crate::kept::blocks::Blocks;
+use crate::kept::cooldowns::Cooldowns;
 use crate::kept::{PeerSet, Window};
-use crate::record::{Dialable, Status};
+use crate::record::{Dialable, Status, next_moments};
 use p2p_discovery::codec::PublicKey;
 use p2p_discovery::discovery::{BitVec, Info};
 use p2p_discovery::sets::OrderedSet;
@@ -33,6 +36,7 @@ use std::num::NonZeroUsize;
 use std::time::Duration;
 
 pub(crate) mod blocked;
+mod cooled;
 mod infos;
 pub(crate) mod records;
 mod track;
@@ -131,21 +135,23 @@ impl<P: PublicKey> Reservation<P> {
 }
 
 /// The directory of peers. A contract sees its configuration, its retained sets, the oldest first,
-/// and for each key what is kept of the peer, its record or nothing, and until when it is blocked,
-/// if it is.
+/// and for each key what is kept of the peer, its record or nothing, until when it is blocked, if it
+/// is, and the moments of its last grant, if there was one and it isn't forgotten.
 #[derive(Drop)]
 pub struct Directory<C: PublicKey> {
     config: Config,
     sets: Window<C>,
     records: Records<C>,
     blocks: Blocks<C>,
+    cooldowns: Cooldowns<C>,
 }
 
 impl<C: PublicKey> Model for Directory<C> {
     ghost use Rattle.std.specs.Int.NonZero.{non_zero_usize_get};
     ghost use Rattle.p2p_directory.specs.Directory.{DirectoryView, config_view, record_at};
     ghost use Rattle.p2p_directory.specs.Private.Window.{plain_sets};
-    ghost use Rattle.p2p_directory.specs.Private.Counts.{IsInvariant};
+    ghost use Rattle.p2p_directory.specs.Cooldowns.{cooldown_in};
+    ghost use Rattle.p2p_directory.specs.Private.Counts.{IsWhole};
 
     ghost Value = { DirectoryView C C.Signature };
 
@@ -154,10 +160,12 @@ impl<C: PublicKey> Model for Directory<C> {
       sets = plain_sets d.sets;
       records = d.records;
       blocks = d.blocks;
+      cooldowns = d.cooldowns;
     } };
 
-    ghost invariant = { λ d. IsInvariant C.cmp (non_zero_usize_get d.config.max_sets)
-        d.config.dial_fail_limit d.sets (record_at C.cmp d.records) };
+    ghost invariant = { λ d. IsWhole C.cmp (non_zero_usize_get d.config.max_sets)
+        d.config.dial_fail_limit d.sets (record_at C.cmp d.records)
+        (cooldown_in C.cmp d.cooldowns) };
 }
 
 impl<C: PublicKey> Directory<C> {
@@ -171,11 +179,14 @@ impl<C: PublicKey> Directory<C> {
     ghost use Rattle.p2p_directory.specs.Directory.{may_listen_in, may_dial_in, ingress_in};
     ghost use Rattle.p2p_directory.specs.Directory.{peer_set_in, is_named_of, AreAllOf, IsUpdateOf};
     ghost use Rattle.p2p_directory.specs.Directory.{is_dialable_in, AreDialableIn, wants_in};
+    ghost use Rattle.p2p_directory.specs.Directory.{cooldown_of, IsNumberCooledIn, ForgetsCooled};
+    ghost use Rattle.p2p_directory.specs.World.{reservable_from, dialable_from};
     ghost use Rattle.p2p_directory.specs.Lists.{Lists, IsLeastOf, Somebody};
     ghost use Rattle.p2p_directory.specs.Blocks.{IsAnyUntil};
     ghost use Rattle.p2p_directory.specs.Laws.Dials.{IsBefore};
     ghost use Rattle.p2p_directory.specs.Moments.{cap};
     ghost use Rattle.p2p_directory.specs.Record.{is_eligible, is_acceptable, is_deletable};
+    ghost use Rattle.p2p_directory.specs.Record.{may_come};
     ghost use Rattle.p2p_directory.specs.declared.record.Role.TheVariants as Role;
     ghost use Rattle.p2p_directory.specs.PeerSets.{has_peers, set_with, set_count};
 
@@ -204,6 +215,7 @@ impl<C: PublicKey> Directory<C> {
         ensures config { IfOk result (λ d. d.config ≡ config_view cfg) }
         ensures sets { IfOk result (λ d. d.sets ≡ []) }
         ensures blocks { IfOk result (λ d. d.blocks ≡ []) }
+        ensures cooldowns { IfOk result (λ d. d.cooldowns ≡ []) }
         ensures records { IfOk result (λ d. (q : C) →
             record_of C.cmp d q ≡ first_record C.cmp bootstrappers.items myself q) }
     {
@@ -213,6 +225,7 @@ impl<C: PublicKey> Directory<C> {
             sets: Window::new(alloc),
             records,
             blocks: Blocks::new(alloc),
+            cooldowns: Cooldowns::new(alloc),
         })
     }
 
@@ -230,9 +243,10 @@ impl<C: PublicKey> Directory<C> {
     ///
     /// # Cost
     ///
-    /// One search among the records for each peer of the new set, one for each peer of the set that
-    /// goes, and one more for each record that goes with it; and for each primary peer of either
-    /// set one search among the places, and one more for each that has no place left.
+    /// One search among the records and one among the kept moments for each peer of the new set, one
+    /// search among the records for each peer of the set that goes, and one more for each record
+    /// that goes with it; and for each primary peer of either set one search among the places, and
+    /// one more for each that has no place left.
     pub fn track(
         &mut self,
         index: u64,
@@ -257,7 +271,13 @@ impl<C: PublicKey> Directory<C> {
         let limit = self.config.dial_fail_limit;
         let set = PeerSet::new(alloc, index, peers.primary, peers.secondary)?;
         let torn = Vec::with_capacity(alloc, self.sets.leaving_count(max_sets)?)?;
-        add(&mut self.sets, &mut self.records, set, limit)?;
+        add(
+            &mut self.sets,
+            &mut self.records,
+            &self.cooldowns,
+            set,
+            limit,
+        )?;
         Ok(Some(drop_oldest(&mut self.sets, &mut self.records, max_sets, torn)))
     }
 
@@ -268,16 +288,19 @@ impl<C: PublicKey> Directory<C> {
     /// record, its dial status is [`Unavailable`](crate::record::DialStatus::Unavailable), or `now`
     /// is before its reservable moment. The dial moment is not asked for. Else the peer is reserved
     /// and its moments are set as by [`Record::reserve`](crate::record::Record::reserve), with the
-    /// draw; the reservation has the very address that is to be dialled. Whoever is reserved or
+    /// draw. They are kept until [`Directory::forget_cooled`] forgets them, also where the record
+    /// goes. The reservation has the very address that is to be dialled. Whoever is reserved or
     /// connected stays so.
     ///
     /// # Errors
     ///
-    /// `AllocError` where memory for that address, a name, is refused; then nothing has changed.
+    /// `AllocError` where memory is refused, for that address or for the moments; then nothing has
+    /// changed.
     ///
     /// # Cost
     ///
-    /// One search among the blocks, and one among the records.
+    /// One search among the blocks, and where the peer is reserved two among the records and one
+    /// among the kept moments.
     pub fn dial(
         &mut self,
         peer: &C,
@@ -287,8 +310,6 @@ impl<C: PublicKey> Directory<C> {
         ensures err { OnErr result (self.new ≡ self.old) }
         ensures none { may_dial_in C.cmp self.old (as_nanos now) peer.now ≡ false →
             result ≡ Ok None }
-        ensures socket { IfSome (ingress_in C.cmp self.old peer.now)
-            (λ ingress. takes_none ingress ≡ true → IsOk result) }
         ensures answer { IfOk result (λ reservation. is_some reservation ≡
             may_dial_in C.cmp self.old (as_nanos now) peer.now) }
         ensures refused { IfOk result (λ reservation. IfNone reservation (self.new ≡ self.old)) }
@@ -304,13 +325,13 @@ impl<C: PublicKey> Directory<C> {
         ensures busy { StayBusy C.cmp self.old self.new }
         ensures reserved { StayReserved C.cmp self.old self.new }
     {
-        if self.is_blocked(peer, now) {
-            return Ok(None);
-        }
-        match self.records.dial(peer, now, draw, &self.config)? {
-            Some(ingress) => Ok(Some(Reservation {
-                metadata: Metadata::Dialer(*peer, ingress),
-            })),
+        match self.dialled(peer, now)? {
+            Some(ingress) => {
+                self.grant(peer, now, draw)?;
+                Ok(Some(Reservation {
+                    metadata: Metadata::Dialer(*peer, ingress),
+                }))
+            }
             None => Ok(None),
         }
     }
@@ -318,43 +339,73 @@ impl<C: PublicKey> Directory<C> {
     /// Reserves the peer for a connection that it asks for at the moment `now`, a time since the
     /// epoch.
     ///
-    /// Answers `None` and changes nothing where the peer is blocked or has no record, it is not
-    /// eligible, not inert, or `now` is before its reservable moment. Else the peer is reserved and
-    /// its moments are set as by [`Record::reserve`](crate::record::Record::reserve), with the
-    /// draw. Whoever is reserved or connected stays so. Takes no memory.
+    /// Answers `None`, takes no memory and changes nothing where the peer is blocked or has no
+    /// record, it is not eligible, not inert, or `now` is before its reservable moment. Else the
+    /// peer is reserved and its moments are set as by
+    /// [`Record::reserve`](crate::record::Record::reserve), with the draw. They are kept until
+    /// [`Directory::forget_cooled`] forgets them, also where the record goes. Whoever is reserved
+    /// or connected stays so.
+    ///
+    /// # Errors
+    ///
+    /// `AllocError` where memory for the moments is refused; then nothing has changed.
     ///
     /// # Cost
     ///
-    /// One search among the blocks, and one among the records.
-    pub fn listen(&mut self, peer: &C, now: Duration, draw: Duration) -> Option<Reservation<C>>
-        ensures answer { is_some result ≡ may_listen_in C.cmp self.old (as_nanos now) peer.now }
-        ensures refused { IfNone result (self.new ≡ self.old) }
-        ensures reservation { IfSome result (λ reservation.
-            reservation ≡ Metadata.Listener peer.now) }
-        ensures granted { IfSome result (λ _. Reserves C.cmp self.old self.new peer.now
-            (as_nanos now) (as_nanos draw)) }
-        ensures is_busy { IfSome result (λ reservation.
-            IsBusy C.cmp self.new (key_of reservation)) }
-        ensures is_reserved { IfSome result (λ reservation.
-            IsReserved C.cmp self.new (key_of reservation)) }
+    /// One search among the blocks, and where the peer is reserved two among the records and one
+    /// among the kept moments.
+    pub fn listen(
+        &mut self,
+        peer: &C,
+        now: Duration,
+        draw: Duration,
+    ) -> Result<Option<Reservation<C>>, AllocError>
+        ensures err { OnErr result (self.new ≡ self.old) }
+        ensures none { may_listen_in C.cmp self.old (as_nanos now) peer.now ≡ false →
+            result ≡ Ok None }
+        ensures answer { IfOk result (λ reservation. is_some reservation ≡
+            may_listen_in C.cmp self.old (as_nanos now) peer.now) }
+        ensures refused { IfOk result (λ reservation. IfNone reservation (self.new ≡ self.old)) }
+        ensures reservation { IfOk result (λ reservation. IfSome reservation (λ metadata.
+            metadata ≡ Metadata.Listener peer.now)) }
+        ensures granted { IfOk result (λ reservation. IfSome reservation (λ _.
+            Reserves C.cmp self.old self.new peer.now (as_nanos now) (as_nanos draw))) }
+        ensures is_busy { IfOk result (λ reservation. IfSome reservation (λ metadata.
+            IsBusy C.cmp self.new (key_of metadata))) }
+        ensures is_reserved { IfOk result (λ reservation. IfSome reservation (λ metadata.
+            IsReserved C.cmp self.new (key_of metadata))) }
         ensures busy { StayBusy C.cmp self.old self.new }
         ensures reserved { StayReserved C.cmp self.old self.new }
     {
-        if self.is_blocked(peer, now) {
-            return None;
+        if self.is_blocked(peer, now) || !self.records.may_come(peer, now) {
+            return Ok(None);
         }
-        let cooldown = self.config.peer_connection_cooldown;
-        if !self.records.reserve(peer, now, draw, cooldown) {
-            return None;
-        }
-        Some(Reservation {
+        self.grant(peer, now, draw)?;
+        Ok(Some(Reservation {
             metadata: Metadata::Listener(*peer),
-        })
+        }))
+    }
+
+    /// Forgets the moments of each peer whose dial moment is at or before `now`, a time since the
+    /// epoch, and answers how many there were: such a peer is reservable and dialable from the
+    /// epoch on, as by its record where it has one. All else stays. Takes no memory.
+    ///
+    /// # Cost
+    ///
+    /// For each such peer one search among the kept moments, and one among the records.
+    pub fn forget_cooled(&mut self, now: Duration) -> usize
+        ensures answer { IsNumberCooledIn C.cmp self.old (as_nanos now) result }
+        ensures forgotten { ForgetsCooled C.cmp self.old self.new (as_nanos now) }
+        ensures busy { StayBusy C.cmp self.old self.new }
+        ensures reserved { StayReserved C.cmp self.old self.new }
+    {
+        let _kept = self.cooldowns.len();
+        forget_each(&mut self.records, &mut self.cooldowns, now)
     }
 
     /// Takes a reservation back: its peer is inert, a dialler's counts a failure at the address
-    /// that was dialled, and a record that is deletable then goes. Every other peer that is
-    /// reserved or connected stays so. Takes no memory.
+    /// that was dialled, and a record that is deletable then goes; the moments of its cooldown stay
+    /// kept. Every other peer that is reserved or connected stays so. Takes no memory.
     ///
     /// # Conditions
     ///
@@ -741,9 +792,10 @@ impl<C: PublicKey> Directory<C> {
     }
 
     /// What holds between calls: a record counts the retained sets that have its peer, a peer that
-    /// some set has is one with a record, no record is kept that may go, and the bits of a retained
-    /// set, which [`Directory::get_random_bit_vec`] answers, are for each primary peer in order the
-    /// opposite of want. Does nothing.
+    /// some set has is one with a record, no record is kept that may go, each record has the moments
+    /// that are kept of its peer, or the epoch where none are, and the bits of a retained set, which
+    /// [`Directory::get_random_bit_vec`] answers, are for each primary peer in order the opposite of
+    /// want. Does nothing.
     pub fn agrees(&self)
         ensures counts { (q : C) → IfSome (record_of C.cmp self.now q) (λ r.
             (r.primary_sets ≡ set_count C.cmp Role.Primary q self.now.sets)
@@ -752,6 +804,9 @@ impl<C: PublicKey> Directory<C> {
             is_some (record_of C.cmp self.now q) ≡ true }
         ensures kept { (q : C) → IfSome (record_of C.cmp self.now q) (λ r.
             is_deletable r ≡ false) }
+        ensures cooled { (q : C) → IfSome (record_of C.cmp self.now q) (λ r.
+            (r.next_reservable_at ≡ reservable_from (cooldown_of C.cmp self.now q))
+            × (r.next_dial_at ≡ dialable_from (cooldown_of C.cmp self.now q))) }
         ensures bits { (place : ℕ) → bit_vec_at C.cmp self.now place ≡ option_map (λ set. record {
           index = set.index;
           bits = map (λ q. not (wants_in C.cmp self.now q)) set.primary;
@@ -763,6 +818,41 @@ impl<C: PublicKey> Directory<C> {
     // The allocator of its collections.
     pub(crate) fn allocator(&self) -> Global {
         self.sets.allocator()
+    }
+
+    // The ingress that a dial of the peer at the moment `now` is granted for.
+    fn dialled(&self, peer: &C, now: Duration) -> Result<Option<Ingress>, AllocError>
+        ensures none { may_dial_in C.cmp self.now (as_nanos now) peer.now ≡ false →
+            result ≡ Ok None }
+        ensures answer { IfOk result (λ ingress. is_some ingress ≡
+            may_dial_in C.cmp self.now (as_nanos now) peer.now) }
+        ensures ingress { IfOk result (λ ingress. IfSome ingress (λ a.
+            ingress_in C.cmp self.now peer.now ≡ Some a)) }
+    {
+        if self.is_blocked(peer, now) {
+            return Ok(None);
+        }
+        self.records.dialled(peer, now, &self.config)
+    }
+
+    // Reserves a peer that may come at the moment `now`. The room for its moments is taken before
+    // its record changes.
+    fn grant(&mut self, peer: &C, now: Duration, draw: Duration) -> Result<(), AllocError>
+        requires { option_map_or (may_come (as_nanos now)) (record_of C.cmp self.old peer.now) false
+            ≡ true }
+        ensures err { OnErr result (self.new ≡ self.old) }
+        ensures granted { OnOk result (Reserves C.cmp self.old self.new peer.now
+            (as_nanos now) (as_nanos draw)) }
+        ensures is_busy { OnOk result (IsBusy C.cmp self.new peer.now) }
+        ensures is_reserved { OnOk result (IsReserved C.cmp self.new peer.now) }
+        ensures busy { StayBusy C.cmp self.old self.new }
+        ensures reserved { StayReserved C.cmp self.old self.new }
+    {
+        let cooldown = self.config.peer_connection_cooldown;
+        self.cooldowns
+            .put(*peer, next_moments(now, draw, cooldown))?;
+        self.records.reserve(peer, now, draw, cooldown);
+        Ok(())
     }
 
     // Whether the peer is blocked at a moment.

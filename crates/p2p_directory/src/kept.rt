@@ -23,6 +23,7 @@ use std::collections::VecDeque;
 use std::marker::Model;
 
 pub mod blocks;
+pub mod cooldowns;
 pub mod places;
 
 /// Lets a value go. Its drop, which branches on what it holds, stands here and not in the caller.

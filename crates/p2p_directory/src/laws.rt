@@ -10,7 +10,7 @@ ghost use Rattle.p2p_directory.specs.History.{taken_sets};
 ghost use Rattle.p2p_directory.specs.World.{World, world_at, past};
 ghost use Rattle.p2p_directory.specs.Step.{step, new_known};
 ghost use Rattle.p2p_directory.specs.Lists.{Lists, IsLeastOf};
-ghost use Rattle.p2p_directory.specs.Answers.{is_present_in, IsNumberTracked};
+ghost use Rattle.p2p_directory.specs.Answers.{is_present_in, IsNumberTracked, IsNumberCooled};
 ghost use Rattle.p2p_directory.specs.Answers.{is_torn_down, IsDialable};
 ghost use Rattle.p2p_directory.specs.declared.directory.Metadata.{Metadata};
 ghost use Rattle.p2p_directory.specs.Directory.{DirectoryView, Reserves, Connects, Releases};
@@ -20,13 +20,15 @@ ghost use Rattle.p2p_directory.specs.Laws.Isolation.{SameFor, AnswersAlike, left
 ghost use Rattle.p2p_directory.specs.Laws.Isolation.{is_on_another, narrowed};
 ghost use Rattle.p2p_directory.specs.Laws.Order.{HaveSame, IsUnambiguous};
 ghost use Rattle.p2p_directory.specs.Laws.Bounds.{NamesAtMost, IsBounded};
-ghost use Rattle.p2p_directory.specs.Laws.Grants.{KeepsCooldown, NeverGoBack, KeepsBlocks};
+ghost use Rattle.p2p_directory.specs.Laws.Grants.{KeepsCooldown, KeepsCooldownUnlessForgotten};
+ghost use Rattle.p2p_directory.specs.Laws.Grants.{NeverGoBack, KeepsBlocks};
 ghost use Rattle.p2p_directory.specs.Laws.Dials.{AreChosen, AreDialled, IsBefore};
 ghost use Rattle.p2p_directory.specs.declared.run.commands.Reply.{Reply};
 ghost use Rattle.p2p_directory.specs.Refinement.{Refines};
 ghost use Rattle.p2p_directory.specs.Run.{AreAnswers, world_after};
 ghost use Rattle.p2p_directory.specs.Laws.Refined.{AnswersAs};
-ghost use Rattle.p2p_directory.specs.Laws.GrantRuns.{KeepCooldown, KeepBlocks};
+ghost use Rattle.p2p_directory.specs.Laws.GrantRuns.{KeepCooldownUnlessForgotten, KeepCooldown};
+ghost use Rattle.p2p_directory.specs.Laws.GrantRuns.{KeepBlocks};
 ghost use Rattle.p2p_directory.specs.Laws.BlockRuns.{KeepLastBlock};
 ghost use Rattle.p2p_directory.specs.Laws.DialRuns.{KeepDialable};
 ghost use Rattle.p2p_directory.specs.Laws.IsolationRuns.{KeepAlone};
@@ -58,7 +60,7 @@ pub fn recomputed_is_one_step<C: PublicKey>()
 /// the accepted calls make. Where the directory refines that world, as the clause `directory` of
 /// [`run`](crate::run::run) says of the one that it hands back, each answer by what is kept, in the
 /// words of the calls of [`Directory`](crate::directory::Directory), is that of the world: those
-/// of each question, who is granted, and whether a block has ended. The limit of failures fits
+/// of each question, who is granted, whether a block has ended, and how many cooldowns. The limit of failures fits
 /// `usize`, as in each `Config`.
 pub fn refined_answers<C: PublicKey>()
     ensures { (s : Setup C C.Signature) → s.cmp ≡ C.cmp → s.dial_fail_limit < 2 ^ 64 →
@@ -67,7 +69,7 @@ pub fn refined_answers<C: PublicKey>()
 {}
 
 /// An answer that lists the keys with a property, tells the least moment of some keys, or counts
-/// the tracked keys of a world, is the only one.
+/// the tracked or the cooled keys of a world, is the only one.
 pub fn answers_are_determined<C: PublicKey>()
     ensures lists { (s : Setup C C.Signature) → s.cmp ≡ C.cmp →
         (test : C → Bool) (xs ys : List C) → Lists s.cmp test xs → Lists s.cmp test ys → xs ≡ ys }
@@ -76,6 +78,9 @@ pub fn answers_are_determined<C: PublicKey>()
     ensures numbers { (s : Setup C C.Signature) → s.cmp ≡ C.cmp →
         (w : World C C.Signature) (m n : ℕ) → IsNumberTracked s w m → IsNumberTracked s w n →
         m ≡ n }
+    ensures cooled { (s : Setup C C.Signature) → s.cmp ≡ C.cmp →
+        (w : World C C.Signature) (t m n : ℕ) →
+        IsNumberCooled s w t m → IsNumberCooled s w t n → m ≡ n }
 {}
 
 /// Calls on other single peers, and the infos of others in updates, may be left out of the accepted
@@ -102,8 +107,8 @@ pub fn each_call_keeps_others<C: PublicKey>()
 {}
 
 /// Call by call, on a directory: what `dial` and `listen`, `connect`, `release` and `block` do to
-/// one peer leaves the retained sets as they are, and of each other peer what is kept and until
-/// when it is blocked. Infos that are offered change what is kept of a peer by those of its own key
+/// one peer leaves the retained sets as they are, and of each other peer what is kept, until when it
+/// is blocked, and the moments of its cooldown. Infos that are offered change what is kept of a peer by those of its own key
 /// alone, and nothing else.
 pub fn effects_keep_others<C: PublicKey>()
     ensures reserves { (old new : DirectoryView C C.Signature) (p : C) (now draw : ℕ) →
@@ -148,18 +153,29 @@ pub fn presence_is_bounded<C: PublicKey>()
         IsBounded s n (world_at s (past s cs)) }
 {}
 
-/// Of a peer that is absent all is forgotten: what is known of it is what is known of a new peer.
+/// Of a peer that is absent info and failures are forgotten: what is known of it is what is known
+/// of a new peer.
 pub fn absent_are_forgotten<C: PublicKey>()
     ensures { (s : Setup C C.Signature) (cs : List (Call C C.Signature)) (p : C) →
         is_present_in s (world_at s (past s cs)) p ≡ false →
         ((world_at s (past s cs)).peer p).known ≡ new_known s p }
 {}
 
-/// Within one life of a peer, each grant comes no earlier than the cooldown after each grant before
-/// it, at most the greatest moment. Moments may go back.
+/// Two consecutive grants of a peer, with no forgetting of the first between them: the second comes
+/// no earlier than the cooldown after the first, at most the greatest moment, also where its record
+/// was deleted and made again in between. Moments may go back.
 pub fn grants_are_spaced<C: PublicKey>()
     ensures { (s : Setup C C.Signature) → s.cmp ≡ C.cmp →
-        (p : C) (cs : List (Call C C.Signature)) → KeepsCooldown s p (past s cs) }
+        (p : C) (cs : List (Call C C.Signature)) → KeepsCooldownUnlessForgotten s p (past s cs) }
+{}
+
+/// Where the moments of the calls never go back, two consecutive grants of a peer are at least the
+/// cooldown apart, at most the greatest moment, whatever was forgotten and also where its record was
+/// deleted and made again in between.
+pub fn cooldown_lasts<C: PublicKey>()
+    ensures { (s : Setup C C.Signature) → s.cmp ≡ C.cmp →
+        (p : C) (cs : List (Call C C.Signature)) (now : ℕ) → NeverGoBack s now cs →
+        KeepsCooldown s p (past s cs) }
 {}
 
 /// Where the moments of the calls never go back, a peer whose block was taken is granted by no
@@ -195,17 +211,21 @@ pub fn dialable_is_quiet<C: PublicKey>()
         IsDialable s w t ps next → IsDialable s w t qs after → (ps ≡ qs) × (next ≡ after) }
 {}
 
-/// Spacing and blocks by the replies to a run from its start. Each grant of a peer, for a dial or
-/// for a peer that comes, is no earlier than the cooldown after each grant before it, at most the
-/// greatest moment, unless the peer was absent in between. Moments may go back. Where the moments
-/// of the commands that may grant, block or end a block never go back, whatever they were replied,
-/// a peer whose block was taken is granted by no later command before the block's end, at most the
-/// greatest moment. Of any moments, each grant and each further block of a peer comes no earlier
-/// than the end of its last block that no accepted `UnblockExpired` has ended.
+/// Spacing and blocks by the replies to a run from its start. Of two consecutive grants of a peer,
+/// for a dial or for a peer that comes, the later is no earlier than the cooldown after the first,
+/// at most the greatest moment, where the first isn't forgotten in between, and also, whatever was
+/// forgotten, where the moments of the commands that may grant, block, end a block or forget never
+/// go back; across deletion and rebirth of its record. Where these moments never go back, whatever
+/// the commands were replied, a peer whose block was taken is granted by no later command before the
+/// block's end, at most the greatest moment. Of any moments, each grant and each further block of a
+/// peer comes no earlier than the end of its last block that no accepted `UnblockExpired` has ended.
 pub fn grants_of_a_run<C: PublicKey>()
     ensures spaced { (s : Setup C C.Signature) → s.cmp ≡ C.cmp →
         (p : C) (cs : List (Call C C.Signature)) (rs : List (Reply C C.Signature)) →
-        AreAnswers s [] cs rs → KeepCooldown s p [] [] cs rs }
+        AreAnswers s [] cs rs → KeepCooldownUnlessForgotten s p None cs rs }
+    ensures lasting { (s : Setup C C.Signature) → s.cmp ≡ C.cmp →
+        (p : C) (cs : List (Call C C.Signature)) (rs : List (Reply C C.Signature)) →
+        AreAnswers s [] cs rs → KeepCooldown s p 0 None cs rs }
     ensures blocked { (s : Setup C C.Signature) → s.cmp ≡ C.cmp →
         (p : C) (cs : List (Call C C.Signature)) (rs : List (Reply C C.Signature)) →
         AreAnswers s [] cs rs → KeepBlocks s p 0 [] cs rs }

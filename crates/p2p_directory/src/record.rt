@@ -2,13 +2,14 @@
 
 ghost use Rattle.std.specs.Prelude.{◌≡◌, ◌+◌, ◌-◌, ◌<◌, ◌^◌, [], false, not, true};
 ghost use Rattle.std.specs.Prelude.{IfOk, IfSome, IsOk, None};
-ghost use Rattle.std.specs.Option.{option_copied};
+ghost use Rattle.std.specs.Option.{option_copied, option_map};
 ghost use Rattle.std.specs.Duration.{as_nanos};
 ghost use Rattle.p2p_discovery.specs.Ingress.{takes_none};
 ghost use Rattle.p2p_directory.specs.Moments.{cap, jitter};
 ghost use Rattle.p2p_directory.specs.History.{is_inert, is_reserved};
 ghost use Rattle.p2p_directory.specs.Record.{new_record, reserve_answer, record_after_asking};
-ghost use Rattle.p2p_directory.specs.Record.{reserved_record};
+ghost use Rattle.p2p_directory.specs.Record.{reserved_record, moments_after, fresh};
+ghost use Rattle.p2p_directory.specs.Cooldowns.{cooldown_view};
 ghost use Rattle.p2p_directory.specs.Record.{is_eligible, is_deletable, needs_teardown};
 ghost use Rattle.p2p_directory.specs.Record.{is_outbound_target};
 ghost use Rattle.p2p_directory.specs.Record.{after_failure, after_success, is_myself};
@@ -168,6 +169,17 @@ impl<C: PublicKey> Record<C> {
         }
     }
 
+    // The record of a peer of which nothing is known but these moments of its cooldown, if any.
+    pub(crate) fn cooled(cooldown: Option<(Duration, Duration)>) -> Self
+        ensures { result ≡ fresh (option_map cooldown_view cooldown) }
+    {
+        let mut record = Record::unknown();
+        if let Some((reservable, dial)) = cooldown {
+            record.set_cooldown(reservable, dial);
+        }
+        record
+    }
+
     /// Takes a peer's info, and answers whether it was taken: of the local node never, where no
     /// info is known always, else where the timestamp is above that of the known one. An info that
     /// is taken has not failed yet. Keys are not compared, and nothing else changes.
@@ -275,9 +287,9 @@ impl<C: PublicKey> Record<C> {
         ensures { self.new ≡
             reserved_record (as_nanos now) (as_nanos draw) (as_nanos interval) self.old }
     {
+        let (reservable, dial) = next_moments(now, draw, interval);
         self.status = Status::Reserved;
-        self.next_reservable_at = now.saturating_add(interval);
-        self.next_dial_at = jittered(self.next_reservable_at, draw, interval);
+        self.set_cooldown(reservable, dial);
     }
 
     /// Connects the peer: it is active.
@@ -508,12 +520,47 @@ impl<C: PublicKey> Record<C> {
         self.status
     }
 
+    /// From when the peer may be reserved again, and from when it may be dialled again: durations
+    /// since the epoch.
+    pub fn cooldown(&self) -> (Duration, Duration)
+        ensures reservable { as_nanos result.0 ≡ self.now.next_reservable_at }
+        ensures dial { as_nanos result.1 ≡ self.now.next_dial_at }
+    {
+        (self.next_reservable_at, self.next_dial_at)
+    }
+
+    /// From when the peer may be reserved again, and from when it may be dialled again, is set:
+    /// durations since the epoch. Nothing else changes.
+    pub fn set_cooldown(&mut self, reservable: Duration, dial: Duration)
+        ensures { self.new ≡ record self.old {
+          next_reservable_at = as_nanos reservable;
+          next_dial_at = as_nanos dial;
+        } }
+    {
+        self.next_reservable_at = reservable;
+        self.next_dial_at = dial;
+    }
+
     /// What is known of the peer's address.
     pub fn address(&self) -> &Address<C>
         ensures { result.now ≡ self.now.address }
     {
         &self.address
     }
+}
+
+/// From when a peer may be reserved again, and from when it may be dialled again, after a grant at
+/// the moment `now`.
+pub(crate) fn next_moments(
+    now: Duration,
+    draw: Duration,
+    interval: Duration,
+) -> (Duration, Duration)
+    ensures { cooldown_view result ≡
+        moments_after (as_nanos now) (as_nanos draw) (as_nanos interval) }
+{
+    let reservable = now.saturating_add(interval);
+    (reservable, jittered(reservable, draw, interval))
 }
 
 // The moment with the jitter added.

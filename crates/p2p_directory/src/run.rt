@@ -11,7 +11,8 @@ ghost use Rattle.p2p_directory.specs.Nodes.{may_reserve};
 ghost use Rattle.p2p_directory.specs.Refinement.{Refines};
 ghost use Rattle.p2p_directory.specs.Run.{setup_of, call_of, calls_of, world_left, AreAnswers};
 ghost use Rattle.p2p_directory.specs.Run.{bit_vec_in, Holds};
-ghost use Rattle.p2p_directory.specs.Laws.GrantRuns.{KeepCooldown, KeepBlocks};
+ghost use Rattle.p2p_directory.specs.Laws.GrantRuns.{KeepCooldownUnlessForgotten, KeepCooldown};
+ghost use Rattle.p2p_directory.specs.Laws.GrantRuns.{KeepBlocks};
 ghost use Rattle.p2p_directory.specs.Laws.BlockRuns.{KeepLastBlock};
 ghost use Rattle.p2p_directory.specs.Laws.DialRuns.{KeepDialable};
 ghost use Rattle.p2p_directory.specs.Laws.IsolationRuns.{KeepAlone};
@@ -40,8 +41,8 @@ pub(crate) mod slots;
 /// given.
 ///
 /// Room for all replies and all reservations is taken before the first command, so only these may
-/// be replied `OutOfMemory`: a `Track` whose set and a `Block` that would be taken, a `Dial` that
-/// would be granted, an `Info` of a peer whose info may be told, an `Infos` where an info is
+/// be replied `OutOfMemory`: a `Track` whose set and a `Block` that would be taken, a `Dial` and a
+/// `Listen` that would be granted, an `Info` of a peer whose info may be told, an `Infos` where an info is
 /// shared, a `GetRandomBitVec` of a place that there is, a `GetPeerSet` of a set with a peer,
 /// `LatestUpdate` and `All` where some retained set has a peer, and `BlockedPeers` and `Dialable`
 /// where somebody is listed.
@@ -50,14 +51,15 @@ pub(crate) mod slots;
 /// moment and a duration make at most the greatest `Duration`.
 ///
 /// - Cooldown: each grant of a peer, for a `Dial` or a `Listen`, comes no earlier than
-///   `peer_connection_cooldown` after each grant of it before, unless there was no record of the
-///   peer in between. Moments may go back.
-/// - Blocks: as long as the moments of all `Dial`, `Listen`, `Block` and `UnblockExpired` never go
-///   back, whatever these are replied, a peer whose block was taken is granted by no later command
-///   before the block's end, `block_duration` after its moment, also where there was no record of
-///   the peer in between. Whether moments go back or not, each grant of a peer, and each further
-///   block, comes no earlier than the end of its last block, unless an `UnblockExpired` at that end
-///   or later came in between.
+///   `peer_connection_cooldown` after the grant of it before, also where there was no record of the
+///   peer in between. So it is where no `ForgetCooled` between the two comes at or after the dial
+///   moment of the first, and also, whatever was forgotten, as long as the moments of all `Dial`,
+///   `Listen`, `Block`, `UnblockExpired` and `ForgetCooled` never go back.
+/// - Blocks: as long as these moments never go back, whatever the commands are replied, a peer whose
+///   block was taken is granted by no later command before the block's end, `block_duration` after
+///   its moment, also where there was no record of the peer in between. Whether moments go back or
+///   not, each grant of a peer, and each further block, comes no earlier than the end of its last
+///   block, unless an `UnblockExpired` at that end or later came in between.
 /// - Dials: directly after a reply to `Dialable` at a moment, `Dial` commands at that moment of the
 ///   peers that it lists, each once, one after the other and in any order, are all granted, unless
 ///   replied `OutOfMemory`.
@@ -110,8 +112,11 @@ pub fn run<C: PublicKey>(
     ensures held { IfOk result (λ run. let s = setup_of C.cmp bootstrappers.items myself cfg in
         Holds s (world_left s (calls_of commands.items) run.replies.items)
         (held_of C.cmp run.held)) }
-    ensures cooldown { IfOk result (λ run. let s = setup_of C.cmp bootstrappers.items myself cfg in
-        (p : C) → KeepCooldown s p [] [] (calls_of commands.items) run.replies.items) }
+    ensures spaced { IfOk result (λ run. let s = setup_of C.cmp bootstrappers.items myself cfg in
+        (p : C) →
+        KeepCooldownUnlessForgotten s p None (calls_of commands.items) run.replies.items) }
+    ensures lasting { IfOk result (λ run. let s = setup_of C.cmp bootstrappers.items myself cfg in
+        (p : C) → KeepCooldown s p 0 None (calls_of commands.items) run.replies.items) }
     ensures blocks { IfOk result (λ run. let s = setup_of C.cmp bootstrappers.items myself cfg in
         (p : C) → KeepBlocks s p 0 [] (calls_of commands.items) run.replies.items) }
     ensures last_block { IfOk result (λ run. let s = setup_of C.cmp bootstrappers.items myself cfg in

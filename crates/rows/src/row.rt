@@ -112,6 +112,7 @@ pub fn run_rows<W: Write>(alloc: Global, words: &[String], out: &mut W) -> u8
         "21" => sizes::sizes(out),
         "22" => addresses::valid_addresses(alloc, out),
         "23" => judged::judged_infos(alloc, out),
+        "24" => directory::forgotten_cooldown(alloc, out),
         _ => return no_such_row(out),
     };
     status_after(ended, out)

@@ -13,7 +13,7 @@ use Rattle.p2p_directory.specs.declared.record.Status.TheVariants.{Inert, Reserv
 use Rattle.p2p_directory.specs.Calls.Direction.{Dialer}
 use Rattle.p2p_discovery.specs.declared.types.ingress.Ingress.{Ingress}
 use Rattle.p2p_directory.specs.History
-use Rattle.p2p_directory.specs.World.{world_at, event_in, past_after}
+use Rattle.p2p_directory.specs.World.{world_at, event_in, past_after, reservable_from, dialable_from}
 use Rattle.p2p_directory.specs.Answers.{was_granted, was_taken, was_blocked, status_in, may_connect, may_release, is_torn_down, is_tracked, set_with_index, is_primary_in, is_secondary_in, bits_at, is_dialable, query_moment, sharable_info, infos_for, is_eligible_at, is_acceptable_at, granted_direction, is_blocked_at}
 use Rattle.p2p_directory.proofs.Definitions.Setting.{sec, info_at, info, own, setup, after_calls, track, listen, dial, update}
 
@@ -56,10 +56,10 @@ abbrev known_info : Setup ℕ ℕ → List (Event ℕ ℕ) → ℕ → Option (I
 known_info s h p = ((world_at s h).peer p).known.info
 
 abbrev dial_moment : Setup ℕ ℕ → List (Event ℕ ℕ) → ℕ → ℕ
-dial_moment s h p = ((world_at s h).peer p).known.dial_at
+dial_moment s h p = dialable_from ((world_at s h).cooldown p)
 
 abbrev reservable : Setup ℕ ℕ → List (Event ℕ ℕ) → ℕ → ℕ
-reservable s h p = ((world_at s h).peer p).known.reservable_at
+reservable s h p = reservable_from ((world_at s h).cooldown p)
 
 -- C1 the own key in a set
 abbrev c1 : List (Event ℕ ℕ)
@@ -142,7 +142,7 @@ corner3 :
 unfolding History.life is_valid
 corner3 = (refl, refl, refl, refl, refl, refl, refl, refl, refl, refl, refl, refl)
 
--- C4 the ends of a life
+-- the ends of a life
 abbrev c4_a : List (Event ℕ ℕ)
 c4_a = at (update 1 1000 ∷ track 0 (1 ∷ []) ∷ [])
 
@@ -169,12 +169,13 @@ corner4 :
     × (status_in setup (world_at setup c4_d) 1 ≡ Some Reserved)
     × (is_eligible_at setup (world_at setup c4_d) 1 (sec 100) ≡ false)
     × (known_info setup c4_e 1 ≡ None)
-    × (granted setup c4_e (listen 1 105) ≡ true)
+    × (granted setup c4_e (listen 1 105) ≡ false)
+    × (granted setup c4_e (listen 1 110) ≡ true)
     × (known_info setup c4_f 1 ≡ Some (info 1 2000))
     × (granted setup c4_f (listen 1 105) ≡ false)
     × (granted setup c4_f (listen 1 110) ≡ true)
 unfolding History.life is_valid
-corner4 = (refl, refl, refl, refl, refl, refl, refl, refl, refl, refl, refl)
+corner4 = (refl, refl, refl, refl, refl, refl, refl, refl, refl, refl, refl, refl)
 
 -- C5 failures
 abbrev c5_0 : List (Event ℕ ℕ)

@@ -40,7 +40,8 @@ blocks s h c = was_blocked (did s h c)
 abbrev torn : Setup ℕ ℕ → List (Event ℕ ℕ) → Call ℕ ℕ → List ℕ
 torn s h c = those (is_torn_down s (world_at s h) (world_at s (past_after s h c)))
 
--- ROW 6: a set that leaves tears down its peer, whose record goes at the release
+-- ROW 6: a set that leaves tears down its peer, whose record goes at the release, and its cooldown
+-- stays
 
 abbrev row6_a : List (Event ℕ ℕ)
 row6_a = after_calls setup [] (track 0 (1 ∷ []) ∷ [])
@@ -68,7 +69,7 @@ row6 :
     × (status_in setup (world_at setup row6_d) 1 ≡ None)
     × (taken setup row6_d (track 2 (1 ∷ [])) ≡ true)
     × (torn setup row6_d (track 2 (1 ∷ [])) ≡ [])
-    × (granted setup row6_e (listen 1 105) ≡ true)
+    × (granted setup row6_e (listen 1 105) ≡ false)
 unfolding History.life
 row6 = (refl, refl, refl, refl, refl, refl, refl, refl, refl, refl, refl)
 
@@ -83,7 +84,7 @@ row7 :
 unfolding History.life
 row7 = (refl, refl)
 
--- ROW 8: the cooldown, and that a deletion forgets it
+-- ROW 8: the cooldown, and that a deletion leaves it
 
 abbrev row8_a : List (Event ℕ ℕ)
 row8_a = after_calls setup [] (track 0 (1 ∷ []) ∷ listen 1 100 ∷ Release 1 ∷ [])
@@ -94,7 +95,7 @@ row8_b = after_calls setup row8_a (listen 1 110 ∷ Release 1 ∷ track 1 (2 ∷
 row8 :
     (granted setup row8_a (Listen 1 109_999_999_999 0) ≡ false)
     × (granted setup row8_a (listen 1 110) ≡ true)
-    × (granted setup row8_b (listen 1 111) ≡ true)
+    × (granted setup row8_b (listen 1 111) ≡ false)
 unfolding History.life
 row8 = (refl, refl, refl)
 

@@ -6,11 +6,10 @@ use Rattle.std.proofs.lemmas.List.Sums.{sum_by-cons}
 use Rattle.std.proofs.lemmas.Bool.{ltb-true, ltb-false, lt-ltb, le-ltb}
 use Rattle.p2p_discovery.specs.declared.discovery.Info.{Info}
 use Rattle.p2p_discovery.specs.declared.types.ingress.Ingress.{Ingress}
-use Rattle.p2p_directory.specs.Calls.{Setup, Direction, Grant, Event}
-use Rattle.p2p_directory.specs.Calls.Event.{Nothing, Tracked, Granted, Connected, Released, Updated, Blocked, Expired}
-use Rattle.p2p_directory.specs.Moments.{cap, jitter}
+use Rattle.p2p_directory.specs.Calls.{Setup, Direction, Event}
+use Rattle.p2p_directory.specs.Calls.Event.{Nothing, Tracked, Granted, Connected, Released, Updated, Blocked, Expired, Forgot}
 use Rattle.p2p_directory.specs.History
-use Rattle.p2p_directory.specs.History.{last_of, last_with, found_with}
+use Rattle.p2p_directory.specs.History.{last_of}
 use Rattle.p2p_directory.specs.World
 use Rattle.p2p_directory.specs.Step
 use Rattle.p2p_directory.specs.World.{Known, Peer, World}
@@ -104,16 +103,16 @@ module _ {C S : Type 0} (s : Setup C S) where
 
   -- ONE INFO AFTER ANOTHER
 
-  known_path : {a b : Option (Info C S)} {c d e f g h : ℕ} → a ≡ b → c ≡ d → e ≡ f → g ≡ h →
-      ◌≡◌ {A = Known C S} (record { info = a; fails = c; reservable_at = e; dial_at = g }) (record { info = b; fails = d; reservable_at = f; dial_at = h })
-  known_path p q r t = λ i. record { info = p i; fails = q i; reservable_at = r i; dial_at = t i }
+  known_path : {a b : Option (Info C S)} {c d : ℕ} → a ≡ b → c ≡ d →
+      ◌≡◌ {A = Known C S} (record { info = a; fails = c }) (record { info = b; fails = d })
+  known_path p q = λ i. record { info = p i; fails = q i }
 
   -- what is known after the best of some infos came
   abbrev pub with_best : Known C S → Option (Info C S) → Known C S
-  with_best k x = record { info = later k.info x; fails = if History.is_newer k.info x then 0 else k.fails; reservable_at = k.reservable_at; dial_at = k.dial_at }
+  with_best k x = record { info = later k.info x; fails = if History.is_newer k.info x then 0 else k.fails }
 
   pub with_best_none : (k : Known C S) → with_best k None ≡ k
-  with_best_none k = known_path (later_none k.info) (go k.info) refl refl
+  with_best_none k = known_path (later_none k.info) (go k.info)
     where
       go : (o : Option (Info C S)) → (if History.is_newer o None then 0 else k.fails) ≡ k.fails
       go None = refl
@@ -127,15 +126,14 @@ module _ {C S : Type 0} (s : Setup C S) where
   with_best_twice k x y = known_path
       (later_assoc k.info x y)
       (either (History.is_newer (later k.info x) y) (History.is_newer k.info x) k.fails ∙ ap (λ b. if b then 0 else k.fails) (sym (newer_chain k.info x y)))
-      refl refl
 
   updated_with_best : (k : Known C S) (i : Info C S) (o : Option (Info C S)) → k.info ≡ o → Step.known_with_info s k i o ≡ with_best k (Some i)
-  updated_with_best k i None e = known_path (sym (ap (λ x. later x (Some i)) e)) (sym (ap (λ x. if History.is_newer x (Some i) then 0 else k.fails) e)) refl refl
+  updated_with_best k i None e = known_path (sym (ap (λ x. later x (Some i)) e)) (sym (ap (λ x. if History.is_newer x (Some i) then 0 else k.fails) e))
   updated_with_best k i (Some j) e = go (nat_lt j.timestamp i.timestamp) refl
     where
       go : (b : Bool) → nat_lt j.timestamp i.timestamp ≡ b → (if b then record k { info = Some i; fails = 0 } else k) ≡ with_best k (Some i)
-      go true f = sym (known_path (ap (λ x. later x (Some i)) e ∙ ap (λ b. if b then Some i else Some j) f) (ap (λ x. if History.is_newer x (Some i) then 0 else k.fails) e ∙ ap (λ b. if b then 0 else k.fails) f) refl refl)
-      go false f = sym (known_path (ap (λ x. later x (Some i)) e ∙ ap (λ b. if b then Some i else Some j) f ∙ sym e) (ap (λ x. if History.is_newer x (Some i) then 0 else k.fails) e ∙ ap (λ b. if b then 0 else k.fails) f) refl refl)
+      go true f = sym (known_path (ap (λ x. later x (Some i)) e ∙ ap (λ b. if b then Some i else Some j) f) (ap (λ x. if History.is_newer x (Some i) then 0 else k.fails) e ∙ ap (λ b. if b then 0 else k.fails) f))
+      go false f = sym (known_path (ap (λ x. later x (Some i)) e ∙ ap (λ b. if b then Some i else Some j) f ∙ sym e) (ap (λ x. if History.is_newer x (Some i) then 0 else k.fails) e ∙ ap (λ b. if b then 0 else k.fails) f))
 
   -- updated one by one, the best of them all is what comes
   pub updated_all_with_best : (k : Known C S) (is : List (Info C S)) → Step.known_with_infos s k is ≡ with_best k (History.first_greatest is)
@@ -196,14 +194,6 @@ module _ {C S : Type 0} (s : Setup C S) where
       ap (λ is. if History.is_own s p then Some s.own else History.first_greatest (History.infos_in s p l ++ is)) none
       ∙ ap (λ is. if History.is_own s p then Some s.own else History.first_greatest is) (append-nil (History.infos_in s p l))
 
-  pub reservable_other : (e : Event C S) (found : Option (Grant × List (Event C S))) → History.reservable_after s (found_with None e found) ≡ History.reservable_after s found
-  reservable_other e None = refl
-  reservable_other e (Some found) = refl
-
-  pub dial_other : (e : Event C S) (found : Option (Grant × List (Event C S))) → History.dial_after s (found_with None e found) ≡ History.dial_after s found
-  dial_other e None = refl
-  dial_other e (Some found) = refl
-
   -- an event that is no release
   no_failure : (p : C) (e : Event C S) → ((a : Ingress) → History.is_failure s p a e ≡ false) → (o : Option (Info C S)) → one_failure p o e ≡ 0
   no_failure p e none None = refl
@@ -217,15 +207,12 @@ module _ {C S : Type 0} (s : Setup C S) where
       ∙ ap (λ n. if History.connects_as_dialer s p e then 0 else n) (zero-add (History.fails_in s p l))
 
   -- an event that says nothing of p
-  nothing_known : (p : C) (e : Event C S) (l : List (Event C S)) → History.infos_by s p e ≡ [] → ((a : Ingress) → History.is_failure s p a e ≡ false) → History.connects_as_dialer s p e ≡ false → History.grant_by s p e ≡ None →
+  nothing_known : (p : C) (e : Event C S) (l : List (Event C S)) → History.infos_by s p e ≡ [] → ((a : Ingress) → History.is_failure s p a e ≡ false) → History.connects_as_dialer s p e ≡ false →
       World.known_in s p (e ∷ l) ≡ World.known_in s p l
-  nothing_known p e l no_info none no_dial no_grant =
+  nothing_known p e l no_info none no_dial =
       let same = info_quiet p e l no_info in
-      let o = last_with (History.grant_by s p) l in
       known_path same
       (fails_same p e l same none ∙ ap (λ b. if b then 0 else History.fails_in s p l) no_dial)
-      (ap (λ g. History.reservable_after s (found_with g e o)) no_grant ∙ reservable_other e o)
-      (ap (λ g. History.dial_after s (found_with g e o)) no_grant ∙ dial_other e o)
 
   fails_by_best : (p : C) (e : Event C S) (l : List (Event C S)) (x : Option (Info C S)) → ((a : Ingress) → History.is_failure s p a e ≡ false) → (b : Bool) → History.is_newer (History.info_in s p l) x ≡ b →
       (if History.is_newer (History.info_in s p l) (later (History.info_in s p l) x) || false then 0
@@ -252,36 +239,15 @@ module _ {C S : Type 0} (s : Setup C S) where
       World.known_in s p (Updated infos ∷ l) ≡ (if own then World.known_in s p l else Step.known_with_infos s (World.known_in s p l) (filter (λ i. History.same s i.public_key p) infos))
   known_updated p infos l true own =
       let same : History.info_in s p (Updated infos ∷ l) ≡ History.info_in s p l = info_own p (Updated infos ∷ l) own ∙ sym (info_own p l own) in
-      known_path same (fails_same p (Updated infos) l same (λ a. refl)) (reservable_other (Updated infos) (last_with (History.grant_by s p) l)) (dial_other (Updated infos) (last_with (History.grant_by s p) l))
+      known_path same (fails_same p (Updated infos) l same (λ a. refl))
   known_updated p infos l false other =
       known_path (info_updated p infos l other)
       (fails_updated p infos l other)
-      (reservable_other (Updated infos) (last_with (History.grant_by s p) l)) (dial_other (Updated infos) (last_with (History.grant_by s p) l))
       ∙ sym (updated_all_with_best (World.known_in s p l) (filter (λ i. History.same s i.public_key p) infos))
-
-  known_granted : (p q : C) (grant : Grant) (l : List (Event C S)) → World.known_in s p (Granted q grant ∷ l) ≡ Step.known_after s p (Granted q grant) (World.known_in s p l)
-  known_granted p q grant l = go (History.same s q p)
-    where
-      same : History.info_in s p (Granted q grant ∷ l) ≡ History.info_in s p l
-      same = info_quiet p (Granted q grant) l refl
-
-      go : (b : Bool) →
-          ◌≡◌ {A = Known C S} (record {
-            info = History.info_in s p (Granted q grant ∷ l);
-            fails = History.fails_in s p (Granted q grant ∷ l);
-            reservable_at = History.reservable_after s (found_with (if b then Some grant else None) (Granted q grant) (last_with (History.grant_by s p) l));
-            dial_at = History.dial_after s (found_with (if b then Some grant else None) (Granted q grant) (last_with (History.grant_by s p) l));
-          })
-          (if b
-          then record (World.known_in s p l) { reservable_at = cap (grant.t + s.cooldown); dial_at = cap (cap (grant.t + s.cooldown) + jitter grant.draw s.cooldown) }
-          else World.known_in s p l)
-      go true = known_path same (fails_same p (Granted q grant) l same (λ a. refl)) refl refl
-      go false = known_path same (fails_same p (Granted q grant) l same (λ a. refl))
-          (reservable_other (Granted q grant) (last_with (History.grant_by s p) l)) (dial_other (Granted q grant) (last_with (History.grant_by s p) l))
 
   known_connected : (p q : C) (dialer : Bool) (l : List (Event C S)) → World.known_in s p (Connected q dialer ∷ l) ≡ Step.known_after s p (Connected q dialer) (World.known_in s p l)
   known_connected p q dialer l =
-      known_path same (fails_same p (Connected q dialer) l same (λ a. refl)) (reservable_other (Connected q dialer) (last_with (History.grant_by s p) l)) (dial_other (Connected q dialer) (last_with (History.grant_by s p) l))
+      known_path same (fails_same p (Connected q dialer) l same (λ a. refl))
       ∙ go (History.same s q p && dialer)
     where
       same : History.info_in s p (Connected q dialer ∷ l) ≡ History.info_in s p l
@@ -299,17 +265,17 @@ module _ {C S : Type 0} (s : Setup C S) where
   failure_counts p q direction k None n e f = go (History.same s q p)
     where
       go : (b : Bool) → ◌≡◌ {A = Known C S} (record k { fails = 0 + n }) (if b && false then record k { fails = suc k.fails } else k)
-      go true = known_path refl ((zero-add n) ∙ sym f) refl refl
-      go false = known_path refl ((zero-add n) ∙ sym f) refl refl
+      go true = known_path refl ((zero-add n) ∙ sym f)
+      go false = known_path refl ((zero-add n) ∙ sym f)
   failure_counts p q direction k (Some i) n e f = go (History.same s q p && History.is_dial_at i.ingress direction)
     where
       go : (b : Bool) → ◌≡◌ {A = Known C S} (record k { fails = cond b 1 0 + n }) (if b then record k { fails = suc k.fails } else k)
-      go true = known_path refl (omega arith) refl refl
-      go false = known_path refl ((zero-add n) ∙ sym f) refl refl
+      go true = known_path refl (omega arith)
+      go false = known_path refl ((zero-add n) ∙ sym f)
 
   known_released : (p q : C) (direction : Direction) (l : List (Event C S)) → World.known_in s p (Released q direction ∷ l) ≡ Step.known_after s p (Released q direction) (World.known_in s p l)
   known_released p q direction l =
-      known_path same (fails_quiet p (Released q direction) l same) (reservable_other (Released q direction) (last_with (History.grant_by s p) l)) (dial_other (Released q direction) (last_with (History.grant_by s p) l))
+      known_path same (fails_quiet p (Released q direction) l same)
       ∙ failure_counts p q direction (World.known_in s p l) (History.info_in s p l) (History.fails_in s p l) refl refl
     where
       same : History.info_in s p (Released q direction ∷ l) ≡ History.info_in s p l
@@ -317,17 +283,18 @@ module _ {C S : Type 0} (s : Setup C S) where
 
   pub known_step : (p : C) (e : Event C S) (l : List (Event C S)) → World.known_in s p (e ∷ l) ≡ Step.known_after s p e (World.known_in s p l)
   known_step p (Updated infos) l = known_updated p infos l (History.is_own s p) refl
-  known_step p (Granted q grant) l = known_granted p q grant l
+  known_step p (Granted q grant) l = nothing_known p (Granted q grant) l refl (λ a. refl) refl
   known_step p (Connected q dialer) l = known_connected p q dialer l
   known_step p (Released q direction) l = known_released p q direction l
-  known_step p Nothing l = nothing_known p Nothing l refl (λ a. refl) refl refl
-  known_step p (Tracked taken) l = nothing_known p (Tracked taken) l refl (λ a. refl) refl refl
-  known_step p (Blocked q t) l = nothing_known p (Blocked q t) l refl (λ a. refl) refl refl
-  known_step p (Expired t) l = nothing_known p (Expired t) l refl (λ a. refl) refl refl
+  known_step p Nothing l = nothing_known p Nothing l refl (λ a. refl) refl
+  known_step p (Tracked taken) l = nothing_known p (Tracked taken) l refl (λ a. refl) refl
+  known_step p (Blocked q t) l = nothing_known p (Blocked q t) l refl (λ a. refl) refl
+  known_step p (Expired t) l = nothing_known p (Expired t) l refl (λ a. refl) refl
+  known_step p (Forgot t) l = nothing_known p (Forgot t) l refl (λ a. refl) refl
 
   -- what is known of a peer with no life
   pub known_nothing : (p : C) → World.known_in s p [] ≡ Step.new_known s p
-  known_nothing p = known_path refl (failures_none p (History.info_in s p [])) refl refl
+  known_nothing p = known_path refl (failures_none p (History.info_in s p []))
 
   -- a life goes on or is emptied
   pub known_life : (p : C) (e : Event C S) (h : List (Event C S)) → World.known_in s p (History.life s p (e ∷ h))

@@ -8,7 +8,7 @@ use Rattle.std.proofs.lemmas.Bool.{ltb-true, lt-ltb, and_parts, and_from}
 use Rattle.p2p_discovery.specs.declared.types.ingress.Ingress.{Ingress}
 use Rattle.p2p_directory.specs.declared.record.Status.{Status}
 use Rattle.p2p_directory.specs.Calls.{Setup, Call, SetAt, Grant, Event}
-use Rattle.p2p_directory.specs.Calls.Call.{Track, Dial, Listen, Connect, Release, Update, Block, UnblockExpired, Ask}
+use Rattle.p2p_directory.specs.Calls.Call.{Track, Dial, Listen, Connect, Release, Update, Block, UnblockExpired, ForgetCooled, Ask}
 use Rattle.p2p_directory.specs.declared.record.Status.TheVariants.{Inert, Reserved, Active}
 use Rattle.p2p_directory.specs.Calls.Event.{Nothing, Tracked, Blocked}
 use Rattle.p2p_directory.specs.History
@@ -100,6 +100,7 @@ module _ {C S : Type 0} (s : Setup C S) where
       go true = refl
       go false = refl
   decided_step xs w (UnblockExpired t) d = decided_same xs d
+  decided_step xs w (ForgetCooled t) d = decided_same xs d
   decided_step xs w (Ask question) d = decided_same xs d
 
   pub decided_past : (cs : List (Call C S)) → Decided (History.taken_sets s (World.past s cs))
@@ -123,6 +124,7 @@ module _ {C S : Type 0} (s : Setup C S) where
   does_same cs (Update infos) some = refl
   does_same cs (Block p t) some = refl
   does_same cs (UnblockExpired t) some = refl
+  does_same cs (ForgetCooled t) some = refl
   does_same cs (Ask question) some = refl
 
   -- ONE EVENT, ANY PAST
@@ -142,6 +144,7 @@ module _ {C S : Type 0} (s : Setup C S) where
       sets = Steps.retained_step s e h i;
       peer = λ p. peer_step p e h i;
       unblock = λ p. Steps.unblock_step s p e h i;
+      cooldown = λ p. Steps.cooldown_step s p e h i;
     };
     held = λ p. Steps.held_step s p e h i;
   }

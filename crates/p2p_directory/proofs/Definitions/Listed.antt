@@ -7,7 +7,7 @@ use Rattle.p2p_directory.proofs.Definitions.Members
 use Rattle.p2p_directory.specs.Calls.{Setup}
 use Rattle.p2p_directory.specs.History.{is_in, IsExact}
 use Rattle.p2p_directory.specs.World.{World}
-use Rattle.p2p_directory.specs.Answers.{IsNumberTracked, is_tracked}
+use Rattle.p2p_directory.specs.Answers.{IsNumberTracked, is_tracked, IsNumberCooled, is_cooled_at}
 use Rattle.p2p_directory.specs.Lists.{Lists, IsLeastOf, Somebody}
 use Rattle.p2p_directory.specs.Laws.Dials.{IsBefore}
 use Rattle.std.specs.declared.cmp.Ordering.{Ordering}
@@ -48,3 +48,6 @@ module _ {C S : Type 0} (s : Setup C S) (total : IsTotalOrder s.cmp) (exact : Is
   -- and so is a number of keys
   pub one_number : (w : World C S) (m n : ℕ) → IsNumberTracked s w m → IsNumberTracked s w n → m ≡ n
   one_number w m n a b = a.2 ∙ ap length (one_list (is_tracked s w) a.0 b.0 a.1 b.1) ∙ sym b.2
+
+  pub one_number_cooled : (w : World C S) (t m n : ℕ) → IsNumberCooled s w t m → IsNumberCooled s w t n → m ≡ n
+  one_number_cooled w t m n a b = a.2 ∙ ap length (one_list (is_cooled_at s w t) a.0 b.0 a.1 b.1) ∙ sym b.2

@@ -9,13 +9,14 @@ use Rattle.p2p_directory.specs.World.{World}
 use Rattle.p2p_directory.proofs.Definitions.Knowledge
 
 module _ {C S : Type 0} (s : Setup C S) where
-  -- nothing is retained, reserved or blocked, and of each key only what is known of a new peer
+  -- nothing is retained, reserved, blocked or cooling down, and of each key only what is known of a new peer
   abbrev pub new_world : World C S
   new_world = record {
     state = record {
       sets = [];
       peer = λ p. record { status = Inert; known = Step.new_known s p };
       unblock = λ p. None;
+      cooldown = λ p. None;
     };
     held = λ p. None;
   }
@@ -34,6 +35,7 @@ module _ {C S : Type 0} (s : Setup C S) where
       sets = retained_nothing i;
       peer = λ p. record { status = Inert; known = Knowledge.known_nothing s p i };
       unblock = λ p. None;
+      cooldown = λ p. None;
     };
     held = λ p. None;
   }

@@ -1,11 +1,11 @@
 -- What one more event changes of what the past says.
 use Rattle.std.proofs.Common.{◌≡◌, ℕ, ◌+◌, ◌-◌, Bool, true, false, ◌||◌, List, [], ◌∷◌, ◌++◌, length, drop, Option, Some, None, refl, sym, ◌∙◌, ap, arith}
-use Rattle.std.specs.Prelude.{if◌then◌else◌, nat_le}
+use Rattle.std.specs.Prelude.{if◌then◌else◌, nat_le, option_map}
 use Rattle.std.specs.List.{list_any}
 use Rattle.std.proofs.lemmas.List.{append-nil, drop-append-le, drop-drop, length-append, length-drop}
 use Rattle.p2p_directory.specs.Calls.{Setup, Grant, Event}
 use Rattle.p2p_directory.specs.declared.record.Status.TheVariants.{Inert, Reserved, Active}
-use Rattle.p2p_directory.specs.Calls.Event.{Nothing, Tracked, Granted, Connected, Released, Updated, Blocked, Expired}
+use Rattle.p2p_directory.specs.Calls.Event.{Nothing, Tracked, Granted, Connected, Released, Updated, Blocked, Expired, Forgot}
 use Rattle.p2p_directory.specs.Moments.{cap}
 use Rattle.p2p_directory.specs.History
 use Rattle.p2p_directory.specs.History.{last_of, last_with, found_with, last_unless_ended, unless_ended}
@@ -22,7 +22,7 @@ last_of-push {A} n xs y =
 
 -- WHAT LASTS, after one more event
 
-abbrev lasted : {A : Type 0} → Option A → (A → Bool) → Option A → Option A
+abbrev pub lasted : {A : Type 0} → Option A → (A → Bool) → Option A → Option A
 lasted (Some a) ended old = Some a
 lasted None ended None = None
 lasted None ended (Some a) = if ended a then None else Some a
@@ -31,7 +31,7 @@ lasted_none : {A : Type 0} (old : Option A) → lasted None (λ a. false) old �
 lasted_none None = refl
 lasted_none (Some a) = refl
 
-lasting_step : {E A : Type 0} (gives : E → Option A) (ends : A → E → Bool) (e : E) (h : List E) →
+pub lasting_step : {E A : Type 0} (gives : E → Option A) (ends : A → E → Bool) (e : E) (h : List E) →
     last_unless_ended gives ends (e ∷ h) ≡ lasted (gives e) (λ a. ends a e) (last_unless_ended gives ends h)
 lasting_step {E} {A} gives ends e h = go (gives e) (last_with gives h)
   where
@@ -54,6 +54,7 @@ module _ {C S : Type 0} (s : Setup C S) where
   retained_step (Updated infos) h = ap (last_of s.max_sets) (append-nil (History.taken_sets s h))
   retained_step (Blocked q t) h = ap (last_of s.max_sets) (append-nil (History.taken_sets s h))
   retained_step (Expired t) h = ap (last_of s.max_sets) (append-nil (History.taken_sets s h))
+  retained_step (Forgot t) h = ap (last_of s.max_sets) (append-nil (History.taken_sets s h))
 
   -- STATUS
 
@@ -90,6 +91,7 @@ module _ {C S : Type 0} (s : Setup C S) where
   status_step p (Updated infos) h = other_status p (Updated infos) (last_with (History.grant_by s p) h)
   status_step p (Blocked q t) h = other_status p (Blocked q t) (last_with (History.grant_by s p) h)
   status_step p (Expired t) h = other_status p (Expired t) (last_with (History.grant_by s p) h)
+  status_step p (Forgot t) h = other_status p (Forgot t) (last_with (History.grant_by s p) h)
 
   -- WHAT LASTS
 
@@ -115,6 +117,7 @@ module _ {C S : Type 0} (s : Setup C S) where
   held_step p (Updated infos) h = held_step_of p (Updated infos) h ∙ lasted_none (History.held_at s p h)
   held_step p (Blocked q t) h = held_step_of p (Blocked q t) h ∙ lasted_none (History.held_at s p h)
   held_step p (Expired t) h = held_step_of p (Expired t) h ∙ lasted_none (History.held_at s p h)
+  held_step p (Forgot t) h = held_step_of p (Forgot t) h ∙ lasted_none (History.held_at s p h)
 
   unblock_step_of : (p : C) (e : Event C S) (h : List (Event C S)) →
       History.unblock_at s p (e ∷ h) ≡ lasted (History.block_by s p e) (λ m. History.is_expiry s m e) (History.unblock_at s p h)
@@ -137,3 +140,34 @@ module _ {C S : Type 0} (s : Setup C S) where
   unblock_step p (Connected q dialer) h = unblock_step_of p (Connected q dialer) h ∙ lasted_none (History.unblock_at s p h)
   unblock_step p (Released q direction) h = unblock_step_of p (Released q direction) h ∙ lasted_none (History.unblock_at s p h)
   unblock_step p (Updated infos) h = unblock_step_of p (Updated infos) h ∙ lasted_none (History.unblock_at s p h)
+  unblock_step p (Forgot t) h = unblock_step_of p (Forgot t) h ∙ lasted_none (History.unblock_at s p h)
+
+  -- what is kept of the last grant
+  kept_step : (p : C) (e : Event C S) (h : List (Event C S)) →
+      History.cooldown_at s p (e ∷ h) ≡ option_map (History.cooldown_of s) (lasted (History.grant_by s p e) (λ grant. History.is_forgetting s grant e) (last_unless_ended (History.grant_by s p) (History.is_forgetting s) h))
+  kept_step p e h = ap (option_map (History.cooldown_of s)) (lasting_step (History.grant_by s p) (History.is_forgetting s) e h)
+
+  -- an event that is neither a grant of p nor forgets
+  kept_same : (kept : Option Grant) → option_map (History.cooldown_of s) (lasted None (λ g. false) kept) ≡ option_map (History.cooldown_of s) kept
+  kept_same kept = ap (option_map (History.cooldown_of s)) (lasted_none kept)
+
+  pub cooldown_step : (p : C) (e : Event C S) (h : List (Event C S)) → History.cooldown_at s p (e ∷ h) ≡ Step.cooldown_after s p e (History.cooldown_at s p h)
+  cooldown_step p (Granted q grant) h = kept_step p (Granted q grant) h ∙ go (History.same s q p) (last_unless_ended (History.grant_by s p) (History.is_forgetting s) h)
+    where
+      go : (b : Bool) (kept : Option Grant) → option_map (History.cooldown_of s) (lasted (if b then Some grant else None) (λ g. false) kept)
+          ≡ (if b then Some (History.cooldown_of s grant) else option_map (History.cooldown_of s) kept)
+      go true kept = refl
+      go false kept = kept_same kept
+  cooldown_step p (Forgot t) h = kept_step p (Forgot t) h ∙ go (last_unless_ended (History.grant_by s p) (History.is_forgetting s) h)
+    where
+      go : (kept : Option Grant) → option_map (History.cooldown_of s) (lasted None (λ g. nat_le (History.cooldown_of s g).dial_at t) kept)
+          ≡ Step.cooldown_after s p (Forgot t) (option_map (History.cooldown_of s) kept)
+      go None = refl
+      go (Some g) = elim (nat_le (History.cooldown_of s g).dial_at t) as (λ b. option_map (History.cooldown_of s) (if b then None else Some g) ≡ (if b then None else Some (History.cooldown_of s g))) [ true ↦ refl | false ↦ refl ]
+  cooldown_step p Nothing h = kept_step p Nothing h ∙ kept_same (last_unless_ended (History.grant_by s p) (History.is_forgetting s) h)
+  cooldown_step p (Tracked taken) h = kept_step p (Tracked taken) h ∙ kept_same (last_unless_ended (History.grant_by s p) (History.is_forgetting s) h)
+  cooldown_step p (Connected q dialer) h = kept_step p (Connected q dialer) h ∙ kept_same (last_unless_ended (History.grant_by s p) (History.is_forgetting s) h)
+  cooldown_step p (Released q direction) h = kept_step p (Released q direction) h ∙ kept_same (last_unless_ended (History.grant_by s p) (History.is_forgetting s) h)
+  cooldown_step p (Updated infos) h = kept_step p (Updated infos) h ∙ kept_same (last_unless_ended (History.grant_by s p) (History.is_forgetting s) h)
+  cooldown_step p (Blocked q t) h = kept_step p (Blocked q t) h ∙ kept_same (last_unless_ended (History.grant_by s p) (History.is_forgetting s) h)
+  cooldown_step p (Expired t) h = kept_step p (Expired t) h ∙ kept_same (last_unless_ended (History.grant_by s p) (History.is_forgetting s) h)

@@ -8,7 +8,7 @@ use Rattle.p2p_directory.specs.declared.node.exchanged.Exchanged.{Exchanged}
 use Rattle.p2p_directory.specs.declared.node.exchanged.Exchanged.TheVariants as exchanged
 use Rattle.p2p_directory.specs.Calls.{Setup, Call, SetAt}
 use Rattle.p2p_directory.specs.Calls.Call.{Track, Dial, Listen, Connect, Release, Update, Block}
-use Rattle.p2p_directory.specs.Calls.Call.{UnblockExpired, Ask}
+use Rattle.p2p_directory.specs.Calls.Call.{UnblockExpired, ForgetCooled, Ask}
 use Rattle.p2p_directory.specs.History
 use Rattle.p2p_directory.specs.World.{World}
 use Rattle.p2p_directory.specs.Step
@@ -38,6 +38,7 @@ module _ {C S : Type 0} (P Q : Info C S → Type 0) (weaker : (i : Info C S) →
   gives_weaker (Release p) h = tt
   gives_weaker (Block p t) h = tt
   gives_weaker (UnblockExpired t) h = tt
+  gives_weaker (ForgetCooled t) h = tt
   gives_weaker (Ask question) h = tt
 
   pub given_weaker : (s : Setup C S) (cs : List (Call C S)) → Infos.AreGiven s P cs →

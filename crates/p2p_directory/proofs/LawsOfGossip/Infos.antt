@@ -9,9 +9,9 @@ use Rattle.p2p_directory.specs.declared.record.Status.{Status}
 use Rattle.p2p_directory.specs.declared.record.Status.TheVariants.{Inert, Reserved, Active}
 use Rattle.p2p_directory.specs.Calls.{Setup, Call, SetAt, Grant, Event}
 use Rattle.p2p_directory.specs.Calls.Call.{Track, Dial, Listen, Connect, Release, Update, Block}
-use Rattle.p2p_directory.specs.Calls.Call.{UnblockExpired, Ask}
+use Rattle.p2p_directory.specs.Calls.Call.{UnblockExpired, ForgetCooled, Ask}
 use Rattle.p2p_directory.specs.Calls.Event.{Nothing, Tracked, Granted, Connected, Released, Updated}
-use Rattle.p2p_directory.specs.Calls.Event.{Blocked, Expired}
+use Rattle.p2p_directory.specs.Calls.Event.{Blocked, Expired, Forgot}
 use Rattle.p2p_directory.specs.History
 use Rattle.p2p_directory.specs.World
 use Rattle.p2p_directory.specs.World.{World}
@@ -68,6 +68,7 @@ module _ {C S : Type 0} (s : Setup C S) (P : Info C S → Type 0) where
       go true = tt
       go false = tt
   brings_call sets w (UnblockExpired t) h = tt
+  brings_call sets w (ForgetCooled t) h = tt
   brings_call sets w (Ask question) h = tt
 
   pub brings_past : (cs : List (Call C S)) → AllByRecursion (Gives P) cs →
@@ -103,6 +104,7 @@ module _ {C S : Type 0} (s : Setup C S) (P : Info C S → Type 0) where
   of_event p (Released q direction) h = tt
   of_event p (Blocked q t) h = tt
   of_event p (Expired t) h = tt
+  of_event p (Forgot t) h = tt
 
   of_life : (p : C) (l : List (Event C S)) → AllByRecursion Brings l →
       AllByRecursion (IsOf p) (History.infos_in s p l)

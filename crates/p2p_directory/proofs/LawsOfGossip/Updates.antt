@@ -126,6 +126,7 @@ module _ {C S : Type 0} (s : Setup C S) where
       sets = w.sets;
       peer = λ p. record { status = (w.peer p).status; known = same_known p i };
       unblock = λ p. w.unblock p;
+      cooldown = λ p. w.cooldown p;
     };
     held = λ p. w.held p;
   }

@@ -3,13 +3,14 @@ use Rattle.std.proofs.Common.{◌≡◌, ℕ, ◌+◌, ◌≤◌, max, Bool, tru
 use Rattle.std.specs.Prelude.{if◌then◌else◌, nat_le, nat_lt, option_to_list, filter, IfSome}
 use Rattle.std.specs.List.{list_all, AllByRecursion}
 use Rattle.std.specs.Option.{option_map}
+use Rattle.std.specs.Option.{option_map}
 use Rattle.std.proofs.lemmas.Bool.{leb-true, ltb-false, not-true, and_parts}
 use Rattle.p2p_discovery.specs.declared.types.ingress.Ingress.{Ingress}
 use Rattle.p2p_directory.specs.declared.record.Status.{Status}
 use Rattle.p2p_directory.specs.declared.record.Status.TheVariants.{Inert, Reserved, Active}
 use Rattle.p2p_directory.specs.Calls.{Setup, Call, SetAt, Grant, Event}
-use Rattle.p2p_directory.specs.Calls.Call.{Track, Dial, Listen, Connect, Release, Update, Block, UnblockExpired, Ask}
-use Rattle.p2p_directory.specs.Calls.Event.{Nothing, Tracked, Granted, Connected, Released, Updated, Blocked, Expired}
+use Rattle.p2p_directory.specs.Calls.Call.{Track, Dial, Listen, Connect, Release, Update, Block, UnblockExpired, ForgetCooled, Ask}
+use Rattle.p2p_directory.specs.Calls.Event.{Nothing, Tracked, Granted, Connected, Released, Updated, Blocked, Expired, Forgot}
 use Rattle.p2p_directory.specs.Moments.{cap}
 use Rattle.p2p_directory.specs.History
 use Rattle.p2p_directory.specs.World
@@ -25,7 +26,7 @@ use Rattle.p2p_directory.specs.Laws.BlockRuns.{expires_until, expired_by, unless
 use Rattle.p2p_directory.proofs.Definitions.Steps
 use Rattle.p2p_directory.proofs.LawsOfRuns.Spacing
 use Rattle.p2p_directory.proofs.LawsOfRuns.Spacing.{GrantFits, IsFree}
-use Rattle.p2p_directory.proofs.LawsOfRuns.GrantRuns.{told_after, if_accepted, moment_by}
+use Rattle.p2p_directory.proofs.LawsOfRuns.GrantRuns.{told_after, made, if_accepted, moment_by}
 
 module _ {C S : Type 0} (s : Setup C S) where
   -- WHAT A REPLY TELLS OF THE BLOCK THAT IS KEPT
@@ -42,13 +43,13 @@ module _ {C S : Type 0} (s : Setup C S) where
       go : (b : Bool) → expiry_of (if b then Tracked (record { index = index; primary = primary; secondary = filter (λ q. not (History.is_in s q primary)) secondary }) else Nothing) ≡ None
       go true = refl
       go false = refl
-  expiry_in sets w (Dial q t draw) = go (World.may_dial s q t w.sets (w.peer q) (w.unblock q)) (World.address_with s q (w.peer q).known.info)
+  expiry_in sets w (Dial q t draw) = go (World.may_dial s q t w.sets (w.peer q) (w.unblock q) (w.cooldown q)) (World.address_with s q (w.peer q).known.info)
     where
       go : (b : Bool) (address : Option Ingress) → expiry_of (World.dial_event s q t draw b address) ≡ None
       go b None = refl
       go true (Some a) = refl
       go false (Some a) = refl
-  expiry_in sets w (Listen q t draw) = go (World.may_listen s q t w.sets (w.peer q) (w.unblock q))
+  expiry_in sets w (Listen q t draw) = go (World.may_listen s q t w.sets (w.peer q) (w.unblock q) (w.cooldown q))
     where
       go : (b : Bool) → expiry_of (World.listen_event s q t draw b) ≡ None
       go true = refl
@@ -71,6 +72,7 @@ module _ {C S : Type 0} (s : Setup C S) where
       go true = refl
       go false = refl
   expiry_in sets w (UnblockExpired t) = refl
+  expiry_in sets w (ForgetCooled t) = refl
   expiry_in sets w (Ask question) = refl
 
   -- the end of a block by the moment at which it was taken
@@ -106,6 +108,7 @@ module _ {C S : Type 0} (s : Setup C S) where
   after_is p (Connected q dialer) end = refl
   after_is p (Released q direction) end = refl
   after_is p (Updated infos) end = refl
+  after_is p (Forgot t) end = refl
 
   -- what is kept after one more reply is the unblock moment at the next point
   kept_next : (p : C) (before : List (Call C S)) (c : Call C S) (r : Reply C S) → Run.IsAnswer s before c r →
@@ -135,7 +138,7 @@ module _ {C S : Type 0} (s : Setup C S) where
   free t (Some end) e = ltb-false t end e
 
   grant_free : (p : C) (w : World C S) (t : ℕ) (accepted : Bool) (found : Option Grant) → GrantFits s p w t found →
-      IsNotBefore (if_accepted s accepted (elim found [ None ↦ None | Some grant ↦ Some grant.t ])) (w.unblock p)
+      IsNotBefore (option_map (λ grant. grant.0) (if_accepted s accepted (option_map (made s) found))) (w.unblock p)
   grant_free p w t false found f = tt
   grant_free p w t true None f = tt
   grant_free p w t true (Some grant) f = subst (λ u. IsNotBefore (Some u) (w.unblock p)) (sym f.0) (free t (w.unblock p) f.1.unblocked)
@@ -167,8 +170,8 @@ module _ {C S : Type 0} (s : Setup C S) where
   keep_from exact p end before (c ∷ cs) (r ∷ rs) kept answers =
       let sets = History.taken_sets s (World.past s before) in
       let w = Run.world_after s before in (
-        subst (λ o. IsNotBefore o end) (sym (told_after s p before c r answers.0).granted)
-            (subst (λ o. IsNotBefore (if_accepted s (Run.is_accepted s r) (elim (History.grant_by s p (Run.event_of s before c)) [ None ↦ None | Some grant ↦ Some grant.t ])) o) (sym kept)
+        subst (λ (o : Option (ℕ × ℕ)). IsNotBefore (option_map (λ grant. grant.0) o) end) (sym (told_after s p before c r answers.0).granted)
+            (subst (λ o. IsNotBefore (option_map (λ grant. grant.0) (if_accepted s (Run.is_accepted s r) (moment_by s p (Run.event_of s before c)))) o) (sym kept)
             (grant_free p w (moment_or s 0 c) (Run.is_accepted s r) (History.grant_by s p (Run.event_of s before c)) (Spacing.event_fits s exact p c before 0))),
         subst (IsNotBefore (block_taken_by s p c r)) (sym kept) (taken_free exact p sets w (Run.world_after s (c ∷ before)) c r answers.0),
         keep_from exact p (block_left s p c r end) (Run.next s before c r) cs rs
@@ -191,9 +194,9 @@ module _ {C S : Type 0} (s : Setup C S) where
   over_later (m ∷ ms) t u le over = (omega (arith, over.0), over_later ms t u le over.1)
 
   -- a grant comes at the moment of its command
-  granted_then : (p : C) (now : ℕ) (c : Call C S) (r : Reply C S) → IfSome (granted_by s p c r) (λ t. t ≡ moment_or s now c)
-  granted_then p now (Dial q t draw) (reply.Dial true) = elim (History.same s q p) as (λ b. IfSome (if b then Some t else None) (λ u. u ≡ t)) [ true ↦ refl | false ↦ tt ]
-  granted_then p now (Listen q t draw) (reply.Listen true) = elim (History.same s q p) as (λ b. IfSome (if b then Some t else None) (λ u. u ≡ t)) [ true ↦ refl | false ↦ tt ]
+  granted_then : (p : C) (now : ℕ) (c : Call C S) (r : Reply C S) → IfSome (granted_by s p c r) (λ grant. grant.0 ≡ moment_or s now c)
+  granted_then p now (Dial q t draw) (reply.Dial true) = elim (History.same s q p) as (λ b. IfSome {T = ℕ × ℕ} (if b then Some (t, draw) else None) (λ grant. grant.0 ≡ t)) [ true ↦ refl | false ↦ tt ]
+  granted_then p now (Listen q t draw) (reply.Listen true) = elim (History.same s q p) as (λ b. IfSome {T = ℕ × ℕ} (if b then Some (t, draw) else None) (λ grant. grant.0 ≡ t)) [ true ↦ refl | false ↦ tt ]
   granted_then p now c r = tt
 
   taken_then : (p : C) (now : ℕ) (c : Call C S) (r : Reply C S) → IfSome (block_taken_by s p c r) (λ t. t ≡ moment_or s now c)
@@ -208,11 +211,12 @@ module _ {C S : Type 0} (s : Setup C S) where
       go true (UnblockExpired t) = refl
       go true c = tt
 
-  over_at : (now u : ℕ) (granted end : Option ℕ) (ms : List ℕ) → now ≤ u → IfSome granted (λ t. t ≡ u) → IsNotBefore granted end →
+  over_at : (now u : ℕ) (granted : Option (ℕ × ℕ)) (end : Option ℕ) (ms : List ℕ) → now ≤ u → IfSome granted (λ grant. grant.0 ≡ u) →
+      IsNotBefore (option_map (λ grant. grant.0) granted) end →
       AreOver s (limit now end) ms → IsAfter s granted ms
   over_at now u None end ms le on_time free over = tt
-  over_at now u (Some t) None ms le on_time free over = over_later ms now t (omega (arith, on_time)) over
-  over_at now u (Some t) (Some end) ms le on_time free over = over_later ms (max now end) t (omega (arith, on_time, free)) over
+  over_at now u (Some grant) None ms le on_time free over = over_later ms now grant.0 (omega (arith, on_time)) over
+  over_at now u (Some grant) (Some end) ms le on_time free over = over_later ms (max now end) grant.0 (omega (arith, on_time, free)) over
 
   over_next : (now u : ℕ) (taken expiry end : Option ℕ) (ms : List ℕ) → now ≤ u → IfSome taken (λ t. t ≡ u) → IfSome expiry (λ t. t ≡ u) → IsNotBefore taken end →
       AreOver s (limit now end) ms → AreOver s (limit u (kept_by (end_of taken) expiry end)) (option_to_list (end_of taken) ++ ms)

@@ -5,7 +5,7 @@ use Rattle.std.specs.Cmp.{IsTotalOrder}
 use Rattle.std.proofs.lemmas.Bool.{and_parts}
 use Rattle.p2p_directory.specs.Calls.{Setup, Call}
 use Rattle.p2p_directory.specs.Calls.Question.{StatusOf, NumberTracked, NextUnblock, BlockedAt, PeerSet, LatestIndex, AllPeers, LatestUpdate, InfoOf, InfosFor, BitsAt, IsEligible, IsAcceptable, DialableAt}
-use Rattle.p2p_directory.specs.Calls.Call.{Track, Dial, Listen, Connect, Release, Update, Block, UnblockExpired, Ask}
+use Rattle.p2p_directory.specs.Calls.Call.{Track, Dial, Listen, Connect, Release, Update, Block, UnblockExpired, ForgetCooled, Ask}
 use Rattle.p2p_directory.specs.Answers.{IsNumberTracked, is_present_in, may_connect, may_release}
 use Rattle.p2p_directory.specs.Run
 use Rattle.p2p_directory.specs.declared.run.commands.Reply.{Reply}
@@ -39,6 +39,7 @@ module _ {C S : Type 0} (s : Setup C S) (n : ℕ) (total : IsTotalOrder s.cmp) w
   count_few before (Ask (IsAcceptable q t)) count h a = absurd (cc)
   count_few before (Track index primary secondary) count h a = absurd a
   count_few before (UnblockExpired t) count h a = absurd a
+  count_few before (ForgetCooled t) count h a = absurd a
   count_few before (Ask NextUnblock) count h a = absurd a
   count_few before (Ask (BlockedAt t)) count h a = absurd a
   count_few before (Ask AllPeers) count h a = absurd a
@@ -66,6 +67,7 @@ module _ {C S : Type 0} (s : Setup C S) (n : ℕ) (total : IsTotalOrder s.cmp) w
   few before c reply.UpdatePeers h a = tt
   few before c (reply.Block taken) h a = tt
   few before c (reply.UnblockExpired any) h a = tt
+  few before c (reply.ForgetCooled count) h a = tt
   few before c (reply.NextUnblock moment) h a = tt
   few before c (reply.BlockedPeers peers) h a = tt
   few before c (reply.Status status) h a = tt

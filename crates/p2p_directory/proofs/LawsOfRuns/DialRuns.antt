@@ -3,7 +3,7 @@ use Rattle.std.proofs.Common.{◌≡◌, ℕ, ◌≤◌, Bool, true, false, cond
 use Rattle.std.specs.Cmp.{IsTotalOrder}
 use Rattle.p2p_directory.specs.Calls.{Setup, Question, Call}
 use Rattle.p2p_directory.specs.Calls.Question.{StatusOf, NumberTracked, NextUnblock, BlockedAt, PeerSet, LatestIndex, AllPeers, LatestUpdate, InfoOf, InfosFor, BitsAt, IsEligible, IsAcceptable, DialableAt}
-use Rattle.p2p_directory.specs.Calls.Call.{Track, Dial, Listen, Connect, Release, Update, Block, UnblockExpired, Ask}
+use Rattle.p2p_directory.specs.Calls.Call.{Track, Dial, Listen, Connect, Release, Update, Block, UnblockExpired, ForgetCooled, Ask}
 use Rattle.p2p_directory.specs.History
 use Rattle.p2p_directory.specs.History.{last_with}
 use Rattle.p2p_directory.specs.World
@@ -59,7 +59,7 @@ module _ {C S : Type 0} (s : Setup C S) where
       AreReady (Run.world_after s before) t ps → Run.AreAnswers s before cs rs → AreGrantedAt s t ps cs rs
   all_granted some exact t ps before (Dial q u draw ∷ cs) (r ∷ rs) ready answers = λ e listed.
       one_granted q u draw before cs r rs
-      (Dialled.granted s q u draw (Run.world_after s before) (Dialled.reservable_first s (last_with (History.grant_by s q) (History.life s q (World.past s before))))
+      (Dialled.granted s q u draw (Run.world_after s before) (Dialled.cooled_first s q (World.past s before))
       (subst (λ m. is_dialable s (Run.world_after s before) m q ≡ true) (sym e) (ready q listed)))
       (replied s (Run.event_of s before (Dial q u draw)) (Run.world_after s before) (Run.world_after s (Dial q u draw ∷ before)) (Dial q u draw) r answers.0)
       (λ a. all_granted some exact t (without s q ps) before cs rs (λ p other. ready p (without_in exact p q ps other).0) a)
@@ -75,12 +75,13 @@ module _ {C S : Type 0} (s : Setup C S) where
   all_granted some exact t ps before (Update infos ∷ cs) rs ready answers = tt
   all_granted some exact t ps before (Block q u ∷ cs) rs ready answers = tt
   all_granted some exact t ps before (UnblockExpired u ∷ cs) rs ready answers = tt
+  all_granted some exact t ps before (ForgetCooled u ∷ cs) rs ready answers = tt
   all_granted some exact t ps before (Ask question ∷ cs) rs ready answers = tt
 
   -- QUIET
 
   turned : (p : C) (w v : World C S) → SameFor p w v → SameFor p v w
-  turned p w v alike = record { sets = sym alike.sets; peer = sym alike.peer; unblock = sym alike.unblock; held = sym alike.held }
+  turned p w v alike = record { sets = sym alike.sets; peer = sym alike.peer; unblock = sym alike.unblock; cooldown = sym alike.cooldown; held = sym alike.held }
 
   same_answer : History.IsExact s → (w v : World C S) → ((p : C) → SameFor p w v) → (t : ℕ) (ps : List C) (next : Option ℕ) → IsDialable s w t ps next → IsDialable s v t ps next
   same_answer exact w v alike t ps next answer = (
@@ -108,6 +109,7 @@ module _ {C S : Type 0} (s : Setup C S) where
     repeated t ps next before (DialableAt u) reply.UpdatePeers first again = tt
     repeated t ps next before (DialableAt u) (reply.Block taken) first again = tt
     repeated t ps next before (DialableAt u) (reply.UnblockExpired any) first again = tt
+    repeated t ps next before (DialableAt u) (reply.ForgetCooled count) first again = tt
     repeated t ps next before (DialableAt u) (reply.NextUnblock moment) first again = tt
     repeated t ps next before (DialableAt u) (reply.BlockedPeers peers) first again = tt
     repeated t ps next before (DialableAt u) (reply.Status status) first again = tt
@@ -154,6 +156,7 @@ module _ {C S : Type 0} (s : Setup C S) where
     all_quiet t ps next before (Update infos ∷ cs) rs first answers = tt
     all_quiet t ps next before (Block q u ∷ cs) rs first answers = tt
     all_quiet t ps next before (UnblockExpired u ∷ cs) rs first answers = tt
+    all_quiet t ps next before (ForgetCooled u ∷ cs) rs first answers = tt
 
     -- THE RUN
 
@@ -172,6 +175,7 @@ module _ {C S : Type 0} (s : Setup C S) where
     kept_after least before (Ask (DialableAt t)) reply.UpdatePeers cs rs answer answers = tt
     kept_after least before (Ask (DialableAt t)) (reply.Block taken) cs rs answer answers = tt
     kept_after least before (Ask (DialableAt t)) (reply.UnblockExpired any) cs rs answer answers = tt
+    kept_after least before (Ask (DialableAt t)) (reply.ForgetCooled count) cs rs answer answers = tt
     kept_after least before (Ask (DialableAt t)) (reply.NextUnblock moment) cs rs answer answers = tt
     kept_after least before (Ask (DialableAt t)) (reply.BlockedPeers peers) cs rs answer answers = tt
     kept_after least before (Ask (DialableAt t)) (reply.Status status) cs rs answer answers = tt
@@ -209,6 +213,7 @@ module _ {C S : Type 0} (s : Setup C S) where
     kept_after least before (Update infos) r cs rs answer answers = tt
     kept_after least before (Block q u) r cs rs answer answers = tt
     kept_after least before (UnblockExpired u) r cs rs answer answers = tt
+    kept_after least before (ForgetCooled u) r cs rs answer answers = tt
 
     -- each reply of `dialable` in a run says this of those after it
     pub keep_dialable : 1 ≤ s.max_sets → (before cs : List (Call C S)) (rs : List (Reply C S)) → Run.AreAnswers s before cs rs → KeepDialable s cs rs

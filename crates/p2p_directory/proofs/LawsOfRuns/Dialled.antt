@@ -1,6 +1,6 @@
 -- Who is dialable is granted.
 use Rattle.std.proofs.Common.{◌≡◌, ℕ, ◌≤◌, Bool, true, false, not, ◌&&◌, ◌||◌, List, [], ◌∷◌, map, Option, Some, None, refl, sym, ◌∙◌, ap, arith}
-use Rattle.std.specs.Prelude.{nat_le}
+use Rattle.std.specs.Prelude.{nat_le, option_map}
 use Rattle.std.specs.List.{AllByRecursion}
 use Rattle.std.specs.List.Sorted.{IsStrictlySortedBy}
 use Rattle.std.specs.Cmp.{IsTotalOrder}
@@ -12,7 +12,7 @@ use Rattle.p2p_discovery.specs.declared.types.ingress.Ingress.{Ingress}
 use Rattle.p2p_directory.specs.Calls.{Setup, Call, Grant, Event}
 use Rattle.p2p_directory.specs.Calls.Call.{Dial}
 use Rattle.p2p_directory.specs.History
-use Rattle.p2p_directory.specs.History.{last_with}
+use Rattle.p2p_directory.specs.History.{last_unless_ended}
 use Rattle.p2p_directory.specs.World
 use Rattle.p2p_directory.specs.World.{World, Peer}
 use Rattle.p2p_directory.specs.Answers.{is_dialable, is_dialable_with}
@@ -52,21 +52,24 @@ itself cmp total x = go (cmp x x) refl
 
 module _ {C S : Type 0} (s : Setup C S) where
   -- the dial moment isn't before the reservable one
-  pub reservable_first : (found : Option (Grant × List (Event C S))) → History.reservable_after s found ≤ History.dial_after s found
+  reservable_first : (kept : Option Grant) → World.reservable_from (option_map (History.cooldown_of s) kept) ≤ World.dialable_from (option_map (History.cooldown_of s) kept)
   reservable_first None = omega arith
-  reservable_first (Some found) = omega arith
+  reservable_first (Some grant) = omega arith
 
-  pub granted : (p : C) (t draw : ℕ) (w : World C S) → (w.peer p).known.reservable_at ≤ (w.peer p).known.dial_at → is_dialable s w t p ≡ true →
-      IsDialled s p t draw (World.dial_event s p t draw (World.may_dial s p t w.sets (w.peer p) (w.unblock p)) (World.address_with s p (w.peer p).known.info))
+  pub cooled_first : (p : C) (h : List (Event C S)) → World.reservable_from (History.cooldown_at s p h) ≤ World.dialable_from (History.cooldown_at s p h)
+  cooled_first p h = reservable_first (last_unless_ended (History.grant_by s p) (History.is_forgetting s) h)
+
+  pub granted : (p : C) (t draw : ℕ) (w : World C S) → World.reservable_from (w.cooldown p) ≤ World.dialable_from (w.cooldown p) → is_dialable s w t p ≡ true →
+      IsDialled s p t draw (World.dial_event s p t draw (World.may_dial s p t w.sets (w.peer p) (w.unblock p) (w.cooldown p)) (World.address_with s p (w.peer p).known.info))
   granted p t draw w first dialable =
-      go (World.address_with s p (w.peer p).known.info) parts.valid (World.may_dial s p t w.sets (w.peer p) (w.unblock p))
+      go (World.address_with s p (w.peer p).known.info) parts.valid (World.may_dial s p t w.sets (w.peer p) (w.unblock p) (w.cooldown p))
       (and_from _ _ (and_from _ _
-      (all_of (History.is_entitled s p w.sets) (History.is_inert (w.peer p).status) (not (World.is_blocked (w.unblock p) t)) (nat_le (w.peer p).known.reservable_at t)
-      parts.entitled parts.inert parts.free (le-leb (w.peer p).known.reservable_at t (omega (arith, leb-true (w.peer p).known.dial_at t parts.cool, first))))
+      (all_of (History.is_entitled s p w.sets) (History.is_inert (w.peer p).status) (not (World.is_blocked (w.unblock p) t)) (nat_le (World.reservable_from (w.cooldown p)) t)
+      parts.entitled parts.inert parts.free (le-leb (World.reservable_from (w.cooldown p)) t (omega (arith, leb-true (World.dialable_from (w.cooldown p)) t parts.cool, first))))
       parts.target) parts.valid)
     where
-      parts : Parts (History.is_entitled s p w.sets) (History.is_inert (w.peer p).status) (World.is_valid_address s (World.address_with s p (w.peer p).known.info)) (World.is_dial_target s p w.sets) (not (World.is_blocked (w.unblock p) t)) (nat_le (w.peer p).known.dial_at t)
-      parts = parts_of (History.is_entitled s p w.sets) (History.is_inert (w.peer p).status) (World.is_valid_address s (World.address_with s p (w.peer p).known.info)) (World.is_dial_target s p w.sets) (not (World.is_blocked (w.unblock p) t)) (nat_le (w.peer p).known.dial_at t) dialable
+      parts : Parts (History.is_entitled s p w.sets) (History.is_inert (w.peer p).status) (World.is_valid_address s (World.address_with s p (w.peer p).known.info)) (World.is_dial_target s p w.sets) (not (World.is_blocked (w.unblock p) t)) (nat_le (World.dialable_from (w.cooldown p)) t)
+      parts = parts_of (History.is_entitled s p w.sets) (History.is_inert (w.peer p).status) (World.is_valid_address s (World.address_with s p (w.peer p).known.info)) (World.is_dial_target s p w.sets) (not (World.is_blocked (w.unblock p) t)) (nat_le (World.dialable_from (w.cooldown p)) t) dialable
 
       go : (address : Option Ingress) → World.is_valid_address s address ≡ true → (may : Bool) → may ≡ true → IsDialled s p t draw (World.dial_event s p t draw may address)
       go None valid may e = absurd (cc)
@@ -74,7 +77,7 @@ module _ {C S : Type 0} (s : Setup C S) where
       go (Some a) valid false e = absurd (cc)
 
   pub dialable_alike : (p : C) (t : ℕ) (w v : World C S) → SameFor p w v → is_dialable s w t p ≡ is_dialable s v t p
-  dialable_alike p t w v alike = λ i. is_dialable_with s p t (alike.sets i) (alike.peer i) (alike.unblock i)
+  dialable_alike p t w v alike = λ i. is_dialable_with s p t (alike.sets i) (alike.peer i) (alike.unblock i) (alike.cooldown i)
 
   -- each of these is dialable in a world, and none stands twice
   abbrev pub AreDialable : World C S → ℕ → List (C × ℕ) → Type 0
@@ -94,7 +97,7 @@ module _ {C S : Type 0} (s : Setup C S) where
   all_dialled : 1 ≤ s.max_sets → (t : ℕ) (xs : List (C × ℕ)) (cs : List (Call C S)) → AreDialable (World.world_at s (World.past s cs)) t xs → AreDialled s t xs cs
   all_dialled some t [] cs dialable = tt
   all_dialled some t (x ∷ xs) cs dialable = (
-    granted x.0 t x.1 (World.world_at s (World.past s cs)) (reservable_first (last_with (History.grant_by s x.0) (History.life s x.0 (World.past s cs)))) dialable.0,
+    granted x.0 t x.1 (World.world_at s (World.past s cs)) (cooled_first x.0 (World.past s cs)) dialable.0,
     all_dialled some t xs (Dial x.0 t x.1 ∷ cs) (still_dialable some x.0 t x.1 xs cs dialable.1 dialable.2),
   )
 

@@ -2,14 +2,14 @@
 use Rattle.std.proofs.Common.{◌≡◌, ℕ, true, false, Bool, List, [], ◌∷◌, Some, None, refl, sym, ◌∙◌, subst, arith}
 use Rattle.std.specs.List.Sorted.{IsStrictlySortedBy}
 use Rattle.p2p_directory.specs.Calls.{Call}
-use Rattle.p2p_directory.specs.Calls.Call.{Block, UnblockExpired, Release, Ask}
+use Rattle.p2p_directory.specs.Calls.Call.{Listen, Block, UnblockExpired, ForgetCooled, Release, Ask}
 use Rattle.p2p_directory.specs.Calls.Question.{NumberTracked, DialableAt}
 use Rattle.p2p_directory.specs.History.{life}
 use Rattle.p2p_directory.specs.declared.record.Dialable.{Dialable}
 use Rattle.p2p_directory.specs.declared.run.commands.Reply.{Reply}
 use Rattle.p2p_directory.specs.declared.run.commands.Reply.TheVariants as reply
 use Rattle.p2p_directory.specs.Run.{AreAnswers}
-use Rattle.p2p_directory.specs.Laws.GrantRuns.{KeepCooldown, KeepBlocks}
+use Rattle.p2p_directory.specs.Laws.GrantRuns.{KeepCooldownUnlessForgotten, KeepCooldown, KeepBlocks}
 use Rattle.p2p_directory.specs.Laws.BlockRuns.{KeepLastBlock}
 use Rattle.p2p_directory.specs.Laws.Dials.{IsBefore}
 use Rattle.p2p_directory.specs.Laws.DialRuns.{next_query, AreGrantedAt, KeepDialable}
@@ -27,28 +27,46 @@ refused_is_answer : AreAnswers setup [] (listened 109) (listen_replies false)
 unfolding life IsStrictlySortedBy
 refused_is_answer = ((refl, record { sorted = tt; members = λ p. refl }), (refl, (refl, (refl, tt))))
 
-refused_is_kept : KeepCooldown setup 1 [] [] (listened 109) (listen_replies false)
-unfolding life
-refused_is_kept = (tt, (tt, (tt, (tt, tt))))
+-- .. over two lives
 
-granted_too_soon : KeepCooldown setup 1 [] [] (listened 109) (listen_replies true) → ⊥
-unfolding life
-granted_too_soon kept = absurd (omega (arith, kept.1.1.1.0.0))
+abbrev reborn : ℕ → List (Call ℕ ℕ)
+reborn t = track 0 (1 ∷ []) ∷ listen 1 100 ∷ Release 1 ∷ track 1 [] ∷ track 2 (1 ∷ []) ∷ listen 1 t ∷ []
 
-granted_in_time : KeepCooldown setup 1 [] [] (listened 110) (listen_replies true)
-unfolding life
-granted_in_time = (tt, (tt, (tt, ((omega arith, tt), tt))))
+abbrev reborn_replies : List (Reply ℕ ℕ)
+reborn_replies = reply.Track (Some []) ∷ reply.Listen true ∷ reply.Release ∷ reply.Track (Some []) ∷ reply.Track (Some []) ∷ reply.Listen true ∷ []
 
--- of another peer, or of one that was absent in between, a grant may follow at once
+granted_too_soon : KeepCooldownUnlessForgotten setup 1 None (reborn 109) reborn_replies → ⊥
+granted_too_soon kept = absurd (omega (arith, kept.1.1.1.1.1.0))
 
-granted_another : KeepCooldown setup 2 [] [] (listened 109) (listen_replies true)
-unfolding life
-granted_another = (tt, (tt, (tt, (tt, tt))))
+granted_in_time : KeepCooldownUnlessForgotten setup 1 None (reborn 110) reborn_replies
+granted_in_time = (tt, (tt, (tt, (tt, (tt, (omega arith, tt))))))
 
-granted_as_new : KeepCooldown setup 1 [] [] (track 0 (1 ∷ []) ∷ listen 1 100 ∷ Release 1 ∷ track 1 (2 ∷ []) ∷ track 2 (1 ∷ []) ∷ listen 1 100 ∷ [])
-    (reply.Track (Some []) ∷ reply.Listen true ∷ reply.Release ∷ reply.Track (Some []) ∷ reply.Track (Some []) ∷ reply.Listen true ∷ [])
-unfolding life
-granted_as_new = (tt, (tt, (tt, (tt, (tt, (tt, tt))))))
+granted_another : KeepCooldownUnlessForgotten setup 2 None (reborn 109) reborn_replies
+granted_another = (tt, (tt, (tt, (tt, (tt, (tt, tt))))))
+
+-- a forgetting in between, at a moment
+
+abbrev forgotten : ℕ → List (Call ℕ ℕ)
+forgotten u = Listen 1 (sec 100) (sec 4) ∷ Release 1 ∷ ForgetCooled u ∷ listen 1 105 ∷ []
+
+abbrev forgotten_replies : ℕ → List (Reply ℕ ℕ)
+forgotten_replies count = reply.Listen true ∷ reply.Release ∷ reply.ForgetCooled count ∷ reply.Listen true ∷ []
+
+-- at the dial moment: of the grant after it the first clause says nothing
+granted_when_forgotten : KeepCooldownUnlessForgotten setup 1 None (forgotten (sec 114)) (forgotten_replies 1)
+granted_when_forgotten = (tt, (tt, (tt, (tt, tt))))
+
+-- before the dial moment, though at the reservable one: nothing is forgotten
+granted_unforgotten : KeepCooldownUnlessForgotten setup 1 None (forgotten 113_999_999_999) (forgotten_replies 0) → ⊥
+granted_unforgotten kept = absurd (omega (arith, kept.1.1.1.0))
+
+-- where moments go back, of such a run the second clause says nothing
+goes_back_to_forget : KeepCooldown setup 1 0 None (forgotten (sec 114)) (forgotten_replies 1)
+goes_back_to_forget = λ from. (tt, λ on. (tt, λ later. (tt, λ back. absurd (omega (arith, back)))))
+
+-- where they never do, it refuses a grant that comes too soon
+granted_too_soon_though_forgotten : KeepCooldown setup 1 0 None (Listen 1 (sec 100) (sec 4) ∷ ForgetCooled (sec 109) ∷ listen 1 109 ∷ []) (reply.Listen true ∷ reply.ForgetCooled 0 ∷ reply.Listen true ∷ []) → ⊥
+granted_too_soon_though_forgotten kept = absurd (omega (arith, (((kept (omega arith)).1 (omega arith)).1 (omega arith)).0))
 
 -- BLOCKS, of 60 s
 

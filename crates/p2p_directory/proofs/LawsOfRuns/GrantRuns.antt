@@ -1,23 +1,24 @@
 -- Grants and blocks by the replies to a run.
-use Rattle.std.proofs.Common.{◌≡◌, ℕ, ◌+◌, ◌≤◌, Bool, true, false, not, ◌&&◌, List, [], ◌∷◌, ◌++◌, map, Option, Some, None, ◌⊎◌, inl, inr, refl, sym, ◌∙◌, ap, subst, arith}
+use Rattle.std.proofs.Common.{◌≡◌, ℕ, ◌≤◌, Bool, true, false, not, ◌&&◌, List, [], ◌∷◌, ◌++◌, Option, Some, None, ◌⊎◌, inl, inr, refl, sym, ◌∙◌, ap, subst, arith}
 use Rattle.std.specs.Prelude.{if◌then◌else◌, nat_lt, option_to_list, filter}
 use Rattle.std.specs.Option.{option_map}
-use Rattle.std.specs.List.{list_all, AllByRecursion}
+use Rattle.std.specs.List.{list_all, list_any}
 use Rattle.p2p_discovery.specs.declared.types.ingress.Ingress.{Ingress}
 use Rattle.p2p_directory.specs.declared.record.Status.{Status}
 use Rattle.p2p_directory.specs.Calls.{Setup, SetAt, Call, Grant, Event}
-use Rattle.p2p_directory.specs.Calls.Call.{Track, Dial, Listen, Connect, Release, Update, Block, UnblockExpired, Ask}
+use Rattle.p2p_directory.specs.Calls.Call.{Track, Dial, Listen, Connect, Release, Update, Block, UnblockExpired, ForgetCooled, Ask}
 use Rattle.p2p_directory.specs.Calls.Direction.{Listener, Dialer}
-use Rattle.p2p_directory.specs.Calls.Event.{Nothing, Tracked, Blocked}
-use Rattle.p2p_directory.specs.Moments.{cap}
+use Rattle.p2p_directory.specs.Calls.Event.{Nothing, Tracked, Updated, Blocked, Expired, Forgot}
 use Rattle.p2p_directory.specs.History
+use Rattle.p2p_directory.specs.History.{last_with, found_with, unless_ended, last_unless_ended}
 use Rattle.p2p_directory.specs.World
 use Rattle.p2p_directory.specs.World.{World}
-use Rattle.p2p_directory.specs.Laws.Grants.{grants_in, AreCooled, IsCooledAt, or_now, moment_or, moment_of, NeverGoBack, blocks_in, IsOverAt}
+use Rattle.p2p_directory.specs.Laws.Grants.{IsSpaced, IsSpacedUnlessForgotten, or_now, moment_or, moment_of, NeverGoBack, blocks_in, IsOverAt}
 use Rattle.p2p_directory.specs.Run
 use Rattle.p2p_directory.specs.declared.run.commands.Reply.{Reply}
 use Rattle.p2p_directory.specs.declared.run.commands.Reply.TheVariants as reply
-use Rattle.p2p_directory.specs.Laws.GrantRuns.{granted_by, blocked_by, IsCooledAfter, grants_after, KeepCooldown, IsAfter, KeepBlocks}
+use Rattle.p2p_directory.specs.Laws.GrantRuns.{granted_by, forgets_by, blocked_by, IsCooledAfter, last_after, kept_after, KeepCooldownUnlessForgotten, KeepCooldown, IsAfter, KeepBlocks}
+use Rattle.p2p_directory.proofs.Definitions.Steps
 use Rattle.p2p_directory.proofs.LawsOfRuns.Spacing
 
 module _ {C S : Type 0} (s : Setup C S) where
@@ -34,6 +35,7 @@ module _ {C S : Type 0} (s : Setup C S) where
   replied e w v c reply.UpdatePeers a = inr a
   replied e w v c (reply.Block taken) a = inr a
   replied e w v c (reply.UnblockExpired any) a = inr a
+  replied e w v c (reply.ForgetCooled count) a = inr a
   replied e w v c (reply.NextUnblock moment) a = inr a
   replied e w v c (reply.BlockedPeers peers) a = inr a
   replied e w v c (reply.Status status) a = inr a
@@ -51,15 +53,18 @@ module _ {C S : Type 0} (s : Setup C S) where
   replied e w v c reply.NotReserved a = inr a
   replied e w v c reply.NotHeld a = inr a
 
-  -- when the grant was made
-  abbrev pub moment_by : C → Event C S → Option ℕ
-  moment_by p e = option_map (λ (grant : Grant). grant.t) (History.grant_by s p e)
+  -- when the grant was made, and with which draw
+  abbrev pub made : Grant → ℕ × ℕ
+  made grant = (grant.t, grant.draw)
+
+  abbrev pub moment_by : C → Event C S → Option (ℕ × ℕ)
+  moment_by p e = option_map made (History.grant_by s p e)
 
   -- what an event says, where its call was accepted
-  abbrev pub if_accepted : Bool → Option ℕ → Option ℕ
+  abbrev pub if_accepted : {A : Type 0} → Bool → Option A → Option A
   if_accepted accepted o = if accepted then o else None
 
-  nothing : (b : Bool) → None ≡ if_accepted b None
+  nothing : {A : Type 0} (b : Bool) → ◌≡◌ {A = Option A} None (if_accepted b None)
   nothing true = refl
   nothing false = refl
 
@@ -74,7 +79,7 @@ module _ {C S : Type 0} (s : Setup C S) where
       go : (b : Bool) → IsTold p (Track index primary secondary) r (if b then Tracked (record { index = index; primary = primary; secondary = filter (λ q. not (History.is_in s q primary)) secondary }) else Nothing)
       go true = record { granted = nothing (Run.is_accepted s r); blocked = nothing (Run.is_accepted s r) }
       go false = record { granted = nothing (Run.is_accepted s r); blocked = nothing (Run.is_accepted s r) }
-  told p sets w v (Dial q t draw) r a = go (World.may_dial s q t w.sets (w.peer q) (w.unblock q)) (World.address_with s q (w.peer q).known.info) (replied (World.event_in s sets w (Dial q t draw)) w v (Dial q t draw) r a)
+  told p sets w v (Dial q t draw) r a = go (World.may_dial s q t w.sets (w.peer q) (w.unblock q) (w.cooldown q)) (World.address_with s q (w.peer q).known.info) (replied (World.event_in s sets w (Dial q t draw)) w v (Dial q t draw) r a)
     where
       go : (b : Bool) (address : Option Ingress) → (r ≡ reply.OutOfMemory) ⊎ Run.Replies s (World.dial_event s q t draw b address) w v (Dial q t draw) r → IsTold p (Dial q t draw) r (World.dial_event s q t draw b address)
       go b address (inl e) = subst (λ x. IsTold p (Dial q t draw) x (World.dial_event s q t draw b address)) (sym e) (record { granted = refl; blocked = refl })
@@ -82,15 +87,15 @@ module _ {C S : Type 0} (s : Setup C S) where
       go false (Some x) (inr e) = subst (λ y. IsTold p (Dial q t draw) y Nothing) (sym e) (record { granted = refl; blocked = refl })
       go true (Some x) (inr e) =
           subst (λ y. IsTold p (Dial q t draw) y (World.dial_event s q t draw true (Some x))) (sym e)
-          (record { granted = elim (History.same s q p) as (λ b. (if b then Some t else None) ≡ option_map (λ (grant : Grant). grant.t) (if b then Some (record { t = t; draw = draw; direction = Dialer x }) else None)) [ true ↦ refl | false ↦ refl ]; blocked = refl })
-  told p sets w v (Listen q t draw) r a = go (World.may_listen s q t w.sets (w.peer q) (w.unblock q)) (replied (World.event_in s sets w (Listen q t draw)) w v (Listen q t draw) r a)
+          (record { granted = elim (History.same s q p) as (λ b. (if b then Some (t, draw) else None) ≡ option_map made (if b then Some (record { t = t; draw = draw; direction = Dialer x }) else None)) [ true ↦ refl | false ↦ refl ]; blocked = refl })
+  told p sets w v (Listen q t draw) r a = go (World.may_listen s q t w.sets (w.peer q) (w.unblock q) (w.cooldown q)) (replied (World.event_in s sets w (Listen q t draw)) w v (Listen q t draw) r a)
     where
       go : (b : Bool) → (r ≡ reply.OutOfMemory) ⊎ Run.Replies s (World.listen_event s q t draw b) w v (Listen q t draw) r → IsTold p (Listen q t draw) r (World.listen_event s q t draw b)
       go b (inl e) = subst (λ x. IsTold p (Listen q t draw) x (World.listen_event s q t draw b)) (sym e) (record { granted = refl; blocked = refl })
       go false (inr e) = subst (λ y. IsTold p (Listen q t draw) y Nothing) (sym e) (record { granted = refl; blocked = refl })
       go true (inr e) =
           subst (λ y. IsTold p (Listen q t draw) y (World.listen_event s q t draw true)) (sym e)
-          (record { granted = elim (History.same s q p) as (λ b. (if b then Some t else None) ≡ option_map (λ (grant : Grant). grant.t) (if b then Some (record { t = t; draw = draw; direction = Listener }) else None)) [ true ↦ refl | false ↦ refl ]; blocked = refl })
+          (record { granted = elim (History.same s q p) as (λ b. (if b then Some (t, draw) else None) ≡ option_map made (if b then Some (record { t = t; draw = draw; direction = Listener }) else None)) [ true ↦ refl | false ↦ refl ]; blocked = refl })
   told p sets w v (Connect q dialer) r a = go (w.peer q).status
     where
       go : (status : Status) → IsTold p (Connect q dialer) r (World.connect_event s q dialer status)
@@ -110,72 +115,204 @@ module _ {C S : Type 0} (s : Setup C S) where
       go false (inr e) = subst (λ y. IsTold p (Block q t) y Nothing) (sym e) (record { granted = refl; blocked = refl })
       go true (inr e) = subst (λ y. IsTold p (Block q t) y (Blocked q t)) (sym e) (record { granted = refl; blocked = refl })
   told p sets w v (UnblockExpired t) r a = record { granted = nothing (Run.is_accepted s r); blocked = nothing (Run.is_accepted s r) }
+  told p sets w v (ForgetCooled t) r a = record { granted = nothing (Run.is_accepted s r); blocked = nothing (Run.is_accepted s r) }
   told p sets w v (Ask question) r a = record { granted = nothing (Run.is_accepted s r); blocked = nothing (Run.is_accepted s r) }
 
   pub told_after : (p : C) (before : List (Call C S)) (c : Call C S) (r : Reply C S) → Run.IsAnswer s before c r → IsTold p c r (Run.event_of s before c)
   told_after p before c r a = told p (History.taken_sets s (World.past s before)) (Run.world_after s before) (Run.world_after s (c ∷ before)) c r a
 
+  -- BLOCKS
+
+  -- a later now is as good
+  later_back : (cs : List (Call C S)) (now later : ℕ) → now ≤ later → NeverGoBack s now cs → NeverGoBack s later cs
+  later_back [] now later le on = tt
+  later_back (c ∷ cs) now later le on = go (moment_of s c) (λ x. later_back cs now later le x) on
+    where
+      go : (o : Option ℕ) → (NeverGoBack s now cs → NeverGoBack s later cs) → (or_now now o ≤ now) × NeverGoBack s (or_now now o) cs → (or_now later o ≤ later) × NeverGoBack s (or_now later o) cs
+      go None more on = (omega arith, more on.1)
+      go (Some t) more on = (omega (arith, on.0), on.1)
+
+  -- a call that comes no earlier than now
+  one_forward : (c : Call C S) (cs : List (Call C S)) (now : ℕ) → now ≤ moment_or s now c → NeverGoBack s now cs → NeverGoBack s (moment_or s now c) (c ∷ cs)
+  one_forward c cs now le on = go (moment_of s c) le
+    where
+      go : (o : Option ℕ) → now ≤ or_now now o → (or_now (or_now now o) o ≤ or_now now o) × NeverGoBack s (or_now (or_now now o) o) cs
+      go None le = (omega arith, on)
+      go (Some t) le = (omega arith, later_back cs now t le on)
+
+  next_forward : (c : Call C S) (cs : List (Call C S)) (now : ℕ) (accepted : Bool) → now ≤ moment_or s now c → NeverGoBack s now cs → NeverGoBack s (moment_or s now c) (if accepted then c ∷ cs else cs)
+  next_forward c cs now true le on = one_forward c cs now le on
+  next_forward c cs now false le on = later_back cs now (moment_or s now c) le on
+
   -- COOLDOWN
 
-  -- the moments of the grants in p's life
-  abbrev moments_in : C → List (Event C S) → List ℕ
-  moments_in p l = map (λ grant. grant.t) (grants_in s p l)
+  -- a call to forget is always accepted, and no other call forgets
+  abbrev ForgetsAlike : Bool → Call C S → Event C S → Type 0
+  ForgetsAlike accepted c e = (grant : Grant) → forgets_by s (made grant) c ≡ (if accepted then History.is_forgetting s grant e else false)
 
-  cooled_moments : (gs : List Grant) (u : ℕ) → AreCooled s u gs → AllByRecursion (λ t. cap (t + s.cooldown) ≤ u) (map (λ grant. grant.t) gs)
-  cooled_moments [] u cooled = tt
-  cooled_moments (g ∷ gs) u cooled = (cooled.0, cooled_moments gs u cooled.1)
+  none_forgotten : (accepted : Bool) (c : Call C S) (e : Event C S) → ((grant : Grant) → forgets_by s (made grant) c ≡ false) → ((grant : Grant) → History.is_forgetting s grant e ≡ false) → ForgetsAlike accepted c e
+  none_forgotten true c e left right = λ grant. left grant ∙ sym (right grant)
+  none_forgotten false c e left right = left
 
-  cooled_after : (accepted : Bool) (found : Option Grant) (gs : List Grant) → IsCooledAt s found gs → IsCooledAfter s (if_accepted accepted (option_map (λ (grant : Grant). grant.t) found)) (map (λ grant. grant.t) gs)
-  cooled_after false found gs cooled = tt
-  cooled_after true None gs cooled = tt
-  cooled_after true (Some grant) gs cooled = cooled_moments gs grant.t cooled
+  -- the reply to a call to forget
+  forgets_told : (u : ℕ) (w v : World C S) (r : Reply C S) → Run.MayReply s (Forgot u) w v (ForgetCooled u) r → ForgetsAlike (Run.is_accepted s r) (ForgetCooled u) (Forgot u)
+  forgets_told u w v (reply.ForgetCooled count) a = λ grant. refl
+  forgets_told u w v reply.OutOfMemory a = absurd a
+  forgets_told u w v (reply.Track torn) a = absurd a
+  forgets_told u w v (reply.Dial granted) a = absurd a
+  forgets_told u w v (reply.Listen granted) a = absurd a
+  forgets_told u w v reply.Connect a = absurd a
+  forgets_told u w v reply.Release a = absurd a
+  forgets_told u w v reply.UpdatePeers a = absurd a
+  forgets_told u w v (reply.Block taken) a = absurd a
+  forgets_told u w v (reply.UnblockExpired any) a = absurd a
+  forgets_told u w v (reply.NextUnblock moment) a = absurd a
+  forgets_told u w v (reply.BlockedPeers peers) a = absurd a
+  forgets_told u w v (reply.Status status) a = absurd a
+  forgets_told u w v (reply.GetPeerSet peers) a = absurd a
+  forgets_told u w v (reply.LatestSetIndex index) a = absurd a
+  forgets_told u w v (reply.LatestUpdate update) a = absurd a
+  forgets_told u w v (reply.All all) a = absurd a
+  forgets_told u w v (reply.Info info) a = absurd a
+  forgets_told u w v (reply.Infos infos) a = absurd a
+  forgets_told u w v (reply.GetRandomBitVec bits) a = absurd a
+  forgets_told u w v (reply.Eligible eligible) a = absurd a
+  forgets_told u w v (reply.Acceptable acceptable) a = absurd a
+  forgets_told u w v (reply.Dialable answer) a = absurd a
+  forgets_told u w v (reply.Tracked count) a = absurd a
+  forgets_told u w v reply.NotReserved a = absurd a
+  forgets_told u w v reply.NotHeld a = absurd a
 
-  -- where p is absent there is no life
-  no_life : (p : C) (h : List (Event C S)) → History.is_present s p h ≡ false → History.life s p h ≡ []
-  unfolding History.life
-  no_life p [] e = refl
-  no_life p (e ∷ h) absent = ap (λ b. if b then e ∷ History.life s p h else []) absent
-
-  one_more : (p : C) (e : Event C S) (l : List (Event C S)) → option_to_list (moment_by p e) ++ moments_in p l ≡ moments_in p (e ∷ l)
-  one_more p e l = go (History.grant_by s p e)
+  forgets_after : (sets : List (SetAt C)) (w v : World C S) (c : Call C S) (r : Reply C S) → Run.MayReply s (World.event_in s sets w c) w v c r → ForgetsAlike (Run.is_accepted s r) c (World.event_in s sets w c)
+  forgets_after sets w v (ForgetCooled u) r a = forgets_told u w v r a
+  forgets_after sets w v (Track index primary secondary) r a = none_forgotten (Run.is_accepted s r) (Track index primary secondary) _ (λ grant. refl) (go _)
     where
-      go : (found : Option Grant) → option_to_list (option_map (λ (grant : Grant). grant.t) found) ++ moments_in p l ≡ map (λ grant. grant.t) (option_to_list found ++ grants_in s p l)
+      go : (b : Bool) (grant : Grant) → History.is_forgetting s grant (if b then Tracked (record { index = index; primary = primary; secondary = filter (λ q. not (History.is_in s q primary)) secondary }) else Nothing) ≡ false
+      go true grant = refl
+      go false grant = refl
+  forgets_after sets w v (Dial q t draw) r a = none_forgotten (Run.is_accepted s r) (Dial q t draw) _ (λ grant. refl) (go _ _)
+    where
+      go : (b : Bool) (address : Option Ingress) (grant : Grant) → History.is_forgetting s grant (World.dial_event s q t draw b address) ≡ false
+      go b None grant = refl
+      go true (Some x) grant = refl
+      go false (Some x) grant = refl
+  forgets_after sets w v (Listen q t draw) r a = none_forgotten (Run.is_accepted s r) (Listen q t draw) _ (λ grant. refl) (go _)
+    where
+      go : (b : Bool) (grant : Grant) → History.is_forgetting s grant (World.listen_event s q t draw b) ≡ false
+      go true grant = refl
+      go false grant = refl
+  forgets_after sets w v (Connect q dialer) r a = none_forgotten (Run.is_accepted s r) (Connect q dialer) _ (λ grant. refl) (go (w.peer q).status)
+    where
+      go : (status : Status) (grant : Grant) → History.is_forgetting s grant (World.connect_event s q dialer status) ≡ false
+      go Status.Inert grant = refl
+      go Status.Reserved grant = refl
+      go Status.Active grant = refl
+  forgets_after sets w v (Release q) r a = none_forgotten (Run.is_accepted s r) (Release q) _ (λ grant. refl) (go (w.held q))
+    where
+      go : (held : Option Grant) (grant : Grant) → History.is_forgetting s grant (World.release_event s q held) ≡ false
+      go None grant = refl
+      go (Some x) grant = refl
+  forgets_after sets w v (Update infos) r a = none_forgotten (Run.is_accepted s r) (Update infos) (Updated infos) (λ grant. refl) (λ grant. refl)
+  forgets_after sets w v (Block q t) r a = none_forgotten (Run.is_accepted s r) (Block q t) _ (λ grant. refl) (go _)
+    where
+      go : (b : Bool) (grant : Grant) → History.is_forgetting s grant (if b then Blocked q t else Nothing) ≡ false
+      go true grant = refl
+      go false grant = refl
+  forgets_after sets w v (UnblockExpired t) r a = none_forgotten (Run.is_accepted s r) (UnblockExpired t) (Expired t) (λ grant. refl) (λ grant. refl)
+  forgets_after sets w v (Ask question) r a = none_forgotten (Run.is_accepted s r) (Ask question) Nothing (λ grant. refl) (λ grant. refl)
+
+  -- the last grant of p in a past, and the last unless it was forgotten
+  abbrev last_in : C → List (Event C S) → Option (ℕ × ℕ)
+  last_in p h = option_map (λ found. made found.0) (last_with (History.grant_by s p) h)
+
+  abbrev kept_in : C → List (Event C S) → Option (ℕ × ℕ)
+  kept_in p h = option_map made (last_unless_ended (History.grant_by s p) (History.is_forgetting s) h)
+
+  -- after one more reply
+  last_more : (p : C) (before : List (Call C S)) (c : Call C S) (accepted : Bool) →
+      last_after s (if_accepted accepted (moment_by p (Run.event_of s before c))) (last_in p (World.past s before)) ≡ last_in p (World.past s (if accepted then c ∷ before else before))
+  last_more p before c false = refl
+  last_more p before c true = go (History.grant_by s p (Run.event_of s before c)) (last_with (History.grant_by s p) (World.past s before))
+    where
+      go : (given : Option Grant) (found : Option (Grant × List (Event C S))) →
+          last_after s (option_map made given) (option_map (λ found. made found.0) found) ≡ option_map (λ found. made found.0) (found_with given (Run.event_of s before c) found)
+      go (Some grant) found = refl
+      go None None = refl
+      go None (Some found) = refl
+
+  kept_more : (p : C) (before : List (Call C S)) (c : Call C S) (accepted : Bool) → ForgetsAlike accepted c (Run.event_of s before c) →
+      kept_after s c (if_accepted accepted (moment_by p (Run.event_of s before c))) (kept_in p (World.past s before)) ≡ kept_in p (World.past s (if accepted then c ∷ before else before))
+  kept_more p before c false alike = go (last_unless_ended (History.grant_by s p) (History.is_forgetting s) (World.past s before))
+    where
+      go : (kept : Option Grant) → kept_after s c None (option_map made kept) ≡ option_map made kept
       go None = refl
-      go (Some grant) = refl
-
-  -- the moments that are kept are those of the grants in p's life, after one more reply
-  kept_moments : (p : C) (before : List (Call C S)) (c : Call C S) (accepted : Bool) →
-      grants_after s p (if accepted then c ∷ before else before) (if_accepted accepted (moment_by p (Run.event_of s before c))) (moments_in p (History.life s p (World.past s before)))
-      ≡ moments_in p (History.life s p (World.past s (if accepted then c ∷ before else before)))
-  unfolding History.life
-  kept_moments p before c true = go (History.is_present s p (World.past s (c ∷ before)))
+      go (Some grant) = ap (λ b. if b then None else Some (made grant)) (alike grant)
+  kept_more p before c true alike =
+      go (History.grant_by s p (Run.event_of s before c)) (last_unless_ended (History.grant_by s p) (History.is_forgetting s) (World.past s before))
+      ∙ sym (ap (option_map made) (Steps.lasting_step (History.grant_by s p) (History.is_forgetting s) (Run.event_of s before c) (World.past s before)))
     where
-      go : (b : Bool) → (if b then option_to_list (moment_by p (Run.event_of s before c)) ++ moments_in p (History.life s p (World.past s before)) else [])
-          ≡ moments_in p (if b then Run.event_of s before c ∷ History.life s p (World.past s before) else [])
-      go true = one_more p (Run.event_of s before c) (History.life s p (World.past s before))
-      go false = refl
-  kept_moments p before c false = go (History.is_present s p (World.past s before)) refl
-    where
-      go : (b : Bool) → History.is_present s p (World.past s before) ≡ b → (if b then moments_in p (History.life s p (World.past s before)) else []) ≡ moments_in p (History.life s p (World.past s before))
-      go true e = refl
-      go false e = sym (ap (λ l. moments_in p l) (no_life p (World.past s before) e))
+      go : (given kept : Option Grant) → kept_after s c (option_map made given) (option_map made kept) ≡ option_map made (Steps.lasted given (λ grant. History.is_forgetting s grant (Run.event_of s before c)) kept)
+      go (Some grant) kept = refl
+      go None None = refl
+      go None (Some grant) =
+          ap (λ b. if b then None else Some (made grant)) (alike grant)
+          ∙ elim (History.is_forgetting s grant (Run.event_of s before c)) as (λ b. (if b then None else Some (made grant)) ≡ option_map made (if b then None else Some grant)) [ true ↦ refl | false ↦ refl ]
 
-  keep_cooldown_from : History.IsExact s → (p : C) (ts : List ℕ) (before cs : List (Call C S)) (rs : List (Reply C S)) →
-      ts ≡ moments_in p (History.life s p (World.past s before)) → Run.AreAnswers s before cs rs → KeepCooldown s p ts before cs rs
-  keep_cooldown_from exact p ts before [] [] kept answers = tt
-  keep_cooldown_from exact p ts before [] (r ∷ rs) kept answers = tt
-  keep_cooldown_from exact p ts before (c ∷ cs) [] kept answers = tt
-  keep_cooldown_from exact p ts before (c ∷ cs) (r ∷ rs) kept answers =
-      let t = told_after p before c r answers.0 in (
-        subst (λ o. IsCooledAfter s o ts) (sym t.granted)
-            (subst (λ xs. IsCooledAfter s (if_accepted (Run.is_accepted s r) (moment_by p (Run.event_of s before c))) xs) (sym kept)
-            (cooled_after (Run.is_accepted s r) (History.grant_by s p (Run.event_of s before c)) (grants_in s p (History.life s p (World.past s before))) (Spacing.next_cooled s exact p c before))),
-        keep_cooldown_from exact p (grants_after s p (Run.next s before c r) (granted_by s p c r) ts) (Run.next s before c r) cs rs
-            ((λ i. grants_after s p (Run.next s before c r) (t.granted i) (kept i)) ∙ kept_moments p before c (Run.is_accepted s r))
+  -- what the laws of the past say, on these
+  spaced_kept : (accepted : Bool) (given : Option Grant) (found : Option (Grant × List (Event C S))) → IsSpacedUnlessForgotten s given found →
+      IsCooledAfter s (if_accepted accepted (option_map made given)) (option_map made (unless_ended (History.is_forgetting s) found))
+  spaced_kept false given found spaced = tt
+  spaced_kept true None found spaced = tt
+  spaced_kept true (Some grant) None spaced = tt
+  spaced_kept true (Some grant) (Some found) spaced = go (list_any (History.is_forgetting s found.0) found.1) refl
+    where
+      go : (b : Bool) → list_any (History.is_forgetting s found.0) found.1 ≡ b → IsCooledAfter s (Some (made grant)) (option_map made (if b then None else Some found.0))
+      go true e = tt
+      go false e = spaced e
+
+  spaced_last : (accepted : Bool) (given : Option Grant) (found : Option (Grant × List (Event C S))) → IsSpaced s given found →
+      IsCooledAfter s (if_accepted accepted (option_map made given)) (option_map (λ found. made found.0) found)
+  spaced_last false given found spaced = tt
+  spaced_last true None found spaced = tt
+  spaced_last true (Some grant) None spaced = tt
+  spaced_last true (Some grant) (Some found) spaced = spaced
+
+  keep_unless_forgotten_from : History.IsExact s → (p : C) (kept : Option (ℕ × ℕ)) (before cs : List (Call C S)) (rs : List (Reply C S)) →
+      kept ≡ kept_in p (World.past s before) → Run.AreAnswers s before cs rs → KeepCooldownUnlessForgotten s p kept cs rs
+  keep_unless_forgotten_from exact p kept before [] [] e answers = tt
+  keep_unless_forgotten_from exact p kept before [] (r ∷ rs) e answers = tt
+  keep_unless_forgotten_from exact p kept before (c ∷ cs) [] e answers = tt
+  keep_unless_forgotten_from exact p kept before (c ∷ cs) (r ∷ rs) e answers =
+      let t = told_after p before c r answers.0 in
+      let f = forgets_after (History.taken_sets s (World.past s before)) (Run.world_after s before) (Run.world_after s (c ∷ before)) c r answers.0 in (
+        subst (λ o. IsCooledAfter s o kept) (sym t.granted)
+            (subst (λ o. IsCooledAfter s (if_accepted (Run.is_accepted s r) (moment_by p (Run.event_of s before c))) o) (sym e)
+            (spaced_kept (Run.is_accepted s r) (History.grant_by s p (Run.event_of s before c)) (last_with (History.grant_by s p) (World.past s before)) (Spacing.next_spaced s exact p c before))),
+        keep_unless_forgotten_from exact p (kept_after s c (granted_by s p c r) kept) (Run.next s before c r) cs rs
+            ((λ i. kept_after s c (t.granted i) (e i)) ∙ kept_more p before c (Run.is_accepted s r) f)
             answers.1,
       )
 
-  -- by the replies to a whole run, the grants of p keep the cooldown in each of its lives
-  pub keep_cooldown : History.IsExact s → (p : C) (cs : List (Call C S)) (rs : List (Reply C S)) → Run.AreAnswers s [] cs rs → KeepCooldown s p [] [] cs rs
-  unfolding History.life
-  keep_cooldown exact p cs rs answers = keep_cooldown_from exact p [] [] cs rs refl answers
+  -- by the replies to a whole run, the grants of p keep the cooldown, unless forgotten
+  pub keep_unless_forgotten : History.IsExact s → (p : C) (cs : List (Call C S)) (rs : List (Reply C S)) → Run.AreAnswers s [] cs rs → KeepCooldownUnlessForgotten s p None cs rs
+  keep_unless_forgotten exact p cs rs answers = keep_unless_forgotten_from exact p None [] cs rs refl answers
+
+  keep_cooldown_from : History.IsExact s → (p : C) (last : Option (ℕ × ℕ)) (now : ℕ) (before cs : List (Call C S)) (rs : List (Reply C S)) →
+      last ≡ last_in p (World.past s before) → NeverGoBack s now before → Run.AreAnswers s before cs rs → KeepCooldown s p now last cs rs
+  keep_cooldown_from exact p last now before [] [] e on answers = tt
+  keep_cooldown_from exact p last now before [] (r ∷ rs) e on answers = tt
+  keep_cooldown_from exact p last now before (c ∷ cs) [] e on answers = tt
+  keep_cooldown_from exact p last now before (c ∷ cs) (r ∷ rs) e on answers =
+      λ forward. let t = told_after p before c r answers.0 in (
+        subst (λ o. IsCooledAfter s o last) (sym t.granted)
+            (subst (λ o. IsCooledAfter s (if_accepted (Run.is_accepted s r) (moment_by p (Run.event_of s before c))) o) (sym e)
+            (spaced_last (Run.is_accepted s r) (History.grant_by s p (Run.event_of s before c)) (last_with (History.grant_by s p) (World.past s before))
+            (Spacing.next_spaced_forward s exact p c before (moment_or s now c) (one_forward c before now forward on)))),
+        keep_cooldown_from exact p (last_after s (granted_by s p c r) last) (moment_or s now c) (Run.next s before c r) cs rs
+            ((λ i. last_after s (t.granted i) (e i)) ∙ last_more p before c (Run.is_accepted s r))
+            (next_forward c before now (Run.is_accepted s r) forward on) answers.1,
+      )
+
+  -- by the replies to a whole run whose moments never go back, the grants of p keep the cooldown
+  pub keep_cooldown : History.IsExact s → (p : C) (cs : List (Call C S)) (rs : List (Reply C S)) → Run.AreAnswers s [] cs rs → KeepCooldown s p 0 None cs rs
+  keep_cooldown exact p cs rs answers = keep_cooldown_from exact p None 0 [] cs rs refl tt answers

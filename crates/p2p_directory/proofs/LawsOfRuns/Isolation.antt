@@ -4,11 +4,11 @@ use Rattle.std.specs.Prelude.{if◌then◌else◌, filter, nat_lt}
 use Rattle.std.proofs.lemmas.Bool.{not-true, not-false}
 use Rattle.p2p_discovery.specs.declared.types.ingress.Ingress.{Ingress}
 use Rattle.p2p_directory.specs.declared.record.Status.{Status}
-use Rattle.p2p_directory.specs.Calls.{Setup, Question, Call, SetAt, Grant, Event}
-use Rattle.p2p_directory.specs.Calls.Call.{Track, Dial, Listen, Connect, Release, Update, Block, UnblockExpired, Ask}
+use Rattle.p2p_directory.specs.Calls.{Setup, Question, Call, SetAt, Grant, Cooldown, Event}
+use Rattle.p2p_directory.specs.Calls.Call.{Track, Dial, Listen, Connect, Release, Update, Block, UnblockExpired, ForgetCooled, Ask}
 use Rattle.p2p_directory.specs.declared.record.Status.TheVariants.{Inert, Reserved, Active}
-use Rattle.p2p_directory.specs.Calls.Event.{Nothing, Tracked, Granted, Connected, Released, Updated, Blocked, Expired}
-use Rattle.p2p_directory.specs.Moments.{cap, jitter}
+use Rattle.p2p_directory.specs.Calls.Event.{Nothing, Tracked, Granted, Connected, Released, Updated, Blocked, Expired, Forgot}
+use Rattle.p2p_directory.specs.Moments.{cap}
 use Rattle.p2p_directory.specs.History
 use Rattle.p2p_directory.specs.World
 use Rattle.p2p_directory.specs.Step
@@ -47,6 +47,7 @@ module _ {C S : Type 0} (s : Setup C S) where
   is_quiet p (Updated infos) = false
   is_quiet p (Blocked q t) = not (History.same s q p)
   is_quiet p (Expired t) = false
+  is_quiet p (Forgot t) = false
 
   -- it leaves p as it was
   sets_quiet : (p : C) (e : Event C S) (sets : List (SetAt C)) → is_quiet p e ≡ true → Step.sets_after s e sets ≡ sets
@@ -58,6 +59,7 @@ module _ {C S : Type 0} (s : Setup C S) where
   sets_quiet p (Updated infos) sets quiet = refl
   sets_quiet p (Blocked q t) sets quiet = refl
   sets_quiet p (Expired t) sets quiet = refl
+  sets_quiet p (Forgot t) sets quiet = refl
 
   status_quiet : (p : C) (e : Event C S) (status : Status) → is_quiet p e ≡ true → Step.status_after s p e status ≡ status
   status_quiet p (Granted q grant) status quiet = ap (λ b. if b then Reserved else status) (not-true (History.same s q p) quiet)
@@ -68,6 +70,7 @@ module _ {C S : Type 0} (s : Setup C S) where
   status_quiet p (Updated infos) status quiet = refl
   status_quiet p (Blocked q t) status quiet = refl
   status_quiet p (Expired t) status quiet = refl
+  status_quiet p (Forgot t) status quiet = refl
 
   held_quiet : (p : C) (e : Event C S) (held : Option Grant) → is_quiet p e ≡ true → Step.held_after s p e held ≡ held
   held_quiet p (Granted q grant) held quiet = ap (λ b. if b then Some grant else held) (not-true (History.same s q p) quiet)
@@ -78,10 +81,10 @@ module _ {C S : Type 0} (s : Setup C S) where
   held_quiet p (Updated infos) held quiet = refl
   held_quiet p (Blocked q t) held quiet = refl
   held_quiet p (Expired t) held quiet = refl
+  held_quiet p (Forgot t) held quiet = refl
 
   known_quiet : (p : C) (e : Event C S) (k : Known C S) → is_quiet p e ≡ true → Step.known_after s p e k ≡ k
-  known_quiet p (Granted q grant) k quiet =
-      ap (λ b. if b then record k { reservable_at = cap (grant.t + s.cooldown); dial_at = cap (cap (grant.t + s.cooldown) + jitter grant.draw s.cooldown) } else k) (not-true (History.same s q p) quiet)
+  known_quiet p (Granted q grant) k quiet = refl
   known_quiet p (Connected q dialer) k quiet = ap (λ b. if b && dialer then record k { fails = 0 } else k) (not-true (History.same s q p) quiet)
   known_quiet p (Released q direction) k quiet = ap (λ b. if b && Step.is_failed_dial s k.info direction then record k { fails = suc k.fails } else k) (not-true (History.same s q p) quiet)
   known_quiet p (Updated infos) k quiet = absurd (cc)
@@ -89,6 +92,7 @@ module _ {C S : Type 0} (s : Setup C S) where
   known_quiet p (Tracked taken) k quiet = refl
   known_quiet p (Blocked q t) k quiet = refl
   known_quiet p (Expired t) k quiet = refl
+  known_quiet p (Forgot t) k quiet = refl
 
   unblock_quiet : (p : C) (e : Event C S) (moment : Option ℕ) → is_quiet p e ≡ true → Step.unblock_after s p e moment ≡ moment
   unblock_quiet p (Blocked q t) moment quiet = ap (λ b. if b then Some (cap (t + s.block_duration)) else moment) (not-true (History.same s q p) quiet)
@@ -99,6 +103,18 @@ module _ {C S : Type 0} (s : Setup C S) where
   unblock_quiet p (Connected q dialer) moment quiet = refl
   unblock_quiet p (Released q direction) moment quiet = refl
   unblock_quiet p (Updated infos) moment quiet = refl
+  unblock_quiet p (Forgot t) moment quiet = refl
+
+  cooldown_quiet : (p : C) (e : Event C S) (cooldown : Option Cooldown) → is_quiet p e ≡ true → Step.cooldown_after s p e cooldown ≡ cooldown
+  cooldown_quiet p (Granted q grant) cooldown quiet = ap (λ b. if b then Some (History.cooldown_of s grant) else cooldown) (not-true (History.same s q p) quiet)
+  cooldown_quiet p (Forgot t) cooldown quiet = absurd (cc)
+  cooldown_quiet p Nothing cooldown quiet = refl
+  cooldown_quiet p (Tracked taken) cooldown quiet = refl
+  cooldown_quiet p (Connected q dialer) cooldown quiet = refl
+  cooldown_quiet p (Released q direction) cooldown quiet = refl
+  cooldown_quiet p (Updated infos) cooldown quiet = refl
+  cooldown_quiet p (Blocked q t) cooldown quiet = refl
+  cooldown_quiet p (Expired t) cooldown quiet = refl
 
   quiet_world : (p : C) (e : Event C S) (h : List (Event C S)) → is_quiet p e ≡ true → SameFor p (Step.world_with s e (World.world_at s h)) (World.world_at s h)
   quiet_world p e h quiet = record {
@@ -109,6 +125,7 @@ module _ {C S : Type 0} (s : Setup C S) where
           then known_quiet p e (World.known_in s p (History.life s p h)) quiet j else Step.new_known s p) ∙ forgotten p h) i;
     };
     unblock = unblock_quiet p e (History.unblock_at s p h) quiet;
+    cooldown = cooldown_quiet p e (History.cooldown_at s p h) quiet;
     held = held_quiet p e (History.held_at s p h) quiet;
   }
 
@@ -147,6 +164,7 @@ module _ {C S : Type 0} (s : Setup C S) where
   another_quiet p sets w (Track index primary secondary) other = absurd (cc)
   another_quiet p sets w (Update infos) other = absurd (cc)
   another_quiet p sets w (UnblockExpired t) other = absurd (cc)
+  another_quiet p sets w (ForgetCooled t) other = absurd (cc)
   another_quiet p sets w (Ask question) other = refl
 
   -- WHAT CONCERNS p
@@ -156,6 +174,7 @@ module _ {C S : Type 0} (s : Setup C S) where
     sets = ap (Step.sets_after s e) alike.sets;
     peer = λ i. Step.peer_after s p e (Step.sets_after s e (alike.sets i)) (alike.peer i);
     unblock = ap (Step.unblock_after s p e) alike.unblock;
+    cooldown = ap (Step.cooldown_after s p e) alike.cooldown;
     held = ap (Step.held_after s p e) alike.held;
   }
 
@@ -166,10 +185,10 @@ module _ {C S : Type 0} (s : Setup C S) where
   does_alike p w v (Track index primary secondary) exact alike mine = ap (λ sets. World.track_event s sets index primary secondary) alike.sets
   does_alike p w v (Dial q t draw) exact alike mine =
       let a = at_key p q w v exact mine alike in
-      λ i. World.dial_event s q t draw (World.may_dial s q t (a.sets i) (a.peer i) (a.unblock i)) (World.address_with s q (a.peer i).known.info)
+      λ i. World.dial_event s q t draw (World.may_dial s q t (a.sets i) (a.peer i) (a.unblock i) (a.cooldown i)) (World.address_with s q (a.peer i).known.info)
   does_alike p w v (Listen q t draw) exact alike mine =
       let a = at_key p q w v exact mine alike in
-      λ i. World.listen_event s q t draw (World.may_listen s q t (a.sets i) (a.peer i) (a.unblock i))
+      λ i. World.listen_event s q t draw (World.may_listen s q t (a.sets i) (a.peer i) (a.unblock i) (a.cooldown i))
   does_alike p w v (Connect q dialer) exact alike mine =
       let a = at_key p q w v exact mine alike in λ i. World.connect_event s q dialer (a.peer i).status
   does_alike p w v (Release q) exact alike mine =
@@ -178,6 +197,7 @@ module _ {C S : Type 0} (s : Setup C S) where
       let a = at_key p q w v exact mine alike in λ i. if not (History.is_own s q) && not (World.is_blocked (a.unblock i) t) then Blocked q t else Nothing
   does_alike p w v (Update infos) exact alike mine = refl
   does_alike p w v (UnblockExpired t) exact alike mine = refl
+  does_alike p w v (ForgetCooled t) exact alike mine = refl
   does_alike p w v (Ask question) exact alike mine = refl
 
   -- an update changes p by p's infos alone
@@ -189,19 +209,21 @@ module _ {C S : Type 0} (s : Setup C S) where
     })
         (sym (filter_again (λ i. History.same s i.public_key p) infos));
     unblock = refl;
+    cooldown = refl;
     held = refl;
   }
-  narrowed_alike p w (Track index primary secondary) = record { sets = refl; peer = refl; unblock = refl; held = refl }
-  narrowed_alike p w (Dial q t draw) = record { sets = refl; peer = refl; unblock = refl; held = refl }
-  narrowed_alike p w (Listen q t draw) = record { sets = refl; peer = refl; unblock = refl; held = refl }
-  narrowed_alike p w (Connect q dialer) = record { sets = refl; peer = refl; unblock = refl; held = refl }
-  narrowed_alike p w (Release q) = record { sets = refl; peer = refl; unblock = refl; held = refl }
-  narrowed_alike p w (Block q t) = record { sets = refl; peer = refl; unblock = refl; held = refl }
-  narrowed_alike p w (UnblockExpired t) = record { sets = refl; peer = refl; unblock = refl; held = refl }
-  narrowed_alike p w (Ask question) = record { sets = refl; peer = refl; unblock = refl; held = refl }
+  narrowed_alike p w (Track index primary secondary) = record { sets = refl; peer = refl; unblock = refl; cooldown = refl; held = refl }
+  narrowed_alike p w (Dial q t draw) = record { sets = refl; peer = refl; unblock = refl; cooldown = refl; held = refl }
+  narrowed_alike p w (Listen q t draw) = record { sets = refl; peer = refl; unblock = refl; cooldown = refl; held = refl }
+  narrowed_alike p w (Connect q dialer) = record { sets = refl; peer = refl; unblock = refl; cooldown = refl; held = refl }
+  narrowed_alike p w (Release q) = record { sets = refl; peer = refl; unblock = refl; cooldown = refl; held = refl }
+  narrowed_alike p w (Block q t) = record { sets = refl; peer = refl; unblock = refl; cooldown = refl; held = refl }
+  narrowed_alike p w (UnblockExpired t) = record { sets = refl; peer = refl; unblock = refl; cooldown = refl; held = refl }
+  narrowed_alike p w (ForgetCooled t) = record { sets = refl; peer = refl; unblock = refl; cooldown = refl; held = refl }
+  narrowed_alike p w (Ask question) = record { sets = refl; peer = refl; unblock = refl; cooldown = refl; held = refl }
 
   pub joined : (p : C) (u v w : World C S) → SameFor p u v → SameFor p v w → SameFor p u w
-  joined p u v w a b = record { sets = a.sets ∙ b.sets; peer = a.peer ∙ b.peer; unblock = a.unblock ∙ b.unblock; held = a.held ∙ b.held }
+  joined p u v w a b = record { sets = a.sets ∙ b.sets; peer = a.peer ∙ b.peer; unblock = a.unblock ∙ b.unblock; cooldown = a.cooldown ∙ b.cooldown; held = a.held ∙ b.held }
 
   -- a call that isn't on another peer, with other infos left out
   step_alike : (p : C) (w v : World C S) (c : Call C S) → History.IsExact s → SameFor p w v → is_on_another s p c ≡ false → SameFor p (Step.step s w c) (Step.step s v (narrowed s p c))
@@ -229,7 +251,7 @@ module _ {C S : Type 0} (s : Setup C S) where
       (step_alike p (World.world_at s (World.past s cs)) (World.world_at s (World.past s ds)) c exact alike e))
 
   pub isolated : 1 ≤ s.max_sets → History.IsExact s → (p : C) (cs : List (Call C S)) → SameFor p (World.world_at s (World.past s cs)) (World.world_at s (World.past s (left_for s p cs)))
-  isolated some exact p [] = record { sets = refl; peer = refl; unblock = refl; held = refl }
+  isolated some exact p [] = record { sets = refl; peer = refl; unblock = refl; cooldown = refl; held = refl }
   isolated some exact p (c ∷ cs) = isolated_step some exact p c cs (left_for s p cs) (isolated some exact p cs) (is_on_another s p c) refl
 
   pub answers_alike : History.IsExact s → (p : C) (w v : World C S) → SameFor p w v → AnswersAlike s p w v
@@ -239,11 +261,12 @@ module _ {C S : Type 0} (s : Setup C S) where
     info = λ i. Answers.sharable_of s p (a.peer i);
     wanted = λ i. Answers.wants s p (a.peer i);
     blocked = λ t i. World.is_blocked (a.unblock i) t;
+    cooled = λ t i. Answers.is_cooled_by t (a.cooldown i);
     eligible = λ t i. History.is_entitled s p (a.sets i) && not (World.is_blocked (a.unblock i) t);
     acceptable = λ t i. History.is_entitled s p (a.sets i) && not (World.is_blocked (a.unblock i) t) && History.is_inert (a.peer i).status;
-    dialable = λ t i. Answers.is_dialable_with s p t (a.sets i) (a.peer i) (a.unblock i);
+    dialable = λ t i. Answers.is_dialable_with s p t (a.sets i) (a.peer i) (a.unblock i) (a.cooldown i);
     query = λ t i. if World.is_blocked (a.unblock i) t then (if History.is_present_with s p (a.sets i) (a.peer i).status then a.unblock i else None)
-        else if Answers.is_target s p (a.sets i) (a.peer i) && nat_lt t (a.peer i).known.dial_at then Some (a.peer i).known.dial_at
+        else if Answers.is_target s p (a.sets i) (a.peer i) && nat_lt t (World.dialable_from (a.cooldown i)) then Some (World.dialable_from (a.cooldown i))
         else None;
     does = λ c mine. does_alike p w v c exact a mine;
   }

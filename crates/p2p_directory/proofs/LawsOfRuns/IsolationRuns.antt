@@ -1,11 +1,11 @@
 -- What concerns others leaves p as it was, by the replies to a run.
 use Rattle.std.proofs.Common.{◌≡◌, ℕ, ◌≤◌, true, false, not, List, [], ◌∷◌, Option, Some, None, refl, sym, ◌∙◌, ap, subst}
-use Rattle.std.specs.Prelude.{if◌then◌else◌, is_some}
+use Rattle.std.specs.Prelude.{if◌then◌else◌}
 use Rattle.std.specs.Option.{option_map, IsSomeAnd}
 use Rattle.p2p_discovery.specs.Ingress.{takes_none}
 use Rattle.p2p_directory.specs.Calls.{Setup, Question, Call, Event}
 use Rattle.p2p_directory.specs.Calls.Question.{StatusOf, NumberTracked, NextUnblock, BlockedAt, PeerSet, LatestIndex, AllPeers, LatestUpdate, InfoOf, InfosFor, BitsAt, IsEligible, IsAcceptable, DialableAt}
-use Rattle.p2p_directory.specs.Calls.Call.{Track, Dial, Listen, Connect, Release, Update, Block, UnblockExpired, Ask}
+use Rattle.p2p_directory.specs.Calls.Call.{Track, Dial, Listen, Connect, Release, Update, Block, UnblockExpired, ForgetCooled, Ask}
 use Rattle.p2p_directory.specs.History
 use Rattle.p2p_directory.specs.World.{World}
 use Rattle.p2p_directory.specs.Answers.{was_granted, was_blocked, was_taken, is_torn_down}
@@ -30,6 +30,7 @@ module _ {C S : Type 0} (s : Setup C S) where
   moved e f w v w2 v2 c reply.UpdatePeers want more a = more a
   moved e f w v w2 v2 c (reply.Block taken) want more a = more a
   moved e f w v w2 v2 c (reply.UnblockExpired any) want more a = more a
+  moved e f w v w2 v2 c (reply.ForgetCooled count) want more a = more a
   moved e f w v w2 v2 c (reply.NextUnblock moment) want more a = more a
   moved e f w v w2 v2 c (reply.BlockedPeers peers) want more a = more a
   moved e f w v w2 v2 c (reply.Status status) want more a = more a
@@ -78,9 +79,9 @@ module _ {C S : Type 0} (s : Setup C S) where
   on_alike : (e f : Event C S) (p : C) (w v w2 v2 : World C S) (c : Call C S) (r : Reply C S) → SameFor p w v → is_on s p c ≡ true → History.IsExact s → e ≡ f →
       Run.MayReply s e w w2 c r → Run.MayReply s f v v2 c r
   on_alike e f p w v w2 v2 (Dial q t draw) r alike mine exact same a =
-      moved e f w w2 v v2 (Dial q t draw) r (λ x. ap Run.dials_name (sym same) ∙ x) (λ x. x ∙ ap (λ y. reply.Dial (was_granted y)) same) a
+      moved e f w w2 v v2 (Dial q t draw) r (λ x. ap was_granted (sym same) ∙ x) (λ x. x ∙ ap (λ y. reply.Dial (was_granted y)) same) a
   on_alike e f p w v w2 v2 (Listen q t draw) r alike mine exact same a =
-      moved e f w w2 v v2 (Listen q t draw) r (λ x. x) (λ x. x ∙ ap (λ y. reply.Listen (was_granted y)) same) a
+      moved e f w w2 v v2 (Listen q t draw) r (λ x. ap was_granted (sym same) ∙ x) (λ x. x ∙ ap (λ y. reply.Listen (was_granted y)) same) a
   on_alike e f p w v w2 v2 (Connect q dialer) r alike mine exact same a =
       let b = subst (λ x. SameFor x w v) (sym (exact q p mine)) alike in
       moved e f w w2 v v2 (Connect q dialer) r (λ x. x) (λ x. x ∙ ap (λ peer. if History.is_reserved peer.status then reply.Connect else reply.NotReserved) b.peer) a
@@ -94,6 +95,7 @@ module _ {C S : Type 0} (s : Setup C S) where
   on_alike e f p w v w2 v2 (Track index primary secondary) r alike mine exact same a = absurd (cc)
   on_alike e f p w v w2 v2 (Update infos) r alike mine exact same a = absurd (cc)
   on_alike e f p w v w2 v2 (UnblockExpired t) r alike mine exact same a = absurd (cc)
+  on_alike e f p w v w2 v2 (ForgetCooled t) r alike mine exact same a = absurd (cc)
 
   asks_it : (p : C) (question : Question C) → asks_of s p question ≡ true → asks_of_another s p question ≡ false
   asks_it p (StatusOf q) mine = ap not mine
@@ -122,6 +124,7 @@ module _ {C S : Type 0} (s : Setup C S) where
   on_it p (Track index primary secondary) mine = absurd (cc)
   on_it p (Update infos) mine = absurd (cc)
   on_it p (UnblockExpired t) mine = absurd (cc)
+  on_it p (ForgetCooled t) mine = absurd (cc)
 
   module _ (least : 1 ≤ s.max_sets) (exact : History.IsExact s) where
     does_alone : (p : C) (before : List (Call C S)) (c : Call C S) → is_on_another s p c ≡ false → Run.event_of s before c ≡ Run.event_of s (left_for s p before) c
@@ -160,6 +163,7 @@ module _ {C S : Type 0} (s : Setup C S) where
     listed_alone p before (Track index primary secondary) reply.UpdatePeers a = tt
     listed_alone p before (Track index primary secondary) (reply.Block taken) a = tt
     listed_alone p before (Track index primary secondary) (reply.UnblockExpired any) a = tt
+    listed_alone p before (Track index primary secondary) (reply.ForgetCooled count) a = tt
     listed_alone p before (Track index primary secondary) (reply.NextUnblock moment) a = tt
     listed_alone p before (Track index primary secondary) (reply.BlockedPeers peers) a = tt
     listed_alone p before (Track index primary secondary) (reply.Status status) a = tt
@@ -187,6 +191,7 @@ module _ {C S : Type 0} (s : Setup C S) where
     listed_alone p before (Ask (DialableAt t)) reply.UpdatePeers a = tt
     listed_alone p before (Ask (DialableAt t)) (reply.Block taken) a = tt
     listed_alone p before (Ask (DialableAt t)) (reply.UnblockExpired any) a = tt
+    listed_alone p before (Ask (DialableAt t)) (reply.ForgetCooled count) a = tt
     listed_alone p before (Ask (DialableAt t)) (reply.NextUnblock moment) a = tt
     listed_alone p before (Ask (DialableAt t)) (reply.BlockedPeers peers) a = tt
     listed_alone p before (Ask (DialableAt t)) (reply.Status status) a = tt
@@ -223,6 +228,7 @@ module _ {C S : Type 0} (s : Setup C S) where
     listed_alone p before (Update infos) r a = tt
     listed_alone p before (Block q t) r a = tt
     listed_alone p before (UnblockExpired t) r a = tt
+    listed_alone p before (ForgetCooled t) r a = tt
 
     keep_alone_from : (p : C) (before cs : List (Call C S)) (rs : List (Reply C S)) → Run.AreAnswers s before cs rs → KeepAlone s p before cs rs
     keep_alone_from p before [] [] answers = Isolation.isolated s least exact p before

@@ -4,7 +4,7 @@ use Rattle.std.specs.Prelude.{◌⊎◌, if◌then◌else◌}
 use Rattle.std.proofs.lemmas.List.{append-nil, append_assoc}
 use Rattle.p2p_discovery.specs.declared.discovery.Info.{Info}
 use Rattle.p2p_directory.specs.Calls.{Setup, Call}
-use Rattle.p2p_directory.specs.Calls.Call.{Track, Dial, Listen, Connect, Release, Update, Block, UnblockExpired, Ask}
+use Rattle.p2p_directory.specs.Calls.Call.{Track, Dial, Listen, Connect, Release, Update, Block, UnblockExpired, ForgetCooled, Ask}
 use Rattle.p2p_directory.specs.World
 use Rattle.p2p_directory.specs.World.{World}
 use Rattle.p2p_directory.specs.Step
@@ -104,6 +104,7 @@ module _ {C S : Type 0} (s : Setup C S) (least : 1 ≤ s.max_sets) where
   free_from first infos before (Release q ∷ cs) rs from answers = tt
   free_from first infos before (Block q t ∷ cs) rs from answers = tt
   free_from first infos before (UnblockExpired t ∷ cs) rs from answers = tt
+  free_from first infos before (ForgetCooled t ∷ cs) rs from answers = tt
   free_from first infos before (Ask question ∷ cs) rs from answers = tt
 
   keep_order_from : (before cs : List (Call C S)) (rs : List (Reply C S)) → Run.AreAnswers s before cs rs → KeepOrder s before cs rs

@@ -90,6 +90,7 @@ module _ {C S : Type 0} (s : Setup C S) where
         known = if History.is_present_with s p w.sets (w.peer p).status then (if History.is_own s p then (w.peer p).known else taught p i) else Step.new_known s p;
       };
       unblock = w.unblock;
+      cooldown = w.cooldown;
     };
     held = w.held;
   }
@@ -119,6 +120,7 @@ module _ {C S : Type 0} (s : Setup C S) where
       sets = w.sets;
       peer = λ p. record { status = (w.peer p).status; known = go p (History.is_present_with s p w.sets (w.peer p).status) (History.is_own s p) i };
       unblock = w.unblock;
+      cooldown = w.cooldown;
     };
     held = w.held;
   }

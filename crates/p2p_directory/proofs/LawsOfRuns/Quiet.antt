@@ -80,7 +80,7 @@ module _ {C S : Type 0} (s : Setup C S) where
     where
       alike : (p : C) → (is_dialable s w u p ≡ is_dialable s w t p) × (query_moment s w u p ≡ query_moment s w t p)
       alike p =
-          stays (is_target s p w.sets (w.peer p)) (is_present_in s w p) (w.unblock p) (w.peer p).known.dial_at t u
+          stays (is_target s p w.sets (w.peer p)) (is_present_in s w p) (w.unblock p) (World.dialable_from (w.cooldown p)) t u
           (absent p w) le (Listed.least_later (query_moment s w t) u next before answer.1 p)
 
   -- and there is no other

@@ -1,30 +1,29 @@
--- Grants keep the cooldown within a life, and blocks over all lives.
-use Rattle.std.proofs.Common.{◌≡◌, ℕ, ◌+◌, ◌≤◌, max, Bool, true, false, not, ◌&&◌, List, [], ◌∷◌, ◌++◌, Option, Some, None, refl, sym, subst, arith}
-use Rattle.std.specs.Prelude.{if◌then◌else◌, nat_lt, nat_le, option_to_list, filter}
-use Rattle.std.specs.List.{list_all}
+-- Grants keep the cooldown, and blocks hold, over all lives.
+use Rattle.std.proofs.Common.{◌≡◌, ℕ, ◌+◌, ◌≤◌, max, Bool, true, false, not, ◌&&◌, ◌||◌, List, [], ◌∷◌, ◌++◌, Option, Some, None, refl, sym, subst, arith}
+use Rattle.std.specs.Prelude.{if◌then◌else◌, nat_lt, nat_le, option_to_list, option_map, filter}
+use Rattle.std.specs.List.{list_all, list_any}
 use Rattle.std.proofs.lemmas.Bool.{leb-true, ltb-false, not-true, and_parts}
 use Rattle.p2p_discovery.specs.declared.types.ingress.Ingress.{Ingress}
 use Rattle.p2p_directory.specs.declared.record.Status.{Status}
 use Rattle.p2p_directory.specs.Calls.{Setup, Call, SetAt, Grant, Event}
-use Rattle.p2p_directory.specs.Calls.Call.{Track, Dial, Listen, Connect, Release, Update, Block, UnblockExpired, Ask}
+use Rattle.p2p_directory.specs.Calls.Call.{Track, Dial, Listen, Connect, Release, Update, Block, UnblockExpired, ForgetCooled, Ask}
 use Rattle.p2p_directory.specs.declared.record.Status.TheVariants.{Inert, Reserved, Active}
-use Rattle.p2p_directory.specs.Calls.Event.{Nothing, Tracked, Granted, Connected, Released, Updated, Blocked, Expired}
+use Rattle.p2p_directory.specs.Calls.Event.{Nothing, Tracked, Granted, Connected, Released, Updated, Blocked, Expired, Forgot}
 use Rattle.p2p_directory.specs.Moments.{cap}
 use Rattle.p2p_directory.specs.History
-use Rattle.p2p_directory.specs.History.{last_with, found_with}
+use Rattle.p2p_directory.specs.History.{last_with, found_with, unless_ended}
 use Rattle.p2p_directory.specs.World
 use Rattle.p2p_directory.specs.Step
 use Rattle.p2p_directory.specs.World.{Known, Peer, World}
-use Rattle.p2p_directory.specs.Laws.Grants.{grants_in, AreCooled, IsCooledAt, KeepsCooldown, moment_or, NeverGoBack, blocks_in, AreOver, IsOverAt, KeepsBlocks}
+use Rattle.p2p_directory.specs.Laws.Grants.{IsCooledAfter, IsCooledUnlessForgotten, IsSpaced, IsSpacedUnlessForgotten, KeepsCooldown, KeepsCooldownUnlessForgotten, moment_or, NeverGoBack, blocks_in, AreOver, IsOverAt, KeepsBlocks}
 use Rattle.p2p_directory.proofs.Definitions.Steps
-use Rattle.p2p_directory.proofs.Definitions.Knowledge
 
 module _ {C S : Type 0} (s : Setup C S) where
   -- WHAT AN EVENT TELLS OF THE WORLD BEFORE IT
 
   -- p's cooldown is over at t, and it isn't blocked
   pub record IsFree (p : C) (w : World C S) (t : ℕ) : Type 0 where
-    pub cool : (w.peer p).known.reservable_at ≤ t
+    pub cool : World.reservable_from (w.cooldown p) ≤ t
     pub unblocked : World.is_blocked (w.unblock p) t ≡ false
 
   -- an event of a call at t
@@ -32,13 +31,14 @@ module _ {C S : Type 0} (s : Setup C S) where
   Fits w t (Granted q grant) = (grant.t ≡ t) × IsFree q w t
   Fits w t (Blocked q u) = (u ≡ t) × (World.is_blocked (w.unblock q) t ≡ false)
   Fits w t (Expired u) = u ≡ t
+  Fits w t (Forgot u) = u ≡ t
   Fits w t _ = Unit {0}
 
-  is_free : (p : C) (w : World C S) (t : ℕ) → World.may_listen s p t w.sets (w.peer p) (w.unblock p) ≡ true → IsFree p w t
+  is_free : (p : C) (w : World C S) (t : ℕ) → World.may_listen s p t w.sets (w.peer p) (w.unblock p) (w.cooldown p) ≡ true → IsFree p w t
   is_free p w t e =
       let one = and_parts _ _ e in
       let two = and_parts _ _ one.0 in
-      record { cool = leb-true (w.peer p).known.reservable_at t one.1; unblocked = not-true _ two.1 }
+      record { cool = leb-true (World.reservable_from (w.cooldown p)) t one.1; unblocked = not-true _ two.1 }
 
   fits : (sets : List (SetAt C)) (w : World C S) (c : Call C S) (now : ℕ) → Fits w (moment_or s now c) (World.event_in s sets w c)
   fits sets w (Track index primary secondary) now = go (list_all (λ x. nat_lt x.index index) sets)
@@ -46,15 +46,15 @@ module _ {C S : Type 0} (s : Setup C S) where
       go : (b : Bool) → Fits w now (if b then Tracked (record { index = index; primary = primary; secondary = filter (λ q. not (History.is_in s q primary)) secondary }) else Nothing)
       go true = tt
       go false = tt
-  fits sets w (Dial q t draw) now = go (World.may_dial s q t w.sets (w.peer q) (w.unblock q)) (World.address_with s q (w.peer q).known.info) refl
+  fits sets w (Dial q t draw) now = go (World.may_dial s q t w.sets (w.peer q) (w.unblock q) (w.cooldown q)) (World.address_with s q (w.peer q).known.info) refl
     where
-      go : (granted : Bool) (address : Option Ingress) → World.may_dial s q t w.sets (w.peer q) (w.unblock q) ≡ granted → Fits w t (World.dial_event s q t draw granted address)
+      go : (granted : Bool) (address : Option Ingress) → World.may_dial s q t w.sets (w.peer q) (w.unblock q) (w.cooldown q) ≡ granted → Fits w t (World.dial_event s q t draw granted address)
       go granted None e = tt
       go false (Some a) e = tt
       go true (Some a) e = (refl, is_free q w t (and_parts _ _ (and_parts _ _ e).0).0)
-  fits sets w (Listen q t draw) now = go (World.may_listen s q t w.sets (w.peer q) (w.unblock q)) refl
+  fits sets w (Listen q t draw) now = go (World.may_listen s q t w.sets (w.peer q) (w.unblock q) (w.cooldown q)) refl
     where
-      go : (granted : Bool) → World.may_listen s q t w.sets (w.peer q) (w.unblock q) ≡ granted → Fits w t (World.listen_event s q t draw granted)
+      go : (granted : Bool) → World.may_listen s q t w.sets (w.peer q) (w.unblock q) (w.cooldown q) ≡ granted → Fits w t (World.listen_event s q t draw granted)
       go true e = (refl, is_free q w t e)
       go false e = tt
   fits sets w (Connect q dialer) now = go (w.peer q).status
@@ -75,6 +75,7 @@ module _ {C S : Type 0} (s : Setup C S) where
       go true e = (refl, not-true _ (and_parts _ _ e).1)
       go false e = tt
   fits sets w (UnblockExpired t) now = refl
+  fits sets w (ForgetCooled t) now = refl
   fits sets w (Ask question) now = tt
 
   -- a grant of p, at its call's moment
@@ -95,6 +96,7 @@ module _ {C S : Type 0} (s : Setup C S) where
   grant_fits exact p w t (Updated infos) f = tt
   grant_fits exact p w t (Blocked q u) f = tt
   grant_fits exact p w t (Expired u) f = tt
+  grant_fits exact p w t (Forgot u) f = tt
 
   -- the world before a further call, and what that call does
   abbrev pub world_before : List (Call C S) → World C S
@@ -111,52 +113,86 @@ module _ {C S : Type 0} (s : Setup C S) where
 
   -- COOLDOWN
 
-  cooled_more : (gs : List Grant) (t u : ℕ) → t ≤ u → AreCooled s t gs → AreCooled s u gs
-  cooled_more [] t u le cooled = tt
-  cooled_more (g ∷ gs) t u le cooled = (omega (arith, cooled.0), cooled_more gs t u le cooled.1)
+  -- a grant that was found, with the events after it, and isn't forgotten by them
+  cooled_where_kept : (found : Option (Grant × List (Event C S))) (t : ℕ) →
+      World.reservable_from (option_map (History.cooldown_of s) (unless_ended (History.is_forgetting s) found)) ≤ t → IsCooledUnlessForgotten s t found
+  cooled_where_kept None t le = tt
+  cooled_where_kept (Some found) t le = λ kept.
+      subst (λ b. World.reservable_from (option_map (History.cooldown_of s) (if b then None else Some found.0)) ≤ t) kept le
 
-  -- moments that are capped stay below a capped moment
-  cooled_capped : (gs : List Grant) (t : ℕ) → AreCooled s t gs → AreCooled s (cap (t + s.cooldown)) gs
-  cooled_capped [] t cooled = tt
-  cooled_capped (g ∷ gs) t cooled = (omega (arith, cooled.0), cooled_capped gs t cooled.1)
+  spaced_where_kept : (p : C) (h : List (Event C S)) (t : ℕ) (found : Option Grant) → GrantFits p (World.world_at s h) t found →
+      IsSpacedUnlessForgotten s found (last_with (History.grant_by s p) h)
+  spaced_where_kept p h t None f = tt
+  spaced_where_kept p h t (Some grant) f = cooled_where_kept (last_with (History.grant_by s p) h) grant.t (omega (arith, f.0, f.1.cool))
 
-  cooled_step : (p : C) (e : Event C S) (w : World C S) (l : List (Event C S)) (t : ℕ) (found : Option Grant) →
-      (w.peer p).known.reservable_at ≡ History.reservable_in s p l → GrantFits p w t found → AreCooled s (History.reservable_in s p l) (grants_in s p l) →
-      AreCooled s (History.reservable_after s (found_with found e (last_with (History.grant_by s p) l))) (option_to_list found ++ grants_in s p l)
-  cooled_step p e w l t None same f cooled = subst (λ n. AreCooled s n (grants_in s p l)) (sym (Knowledge.reservable_other s e (last_with (History.grant_by s p) l))) cooled
-  cooled_step p e w l t (Some grant) same f cooled =
-      (omega arith, cooled_capped (grants_in s p l) grant.t (cooled_more (grants_in s p l) (History.reservable_in s p l) grant.t (omega (arith, same, f.0, f.1.cool)) cooled))
+  -- a further call grants p only where the cooldown of the grant before is over, or that is forgotten
+  pub next_spaced : History.IsExact s → (p : C) (c : Call C S) (cs : List (Call C S)) →
+      IsSpacedUnlessForgotten s (History.grant_by s p (event_of c cs)) (last_with (History.grant_by s p) (World.past s cs))
+  next_spaced exact p c cs = spaced_where_kept p (World.past s cs) (moment_or s 0 c) (History.grant_by s p (event_of c cs)) (event_fits exact p c cs 0)
 
-  -- when p may be reserved again, the cooldown after each grant of its life is over
-  cooled : History.IsExact s → (p : C) (cs : List (Call C S)) →
-      AreCooled s (History.reservable_in s p (History.life s p (World.past s cs))) (grants_in s p (History.life s p (World.past s cs)))
-  unfolding History.life
-  cooled exact p [] = tt
-  cooled exact p (c ∷ cs) = go (cooled exact p cs) (History.is_present s p (World.past s (c ∷ cs)))
-    where
-      go : AreCooled s (History.reservable_in s p (History.life s p (World.past s cs))) (grants_in s p (History.life s p (World.past s cs))) → (b : Bool) →
-          AreCooled s (History.reservable_in s p (if b then event_of c cs ∷ History.life s p (World.past s cs) else []))
-          (grants_in s p (if b then event_of c cs ∷ History.life s p (World.past s cs) else []))
-      go before true =
-          cooled_step p (event_of c cs) (world_before cs) (History.life s p (World.past s cs)) (moment_or s 0 c) (History.grant_by s p (event_of c cs))
-          refl (event_fits exact p c cs 0) before
-      go before false = tt
-
-  cooled_where : (p : C) (cs : List (Call C S)) (found : Option Grant) (t : ℕ) → GrantFits p (world_before cs) t found →
-      AreCooled s (History.reservable_in s p (History.life s p (World.past s cs))) (grants_in s p (History.life s p (World.past s cs))) →
-      IsCooledAt s found (grants_in s p (History.life s p (World.past s cs)))
-  cooled_where p cs None t f cooled = tt
-  cooled_where p cs (Some grant) t f cooled =
-      cooled_more (grants_in s p (History.life s p (World.past s cs))) (History.reservable_in s p (History.life s p (World.past s cs))) grant.t (omega (arith, f.0, f.1.cool)) cooled
-
-  -- a further call grants p only where the cooldown is over
-  pub next_cooled : History.IsExact s → (p : C) (c : Call C S) (cs : List (Call C S)) → IsCooledAt s (History.grant_by s p (event_of c cs)) (grants_in s p (History.life s p (World.past s cs)))
-  next_cooled exact p c cs = cooled_where p cs (History.grant_by s p (event_of c cs)) (moment_or s 0 c) (event_fits exact p c cs 0) (cooled exact p cs)
-
-  -- within a life, grants keep the cooldown
-  pub keeps_cooldown : History.IsExact s → (p : C) (cs : List (Call C S)) → KeepsCooldown s p (World.past s cs)
+  -- grants keep the cooldown, unless the first is forgotten in between
+  pub keeps_cooldown : History.IsExact s → (p : C) (cs : List (Call C S)) → KeepsCooldownUnlessForgotten s p (World.past s cs)
   keeps_cooldown exact p [] = tt
-  keeps_cooldown exact p (c ∷ cs) = (next_cooled exact p c cs, keeps_cooldown exact p cs)
+  keeps_cooldown exact p (c ∷ cs) = (next_spaced exact p c cs, keeps_cooldown exact p cs)
+
+  -- a grant that is forgotten is one whose cooldown is over by now
+  abbrev IsOverWhereForgotten : ℕ → Option (Grant × List (Event C S)) → Type 0
+  IsOverWhereForgotten now None = Unit {0}
+  IsOverWhereForgotten now (Some found) = list_any (History.is_forgetting s found.0) found.1 ≡ true → cap (found.0.t + s.cooldown) ≤ now
+
+  -- what an event forgets has come to its dial moment, which isn't before the reservable one
+  over_by : (e : Event C S) (w : World C S) (t : ℕ) → Fits w t e → (grant : Grant) → History.is_forgetting s grant e ≡ true → cap (grant.t + s.cooldown) ≤ t
+  over_by (Forgot u) w t f grant e = omega (arith, f, leb-true (History.cooldown_of s grant).dial_at u e)
+  over_by Nothing w t f grant e = absurd (cc)
+  over_by (Tracked taken) w t f grant e = absurd (cc)
+  over_by (Granted q other) w t f grant e = absurd (cc)
+  over_by (Connected q dialer) w t f grant e = absurd (cc)
+  over_by (Released q direction) w t f grant e = absurd (cc)
+  over_by (Updated infos) w t f grant e = absurd (cc)
+  over_by (Blocked q u) w t f grant e = absurd (cc)
+  over_by (Expired u) w t f grant e = absurd (cc)
+
+  forgotten_step : (e : Event C S) (w : World C S) (t now : ℕ) → t ≤ now → Fits w t e → (given : Option Grant) (found : Option (Grant × List (Event C S))) →
+      IsOverWhereForgotten t found → IsOverWhereForgotten now (found_with given e found)
+  forgotten_step e w t now le f (Some grant) found over = λ forgotten. absurd (cc)
+  forgotten_step e w t now le f None None over = tt
+  forgotten_step e w t now le f None (Some found) over = go (History.is_forgetting s found.0 e) refl
+    where
+      go : (b : Bool) → History.is_forgetting s found.0 e ≡ b → (b || list_any (History.is_forgetting s found.0) found.1) ≡ true → cap (found.0.t + s.cooldown) ≤ now
+      go true e2 forgotten = omega (arith, le, over_by e w t f found.0 e2)
+      go false e2 forgotten = omega (arith, le, over forgotten)
+
+  over_where_forgotten : (p : C) (cs : List (Call C S)) (now : ℕ) → NeverGoBack s now cs → IsOverWhereForgotten now (last_with (History.grant_by s p) (World.past s cs))
+  over_where_forgotten p [] now on = tt
+  over_where_forgotten p (c ∷ cs) now on =
+      forgotten_step (event_of c cs) (world_before cs) (moment_or s now c) now on.0 (call_fits c cs now) (History.grant_by s p (event_of c cs)) (last_with (History.grant_by s p) (World.past s cs))
+      (over_where_forgotten p cs (moment_or s now c) on.1)
+
+  -- forgotten or not
+  cooled_either : (found : Option (Grant × List (Event C S))) (t u : ℕ) → t ≡ u → IsCooledUnlessForgotten s u found → IsOverWhereForgotten t found → IsCooledAfter s u found
+  cooled_either None t u e kept over = tt
+  cooled_either (Some found) t u e kept over = go (list_any (History.is_forgetting s found.0) found.1) refl
+    where
+      go : (b : Bool) → list_any (History.is_forgetting s found.0) found.1 ≡ b → cap (found.0.t + s.cooldown) ≤ u
+      go true forgotten = omega (arith, e, over forgotten)
+      go false not_forgotten = kept not_forgotten
+
+  spaced_where : (p : C) (h : List (Event C S)) (t : ℕ) (found : Option Grant) → GrantFits p (World.world_at s h) t found →
+      IsOverWhereForgotten t (last_with (History.grant_by s p) h) → IsSpaced s found (last_with (History.grant_by s p) h)
+  spaced_where p h t None f over = tt
+  spaced_where p h t (Some grant) f over =
+      cooled_either (last_with (History.grant_by s p) h) t grant.t (sym f.0) (spaced_where_kept p h t (Some grant) f) over
+
+  -- where moments never go back, a further call grants p only where the cooldown of the grant before is over
+  pub next_spaced_forward : History.IsExact s → (p : C) (c : Call C S) (cs : List (Call C S)) (now : ℕ) → NeverGoBack s now (c ∷ cs) →
+      IsSpaced s (History.grant_by s p (event_of c cs)) (last_with (History.grant_by s p) (World.past s cs))
+  next_spaced_forward exact p c cs now on =
+      spaced_where p (World.past s cs) (moment_or s now c) (History.grant_by s p (event_of c cs)) (event_fits exact p c cs now) (over_where_forgotten p cs (moment_or s now c) on.1)
+
+  -- where moments never go back, grants keep the cooldown, over all lives
+  pub keeps_cooldown_forward : History.IsExact s → (p : C) (cs : List (Call C S)) (now : ℕ) → NeverGoBack s now cs → KeepsCooldown s p (World.past s cs)
+  keeps_cooldown_forward exact p [] now on = tt
+  keeps_cooldown_forward exact p (c ∷ cs) now on = (next_spaced_forward exact p c cs now on, keeps_cooldown_forward exact p cs (moment_or s now c) on.1)
 
   -- BLOCKS
 
@@ -212,6 +248,7 @@ module _ {C S : Type 0} (s : Setup C S) where
   over_step exact p (Connected q dialer) h t now le f over = known_later p h t now le over
   over_step exact p (Released q direction) h t now le f over = known_later p h t now le over
   over_step exact p (Updated infos) h t now le f over = known_later p h t now le over
+  over_step exact p (Forgot u) h t now le f over = known_later p h t now le over
 
   over : History.IsExact s → (p : C) (cs : List (Call C S)) (now : ℕ) → NeverGoBack s now cs → AreKnown p (World.past s cs) now
   over exact p [] now on = tt

@@ -22,7 +22,7 @@ use Rattle.p2p_directory.specs.Refinement.{Refines}
 use Rattle.p2p_directory.specs.Run.{update_in}
 use Rattle.p2p_directory.proofs.Definitions.Listed
 use Rattle.p2p_directory.proofs.Definitions.Listed.{lists_alike, somebody_alike}
-use Rattle.p2p_directory.proofs.Refinement.CallsRefine.{unchanged}
+use Rattle.p2p_directory.proofs.Refinement.CallsRefine.{same_cooldowns, unchanged}
 use Rattle.p2p_directory.proofs.Refinement.RecordOfPeer.{record_with, shown_entitled, eligible_is_entitled, absent_not_entitled, myself_is_own, le_not_lt}
 
 swap : (a b : Bool) → (a && b) ≡ (b && a)
@@ -64,7 +64,7 @@ module _ {C S : Type 0} (s : Setup C S) where
       (λ i. not (option_map_or (λ r. is_myself r.address) (stands.records p i) false) && not (World.is_blocked (stands.blocks p i) t))
       ∙ ap (λ b. not b && not (World.is_blocked (w.unblock p) t)) (go (is_own s p) (is_present_in s w p) refl (myself_is_own s p (w.peer p).known))
     where
-      go : (own b : Bool) → is_present_in s w p ≡ b → is_myself (record_with s p w.sets (w.peer p)).address ≡ own → option_map_or (λ r. is_myself r.address) (if b then Some (record_with s p w.sets (w.peer p)) else None) false ≡ own
+      go : (own b : Bool) → is_present_in s w p ≡ b → is_myself (record_with s p w.sets (w.cooldown p) (w.peer p)).address ≡ own → option_map_or (λ r. is_myself r.address) (if b then Some (record_with s p w.sets (w.cooldown p) (w.peer p)) else None) false ≡ own
       go own true e is = is
       go false false e is = refl
       go true false e is = absurd (own_absent e (sym (myself_is_own s p (w.peer p).known) ∙ is))
@@ -76,7 +76,8 @@ module _ {C S : Type 0} (s : Setup C S) where
   tie_block w d d' p t stands change = record {
     config = change.config ∙ stands.config;
     sets = change.sets ∙ stands.sets;
-    records = λ q. ap (λ records. record_of s.cmp (record d { records = records }) q) change.records ∙ stands.records q ∙ unchanged s q w.sets (w.peer q);
+    records = λ q. ap (λ records. record_of s.cmp (record d { records = records }) q) change.records ∙ stands.records q ∙ unchanged s q w.sets (w.cooldown q) (w.peer q);
+    cooldowns = same_cooldowns s w d d' stands change.cooldowns;
     blocks = λ q. change.blocks q ∙ (λ i. if is_at (s.cmp p) q then Some (cap (t + (stands.config i).block_duration)) else stands.blocks q i);
   }
 
@@ -84,7 +85,8 @@ module _ {C S : Type 0} (s : Setup C S) where
   tie_ended w d d' t stands change = record {
     config = change.config ∙ stands.config;
     sets = change.sets ∙ stands.sets;
-    records = λ q. ap (λ records. record_of s.cmp (record d { records = records }) q) change.records ∙ stands.records q ∙ unchanged s q w.sets (w.peer q);
+    records = λ q. ap (λ records. record_of s.cmp (record d { records = records }) q) change.records ∙ stands.records q ∙ unchanged s q w.sets (w.cooldown q) (w.peer q);
+    cooldowns = same_cooldowns s w d d' stands change.cooldowns;
     blocks = λ q. change.blocks q ∙ ap (if_later t) (stands.blocks q) ∙ left q (w.unblock q);
   }
     where
@@ -101,7 +103,7 @@ module _ {C S : Type 0} (s : Setup C S) where
   pub tie_eligible : (w : World C S) (d : DirectoryView C S) (p : C) (t : ℕ) → Refines s w d → is_free_and s.cmp is_eligible d t p ≡ is_eligible_at s w p t
   tie_eligible w d p t stands =
       (λ i. not (World.is_blocked (stands.blocks p i) t) && option_map_or is_eligible (stands.records p i) false)
-      ∙ ap (λ b. not (World.is_blocked (w.unblock p) t) && b) (shown_entitled s p w.sets (w.peer p))
+      ∙ ap (λ b. not (World.is_blocked (w.unblock p) t) && b) (shown_entitled s p w.sets (w.cooldown p) (w.peer p))
       ∙ swap (not (World.is_blocked (w.unblock p) t)) (is_entitled s p w.sets)
 
   pub tie_acceptable : (w : World C S) (d : DirectoryView C S) (p : C) (t : ℕ) → Refines s w d → is_free_and s.cmp is_acceptable d t p ≡ is_acceptable_at s w p t
@@ -110,8 +112,8 @@ module _ {C S : Type 0} (s : Setup C S) where
       ∙ ap (λ b. not (World.is_blocked (w.unblock p) t) && b) (shown_acceptable (is_present_in s w p) refl)
       ∙ swapped (not (World.is_blocked (w.unblock p) t)) (is_entitled s p w.sets) (is_inert (w.peer p).status)
     where
-      shown_acceptable : (b : Bool) → is_present_in s w p ≡ b → option_map_or is_acceptable (if b then Some (record_with s p w.sets (w.peer p)) else None) false ≡ (is_entitled s p w.sets && is_inert (w.peer p).status)
-      shown_acceptable true e = ap (λ b. b && is_inert (w.peer p).status) (eligible_is_entitled s p w.sets (w.peer p))
+      shown_acceptable : (b : Bool) → is_present_in s w p ≡ b → option_map_or is_acceptable (if b then Some (record_with s p w.sets (w.cooldown p) (w.peer p)) else None) false ≡ (is_entitled s p w.sets && is_inert (w.peer p).status)
+      shown_acceptable true e = ap (λ b. b && is_inert (w.peer p).status) (eligible_is_entitled s p w.sets (w.cooldown p) (w.peer p))
       shown_acceptable false e = ap (λ b. b && is_inert (w.peer p).status) (sym (absent_not_entitled s (is_own s p) (is_named s p w.sets) (is_persistent s p) (is_inert (w.peer p).status) e))
 
   -- ALL PEERS

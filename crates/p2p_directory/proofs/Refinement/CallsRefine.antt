@@ -1,5 +1,5 @@
 -- What a call changes of a directory is a step of the world that it refines.
-use Rattle.std.proofs.Common.{◌≡◌, ℕ, suc, ◌+◌, Bool, true, false, ◌||◌, ◌&&◌, not, List, [], ◌∷◌, ◌++◌, Option, Some, None, sym, ap, subst, refl, ◌∙◌}
+use Rattle.std.proofs.Common.{◌≡◌, ℕ, suc, Bool, true, false, ◌||◌, ◌&&◌, not, List, [], ◌∷◌, ◌++◌, Option, Some, None, sym, ap, subst, refl, ◌∙◌}
 use Rattle.std.specs.Prelude.{if◌then◌else◌, is_some, nat_lt, nat_le}
 use Rattle.std.specs.declared.cmp.Ordering.TheVariants.{Equal}
 use Rattle.std.specs.BTreeMap.{is_at}
@@ -10,21 +10,22 @@ use Rattle.p2p_discovery.specs.declared.types.ingress.Ingress.{Ingress}
 use Rattle.p2p_directory.specs.declared.record.Address.TheVariants.{Myself, Bootstrapper}
 use Rattle.p2p_directory.specs.declared.record.Status.{Status}
 use Rattle.p2p_directory.specs.declared.record.Status.TheVariants.{Inert, Reserved}
-use Rattle.p2p_directory.specs.Calls.{Setup, Call, SetAt, Direction, Grant}
-use Rattle.p2p_directory.specs.Calls.Event.{Tracked, Granted, Released}
-use Rattle.p2p_directory.specs.Moments.{cap, jitter}
+use Rattle.p2p_directory.specs.Calls.{Setup, Call, SetAt, Direction, Grant, Cooldown}
+use Rattle.p2p_directory.specs.Calls.Event.{Tracked, Granted, Released, Forgot}
 use Rattle.p2p_directory.specs.History.{same, is_own, is_inert, is_persistent, is_named, is_present_with, last_of}
 use Rattle.p2p_directory.specs.World
 use Rattle.p2p_directory.specs.Step
-use Rattle.p2p_directory.specs.World.{World, Known, Peer, last_ingress_by, may_listen}
+use Rattle.p2p_directory.specs.World.{World, Known, Peer, last_ingress_by, reservable_from, may_listen}
 use Rattle.p2p_directory.specs.Step.{new_known, world_with}
-use Rattle.p2p_directory.specs.Answers.{is_present_in, IsTeardown, status_in}
-use Rattle.p2p_directory.specs.Record.{RecordView, new_record, is_eligible, reserved_record, unless_deletable}
+use Rattle.p2p_directory.specs.Answers.{is_present_in, IsTeardown, status_in, is_cooled_by, is_cooled_at, IsNumberCooled}
+use Rattle.p2p_directory.specs.Record.{RecordView, new_record, with_cooldown, moments_after, is_eligible, reserved_record, unless_deletable}
 use Rattle.p2p_directory.specs.PeerSets.{latest_index, is_above}
 use Rattle.p2p_directory.specs.Blocks.{unblock_in}
-use Rattle.p2p_directory.specs.Directory.{DirectoryView, unblock_of, record_of, first_record, kept_after_release, record_with_sets, is_connectable, ChangesRecord, Reserves, TakesSet, AreTornDown}
+use Rattle.p2p_directory.specs.Cooldowns.{cooldown_in, unless_cooled}
+use Rattle.p2p_directory.specs.Directory.{DirectoryView, unblock_of, cooldown_of, is_cooled_in, IsNumberCooledIn, ForgetsCooled, record_of, first_record, kept_after_release, record_with_sets, is_connectable, ChangesRecord, Reserves, TakesSet, AreTornDown}
 use Rattle.p2p_directory.specs.Refinement.{Refines, config_of, metadata_of, address_known}
 use Rattle.p2p_directory.proofs.Refinement.RecordOfPeer.{record_with, shown, shown_entitled, shown_busy, shown_with_sets, some_given, release_of_record, settled, failed_once}
+use Rattle.p2p_directory.proofs.Definitions.Listed.{lists_alike}
 use Rattle.p2p_directory.proofs.Definitions.Start.{new_world, new_at_start}
 use Rattle.p2p_directory.proofs.Definitions.Latest
 use Rattle.p2p_directory.proofs.Definitions.Latest.{latest_decides}
@@ -39,7 +40,7 @@ module _ {C S : Type 0} (s : Setup C S) where
   pub tie_status : (w : World C S) (d : DirectoryView C S) (p : C) → Refines s w d → option_map (λ r. r.status) (record_of s.cmp d p) ≡ status_in s w p
   tie_status w d p stands = ap (option_map (λ r. r.status)) (stands.records p) ∙ go (is_present_in s w p)
     where
-      go : (b : Bool) → option_map (λ r. r.status) (if b then Some (record_with s p w.sets (w.peer p)) else None) ≡ (if b then Some (w.peer p).status else None)
+      go : (b : Bool) → option_map (λ r. r.status) (if b then Some (record_with s p w.sets (w.cooldown p) (w.peer p)) else None) ≡ (if b then Some (w.peer p).status else None)
       go true = refl
       go false = refl
 
@@ -56,12 +57,12 @@ module _ {C S : Type 0} (s : Setup C S) where
     members = λ q.
         down.members q
         ∙ (λ i. is_connectable s.cmp (stands.records q i) && not (option_map_or is_eligible (stands'.records q i) false))
-        ∙ (λ i. shown_busy s q w.sets (w.peer q) i && not (shown_entitled s q v.sets (v.peer q) i));
+        ∙ (λ i. shown_busy s q w.sets (w.cooldown q) (w.peer q) i && not (shown_entitled s q v.sets (v.cooldown q) (v.peer q) i));
   }
 
   -- THE START
 
-  started : (q : C) → first_record s.cmp s.bootstrappers s.own q ≡ shown s q [] (record { status = Inert; known = new_known s q })
+  started : (q : C) → first_record s.cmp s.bootstrappers s.own q ≡ shown s q [] None (record { status = Inert; known = new_known s q })
   started q = go (is_own s q) (last_ingress_by s.cmp q s.bootstrappers) (list_any (λ b. same s b.0 q) s.bootstrappers) (some_given s q s.bootstrappers)
     where
       shown_by : (own : Bool) (given : Option Ingress) (any : Bool) → Option (RecordView C S)
@@ -84,13 +85,14 @@ module _ {C S : Type 0} (s : Setup C S) where
       go false None any e = ap (shown_by false None) e
       go false (Some a) any e = ap (shown_by false (Some a)) e
 
-  pub tie_start : (d : DirectoryView C S) → d.config ≡ config_of s → d.sets ≡ [] → d.blocks ≡ [] → ((q : C) → record_of s.cmp d q ≡ first_record s.cmp s.bootstrappers s.own q) → Refines s (World.world_at s []) d
-  tie_start d config sets blocks records =
+  pub tie_start : (d : DirectoryView C S) → d.config ≡ config_of s → d.sets ≡ [] → d.blocks ≡ [] → d.cooldowns ≡ [] → ((q : C) → record_of s.cmp d q ≡ first_record s.cmp s.bootstrappers s.own q) → Refines s (World.world_at s []) d
+  tie_start d config sets blocks cooldowns records =
       let start : Refines s (new_world s) d = record {
         config = config;
         sets = sets;
         records = λ q. records q ∙ started q;
         blocks = λ q. ap (λ blocks. unblock_in s.cmp blocks q) blocks;
+        cooldowns = λ q. ap (λ cooldowns. cooldown_in s.cmp cooldowns q) cooldowns;
       } in subst (λ w. Refines s w d) (sym (new_at_start s)) start
 
   -- CHANGES
@@ -99,26 +101,30 @@ module _ {C S : Type 0} (s : Setup C S) where
   pub same_blocks : (w : World C S) (d d' : DirectoryView C S) → Refines s w d → d'.blocks ≡ d.blocks → (q : C) → unblock_of s.cmp d' q ≡ w.unblock q
   same_blocks w d d' stands same q = ap (λ blocks. unblock_in s.cmp blocks q) same ∙ stands.blocks q
 
+  -- moments that stay are those of the world
+  pub same_cooldowns : (w : World C S) (d d' : DirectoryView C S) → Refines s w d → d'.cooldowns ≡ d.cooldowns → (q : C) → cooldown_of s.cmp d' q ≡ w.cooldown q
+  same_cooldowns w d d' stands same q = ap (λ cooldowns. cooldown_in s.cmp cooldowns q) same ∙ stands.cooldowns q
+
   -- a peer that an event does not change
-  pub unchanged : (p : C) (sets : List (SetAt C)) (peer : Peer C S) →
-      shown s p sets peer ≡ shown s p sets (record { status = peer.status; known = if is_present_with s p sets peer.status then peer.known else new_known s p })
-  unchanged p sets peer = go (is_present_with s p sets peer.status)
+  pub unchanged : (p : C) (sets : List (SetAt C)) (cooldown : Option Cooldown) (peer : Peer C S) →
+      shown s p sets cooldown peer ≡ shown s p sets cooldown (record { status = peer.status; known = if is_present_with s p sets peer.status then peer.known else new_known s p })
+  unchanged p sets cooldown peer = go (is_present_with s p sets peer.status)
     where
-      go : (b : Bool) → (if b then Some (record_with s p sets peer) else None)
-          ≡ (if b then Some (record_with s p sets (record { status = peer.status; known = if b then peer.known else new_known s p })) else None)
+      go : (b : Bool) → (if b then Some (record_with s p sets cooldown peer) else None)
+          ≡ (if b then Some (record_with s p sets cooldown (record { status = peer.status; known = if b then peer.known else new_known s p })) else None)
       go true = refl
       go false = refl
 
   -- a peer that is present after an event
-  pub remains : (p : C) (sets : List (SetAt C)) (status : Status) (known : Known C S) → is_present_with s p sets status ≡ true →
-      Some (record_with s p sets (record { status = status; known = known })) ≡ shown s p sets (record { status = status; known = if is_present_with s p sets status then known else new_known s p })
-  remains p sets status known e =
-      λ i. if sym e i then Some (record_with s p sets (record { status = status; known = if sym e i then known else new_known s p })) else None
+  pub remains : (p : C) (sets : List (SetAt C)) (cooldown : Option Cooldown) (status : Status) (known : Known C S) → is_present_with s p sets status ≡ true →
+      Some (record_with s p sets cooldown (record { status = status; known = known })) ≡ shown s p sets cooldown (record { status = status; known = if is_present_with s p sets status then known else new_known s p })
+  remains p sets cooldown status known e =
+      λ i. if sym e i then Some (record_with s p sets cooldown (record { status = status; known = if sym e i then known else new_known s p })) else None
 
   -- the same where it may be absent then
-  settles : (p : C) (sets : List (SetAt C)) (status : Status) (known : Known C S) →
-      shown s p sets (record { status = status; known = known }) ≡ shown s p sets (record { status = status; known = if is_present_with s p sets status then known else new_known s p })
-  settles p sets status known = unchanged p sets (record { status = status; known = known })
+  settles : (p : C) (sets : List (SetAt C)) (cooldown : Option Cooldown) (status : Status) (known : Known C S) →
+      shown s p sets cooldown (record { status = status; known = known }) ≡ shown s p sets cooldown (record { status = status; known = if is_present_with s p sets status then known else new_known s p })
+  settles p sets cooldown status known = unchanged p sets cooldown (record { status = status; known = known })
 
   pub or_true : (b : Bool) → (b || true) ≡ true
   or_true true = refl
@@ -136,24 +142,25 @@ module _ {C S : Type 0} (s : Setup C S) where
     listened_present false false true inert free late e = refl
     listened_present false false false inert free late e = absurd (cc)
 
-    pub tie_grant : (w : World C S) (d d' : DirectoryView C S) (p : C) (t draw : ℕ) (direction : Direction) → Refines s w d → may_listen s p t w.sets (w.peer p) (w.unblock p) ≡ true → Reserves s.cmp d d' p t draw →
+    pub tie_grant : (w : World C S) (d d' : DirectoryView C S) (p : C) (t draw : ℕ) (direction : Direction) → Refines s w d → may_listen s p t w.sets (w.peer p) (w.unblock p) (w.cooldown p) ≡ true → Reserves s.cmp d d' p t draw →
         Refines s (world_with s (Granted p (record { t = t; draw = draw; direction = direction })) w) d'
     tie_grant w d d' p t draw direction stands may change = record {
       config = change.config ∙ stands.config;
       sets = change.sets ∙ stands.sets;
       blocks = same_blocks w d d' stands change.blocks;
+      cooldowns = λ q. change.cooldowns q ∙ (λ i. if is_at (s.cmp p) q then Some (moments_after t draw (stands.config i).cooldown) else stands.cooldowns q i);
       records = λ q. change.records q ∙ at q (is_at (s.cmp p) q) refl;
     }
       where
         present : is_present_with s p w.sets (w.peer p).status ≡ true
-        present = listened_present (is_own s p) (is_named s p w.sets) (is_persistent s p) (is_inert (w.peer p).status) (not (World.is_blocked (w.unblock p) t)) (nat_le (w.peer p).known.reservable_at t) may
+        present = listened_present (is_own s p) (is_named s p w.sets) (is_persistent s p) (is_inert (w.peer p).status) (not (World.is_blocked (w.unblock p) t)) (nat_le (reservable_from (w.cooldown p)) t) may
 
         grant : Grant
         grant = record { t = t; draw = draw; direction = direction }
 
         at : (q : C) (b : Bool) → is_at (s.cmp p) q ≡ b →
             (if is_at (s.cmp p) q then option_map (reserved_record t draw d.config.cooldown) (record_of s.cmp d q) else record_of s.cmp d q)
-            ≡ shown s q w.sets (Step.peer_after s q (Granted p grant) w.sets (w.peer q))
+            ≡ shown s q w.sets (Step.cooldown_after s q (Granted p grant) (w.cooldown q)) (Step.peer_after s q (Granted p grant) w.sets (w.peer q))
         at q b e = (λ i. changed (e i)) ∙ go b e ∙ (λ i. left (sym e i))
           where
             st : Status
@@ -162,25 +169,25 @@ module _ {C S : Type 0} (s : Setup C S) where
             k : Known C S
             k = (w.peer q).known
 
-            granted : Known C S
-            granted = record k { reservable_at = cap (t + s.cooldown); dial_at = cap (cap (t + s.cooldown) + jitter draw s.cooldown) }
+            granted : Cooldown
+            granted = moments_after t draw s.cooldown
 
             changed : Bool → Option (RecordView C S)
             changed same = if same then option_map (reserved_record t draw d.config.cooldown) (record_of s.cmp d q) else record_of s.cmp d q
 
             left : Bool → Option (RecordView C S)
-            left same = shown s q w.sets (record {
+            left same = shown s q w.sets (if same then Some granted else w.cooldown q) (record {
               status = if same then Reserved else st;
-              known = if is_present_with s q w.sets (if same then Reserved else st) then (if same then granted else k) else new_known s q;
+              known = if is_present_with s q w.sets (if same then Reserved else st) then k else new_known s q;
             })
 
             go : (same : Bool) → is_at (s.cmp p) q ≡ same → changed same ≡ left same
             go true e =
                 let here : is_present_with s q w.sets st ≡ true = subst (λ x. is_present_with s x w.sets (w.peer x).status ≡ true) (one_key p q e) present in
-                ap (option_map (reserved_record t draw d.config.cooldown)) (stands.records q ∙ (λ i. if here i then Some (record_with s q w.sets (w.peer q)) else None))
-                ∙ (λ i. Some (reserved_record t draw (stands.config i).cooldown (record_with s q w.sets (w.peer q))))
-                ∙ remains q w.sets Reserved granted (or_true (is_persistent s q || is_named s q w.sets))
-            go false e = stands.records q ∙ unchanged q w.sets (w.peer q)
+                ap (option_map (reserved_record t draw d.config.cooldown)) (stands.records q ∙ (λ i. if here i then Some (record_with s q w.sets (w.cooldown q) (w.peer q)) else None))
+                ∙ (λ i. Some (reserved_record t draw (stands.config i).cooldown (record_with s q w.sets (w.cooldown q) (w.peer q))))
+                ∙ remains q w.sets (Some granted) Reserved k (or_true (is_persistent s q || is_named s q w.sets))
+            go false e = stands.records q ∙ unchanged q w.sets (w.cooldown q) (w.peer q)
 
     pub tie_release : (w : World C S) (d d' : DirectoryView C S) (p : C) (direction : Direction) → Refines s w d → is_inert (w.peer p).status ≡ false → ChangesRecord s.cmp d d' p (kept_after_release (metadata_of p direction)) →
         Refines s (world_with s (Released p direction) w) d'
@@ -188,6 +195,7 @@ module _ {C S : Type 0} (s : Setup C S) where
       config = change.config ∙ stands.config;
       sets = change.sets ∙ stands.sets;
       blocks = same_blocks w d d' stands change.blocks;
+      cooldowns = same_cooldowns w d d' stands change.cooldowns;
       records = λ q. change.records q ∙ at q (is_at (s.cmp p) q) refl;
     }
       where
@@ -199,7 +207,7 @@ module _ {C S : Type 0} (s : Setup C S) where
 
         at : (q : C) (b : Bool) → is_at (s.cmp p) q ≡ b →
             (if is_at (s.cmp p) q then ended (record_of s.cmp d q) else record_of s.cmp d q)
-            ≡ shown s q w.sets (Step.peer_after s q (Released p direction) w.sets (w.peer q))
+            ≡ shown s q w.sets (w.cooldown q) (Step.peer_after s q (Released p direction) w.sets (w.peer q))
         at q b e = (λ i. changed (e i)) ∙ go b e ∙ (λ i. left (sym e i))
           where
             st : Status
@@ -212,7 +220,7 @@ module _ {C S : Type 0} (s : Setup C S) where
             changed same = if same then ended (record_of s.cmp d q) else record_of s.cmp d q
 
             left : Bool → Option (RecordView C S)
-            left same = shown s q w.sets (record {
+            left same = shown s q w.sets (w.cooldown q) (record {
               status = if same then Inert else st;
               known = if is_present_with s q w.sets (if same then Inert else st) then (if same && Step.is_failed_dial s k.info direction then record k { fails = suc k.fails } else k) else new_known s q;
             })
@@ -220,11 +228,11 @@ module _ {C S : Type 0} (s : Setup C S) where
             go : (same : Bool) → is_at (s.cmp p) q ≡ same → changed same ≡ left same
             go true e =
                 let here : is_present_with s q w.sets st ≡ true = subst (λ x. is_present_with s x w.sets (w.peer x).status ≡ true) (one_key p q e) present in
-                ap ended (stands.records q ∙ (λ i. if here i then Some (record_with s q w.sets (w.peer q)) else None))
-                ∙ ap unless_deletable (release_of_record s p q w.sets (w.peer q) direction)
-                ∙ settled s q w.sets Inert (failed_once s k direction)
-                ∙ settles q w.sets Inert (failed_once s k direction)
-            go false e = stands.records q ∙ unchanged q w.sets (w.peer q)
+                ap ended (stands.records q ∙ (λ i. if here i then Some (record_with s q w.sets (w.cooldown q) (w.peer q)) else None))
+                ∙ ap unless_deletable (release_of_record s p q w.sets (w.cooldown q) (w.peer q) direction)
+                ∙ settled s q w.sets (w.cooldown q) Inert (failed_once s k direction)
+                ∙ settles q w.sets (w.cooldown q) Inert (failed_once s k direction)
+            go false e = stands.records q ∙ unchanged q w.sets (w.cooldown q) (w.peer q)
 
   -- a set that is taken
   pub tie_track : (w : World C S) (d d' : DirectoryView C S) (set : SetAt C) → Refines s w d → ((p : C) → is_present_in s w p ≡ false → (w.peer p).known ≡ new_known s p) → TakesSet s.cmp d d' set →
@@ -233,12 +241,48 @@ module _ {C S : Type 0} (s : Setup C S) where
     config = change.config ∙ stands.config;
     sets = sets;
     blocks = same_blocks w d d' stands change.blocks;
+    cooldowns = same_cooldowns w d d' stands change.cooldowns;
     records = λ q.
         change.records q
-        ∙ (λ i. record_with_sets s.cmp (sets i) q (stands.records q i))
-        ∙ shown_with_sets s q w.sets (last_of s.max_sets (w.sets ++ set ∷ [])) (w.peer q) (forgotten q)
-        ∙ unchanged q (last_of s.max_sets (w.sets ++ set ∷ [])) (w.peer q);
+        ∙ (λ i. record_with_sets s.cmp (sets i) (stands.cooldowns q i) q (stands.records q i))
+        ∙ shown_with_sets s q w.sets (last_of s.max_sets (w.sets ++ set ∷ [])) (w.cooldown q) (w.peer q) (forgotten q)
+        ∙ unchanged q (last_of s.max_sets (w.sets ++ set ∷ [])) (w.cooldown q) (w.peer q);
   }
     where
       sets : d'.sets ≡ last_of s.max_sets (w.sets ++ set ∷ [])
       sets = change.sets ∙ (λ i. last_of (stands.config i).max_sets (stands.sets i ++ set ∷ []))
+
+  -- a peer that is present or not, with these moments
+  abbrev kept : World C S → C → Option Cooldown → Bool → Option (RecordView C S)
+  kept w q o b = if b then Some (record_with s q w.sets o (w.peer q)) else None
+
+  -- moments are forgotten
+  pub tie_forget : (w : World C S) (d d' : DirectoryView C S) (t : ℕ) → Refines s w d → ForgetsCooled s.cmp d d' t → Refines s (world_with s (Forgot t) w) d'
+  tie_forget w d d' t stands change = record {
+    config = change.config ∙ stands.config;
+    sets = change.sets ∙ stands.sets;
+    blocks = same_blocks w d d' stands change.blocks;
+    cooldowns = λ q. change.cooldowns q ∙ ap (unless_cooled t) (stands.cooldowns q) ∙ left q (w.cooldown q);
+    records = λ q.
+        change.records q
+        ∙ (λ i. if is_cooled_by t (stands.cooldowns q i) then option_map (with_cooldown None) (stands.records q i) else stands.records q i)
+        ∙ at q (w.cooldown q) (is_present_in s w q)
+        ∙ unchanged q w.sets (Step.cooldown_after s q (Forgot t) (w.cooldown q)) (w.peer q);
+  }
+    where
+      left : (q : C) (o : Option Cooldown) → unless_cooled t o ≡ Step.cooldown_after s q (Forgot t) o
+      left q None = refl
+      left q (Some c) = refl
+
+      at : (q : C) (o : Option Cooldown) (b : Bool) → (if is_cooled_by t o then option_map (with_cooldown None) (kept w q o b) else kept w q o b) ≡ kept w q (Step.cooldown_after s q (Forgot t) o) b
+      at q None b = refl
+      at q (Some c) b = go (nat_le c.dial_at t) b
+        where
+          go : (cooled b : Bool) → (if cooled then option_map (with_cooldown None) (kept w q (Some c) b) else kept w q (Some c) b) ≡ kept w q (if cooled then None else Some c) b
+          go true true = refl
+          go true false = refl
+          go false b = refl
+
+  -- how many are
+  pub tie_number_cooled : (w : World C S) (d : DirectoryView C S) (t n : ℕ) → Refines s w d → IsNumberCooledIn s.cmp d t n → IsNumberCooled s w t n
+  tie_number_cooled w d t n stands (ps, lists, count) = (ps, lists_alike s.cmp (is_cooled_in s.cmp d t) (is_cooled_at s w t) ps (λ q. ap (is_cooled_by t) (stands.cooldowns q)) lists, count)

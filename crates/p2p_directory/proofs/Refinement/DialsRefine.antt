@@ -7,10 +7,10 @@ use Rattle.std.proofs.lemmas.Bool.{and_parts, and_from}
 use Rattle.p2p_discovery.specs.declared.types.ingress.Ingress.{Ingress}
 use Rattle.p2p_discovery.specs.declared.discovery.Info.{Info}
 use Rattle.p2p_directory.specs.declared.record.Address.TheVariants.{Myself}
-use Rattle.p2p_directory.specs.Calls.{Setup, SetAt}
+use Rattle.p2p_directory.specs.Calls.{Setup, SetAt, Cooldown}
 use Rattle.p2p_directory.specs.History.{is_own, is_inert, is_persistent, is_named, is_present_with, is_entitled, primary_count, secondary_count}
 use Rattle.p2p_directory.specs.World
-use Rattle.p2p_directory.specs.World.{World, Known, Peer, last_ingress}
+use Rattle.p2p_directory.specs.World.{World, Known, Peer, last_ingress, reservable_from, dialable_from}
 use Rattle.p2p_directory.specs.Answers
 use Rattle.p2p_directory.specs.Answers.{is_present_in, AreAll, IsLatestUpdate, is_eligible_at, is_acceptable_at, is_target, is_dialable, query_moment, IsDialable}
 use Rattle.p2p_directory.specs.Record.{RecordView, DialView, is_eligible, is_grant, may_come, has_valid_ingress, ingress_of, is_dial_candidate, may_be_dialled, reserve_answer, dial_status, is_now, later_moment}
@@ -96,8 +96,8 @@ module _ {C S : Type 0} (s : Setup C S) where
           let h0 = and_parts (not (is_own s p)) _ h1.0 in
           and_from (i && t) _ (and_from i t h1.1 h3.1) (and_from (not (is_own s p)) v h0.0 h2.1)
 
-  shown_candidate : (p : C) (sets : List (SetAt C)) (peer : Peer C S) → is_dial_candidate s.allow_private_ips s.allow_dns (record_with s p sets peer) ≡ is_target s p sets peer
-  shown_candidate p sets peer = ap (λ b. (is_inert peer.status && World.is_dial_target s p sets) && b) (valid_shown p peer.known) ∙ candidate_target p sets peer
+  shown_candidate : (p : C) (sets : List (SetAt C)) (cooldown : Option Cooldown) (peer : Peer C S) → is_dial_candidate s.allow_private_ips s.allow_dns (record_with s p sets cooldown peer) ≡ is_target s p sets peer
+  shown_candidate p sets cooldown peer = ap (λ b. (is_inert peer.status && World.is_dial_target s p sets) && b) (valid_shown p peer.known) ∙ candidate_target p sets peer
 
   -- who is absent is no target
   absent_no_target : (p : C) (sets : List (SetAt C)) (peer : Peer C S) → is_present_with s p sets peer.status ≡ false → is_target s p sets peer ≡ false
@@ -106,9 +106,9 @@ module _ {C S : Type 0} (s : Setup C S) where
       (absent_not_entitled s (is_own s p) (is_named s p sets) (is_persistent s p) (is_inert peer.status) e)
 
   -- a dial is granted to a target that may come
-  dial_parts : (p : C) (t : ℕ) (sets : List (SetAt C)) (peer : Peer C S) (unblock : Option ℕ) →
-      (is_target s p sets peer && World.may_listen s p t sets peer unblock) ≡ World.may_dial s p t sets peer unblock
-  dial_parts p t sets peer unblock = both_ways _ _ to from
+  dial_parts : (p : C) (t : ℕ) (sets : List (SetAt C)) (peer : Peer C S) (unblock : Option ℕ) (cooldown : Option Cooldown) →
+      (is_target s p sets peer && World.may_listen s p t sets peer unblock cooldown) ≡ World.may_dial s p t sets peer unblock cooldown
+  dial_parts p t sets peer unblock cooldown = both_ways _ _ to from
     where
       tgt : Bool
       tgt = World.is_dial_target s p sets
@@ -117,7 +117,7 @@ module _ {C S : Type 0} (s : Setup C S) where
       v = World.is_valid_address s (World.address_with s p peer.known.info)
 
       l : Bool
-      l = World.may_listen s p t sets peer unblock
+      l = World.may_listen s p t sets peer unblock cooldown
 
       e : Bool
       e = is_entitled s p sets
@@ -125,24 +125,24 @@ module _ {C S : Type 0} (s : Setup C S) where
       i : Bool
       i = is_inert peer.status
 
-      to : (is_target s p sets peer && l) ≡ true → World.may_dial s p t sets peer unblock ≡ true
+      to : (is_target s p sets peer && l) ≡ true → World.may_dial s p t sets peer unblock cooldown ≡ true
       to h =
           let h1 = and_parts (is_target s p sets peer) l h in
           let h2 = and_parts ((e && i) && v) tgt h1.0 in
           let h3 = and_parts (e && i) v h2.0 in
           and_from (l && tgt) v (and_from l tgt h1.1 h2.1) h3.1
 
-      from : World.may_dial s p t sets peer unblock ≡ true → (is_target s p sets peer && l) ≡ true
+      from : World.may_dial s p t sets peer unblock cooldown ≡ true → (is_target s p sets peer && l) ≡ true
       from h =
           let h1 = and_parts (l && tgt) v h in
           let h2 = and_parts l tgt h1.0 in
-          let h3 = and_parts _ (nat_le peer.known.reservable_at t) h2.0 in
+          let h3 = and_parts _ (nat_le (reservable_from cooldown) t) h2.0 in
           let h4 = and_parts (e && i) _ h3.0 in
           and_from _ l (and_from _ tgt (and_from (e && i) v h4.0 h1.1) h2.1) h2.0
 
-  shown_may_dial : (p : C) (sets : List (SetAt C)) (peer : Peer C S) (unblock : Option ℕ) (t : ℕ) →
-      (not (World.is_blocked unblock t) && option_map_or (may_be_dialled t s.allow_private_ips s.allow_dns) (shown s p sets peer) false) ≡ World.may_dial s p t sets peer unblock
-  shown_may_dial p sets peer unblock t = go (is_present_with s p sets peer.status) refl ∙ dial_parts p t sets peer unblock
+  shown_may_dial : (p : C) (sets : List (SetAt C)) (cooldown : Option Cooldown) (peer : Peer C S) (unblock : Option ℕ) (t : ℕ) →
+      (not (World.is_blocked unblock t) && option_map_or (may_be_dialled t s.allow_private_ips s.allow_dns) (shown s p sets cooldown peer) false) ≡ World.may_dial s p t sets peer unblock cooldown
+  shown_may_dial p sets cooldown peer unblock t = go (is_present_with s p sets peer.status) refl ∙ dial_parts p t sets peer unblock cooldown
     where
       free : Bool
       free = not (World.is_blocked unblock t)
@@ -162,46 +162,46 @@ module _ {C S : Type 0} (s : Setup C S) where
       swap false true c = refl
       swap false false c = refl
 
-      entitled : is_target s p sets peer ≡ true → is_eligible (record_with s p sets peer) ≡ true
+      entitled : is_target s p sets peer ≡ true → is_eligible (record_with s p sets cooldown peer) ≡ true
       entitled h =
           let h3 = and_parts ((is_entitled s p sets && is_inert peer.status) && World.is_valid_address s (World.address_with s p peer.known.info)) (World.is_dial_target s p sets) h in
           let h2 = and_parts (is_entitled s p sets && is_inert peer.status) (World.is_valid_address s (World.address_with s p peer.known.info)) h3.0 in
-          eligible_is_entitled s p sets peer ∙ (and_parts (is_entitled s p sets) (is_inert peer.status) h2.0).0
+          eligible_is_entitled s p sets cooldown peer ∙ (and_parts (is_entitled s p sets) (is_inert peer.status) h2.0).0
 
       go : (b : Bool) → is_present_with s p sets peer.status ≡ b →
-          (free && option_map_or (may_be_dialled t s.allow_private_ips s.allow_dns) (if b then Some (record_with s p sets peer) else None) false)
-          ≡ (is_target s p sets peer && World.may_listen s p t sets peer unblock)
+          (free && option_map_or (may_be_dialled t s.allow_private_ips s.allow_dns) (if b then Some (record_with s p sets cooldown peer) else None) false)
+          ≡ (is_target s p sets peer && World.may_listen s p t sets peer unblock cooldown)
       go true h =
-          (λ i. free && (shown_candidate p sets peer i && is_grant (reserve_answer t (record_with s p sets peer))))
-          ∙ ap (λ b. free && b) (grants (is_target s p sets peer) (is_eligible (record_with s p sets peer)) (is_grant (reserve_answer t (record_with s p sets peer))) entitled)
-          ∙ swap free (is_target s p sets peer) (may_come t (record_with s p sets peer))
-          ∙ ap (λ b. is_target s p sets peer && b) ((λ i. free && option_map_or come (if sym h i then Some (record_with s p sets peer) else None) false) ∙ shown_may_come s p sets peer unblock t)
-      go false h = neither free ∙ sym (ap (λ b. b && World.may_listen s p t sets peer unblock) (absent_no_target p sets peer h))
+          (λ i. free && (shown_candidate p sets cooldown peer i && is_grant (reserve_answer t (record_with s p sets cooldown peer))))
+          ∙ ap (λ b. free && b) (grants (is_target s p sets peer) (is_eligible (record_with s p sets cooldown peer)) (is_grant (reserve_answer t (record_with s p sets cooldown peer))) entitled)
+          ∙ swap free (is_target s p sets peer) (may_come t (record_with s p sets cooldown peer))
+          ∙ ap (λ b. is_target s p sets peer && b) ((λ i. free && option_map_or come (if sym h i then Some (record_with s p sets cooldown peer) else None) false) ∙ shown_may_come s p sets cooldown peer unblock t)
+      go false h = neither free ∙ sym (ap (λ b. b && World.may_listen s p t sets peer unblock cooldown) (absent_no_target p sets peer h))
 
   -- DIALS
 
-  pub tie_may_listen : (w : World C S) (d : DirectoryView C S) (p : C) (t : ℕ) → Refines s w d → may_listen_in s.cmp d t p ≡ World.may_listen s p t w.sets (w.peer p) (w.unblock p)
+  pub tie_may_listen : (w : World C S) (d : DirectoryView C S) (p : C) (t : ℕ) → Refines s w d → may_listen_in s.cmp d t p ≡ World.may_listen s p t w.sets (w.peer p) (w.unblock p) (w.cooldown p)
   tie_may_listen w d p t stands =
-      (λ i. not (World.is_blocked (stands.blocks p i) t) && option_map_or (may_come t) (stands.records p i) false) ∙ shown_may_come s p w.sets (w.peer p) (w.unblock p) t
+      (λ i. not (World.is_blocked (stands.blocks p i) t) && option_map_or (may_come t) (stands.records p i) false) ∙ shown_may_come s p w.sets (w.cooldown p) (w.peer p) (w.unblock p) t
 
-  pub tie_may_dial : (w : World C S) (d : DirectoryView C S) (p : C) (t : ℕ) → Refines s w d → may_dial_in s.cmp d t p ≡ World.may_dial s p t w.sets (w.peer p) (w.unblock p)
+  pub tie_may_dial : (w : World C S) (d : DirectoryView C S) (p : C) (t : ℕ) → Refines s w d → may_dial_in s.cmp d t p ≡ World.may_dial s p t w.sets (w.peer p) (w.unblock p) (w.cooldown p)
   tie_may_dial w d p t stands =
       (λ i. not (World.is_blocked (stands.blocks p i) t) && option_map_or (may_be_dialled t (stands.config i).allow_private_ips (stands.config i).allow_dns) (stands.records p i) false)
-      ∙ shown_may_dial p w.sets (w.peer p) (w.unblock p) t
+      ∙ shown_may_dial p w.sets (w.cooldown p) (w.peer p) (w.unblock p) t
 
   -- the ingress that is kept of a peer that may be dialled
-  pub tie_ingress : (w : World C S) (d : DirectoryView C S) (p : C) (t : ℕ) → Refines s w d → World.may_dial s p t w.sets (w.peer p) (w.unblock p) ≡ true →
+  pub tie_ingress : (w : World C S) (d : DirectoryView C S) (p : C) (t : ℕ) → Refines s w d → World.may_dial s p t w.sets (w.peer p) (w.unblock p) (w.cooldown p) ≡ true →
       ingress_in s.cmp d p ≡ World.address_with s p (w.peer p).known.info
   tie_ingress w d p t stands may = ap (option_and_then (λ r. ingress_of r.address)) (stands.records p) ∙ go (is_present_in s w p) refl (is_own s p) refl
     where
       l : Bool
-      l = World.may_listen s p t w.sets (w.peer p) (w.unblock p)
+      l = World.may_listen s p t w.sets (w.peer p) (w.unblock p) (w.cooldown p)
 
       entitled : is_entitled s p w.sets ≡ true
       entitled =
           let h1 = and_parts (l && World.is_dial_target s p w.sets) _ may in
           let h2 = and_parts l (World.is_dial_target s p w.sets) h1.0 in
-          let h3 = and_parts _ (nat_le (w.peer p).known.reservable_at t) h2.0 in
+          let h3 = and_parts _ (nat_le (reservable_from (w.cooldown p)) t) h2.0 in
           let h4 = and_parts (is_entitled s p w.sets && is_inert (w.peer p).status) _ h3.0 in
           (and_parts (is_entitled s p w.sets) (is_inert (w.peer p).status) h4.0).0
 
@@ -214,7 +214,7 @@ module _ {C S : Type 0} (s : Setup C S) where
       known_by (Some i) = refl
 
       go : (b : Bool) → is_present_in s w p ≡ b → (own : Bool) → is_own s p ≡ own →
-          option_and_then (λ r. ingress_of r.address) (if b then Some (record_with s p w.sets (w.peer p)) else None) ≡ World.address_with s p (w.peer p).known.info
+          option_and_then (λ r. ingress_of r.address) (if b then Some (record_with s p w.sets (w.cooldown p) (w.peer p)) else None) ≡ World.address_with s p (w.peer p).known.info
       go true h true o = absurd (let f = sym (ap (λ b. not b && (is_named s p w.sets || is_persistent s p)) o) ∙ entitled in cc)
       go true h false o =
           (λ i. ingress_of (if o i then Myself s.own else address_known (last_ingress s p s.bootstrappers) (w.peer p).known.fails (w.peer p).known.info))
@@ -223,26 +223,26 @@ module _ {C S : Type 0} (s : Setup C S) where
 
   -- DIALABLE
 
-  shown_dialable : (p : C) (sets : List (SetAt C)) (peer : Peer C S) (unblock : Option ℕ) (t : ℕ) →
-      (not (World.is_blocked unblock t) && option_map_or (λ r. is_now (dial_status t s.allow_private_ips s.allow_dns r)) (shown s p sets peer) false)
-      ≡ Answers.is_dialable_with s p t sets peer unblock
-  shown_dialable p sets peer unblock t = go (is_present_with s p sets peer.status) refl ∙ shuffle (is_target s p sets peer) free (nat_le peer.known.dial_at t)
+  shown_dialable : (p : C) (sets : List (SetAt C)) (cooldown : Option Cooldown) (peer : Peer C S) (unblock : Option ℕ) (t : ℕ) →
+      (not (World.is_blocked unblock t) && option_map_or (λ r. is_now (dial_status t s.allow_private_ips s.allow_dns r)) (shown s p sets cooldown peer) false)
+      ≡ Answers.is_dialable_with s p t sets peer unblock cooldown
+  shown_dialable p sets cooldown peer unblock t = go (is_present_with s p sets peer.status) refl ∙ shuffle (is_target s p sets peer) free (nat_le (dialable_from cooldown) t)
     where
       free : Bool
       free = not (World.is_blocked unblock t)
 
       go : (b : Bool) → is_present_with s p sets peer.status ≡ b →
-          (free && option_map_or (λ r. is_now (dial_status t s.allow_private_ips s.allow_dns r)) (if b then Some (record_with s p sets peer) else None) false) ≡ (free && (is_target s p sets peer && nat_le peer.known.dial_at t))
+          (free && option_map_or (λ r. is_now (dial_status t s.allow_private_ips s.allow_dns r)) (if b then Some (record_with s p sets cooldown peer) else None) false) ≡ (free && (is_target s p sets peer && nat_le (dialable_from cooldown) t))
       go true h =
-          (λ i. free && is_now (if not (shown_candidate p sets peer i) then DialView.Unavailable else if nat_lt t peer.known.dial_at then DialView.After peer.known.dial_at else DialView.Now))
-          ∙ ap (λ b. free && b) (later_parts (is_target s p sets peer) peer.known.dial_at t)
-      go false h = ap (λ b. free && (b && nat_le peer.known.dial_at t)) (sym (absent_no_target p sets peer h))
+          (λ i. free && is_now (if not (shown_candidate p sets cooldown peer i) then DialView.Unavailable else if nat_lt t (dialable_from cooldown) then DialView.After (dialable_from cooldown) else DialView.Now))
+          ∙ ap (λ b. free && b) (later_parts (is_target s p sets peer) (dialable_from cooldown) t)
+      go false h = ap (λ b. free && (b && nat_le (dialable_from cooldown) t)) (sym (absent_no_target p sets peer h))
 
-  shown_query : (p : C) (sets : List (SetAt C)) (peer : Peer C S) (unblock : Option ℕ) (t : ℕ) →
-      option_and_then (λ r. if World.is_blocked unblock t then unblock else later_moment (dial_status t s.allow_private_ips s.allow_dns r)) (shown s p sets peer)
+  shown_query : (p : C) (sets : List (SetAt C)) (cooldown : Option Cooldown) (peer : Peer C S) (unblock : Option ℕ) (t : ℕ) →
+      option_and_then (λ r. if World.is_blocked unblock t then unblock else later_moment (dial_status t s.allow_private_ips s.allow_dns r)) (shown s p sets cooldown peer)
       ≡ (if World.is_blocked unblock t then (if is_present_with s p sets peer.status then unblock else None)
-      else if is_target s p sets peer && nat_lt t peer.known.dial_at then Some peer.known.dial_at else None)
-  shown_query p sets peer unblock t = go (is_present_with s p sets peer.status) refl
+      else if is_target s p sets peer && nat_lt t (dialable_from cooldown) then Some (dialable_from cooldown) else None)
+  shown_query p sets cooldown peer unblock t = go (is_present_with s p sets peer.status) refl
     where
       nothing : Option ℕ
       nothing = None
@@ -252,25 +252,25 @@ module _ {C S : Type 0} (s : Setup C S) where
       none false = refl
 
       go : (b : Bool) → is_present_with s p sets peer.status ≡ b →
-          option_and_then (λ r. if World.is_blocked unblock t then unblock else later_moment (dial_status t s.allow_private_ips s.allow_dns r)) (if b then Some (record_with s p sets peer) else None)
-          ≡ (if World.is_blocked unblock t then (if b then unblock else None) else if is_target s p sets peer && nat_lt t peer.known.dial_at then Some peer.known.dial_at else None)
+          option_and_then (λ r. if World.is_blocked unblock t then unblock else later_moment (dial_status t s.allow_private_ips s.allow_dns r)) (if b then Some (record_with s p sets cooldown peer) else None)
+          ≡ (if World.is_blocked unblock t then (if b then unblock else None) else if is_target s p sets peer && nat_lt t (dialable_from cooldown) then Some (dialable_from cooldown) else None)
       go true h =
           (λ i. if World.is_blocked unblock t then unblock
-          else later_moment (if not (shown_candidate p sets peer i) then DialView.Unavailable else if nat_lt t peer.known.dial_at then DialView.After peer.known.dial_at else DialView.Now))
-          ∙ ap (λ o. if World.is_blocked unblock t then unblock else o) (later_moments (is_target s p sets peer) peer.known.dial_at t)
+          else later_moment (if not (shown_candidate p sets cooldown peer i) then DialView.Unavailable else if nat_lt t (dialable_from cooldown) then DialView.After (dialable_from cooldown) else DialView.Now))
+          ∙ ap (λ o. if World.is_blocked unblock t then unblock else o) (later_moments (is_target s p sets peer) (dialable_from cooldown) t)
       go false h =
           none (World.is_blocked unblock t)
-          ∙ ap (λ b. if World.is_blocked unblock t then None else if b && nat_lt t peer.known.dial_at then Some peer.known.dial_at else None) (sym (absent_no_target p sets peer h))
+          ∙ ap (λ b. if World.is_blocked unblock t then None else if b && nat_lt t (dialable_from cooldown) then Some (dialable_from cooldown) else None) (sym (absent_no_target p sets peer h))
 
   pub tie_is_dialable : (w : World C S) (d : DirectoryView C S) (t : ℕ) → Refines s w d → (p : C) → is_dialable_in s.cmp d t p ≡ is_dialable s w t p
   tie_is_dialable w d t stands p =
       (λ i. not (World.is_blocked (stands.blocks p i) t) && option_map_or (λ r. is_now (dial_status t (stands.config i).allow_private_ips (stands.config i).allow_dns r)) (stands.records p i) false)
-      ∙ shown_dialable p w.sets (w.peer p) (w.unblock p) t
+      ∙ shown_dialable p w.sets (w.cooldown p) (w.peer p) (w.unblock p) t
 
   tie_query : (w : World C S) (d : DirectoryView C S) (t : ℕ) → Refines s w d → (p : C) → query_moment_in s.cmp d t p ≡ query_moment s w t p
   tie_query w d t stands p =
       (λ i. option_and_then (λ r. if World.is_blocked (stands.blocks p i) t then stands.blocks p i else later_moment (dial_status t (stands.config i).allow_private_ips (stands.config i).allow_dns r)) (stands.records p i))
-      ∙ shown_query p w.sets (w.peer p) (w.unblock p) t
+      ∙ shown_query p w.sets (w.cooldown p) (w.peer p) (w.unblock p) t
 
   pub tie_dialable : (w : World C S) (d : DirectoryView C S) (t : ℕ) (ps : List C) (next : Option ℕ) → Refines s w d → AreDialableIn s.cmp d t ps next → IsDialable s w t ps next
   tie_dialable w d t ps next stands told = (

@@ -15,10 +15,10 @@ use Rattle.p2p_discovery.specs.declared.types.ingress.Ingress.{Ingress}
 use Rattle.p2p_directory.specs.declared.record.Address.TheVariants.{Myself, Discovered}
 use Rattle.p2p_directory.specs.declared.record.Status.{Status}
 use Rattle.p2p_directory.specs.declared.record.Status.TheVariants.{Inert, Reserved, Active}
-use Rattle.p2p_directory.specs.Calls.{Setup, SetAt}
+use Rattle.p2p_directory.specs.Calls.{Setup, SetAt, Cooldown}
 use Rattle.p2p_directory.specs.Calls.Event.{Connected, Updated}
 use Rattle.p2p_directory.specs.History.{same, is_own, is_inert, is_reserved, is_persistent, is_named, is_present_with, is_newer, first_greatest, primary_count, secondary_count}
-use Rattle.p2p_directory.specs.World.{World, Known, Peer, last_ingress}
+use Rattle.p2p_directory.specs.World.{World, Known, Peer, last_ingress, reservable_from, dialable_from}
 use Rattle.p2p_directory.specs.Step
 use Rattle.p2p_directory.specs.Step.{new_known, world_with, status_connected}
 use Rattle.p2p_directory.specs.Answers.{is_present_in, wants, wants_with, active_info, sharable_of, sharable_info, shared_info, infos_for, epoch_millis, IsNumberTracked}
@@ -30,7 +30,7 @@ use Rattle.p2p_directory.specs.Run.{bit_vec_of, bit_vec_in}
 use Rattle.p2p_directory.proofs.SetsAndRecords.Listing.{listed_by_value}
 use Rattle.p2p_directory.proofs.Definitions.Knowledge.{later, updated_all_with_best}
 use Rattle.p2p_directory.proofs.Refinement.RecordOfPeer.{record_with, shown, myself_is_own, absent_parts, inert_only}
-use Rattle.p2p_directory.proofs.Refinement.CallsRefine.{tie_status, same_blocks, unchanged, remains, or_true}
+use Rattle.p2p_directory.proofs.Refinement.CallsRefine.{tie_status, same_blocks, same_cooldowns, unchanged, remains, or_true}
 
 -- the cap of failures is above each limit
 capped : (limit fails : ℕ) → limit < 2 ^ 64 → nat_le limit (min fails (2 ^ 64 - 1)) ≡ nat_le limit fails
@@ -99,48 +99,35 @@ module _ {C S : Type 0} (s : Setup C S) where
       go true = own_offered (first_greatest is)
       go false = offered given k.fails k.info (first_greatest is) ∙ ap (λ x. address_known given x.fails x.info) (sym (updated_all_with_best s k is))
 
-  updated_moments : (p : C) (is : List (Info C S)) (k : Known C S) → ((updated_known p is k).reservable_at ≡ k.reservable_at) × ((updated_known p is k).dial_at ≡ k.dial_at)
-  updated_moments p is k = go (is_own s p)
-    where
-      go : (own : Bool) → ((if own then k else Step.known_with_infos s k is).reservable_at ≡ k.reservable_at) × ((if own then k else Step.known_with_infos s k is).dial_at ≡ k.dial_at)
-      go true = (refl, refl)
-      go false = let best = updated_all_with_best s k is in (ap (λ x. x.reservable_at) best, ap (λ x. x.dial_at) best)
-
   -- RECORDS
 
-  updated_shown : (p : C) (sets : List (SetAt C)) (peer : Peer C S) (is : List (Info C S)) →
-      updated_record is (record_with s p sets peer) ≡ record_with s p sets (record { status = peer.status; known = updated_known p is peer.known })
-  updated_shown p sets peer is =
-      let same = updated_moments p is peer.known in
+  updated_shown : (p : C) (sets : List (SetAt C)) (cooldown : Option Cooldown) (peer : Peer C S) (is : List (Info C S)) →
+      updated_record is (record_with s p sets cooldown peer) ≡ record_with s p sets cooldown (record { status = peer.status; known = updated_known p is peer.known })
+  updated_shown p sets cooldown peer is =
       λ i. record {
         address = updated_address p is peer.known i;
         status = peer.status;
         primary_sets = primary_count s p sets;
         secondary_sets = secondary_count s p sets;
         persistent = is_persistent s p;
-        next_reservable_at = sym same.0 i;
-        next_dial_at = sym same.1 i;
+        next_reservable_at = reservable_from cooldown;
+        next_dial_at = dialable_from cooldown;
       }
 
   abbrev connected_known : Bool → Known C S → Known C S
   connected_known dialer k = if dialer then record k { fails = 0 } else k
 
-  connected_moments : (dialer : Bool) (k : Known C S) → ((connected_known dialer k).reservable_at ≡ k.reservable_at) × ((connected_known dialer k).dial_at ≡ k.dial_at)
-  connected_moments true k = (refl, refl)
-  connected_moments false k = (refl, refl)
-
-  connected_shown : (p : C) (sets : List (SetAt C)) (peer : Peer C S) (dialer : Bool) →
-      connected_record dialer (record_with s p sets peer) ≡ record_with s p sets (record { status = Active; known = connected_known dialer peer.known })
-  connected_shown p sets peer dialer =
-      let same = connected_moments dialer peer.known in
+  connected_shown : (p : C) (sets : List (SetAt C)) (cooldown : Option Cooldown) (peer : Peer C S) (dialer : Bool) →
+      connected_record dialer (record_with s p sets cooldown peer) ≡ record_with s p sets cooldown (record { status = Active; known = connected_known dialer peer.known })
+  connected_shown p sets cooldown peer dialer =
       λ i. record {
         address = connected_address p peer.known dialer i;
         status = Active;
         primary_sets = primary_count s p sets;
         secondary_sets = secondary_count s p sets;
         persistent = is_persistent s p;
-        next_reservable_at = sym same.0 i;
-        next_dial_at = sym same.1 i;
+        next_reservable_at = reservable_from cooldown;
+        next_dial_at = dialable_from cooldown;
       }
 
   -- the status of what is kept of p is reserved where p is
@@ -163,17 +150,18 @@ module _ {C S : Type 0} (s : Setup C S) where
     config = change.config ∙ stands.config;
     sets = change.sets ∙ stands.sets;
     blocks = same_blocks s w d d' stands change.blocks;
+    cooldowns = same_cooldowns s w d d' stands change.cooldowns;
     records = λ q.
         change.records q
         ∙ ap (option_map (updated_record (infos_of s.cmp infos q))) (stands.records q)
         ∙ go q (is_present_with s q w.sets (w.peer q).status);
   }
     where
-      go : (q : C) (b : Bool) → option_map (updated_record (infos_of s.cmp infos q)) (if b then Some (record_with s q w.sets (w.peer q)) else None)
+      go : (q : C) (b : Bool) → option_map (updated_record (infos_of s.cmp infos q)) (if b then Some (record_with s q w.sets (w.cooldown q) (w.peer q)) else None)
           ≡ (if b
-          then Some (record_with s q w.sets (record { status = (w.peer q).status; known = if b then updated_known q (infos_of s.cmp infos q) (w.peer q).known else new_known s q }))
+          then Some (record_with s q w.sets (w.cooldown q) (record { status = (w.peer q).status; known = if b then updated_known q (infos_of s.cmp infos q) (w.peer q).known else new_known s q }))
           else None)
-      go q true = ap Some (updated_shown q w.sets (w.peer q) (infos_of s.cmp infos q))
+      go q true = ap Some (updated_shown q w.sets (w.cooldown q) (w.peer q) (infos_of s.cmp infos q))
       go q false = refl
 
   module _ (exact : (p q : C) → s.cmp p q ≡ Equal → p ≡ q) where
@@ -183,12 +171,13 @@ module _ {C S : Type 0} (s : Setup C S) where
       config = change.config ∙ stands.config;
       sets = change.sets ∙ stands.sets;
       blocks = same_blocks s w d d' stands change.blocks;
+      cooldowns = same_cooldowns s w d d' stands change.cooldowns;
       records = λ q. change.records q ∙ at q (is_at (s.cmp p) q) refl;
     }
       where
         at : (q : C) (b : Bool) → is_at (s.cmp p) q ≡ b →
             (if is_at (s.cmp p) q then option_map (connected_record dialer) (record_of s.cmp d q) else record_of s.cmp d q)
-            ≡ shown s q w.sets (Step.peer_after s q (Connected p dialer) w.sets (w.peer q))
+            ≡ shown s q w.sets (w.cooldown q) (Step.peer_after s q (Connected p dialer) w.sets (w.peer q))
         at q b e = (λ i. changed (e i)) ∙ go b e ∙ (λ i. left (sym e i))
           where
             st : Status
@@ -201,7 +190,7 @@ module _ {C S : Type 0} (s : Setup C S) where
             changed same = if same then option_map (connected_record dialer) (record_of s.cmp d q) else record_of s.cmp d q
 
             left : Bool → Option (RecordView C S)
-            left same = shown s q w.sets (record {
+            left same = shown s q w.sets (w.cooldown q) (record {
               status = if same then status_connected s st else st;
               known = if is_present_with s q w.sets (if same then status_connected s st else st) then (if same && dialer then record k { fails = 0 } else k) else new_known s q;
             })
@@ -210,14 +199,14 @@ module _ {C S : Type 0} (s : Setup C S) where
             go true e =
                 let is : st ≡ Reserved = ap (λ x. (w.peer x).status) (sym (tells_apart exact p q e)) ∙ reserved in
                 let here : is_present_with s q w.sets st ≡ true = ap (is_present_with s q w.sets) is ∙ or_true s (is_persistent s q || is_named s q w.sets) in
-                ap (option_map (connected_record dialer)) (stands.records q ∙ (λ i. if here i then Some (record_with s q w.sets (w.peer q)) else None))
-                ∙ ap Some (connected_shown q w.sets (w.peer q) dialer)
-                ∙ remains s q w.sets Active (connected_known dialer k) (or_true s (is_persistent s q || is_named s q w.sets))
-                ∙ (λ i. shown s q w.sets (record {
+                ap (option_map (connected_record dialer)) (stands.records q ∙ (λ i. if here i then Some (record_with s q w.sets (w.cooldown q) (w.peer q)) else None))
+                ∙ ap Some (connected_shown q w.sets (w.cooldown q) (w.peer q) dialer)
+                ∙ remains s q w.sets (w.cooldown q) Active (connected_known dialer k) (or_true s (is_persistent s q || is_named s q w.sets))
+                ∙ (λ i. shown s q w.sets (w.cooldown q) (record {
                   status = status_connected s (sym is i);
                   known = if is_present_with s q w.sets (status_connected s (sym is i)) then connected_known dialer k else new_known s q;
                 }))
-            go false e = stands.records q ∙ unchanged s q w.sets (w.peer q)
+            go false e = stands.records q ∙ unchanged s q w.sets (w.cooldown q) (w.peer q)
 
   -- WHAT MAY BE SHARED
 
@@ -247,7 +236,7 @@ module _ {C S : Type 0} (s : Setup C S) where
       present true = refl
       present false = shared_known (last_ingress s p s.bootstrappers) peer.known.fails peer.status peer.known.info
 
-      go : (b : Bool) → is_present_with s p w.sets peer.status ≡ b → told (if b then Some (record_with s p w.sets peer) else None) ≡ sharable_of s p peer
+      go : (b : Bool) → is_present_with s p w.sets peer.status ≡ b → told (if b then Some (record_with s p w.sets (w.cooldown p) peer) else None) ≡ sharable_of s p peer
       go true e = present (is_own s p)
       go false e =
           let parts = absent_parts s (is_own s p) (list_any (λ b. same s b.0 p) s.bootstrappers) (is_named s p w.sets) (is_inert peer.status) e in
@@ -285,16 +274,16 @@ module _ {C S : Type 0} (s : Setup C S) where
   wanted_known fits given fails Inert (Some i) = capped s.dial_fail_limit fails fits
   wanted_known fits given fails Reserved (Some i) = capped s.dial_fail_limit fails fits
 
-  known_shown : s.dial_fail_limit < 2 ^ 64 → (sets : List (SetAt C)) (q : C) (peer : Peer C S) → (is_present_with s q sets peer.status ≡ false → peer.known ≡ new_known s q) →
-      is_known s.dial_fail_limit (shown s q sets peer) ≡ not (wants s q peer)
-  known_shown fits sets q peer forgotten = go (is_present_with s q sets peer.status) refl
+  known_shown : s.dial_fail_limit < 2 ^ 64 → (sets : List (SetAt C)) (q : C) (cooldown : Option Cooldown) (peer : Peer C S) → (is_present_with s q sets peer.status ≡ false → peer.known ≡ new_known s q) →
+      is_known s.dial_fail_limit (shown s q sets cooldown peer) ≡ not (wants s q peer)
+  known_shown fits sets q cooldown peer forgotten = go (is_present_with s q sets peer.status) refl
     where
       present : (own : Bool) → wants_by s.dial_fail_limit peer.status (if own then Myself s.own else address_known (last_ingress s q s.bootstrappers) peer.known.fails peer.known.info)
           ≡ (not own && wants_with s peer.status peer.known.fails peer.known.info)
       present true = refl
       present false = wanted_known fits (last_ingress s q s.bootstrappers) peer.known.fails peer.status peer.known.info
 
-      go : (b : Bool) → is_present_with s q sets peer.status ≡ b → is_known s.dial_fail_limit (if b then Some (record_with s q sets peer) else None) ≡ not (wants s q peer)
+      go : (b : Bool) → is_present_with s q sets peer.status ≡ b → is_known s.dial_fail_limit (if b then Some (record_with s q sets cooldown peer) else None) ≡ not (wants s q peer)
       go true e = ap not (present (is_own s q))
       go false e =
           let parts = absent_parts s (is_own s q) (list_any (λ b. same s b.0 q) s.bootstrappers) (is_named s q sets) (is_inert peer.status) e in
@@ -312,16 +301,16 @@ module _ {C S : Type 0} (s : Setup C S) where
       ∙ bits_fused (λ (x : SetAt C). (x.index, map (λ q. not (wants s q (w.peer q))) x.primary)) bit_vec_of (λ x. record { index = x.index; bits = map (λ q. not (wants s q (w.peer q))) x.primary }) (λ x. refl) (slice_get w.sets place)
     where
       known : (q : C) → is_known d.config.dial_fail_limit (record_of s.cmp d q) ≡ not (wants s q (w.peer q))
-      known q = (λ i. is_known (stands.config i).dial_fail_limit (stands.records q i)) ∙ known_shown fits w.sets q (w.peer q) (forgotten q)
+      known q = (λ i. is_known (stands.config i).dial_fail_limit (stands.records q i)) ∙ known_shown fits w.sets q (w.cooldown q) (w.peer q) (forgotten q)
 
   -- HOW MANY
 
   -- of a peer whose record is kept, whether it is another than the own one
-  other_shown : (p : C) (sets : List (SetAt C)) (peer : Peer C S) → option_map_or (λ (r : RecordView C S). not (is_myself r.address)) (shown s p sets peer) false
+  other_shown : (p : C) (sets : List (SetAt C)) (cooldown : Option Cooldown) (peer : Peer C S) → option_map_or (λ (r : RecordView C S). not (is_myself r.address)) (shown s p sets cooldown peer) false
       ≡ (is_present_with s p sets peer.status && not (is_own s p))
-  other_shown p sets peer = go (is_present_with s p sets peer.status)
+  other_shown p sets cooldown peer = go (is_present_with s p sets peer.status)
     where
-      go : (b : Bool) → option_map_or (λ (r : RecordView C S). not (is_myself r.address)) (if b then Some (record_with s p sets peer) else None) false ≡ (b && not (is_own s p))
+      go : (b : Bool) → option_map_or (λ (r : RecordView C S). not (is_myself r.address)) (if b then Some (record_with s p sets cooldown peer) else None) false ≡ (b && not (is_own s p))
       go true = ap not (myself_is_own s p peer.known)
       go false = refl
 
@@ -331,7 +320,7 @@ module _ {C S : Type 0} (s : Setup C S) where
         other_keys d.records,
         record {
           sorted = lists.sorted;
-          members = λ p. lists.members p ∙ ap (λ o. option_map_or (λ (r : RecordView C S). not (is_myself r.address)) o false) (stands.records p) ∙ other_shown p w.sets (w.peer p);
+          members = λ p. lists.members p ∙ ap (λ o. option_map_or (λ (r : RecordView C S). not (is_myself r.address)) o false) (stands.records p) ∙ other_shown p w.sets (w.cooldown p) (w.peer p);
         },
         refl,
       )

@@ -12,33 +12,33 @@ use Rattle.p2p_directory.specs.declared.record.Address.TheVariants.{Unknown, Mys
 use Rattle.p2p_directory.specs.declared.record.Status.{Status}
 use Rattle.p2p_directory.specs.declared.record.Status.TheVariants.{Inert, Reserved, Active}
 use Rattle.p2p_directory.specs.declared.record.ReserveResult.TheVariants as reserve
-use Rattle.p2p_directory.specs.Calls.{Setup, SetAt, Direction}
+use Rattle.p2p_directory.specs.Calls.{Setup, SetAt, Direction, Cooldown}
 use Rattle.p2p_directory.specs.Calls.Direction.{Listener, Dialer}
 use Rattle.p2p_directory.specs.History.{same, is_own, is_inert, is_persistent, is_named, is_present_with, primary_count, secondary_count, is_entitled}
 use Rattle.p2p_directory.specs.World
 use Rattle.p2p_directory.specs.Step
-use Rattle.p2p_directory.specs.World.{Known, Peer, last_ingress, last_ingress_by}
+use Rattle.p2p_directory.specs.World.{Known, Peer, last_ingress, last_ingress_by, reservable_from, dialable_from}
 use Rattle.p2p_directory.specs.Step.{new_known}
-use Rattle.p2p_directory.specs.Record.{RecordView, blank, is_myself, is_eligible, is_grant, may_come, after_failure, with_counts, unless_deletable}
+use Rattle.p2p_directory.specs.Record.{RecordView, fresh, is_myself, is_eligible, is_grant, may_come, after_failure, with_counts, unless_deletable}
 use Rattle.p2p_directory.specs.Directory.{address_after_release, released_record, is_connectable, record_with_sets}
 use Rattle.p2p_directory.specs.Refinement.{metadata_of, address_given, address_known, address_of}
 
 module _ {C S : Type 0} (s : Setup C S) where
   -- the record of a present peer
-  abbrev pub record_with : C → List (SetAt C) → Peer C S → RecordView C S
-  record_with p sets peer = record {
+  abbrev pub record_with : C → List (SetAt C) → Option Cooldown → Peer C S → RecordView C S
+  record_with p sets cooldown peer = record {
     address = address_of s p peer.known;
     status = peer.status;
     primary_sets = primary_count s p sets;
     secondary_sets = secondary_count s p sets;
     persistent = is_persistent s p;
-    next_reservable_at = peer.known.reservable_at;
-    next_dial_at = peer.known.dial_at;
+    next_reservable_at = reservable_from cooldown;
+    next_dial_at = dialable_from cooldown;
   }
 
   -- what is shown of a peer
-  abbrev pub shown : C → List (SetAt C) → Peer C S → Option (RecordView C S)
-  shown p sets peer = if is_present_with s p sets peer.status then Some (record_with p sets peer) else None
+  abbrev pub shown : C → List (SetAt C) → Option Cooldown → Peer C S → Option (RecordView C S)
+  shown p sets cooldown peer = if is_present_with s p sets peer.status then Some (record_with p sets cooldown peer) else None
 
   -- ADDRESSES
 
@@ -60,8 +60,8 @@ module _ {C S : Type 0} (s : Setup C S) where
   -- TESTS
 
   -- a present peer's record is eligible where the peer is entitled
-  pub eligible_is_entitled : (p : C) (sets : List (SetAt C)) (peer : Peer C S) → is_eligible (record_with p sets peer) ≡ is_entitled s p sets
-  eligible_is_entitled p sets peer = ap (λ b. not b && (is_named s p sets || is_persistent s p)) (myself_is_own p peer.known)
+  pub eligible_is_entitled : (p : C) (sets : List (SetAt C)) (cooldown : Option Cooldown) (peer : Peer C S) → is_eligible (record_with p sets cooldown peer) ≡ is_entitled s p sets
+  eligible_is_entitled p sets cooldown peer = ap (λ b. not b && (is_named s p sets || is_persistent s p)) (myself_is_own p peer.known)
 
   pub absent_not_entitled : (own named persistent inert : Bool) → ((persistent || named) || not inert) ≡ false → (not own && (named || persistent)) ≡ false
   absent_not_entitled true named persistent inert e = refl
@@ -71,24 +71,24 @@ module _ {C S : Type 0} (s : Setup C S) where
   absent_not_entitled false false false inert e = refl
 
   -- what is kept of it is eligible where the peer is entitled
-  pub shown_entitled : (p : C) (sets : List (SetAt C)) (peer : Peer C S) → option_map_or is_eligible (shown p sets peer) false ≡ is_entitled s p sets
-  shown_entitled p sets peer = go (is_present_with s p sets peer.status) refl
+  pub shown_entitled : (p : C) (sets : List (SetAt C)) (cooldown : Option Cooldown) (peer : Peer C S) → option_map_or is_eligible (shown p sets cooldown peer) false ≡ is_entitled s p sets
+  shown_entitled p sets cooldown peer = go (is_present_with s p sets peer.status) refl
     where
-      go : (b : Bool) → is_present_with s p sets peer.status ≡ b → option_map_or is_eligible (if b then Some (record_with p sets peer) else None) false ≡ is_entitled s p sets
-      go true e = eligible_is_entitled p sets peer
+      go : (b : Bool) → is_present_with s p sets peer.status ≡ b → option_map_or is_eligible (if b then Some (record_with p sets cooldown peer) else None) false ≡ is_entitled s p sets
+      go true e = eligible_is_entitled p sets cooldown peer
       go false e = sym (absent_not_entitled (is_own s p) (is_named s p sets) (is_persistent s p) (is_inert peer.status) e)
 
   -- reserved or connected, and eligible
-  pub shown_busy : (p : C) (sets : List (SetAt C)) (peer : Peer C S) → is_connectable s.cmp (shown p sets peer) ≡ (not (is_inert peer.status) && is_entitled s p sets)
-  shown_busy p sets peer = go (is_present_with s p sets peer.status) refl
+  pub shown_busy : (p : C) (sets : List (SetAt C)) (cooldown : Option Cooldown) (peer : Peer C S) → is_connectable s.cmp (shown p sets cooldown peer) ≡ (not (is_inert peer.status) && is_entitled s p sets)
+  shown_busy p sets cooldown peer = go (is_present_with s p sets peer.status) refl
     where
       and_false : (b : Bool) → false ≡ (b && false)
       and_false true = refl
       and_false false = refl
 
       go : (b : Bool) → is_present_with s p sets peer.status ≡ b →
-          is_connectable s.cmp (if b then Some (record_with p sets peer) else None) ≡ (not (is_inert peer.status) && is_entitled s p sets)
-      go true e = λ i. not (is_inert peer.status) && eligible_is_entitled p sets peer i
+          is_connectable s.cmp (if b then Some (record_with p sets cooldown peer) else None) ≡ (not (is_inert peer.status) && is_entitled s p sets)
+      go true e = λ i. not (is_inert peer.status) && eligible_is_entitled p sets cooldown peer i
       go false e =
           and_false (not (is_inert peer.status))
           ∙ ap (λ b. not (is_inert peer.status) && b) (sym (absent_not_entitled (is_own s p) (is_named s p sets) (is_persistent s p) (is_inert peer.status) e))
@@ -103,9 +103,9 @@ module _ {C S : Type 0} (s : Setup C S) where
   is_granted false true false = refl
   is_granted false false late = refl
 
-  pub shown_may_come : (p : C) (sets : List (SetAt C)) (peer : Peer C S) (unblock : Option ℕ) (t : ℕ) →
-      (not (World.is_blocked unblock t) && option_map_or (may_come t) (shown p sets peer) false) ≡ World.may_listen s p t sets peer unblock
-  shown_may_come p sets peer unblock t = go (is_present_with s p sets peer.status) refl
+  pub shown_may_come : (p : C) (sets : List (SetAt C)) (cooldown : Option Cooldown) (peer : Peer C S) (unblock : Option ℕ) (t : ℕ) →
+      (not (World.is_blocked unblock t) && option_map_or (may_come t) (shown p sets cooldown peer) false) ≡ World.may_listen s p t sets peer unblock cooldown
+  shown_may_come p sets cooldown peer unblock t = go (is_present_with s p sets peer.status) refl
     where
       bools : (free own wanted inert late : Bool) → (free && ((not own && wanted) && (not own && inert && not late))) ≡ ((((not own && wanted) && inert) && free) && not late)
       bools true true wanted inert late = refl
@@ -122,15 +122,15 @@ module _ {C S : Type 0} (s : Setup C S) where
       neither false = refl
 
       go : (b : Bool) → is_present_with s p sets peer.status ≡ b →
-          (not (World.is_blocked unblock t) && option_map_or (may_come t) (if b then Some (record_with p sets peer) else None) false)
-          ≡ (((is_entitled s p sets && is_inert peer.status) && not (World.is_blocked unblock t)) && nat_le peer.known.reservable_at t)
+          (not (World.is_blocked unblock t) && option_map_or (may_come t) (if b then Some (record_with p sets cooldown peer) else None) false)
+          ≡ (((is_entitled s p sets && is_inert peer.status) && not (World.is_blocked unblock t)) && nat_le (reservable_from cooldown) t)
       go true e =
-          (λ i. not (World.is_blocked unblock t) && (eligible_is_entitled p sets peer i && is_granted (myself_is_own p peer.known i) (is_inert peer.status) (nat_lt t peer.known.reservable_at) i))
-          ∙ bools (not (World.is_blocked unblock t)) (is_own s p) (is_named s p sets || is_persistent s p) (is_inert peer.status) (nat_lt t peer.known.reservable_at)
-          ∙ (λ i. ((is_entitled s p sets && is_inert peer.status) && not (World.is_blocked unblock t)) && sym (le_not_lt peer.known.reservable_at t) i)
+          (λ i. not (World.is_blocked unblock t) && (eligible_is_entitled p sets cooldown peer i && is_granted (myself_is_own p peer.known i) (is_inert peer.status) (nat_lt t (reservable_from cooldown)) i))
+          ∙ bools (not (World.is_blocked unblock t)) (is_own s p) (is_named s p sets || is_persistent s p) (is_inert peer.status) (nat_lt t (reservable_from cooldown))
+          ∙ (λ i. ((is_entitled s p sets && is_inert peer.status) && not (World.is_blocked unblock t)) && sym (le_not_lt (reservable_from cooldown) t) i)
       go false e =
           neither (not (World.is_blocked unblock t))
-          ∙ sym (ap (λ b. ((b && is_inert peer.status) && not (World.is_blocked unblock t)) && nat_le peer.known.reservable_at t)
+          ∙ sym (ap (λ b. ((b && is_inert peer.status) && not (World.is_blocked unblock t)) && nat_le (reservable_from cooldown) t)
           (absent_not_entitled (is_own s p) (is_named s p sets) (is_persistent s p) (is_inert peer.status) e))
 
   -- A RELEASE
@@ -178,36 +178,29 @@ module _ {C S : Type 0} (s : Setup C S) where
       out true = refl
       out false = refl
 
-  moments_same : (b : Bool) (known : Known C S) →
-      ((if b then record known { fails = suc known.fails } else known).reservable_at ≡ known.reservable_at)
-      × ((if b then record known { fails = suc known.fails } else known).dial_at ≡ known.dial_at)
-  moments_same true known = (refl, refl)
-  moments_same false known = (refl, refl)
-
   -- the record that a release leaves, if it isn't deletable
-  pub release_of_record : (key p : C) (sets : List (SetAt C)) (peer : Peer C S) (direction : Direction) →
-      released_record (metadata_of key direction) (record_with p sets peer) ≡ record_with p sets (record { status = Inert; known = failed_once peer.known direction })
-  release_of_record key p sets peer direction =
-      let same = moments_same (Step.is_failed_dial s peer.known.info direction) peer.known in
+  pub release_of_record : (key p : C) (sets : List (SetAt C)) (cooldown : Option Cooldown) (peer : Peer C S) (direction : Direction) →
+      released_record (metadata_of key direction) (record_with p sets cooldown peer) ≡ record_with p sets cooldown (record { status = Inert; known = failed_once peer.known direction })
+  release_of_record key p sets cooldown peer direction =
       λ i. record {
         address = address_released key p peer.known direction i;
         status = Inert;
         primary_sets = primary_count s p sets;
         secondary_sets = secondary_count s p sets;
         persistent = is_persistent s p;
-        next_reservable_at = sym same.0 i;
-        next_dial_at = sym same.1 i;
+        next_reservable_at = reservable_from cooldown;
+        next_dial_at = dialable_from cooldown;
       }
 
   -- A SET
 
   -- a record goes where its peer is absent
-  pub settled : (p : C) (sets : List (SetAt C)) (status : Status) (known : Known C S) →
-      unless_deletable (record_with p sets (record { status = status; known = known })) ≡ shown p sets (record { status = status; known = known })
-  settled p sets status known = go (is_persistent s p) (is_named s p sets) (is_inert status)
+  pub settled : (p : C) (sets : List (SetAt C)) (cooldown : Option Cooldown) (status : Status) (known : Known C S) →
+      unless_deletable (record_with p sets cooldown (record { status = status; known = known })) ≡ shown p sets cooldown (record { status = status; known = known })
+  settled p sets cooldown status known = go (is_persistent s p) (is_named s p sets) (is_inert status)
     where
       r : RecordView C S
-      r = record_with p sets (record { status = status; known = known })
+      r = record_with p sets cooldown (record { status = status; known = known })
 
       go : (persistent named inert : Bool) → (if not (named || persistent) && inert then None else Some r) ≡ (if (persistent || named) || not inert then Some r else None)
       go true true inert = refl
@@ -242,10 +235,10 @@ module _ {C S : Type 0} (s : Setup C S) where
   no_ingress None e = refl
   no_ingress (Some a) e = absurd (cc)
 
-  -- of an absent peer nothing is known
-  absent_blank : (q : C) (sets : List (SetAt C)) (peer : Peer C S) (m n : ℕ) → is_present_with s q sets peer.status ≡ false → peer.known ≡ new_known s q →
-      with_counts m n blank ≡ with_counts m n (record_with q sets peer)
-  absent_blank q sets peer m n absent known =
+  -- of an absent peer nothing is known but its moments
+  absent_blank : (q : C) (sets : List (SetAt C)) (cooldown : Option Cooldown) (peer : Peer C S) (m n : ℕ) → is_present_with s q sets peer.status ≡ false → peer.known ≡ new_known s q →
+      with_counts m n (fresh cooldown) ≡ with_counts m n (record_with q sets cooldown peer)
+  absent_blank q sets cooldown peer m n absent known =
       let parts = absent_parts (is_own s q) (list_any (λ b. same s b.0 q) s.bootstrappers) (is_named s q sets) (is_inert peer.status) absent in
       let given : address_given (last_ingress s q s.bootstrappers) ≡ Unknown = no_ingress (last_ingress s q s.bootstrappers) (some_given q s.bootstrappers ∙ parts.1) in
       let address : address_of s q peer.known ≡ Unknown =
@@ -258,16 +251,16 @@ module _ {C S : Type 0} (s : Setup C S) where
         primary_sets = m;
         secondary_sets = n;
         persistent = persistent i;
-        next_reservable_at = (known i).reservable_at;
-        next_dial_at = (known i).dial_at;
+        next_reservable_at = reservable_from cooldown;
+        next_dial_at = dialable_from cooldown;
       })
 
   -- with other sets it is the record that the world has with them
-  pub shown_with_sets : (q : C) (sets sets2 : List (SetAt C)) (peer : Peer C S) → (is_present_with s q sets peer.status ≡ false → peer.known ≡ new_known s q) →
-      record_with_sets s.cmp sets2 q (shown q sets peer) ≡ shown q sets2 peer
-  shown_with_sets q sets sets2 peer forgotten = go (is_present_with s q sets peer.status) refl ∙ settled q sets2 peer.status peer.known
+  pub shown_with_sets : (q : C) (sets sets2 : List (SetAt C)) (cooldown : Option Cooldown) (peer : Peer C S) → (is_present_with s q sets peer.status ≡ false → peer.known ≡ new_known s q) →
+      record_with_sets s.cmp sets2 cooldown q (shown q sets cooldown peer) ≡ shown q sets2 cooldown peer
+  shown_with_sets q sets sets2 cooldown peer forgotten = go (is_present_with s q sets peer.status) refl ∙ settled q sets2 cooldown peer.status peer.known
     where
       go : (b : Bool) → is_present_with s q sets peer.status ≡ b →
-          record_with_sets s.cmp sets2 q (if b then Some (record_with q sets peer) else None) ≡ unless_deletable (record_with q sets2 peer)
+          record_with_sets s.cmp sets2 cooldown q (if b then Some (record_with q sets cooldown peer) else None) ≡ unless_deletable (record_with q sets2 cooldown peer)
       go true e = refl
-      go false e = ap unless_deletable (absent_blank q sets peer (primary_count s q sets2) (secondary_count s q sets2) e (forgotten e))
+      go false e = ap unless_deletable (absent_blank q sets cooldown peer (primary_count s q sets2) (secondary_count s q sets2) e (forgotten e))

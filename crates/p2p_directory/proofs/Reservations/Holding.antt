@@ -1,5 +1,5 @@
 -- What each call leaves busy, and what is held of it.
-use Rattle.std.proofs.Common.{◌≡◌, Bool, true, false, not, Option, Some, None, refl, sym, ◌∙◌, ap, subst}
+use Rattle.std.proofs.Common.{◌≡◌, ℕ, Bool, true, false, not, Option, Some, None, refl, sym, ◌∙◌, ap, subst}
 use Rattle.std.specs.Prelude.{if◌then◌else◌, is_some}
 use Rattle.std.specs.Option.{option_map, option_map_or}
 use Rattle.std.specs.BTreeMap.{is_at}
@@ -11,8 +11,8 @@ use Rattle.p2p_directory.specs.declared.record.Status.{Status}
 use Rattle.p2p_directory.specs.declared.record.Status.TheVariants.{Inert, Reserved, Active}
 use Rattle.p2p_directory.specs.Calls.{SetAt}
 use Rattle.p2p_directory.specs.History.{is_inert, is_reserved}
-use Rattle.p2p_directory.specs.Record.{RecordView}
-use Rattle.p2p_directory.specs.Directory.{DirectoryView, is_busy, record_of, key_of, released_record, kept_after_release, connected_record, IsBusy, IsReserved, ChangesRecord, Connects, TakesSet, record_at}
+use Rattle.p2p_directory.specs.Record.{RecordView, with_cooldown}
+use Rattle.p2p_directory.specs.Directory.{DirectoryView, is_busy, record_of, key_of, released_record, kept_after_release, connected_record, IsBusy, IsReserved, ChangesRecord, Connects, TakesSet, ForgetsCooled, ChangesAt, cooldown_of, is_cooled_in, record_at}
 use Rattle.p2p_directory.specs.Held.{AreHeld, after_release}
 use Rattle.p2p_directory.proofs.SetsAndRecords.Consistent.{status_unless, status_with_sets}
 
@@ -54,16 +54,25 @@ module _ {C S : Type 0} (cmp : C → C → Ordering) where
   -- a set leaves all that is held as it was
   pub held_by_track : (d d2 : DirectoryView C S) (set : SetAt C) (held : C → Option (Metadata C S)) → AreHeld cmp d held → TakesSet cmp d d2 set → AreHeld cmp d2 held
   held_by_track d d2 set held agree change q =
-      agree q ∙ sym (ap is_busy (change.records q) ∙ status_with_sets cmp (λ status. not (is_inert status)) refl d2.sets q (record_of cmp d q))
+      agree q ∙ sym (ap is_busy (change.records q) ∙ status_with_sets cmp (λ status. not (is_inert status)) refl d2.sets (cooldown_of cmp d q) q (record_of cmp d q))
+
+  -- moments that are forgotten leave all that is held as it was
+  pub held_by_forgetting : (d d2 : DirectoryView C S) (t : ℕ) (held : C → Option (Metadata C S)) → AreHeld cmp d held → ForgetsCooled cmp d d2 t → AreHeld cmp d2 held
+  held_by_forgetting d d2 t held agree change q = agree q ∙ sym (ap is_busy (change.records q) ∙ go (is_cooled_in cmp d t q) (record_of cmp d q))
+    where
+      go : (b : Bool) (o : Option (RecordView C S)) → is_busy (if b then option_map (with_cooldown None) o else o) ≡ is_busy o
+      go true None = refl
+      go true (Some r) = refl
+      go false o = refl
 
   -- one is held more
   pub held_by_grant : CmpEqualImpliesEq cmp → (d d2 : DirectoryView C S) (p : C) (m : Metadata C S) (f : Option (RecordView C S) → Option (RecordView C S)) (held held2 : C → Option (Metadata C S)) → AreHeld cmp d held
-      → ChangesRecord cmp d d2 p f → IsBusy cmp d2 p → ((q : C) → held2 q ≡ (if is_at (cmp p) q then Some m else held q)) → AreHeld cmp d2 held2
+      → ChangesAt cmp d.records d2.records p f → IsBusy cmp d2 p → ((q : C) → held2 q ≡ (if is_at (cmp p) q then Some m else held q)) → AreHeld cmp d2 held2
   held_by_grant exact d d2 p m f held held2 agree change busy holds q = ap is_some (holds q) ∙ go (is_at (cmp p) q) refl
     where
       go : (b : Bool) → is_at (cmp p) q ≡ b → is_some (if b then Some m else held q) ≡ is_busy (record_of cmp d2 q)
       go true e = sym (subst (IsBusy cmp d2) (tells_apart exact p q e) busy)
-      go false e = agree q ∙ sym (ap is_busy (change.records q ∙ (λ i. if e i then f (record_of cmp d q) else record_of cmp d q)))
+      go false e = agree q ∙ sym (ap is_busy (change q ∙ (λ i. if e i then f (record_of cmp d q) else record_of cmp d q)))
 
   -- one is held less
   pub held_by_release : (d d2 : DirectoryView C S) (p : C) (m : Metadata C S) (held held2 : C → Option (Metadata C S)) → AreHeld cmp d held

@@ -51,6 +51,7 @@ room_grows cmp slots slots2 command.LatestSetIndex more h = refl
 room_grows cmp slots slots2 command.Tracked more h = refl
 room_grows cmp slots slots2 (command.Block peer now) more h = refl
 room_grows cmp slots slots2 (command.UnblockExpired now) more h = refl
+room_grows cmp slots slots2 (command.ForgetCooled now) more h = refl
 room_grows cmp slots slots2 command.NextUnblock more h = refl
 room_grows cmp slots slots2 (command.BlockedPeers now) more h = refl
 room_grows cmp slots slots2 (command.GetPeerSet index) more h = refl

@@ -15,9 +15,9 @@ use Rattle.p2p_directory.specs.declared.record.Status.{Status}
 use Rattle.p2p_directory.specs.declared.record.Status.TheVariants.{Inert, Reserved, Active}
 use Rattle.p2p_directory.specs.declared.run.commands.Reply.TheVariants as reply
 use Rattle.p2p_directory.specs.Calls.{Setup, Call, Event, Direction, Grant}
-use Rattle.p2p_directory.specs.Calls.Call.{Track, Dial, Listen, Connect, Release, Update, Block, UnblockExpired}
+use Rattle.p2p_directory.specs.Calls.Call.{Track, Dial, Listen, Connect, Release, Update, Block, UnblockExpired, ForgetCooled}
 use Rattle.p2p_directory.specs.Calls.Direction.{Listener, Dialer}
-use Rattle.p2p_directory.specs.Calls.Event.{Nothing, Tracked, Granted, Connected, Released, Updated, Blocked, Expired}
+use Rattle.p2p_directory.specs.Calls.Event.{Nothing, Tracked, Granted, Connected, Released, Updated, Blocked, Expired, Forgot}
 use Rattle.p2p_directory.specs.History
 use Rattle.p2p_directory.specs.History.{is_inert, is_reserved}
 use Rattle.p2p_directory.specs.World
@@ -28,13 +28,12 @@ use Rattle.p2p_directory.specs.Answers.{is_present_in, was_taken, was_granted, w
 use Rattle.p2p_directory.specs.Blocks.{IsAnyUntil}
 use Rattle.p2p_directory.specs.Record.{RecordView}
 use Rattle.p2p_directory.specs.PeerSets.{set_of, latest_index, is_above}
-use Rattle.p2p_directory.specs.Directory.{DirectoryView, is_busy, record_of, first_record, kept_after_release, unblock_of, may_block, BlocksUntil, EndsBlocks, may_listen_in, may_dial_in, ingress_in, ChangesRecord, Reserves, Connects, Updates, TakesSet, AreTornDown}
+use Rattle.p2p_directory.specs.Directory.{DirectoryView, is_busy, record_of, first_record, kept_after_release, unblock_of, may_block, BlocksUntil, EndsBlocks, IsNumberCooledIn, ForgetsCooled, may_listen_in, may_dial_in, ingress_in, ChangesRecord, Reserves, Connects, Updates, TakesSet, AreTornDown}
 use Rattle.p2p_directory.specs.Held.{AreHeld}
 use Rattle.p2p_directory.specs.Private.Serving.{ServerView, StandsAt, IsServedAt}
 use Rattle.p2p_directory.specs.Private.Slots.{held_in}
 use Rattle.p2p_directory.specs.Refinement.{Refines, config_of, record_in, metadata_of}
-use Rattle.p2p_discovery.specs.Ingress.{takes_none}
-use Rattle.p2p_directory.specs.Run.{world_after, event_of, Holds, dials_name}
+use Rattle.p2p_directory.specs.Run.{world_after, event_of, Holds}
 use Rattle.p2p_directory.proofs.Definitions.Law
 use Rattle.p2p_directory.proofs.LawsOfRuns.Forgotten
 use Rattle.p2p_directory.proofs.Refinement.CallsRefine
@@ -67,6 +66,7 @@ module _ {C S : Type 0} (s : Setup C S) where
       sets = w.sets;
       peer = λ p. record { status = (w.peer p).status; known = go p (is_present_in s w p) refl i };
       unblock = w.unblock;
+      cooldown = w.cooldown;
     };
     held = w.held;
   }
@@ -209,7 +209,7 @@ module _ {C S : Type 0} (s : Setup C S) where
       served_track index primary secondary (Some torn) answer same taken down slots = served_taken index primary secondary torn (sym answer) taken down slots
 
       -- a grant in either direction: what is granted is held
-      granted_left : (c : Call C S) (p : C) (now draw : ℕ) (direction : Direction) → World.may_listen s p now (world_after s cs).sets ((world_after s cs).peer p) ((world_after s cs).unblock p) ≡ true →
+      granted_left : (c : Call C S) (p : C) (now draw : ℕ) (direction : Direction) → World.may_listen s p now (world_after s cs).sets ((world_after s cs).peer p) ((world_after s cs).unblock p) ((world_after s cs).cooldown p) ≡ true →
           event_in s (world_after s cs).sets (world_after s cs) c ≡ Granted p (record { t = now; draw = draw; direction = direction }) → Reserves s.cmp v.directory v2.directory p now draw →
           ((q : C) → held_in s.cmp v2.slots q ≡ (if is_at (s.cmp p) q then Some (metadata_of p direction) else held_in s.cmp v.slots q)) → StandsAt s (c ∷ cs) v2
       granted_left c p now draw direction may is change held =
@@ -236,29 +236,38 @@ module _ {C S : Type 0} (s : Setup C S) where
           let is : event_in s (world_after s cs).sets (world_after s cs) c ≡ Nothing = ap (World.listen_event s p now draw) may in
           record { answer = ap (λ e. reply.Listen (was_granted e)) (sym (event cs c Nothing is)); left = idle cs c v v2 is directory slots at }
 
+      -- .. that is refused memory
+      pub served_no_listen : (p : C) (now draw : ℕ) → may_listen_in s.cmp v.directory now p ≡ true → v2.directory ≡ v.directory → v2.slots ≡ v.slots → IsServedAt s cs (Listen p now draw) reply.OutOfMemory v2
+      served_no_listen p now draw can directory slots =
+          let c : Call C S = Listen p now draw in
+          let grant : Grant = record { t = now; draw = draw; direction = Listener } in
+          let may = sym (DialsRefine.tie_may_listen s (world_after s cs) v.directory p now at.refines) ∙ can in
+          let is : event_in s (world_after s cs).sets (world_after s cs) c ≡ Granted p grant = ap (World.listen_event s p now draw) may in
+          record { answer = ap was_granted (event cs c (Granted p grant) is); left = same_views cs v v2 directory (λ q. ap (λ slots. held_in s.cmp slots q) slots) at }
+
       -- dial: where it is granted, there is an address
       dialled : (p : C) (now draw : ℕ) → may_dial_in s.cmp v.directory now p ≡ true → (a : Ingress) × (ingress_in s.cmp v.directory p ≡ Some a)
-          × (World.may_listen s p now (world_after s cs).sets ((world_after s cs).peer p) ((world_after s cs).unblock p) ≡ true)
+          × (World.may_listen s p now (world_after s cs).sets ((world_after s cs).peer p) ((world_after s cs).unblock p) ((world_after s cs).cooldown p) ≡ true)
           × (event_in s (world_after s cs).sets (world_after s cs) (Dial p now draw) ≡ Granted p (record { t = now; draw = draw; direction = Dialer a }))
       dialled p now draw can = go (World.address_with s p (w.peer p).known.info) refl
         where
           w : World C S
           w = world_after s cs
 
-          may : World.may_dial s p now w.sets (w.peer p) (w.unblock p) ≡ true
+          may : World.may_dial s p now w.sets (w.peer p) (w.unblock p) (w.cooldown p) ≡ true
           may = sym (DialsRefine.tie_may_dial s w v.directory p now at.refines) ∙ can
 
-          parts : ((World.may_listen s p now w.sets (w.peer p) (w.unblock p) && World.is_dial_target s p w.sets) ≡ true) × (World.is_valid_address s (World.address_with s p (w.peer p).known.info) ≡ true)
+          parts : ((World.may_listen s p now w.sets (w.peer p) (w.unblock p) (w.cooldown p) && World.is_dial_target s p w.sets) ≡ true) × (World.is_valid_address s (World.address_with s p (w.peer p).known.info) ≡ true)
           parts = and_parts _ _ may
 
           go : (o : Option Ingress) → World.address_with s p (w.peer p).known.info ≡ o → (a : Ingress) × (ingress_in s.cmp v.directory p ≡ Some a)
-              × (World.may_listen s p now w.sets (w.peer p) (w.unblock p) ≡ true)
+              × (World.may_listen s p now w.sets (w.peer p) (w.unblock p) (w.cooldown p) ≡ true)
               × (event_in s w.sets w (Dial p now draw) ≡ Granted p (record { t = now; draw = draw; direction = Dialer a }))
           go None e = absurd (let f = sym (ap (World.is_valid_address s) e) ∙ parts.1 in cc)
           go (Some a) e = (
             a,
             DialsRefine.tie_ingress s w v.directory p now at.refines may ∙ e,
-            (and_parts (World.may_listen s p now w.sets (w.peer p) (w.unblock p)) (World.is_dial_target s p w.sets) parts.0).0,
+            (and_parts (World.may_listen s p now w.sets (w.peer p) (w.unblock p) (w.cooldown p)) (World.is_dial_target s p w.sets) parts.0).0,
             (λ i. World.dial_event s p now draw (may i) (e i)),
           )
 
@@ -295,11 +304,11 @@ module _ {C S : Type 0} (s : Setup C S) where
           record { answer = ap (λ e. reply.Dial (was_granted e)) (sym (event cs c Nothing is)); left = idle cs c v v2 is directory slots at }
 
       -- .. refused memory
-      pub served_no_dial : (p : C) (now draw : ℕ) → may_dial_in s.cmp v.directory now p ≡ true → ((a : Ingress) → ingress_in s.cmp v.directory p ≡ Some a → takes_none a ≡ false) → v2.directory ≡ v.directory → v2.slots ≡ v.slots → IsServedAt s cs (Dial p now draw) reply.OutOfMemory v2
-      served_no_dial p now draw can named directory slots =
+      pub served_no_dial : (p : C) (now draw : ℕ) → may_dial_in s.cmp v.directory now p ≡ true → v2.directory ≡ v.directory → v2.slots ≡ v.slots → IsServedAt s cs (Dial p now draw) reply.OutOfMemory v2
+      served_no_dial p now draw can directory slots =
           let found = dialled p now draw can in
           let grant : Grant = record { t = now; draw = draw; direction = Dialer found.0 } in
-          record { answer = ap dials_name (event cs (Dial p now draw) (Granted p grant) found.3) ∙ ap not (named found.0 found.1); left = same_views cs v v2 directory (λ q. ap (λ slots. held_in s.cmp slots q) slots) at }
+          record { answer = ap was_granted (event cs (Dial p now draw) (Granted p grant) found.3); left = same_views cs v v2 directory (λ q. ap (λ slots. held_in s.cmp slots q) slots) at }
 
       -- BLOCKS
 
@@ -347,6 +356,18 @@ module _ {C S : Type 0} (s : Setup C S) where
             left =
                 stands_with cs (UnblockExpired now) (Expired now) v2 at.limit_fits refl (BlocksRefine.tie_ended s w v.directory v2.directory now at.refines change)
                 (subst (λ slots. Holds s (world_with s (Expired now) w) (held_in s.cmp slots)) (sym slots) same);
+          }
+
+      pub served_forgotten : (now count : ℕ) → IsNumberCooledIn s.cmp v.directory now count → ForgetsCooled s.cmp v.directory v2.directory now → v2.slots ≡ v.slots →
+          IsServedAt s cs (ForgetCooled now) (reply.ForgetCooled count) v2
+      served_forgotten now count told change slots =
+          let w : World C S = world_after s cs in
+          let same : Holds s (world_with s (Forgot now) w) (held_in s.cmp v.slots) = record { peers = at.holds.peers; metadata = at.holds.metadata } in
+          record {
+            answer = CallsRefine.tie_number_cooled s w v.directory now count at.refines told;
+            left =
+                stands_with cs (ForgetCooled now) (Forgot now) v2 at.limit_fits refl (CallsRefine.tie_forget s w v.directory v2.directory now at.refines change)
+                (subst (λ slots. Holds s (world_with s (Forgot now) w) (held_in s.cmp slots)) (sym slots) same);
           }
 
       -- the status that is told of p says whether p is reserved
@@ -420,10 +441,10 @@ module _ {C S : Type 0} (s : Setup C S) where
           go q false e = refl
 
   -- before any command nothing is held
-  pub stands_at_start : (v : ServerView C S) → s.dial_fail_limit < 2 ^ 64 → v.directory.config ≡ config_of s → v.directory.sets ≡ [] → v.directory.blocks ≡ [] →
+  pub stands_at_start : (v : ServerView C S) → s.dial_fail_limit < 2 ^ 64 → v.directory.config ≡ config_of s → v.directory.sets ≡ [] → v.directory.blocks ≡ [] → v.directory.cooldowns ≡ [] →
       ((q : C) → record_of s.cmp v.directory q ≡ first_record s.cmp s.bootstrappers s.own q) → ((q : C) → held_in s.cmp v.slots q ≡ None) → StandsAt s [] v
-  stands_at_start v fits config sets blocks records none = record {
+  stands_at_start v fits config sets blocks cooldowns records none = record {
     limit_fits = fits;
-    refines = CallsRefine.tie_start s v.directory config sets blocks records;
+    refines = CallsRefine.tie_start s v.directory config sets blocks cooldowns records;
     holds = record { peers = λ q. ap is_some (none q); metadata = none };
   }

@@ -1,12 +1,8 @@
 -- What holds between calls, after the record of one peer changed, and after a set was taken.
-use Rattle.std.proofs.Common.{◌≡◌, ℕ, Bool, true, false, ◌||◌, ◌&&◌, not, List, [], ◌∷◌, ◌++◌, map, Result, Ok, Err, Option, Some, None, IfSome, sym, ap, subst, refl, ◌∙◌}
+use Rattle.std.proofs.Common.{◌≡◌, ℕ, Bool, true, false, ◌||◌, ◌&&◌, not, List, [], ◌∷◌, ◌++◌, map, Option, Some, None, IfSome, sym, ap, subst, refl, ◌∙◌}
 use Rattle.std.specs.Prelude.{if◌then◌else◌, nat_lt, nat_le}
 use Rattle.std.specs.declared.cmp.Ordering.{Ordering}
 use Rattle.std.specs.Option.{option_map, option_map_or, option_and_then}
-use Rattle.std.specs.Result.{OnErr, IfOk}
-use Rattle.std.specs.Option.{IfNone}
-use Rattle.std.specs.Duration.{as_nanos}
-use Rattle.std.specs.declared.alloc.AllocError.{AllocError}
 use Rattle.std.proofs.lemmas.Bool.{and_parts, and_from}
 use Rattle.std.specs.BTreeMap.{is_at}
 use Rattle.std.proofs.lemmas.List.{append-nil}
@@ -22,16 +18,16 @@ use Rattle.p2p_directory.specs.declared.record.Address.TheVariants.{Unknown, Mys
 use Rattle.p2p_directory.specs.declared.record.Status.{Status}
 use Rattle.p2p_directory.specs.declared.record.Status.TheVariants.{Inert, Reserved, Active}
 use Rattle.p2p_directory.specs.declared.record.ReserveResult.TheVariants as answer
-use Rattle.p2p_directory.specs.Calls.{SetAt}
+use Rattle.p2p_directory.specs.Calls.{SetAt, Cooldown}
 use Rattle.p2p_directory.specs.History.{is_inert, first_greatest}
 use Rattle.p2p_directory.specs.Record.{RecordView, is_myself, is_wanted, is_outbound_target, is_dial_candidate, has_valid_ingress, ingress_of, may_be_dialled, reserve_answer, is_eligible, is_grant, is_active, may_come, wants_by, is_deletable, reserved_record, unless_deletable, after_failure, after_success, address_after_update, address_after_offer}
-use Rattle.p2p_directory.specs.Directory.{ConfigView, DirectoryView, record_at, record_of, has_status, ChangesAt, ChangesRecord}
+use Rattle.p2p_directory.specs.Directory.{ConfigView, DirectoryView, record_of, has_status, ChangesAt, ChangesRecord}
 use Rattle.p2p_directory.specs.Directory.{is_known, released_record, address_after_release, kept_after_release, connected_record, updated_record}
 use Rattle.p2p_directory.specs.Private.Window.{SetWithBits, plain_sets, sets_with_bits, bits_with, with_bit_of}
 use Rattle.p2p_directory.specs.declared.record.Role.TheVariants.{Primary, Secondary}
 use Rattle.p2p_directory.specs.PeerSets.{set_count}
-use Rattle.p2p_directory.specs.Private.Dialling.{dialled_of, dialled_in, is_primary_record, is_secondary_record, is_record_in_set}
-use Rattle.p2p_directory.specs.Private.Counts.{reserved_if, IsConsistent, HasOwn, AreMarked, IsInvariant}
+use Rattle.p2p_directory.specs.Private.Dialling.{dialled_of, is_primary_record, is_secondary_record, is_record_in_set}
+use Rattle.p2p_directory.specs.Private.Counts.{IsConsistent, HasOwn, AreMarked, IsInvariant}
 use Rattle.p2p_directory.proofs.SetsAndRecords.Counting
 use Rattle.p2p_directory.proofs.SetsAndRecords.Counting.{one}
 use Rattle.p2p_directory.proofs.SetsAndRecords.Infos.{address_after-one_more}
@@ -42,12 +38,6 @@ and_false true = refl
 and_false false = refl
 
 -- ONE RECORD
-
--- who is not reserved is as before
-pub as_before : {C S : Type 0} (here granted : Bool) (now draw cooldown : ℕ) (o : Option (RecordView C S)) → granted ≡ false → (if here then option_map (reserved_if granted now draw cooldown) o else o) ≡ o
-as_before true granted now draw cooldown None e = refl
-as_before true granted now draw cooldown (Some r) e = ap (λ b. Some (reserved_if b now draw cooldown r)) e
-as_before false granted now draw cooldown o e = refl
 
 module _ {C S : Type 0} where
   -- a record that stands between calls: it isn't deletable, and persists where it is the own one
@@ -334,7 +324,7 @@ module _ {C S : Type 0} (cmp : C → C → Ordering) where
           go false e = refl
 
   -- who is dialled may come
-  dialled_may_come : (cfg : Config) (now : ℕ) (o : Option (RecordView C S)) (a : Ingress) → option_and_then (dialled_of cfg now) o ≡ Some a → option_map_or (may_come now) o false ≡ true
+  pub dialled_may_come : (cfg : Config) (now : ℕ) (o : Option (RecordView C S)) (a : Ingress) → option_and_then (dialled_of cfg now) o ≡ Some a → option_map_or (may_come now) o false ≡ true
   dialled_may_come cfg now None a e = absurd cc
   dialled_may_come cfg now (Some r) a e = go (may_be_dialled now cfg.allow_private_ips cfg.allow_dns r) refl e
     where
@@ -358,15 +348,6 @@ module _ {C S : Type 0} (cmp : C → C → Ordering) where
           (and_from (not (is_myself r.address)) (is_wanted r) (known r.address candidate.1) (wanted (nat_lt 0 r.primary_sets) (nat_lt 0 r.secondary_sets) r.persistent target)) parts.1
       go false h f = absurd cc
 
-  -- p may have been reserved for a dial
-  pub dialled_at : (max limit : ℕ) (window : List (SetWithBits C)) (old new : List (C × RecordView C S)) (p : C) (now draw : ℕ) (cfg : Config) (r : Result (Option Ingress) AllocError) → CmpEqualImpliesEq cmp →
-      IsInvariant cmp max limit window (record_at cmp old) → OnErr r (new ≡ old) → IfOk r (λ o. o ≡ dialled_in cmp old cfg now p) → IfOk r (λ o. IfNone o (new ≡ old)) →
-      IfOk r (λ o. IfSome o (λ _. ChangesAt cmp old new p (option_map (reserved_record now draw (as_nanos cfg.peer_connection_cooldown))))) → IsInvariant cmp max limit window (record_at cmp new)
-  dialled_at max limit window old new p now draw cfg (Err e) exact was err answer refused change = subst (λ rs. IsInvariant cmp max limit window (record_at cmp rs)) (sym err) was
-  dialled_at max limit window old new p now draw cfg (Ok None) exact was err answer refused change = subst (λ rs. IsInvariant cmp max limit window (record_at cmp rs)) (sym refused) was
-  dialled_at max limit window old new p now draw cfg (Ok (Some a)) exact was err answer refused change =
-      reserved_at max limit window (record_at cmp old) (record_at cmp new) p now draw (as_nanos cfg.peer_connection_cooldown) exact was change (dialled_may_come cfg now (record_at cmp old p) a (sym answer))
-
   -- each record changes, and the bits are right again
   pub changed_with_bits : (max limit : ℕ) (window window2 : List (SetWithBits C)) (old new : C → Option (RecordView C S)) → IsInvariant cmp max limit window old → ((q : C) → IsKept (old q) (new q)) → plain_sets window2 ≡ plain_sets window → AreMarked cmp limit window2 new → IsInvariant cmp max limit window2 new
   changed_with_bits max limit window window2 old new was keeps sets bits = record {
@@ -378,12 +359,12 @@ module _ {C S : Type 0} (cmp : C → C → Ordering) where
   -- WHAT CALLERS SEE
 
   -- one record changes, and nothing else
-  pub changes_view : (d : DirectoryView C S) (config : ConfigView) (window window2 : List (SetWithBits C)) (records records2 : List (C × RecordView C S)) (blocks : List (C × ℕ)) (p : C) (f : Option (RecordView C S) → Option (RecordView C S)) (b : Bool) →
-      record { config = config; sets = plain_sets window; records = records; blocks = blocks } ≡ d → window2 ≡ map (with_bit_of cmp p b) window → ChangesAt cmp records records2 p f →
-      ChangesRecord cmp d (record { config = config; sets = plain_sets window2; records = records2; blocks = blocks }) p f
-  changes_view d config window window2 records records2 blocks p f b view anew change =
-      subst (λ d. ChangesRecord cmp d (record { config = config; sets = plain_sets window2; records = records2; blocks = blocks }) p f) view
-      (record { config = refl; sets = ap plain_sets anew ∙ plain_with_bit cmp p b window; blocks = refl; records = change })
+  pub changes_view : (d : DirectoryView C S) (config : ConfigView) (window window2 : List (SetWithBits C)) (records records2 : List (C × RecordView C S)) (blocks : List (C × ℕ)) (cooldowns : List (C × Cooldown)) (p : C) (f : Option (RecordView C S) → Option (RecordView C S)) (b : Bool) →
+      record { config = config; sets = plain_sets window; records = records; blocks = blocks; cooldowns = cooldowns } ≡ d → window2 ≡ map (with_bit_of cmp p b) window → ChangesAt cmp records records2 p f →
+      ChangesRecord cmp d (record { config = config; sets = plain_sets window2; records = records2; blocks = blocks; cooldowns = cooldowns }) p f
+  changes_view d config window window2 records records2 blocks cooldowns p f b view anew change =
+      subst (λ d. ChangesRecord cmp d (record { config = config; sets = plain_sets window2; records = records2; blocks = blocks; cooldowns = cooldowns }) p f) view
+      (record { config = refl; sets = ap plain_sets anew ∙ plain_with_bit cmp p b window; blocks = refl; cooldowns = refl; records = change })
 
   -- whose status passes a test does so again, where the one record that changes does
   pub status_after_change : (test : Status → Bool) (d d2 : DirectoryView C S) (p : C) (f : Option (RecordView C S) → Option (RecordView C S)) → ChangesRecord cmp d d2 p f →

@@ -14,10 +14,10 @@ use Rattle.p2p_directory.specs.declared.record.Status.{Status}
 use Rattle.p2p_directory.specs.declared.record.Status.TheVariants.{Inert, Reserved, Active}
 use Rattle.p2p_directory.specs.declared.record.Role.{Role}
 use Rattle.p2p_directory.specs.declared.record.Role.TheVariants.{Primary, Secondary}
-use Rattle.p2p_directory.specs.Calls.{SetAt}
+use Rattle.p2p_directory.specs.Calls.{SetAt, Cooldown}
 use Rattle.p2p_directory.specs.History.{last_of, is_inert}
 use Rattle.p2p_directory.specs.World.{last_ingress_by}
-use Rattle.p2p_directory.specs.Record.{RecordView, new_record, blank, is_myself, is_wanted, is_eligible, is_deletable, with_counts, unless_deletable}
+use Rattle.p2p_directory.specs.Record.{RecordView, new_record, fresh, is_myself, is_wanted, is_eligible, is_deletable, with_counts, unless_deletable}
 use Rattle.p2p_directory.specs.Private.Counts.{one_set_more, one_set_less, record_leaving}
 use Rattle.p2p_directory.specs.PeerSets.{members, has_key, set_count, AreRolesDisjoint}
 use Rattle.p2p_directory.specs.Private.Counts.{newest_sets, leaving_count, surplus_count}
@@ -181,9 +181,9 @@ module _ {C S : Type 0} (cmp : C → C → Ordering) where
   in_range max sets old was role q = let few = count_few (λ set. has_key cmp (members role set) q) sets in omega (arith, few, was.at_most_max, was.max_in_range)
 
   -- so one set more and then less leaves what was kept
-  pub all_restored : (max : ℕ) (sets : List (SetAt C)) (old : C → Option (RecordView C S)) → IsConsistent cmp max sets old → (q : C) (role : Role) → IsRestored cmp role (old q)
-  all_restored max sets old was q role =
-      Counting.restored role (old q) (set_count cmp Primary q sets) (set_count cmp Secondary q sets) (was.counts q).0 (was.counts q).1 (was.none_deletable q)
+  pub all_restored : (max : ℕ) (sets : List (SetAt C)) (old : C → Option (RecordView C S)) → IsConsistent cmp max sets old → (cooldowns : C → Option Cooldown) (q : C) (role : Role) → IsRestored cmp role (cooldowns q) (old q)
+  all_restored max sets old was cooldowns q role =
+      Counting.restored (cooldowns q) role (old q) (set_count cmp Primary q sets) (set_count cmp Secondary q sets) (was.counts q).0 (was.counts q).1 (was.none_deletable q)
       (in_range max sets old was Primary q) (in_range max sets old was Secondary q)
 
   -- what the peer is kept with, and whether it is torn down, once the oldest set went
@@ -226,14 +226,14 @@ module _ {C S : Type 0} (cmp : C → C → Ordering) where
       }
 
   -- what is kept of a peer, and whether it is torn down, after a set was taken
-  pub record IsTakenAt (sets : List (SetAt C)) (old new : Option (RecordView C S)) (q : C) (torn : Bool) : Type 0 where
-    pub records : new ≡ record_with_sets cmp sets q old
+  pub record IsTakenAt (sets : List (SetAt C)) (cooldown : Option Cooldown) (old new : Option (RecordView C S)) (q : C) (torn : Bool) : Type 0 where
+    pub records : new ≡ record_with_sets cmp sets cooldown q old
     pub torn_down : torn ≡ (is_connectable cmp old && not (option_map_or is_eligible new false))
 
-  pub taken : (max : ℕ) (sets : List (SetAt C)) (set : SetAt C) (old mid new : C → Option (RecordView C S)) (torn : List C) →
-      IsConsistent cmp max sets old → AreRolesDisjoint cmp set → ((q : C) → mid q ≡ record_joining cmp set q (old q)) → DropsOldest cmp max (sets ++ set ∷ []) mid new torn →
-      (q : C) → IsTakenAt (newest_sets max (sets ++ set ∷ [])) (old q) (new q) q (has_key cmp torn q)
-  taken max sets set old mid new torn was disjoint joins drops q = record {
+  pub taken : (max : ℕ) (sets : List (SetAt C)) (set : SetAt C) (cooldowns : C → Option Cooldown) (old mid new : C → Option (RecordView C S)) (torn : List C) →
+      IsConsistent cmp max sets old → AreRolesDisjoint cmp set → ((q : C) → mid q ≡ record_joining cmp set (cooldowns q) q (old q)) → DropsOldest cmp max (sets ++ set ∷ []) mid new torn →
+      (q : C) → IsTakenAt (newest_sets max (sets ++ set ∷ [])) (cooldowns q) (old q) (new q) q (has_key cmp torn q)
+  taken max sets set cooldowns old mid new torn was disjoint joins drops q = record {
     records = drop.left;
     torn_down =
         drop.torn_down
@@ -245,7 +245,7 @@ module _ {C S : Type 0} (cmp : C → C → Ordering) where
   }
     where
       b : RecordView C S
-      b = unwrap_or (old q) blank
+      b = unwrap_or (old q) (fresh (cooldowns q))
 
       p : ℕ
       p = set_count cmp Primary q sets
@@ -266,7 +266,7 @@ module _ {C S : Type 0} (cmp : C → C → Ordering) where
       all_s = count_push (λ x. has_key cmp x.secondary q) sets set
 
       before : old q ≡ at_counts p s b
-      before = at_its_counts (old q) p s (was.counts q).0 (was.counts q).1 (was.none_deletable q)
+      before = at_its_counts (cooldowns q) (old q) p s (was.counts q).0 (was.counts q).1 (was.none_deletable q)
 
       flags : AreLeft cmp max sets set q
       flags = are_left cmp max sets set q was.max_positive
@@ -277,7 +277,7 @@ module _ {C S : Type 0} (cmp : C → C → Ordering) where
       middle : mid q ≡ at_counts (set_count cmp Primary q (sets ++ set ∷ [])) (set_count cmp Secondary q (sets ++ set ∷ [])) b
       middle =
           joins q
-          ∙ Counting.joined (has_key cmp set.primary q) (has_key cmp set.secondary q) (disjoint q) (old q) p s (was.counts q).0 (was.counts q).1 (was.none_deletable q)
+          ∙ Counting.joined (cooldowns q) (has_key cmp set.primary q) (has_key cmp set.secondary q) (disjoint q) (old q) p s (was.counts q).0 (was.counts q).1 (was.none_deletable q)
           (in_range max sets old was Primary q) (in_range max sets old was Secondary q)
           ∙ (λ i. at_counts (sym all_p i) (sym all_s i) b)
 
@@ -285,15 +285,15 @@ module _ {C S : Type 0} (cmp : C → C → Ordering) where
       drop = dropped (sets ++ set ∷ []) (nat_lt max (length (sets ++ set ∷ []))) mid new torn drops q b middle
 
   -- it holds between calls again
-  pub taken_consistent : (max : ℕ) (sets : List (SetAt C)) (set : SetAt C) (old new : C → Option (RecordView C S)) → IsConsistent cmp max sets old →
-      ((q : C) → new q ≡ record_with_sets cmp (newest_sets max (sets ++ set ∷ [])) q (old q)) → IsConsistent cmp max (newest_sets max (sets ++ set ∷ [])) new
-  taken_consistent max sets set old new was is =
+  pub taken_consistent : (max : ℕ) (sets : List (SetAt C)) (set : SetAt C) (cooldowns : C → Option Cooldown) (old new : C → Option (RecordView C S)) → IsConsistent cmp max sets old →
+      ((q : C) → new q ≡ record_with_sets cmp (newest_sets max (sets ++ set ∷ [])) (cooldowns q) q (old q)) → IsConsistent cmp max (newest_sets max (sets ++ set ∷ [])) new
+  taken_consistent max sets set cooldowns old new was is =
       let kept = newest_sets max (sets ++ set ∷ []) in record {
         none_deletable = λ q. subst (λ o. IfSome o (λ r. is_deletable r ≡ false)) (sym (is q))
-            (Counting.none_deletable (with_counts (set_count cmp Primary q kept) (set_count cmp Secondary q kept) (unwrap_or (old q) blank)));
+            (Counting.none_deletable (with_counts (set_count cmp Primary q kept) (set_count cmp Secondary q kept) (unwrap_or (old q) (fresh (cooldowns q)))));
         counts = λ q. (
-          ap (λ o. option_map_or (λ r. r.primary_sets) o 0) (is q) ∙ Counting.counted_primary (set_count cmp Primary q kept) (set_count cmp Secondary q kept) (unwrap_or (old q) blank),
-          ap (λ o. option_map_or (λ r. r.secondary_sets) o 0) (is q) ∙ Counting.counted_secondary (set_count cmp Primary q kept) (set_count cmp Secondary q kept) (unwrap_or (old q) blank),
+          ap (λ o. option_map_or (λ r. r.primary_sets) o 0) (is q) ∙ Counting.counted_primary (set_count cmp Primary q kept) (set_count cmp Secondary q kept) (unwrap_or (old q) (fresh (cooldowns q))),
+          ap (λ o. option_map_or (λ r. r.secondary_sets) o 0) (is q) ∙ Counting.counted_secondary (set_count cmp Primary q kept) (set_count cmp Secondary q kept) (unwrap_or (old q) (fresh (cooldowns q))),
         );
         at_most_max = few_by max (sets ++ set ∷ []) (nat_lt max (length (sets ++ set ∷ []))) refl (omega (arith, length-append sets (set ∷ []), was.at_most_max));
         max_positive = was.max_positive;
@@ -301,15 +301,15 @@ module _ {C S : Type 0} (cmp : C → C → Ordering) where
       }
 
   -- other sets leave each status, but for who is inert
-  pub status_with_sets : (test : Status → Bool) → test Inert ≡ false → (sets : List (SetAt C)) (q : C) (o : Option (RecordView C S)) → has_status test (record_with_sets cmp sets q o) ≡ has_status test o
-  status_with_sets test idle sets q None = status_unless test idle (with_counts (set_count cmp Primary q sets) (set_count cmp Secondary q sets) blank) ∙ idle
-  status_with_sets test idle sets q (Some r) = status_unless test idle (with_counts (set_count cmp Primary q sets) (set_count cmp Secondary q sets) r)
+  pub status_with_sets : (test : Status → Bool) → test Inert ≡ false → (sets : List (SetAt C)) (k : Option Cooldown) (q : C) (o : Option (RecordView C S)) → has_status test (record_with_sets cmp sets k q o) ≡ has_status test o
+  status_with_sets test idle sets k q None = status_unless test idle (with_counts (set_count cmp Primary q sets) (set_count cmp Secondary q sets) (fresh k)) ∙ idle
+  status_with_sets test idle sets k q (Some r) = status_unless test idle (with_counts (set_count cmp Primary q sets) (set_count cmp Secondary q sets) r)
 
   -- a set that came and went leaves each record as it was
-  pub left_again : (set : SetAt C) (q : C) (o : Option (RecordView C S)) → AreRolesDisjoint cmp set → ((role : Role) → IsRestored cmp role o) → record_leaving cmp set q (record_joining cmp set q o) ≡ o
-  left_again set q o disjoint back = go (has_key cmp set.primary q) (has_key cmp set.secondary q) (disjoint q)
+  pub left_again : (set : SetAt C) (k : Option Cooldown) (q : C) (o : Option (RecordView C S)) → AreRolesDisjoint cmp set → ((role : Role) → IsRestored cmp role k o) → record_leaving cmp set q (record_joining cmp set k q o) ≡ o
+  left_again set k q o disjoint back = go (has_key cmp set.primary q) (has_key cmp set.secondary q) (disjoint q)
     where
-      go : (a b : Bool) → (a ≡ true → b ≡ false) → (let joined = (if b then one_set_more Secondary (if a then one_set_more Primary o else o) else (if a then one_set_more Primary o else o)) in
+      go : (a b : Bool) → (a ≡ true → b ≡ false) → (let joined = (if b then one_set_more Secondary k (if a then one_set_more Primary k o else o) else (if a then one_set_more Primary k o else o)) in
           if b then one_set_less Secondary (if a then one_set_less Primary joined else joined) else (if a then one_set_less Primary joined else joined)) ≡ o
       go true true h = absurd (let f = h refl in cc)
       go true false h = back Primary
@@ -317,30 +317,30 @@ module _ {C S : Type 0} (cmp : C → C → Ordering) where
       go false false h = refl
 
   -- A TRACK, from its parts: max2 is the greatest number, made the set, and sets1 the sets with it
-  pub record IsTracked (max : ℕ) (sets sets2 : List (SetAt C)) (set : SetAt C) (old new : C → Option (RecordView C S)) (torn : List C) : Type 0 where
+  pub record IsTracked (max : ℕ) (sets sets2 : List (SetAt C)) (set : SetAt C) (cooldowns : C → Option Cooldown) (old new : C → Option (RecordView C S)) (torn : List C) : Type 0 where
     pub kept : sets2 ≡ last_of max (sets ++ set ∷ [])
     pub consistent : IsConsistent cmp max sets2 new
-    pub records : (q : C) → new q ≡ record_with_sets cmp sets2 q (old q)
+    pub records : (q : C) → new q ≡ record_with_sets cmp sets2 (cooldowns q) q (old q)
     pub torn_down : (q : C) → has_key cmp torn q ≡ (is_connectable cmp (old q) && not (option_map_or is_eligible (new q) false))
 
-  whole : (max : ℕ) (sets : List (SetAt C)) (set : SetAt C) (old mid new : C → Option (RecordView C S)) (torn : List C) →
-      IsConsistent cmp max sets old → AreRolesDisjoint cmp set → ((q : C) → mid q ≡ record_joining cmp set q (old q)) → DropsOldest cmp max (sets ++ set ∷ []) mid new torn →
-      IsTracked max sets (newest_sets max (sets ++ set ∷ [])) set old new torn
-  whole max sets set old mid new torn was disjoint joins drops = record {
+  whole : (max : ℕ) (sets : List (SetAt C)) (set : SetAt C) (cooldowns : C → Option Cooldown) (old mid new : C → Option (RecordView C S)) (torn : List C) →
+      IsConsistent cmp max sets old → AreRolesDisjoint cmp set → ((q : C) → mid q ≡ record_joining cmp set (cooldowns q) q (old q)) → DropsOldest cmp max (sets ++ set ∷ []) mid new torn →
+      IsTracked max sets (newest_sets max (sets ++ set ∷ [])) set cooldowns old new torn
+  whole max sets set cooldowns old mid new torn was disjoint joins drops = record {
     kept = newest_last max sets set was.at_most_max;
-    consistent = taken_consistent max sets set old new was (λ q. (taken max sets set old mid new torn was disjoint joins drops q).records);
-    records = λ q. (taken max sets set old mid new torn was disjoint joins drops q).records;
-    torn_down = λ q. (taken max sets set old mid new torn was disjoint joins drops q).torn_down;
+    consistent = taken_consistent max sets set cooldowns old new was (λ q. (taken max sets set cooldowns old mid new torn was disjoint joins drops q).records);
+    records = λ q. (taken max sets set cooldowns old mid new torn was disjoint joins drops q).records;
+    torn_down = λ q. (taken max sets set cooldowns old mid new torn was disjoint joins drops q).torn_down;
   }
 
-  pub tracked : (max max2 : ℕ) (sets sets1 sets2 : List (SetAt C)) (set made : SetAt C) (old mid new : C → Option (RecordView C S)) (torn : List C) → max2 ≡ max → made ≡ set → sets1 ≡ sets ++ made ∷ [] → sets2 ≡ newest_sets max2 sets1 →
-      IsConsistent cmp max sets old → AreRolesDisjoint cmp made → ((q : C) → mid q ≡ record_joining cmp made q (old q)) → DropsOldest cmp max2 sets1 mid new torn →
-      IsTracked max sets sets2 set old new torn
-  tracked max max2 sets sets1 sets2 set made old mid new torn same_max is came went was disjoint joins drops =
+  pub tracked : (max max2 : ℕ) (sets sets1 sets2 : List (SetAt C)) (set made : SetAt C) (cooldowns : C → Option Cooldown) (old mid new : C → Option (RecordView C S)) (torn : List C) → max2 ≡ max → made ≡ set → sets1 ≡ sets ++ made ∷ [] → sets2 ≡ newest_sets max2 sets1 →
+      IsConsistent cmp max sets old → AreRolesDisjoint cmp made → ((q : C) → mid q ≡ record_joining cmp made (cooldowns q) q (old q)) → DropsOldest cmp max2 sets1 mid new torn →
+      IsTracked max sets sets2 set cooldowns old new torn
+  tracked max max2 sets sets1 sets2 set made cooldowns old mid new torn same_max is came went was disjoint joins drops =
       let sets_is : sets1 ≡ sets ++ set ∷ [] = came ∙ ap (λ x. sets ++ x ∷ []) is in
       let left : sets2 ≡ newest_sets max (sets ++ set ∷ []) = went ∙ (λ i. newest_sets (same_max i) (sets_is i)) in
-      subst (λ xs. IsTracked max sets xs set old new torn) (sym left)
-      (whole max sets set old mid new torn was (subst (AreRolesDisjoint cmp) is disjoint) (λ q. joins q ∙ ap (λ x. record_joining cmp x q (old q)) is)
+      subst (λ xs. IsTracked max sets xs set cooldowns old new torn) (sym left)
+      (whole max sets set cooldowns old mid new torn was (subst (AreRolesDisjoint cmp) is disjoint) (λ q. joins q ∙ ap (λ x. record_joining cmp x (cooldowns q) q (old q)) is)
       (subst (λ m. DropsOldest cmp m (sets ++ set ∷ []) mid new torn) same_max (subst (λ xs. DropsOldest cmp max2 xs mid new torn) sets_is drops)))
 
 -- who goes once there is one set more goes since there is one too many

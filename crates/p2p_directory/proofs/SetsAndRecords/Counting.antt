@@ -6,8 +6,9 @@ use Rattle.std.proofs.lemmas.Bool.{lt-ltb}
 use Rattle.std.proofs.lemmas.Bool.Decides.{nat_tests}
 use Rattle.p2p_directory.specs.declared.record.Role.{Role}
 use Rattle.p2p_directory.specs.declared.record.Role.TheVariants.{Primary, Secondary}
+use Rattle.p2p_directory.specs.Calls.{Cooldown}
 use Rattle.p2p_directory.specs.History.{is_inert}
-use Rattle.p2p_directory.specs.Record.{RecordView, blank, is_myself, is_wanted, is_eligible, is_deletable, with_counts, unless_deletable}
+use Rattle.p2p_directory.specs.Record.{RecordView, fresh, is_myself, is_wanted, is_eligible, is_deletable, with_counts, unless_deletable}
 use Rattle.p2p_directory.specs.Private.Counts.{is_torn_down_without, one_set_more, one_set_less}
 
 -- one set, or none
@@ -125,45 +126,45 @@ module _ {C S : Type 0} where
   stays_secondary p s r h = stays (with_counts p s r) (wanted_secondary p s r.persistent h)
 
   -- what is kept has its counts
-  pub at_its_counts : (o : Option (RecordView C S)) (p s : ℕ) → option_map_or (λ r. r.primary_sets) o 0 ≡ p → option_map_or (λ r. r.secondary_sets) o 0 ≡ s →
-      IfSome o (λ r. is_deletable r ≡ false) → o ≡ at_counts p s (unwrap_or o blank)
-  at_its_counts None p s e f h = λ i. at_counts (e i) (f i) blank
-  at_its_counts (Some r) p s e f h = sym (ap (λ b. if b then None else Some r) h) ∙ (λ i. at_counts (e i) (f i) r)
+  pub at_its_counts : (k : Option Cooldown) (o : Option (RecordView C S)) (p s : ℕ) → option_map_or (λ r. r.primary_sets) o 0 ≡ p → option_map_or (λ r. r.secondary_sets) o 0 ≡ s →
+      IfSome o (λ r. is_deletable r ≡ false) → o ≡ at_counts p s (unwrap_or o (fresh k))
+  at_its_counts k None p s e f h = λ i. at_counts (e i) (f i) (fresh k)
+  at_its_counts k (Some r) p s e f h = sym (ap (λ b. if b then None else Some r) h) ∙ (λ i. at_counts (e i) (f i) r)
 
-  base_primary : (o : Option (RecordView C S)) → (unwrap_or o blank).primary_sets ≡ option_map_or (λ r. r.primary_sets) o 0
-  base_primary None = refl
-  base_primary (Some r) = refl
+  base_primary : (k : Option Cooldown) (o : Option (RecordView C S)) → (unwrap_or o (fresh k)).primary_sets ≡ option_map_or (λ r. r.primary_sets) o 0
+  base_primary k None = refl
+  base_primary k (Some r) = refl
 
-  base_secondary : (o : Option (RecordView C S)) → (unwrap_or o blank).secondary_sets ≡ option_map_or (λ r. r.secondary_sets) o 0
-  base_secondary None = refl
-  base_secondary (Some r) = refl
+  base_secondary : (k : Option Cooldown) (o : Option (RecordView C S)) → (unwrap_or o (fresh k)).secondary_sets ≡ option_map_or (λ r. r.secondary_sets) o 0
+  base_secondary k None = refl
+  base_secondary k (Some r) = refl
 
-  more_primary : (o : Option (RecordView C S)) (p s : ℕ) → (unwrap_or o blank).primary_sets ≡ p → (unwrap_or o blank).secondary_sets ≡ s → p < 2 ^ 64 - 1 →
-      one_set_more Primary o ≡ at_counts (p + 1) s (unwrap_or o blank)
-  more_primary o p s e f h =
-      (λ i. Some (with_counts (min (e i + 1) (2 ^ 64 - 1)) (f i) (unwrap_or o blank)))
-      ∙ ap (λ n. Some (with_counts n s (unwrap_or o blank))) (uncapped p h)
-      ∙ sym (stays_primary (p + 1) s (unwrap_or o blank) (omega arith))
+  more_primary : (k : Option Cooldown) (o : Option (RecordView C S)) (p s : ℕ) → (unwrap_or o (fresh k)).primary_sets ≡ p → (unwrap_or o (fresh k)).secondary_sets ≡ s → p < 2 ^ 64 - 1 →
+      one_set_more Primary k o ≡ at_counts (p + 1) s (unwrap_or o (fresh k))
+  more_primary k o p s e f h =
+      (λ i. Some (with_counts (min (e i + 1) (2 ^ 64 - 1)) (f i) (unwrap_or o (fresh k))))
+      ∙ ap (λ n. Some (with_counts n s (unwrap_or o (fresh k)))) (uncapped p h)
+      ∙ sym (stays_primary (p + 1) s (unwrap_or o (fresh k)) (omega arith))
 
-  more_secondary : (o : Option (RecordView C S)) (p s : ℕ) → (unwrap_or o blank).primary_sets ≡ p → (unwrap_or o blank).secondary_sets ≡ s → s < 2 ^ 64 - 1 →
-      one_set_more Secondary o ≡ at_counts p (s + 1) (unwrap_or o blank)
-  more_secondary o p s e f h =
-      (λ i. Some (with_counts (e i) (min (f i + 1) (2 ^ 64 - 1)) (unwrap_or o blank)))
-      ∙ ap (λ n. Some (with_counts p n (unwrap_or o blank))) (uncapped s h)
-      ∙ sym (stays_secondary p (s + 1) (unwrap_or o blank) (omega arith))
+  more_secondary : (k : Option Cooldown) (o : Option (RecordView C S)) (p s : ℕ) → (unwrap_or o (fresh k)).primary_sets ≡ p → (unwrap_or o (fresh k)).secondary_sets ≡ s → s < 2 ^ 64 - 1 →
+      one_set_more Secondary k o ≡ at_counts p (s + 1) (unwrap_or o (fresh k))
+  more_secondary k o p s e f h =
+      (λ i. Some (with_counts (e i) (min (f i + 1) (2 ^ 64 - 1)) (unwrap_or o (fresh k))))
+      ∙ ap (λ n. Some (with_counts p n (unwrap_or o (fresh k)))) (uncapped s h)
+      ∙ sym (stays_secondary p (s + 1) (unwrap_or o (fresh k)) (omega arith))
 
   -- a set that comes, with the peer as a primary (a) or secondary one (c)
-  pub joined : (a c : Bool) → (a ≡ true → c ≡ false) → (o : Option (RecordView C S)) (p s : ℕ) →
+  pub joined : (k : Option Cooldown) (a c : Bool) → (a ≡ true → c ≡ false) → (o : Option (RecordView C S)) (p s : ℕ) →
       option_map_or (λ r. r.primary_sets) o 0 ≡ p → option_map_or (λ r. r.secondary_sets) o 0 ≡ s → IfSome o (λ r. is_deletable r ≡ false) → p < 2 ^ 64 - 1 → s < 2 ^ 64 - 1 →
-      (if c then one_set_more Secondary (if a then one_set_more Primary o else o) else (if a then one_set_more Primary o else o))
-      ≡ at_counts (p + one a) (s + one c) (unwrap_or o blank)
-  joined true true disjoint o p s e f h hp hs = absurd (let x = disjoint refl in cc)
-  joined true false disjoint o p s e f h hp hs =
-      more_primary o p s (base_primary o ∙ e) (base_secondary o ∙ f) hp ∙ (λ i. at_counts (p + 1) (plus_none s i) (unwrap_or o blank))
-  joined false true disjoint o p s e f h hp hs =
-      more_secondary o p s (base_primary o ∙ e) (base_secondary o ∙ f) hs ∙ (λ i. at_counts (plus_none p i) (s + 1) (unwrap_or o blank))
-  joined false false disjoint o p s e f h hp hs =
-      at_its_counts o p s e f h ∙ (λ i. at_counts (plus_none p i) (plus_none s i) (unwrap_or o blank))
+      (if c then one_set_more Secondary k (if a then one_set_more Primary k o else o) else (if a then one_set_more Primary k o else o))
+      ≡ at_counts (p + one a) (s + one c) (unwrap_or o (fresh k))
+  joined k true true disjoint o p s e f h hp hs = absurd (let x = disjoint refl in cc)
+  joined k true false disjoint o p s e f h hp hs =
+      more_primary k o p s (base_primary k o ∙ e) (base_secondary k o ∙ f) hp ∙ (λ i. at_counts (p + 1) (plus_none s i) (unwrap_or o (fresh k)))
+  joined k false true disjoint o p s e f h hp hs =
+      more_secondary k o p s (base_primary k o ∙ e) (base_secondary k o ∙ f) hs ∙ (λ i. at_counts (plus_none p i) (s + 1) (unwrap_or o (fresh k)))
+  joined k false false disjoint o p s e f h hp hs =
+      at_its_counts k o p s e f h ∙ (λ i. at_counts (plus_none p i) (plus_none s i) (unwrap_or o (fresh k)))
 
   -- a set that goes
   pub left : (a c : Bool) → (a ≡ true → c ≡ false) → (p s : ℕ) (r : RecordView C S) → one a ≤ p → one c ≤ s →
@@ -243,21 +244,21 @@ module _ {C S : Type 0} where
       go false e = e
 
   -- one set more and then less
-  pub restored : (role : Role) (o : Option (RecordView C S)) (p s : ℕ) → option_map_or (λ r. r.primary_sets) o 0 ≡ p → option_map_or (λ r. r.secondary_sets) o 0 ≡ s →
-      IfSome o (λ r. is_deletable r ≡ false) → p < 2 ^ 64 - 1 → s < 2 ^ 64 - 1 → one_set_less role (one_set_more role o) ≡ o
-  restored Primary o p s e f h hp hs =
-      ap (one_set_less Primary) (more_primary o p s (base_primary o ∙ e) (base_secondary o ∙ f) hp)
-      ∙ ap (one_set_less Primary) (stays_primary (p + 1) s (unwrap_or o blank) (omega arith))
-      ∙ (λ i. at_counts (less p i) s (unwrap_or o blank))
-      ∙ sym (at_its_counts o p s e f h)
+  pub restored : (k : Option Cooldown) (role : Role) (o : Option (RecordView C S)) (p s : ℕ) → option_map_or (λ r. r.primary_sets) o 0 ≡ p → option_map_or (λ r. r.secondary_sets) o 0 ≡ s →
+      IfSome o (λ r. is_deletable r ≡ false) → p < 2 ^ 64 - 1 → s < 2 ^ 64 - 1 → one_set_less role (one_set_more role k o) ≡ o
+  restored k Primary o p s e f h hp hs =
+      ap (one_set_less Primary) (more_primary k o p s (base_primary k o ∙ e) (base_secondary k o ∙ f) hp)
+      ∙ ap (one_set_less Primary) (stays_primary (p + 1) s (unwrap_or o (fresh k)) (omega arith))
+      ∙ (λ i. at_counts (less p i) s (unwrap_or o (fresh k)))
+      ∙ sym (at_its_counts k o p s e f h)
     where
       less : (n : ℕ) → n + 1 - 1 ≡ n
       less n = omega arith
-  restored Secondary o p s e f h hp hs =
-      ap (one_set_less Secondary) (more_secondary o p s (base_primary o ∙ e) (base_secondary o ∙ f) hs)
-      ∙ ap (one_set_less Secondary) (stays_secondary p (s + 1) (unwrap_or o blank) (omega arith))
-      ∙ (λ i. at_counts p (less s i) (unwrap_or o blank))
-      ∙ sym (at_its_counts o p s e f h)
+  restored k Secondary o p s e f h hp hs =
+      ap (one_set_less Secondary) (more_secondary k o p s (base_primary k o ∙ e) (base_secondary k o ∙ f) hs)
+      ∙ ap (one_set_less Secondary) (stays_secondary p (s + 1) (unwrap_or o (fresh k)) (omega arith))
+      ∙ (λ i. at_counts p (less s i) (unwrap_or o (fresh k)))
+      ∙ sym (at_its_counts k o p s e f h)
     where
       less : (n : ℕ) → n + 1 - 1 ≡ n
       less n = omega arith

@@ -5,7 +5,7 @@ use Rattle.std.specs.Option.{option_map_or, option_and_then}
 use Rattle.std.specs.declared.cmp.Ordering.{Ordering}
 use Rattle.std.proofs.lemmas.Bool.Decides.{nat_tests}
 use Rattle.p2p_directory.specs.declared.directory.Config.{Config}
-use Rattle.p2p_directory.specs.Calls.{SetAt}
+use Rattle.p2p_directory.specs.Calls.{SetAt, Cooldown}
 use Rattle.p2p_directory.specs.World.{is_blocked}
 use Rattle.p2p_directory.specs.Laws.Dials.{IsBefore}
 use Rattle.p2p_directory.specs.Lists.{Lists, IsLeastOf}
@@ -47,12 +47,12 @@ neither true = refl
 neither false = refl
 
 module _ {C S : Type 0} (cmp : C → C → Ordering) where
-  module _ (config : ConfigView) (sets : List (SetAt C)) (records : List (C × RecordView C S)) (blocks : List (C × ℕ)) (cfg : Config) (now : ℕ)
+  module _ (config : ConfigView) (sets : List (SetAt C)) (records : List (C × RecordView C S)) (blocks : List (C × ℕ)) (cooldowns : List (C × Cooldown)) (cfg : Config) (now : ℕ)
       (ips : config.allow_private_ips ≡ cfg.allow_private_ips) (dns : config.allow_dns ≡ cfg.allow_dns) where
     status_same : (r : RecordView C S) → dial_status now cfg.allow_private_ips cfg.allow_dns r ≡ dial_status now config.allow_private_ips config.allow_dns r
     status_same r = λ i. dial_status now (sym ips i) (sym dns i) r
 
-    pub is_dialable_by : (q : C) → is_dialable_in cmp (record { config = config; sets = sets; records = records; blocks = blocks }) now q ≡ option_map_or (λ r. is_now (entry_state cmp blocks cfg now (q, r))) (record_at cmp records q) false
+    pub is_dialable_by : (q : C) → is_dialable_in cmp (record { config = config; sets = sets; records = records; blocks = blocks; cooldowns = cooldowns }) now q ≡ option_map_or (λ r. is_now (entry_state cmp blocks cfg now (q, r))) (record_at cmp records q) false
     is_dialable_by q = go (unblock_in cmp blocks q) (record_at cmp records q)
       where
         later : (until : ℕ) (r : RecordView C S) (b : Bool) → (not b && is_now (dial_status now config.allow_private_ips config.allow_dns r))
@@ -66,7 +66,7 @@ module _ {C S : Type 0} (cmp : C → C → Ordering) where
         go None (Some r) = ap is_now (sym (status_same r))
         go (Some until) (Some r) = later until r (nat_lt now until)
 
-    query_by : (q : C) → query_moment_in cmp (record { config = config; sets = sets; records = records; blocks = blocks }) now q ≡ option_and_then (λ r. later_moment (entry_state cmp blocks cfg now (q, r))) (record_at cmp records q)
+    query_by : (q : C) → query_moment_in cmp (record { config = config; sets = sets; records = records; blocks = blocks; cooldowns = cooldowns }) now q ≡ option_and_then (λ r. later_moment (entry_state cmp blocks cfg now (q, r))) (record_at cmp records q)
     query_by q = go (unblock_in cmp blocks q) (record_at cmp records q)
       where
         later : (until : ℕ) (r : RecordView C S) (b : Bool) → (if b then Some until else later_moment (dial_status now config.allow_private_ips config.allow_dns r))
@@ -82,7 +82,7 @@ module _ {C S : Type 0} (cmp : C → C → Ordering) where
 
     pub are_dialable : (ps : List C) (next : Option ℕ) → Lists cmp (λ q. option_map_or (λ r. is_now (entry_state cmp blocks cfg now (q, r))) (record_at cmp records q) false) ps →
         IsLeastOf (λ q. option_and_then (λ r. later_moment (entry_state cmp blocks cfg now (q, r))) (record_at cmp records q)) next →
-        AreDialableIn cmp (record { config = config; sets = sets; records = records; blocks = blocks }) now ps next
+        AreDialableIn cmp (record { config = config; sets = sets; records = records; blocks = blocks; cooldowns = cooldowns }) now ps next
     are_dialable ps next listed least = (
       lists_alike cmp _ _ ps (λ q. sym (is_dialable_by q)) listed,
       Listed.least_alike _ _ next query_by least,

@@ -124,3 +124,11 @@ none_distinct e = tt
 pub undone : {X : Type 0} (b : Bool) (more less : X → X) (new now old : X) → (b ≡ true → less (more old) ≡ old) → new ≡ cond b (less now) now → now ≡ cond b (more old) old → new ≡ old
 undone true more less new now old back d e = d ∙ ap less e ∙ back refl
 undone false more less new now old back d e = d ∙ e
+
+-- a change at p is the same at q where that is p
+pub changed_here : {C X : Type 0} {cmp : C → C → Ordering} → CmpEqualImpliesEq cmp → (p q : C) (f : C → X → X) (new now : X) → new ≡ cond (is_at (cmp p) q) (f p now) now → new ≡ cond (is_at (cmp p) q) (f q now) now
+changed_here {cmp = cmp} exact p q f new now change = change ∙ go (is_at (cmp p) q) refl
+  where
+    go : (b : Bool) → is_at (cmp p) q ≡ b → cond b (f p now) now ≡ cond b (f q now) now
+    go true e = ap (λ k. f k now) (tells_apart exact p q e)
+    go false e = refl

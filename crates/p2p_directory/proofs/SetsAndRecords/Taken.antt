@@ -9,9 +9,9 @@ use Rattle.std.specs.BTreeMap.{is_at}
 use Rattle.std.proofs.lemmas.Cmp.{tied_itself}
 use Rattle.std.proofs.lemmas.List.{map-append, length-map, drop-map}
 use Rattle.p2p_directory.specs.declared.record.Role.TheVariants.{Primary, Secondary}
-use Rattle.p2p_directory.specs.Calls.{SetAt}
+use Rattle.p2p_directory.specs.Calls.{SetAt, Cooldown}
 use Rattle.p2p_directory.specs.History.{last_of}
-use Rattle.p2p_directory.specs.Record.{RecordView, blank, is_myself, is_eligible, with_counts}
+use Rattle.p2p_directory.specs.Record.{RecordView, fresh, is_myself, is_eligible, with_counts}
 use Rattle.p2p_directory.specs.PeerSets.{has_key, set_count, AreRolesDisjoint}
 use Rattle.p2p_directory.specs.Directory.{is_known, record_with_sets, is_connectable}
 use Rattle.p2p_directory.specs.Private.Window.{SetWithBits, plain_set, plain_sets, set_with_bits, sets_with_bits}
@@ -53,28 +53,28 @@ module _ {C : Type 0} {cmp : C → C → Ordering} (total : IsTotalOrder cmp) wh
 
 module _ {C S : Type 0} (cmp : C → C → Ordering) where
   -- who is primary in one of the sets is known as before
-  known_with_sets : (limit : ℕ) (sets : List (SetAt C)) (q : C) (o : Option (RecordView C S)) → 1 ≤ set_count cmp Primary q sets → is_known limit (record_with_sets cmp sets q o) ≡ is_known limit o
-  known_with_sets limit sets q o low = ap (is_known limit) (stays_primary (set_count cmp Primary q sets) (set_count cmp Secondary q sets) (unwrap_or o blank) low) ∙ go o
+  known_with_sets : (limit : ℕ) (sets : List (SetAt C)) (k : Option Cooldown) (q : C) (o : Option (RecordView C S)) → 1 ≤ set_count cmp Primary q sets → is_known limit (record_with_sets cmp sets k q o) ≡ is_known limit o
+  known_with_sets limit sets k q o low = ap (is_known limit) (stays_primary (set_count cmp Primary q sets) (set_count cmp Secondary q sets) (unwrap_or o (fresh k)) low) ∙ go o
     where
-      go : (o : Option (RecordView C S)) → is_known limit (Some (with_counts (set_count cmp Primary q sets) (set_count cmp Secondary q sets) (unwrap_or o blank))) ≡ is_known limit o
+      go : (o : Option (RecordView C S)) → is_known limit (Some (with_counts (set_count cmp Primary q sets) (set_count cmp Secondary q sets) (unwrap_or o (fresh k)))) ≡ is_known limit o
       go None = refl
       go (Some r) = refl
 
-  own_with_sets : (sets : List (SetAt C)) (old new : C → Option (RecordView C S)) → HasOwn cmp old → ((q : C) → new q ≡ record_with_sets cmp sets q (old q)) → HasOwn cmp new
-  own_with_sets sets old new was is = record {
+  own_with_sets : (sets : List (SetAt C)) (cooldowns : C → Option Cooldown) (old new : C → Option (RecordView C S)) → HasOwn cmp old → ((q : C) → new q ≡ record_with_sets cmp sets (cooldowns q) q (old q)) → HasOwn cmp new
+  own_with_sets sets cooldowns old new was is = record {
     own = was.own;
     is_own = λ q. ap (λ o. option_map_or (λ r. is_myself r.address) o false) (is q) ∙ own_unless (counted q (old q)) (lasts q (old q) (was.persists q)) ∙ before q (old q) ∙ was.is_own q;
-    persists = λ q. subst (λ o. IfSome o (λ r. is_myself r.address ≡ true → r.persistent ≡ true)) (sym (is q)) (persists (record_with_sets cmp sets q (old q)) (sound_unless (counted q (old q)) (lasts q (old q) (was.persists q))));
+    persists = λ q. subst (λ o. IfSome o (λ r. is_myself r.address ≡ true → r.persistent ≡ true)) (sym (is q)) (persists (record_with_sets cmp sets (cooldowns q) q (old q)) (sound_unless (counted q (old q)) (lasts q (old q) (was.persists q))));
   }
     where
       counted : C → Option (RecordView C S) → RecordView C S
-      counted q o = with_counts (set_count cmp Primary q sets) (set_count cmp Secondary q sets) (unwrap_or o blank)
+      counted q o = with_counts (set_count cmp Primary q sets) (set_count cmp Secondary q sets) (unwrap_or o (fresh (cooldowns q)))
 
-      lasts : (q : C) (o : Option (RecordView C S)) → IfSome o (λ r. is_myself r.address ≡ true → r.persistent ≡ true) → is_myself (unwrap_or o blank).address ≡ true → (unwrap_or o blank).persistent ≡ true
+      lasts : (q : C) (o : Option (RecordView C S)) → IfSome o (λ r. is_myself r.address ≡ true → r.persistent ≡ true) → is_myself (unwrap_or o (fresh (cooldowns q))).address ≡ true → (unwrap_or o (fresh (cooldowns q))).persistent ≡ true
       lasts q None h e = absurd cc
       lasts q (Some r) h e = h e
 
-      before : (q : C) (o : Option (RecordView C S)) → is_myself (unwrap_or o blank).address ≡ option_map_or (λ r. is_myself r.address) o false
+      before : (q : C) (o : Option (RecordView C S)) → is_myself (unwrap_or o (fresh (cooldowns q))).address ≡ option_map_or (λ r. is_myself r.address) o false
       before q None = refl
       before q (Some r) = refl
 
@@ -83,21 +83,21 @@ module _ {C S : Type 0} (cmp : C → C → Ordering) where
       persists (Some r) sound = sound.1
 
   -- A TRACK, from its parts: made is the set with no bit, window1 the sets with it
-  pub record IsTaken (max limit : ℕ) (window window2 : List (SetWithBits C)) (set : SetAt C) (old new : C → Option (RecordView C S)) (torn : List C) : Type 0 where
+  pub record IsTaken (max limit : ℕ) (window window2 : List (SetWithBits C)) (set : SetAt C) (cooldowns : C → Option Cooldown) (old new : C → Option (RecordView C S)) (torn : List C) : Type 0 where
     pub invariant : IsInvariant cmp max limit window2 new
     pub kept : plain_sets window2 ≡ last_of max (plain_sets window ++ set ∷ [])
-    pub records : (q : C) → new q ≡ record_with_sets cmp (plain_sets window2) q (old q)
+    pub records : (q : C) → new q ≡ record_with_sets cmp (plain_sets window2) (cooldowns q) q (old q)
     pub torn_down : (q : C) → has_key cmp torn q ≡ (is_connectable cmp (old q) && not (option_map_or is_eligible (new q) false))
 
-  pub taken_window : IsTotalOrder cmp → (max max2 limit : ℕ) (window window1 window2 : List (SetWithBits C)) (set : SetAt C) (made : SetWithBits C) (old mid new : C → Option (RecordView C S)) (torn : List C) →
+  pub taken_window : IsTotalOrder cmp → (max max2 limit : ℕ) (window window1 window2 : List (SetWithBits C)) (set : SetAt C) (made : SetWithBits C) (cooldowns : C → Option Cooldown) (old mid new : C → Option (RecordView C S)) (torn : List C) →
       max2 ≡ max → made ≡ set_with_bits (λ q. false) set → window1 ≡ window ++ set_with_bits (λ q. is_known limit (old q)) (plain_set made) ∷ [] → window2 ≡ newest_sets max2 window1 →
-      IsInvariant cmp max limit window old → AreRolesDisjoint cmp (plain_set made) → ((q : C) → mid q ≡ record_joining cmp (plain_set made) q (old q)) → DropsOldest cmp max2 (plain_sets window1) mid new torn →
-      IsTaken max limit window window2 set old new torn
-  taken_window total max max2 limit window window1 window2 set made old mid new torn same_max is came went was disjoint joins drops = record {
+      IsInvariant cmp max limit window old → AreRolesDisjoint cmp (plain_set made) → ((q : C) → mid q ≡ record_joining cmp (plain_set made) (cooldowns q) q (old q)) → DropsOldest cmp max2 (plain_sets window1) mid new torn →
+      IsTaken max limit window window2 set cooldowns old new torn
+  taken_window total max max2 limit window window1 window2 set made cooldowns old mid new torn same_max is came went was disjoint joins drops = record {
     invariant = record {
       counts = whole.consistent;
-      own = own_with_sets (plain_sets window2) old new was.own whole.records;
-      bits = marked2 ∙ same_bits total known (λ q. is_known limit (new q)) (plain_sets window2) (λ q low. sym (ap (is_known limit) (whole.records q) ∙ known_with_sets limit (plain_sets window2) q (old q) low));
+      own = own_with_sets (plain_sets window2) cooldowns old new was.own whole.records;
+      bits = marked2 ∙ same_bits total known (λ q. is_known limit (new q)) (plain_sets window2) (λ q low. sym (ap (is_known limit) (whole.records q) ∙ known_with_sets limit (plain_sets window2) (cooldowns q) q (old q) low));
     };
     kept = whole.kept;
     records = whole.records;
@@ -113,9 +113,9 @@ module _ {C S : Type 0} (cmp : C → C → Ordering) where
       plain2 : plain_sets window2 ≡ newest_sets max2 (plain_sets window1)
       plain2 = ap plain_sets went ∙ newest_map plain_set max2 window1
 
-      whole : IsTracked cmp max (plain_sets window) (plain_sets window2) set old new torn
+      whole : IsTracked cmp max (plain_sets window) (plain_sets window2) set cooldowns old new torn
       whole =
-          tracked cmp max max2 (plain_sets window) (plain_sets window1) (plain_sets window2) set (plain_set made) old mid new torn same_max (ap plain_set is ∙ plain_again (λ q. false) set) plain1 plain2
+          tracked cmp max max2 (plain_sets window) (plain_sets window1) (plain_sets window2) set (plain_set made) cooldowns old mid new torn same_max (ap plain_set is ∙ plain_again (λ q. false) set) plain1 plain2
           was.counts disjoint joins drops
 
       marked1 : window1 ≡ sets_with_bits known (plain_sets window1)

@@ -2,6 +2,7 @@
 -- are: its commands and replies are in order, the oldest first.
 use Rattle.std.specs.Prelude.{ℕ, ◌+◌, ◌≤◌, true, nat_le, if◌then◌else◌, List, [], ◌∷◌, Option, Some}
 use Rattle.std.specs.Prelude.{None}
+use Rattle.std.specs.Option.{option_map}
 use Rattle.p2p_directory.specs.Moments.{cap}
 use Rattle.p2p_directory.specs.Calls.{Setup, Call}
 use Rattle.p2p_directory.specs.Calls.Call.{Block, UnblockExpired}
@@ -33,6 +34,10 @@ IsNotBefore (Some t) None = Unit {0}
 IsNotBefore None end = Unit {0}
 
 module _ {C S : Type 0} (s : Setup C S) where
+  -- the moment at which p was granted by a command, if it was
+  abbrev pub moment_granted : C → Call C S → Reply C S → Option ℕ
+  moment_granted p c r = option_map (λ grant. grant.0) (granted_by s p c r)
+
   -- the moment at which a block of p was taken by a command, if it was
   abbrev pub block_taken_by : C → Call C S → Reply C S → Option ℕ
   block_taken_by p (Block q t) (reply.Block true) = if same s q p then Some t else None
@@ -49,6 +54,6 @@ module _ {C S : Type 0} (s : Setup C S) where
   -- grant and each further block of p comes when that block is over
   abbrev pub KeepLastBlock : C → Option ℕ → List (Call C S) → List (Reply C S) → Type 0
   KeepLastBlock p end (c ∷ cs) (r ∷ rs) =
-      IsNotBefore (granted_by s p c r) end × IsNotBefore (block_taken_by p c r) end
+      IsNotBefore (moment_granted p c r) end × IsNotBefore (block_taken_by p c r) end
       × KeepLastBlock p (block_left p c r end) cs rs
   KeepLastBlock p end _ _ = Unit {0}

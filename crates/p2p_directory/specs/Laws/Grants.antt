@@ -1,10 +1,11 @@
 -- When a peer is granted: the cooldown between its grants, and the end of its blocks.
-use Rattle.std.specs.Prelude.{ℕ, ◌+◌, ◌≤◌, List, [], ◌∷◌, ◌++◌, Option, Some, None, option_to_list}
-use Rattle.std.specs.List.{AllByRecursion}
+use Rattle.std.specs.Prelude.{◌≡◌, ℕ, ◌+◌, ◌≤◌, false, List, [], ◌∷◌, ◌++◌, Option, Some, None}
+use Rattle.std.specs.Prelude.{option_to_list}
+use Rattle.std.specs.List.{AllByRecursion, list_any}
 use Rattle.p2p_directory.specs.Moments.{cap}
 use Rattle.p2p_directory.specs.Calls.{Setup, Call, Grant, Event}
-use Rattle.p2p_directory.specs.Calls.Call.{Dial, Listen, Block, UnblockExpired}
-use Rattle.p2p_directory.specs.History.{life, grant_by, block_by}
+use Rattle.p2p_directory.specs.Calls.Call.{Dial, Listen, Block, UnblockExpired, ForgetCooled}
+use Rattle.p2p_directory.specs.History.{last_with, grant_by, is_forgetting, block_by}
 
 -- a moment, or now where there is none
 abbrev pub or_now : ℕ → Option ℕ → ℕ
@@ -14,35 +15,49 @@ or_now now (Some t) = t
 module _ {C S : Type 0} (s : Setup C S) where
   -- COOLDOWN
 
-  -- the grants of p among these events, the newest first
-  abbrev pub grants_in : C → List (Event C S) → List Grant
-  grants_in p [] = []
-  grants_in p (e ∷ l) = option_to_list (grant_by s p e) ++ grants_in p l
+  -- t is no earlier than the cooldown after the grant that was found, if one was
+  abbrev pub IsCooledAfter : ℕ → Option (Grant × List (Event C S)) → Type 0
+  IsCooledAfter t None = Unit {0}
+  IsCooledAfter t (Some found) = cap (found.0.t + s.cooldown) ≤ t
 
-  -- t is no earlier than the cooldown after each of these grants
-  abbrev pub AreCooled : ℕ → List Grant → Type 0
-  AreCooled t gs = AllByRecursion (λ grant. cap (grant.t + s.cooldown) ≤ t) gs
+  -- .. if none of the events after it forgets it
+  abbrev pub IsCooledUnlessForgotten : ℕ → Option (Grant × List (Event C S)) → Type 0
+  IsCooledUnlessForgotten t None = Unit {0}
+  IsCooledUnlessForgotten t (Some found) =
+      list_any (is_forgetting s found.0) found.1 ≡ false → cap (found.0.t + s.cooldown) ≤ t
 
-  -- a grant, if there is one, comes no earlier than the cooldown after each of these
-  abbrev pub IsCooledAt : Option Grant → List Grant → Type 0
-  IsCooledAt None gs = Unit {0}
-  IsCooledAt (Some grant) gs = AreCooled grant.t gs
+  -- a grant, if there is one, keeps the cooldown after the grant that was found before it
+  abbrev pub IsSpaced : Option Grant → Option (Grant × List (Event C S)) → Type 0
+  IsSpaced None found = Unit {0}
+  IsSpaced (Some grant) found = IsCooledAfter grant.t found
 
-  -- each grant of p in a past comes no earlier than the cooldown after each grant before it in the
-  -- same life
+  -- .. if that wasn't forgotten
+  abbrev pub IsSpacedUnlessForgotten : Option Grant → Option (Grant × List (Event C S)) → Type 0
+  IsSpacedUnlessForgotten None found = Unit {0}
+  IsSpacedUnlessForgotten (Some grant) found = IsCooledUnlessForgotten grant.t found
+
+  -- each grant of p in a past comes no earlier than the cooldown after the grant of p before it
   abbrev pub KeepsCooldown : C → List (Event C S) → Type 0
   KeepsCooldown p [] = Unit {0}
   KeepsCooldown p (e ∷ h) =
-      IsCooledAt (grant_by s p e) (grants_in p (life s p h)) × KeepsCooldown p h
+      IsSpaced (grant_by s p e) (last_with (grant_by s p) h) × KeepsCooldown p h
+
+  -- .. if that wasn't forgotten in between
+  abbrev pub KeepsCooldownUnlessForgotten : C → List (Event C S) → Type 0
+  KeepsCooldownUnlessForgotten p [] = Unit {0}
+  KeepsCooldownUnlessForgotten p (e ∷ h) =
+      IsSpacedUnlessForgotten (grant_by s p e) (last_with (grant_by s p) h)
+      × KeepsCooldownUnlessForgotten p h
 
   -- BLOCKS
 
-  -- the moment of a call that may grant, block or end a block
+  -- the moment of a call that may grant, block, end a block or forget a grant
   abbrev pub moment_of : Call C S → Option ℕ
   moment_of (Dial p t draw) = Some t
   moment_of (Listen p t draw) = Some t
   moment_of (Block p t) = Some t
   moment_of (UnblockExpired t) = Some t
+  moment_of (ForgetCooled t) = Some t
   moment_of _ = None
 
   -- .. or now, where it has none

@@ -7,7 +7,7 @@ use Rattle.p2p_directory.specs.History.{same}
 use Rattle.p2p_directory.specs.World.{World, event_in}
 use Rattle.p2p_directory.specs.Answers.{is_present_in, status_in, sharable_info, wants}
 use Rattle.p2p_directory.specs.Answers.{is_blocked_at, is_eligible_at, is_acceptable_at}
-use Rattle.p2p_directory.specs.Answers.{is_dialable, query_moment}
+use Rattle.p2p_directory.specs.Answers.{is_cooled_at, is_dialable, query_moment}
 
 module _ {C S : Type 0} (s : Setup C S) where
   -- a question about a single peer other than p
@@ -42,6 +42,7 @@ pub record SameFor {C S : Type 0} (p : C) (w v : World C S) : Type 0 where
   pub sets : w.sets ≡ v.sets
   pub peer : w.peer p ≡ v.peer p
   pub unblock : w.unblock p ≡ v.unblock p
+  pub cooldown : w.cooldown p ≡ v.cooldown p
   pub held : w.held p ≡ v.held p
 
 module _ {C S : Type 0} (s : Setup C S) where
@@ -52,6 +53,7 @@ module _ {C S : Type 0} (s : Setup C S) where
     pub info : sharable_info s w p ≡ sharable_info s v p
     pub wanted : wants s p (w.peer p) ≡ wants s p (v.peer p)
     pub blocked : (t : ℕ) → is_blocked_at s w t p ≡ is_blocked_at s v t p
+    pub cooled : (t : ℕ) → is_cooled_at s w t p ≡ is_cooled_at s v t p
     pub eligible : (t : ℕ) → is_eligible_at s w p t ≡ is_eligible_at s v p t
     pub acceptable : (t : ℕ) → is_acceptable_at s w p t ≡ is_acceptable_at s v p t
     pub dialable : (t : ℕ) → is_dialable s w t p ≡ is_dialable s v t p

@@ -12,12 +12,12 @@ use Rattle.p2p_directory.specs.Blocks.{IsAnyUntil}
 use Rattle.p2p_directory.specs.Record.{is_eligible, is_acceptable}
 use Rattle.p2p_directory.specs.World.{World, may_listen, may_dial}
 use Rattle.p2p_directory.specs.Answers.{status_in, IsNumberTracked, AreBlocked, IsNextUnblock}
-use Rattle.p2p_directory.specs.Answers.{IsAnyExpired, set_with_index, latest_index_in, AreAll}
+use Rattle.p2p_directory.specs.Answers.{IsAnyExpired, IsNumberCooled, set_with_index, latest_index_in, AreAll}
 use Rattle.p2p_directory.specs.Answers.{IsLatestUpdate, sharable_info, infos_for, is_eligible_at}
 use Rattle.p2p_directory.specs.Answers.{is_acceptable_at, IsDialable}
 use Rattle.p2p_directory.specs.Directory.{DirectoryView, record_of, unblock_of, other_keys}
 use Rattle.p2p_directory.specs.Directory.{is_blocked_in, peers_of, peer_set_in, AreAllOf, IsUpdateOf}
-use Rattle.p2p_directory.specs.Directory.{sharable_in, infos_in, bit_vec_at, is_free_and}
+use Rattle.p2p_directory.specs.Directory.{sharable_in, infos_in, bit_vec_at, is_free_and, IsNumberCooledIn}
 use Rattle.p2p_directory.specs.Directory.{AreDialableIn, may_listen_in, may_dial_in}
 use Rattle.p2p_directory.specs.Run.{bit_vec_in, update_in}
 
@@ -31,6 +31,7 @@ module _ {C S : Type 0} (s : Setup C S) (w : World C S) (d : DirectoryView C S) 
         IsNextUnblock s w moment
     pub any_expired : (t : ℕ) (any : Bool) → IsAnyUntil (unblock_of s.cmp d) t any →
         IsAnyExpired s w t any
+    pub number_cooled : (t n : ℕ) → IsNumberCooledIn s.cmp d t n → IsNumberCooled s w t n
     pub blocked_peers : (t : ℕ) (ps : List C) → Lists s.cmp (is_blocked_in s.cmp d t) ps →
         AreBlocked s w t ps
     pub peer_set : (index : ℕ) →
@@ -51,6 +52,6 @@ module _ {C S : Type 0} (s : Setup C S) (w : World C S) (d : DirectoryView C S) 
     pub dialable : (t : ℕ) (ps : List C) (next : Option ℕ) → AreDialableIn s.cmp d t ps next →
         IsDialable s w t ps next
     pub listens : (p : C) (t : ℕ) →
-        may_listen_in s.cmp d t p ≡ may_listen s p t w.sets (w.peer p) (w.unblock p)
+        may_listen_in s.cmp d t p ≡ may_listen s p t w.sets (w.peer p) (w.unblock p) (w.cooldown p)
     pub dials : (p : C) (t : ℕ) →
-        may_dial_in s.cmp d t p ≡ may_dial s p t w.sets (w.peer p) (w.unblock p)
+        may_dial_in s.cmp d t p ≡ may_dial s p t w.sets (w.peer p) (w.unblock p) (w.cooldown p)

@@ -3,15 +3,16 @@
 use Rattle.std.specs.Prelude.{ℕ, ◌≡◌, ◌<◌, ◌≤◌, ◌+◌, ◌-◌, ◌^◌, ◌==◌, Bool, true, false, not, ◌&&◌}
 use Rattle.std.specs.Prelude.{◌||◌, if◌then◌else◌, min, nat_lt, List, [], ◌∷◌, length, drop, Option}
 use Rattle.std.specs.Prelude.{Some, IfSome, unwrap_or}
-use Rattle.std.specs.Option.{option_map_or, option_and_then}
+use Rattle.std.specs.Option.{option_map, option_map_or, option_and_then}
 use Rattle.std.specs.BTreeMap.{BTreeMap, IsOrdered, is_at}
 use Rattle.std.specs.declared.cmp.Ordering.{Ordering}
 use Rattle.p2p_directory.specs.declared.record.Role.{Role}
 use Rattle.p2p_directory.specs.declared.record.Role.TheVariants.{Primary, Secondary}
-use Rattle.p2p_directory.specs.Calls.{SetAt}
+use Rattle.p2p_directory.specs.Calls.{SetAt, Cooldown}
 use Rattle.p2p_directory.specs.History.{is_inert}
-use Rattle.p2p_directory.specs.Record.{RecordView, blank, is_myself, is_eligible, is_deletable}
-use Rattle.p2p_directory.specs.Record.{reserved_record, with_counts, unless_deletable}
+use Rattle.p2p_directory.specs.Record.{RecordView, fresh, is_myself, is_eligible, is_deletable}
+use Rattle.p2p_directory.specs.Record.{with_counts, with_cooldown}
+use Rattle.p2p_directory.specs.Record.{unless_deletable}
 use Rattle.p2p_directory.specs.PeerSets.{has_key, set_count, AreRolesDisjoint}
 use Rattle.p2p_directory.specs.Directory.{is_known}
 use Rattle.p2p_directory.specs.Private.Window.{SetWithBits, plain_sets, sets_with_bits}
@@ -38,11 +39,6 @@ surplus_count max (oldest ∷ sets) =
 module _ {C S : Type 0} where
   -- ONE RECORD
 
-  -- the record after it was asked for a reservation, where that was granted or not
-  abbrev pub reserved_if : Bool → ℕ → ℕ → ℕ → RecordView C S → RecordView C S
-  reserved_if granted now draw cooldown r =
-      if granted then reserved_record now draw cooldown r else r
-
   -- one set of the role more, capped
   abbrev pub with_one_more : Role → RecordView C S → RecordView C S
   with_one_more Primary r = with_counts (min (r.primary_sets + 1) (2 ^ 64 - 1)) r.secondary_sets r
@@ -58,9 +54,10 @@ module _ {C S : Type 0} where
   is_torn_down_without role r =
       not (is_inert r.status) && is_eligible r && not (is_eligible (with_one_less role r))
 
-  -- what is kept of a peer once one set of the role more has it
-  abbrev pub one_set_more : Role → Option (RecordView C S) → Option (RecordView C S)
-  one_set_more role o = Some (with_one_more role (unwrap_or o blank))
+  -- what is kept of a peer with these moments once one set of the role more has it
+  abbrev pub one_set_more : Role → Option Cooldown → Option (RecordView C S) →
+      Option (RecordView C S)
+  one_set_more role cooldown o = Some (with_one_more role (unwrap_or o (fresh cooldown)))
 
   -- .. and once one set of the role less has it
   abbrev pub one_set_less : Role → Option (RecordView C S) → Option (RecordView C S)
@@ -79,11 +76,12 @@ module _ {C S : Type 0} (cmp : C → C → Ordering) where
       Option (RecordView C S) → Option (RecordView C S)
   changed_if test f o = if test then f o else o
 
-  -- what is kept of a peer once one set more is counted for its peers
-  abbrev pub record_joining : SetAt C → C → Option (RecordView C S) → Option (RecordView C S)
-  record_joining set q o =
-      changed_if (has_key cmp set.secondary q) (one_set_more Secondary)
-      (changed_if (has_key cmp set.primary q) (one_set_more Primary) o)
+  -- what is kept of a peer with these moments once one set more is counted for its peers
+  abbrev pub record_joining : SetAt C → Option Cooldown → C → Option (RecordView C S) →
+      Option (RecordView C S)
+  record_joining set cooldown q o =
+      changed_if (has_key cmp set.secondary q) (one_set_more Secondary cooldown)
+      (changed_if (has_key cmp set.primary q) (one_set_more Primary cooldown) o)
 
   -- .. and once one set less is
   abbrev pub record_leaving : SetAt C → C → Option (RecordView C S) → Option (RecordView C S)
@@ -98,8 +96,8 @@ module _ {C S : Type 0} (cmp : C → C → Ordering) where
       || (has_key cmp set.secondary q && option_map_or (is_torn_down_without Secondary) o false)
 
   -- one set more and then less leaves what was kept
-  abbrev pub IsRestored : Role → Option (RecordView C S) → Type 0
-  IsRestored role o = one_set_less role (one_set_more role o) ≡ o
+  abbrev pub IsRestored : Role → Option Cooldown → Option (RecordView C S) → Type 0
+  IsRestored role cooldown o = one_set_less role (one_set_more role cooldown o) ≡ o
 
   -- what is kept of each peer stays, and nobody is torn down
   abbrev pub KeepsAll : (C → Option (RecordView C S)) → (C → Option (RecordView C S)) → List C →
@@ -156,9 +154,20 @@ module _ {C S : Type 0} (cmp : C → C → Ordering) where
   AreMarked limit window record_at =
       window ≡ sets_with_bits (λ q. is_known limit (record_at q)) (plain_sets window)
 
-  -- what holds of a directory between calls
+  -- what holds of sets and records between calls
   pub record IsInvariant (max limit : ℕ) (window : List (SetWithBits C))
       (record_at : C → Option (RecordView C S)) : Type 0 where
     pub counts : IsConsistent max (plain_sets window) record_at
     pub own : HasOwn record_at
     pub bits : AreMarked limit window record_at
+
+  -- each record has the moments that are kept of its peer, or the epoch where none are
+  abbrev pub AreCooled : (C → Option (RecordView C S)) → (C → Option Cooldown) → Type 0
+  AreCooled record_at cooldown_at =
+      (q : C) → record_at q ≡ option_map (with_cooldown (cooldown_at q)) (record_at q)
+
+  -- what holds of a directory between calls
+  pub record IsWhole (max limit : ℕ) (window : List (SetWithBits C))
+      (record_at : C → Option (RecordView C S)) (cooldown_at : C → Option Cooldown) : Type 0 where
+    pub whole : IsInvariant max limit window record_at
+    pub cooled : AreCooled record_at cooldown_at

@@ -1,5 +1,5 @@
 -- Private: dials by the records alone, and what the records list.
-use Rattle.std.specs.Prelude.{ℕ, Bool, true, false, Result, Ok, List, [], ◌∷◌, min, Option, Some}
+use Rattle.std.specs.Prelude.{ℕ, Bool, List, [], ◌∷◌, min, Option, Some}
 use Rattle.std.specs.Prelude.{None}
 use Rattle.std.specs.Prelude.{if◌then◌else◌, nat_lt, not, ◌&&◌, ◌||◌}
 use Rattle.std.specs.Option.{option_and_then}
@@ -24,11 +24,6 @@ module _ {C S : Type 0} where
   dial_state cfg now (Some until) r =
       if nat_lt now until then DialView.After until
       else dial_status now cfg.allow_private_ips cfg.allow_dns r
-
--- a reservation was granted
-abbrev pub is_grant_of : {A E : Type 0} → Result (Option A) E → Bool
-is_grant_of (Ok (Some x)) = true
-is_grant_of _ = false
 
 -- the lesser of two moments, if there is one
 abbrev pub earliest : Option ℕ → Option ℕ → Option ℕ

@@ -9,11 +9,9 @@ ghost use Rattle.std.specs.List.Sorted.{IsStrictlySortedBy};
 ghost use Rattle.std.specs.Duration.{as_nanos};
 ghost use Rattle.std.specs.BTreeMap.{is_at, get};
 ghost use Rattle.p2p_directory.specs.History.{is_inert, is_reserved};
-ghost use Rattle.p2p_directory.specs.Record.{may_come, reserved_record};
-ghost use Rattle.p2p_discovery.specs.Ingress.{takes_none};
+ghost use Rattle.p2p_directory.specs.Record.{may_come, reserved_record, with_cooldown};
 ghost use Rattle.p2p_directory.specs.Record.{is_myself};
-ghost use Rattle.p2p_directory.specs.Private.Counts.{reserved_if};
-ghost use Rattle.p2p_directory.specs.Private.Dialling.{dialled_of, dialled_in, is_grant_of};
+ghost use Rattle.p2p_directory.specs.Private.Dialling.{dialled_of, dialled_in};
 ghost use Rattle.p2p_directory.specs.Directory.{key_of, has_status, is_busy, is_known, record_at};
 ghost use Rattle.p2p_directory.specs.Directory.{first_record};
 ghost use Rattle.p2p_directory.specs.Directory.{released_record, kept_after_release};
@@ -73,85 +71,54 @@ impl<C: PublicKey> Records<C> {
         self.map.get(peer)
     }
 
-    // Reserves the peer, where it may come, and says whether it did.
-    fn ask(&mut self, peer: &C, now: Duration, draw: Duration, cooldown: Duration) -> bool
-        ensures answer { result ≡ option_map_or (may_come (as_nanos now))
-            (record_at C.cmp self.old peer.now) false }
-        ensures change { ChangesAt C.cmp self.old self.new peer.now
-            (option_map (reserved_if result (as_nanos now) (as_nanos draw) (as_nanos cooldown))) }
+    /// Whether the peer may come at the moment `now`.
+    pub fn may_come(&self, peer: &C, now: Duration) -> bool
+        ensures { result ≡ option_map_or (may_come (as_nanos now))
+            (record_at C.cmp self.now peer.now) false }
     {
-        match self.map.get_mut(peer) {
-            Some(found) => reserve_record(found, now, draw, cooldown),
+        match self.map.get(peer) {
+            Some(found) => {
+                found.eligible() && found.reserve_result(now) == ReserveResult::Reserved
+            }
             None => false,
         }
     }
 
-    /// Reserves the peer, where it may come, and says whether it did. Else all is as it was.
-    pub fn reserve(&mut self, peer: &C, now: Duration, draw: Duration, cooldown: Duration) -> bool
-        ensures answer { result ≡ option_map_or (may_come (as_nanos now))
-            (record_at C.cmp self.old peer.now) false }
-        ensures refused { result ≡ false → self.new ≡ self.old }
-        ensures granted { result ≡ true → ChangesAt C.cmp self.old self.new peer.now
-            (option_map (reserved_record (as_nanos now) (as_nanos draw) (as_nanos cooldown))) }
-    {
-        // For the proof: the clauses of `len` say that the keys are in order.
-        let _before = self.map.len();
-        let reserved = self.ask(peer, now, draw, cooldown);
-        let _after = self.map.len();
-        reserved
-    }
-
-    // Reserves the peer for a dial, where one is granted by its record, and answers the ingress
-    // that is to be dialled.
-    fn ask_dial(
-        &mut self,
+    /// The ingress that a dial of the peer at the moment `now` is granted for, by its record.
+    pub fn dialled(
+        &self,
         peer: &C,
         now: Duration,
-        draw: Duration,
         cfg: &Config,
     ) -> Result<Option<Ingress>, AllocError>
-        ensures none { IfNone (dialled_in C.cmp self.old cfg.now (as_nanos now) peer.now)
+        ensures none { IfNone (dialled_in C.cmp self.now cfg.now (as_nanos now) peer.now)
             (result ≡ Ok None) }
-        ensures socket { IfSome (dialled_in C.cmp self.old cfg.now (as_nanos now) peer.now)
-            (λ ingress. takes_none ingress ≡ true → IsOk result) }
         ensures answer { IfOk result (λ ingress.
-            ingress ≡ dialled_in C.cmp self.old cfg.now (as_nanos now) peer.now) }
-        ensures change { ChangesAt C.cmp self.old self.new peer.now
-            (option_map (reserved_if (is_grant_of result) (as_nanos now) (as_nanos draw)
-            (as_nanos cfg.now.peer_connection_cooldown))) }
+            ingress ≡ dialled_in C.cmp self.now cfg.now (as_nanos now) peer.now) }
     {
-        match self.map.get_mut(peer) {
-            Some(found) => dial_record(found, now, draw, cfg),
+        match self.map.get(peer) {
+            Some(found) => dialled_by(found, now, cfg),
             None => Ok(None),
         }
     }
 
-    /// Reserves the peer for a dial, where one is granted by its record, and answers the ingress
-    /// that is to be dialled. Else, and where memory for it is refused, all is as it was.
-    pub fn dial(
-        &mut self,
-        peer: &C,
-        now: Duration,
-        draw: Duration,
-        cfg: &Config,
-    ) -> Result<Option<Ingress>, AllocError>
-        ensures err { OnErr result (self.new ≡ self.old) }
-        ensures none { IfNone (dialled_in C.cmp self.old cfg.now (as_nanos now) peer.now)
-            (result ≡ Ok None) }
-        ensures socket { IfSome (dialled_in C.cmp self.old cfg.now (as_nanos now) peer.now)
-            (λ ingress. takes_none ingress ≡ true → IsOk result) }
-        ensures answer { IfOk result (λ ingress.
-            ingress ≡ dialled_in C.cmp self.old cfg.now (as_nanos now) peer.now) }
-        ensures refused { IfOk result (λ ingress. IfNone ingress (self.new ≡ self.old)) }
-        ensures granted { IfOk result (λ ingress. IfSome ingress (λ _.
-            ChangesAt C.cmp self.old self.new peer.now (option_map (reserved_record
-            (as_nanos now) (as_nanos draw) (as_nanos cfg.now.peer_connection_cooldown))))) }
+    /// Reserves the peer at the moment `now`.
+    pub fn reserve(&mut self, peer: &C, now: Duration, draw: Duration, cooldown: Duration)
+        ensures { ChangesAt C.cmp self.old self.new peer.now
+            (option_map (reserved_record (as_nanos now) (as_nanos draw) (as_nanos cooldown))) }
     {
-        // For the proof: the clauses of `len` say that the keys are in order.
-        let _before = self.map.len();
-        let dialled = self.ask_dial(peer, now, draw, cfg);
-        let _after = self.map.len();
-        dialled
+        if let Some(found) = self.map.get_mut(peer) {
+            found.set_reserved(now, draw, cooldown);
+        }
+    }
+
+    /// Lets the peer be reserved and dialled from the epoch on.
+    pub fn forget_cooldown(&mut self, peer: &C)
+        ensures { ChangesAt C.cmp self.old self.new peer.now (option_map (with_cooldown None)) }
+    {
+        if let Some(found) = self.map.get_mut(peer) {
+            found.set_cooldown(Duration::ZERO, Duration::ZERO);
+        }
     }
 
     /// Whether the peer may be blocked: it is not the local node.
@@ -243,41 +210,15 @@ fn connect_record<C: PublicKey>(found: &mut Record<C>, dialer: bool)
     }
 }
 
-// Reserves the peer of the record, where it may come, and says whether it did.
-fn reserve_record<C: PublicKey>(
-    found: &mut Record<C>,
+// The ingress that a dial of the record's peer at the moment `now` is granted for.
+fn dialled_by<C: PublicKey>(
+    found: &Record<C>,
     now: Duration,
-    draw: Duration,
-    cooldown: Duration,
-) -> bool
-    ensures answer { result ≡ may_come (as_nanos now) found.old }
-    ensures after { found.new ≡
-        reserved_if result (as_nanos now) (as_nanos draw) (as_nanos cooldown) found.old }
-{
-    if !found.eligible() {
-        return false;
-    }
-    match found.reserve(now, draw, cooldown) {
-        ReserveResult::Reserved => true,
-        ReserveResult::RateLimited | ReserveResult::Unavailable => false,
-    }
-}
-
-// Reserves the peer of the record for a dial, where one is granted, and answers the ingress that is
-// to be dialled. The room for it is taken before the record changes.
-fn dial_record<C: PublicKey>(
-    found: &mut Record<C>,
-    now: Duration,
-    draw: Duration,
     cfg: &Config,
 ) -> Result<Option<Ingress>, AllocError>
-    ensures none { IfNone (dialled_of cfg.now (as_nanos now) found.old) (result ≡ Ok None) }
-    ensures socket { IfSome (dialled_of cfg.now (as_nanos now) found.old)
-        (λ ingress. takes_none ingress ≡ true → IsOk result) }
+    ensures none { IfNone (dialled_of cfg.now (as_nanos now) found.now) (result ≡ Ok None) }
     ensures answer { IfOk result (λ ingress.
-        ingress ≡ dialled_of cfg.now (as_nanos now) found.old) }
-    ensures after { found.new ≡ reserved_if (is_grant_of result) (as_nanos now) (as_nanos draw)
-        (as_nanos cfg.now.peer_connection_cooldown) found.old }
+        ingress ≡ dialled_of cfg.now (as_nanos now) found.now) }
 {
     if found.dialable(now, cfg.allow_private_ips, cfg.allow_dns) == DialStatus::Unavailable
         || found.reserve_result(now) != ReserveResult::Reserved
@@ -285,11 +226,7 @@ fn dial_record<C: PublicKey>(
         return Ok(None);
     }
     match found.ingress() {
-        Some(ingress) => {
-            let ingress = ingress.clone()?;
-            found.set_reserved(now, draw, cfg.peer_connection_cooldown);
-            Ok(Some(ingress))
-        }
+        Some(ingress) => Ok(Some(ingress.clone()?)),
         None => Ok(None),
     }
 }

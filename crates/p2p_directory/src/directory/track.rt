@@ -5,12 +5,14 @@ ghost use Rattle.std.specs.List.Sorted.{IsStrictlySortedBy};
 ghost use Rattle.p2p_directory.specs.declared.record.Role.{Role};
 ghost use Rattle.p2p_directory.specs.PeerSets.{latest_index, is_above, AreRolesDisjoint};
 ghost use Rattle.p2p_directory.specs.Directory.{record_at, is_known};
+ghost use Rattle.p2p_directory.specs.Cooldowns.{cooldown_in};
 ghost use Rattle.p2p_directory.specs.Private.Window.{plain_set, plain_sets, set_with_bits};
 ghost use Rattle.p2p_directory.specs.Private.Counts.{newest_sets, surplus_count};
 ghost use Rattle.p2p_directory.specs.Private.Counts.{record_joining, IsRestored, DropsOldest};
 
 use crate::directory::records::Records;
 use crate::directory::records::counts::ordered;
+use crate::kept::cooldowns::Cooldowns;
 use crate::kept::{PeerSet, Window, forget};
 use p2p_discovery::codec::PublicKey;
 use p2p_discovery::sets::OrderedSet;
@@ -21,6 +23,7 @@ use std::alloc::AllocError;
 pub fn add<C: PublicKey>(
     sets: &mut Window<C>,
     records: &mut Records<C>,
+    cooldowns: &Cooldowns<C>,
     mut set: PeerSet<C>,
     limit: usize,
 ) -> Result<(), AllocError>
@@ -29,13 +32,15 @@ pub fn add<C: PublicKey>(
     ensures ok { OnOk result (sets.new ≡ sets.old ++
         set_with_bits (λ q. is_known limit (record_at C.cmp records.old q)) (plain_set set) ∷ []) }
     ensures joined { OnOk result ((q : C) → record_at C.cmp records.new q ≡
-        record_joining C.cmp (plain_set set) q (record_at C.cmp records.old q)) }
+        record_joining C.cmp (plain_set set) (cooldown_in C.cmp cooldowns.now q) q
+        (record_at C.cmp records.old q)) }
     ensures sets { OnErr result (sets.new ≡ sets.old) }
     ensures records { OnErr result (
-        ((q : C) (role : Role) → IsRestored C.cmp role (record_at C.cmp records.old q)) →
+        ((q : C) (role : Role) → IsRestored C.cmp role (cooldown_in C.cmp cooldowns.now q)
+        (record_at C.cmp records.old q)) →
         records.new ≡ records.old) }
 {
-    records.join(&mut set, limit)?;
+    records.join(&mut set, limit, cooldowns)?;
     match sets.push(set) {
         Ok(()) => Ok(()),
         Err(refused) => {

@@ -175,7 +175,10 @@ fn first_to_end<C: PublicKey>(
 }
 
 // Takes the first of the ends, where it is at or before `now`.
-fn take_ended<C: PublicKey>(ends: &mut BTreeSet<(u128, C)>, now: Duration) -> Option<(u128, C)>
+pub(crate) fn take_ended<C: PublicKey>(
+    ends: &mut BTreeSet<(u128, C)>,
+    now: Duration,
+) -> Option<(u128, C)>
     ensures some { IfSome result (λ end. (end.0 ≤ as_nanos now)
         × (contains (end_cmp C.cmp) ends.old end ≡ true)
         × ((e : ℕ × C) → contains (end_cmp C.cmp) ends.new e ≡

@@ -56,6 +56,8 @@ pub enum Command<C: PublicKey> {
     },
     /// [`Directory::unblock_expired`] at this moment, the time since the epoch.
     UnblockExpired(Duration),
+    /// [`Directory::forget_cooled`] at this moment, the time since the epoch.
+    ForgetCooled(Duration),
     /// [`Directory::next_unblock`].
     NextUnblock,
     /// [`Directory::blocked_peers`] at this moment, the time since the epoch.
@@ -121,6 +123,8 @@ pub enum Reply<C: PublicKey> {
     Block(bool),
     /// The answer of [`Directory::unblock_expired`]: whether any block had ended.
     UnblockExpired(bool),
+    /// The answer of [`Directory::forget_cooled`]: how many cooldowns were forgotten.
+    ForgetCooled(usize),
     /// The answer of [`Directory::next_unblock`]: `None` where there is no block.
     NextUnblock(Option<Duration>),
     /// The answer of [`Directory::blocked_peers`].
@@ -175,6 +179,7 @@ fn variant_name<C: PublicKey>(reply: &Reply<C>) -> &'static str {
         Reply::UpdatePeers => "UpdatePeers",
         Reply::Block(_) => "Block",
         Reply::UnblockExpired(_) => "UnblockExpired",
+        Reply::ForgetCooled(_) => "ForgetCooled",
         Reply::NextUnblock(_) => "NextUnblock",
         Reply::BlockedPeers(_) => "BlockedPeers",
         Reply::Status(_) => "Status",

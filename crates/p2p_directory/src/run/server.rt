@@ -68,6 +68,7 @@ impl<C: PublicKey> Server<C> {
             Command::UpdatePeers(infos) => self.update_peers(infos),
             Command::Block { peer, now } => self.block(&peer, now),
             Command::UnblockExpired(now) => self.unblock_expired(now),
+            Command::ForgetCooled(now) => self.forget_cooled(now),
             Command::NextUnblock => self.next_unblock(),
             Command::BlockedPeers(now) => self.blocked_peers(now),
             Command::Status(peer) => self.status(&peer),
@@ -185,11 +186,12 @@ impl<C: PublicKey> Server<C> {
             has_slot C.cmp self.new.slots q ≡ has_slot C.cmp self.old.slots q }
     {
         match self.directory.listen(peer, now, draw) {
-            Some(reservation) => {
+            Ok(Some(reservation)) => {
                 self.slots.put(reservation);
                 Reply::Listen(true)
             }
-            None => Reply::Listen(false),
+            Ok(None) => Reply::Listen(false),
+            Err(AllocError) => Reply::OutOfMemory,
         }
     }
 
@@ -254,6 +256,15 @@ impl<C: PublicKey> Server<C> {
         ensures slots { self.new.slots ≡ self.old.slots }
     {
         Reply::UnblockExpired(self.directory.unblock_expired(now))
+    }
+
+    // Forgets the cooldowns whose dial moment is at or before the moment.
+    fn forget_cooled(&mut self, now: Duration) -> Reply<C>
+        ensures served { IsServed C.cmp (Command.ForgetCooled now) result self.old self.new }
+        ensures unchanged { was_made result ≡ false → self.new ≡ self.old }
+        ensures slots { self.new.slots ≡ self.old.slots }
+    {
+        Reply::ForgetCooled(self.directory.forget_cooled(now))
     }
 
     /// The directory, what is held, and these replies. Takes no memory.

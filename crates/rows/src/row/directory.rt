@@ -46,7 +46,7 @@ pub fn knowledge<W: Write>(alloc: Global, out: &mut W) -> Result<(), Stop> {
     print_replies(alloc, config(), &[], &steps, out)
 }
 
-/// A peer is reserved again after the cooldown, or once its record is made anew.
+/// A peer is reserved again after the cooldown, also where its record is made anew.
 pub fn cooldown<W: Write>(alloc: Global, out: &mut W) -> Result<(), Stop> {
     let steps = [
         Step::Track(0, &[1]),
@@ -58,6 +58,26 @@ pub fn cooldown<W: Write>(alloc: Global, out: &mut W) -> Result<(), Stop> {
         Step::Track(1, &[2]),
         Step::Track(2, &[1]),
         Step::Listen(1, At(111, 0)),
+    ];
+    print_replies(alloc, config(), &[], &steps, out)
+}
+
+/// A cooldown outlives the record of its peer, until it is forgotten from its dial moment on.
+pub fn forgotten_cooldown<W: Write>(alloc: Global, out: &mut W) -> Result<(), Stop> {
+    let steps = [
+        Step::Track(0, &[1]),
+        Step::ListenDrawn(1, At(100, 0), At(4, 0)),
+        Step::Release(1),
+        Step::Track(1, &[2]),
+        Step::Tracked,
+        Step::ForgetCooled(At(113, 999_999_999)),
+        Step::Track(2, &[1]),
+        Step::Update(&[(1, 1_000)]),
+        Step::Dialable(At(112, 0)),
+        Step::Listen(1, At(109, 999_999_999)),
+        Step::ForgetCooled(At(114, 0)),
+        Step::ForgetCooled(At(114, 0)),
+        Step::Listen(1, At(105, 0)),
     ];
     print_replies(alloc, config(), &[], &steps, out)
 }

@@ -198,7 +198,7 @@ impl fmt::Display for Line<'_, Reply<TestKey>> {
             Reply::Infos(Some(infos)) => write!(f, "Some({})", Infos(infos.as_slice())),
             Reply::GetRandomBitVec(Some(bits)) => write!(f, "{}", Line(bits)),
             Reply::Dialable(dialable) => write!(f, "{}", Line(dialable)),
-            Reply::Tracked(count) => write!(f, "{count}"),
+            Reply::ForgetCooled(count) | Reply::Tracked(count) => write!(f, "{count}"),
             Reply::NotReserved => f.write_str("NotReserved"),
             Reply::NotHeld => f.write_str("NotHeld"),
             Reply::OutOfMemory => f.write_str("OutOfMemory"),

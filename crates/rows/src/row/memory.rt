@@ -4,7 +4,7 @@ use crate::row::run_rows;
 use crate::row::setting::{config, own_info};
 use crate::row::tests::ROWS;
 use low_memory::{LowMemory, STEP};
-use p2p_directory::directory::{Directory, TrackedPeers};
+use p2p_directory::directory::{Directory, Reservation, TrackedPeers};
 use p2p_directory::record::Status;
 use p2p_discovery::codec::TestKey;
 use p2p_discovery::discovery::Info;
@@ -337,18 +337,25 @@ fn timestamp(directory: &Directory<TestKey>) -> Option<u64> {
         .map(|info| info.timestamp)
 }
 
-/// Listens for peer 1, connects and releases it: its status if that was granted, and the timestamp
-/// that was told of it.
-fn holds(directory: &mut Directory<TestKey>) -> Option<(Option<Status>, Option<u64>)> {
-    match directory.listen(&TestKey(1), Duration::from_secs(100), Duration::ZERO) {
+/// Listens for peer 1, and connects and releases it without memory: its status if that was granted,
+/// and the timestamp that was told of it.
+fn holds(
+    alloc: Global,
+    memory: &mut LowMemory,
+    directory: &mut Directory<TestKey>,
+) -> Result<Option<(Option<Status>, Option<u64>)>, Fail> {
+    match directory.listen(&TestKey(1), Duration::from_secs(100), Duration::ZERO)? {
         Some(reservation) => {
+            let limited = memory.limit(alloc, 0);
             let during = directory.status(&TestKey(1));
             directory.connect(&TestKey(1), true);
             let told = timestamp(directory);
             directory.release(reservation);
-            Some((during, told))
+            memory.lift();
+            limited?;
+            Ok(Some((during, told)))
         }
-        None => None,
+        None => Ok(None),
     }
 }
 
@@ -370,6 +377,21 @@ fn is_nothing_told(directory: &Directory<TestKey>) -> bool {
     info && bits
 }
 
+/// Whether no reservation was granted; one that was is released.
+fn is_none_or_released(
+    directory: &mut Directory<TestKey>,
+    answer: Result<Option<Reservation<TestKey>>, AllocError>,
+) -> bool {
+    match answer {
+        Ok(Some(reservation)) => {
+            directory.release(reservation);
+            false
+        }
+        Ok(None) => true,
+        Err(AllocError) => false,
+    }
+}
+
 fn answers_without_memory(
     rt: &impl Abort,
     alloc: Global,
@@ -385,11 +407,17 @@ fn answers_without_memory(
     let first = answers(directory);
     let none = is_nothing_told(directory);
     directory.update_peers(infos);
-    let held = holds(directory);
+    memory.lift();
+    let held = holds(alloc, memory, directory)?;
+    memory.limit(alloc, 0)?;
+    let refused = directory.listen(&TestKey(1), Duration::from_secs(109), Duration::ZERO);
+    let is_refused = is_none_or_released(directory, refused);
     let count = directory.tracked();
     let second = answers(directory);
+    let forgotten = directory.forget_cooled(Duration::from_secs(110));
     memory.lift();
-    assert!(rt; none);
+    assert!(rt; none && is_refused);
+    assert_eq!(rt; forgotten, 1);
     assert_eq!(rt; held, Some((Some(Status::Reserved), Some(7))));
     assert_eq!(rt; count, 4);
     assert!(rt; untaken);

@@ -102,6 +102,8 @@ pub enum Step {
     Block(u64, At),
     /// `unblock_expired` at a moment.
     UnblockExpired(At),
+    /// `forget_cooled` at a moment.
+    ForgetCooled(At),
     /// `next_unblock`.
     NextUnblock,
     /// `blocked_peers` at a moment.
@@ -148,6 +150,7 @@ impl Step {
             Step::UpdateAt(infos) => Command::UpdatePeers(signed_infos_at(alloc, infos)?),
             Step::Block(peer, at) => block(peer, at),
             Step::UnblockExpired(at) => Command::UnblockExpired(at.moment()),
+            Step::ForgetCooled(at) => Command::ForgetCooled(at.moment()),
             Step::NextUnblock => Command::NextUnblock,
             Step::BlockedPeers(at) => Command::BlockedPeers(at.moment()),
             Step::Status(peer) => Command::Status(TestKey(peer)),

@@ -29,7 +29,7 @@ impl Write for Short {
 }
 
 /// The rows that there are: the word that names each, and the lines that it prints.
-pub(crate) static ROWS: [(&'static str, &'static str); 23] = [
+pub(crate) static ROWS: [(&'static str, &'static str); 24] = [
     (
         "1",
         "b9600d48656c6c6f2c20776f726c6421\nData(12345, 48656c6c6f2c20776f726c6421)\n\
@@ -48,12 +48,12 @@ pub(crate) static ROWS: [(&'static str, &'static str); 23] = [
     ),
     (
         "6",
-        "Some([])\ngranted\nNone\nSome([1])\nReserved\ndone\nNone\nSome([])\ngranted\n",
+        "Some([])\ngranted\nNone\nSome([1])\nReserved\ndone\nNone\nSome([])\nrefused\n",
     ),
     ("7", "Some([])\ndone\nSome([])\nBitVec(1, 10)\n2\n"),
     (
         "8",
-        "Some([])\ngranted\ndone\nrefused\ngranted\ndone\nSome([])\nSome([])\ngranted\n",
+        "Some([])\ngranted\ndone\nrefused\ngranted\ndone\nSome([])\nSome([])\nrefused\n",
     ),
     (
         "9",
@@ -116,6 +116,11 @@ pub(crate) static ROWS: [(&'static str, &'static str); 23] = [
         "TooManyPeers(2)\nok\nok\nSynchronyBound\nReceivedSelf\nInvalidSignature\nok\n\
          TooManyPeers(1)\n",
     ),
+    (
+        "24",
+        "Some([])\ngranted\ndone\nSome([])\n1\n0\nSome([])\ndone\n[] Some(114.000000000)\n\
+         refused\n1\n0\ngranted\n",
+    ),
 ];
 
 fn assert_run(
@@ -154,7 +159,7 @@ fn refuses_other_words(rt: HostRuntime) -> Result<(), Fail> {
         &["06"],
         &["6", "6"],
         &["0"],
-        &["24"],
+        &["25"],
         &["016"],
         &[""],
         &["rows"],

@@ -14,3 +14,7 @@ returns-clause-moments g c = λ s moment a b. Listed.one_least s moment a b
 pub returns-clause-numbers : goal.returns-clause-numbers
 returns-clause-numbers g c = λ s order w m n.
     Listed.one_number s (subst IsTotalOrder (sym order) g.met.C.Ord.total) (exact_from s g.C.Ord.cmp order g.met.C.PublicKey.exact) w m n
+
+pub returns-clause-cooled : goal.returns-clause-cooled
+returns-clause-cooled g c = λ s order w t m n.
+    Listed.one_number_cooled s (subst IsTotalOrder (sym order) g.met.C.Ord.total) (exact_from s g.C.Ord.cmp order g.met.C.PublicKey.exact) w t m n

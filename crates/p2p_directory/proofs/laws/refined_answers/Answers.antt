@@ -20,6 +20,7 @@ returns g c = λ s order fits cs d refines.
       tracked = KnowledgeRefines.tie_tracked s (subst IsTotalOrder (sym order) g.met.C.Ord.total) w d refines;
       next_unblock = λ moment. BlocksRefine.tie_next_unblock s w d moment refines;
       any_expired = λ t any. BlocksRefine.tie_any_expired s w d t any refines;
+      number_cooled = λ t n. CallsRefine.tie_number_cooled s w d t n refines;
       blocked_peers = λ t ps. BlocksRefine.tie_blocked s w d t ps refines;
       peer_set = λ index. ap (λ sets. option_map peers_of (set_with index sets)) refines.sets;
       latest_set_index = ap latest_index refines.sets;

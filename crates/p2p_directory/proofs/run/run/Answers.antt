@@ -8,7 +8,7 @@ use Rattle.p2p_directory.specs.Private.Serving.{has_room}
 use Rattle.p2p_directory.specs.Private.Slots.{held_in}
 use Rattle.p2p_directory.proofs.Definitions.Keys.{exact_from}
 use Rattle.p2p_directory.proofs.LawsOfRuns.Forgotten
-use Rattle.p2p_directory.proofs.LawsOfRuns.GrantRuns.{keep_cooldown}
+use Rattle.p2p_directory.proofs.LawsOfRuns.GrantRuns.{keep_unless_forgotten, keep_cooldown}
 use Rattle.p2p_directory.proofs.LawsOfRuns.BlockRuns.{keep_last_block, keep_blocks}
 use Rattle.p2p_directory.proofs.LawsOfRuns.DialRuns.{keep_dialable}
 use Rattle.p2p_directory.proofs.LawsOfRuns.IsolationRuns.{keep_alone}
@@ -22,7 +22,7 @@ use Rattle.p2p_directory.proofs.run.run.Goals as goal
 pub new-server-requires : goal.new-server-requires
 new-server-requires g c =
     let s = setup_of g.C.Ord.cmp c.args.bootstrappers.items c.args.myself c.args.cfg in
-    let at = stands_at_start s (record { directory = c.in-Ok.directory; slots = c.in_ok-slots.slots }) (search rules) c.in-Ok.ensures.config c.in-Ok.ensures.sets c.in-Ok.ensures.blocks c.in-Ok.ensures.records c.in_ok-slots.ensures.empty in
+    let at = stands_at_start s (record { directory = c.in-Ok.directory; slots = c.in_ok-slots.slots }) (search rules) c.in-Ok.ensures.config c.in-Ok.ensures.sets c.in-Ok.ensures.blocks c.in-Ok.ensures.cooldowns c.in-Ok.ensures.records c.in_ok-slots.ensures.empty in
     are_held s (world_after s []) c.in-Ok.directory (held_in g.C.Ord.cmp c.in_ok-slots.slots) at.refines at.holds
 
 -- the limit is a `usize`
@@ -37,7 +37,7 @@ loop-command-init g c =
       answers = rw c.in_ok-replies.ensures.items tt;
       left =
           rw c.new-server.ensures
-          (stands_at_start s (record { directory = c.in-Ok.directory; slots = c.in_ok-slots.slots }) (fits g c) c.in-Ok.ensures.config c.in-Ok.ensures.sets c.in-Ok.ensures.blocks c.in-Ok.ensures.records c.in_ok-slots.ensures.empty);
+          (stands_at_start s (record { directory = c.in-Ok.directory; slots = c.in_ok-slots.slots }) (fits g c) c.in-Ok.ensures.config c.in-Ok.ensures.sets c.in-Ok.ensures.blocks c.in-Ok.ensures.cooldowns c.in-Ok.ensures.records c.in_ok-slots.ensures.empty);
       replies = rw c.in_ok-replies.ensures.items refl;
       room_for_replies = omega (arith, c.in_ok-replies.ensures.exact, c.len.ensures);
       slots = rw (c.new-server.ensures, ← c.deref.ensures.value) c.in_ok-slots.ensures.room;
@@ -114,8 +114,13 @@ returns-clause-held g c =
 
 -- WHAT THE REPLIES SAY OF EACH OTHER
 
-pub returns-clause-cooldown : goal.returns-clause-cooldown
-returns-clause-cooldown g c = λ p.
+pub returns-clause-spaced : goal.returns-clause-spaced
+returns-clause-spaced g c = λ p.
+    let s = setup_of g.C.Ord.cmp c.args.bootstrappers.items c.args.myself c.args.cfg in
+    keep_unless_forgotten s (exact_from s g.C.Ord.cmp refl g.met.C.PublicKey.exact) p (calls_of c.args.commands.items) c.into_run.result.replies.items (returns-clause-answers g c)
+
+pub returns-clause-lasting : goal.returns-clause-lasting
+returns-clause-lasting g c = λ p.
     let s = setup_of g.C.Ord.cmp c.args.bootstrappers.items c.args.myself c.args.cfg in
     keep_cooldown s (exact_from s g.C.Ord.cmp refl g.met.C.PublicKey.exact) p (calls_of c.args.commands.items) c.into_run.result.replies.items (returns-clause-answers g c)
 

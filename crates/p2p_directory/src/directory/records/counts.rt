@@ -13,11 +13,13 @@ ghost use Rattle.p2p_directory.specs.Private.Counts.{one_set_more, one_set_less}
 ghost use Rattle.p2p_directory.specs.Private.Counts.{is_torn_down_without};
 ghost use Rattle.p2p_directory.specs.PeerSets.{has_key, AreRolesDisjoint};
 ghost use Rattle.p2p_directory.specs.Directory.{record_at, is_known, ChangesAt};
+ghost use Rattle.p2p_directory.specs.Cooldowns.{cooldown_in};
 ghost use Rattle.p2p_directory.specs.Private.Window.{plain_set, set_with_bits};
 ghost use Rattle.p2p_directory.specs.Private.Counts.{IsOfMap, record_joining, record_leaving};
 ghost use Rattle.p2p_directory.specs.Private.Counts.{is_torn_down_leaving, IsRestored};
 
 use crate::directory::records::Records;
+use crate::kept::cooldowns::Cooldowns;
 use crate::kept::{PeerSet, forget};
 use crate::record::{Record, Role};
 use p2p_discovery::codec::PublicKey;
@@ -25,17 +27,24 @@ use p2p_discovery::sets::{OrderedSet, SetError};
 use std::alloc::AllocError;
 
 impl<C: PublicKey> Records<C> {
-    // Counts one set of the peer more, in a new record where it has none, and says whether the
-    // peer's info is known, and not wanted.
-    fn join_one(&mut self, peer: &C, role: Role, limit: usize) -> Result<bool, AllocError>
-        ensures ok { OnOk result (ChangesAt C.cmp self.old self.new peer.now (one_set_more role)) }
+    // Counts one set of the peer more, in a new record with its moments where it has none, and says
+    // whether the peer's info is known, and not wanted.
+    fn join_one(
+        &mut self,
+        peer: &C,
+        role: Role,
+        limit: usize,
+        cooldowns: &Cooldowns<C>,
+    ) -> Result<bool, AllocError>
+        ensures ok { OnOk result (ChangesAt C.cmp self.old self.new peer.now
+            (one_set_more role (cooldown_in C.cmp cooldowns.now peer.now))) }
         ensures known { IfOk result (λ known.
             known ≡ is_known limit (record_at C.cmp self.old peer.now)) }
         ensures err { OnErr result (self.new ≡ self.old) }
     {
         match self.map.entry(*peer) {
             Ok(entry) => {
-                let found = entry.or_insert(Record::unknown());
+                let found = entry.or_insert(Record::cooled(cooldowns.get(peer)));
                 found.count_more(role);
                 Ok(!found.want(limit))
             }
@@ -96,19 +105,26 @@ impl<C: PublicKey> Records<C> {
     }
 
     // Counts one set of each peer more, or leaves all as it was.
-    fn join_secondary(&mut self, peers: &[C], limit: usize) -> Result<(), AllocError>
+    fn join_secondary(
+        &mut self,
+        peers: &[C],
+        limit: usize,
+        cooldowns: &Cooldowns<C>,
+    ) -> Result<(), AllocError>
         requires { IsStrictlySortedBy C.cmp peers.now }
         ensures ok { OnOk result ((q : C) → record_at C.cmp self.new q ≡
             (if has_key C.cmp peers.now q
-            then one_set_more Secondary (record_at C.cmp self.old q)
+            then one_set_more Secondary (cooldown_in C.cmp cooldowns.now q)
+            (record_at C.cmp self.old q)
             else record_at C.cmp self.old q)) }
         ensures err { OnErr result ((q : C) →
             (has_key C.cmp peers.now q ≡ true →
-            IsRestored C.cmp Secondary (record_at C.cmp self.old q)) →
+            IsRestored C.cmp Secondary (cooldown_in C.cmp cooldowns.now q)
+            (record_at C.cmp self.old q)) →
             record_at C.cmp self.new q ≡ record_at C.cmp self.old q) }
     {
         for (place, peer) in peers.iter().enumerate() {
-            if let Err(refused) = self.join_one(peer, Role::Secondary, limit) {
+            if let Err(refused) = self.join_one(peer, Role::Secondary, limit, cooldowns) {
                 self.undo_each(&peers[..place], Role::Secondary);
                 return Err(refused);
             }
@@ -118,24 +134,31 @@ impl<C: PublicKey> Records<C> {
 
     // Counts one set of each primary peer more and sets its bit, or leaves all records as they
     // were.
-    fn join_primary(&mut self, set: &mut PeerSet<C>, limit: usize) -> Result<(), AllocError>
+    fn join_primary(
+        &mut self,
+        set: &mut PeerSet<C>,
+        limit: usize,
+        cooldowns: &Cooldowns<C>,
+    ) -> Result<(), AllocError>
         ensures disjoint { AreRolesDisjoint C.cmp (plain_set set.old) }
         ensures ok { OnOk result ((q : C) → record_at C.cmp self.new q ≡
             (if has_key C.cmp (keys_of set.old.primary) q
-            then one_set_more Primary (record_at C.cmp self.old q)
+            then one_set_more Primary (cooldown_in C.cmp cooldowns.now q)
+            (record_at C.cmp self.old q)
             else record_at C.cmp self.old q)) }
         ensures bits { OnOk result (set.new ≡
             set_with_bits (λ q. is_known limit (record_at C.cmp self.old q)) (plain_set set.old)) }
         ensures err { OnErr result ((q : C) →
             (has_key C.cmp (keys_of set.old.primary) q ≡ true →
-            IsRestored C.cmp Primary (record_at C.cmp self.old q)) →
+            IsRestored C.cmp Primary (cooldown_in C.cmp cooldowns.now q)
+            (record_at C.cmp self.old q)) →
             record_at C.cmp self.new q ≡ record_at C.cmp self.old q) }
     {
         // For the proof: the clauses of `as_slice` say that the peers are in order.
         let _peers = set.primary().ordered().as_slice();
         for place in 0..set.primary().len() {
             let peer = set.primary()[place];
-            match self.join_one(&peer, Role::Primary, limit) {
+            match self.join_one(&peer, Role::Primary, limit, cooldowns) {
                 Ok(known) => set.set_bit(place, known),
                 Err(refused) => {
                     self.undo_each(&set.primary().ordered().as_slice()[..place], Role::Primary);
@@ -148,20 +171,27 @@ impl<C: PublicKey> Records<C> {
 
     // Counts a set more for the peers of each role and sets its bits, or leaves what is kept of
     // each peer as it was.
-    fn join_roles(&mut self, set: &mut PeerSet<C>, limit: usize) -> Result<(), AllocError>
+    fn join_roles(
+        &mut self,
+        set: &mut PeerSet<C>,
+        limit: usize,
+        cooldowns: &Cooldowns<C>,
+    ) -> Result<(), AllocError>
         ensures disjoint { AreRolesDisjoint C.cmp (plain_set set.old) }
         ensures ok { OnOk result ((q : C) → record_at C.cmp self.new q ≡
-            record_joining C.cmp (plain_set set.old) q (record_at C.cmp self.old q)) }
+            record_joining C.cmp (plain_set set.old) (cooldown_in C.cmp cooldowns.now q) q
+            (record_at C.cmp self.old q)) }
         ensures bits { OnOk result (set.new ≡
             set_with_bits (λ q. is_known limit (record_at C.cmp self.old q)) (plain_set set.old)) }
         ensures err { OnErr result (
-            ((q : C) (role : Role) → IsRestored C.cmp role (record_at C.cmp self.old q)) →
+            ((q : C) (role : Role) → IsRestored C.cmp role (cooldown_in C.cmp cooldowns.now q)
+            (record_at C.cmp self.old q)) →
             (q : C) → record_at C.cmp self.new q ≡ record_at C.cmp self.old q) }
     {
-        if let Err(refused) = self.join_primary(set, limit) {
+        if let Err(refused) = self.join_primary(set, limit, cooldowns) {
             return Err(refused);
         }
-        let joined = self.join_secondary(set.secondary().as_slice(), limit);
+        let joined = self.join_secondary(set.secondary().as_slice(), limit, cooldowns);
         if let Err(refused) = joined {
             self.undo_each(set.primary().ordered().as_slice(), Role::Primary);
             return Err(refused);
@@ -170,21 +200,28 @@ impl<C: PublicKey> Records<C> {
     }
 
     /// Counts a set that comes for each of its peers and sets its bits, or leaves all records as
-    /// they were where memory is refused. A peer that has no record gets one.
-    pub fn join(&mut self, set: &mut PeerSet<C>, limit: usize) -> Result<(), AllocError>
+    /// they were where memory is refused. A peer that has no record gets one, with its moments.
+    pub fn join(
+        &mut self,
+        set: &mut PeerSet<C>,
+        limit: usize,
+        cooldowns: &Cooldowns<C>,
+    ) -> Result<(), AllocError>
         ensures disjoint { AreRolesDisjoint C.cmp (plain_set set.old) }
         ensures map { IsOfMap C.cmp self.old }
         ensures ok { OnOk result ((q : C) → record_at C.cmp self.new q ≡
-            record_joining C.cmp (plain_set set.old) q (record_at C.cmp self.old q)) }
+            record_joining C.cmp (plain_set set.old) (cooldown_in C.cmp cooldowns.now q) q
+            (record_at C.cmp self.old q)) }
         ensures bits { OnOk result (set.new ≡
             set_with_bits (λ q. is_known limit (record_at C.cmp self.old q)) (plain_set set.old)) }
         ensures err { OnErr result (
-            ((q : C) (role : Role) → IsRestored C.cmp role (record_at C.cmp self.old q)) →
+            ((q : C) (role : Role) → IsRestored C.cmp role (cooldown_in C.cmp cooldowns.now q)
+            (record_at C.cmp self.old q)) →
             self.new ≡ self.old) }
     {
         // For the proof: the clauses of `len` say that the keys are in order.
         let _before = self.map.len();
-        let joined = self.join_roles(set, limit);
+        let joined = self.join_roles(set, limit, cooldowns);
         let _after = self.map.len();
         joined
     }

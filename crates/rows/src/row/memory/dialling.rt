@@ -225,29 +225,54 @@ fn is_released(rt: &impl Abort, directory: &mut Directory<TestKey>) -> Result<bo
     }
 }
 
-/// Dials the peer that is reached by a name, at a budget; whether memory was refused.
-fn dials_within(
+/// Whether a listen of peer 1 is granted, and releases it.
+fn is_listened(directory: &mut Directory<TestKey>) -> Result<bool, AllocError> {
+    match directory.listen(&TestKey(1), now(), Duration::ZERO)? {
+        Some(reservation) => {
+            directory.release(reservation);
+            Ok(true)
+        }
+        None => Ok(false),
+    }
+}
+
+/// Dials the peer that is reached by a name, or listens for it.
+fn is_reserved(
+    rt: &impl Abort,
+    directory: &mut Directory<TestKey>,
+    dials: bool,
+) -> Result<bool, AllocError> {
+    if dials {
+        is_released(rt, directory)
+    } else {
+        is_listened(directory)
+    }
+}
+
+/// Dials the peer that is reached by a name, or listens for it, at a budget; whether memory was
+/// refused.
+fn reserves_within(
     rt: &impl Abort,
     alloc: Global,
     memory: &mut LowMemory,
     directory: &mut Directory<TestKey>,
     before: &Snapshot,
-    budget: usize,
+    (dials, budget): (bool, usize),
 ) -> Result<bool, Fail> {
     memory.limit(alloc, budget)?;
-    let answer = is_released(rt, directory);
+    let answer = is_reserved(rt, directory, dials);
     memory.lift();
     match answer {
         Ok(granted) => {
             assert!(rt;
                 granted,
-                "a bootstrapper is granted a dial, budget {budget}"
+                "a bootstrapper is granted a reservation, budget {budget}"
             );
             Ok(false)
         }
         Err(AllocError) => {
             assert!(rt; is_unchanged(directory, before)?, "budget {budget}");
-            let granted = is_released(rt, directory)?;
+            let granted = is_reserved(rt, directory, dials)?;
             assert!(rt; granted, "what was refused is granted, budget {budget}");
             Ok(true)
         }
@@ -255,31 +280,42 @@ fn dials_within(
 }
 
 /// .. with a directory of its own.
-fn dials_at(
+fn reserves_at(
     rt: &impl Abort,
     alloc: Global,
     memory: &mut LowMemory,
+    dials: bool,
     budget: usize,
 ) -> Result<bool, Fail> {
     let mut directory = known_peers(alloc)?;
     let before = all_answers(&directory)?;
-    dials_within(rt, alloc, memory, &mut directory, &before, budget)
+    reserves_within(rt, alloc, memory, &mut directory, &before, (dials, budget))
 }
 
-#[test]
-fn a_dial_refused_for_memory_changes_nothing(rt: HostRuntime) -> Result<(), Fail> {
-    let alloc = rt.alloc();
+/// Dials, or listens, at each budget: refused at some, granted at others.
+fn reserves_at_each_budget(rt: &impl Abort, alloc: Global, dials: bool) -> Result<(), Fail> {
     let mut memory = LowMemory::new(alloc)?;
     let mut refused = 0usize;
     for step in 0..QUESTION_STEPS {
         let budget = step.saturating_mul(STEP);
-        refused = refused.saturating_add(usize::from(dials_at(&rt, alloc, &mut memory, budget)?));
+        let is_refused = reserves_at(rt, alloc, &mut memory, dials, budget)?;
+        refused = refused.saturating_add(usize::from(is_refused));
     }
     assert!(rt;
         refused > 0 && refused < QUESTION_STEPS,
         "{refused} refused"
     );
     Ok(())
+}
+
+#[test]
+fn a_dial_refused_for_memory_changes_nothing(rt: HostRuntime) -> Result<(), Fail> {
+    reserves_at_each_budget(&rt, rt.alloc(), true)
+}
+
+#[test]
+fn a_listen_refused_for_memory_changes_nothing(rt: HostRuntime) -> Result<(), Fail> {
+    reserves_at_each_budget(&rt, rt.alloc(), false)
 }
 
 /// Blocks peers one after the other until memory is refused: how many, and whether it was.
@@ -466,7 +502,7 @@ fn holds_without_memory(
     memory: &mut LowMemory,
     directory: &mut Directory<TestKey>,
 ) -> Result<(), Fail> {
-    match directory.listen(&TestKey(10), now(), Duration::ZERO) {
+    match directory.listen(&TestKey(10), now(), Duration::ZERO)? {
         Some(reservation) => {
             let limited = memory.limit(alloc, 0);
             let asked = are_refused(directory);
@@ -537,7 +573,12 @@ fn dials_and_blocks_without_memory(
     memory.lift();
     assert_eq!(rt; (local, blocked), (Ok(false), Ok(false)));
     assert_eq!(rt; none, Ok(true));
-    assert_eq!(rt; (secondary, primary), (Ok(false), Ok(true)));
+    assert_eq!(rt; secondary, Ok(false));
+    assert_ne!(rt;
+        primary,
+        Ok(false),
+        "a target is granted a dial, or refused memory"
+    );
     assert_eq!(rt; next, Some(Duration::from_secs(NOW + 60)));
     assert!(rt; any);
     Ok(())

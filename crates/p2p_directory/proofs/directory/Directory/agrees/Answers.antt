@@ -6,8 +6,9 @@ use Rattle.p2p_directory.specs.declared.record.Role.TheVariants.{Primary, Second
 use Rattle.p2p_directory.specs.Calls.{SetAt}
 use Rattle.p2p_directory.specs.PeerSets.{set_count}
 use Rattle.p2p_directory.specs.Record.{RecordView, is_deletable, wants_info}
-use Rattle.p2p_directory.specs.Directory.{DirectoryView, record_of, is_named_of, is_known}
+use Rattle.p2p_directory.specs.Directory.{DirectoryView, record_of, is_known, cooldown_of}
 use Rattle.p2p_directory.specs.Private.Counts.{AreCounted}
+use Rattle.p2p_directory.proofs.SetsAndRecords.Cooled.{HasMoments, moments_of_record}
 use Rattle.p2p_directory.proofs.directory.Directory.agrees.Goals as goal
 
 counted : {C S : Type 0} (cmp : C → C → Ordering) (sets : List (SetAt C)) (q : C) (o : Option (RecordView C S)) → AreCounted cmp sets q o →
@@ -34,11 +35,15 @@ returns-clause-bits g c = λ place i.
 
 pub returns-clause-counts : goal.returns-clause-counts
 returns-clause-counts g c = λ q. counted g.C.Ord.cmp c.args.self.now.sets q (record_of g.C.Ord.cmp c.args.self.now q)
-    (subst (λ (d : DirectoryView g.row.C.Denot g.row.C-Signature.Denot). AreCounted g.C.Ord.cmp d.sets q (record_of g.C.Ord.cmp d q)) c.self.view_is (c.self.invariant.counts.counts q))
+    (subst (λ (d : DirectoryView g.row.C.Denot g.row.C-Signature.Denot). AreCounted g.C.Ord.cmp d.sets q (record_of g.C.Ord.cmp d q)) c.self.view_is (c.self.invariant.whole.counts.counts q))
 
 pub returns-clause-named : goal.returns-clause-named
 returns-clause-named g c = λ q named. has_record g.C.Ord.cmp c.args.self.now.sets q (record_of g.C.Ord.cmp c.args.self.now q)
-    (subst (λ (d : DirectoryView g.row.C.Denot g.row.C-Signature.Denot). AreCounted g.C.Ord.cmp d.sets q (record_of g.C.Ord.cmp d q)) c.self.view_is (c.self.invariant.counts.counts q)) named
+    (subst (λ (d : DirectoryView g.row.C.Denot g.row.C-Signature.Denot). AreCounted g.C.Ord.cmp d.sets q (record_of g.C.Ord.cmp d q)) c.self.view_is (c.self.invariant.whole.counts.counts q)) named
 
 pub returns-clause-kept : goal.returns-clause-kept
-returns-clause-kept g c = λ q. subst (λ (d : DirectoryView g.row.C.Denot g.row.C-Signature.Denot). IfSome (record_of g.C.Ord.cmp d q) (λ r. is_deletable r ≡ false)) c.self.view_is (c.self.invariant.counts.none_deletable q)
+returns-clause-kept g c = λ q. subst (λ (d : DirectoryView g.row.C.Denot g.row.C-Signature.Denot). IfSome (record_of g.C.Ord.cmp d q) (λ r. is_deletable r ≡ false)) c.self.view_is (c.self.invariant.whole.counts.none_deletable q)
+
+pub returns-clause-cooled : goal.returns-clause-cooled
+returns-clause-cooled g c = λ q. moments_of_record (cooldown_of g.C.Ord.cmp c.args.self.now q) (record_of g.C.Ord.cmp c.args.self.now q)
+    (subst (λ (d : DirectoryView g.row.C.Denot g.row.C-Signature.Denot). HasMoments (cooldown_of g.C.Ord.cmp d q) (record_of g.C.Ord.cmp d q)) c.self.view_is (c.self.invariant.cooled q))

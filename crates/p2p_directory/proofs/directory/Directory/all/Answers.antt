@@ -23,12 +23,12 @@ returns-clause-peers g c =
     let sets = plain_sets c.self.inside.sets in
     let old = record_at cmp c.self.inside.records in
     rw (← c.self.view_is) (both _ _ _ c.all.result (λ all primary secondary. (
-      lists_alike cmp _ _ all.primary (primary_by_sets cmp max sets old c.self.invariant.counts) primary,
-      lists_alike cmp _ _ all.secondary (secondary_by_sets cmp max sets old c.self.invariant.counts) secondary,
+      lists_alike cmp _ _ all.primary (primary_by_sets cmp max sets old c.self.invariant.whole.counts) primary,
+      lists_alike cmp _ _ all.secondary (secondary_by_sets cmp max sets old c.self.invariant.whole.counts) secondary,
     )) c.all.ensures.primary c.all.ensures.secondary)
 
 pub returns-clause-err : goal.returns-clause-err
 returns-clause-err g c =
     let cmp = g.C.Ord.cmp in
     let max = non_zero_usize_get c.self.inside.config.max_sets in
-    rw (← c.self.view_is) (on_err c.all.result (λ some. (some.0, named_by_sets cmp max (plain_sets c.self.inside.sets) (record_at cmp c.self.inside.records) c.self.invariant.counts some.0 some.1)) c.all.ensures.err)
+    rw (← c.self.view_is) (on_err c.all.result (λ some. (some.0, named_by_sets cmp max (plain_sets c.self.inside.sets) (record_at cmp c.self.inside.records) c.self.invariant.whole.counts some.0 some.1)) c.all.ensures.err)

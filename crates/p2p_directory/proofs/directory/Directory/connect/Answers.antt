@@ -4,6 +4,8 @@ use Rattle.std.specs.Int.NonZero.{non_zero_usize_get}
 use Rattle.p2p_directory.specs.History.{is_inert, is_reserved}
 use Rattle.p2p_directory.specs.Record.{RecordView}
 use Rattle.p2p_directory.specs.Directory.{config_view, record_at, is_busy, connected_record}
+use Rattle.p2p_directory.specs.Cooldowns.{cooldown_in}
+use Rattle.p2p_directory.proofs.SetsAndRecords.Cooled.{cooled_at, connect_keeps}
 use Rattle.p2p_directory.proofs.SetsAndRecords.Changes.{changed_at, kept_connected, changes_view, status_after_change, others_status}
 use Rattle.p2p_directory.proofs.directory.Directory.connect.Goals as goal
 
@@ -11,12 +13,17 @@ pub invariant_of-self : goal.invariant_of-self
 invariant_of-self g c =
     let cmp = g.C.Ord.cmp in
     let cfg = c.self.inside.config in
-    changed_at cmp g.met.C.PublicKey.exact (non_zero_usize_get cfg.max_sets) cfg.dial_fail_limit c.self.inside.sets c.refresh.new.self (record_at cmp c.self.inside.records) (record_at cmp c.connect-known.new.self)
-    c.args.peer.now (option_map (connected_record c.args.dialer)) c.connect-known.result c.self.invariant c.connect-known.ensures.change (kept_connected c.args.dialer) c.connect-known.ensures.known c.refresh.ensures.sets
+    let old = record_at cmp c.self.inside.records in
+    let new = record_at cmp c.connect-known.new.self in
+    record {
+      whole = changed_at cmp g.met.C.PublicKey.exact (non_zero_usize_get cfg.max_sets) cfg.dial_fail_limit c.self.inside.sets c.refresh.new.self (record_at cmp c.self.inside.records) (record_at cmp c.connect-known.new.self)
+          c.args.peer.now (option_map (connected_record c.args.dialer)) c.connect-known.result c.self.invariant.whole c.connect-known.ensures.change (kept_connected c.args.dialer) c.connect-known.ensures.known c.refresh.ensures.sets;
+      cooled = cooled_at cmp old new (cooldown_in cmp c.self.inside.cooldowns) c.args.peer.now (option_map (connected_record c.args.dialer)) c.self.invariant.cooled c.connect-known.ensures.change (connect_keeps c.args.dialer);
+    }
 
 pub returns-clause-connected : goal.returns-clause-connected
 returns-clause-connected g c =
-    changes_view g.C.Ord.cmp c.args.self.now (config_view c.self.inside.config) c.self.inside.sets c.refresh.new.self c.self.inside.records c.connect-known.new.self c.self.inside.blocks
+    changes_view g.C.Ord.cmp c.args.self.now (config_view c.self.inside.config) c.self.inside.sets c.refresh.new.self c.self.inside.records c.connect-known.new.self c.self.inside.blocks c.self.inside.cooldowns
     c.args.peer.now (option_map (connected_record c.args.dialer)) c.connect-known.result c.self.view_is c.refresh.ensures.sets c.connect-known.ensures.change
 
 busy : {C S : Type 0} (dialer : Bool) (o : Option (RecordView C S)) → is_busy o ≡ true → is_busy (option_map (connected_record dialer) o) ≡ true

@@ -13,5 +13,6 @@ returns-clause-ended g c = rw (← c.self.view_is) (record {
   config = refl;
   sets = refl;
   records = refl;
+  cooldowns = refl;
   blocks = λ q. ap (λ (bs : List (g.row.C.Denot × ℕ)). unblock_in g.C.Ord.cmp bs q) c.drop_until.ensures.left ∙ left_blocks g.met.C.Ord.total c.self.inside.blocks (as_nanos c.args.now) c.drop_until.ensures.sorted q;
 })

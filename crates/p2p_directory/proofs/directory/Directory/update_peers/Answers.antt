@@ -7,6 +7,8 @@ use Rattle.p2p_directory.specs.History.{is_inert, is_reserved}
 use Rattle.p2p_directory.specs.Record.{RecordView}
 use Rattle.p2p_directory.specs.Directory.{DirectoryView, config_view, has_status, is_busy, record_at, record_of, infos_of, updated_record, Updates}
 use Rattle.p2p_directory.specs.Private.Window.{plain_sets}
+use Rattle.p2p_directory.specs.Cooldowns.{cooldown_in}
+use Rattle.p2p_directory.proofs.SetsAndRecords.Cooled.{cooled_each, update_keeps}
 use Rattle.p2p_directory.proofs.SetsAndRecords.Changes.{IsKept, changed_with_bits, each_sound, kept_updated}
 use Rattle.p2p_directory.proofs.directory.Directory.update_peers.Goals as goal
 
@@ -18,17 +20,21 @@ invariant_of-self g c =
     let window = c.self.inside.sets in
     let old = record_at cmp c.self.inside.records in
     let new = record_at cmp c.update_each.new.records in
-    changed_with_bits cmp max limit window c.update_each.new.sets old new c.self.invariant
-    (λ q. subst (IsKept (old q)) (sym (c.update_each.ensures.records q)) (kept_updated (infos_of cmp c.args.infos.items q) (old q) (each_sound cmp max limit window old c.self.invariant q)))
-    c.update_each.ensures.sets (c.update_each.ensures.bits c.self.invariant.bits)
+    record {
+      whole = changed_with_bits cmp max limit window c.update_each.new.sets old new c.self.invariant.whole
+          (λ q. subst (IsKept (old q)) (sym (c.update_each.ensures.records q)) (kept_updated (infos_of cmp c.args.infos.items q) (old q) (each_sound cmp max limit window old c.self.invariant.whole q)))
+          c.update_each.ensures.sets (c.update_each.ensures.bits c.self.invariant.whole.bits);
+      cooled = cooled_each cmp old new (cooldown_in cmp c.self.inside.cooldowns) (λ q. option_map (updated_record (infos_of cmp c.args.infos.items q))) c.self.invariant.cooled c.update_each.ensures.records (λ q. update_keeps (infos_of cmp c.args.infos.items q) (cooldown_in cmp c.self.inside.cooldowns q));
+    }
 
 pub returns-clause-updated : goal.returns-clause-updated
 returns-clause-updated g c =
-    let new : DirectoryView g.row.C.Denot g.row.C-Signature.Denot = record { config = config_view c.self.inside.config; sets = plain_sets c.update_each.new.sets; records = c.update_each.new.records; blocks = c.self.inside.blocks } in
+    let new : DirectoryView g.row.C.Denot g.row.C-Signature.Denot = record { config = config_view c.self.inside.config; sets = plain_sets c.update_each.new.sets; records = c.update_each.new.records; blocks = c.self.inside.blocks; cooldowns = c.self.inside.cooldowns } in
     subst (λ d. Updates g.C.Ord.cmp d new c.args.infos.items) c.self.view_is (record {
       config = refl;
       sets = c.update_each.ensures.sets;
       blocks = refl;
+      cooldowns = refl;
       records = c.update_each.ensures.records;
     })
 

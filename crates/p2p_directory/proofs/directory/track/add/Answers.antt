@@ -1,6 +1,7 @@
 use Rattle.std.proofs.Common.{◌≡◌, Bool, ◌∙◌, ap}
 use Rattle.p2p_directory.specs.Calls.{SetAt}
 use Rattle.p2p_directory.specs.Directory.{record_at, is_known}
+use Rattle.p2p_directory.specs.Cooldowns.{cooldown_in}
 use Rattle.p2p_directory.specs.Private.Window.{SetWithBits, plain_set}
 use Rattle.p2p_directory.specs.Private.Counts.{record_leaving}
 use Rattle.p2p_directory.proofs.SetsAndRecords.Consistent.{left_again}
@@ -17,4 +18,4 @@ returns-in-Err-clause-records g c = λ back.
     same_held g.met.C.Ord.total g.met.C.PublicKey.exact c.undo.new.self c.args.records.now c.undo.ensures.map c.join.ensures.map (λ q.
     c.undo.ensures.records q
     ∙ (λ i. record_leaving cmp (plain i) q (c.in_ok-join.ensures.ok q i))
-    ∙ left_again cmp set q (record_at cmp c.args.records.now q) c.join.ensures.disjoint (back q))
+    ∙ left_again cmp set (cooldown_in cmp c.args.cooldowns.now q) q (record_at cmp c.args.records.now q) c.join.ensures.disjoint (back q))

@@ -3,6 +3,7 @@ use Rattle.std.specs.Map.{keys_of}
 use Rattle.p2p_directory.specs.declared.record.Role.TheVariants.{Primary}
 use Rattle.p2p_directory.specs.PeerSets.{has_key}
 use Rattle.p2p_directory.specs.Directory.{record_at, is_known}
+use Rattle.p2p_directory.specs.Cooldowns.{cooldown_in}
 use Rattle.p2p_directory.specs.Private.Counts.{one_set_more}
 use Rattle.p2p_directory.specs.Private.Window.{SetWithBits}
 use Rattle.p2p_directory.proofs.directory.records.Records.join_primary.Given as goal
@@ -14,7 +15,7 @@ invariant-loop-place g l =
     let was : SetWithBits g.row.C.Denot = l.initial.set in
     record {
       records : (q : g.row.C.Denot) → record_at cmp l.self q ≡
-          cond (has_key cmp (take l.place (keys_of was.primary)) q) (one_set_more Primary (record_at cmp l.initial.self q)) (record_at cmp l.initial.self q);
+          cond (has_key cmp (take l.place (keys_of was.primary)) q) (one_set_more Primary (cooldown_in cmp l.cooldowns q) (record_at cmp l.initial.self q)) (record_at cmp l.initial.self q);
       set : l.set ≡ record was {
         primary = map (λ q. (q, is_known l.limit (record_at cmp l.initial.self q))) (take l.place (keys_of was.primary)) ++ drop l.place was.primary;
       };

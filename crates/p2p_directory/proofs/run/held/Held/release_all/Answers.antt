@@ -16,6 +16,7 @@ loop-peer-preserved-in-Some-take g c =
       config = change.config ∙ c.loop-peer.invariant.config;
       sets = change.sets ∙ c.loop-peer.invariant.sets;
       blocks = change.blocks ∙ c.loop-peer.invariant.blocks;
+      cooldowns = change.cooldowns ∙ c.loop-peer.invariant.cooldowns;
       records = λ q. given_back cmp g.met.C.PublicKey.exact d d2 c.in-Some.peer c.in-Some-take.reservation (held_of cmp c.loop-peer.held) (held_of cmp c.take.new.self) (sym c.in-Some-take.ensures.taken) change c.in-Some-take.ensures.left q
           ∙ c.loop-peer.invariant.records q;
     }
@@ -29,6 +30,7 @@ returns g c = record {
   config = c.loop-peer.invariant.config;
   sets = c.loop-peer.invariant.sets;
   blocks = c.loop-peer.invariant.blocks;
+  cooldowns = c.loop-peer.invariant.cooldowns;
   records = λ q.
       ap (λ held. after_release (held_of g.C.Ord.cmp held q) (record_of g.C.Ord.cmp c.loop-peer.directory q)) (sym c.in_default.ensures.none)
       ∙ c.loop-peer.invariant.records q;

@@ -12,6 +12,7 @@ invariant-loop-peer g l =
       config : l.directory.config ≡ l.initial.directory.config;
       sets : l.directory.sets ≡ l.initial.directory.sets;
       blocks : l.directory.blocks ≡ l.initial.directory.blocks;
+      cooldowns : l.directory.cooldowns ≡ l.initial.directory.cooldowns;
       records : (q : g.row.C.Denot) → after_release (held_of cmp l.held q) (record_of cmp l.directory q)
           ≡ after_release (held_of cmp l.initial.held q) (record_of cmp l.initial.directory q);
     }

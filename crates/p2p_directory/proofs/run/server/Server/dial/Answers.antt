@@ -5,11 +5,11 @@ use Rattle.std.specs.BTreeMap.{is_at}
 use Rattle.p2p_discovery.specs.declared.types.ingress.Ingress.{Ingress}
 use Rattle.p2p_directory.specs.declared.directory.Metadata.{Metadata}
 use Rattle.p2p_directory.specs.declared.directory.Metadata.TheVariants as metadata
+use Rattle.p2p_directory.specs.Record.{reserved_record}
 use Rattle.p2p_directory.specs.Directory.{key_of, ingress_in, IsBusy}
 use Rattle.p2p_directory.specs.Private.Slots.{held_in}
 use Rattle.p2p_directory.proofs.Reservations.Holding.{held_by_grant}
 use Rattle.std.specs.Duration.{as_nanos}
-use Rattle.p2p_discovery.specs.Ingress.{takes_none}
 use Rattle.p2p_directory.specs.Run.{setup_of}
 use Rattle.p2p_directory.proofs.Reservations.Served
 use Rattle.p2p_directory.proofs.run.server.Server.dial.Goals as goal
@@ -33,8 +33,8 @@ pub invariant_of-self : goal.invariant_of-self
 invariant_of-self g c =
     let cmp = g.C.Ord.cmp in
     let facts = rw c.in-Ok-Some.field-0-is at c.in-Ok-Some.ensures in
-    held_by_grant cmp g.met.C.PublicKey.exact c.self.inside.directory c.dial.new.self c.args.peer.now c.in-Ok-Some.reservation _ (held_in cmp c.self.inside.slots) (held_in cmp c.put.new.self) c.self.invariant
-    facts.granted (subst (IsBusy cmp c.dial.new.self) (of_peer g c) facts.is_busy) (held g c)
+    held_by_grant cmp g.met.C.PublicKey.exact c.self.inside.directory c.dial.new.self c.args.peer.now c.in-Ok-Some.reservation (option_map (reserved_record (as_nanos c.args.now) (as_nanos c.args.draw) c.self.inside.directory.config.cooldown)) (held_in cmp c.self.inside.slots) (held_in cmp c.put.new.self) c.self.invariant
+    facts.granted.records (subst (IsBusy cmp c.dial.new.self) (of_peer g c) facts.is_busy) (held g c)
 
 pub returns-in-Ok-Some-clause-served : goal.returns-in-Ok-Some-clause-served
 returns-in-Ok-Some-clause-served g c = rw (← c.self.view_is) (λ bootstrappers myself cfg calls at.
@@ -52,15 +52,7 @@ true_unless : (b : Bool) → (b ≡ false → ⊥) → b ≡ true
 true_unless true h = refl
 true_unless false h = absurd (h refl)
 
--- the dial that was refused memory is one at a name
-named : (g : _) (c : goal.In-Err g) (a : Ingress) → ingress_in g.C.Ord.cmp c.self.inside.directory c.args.peer.now ≡ Some a → takes_none a ≡ false
-named g c a e = go (takes_none a) refl
-  where
-    go : (b : Bool) → takes_none a ≡ b → b ≡ false
-    go false t = refl
-    go true t = absurd (let ok = (rw e at c.dial.ensures.socket) t in let f = rw c.in-Err.is at ok in cc)
-
 pub returns-in-Err-clause-served : goal.returns-in-Err-clause-served
 returns-in-Err-clause-served g c = rw (← c.self.view_is) (λ bootstrappers myself cfg calls at.
     Served.served_no_dial (setup_of g.C.Ord.cmp bootstrappers myself cfg) cfg.max_sets.ok g.met.C.PublicKey.exact calls _ _ at c.args.peer.now (as_nanos c.args.now) (as_nanos c.args.draw)
-    (true_unless _ (λ no. let f = sym c.in-Err.is ∙ c.dial.ensures.none no in cc)) (named g c) c.in-Err.ensures.err refl)
+    (true_unless _ (λ no. let f = sym c.in-Err.is ∙ c.dial.ensures.none no in cc)) c.in-Err.ensures.err refl)
