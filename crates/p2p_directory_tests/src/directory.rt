@@ -20,6 +20,7 @@ use std::time::Duration;
 mod blocks;
 mod dialling;
 mod peer_sets;
+mod windows;
 
 fn now() -> Duration {
     Duration::from_secs(100)
