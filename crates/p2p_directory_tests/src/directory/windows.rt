@@ -236,15 +236,13 @@ impl Tried {
     }
 }
 
-// Four sets of four, the info of peer 5 known, and peers 1 and 2 blocked.
+// Four sets of four, the info of peer 5 known, and nobody blocked.
 fn prepared(alloc: Global) -> Result<Directory<TestKey>, AllocError> {
     let mut directory = directory_with(alloc, NonZeroUsize::MIN.saturating_add(3), 1)?;
     for change in CHANGES.iter().take(4) {
         track(alloc, &mut directory, change.index, change.primary, &[])?;
     }
     learn(alloc, &mut directory, 5, 1_000, 8005)?;
-    directory.block(&TestKey(1), seconds(120))?;
-    directory.block(&TestKey(2), seconds(110))?;
     Ok(directory)
 }
 
@@ -275,8 +273,8 @@ fn assert_same_sets(
 
 // So are the blocks and what is told of peers.
 fn assert_same_peers(rt: &impl Abort, directory: &Directory<TestKey>) -> Result<(), AllocError> {
-    assert!(rt; are_keys(directory.blocked_peers(now())?.as_slice(), &[1, 2]));
-    assert_eq!(rt; directory.next_unblock(), Some(seconds(170)));
+    assert!(rt; directory.blocked_peers(now())?.is_empty());
+    assert_eq!(rt; directory.next_unblock(), None);
     assert_eq!(rt; directory.latest_set_index(), Some(4));
     assert_eq!(rt; directory.tracked(), 5);
     assert_eq!(rt; directory.status(&TestKey(5)), Some(Status::Inert));
