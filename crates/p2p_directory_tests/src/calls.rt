@@ -81,11 +81,12 @@ fn has_its_persistent_peers(rt: &impl Abort, directory: &mut Directory<TestKey>)
     assert_status(rt, directory, 2, None);
     assert_eq!(rt; directory.latest_set_index(), None);
     match directory.listen(&TestKey(9), seconds(100), Duration::ZERO) {
-        Some(reservation) => {
+        Ok(Some(reservation)) => {
             directory.release(reservation);
             panic!(rt; "the local node is granted no reservation")
         }
-        None => {}
+        Ok(None) => {}
+        Err(AllocError) => panic!(rt; "a refused listen takes no memory"),
     }
 }
 
@@ -100,14 +101,14 @@ fn a_directory_begins_with_its_persistent_peers(rt: HostRuntime) -> Result<(), F
 // Whether the peer is listened for, and released after a look at the reservation.
 fn listens(rt: &impl Abort, directory: &mut Directory<TestKey>) {
     match directory.listen(&TestKey(1), seconds(100), Duration::ZERO) {
-        Some(reservation) => {
+        Ok(Some(reservation)) => {
             assert!(rt; matches!(reservation.metadata(), Metadata::Listener(TestKey(1))));
             assert_eq!(rt; *reservation.metadata().public_key(), TestKey(1));
             assert_status(rt, directory, 1, Some(Status::Reserved));
             directory.release(reservation);
             assert_status(rt, directory, 1, Some(Status::Inert));
         }
-        None => panic!(rt; "a tracked peer is granted a reservation"),
+        Ok(None) | Err(AllocError) => panic!(rt; "a tracked peer is granted a reservation"),
     }
 }
 
@@ -176,7 +177,7 @@ fn tears_down_who_is_in_no_set(
 ) -> Result<(), AllocError> {
     assert_torn(rt, alloc, directory, 0, (&[1], &[]), &[])?;
     let next = tracked(alloc, &[2], &[])?;
-    match directory.listen(&TestKey(1), seconds(100), Duration::ZERO) {
+    match directory.listen(&TestKey(1), seconds(100), Duration::ZERO)? {
         Some(reservation) => {
             let torn = directory.track(1, next);
             assert_status(rt, directory, 1, Some(Status::Reserved));
@@ -243,7 +244,7 @@ fn demotes_who_is_reserved(
     let demotes = tracked(alloc, &[2], &[1])?;
     let keeps = tracked(alloc, &[2], &[])?;
     let drops = tracked(alloc, &[], &[])?;
-    match directory.listen(&TestKey(1), seconds(100), Duration::ZERO) {
+    match directory.listen(&TestKey(1), seconds(100), Duration::ZERO)? {
         Some(reservation) => {
             let first = directory.track(1, demotes);
             let second = directory.track(2, keeps);
@@ -278,7 +279,7 @@ fn a_reservation_is_kept(rt: HostRuntime) -> Result<(), Fail> {
     let torn = directory.track(0, TrackedPeers::new(primary, secondary))?;
     assert!(rt; are_peers(torn, &[]));
     let peers = tracked(alloc, &[4], &[])?;
-    let reservation = directory.listen(&TestKey(1), seconds(100), Duration::ZERO);
+    let reservation = directory.listen(&TestKey(1), seconds(100), Duration::ZERO)?;
     let status = directory.status(&TestKey(1));
     if let Some(reservation) = reservation {
         let torn = directory.track(1, peers);
@@ -338,7 +339,7 @@ fn keeps_each_bootstrapper(
     assert_torn(rt, alloc, directory, 1, (&[], &[]), &[])?;
     assert_status(rt, directory, 1, Some(Status::Inert));
     assert_status(rt, directory, 2, Some(Status::Inert));
-    match directory.listen(&TestKey(1), seconds(100), Duration::ZERO) {
+    match directory.listen(&TestKey(1), seconds(100), Duration::ZERO)? {
         Some(reservation) => {
             directory.release(reservation);
             Ok(())

@@ -18,6 +18,7 @@ use std::test::Fail;
 use std::time::Duration;
 
 mod blocks;
+mod cooldowns;
 mod dialling;
 mod peer_sets;
 mod windows;
@@ -210,7 +211,7 @@ fn connects_and_releases(
     directory: &mut Directory<TestKey>,
 ) -> Result<(), AllocError> {
     tracks_peer_one_twice(rt, alloc, directory)?;
-    if let Some(reservation) = directory.listen(&TestKey(1), now(), Duration::ZERO) {
+    if let Some(reservation) = directory.listen(&TestKey(1), now(), Duration::ZERO)? {
         directory.connect(&TestKey(1), false);
         let outcome = asks_not_for_the_connected(rt, alloc, directory);
         directory.release(reservation);
@@ -238,7 +239,7 @@ fn tracks_meanwhile(
     track(alloc, directory, 0, &[1], &[])?;
     let next = tracked(alloc, &[1, 2], &[])?;
     let infos = infos_of(alloc, &[(1, 1000, 8001)])?;
-    if let Some(reservation) = directory.listen(&TestKey(1), now(), Duration::ZERO) {
+    if let Some(reservation) = directory.listen(&TestKey(1), now(), Duration::ZERO)? {
         let torn = directory.track(1, next);
         directory.update_peers(infos);
         directory.connect(&TestKey(1), true);
@@ -270,7 +271,7 @@ fn told_after_each(
     let both = infos_of(alloc, &[(1, 1000, 8001), (1, 1000, 8002)])?;
     let older = infos_of(alloc, &[(1, 999, 8003)])?;
     let newer = infos_of(alloc, &[(1, 1002, 8005), (1, 1001, 8004)])?;
-    if let Some(reservation) = directory.listen(&TestKey(1), now(), Duration::ZERO) {
+    if let Some(reservation) = directory.listen(&TestKey(1), now(), Duration::ZERO)? {
         directory.connect(&TestKey(1), false);
         directory.update_peers(both);
         let first = told_of(directory, 1);

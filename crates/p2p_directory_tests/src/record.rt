@@ -598,3 +598,17 @@ fn a_name_is_shared(rt: HostRuntime) -> Result<(), Fail> {
     );
     Ok(())
 }
+
+#[test]
+fn a_cooldown_is_told_and_set(rt: HostRuntime) -> Result<(), Fail> {
+    let mut record = Record::<TestKey>::unknown();
+    assert_eq!(rt; record.cooldown(), (Duration::ZERO, Duration::ZERO));
+    let answer = record.reserve(seconds(100), seconds(4), seconds(10));
+    assert_eq!(rt; answer, ReserveResult::Reserved);
+    assert_eq!(rt; record.cooldown(), (seconds(110), seconds(114)));
+    record.release();
+    record.set_cooldown(seconds(7), seconds(8));
+    assert_eq!(rt; record.cooldown(), (seconds(7), seconds(8)));
+    assert_eq!(rt; record.status(), Status::Inert);
+    Ok(())
+}

@@ -66,8 +66,8 @@ static REPLIES_BY_THE_ACCEPTED_CALLS: [(Given, Told); 12] = [
     (Given::Status(1), Told::Status(None)),
     (Given::LatestSetIndex, Told::LatestSetIndex(Some(1))),
     (Given::Track(2, &[1], &[]), Told::Track(Some(&[]))),
-    (Given::Listen(1, 105), Told::Listen(true)),
-    (Given::Listen(1, 115), Told::Listen(false)),
+    (Given::Listen(1, 105), Told::Listen(false)),
+    (Given::Listen(1, 115), Told::Listen(true)),
 ];
 
 #[test]

@@ -142,7 +142,7 @@ corner3 :
 unfolding History.life is_valid
 corner3 = (refl, refl, refl, refl, refl, refl, refl, refl, refl, refl, refl, refl)
 
--- the ends of a life
+-- C4 the ends of a life
 abbrev c4_a : List (Event ℕ ℕ)
 c4_a = at (update 1 1000 ∷ track 0 (1 ∷ []) ∷ [])
 

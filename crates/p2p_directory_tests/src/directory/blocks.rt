@@ -19,11 +19,11 @@ fn are_blocked(
 // Listens for and releases the peer; whether it was granted.
 fn is_granted(directory: &mut Directory<TestKey>, key: u64, now: Duration) -> bool {
     match directory.listen(&TestKey(key), now, Duration::ZERO) {
-        Some(reservation) => {
+        Ok(Some(reservation)) => {
             directory.release(reservation);
             true
         }
-        None => false,
+        Ok(None) | Err(AllocError) => false,
     }
 }
 
@@ -222,7 +222,7 @@ fn blocks_the_connected(
 ) -> Result<(), AllocError> {
     track(alloc, directory, 0, &[1], &[2])?;
     let next = tracked(alloc, &[2], &[])?;
-    match directory.listen(&TestKey(1), now(), Duration::ZERO) {
+    match directory.listen(&TestKey(1), now(), Duration::ZERO)? {
         Some(reservation) => {
             let eligible = directory.eligible(&TestKey(1), now());
             let acceptable = directory.acceptable(&TestKey(1), now());

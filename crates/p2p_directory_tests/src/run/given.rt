@@ -31,6 +31,7 @@ pub enum Given {
     Update(&'static [(u64, u64, u16)]),
     Block(u64, u64),
     UnblockExpired(u64),
+    ForgetCooled(u64),
     NextUnblock,
     BlockedPeers(u64),
     Status(u64),
@@ -91,6 +92,7 @@ impl Given {
     fn without_lists(self) -> Command<TestKey> {
         match self {
             Given::Dial(peer, now) => Given::DialDrawn(peer, now, 0).of_one_peer(),
+            Given::ForgetCooled(now) => Command::ForgetCooled(seconds(now)),
             Given::UnblockExpired(now) => Command::UnblockExpired(seconds(now)),
             Given::NextUnblock => Command::NextUnblock,
             Given::BlockedPeers(now) => Command::BlockedPeers(seconds(now)),

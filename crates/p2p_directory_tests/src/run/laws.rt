@@ -69,7 +69,7 @@ fn the_order_of_infos_is_free(rt: HostRuntime) -> Result<(), Fail> {
 
 static PEERS: [(u64, u16); 2] = [(3, 8003), (4, 8004)];
 
-static COOLDOWN_BESIDE_OTHERS: [(Given, Told); 19] = [
+static COOLDOWN_BESIDE_OTHERS: [(Given, Told); 20] = [
     (Given::Track(0, &[1], &[]), Told::Track(Some(&[]))),
     (Given::Listen(3, 100), Told::Listen(true)),
     (Given::Listen(1, 100), Told::Listen(true)),
@@ -89,7 +89,8 @@ static COOLDOWN_BESIDE_OTHERS: [(Given, Told); 19] = [
     (Given::Release(3), Told::Release),
     (Given::Track(2, &[1], &[]), Told::Track(Some(&[]))),
     (Given::UnblockExpired(160), Told::UnblockExpired(true)),
-    (Given::Listen(1, 111), Told::Listen(true)),
+    (Given::ForgetCooled(119), Told::ForgetCooled(0)),
+    (Given::Listen(1, 120), Told::Listen(true)),
     (Given::Listen(4, 160), Told::Listen(true)),
     (Given::Status(1), Told::Status(Some(Status::Reserved))),
 ];

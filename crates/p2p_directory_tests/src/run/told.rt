@@ -26,6 +26,7 @@ pub enum Told {
     UpdatePeers,
     Block(bool),
     UnblockExpired(bool),
+    ForgetCooled(usize),
     NextUnblock(Option<Moment>),
     BlockedPeers(&'static [u64]),
     Status(Option<Status>),
@@ -63,6 +64,7 @@ impl Told {
             (Told::Release, Reply::Release) => true,
             (Told::UpdatePeers, Reply::UpdatePeers) => true,
             (Told::Block(told), Reply::Block(taken)) => told == *taken,
+            (Told::ForgetCooled(told), Reply::ForgetCooled(count)) => told == *count,
             (Told::UnblockExpired(told), Reply::UnblockExpired(any)) => told == *any,
             (Told::NextUnblock(told), Reply::NextUnblock(moment)) => is_moment(*moment, told),
             (Told::BlockedPeers(told), Reply::BlockedPeers(peers)) => {
