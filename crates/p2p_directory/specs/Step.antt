@@ -9,7 +9,8 @@ use Rattle.p2p_directory.specs.Calls.{Setup, Call, SetAt, Direction, Grant, Cool
 use Rattle.p2p_directory.specs.declared.record.Status.TheVariants.{Inert, Reserved, Active}
 use Rattle.p2p_directory.specs.Calls.Event.{Tracked, Granted, Connected, Released, Updated, Blocked}
 use Rattle.p2p_directory.specs.Calls.Event.{Expired, Forgot}
-use Rattle.p2p_directory.specs.History.{last_of, same, is_own, is_present_with, is_dial_at, cooldown_of}
+use Rattle.p2p_directory.specs.History.{last_of, same, is_own, is_present_with, is_dial_at}
+use Rattle.p2p_directory.specs.History.{cooldown_of}
 use Rattle.p2p_directory.specs.World.{Known, Peer, State, World, event_in}
 
 module _ {C S : Type 0} (s : Setup C S) where

@@ -2,10 +2,10 @@
 //! persistent, reserved or connected.
 
 ghost use Rattle.std.specs.Prelude.{ℕ, ◌≡◌, ◌<◌, ◌≤◌, ◌^◌, ◌+◌, ◌-◌, [], false, true, Some, None};
-ghost use Rattle.std.specs.Prelude.{IfSome, IfNone, IfOk, IsOk, OnOk, OnErr, is_some, length};
-ghost use Rattle.std.specs.Prelude.{map, not, slice_get};
+ghost use Rattle.std.specs.Prelude.{IfSome, IfNone, IfOk, IsOk, OnErr, is_some, length, map, not};
+ghost use Rattle.std.specs.Prelude.{slice_get};
 ghost use Rattle.std.specs.List.Sorted.{IsStrictlySortedBy};
-ghost use Rattle.std.specs.Option.{option_map, option_map_or, IsSomeAnd};
+ghost use Rattle.std.specs.Option.{option_map, IsSomeAnd};
 ghost use Rattle.std.specs.BTreeMap.{is_at};
 ghost use Rattle.std.specs.Map.{keys_of};
 ghost use Rattle.std.specs.Duration.{as_nanos};
@@ -17,7 +17,6 @@ ghost use Rattle.p2p_directory.specs.PeerSets.{has_peers};
 ghost use Rattle.p2p_directory.specs.Private.Window.{plain_set};
 
 use crate::directory::blocked::blocked_at;
-use crate::directory::cooled::forget_each;
 use crate::directory::infos::{epoch_millis, shared_for};
 use crate::directory::records::Records;
 use crate::directory::track::{add, drop_oldest};
@@ -25,7 +24,7 @@ use crate::directory::update::update_each;
 use crate::kept::blocks::Blocks;
 use crate::kept::cooldowns::Cooldowns;
 use crate::kept::{PeerSet, Window};
-use crate::record::{Dialable, Status, next_moments};
+use crate::record::{Dialable, Status};
 use p2p_discovery::codec::PublicKey;
 use p2p_discovery::discovery::{BitVec, Info};
 use p2p_discovery::sets::OrderedSet;
@@ -37,6 +36,7 @@ use std::time::Duration;
 
 pub(crate) mod blocked;
 mod cooled;
+mod grants;
 mod infos;
 pub(crate) mod records;
 mod track;
@@ -135,8 +135,8 @@ impl<P: PublicKey> Reservation<P> {
 }
 
 /// The directory of peers. A contract sees its configuration, its retained sets, the oldest first,
-/// and for each key what is kept of the peer, its record or nothing, until when it is blocked, if it
-/// is, and the moments of its last grant, if there was one and it isn't forgotten.
+/// and for each key what is kept of the peer, its record or nothing, until when it is blocked, if
+/// it is, and the moments of its last grant, if there was one and it isn't forgotten.
 #[derive(Drop)]
 pub struct Directory<C: PublicKey> {
     config: Config,
@@ -179,14 +179,13 @@ impl<C: PublicKey> Directory<C> {
     ghost use Rattle.p2p_directory.specs.Directory.{may_listen_in, may_dial_in, ingress_in};
     ghost use Rattle.p2p_directory.specs.Directory.{peer_set_in, is_named_of, AreAllOf, IsUpdateOf};
     ghost use Rattle.p2p_directory.specs.Directory.{is_dialable_in, AreDialableIn, wants_in};
-    ghost use Rattle.p2p_directory.specs.Directory.{cooldown_of, IsNumberCooledIn, ForgetsCooled};
+    ghost use Rattle.p2p_directory.specs.Directory.{cooldown_of};
     ghost use Rattle.p2p_directory.specs.World.{reservable_from, dialable_from};
     ghost use Rattle.p2p_directory.specs.Lists.{Lists, IsLeastOf, Somebody};
     ghost use Rattle.p2p_directory.specs.Blocks.{IsAnyUntil};
     ghost use Rattle.p2p_directory.specs.Laws.Dials.{IsBefore};
     ghost use Rattle.p2p_directory.specs.Moments.{cap};
     ghost use Rattle.p2p_directory.specs.Record.{is_eligible, is_acceptable, is_deletable};
-    ghost use Rattle.p2p_directory.specs.Record.{may_come};
     ghost use Rattle.p2p_directory.specs.declared.record.Role.TheVariants as Role;
     ghost use Rattle.p2p_directory.specs.PeerSets.{has_peers, set_with, set_count};
 
@@ -271,13 +270,8 @@ impl<C: PublicKey> Directory<C> {
         let limit = self.config.dial_fail_limit;
         let set = PeerSet::new(alloc, index, peers.primary, peers.secondary)?;
         let torn = Vec::with_capacity(alloc, self.sets.leaving_count(max_sets)?)?;
-        add(
-            &mut self.sets,
-            &mut self.records,
-            &self.cooldowns,
-            set,
-            limit,
-        )?;
+        let cooldowns = &self.cooldowns;
+        add(&mut self.sets, &mut self.records, cooldowns, set, limit)?;
         Ok(Some(drop_oldest(&mut self.sets, &mut self.records, max_sets, torn)))
     }
 
@@ -384,23 +378,6 @@ impl<C: PublicKey> Directory<C> {
         Ok(Some(Reservation {
             metadata: Metadata::Listener(*peer),
         }))
-    }
-
-    /// Forgets the moments of each peer whose dial moment is at or before `now`, a time since the
-    /// epoch, and answers how many there were: such a peer is reservable and dialable from the
-    /// epoch on, as by its record where it has one. All else stays. Takes no memory.
-    ///
-    /// # Cost
-    ///
-    /// For each such peer one search among the kept moments, and one among the records.
-    pub fn forget_cooled(&mut self, now: Duration) -> usize
-        ensures answer { IsNumberCooledIn C.cmp self.old (as_nanos now) result }
-        ensures forgotten { ForgetsCooled C.cmp self.old self.new (as_nanos now) }
-        ensures busy { StayBusy C.cmp self.old self.new }
-        ensures reserved { StayReserved C.cmp self.old self.new }
-    {
-        let _kept = self.cooldowns.len();
-        forget_each(&mut self.records, &mut self.cooldowns, now)
     }
 
     /// Takes a reservation back: its peer is inert, a dialler's counts a failure at the address
@@ -818,51 +795,6 @@ impl<C: PublicKey> Directory<C> {
     // The allocator of its collections.
     pub(crate) fn allocator(&self) -> Global {
         self.sets.allocator()
-    }
-
-    // The ingress that a dial of the peer at the moment `now` is granted for.
-    fn dialled(&self, peer: &C, now: Duration) -> Result<Option<Ingress>, AllocError>
-        ensures none { may_dial_in C.cmp self.now (as_nanos now) peer.now ≡ false →
-            result ≡ Ok None }
-        ensures answer { IfOk result (λ ingress. is_some ingress ≡
-            may_dial_in C.cmp self.now (as_nanos now) peer.now) }
-        ensures ingress { IfOk result (λ ingress. IfSome ingress (λ a.
-            ingress_in C.cmp self.now peer.now ≡ Some a)) }
-    {
-        if self.is_blocked(peer, now) {
-            return Ok(None);
-        }
-        self.records.dialled(peer, now, &self.config)
-    }
-
-    // Reserves a peer that may come at the moment `now`. The room for its moments is taken before
-    // its record changes.
-    fn grant(&mut self, peer: &C, now: Duration, draw: Duration) -> Result<(), AllocError>
-        requires { option_map_or (may_come (as_nanos now)) (record_of C.cmp self.old peer.now) false
-            ≡ true }
-        ensures err { OnErr result (self.new ≡ self.old) }
-        ensures granted { OnOk result (Reserves C.cmp self.old self.new peer.now
-            (as_nanos now) (as_nanos draw)) }
-        ensures is_busy { OnOk result (IsBusy C.cmp self.new peer.now) }
-        ensures is_reserved { OnOk result (IsReserved C.cmp self.new peer.now) }
-        ensures busy { StayBusy C.cmp self.old self.new }
-        ensures reserved { StayReserved C.cmp self.old self.new }
-    {
-        let cooldown = self.config.peer_connection_cooldown;
-        self.cooldowns
-            .put(*peer, next_moments(now, draw, cooldown))?;
-        self.records.reserve(peer, now, draw, cooldown);
-        Ok(())
-    }
-
-    // Whether the peer is blocked at a moment.
-    fn is_blocked(&self, peer: &C, now: Duration) -> bool
-        ensures { result ≡ is_blocked_in C.cmp self.now (as_nanos now) peer.now }
-    {
-        match self.blocks.get(peer) {
-            Some(until) => now.as_nanos() < until.as_nanos(),
-            None => false,
-        }
     }
 }
 

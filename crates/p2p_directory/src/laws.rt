@@ -107,9 +107,9 @@ pub fn each_call_keeps_others<C: PublicKey>()
 {}
 
 /// Call by call, on a directory: what `dial` and `listen`, `connect`, `release` and `block` do to
-/// one peer leaves the retained sets as they are, and of each other peer what is kept, until when it
-/// is blocked, and the moments of its cooldown. Infos that are offered change what is kept of a peer by those of its own key
-/// alone, and nothing else.
+/// one peer leaves the retained sets as they are, and of each other peer what is kept, until when
+/// it is blocked, and the moments of its cooldown. Infos that are offered change what is kept of a
+/// peer by those of its own key alone, and nothing else.
 pub fn effects_keep_others<C: PublicKey>()
     ensures reserves { (old new : DirectoryView C C.Signature) (p : C) (now draw : ℕ) →
         Reserves C.cmp old new p now draw → LeavesOthers C.cmp old new p }
@@ -170,8 +170,8 @@ pub fn grants_are_spaced<C: PublicKey>()
 {}
 
 /// Where the moments of the calls never go back, two consecutive grants of a peer are at least the
-/// cooldown apart, at most the greatest moment, whatever was forgotten and also where its record was
-/// deleted and made again in between.
+/// cooldown apart, at most the greatest moment, whatever was forgotten and also where its record
+/// was deleted and made again in between.
 pub fn cooldown_lasts<C: PublicKey>()
     ensures { (s : Setup C C.Signature) → s.cmp ≡ C.cmp →
         (p : C) (cs : List (Call C C.Signature)) (now : ℕ) → NeverGoBack s now cs →

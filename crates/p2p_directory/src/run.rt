@@ -42,10 +42,10 @@ pub(crate) mod slots;
 ///
 /// Room for all replies and all reservations is taken before the first command, so only these may
 /// be replied `OutOfMemory`: a `Track` whose set and a `Block` that would be taken, a `Dial` and a
-/// `Listen` that would be granted, an `Info` of a peer whose info may be told, an `Infos` where an info is
-/// shared, a `GetRandomBitVec` of a place that there is, a `GetPeerSet` of a set with a peer,
-/// `LatestUpdate` and `All` where some retained set has a peer, and `BlockedPeers` and `Dialable`
-/// where somebody is listed.
+/// `Listen` that would be granted, an `Info` of a peer whose info may be told, an `Infos` where an
+/// info is shared, a `GetRandomBitVec` of a place that there is, a `GetPeerSet` of a set with a
+/// peer, `LatestUpdate` and `All` where some retained set has a peer, and `BlockedPeers` and
+/// `Dialable` where somebody is listed.
 ///
 /// The replies keep these rules. Moments are durations since the epoch, exact to the nanosecond; a
 /// moment and a duration make at most the greatest `Duration`.

@@ -75,8 +75,8 @@ module _ {C S : Type 0} (s : Setup C S) where
   IsAfter (Some grant) ms = AreOver s grant.0 ms
 
   -- with blocks of p until these moments: as long as the moments of the commands that may grant,
-  -- block, end a block or forget never go back, each grant of p comes when every block of p that was
-  -- taken before it is over
+  -- block, end a block or forget never go back, each grant of p comes when every block of p that
+  -- was taken before it is over
   abbrev pub KeepBlocks : C → ℕ → List ℕ → List (Call C S) → List (Reply C S) → Type 0
   KeepBlocks p now ms (c ∷ cs) (r ∷ rs) = (now ≤ moment_or s now c) →
       IsAfter (granted_by p c r) ms

@@ -10,14 +10,37 @@ ghost use Rattle.p2p_directory.specs.Blocks.{is_later};
 ghost use Rattle.p2p_directory.specs.Cooldowns.{cooldown_in, dial_moments, unless_cooled};
 ghost use Rattle.p2p_directory.specs.Private.Counts.{AreCooled};
 
+use crate::directory::Directory;
 use crate::directory::records::Records;
 use crate::kept::cooldowns::Cooldowns;
 use p2p_discovery::codec::PublicKey;
 use std::time::Duration;
 
-/// Forgets the moments of each peer whose dial moment is at or before `now`, in its record too, and
-/// answers how many there were.
-pub fn forget_each<C: PublicKey>(
+impl<C: PublicKey> Directory<C> {
+    ghost use Rattle.p2p_directory.specs.Directory.{StayBusy, StayReserved};
+    ghost use Rattle.p2p_directory.specs.Directory.{IsNumberCooledIn, ForgetsCooled};
+
+    /// Forgets the moments of each peer whose dial moment is at or before `now`, a time since the
+    /// epoch, and answers how many there were: such a peer is reservable and dialable from the
+    /// epoch on, as by its record where it has one. All else stays. Takes no memory.
+    ///
+    /// # Cost
+    ///
+    /// For each such peer one search among the kept moments, and one among the records.
+    pub fn forget_cooled(&mut self, now: Duration) -> usize
+        ensures answer { IsNumberCooledIn C.cmp self.old (as_nanos now) result }
+        ensures forgotten { ForgetsCooled C.cmp self.old self.new (as_nanos now) }
+        ensures busy { StayBusy C.cmp self.old self.new }
+        ensures reserved { StayReserved C.cmp self.old self.new }
+    {
+        let _kept = self.cooldowns.len();
+        forget_each(&mut self.records, &mut self.cooldowns, now)
+    }
+}
+
+// Forgets the moments of each peer whose dial moment is at or before `now`, in its record too, and
+// answers how many there were.
+fn forget_each<C: PublicKey>(
     records: &mut Records<C>,
     cooldowns: &mut Cooldowns<C>,
     now: Duration,

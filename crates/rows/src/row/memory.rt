@@ -4,7 +4,7 @@ use crate::row::run_rows;
 use crate::row::setting::{config, own_info};
 use crate::row::tests::ROWS;
 use low_memory::{LowMemory, STEP};
-use p2p_directory::directory::{Directory, Reservation, TrackedPeers};
+use p2p_directory::directory::{Directory, TrackedPeers};
 use p2p_directory::record::Status;
 use p2p_discovery::codec::TestKey;
 use p2p_discovery::discovery::Info;
@@ -377,12 +377,10 @@ fn is_nothing_told(directory: &Directory<TestKey>) -> bool {
     info && bits
 }
 
-/// Whether no reservation was granted; one that was is released.
-fn is_none_or_released(
-    directory: &mut Directory<TestKey>,
-    answer: Result<Option<Reservation<TestKey>>, AllocError>,
-) -> bool {
-    match answer {
+/// Whether a listen for peer 1 is refused before its cooldown is over; one that is granted is
+/// released.
+fn is_refused(directory: &mut Directory<TestKey>) -> bool {
+    match directory.listen(&TestKey(1), Duration::from_secs(109), Duration::ZERO) {
         Ok(Some(reservation)) => {
             directory.release(reservation);
             false
@@ -410,13 +408,12 @@ fn answers_without_memory(
     memory.lift();
     let held = holds(alloc, memory, directory)?;
     memory.limit(alloc, 0)?;
-    let refused = directory.listen(&TestKey(1), Duration::from_secs(109), Duration::ZERO);
-    let is_refused = is_none_or_released(directory, refused);
+    let refused = is_refused(directory);
     let count = directory.tracked();
     let second = answers(directory);
     let forgotten = directory.forget_cooled(Duration::from_secs(110));
     memory.lift();
-    assert!(rt; none && is_refused);
+    assert!(rt; none && refused);
     assert_eq!(rt; forgotten, 1);
     assert_eq!(rt; held, Some((Some(Status::Reserved), Some(7))));
     assert_eq!(rt; count, 4);

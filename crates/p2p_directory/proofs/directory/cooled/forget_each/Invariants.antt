@@ -14,9 +14,12 @@ use Rattle.p2p_directory.proofs.directory.cooled.forget_each.Given as goal
 abbrev pub invariant-loop-peer : goal.invariant-loop-peer
 invariant-loop-peer g l = record {
   sorted : IsStrictlySortedBy g.C.Ord.cmp (keys_of l.cooldowns);
-  left : (q : g.row.C.Denot) → unless_cooled (as_nanos l.now) (cooldown_in g.C.Ord.cmp l.cooldowns q) ≡ unless_cooled (as_nanos l.now) (cooldown_in g.C.Ord.cmp l.initial.cooldowns q);
-  records : (q : g.row.C.Denot) → record_at g.C.Ord.cmp l.records q ≡ option_map (with_cooldown (cooldown_in g.C.Ord.cmp l.cooldowns q)) (record_at g.C.Ord.cmp l.initial.records q);
-  count : l.count + count_by (λ e. not (is_later (as_nanos l.now) e)) (dial_moments l.cooldowns) ≡ count_by (λ e. not (is_later (as_nanos l.now) e)) (dial_moments l.initial.cooldowns);
+  left : (q : g.row.C.Denot) → unless_cooled (as_nanos l.now) (cooldown_in g.C.Ord.cmp l.cooldowns q)
+      ≡ unless_cooled (as_nanos l.now) (cooldown_in g.C.Ord.cmp l.initial.cooldowns q);
+  records : (q : g.row.C.Denot) → record_at g.C.Ord.cmp l.records q
+      ≡ option_map (with_cooldown (cooldown_in g.C.Ord.cmp l.cooldowns q)) (record_at g.C.Ord.cmp l.initial.records q);
+  count : l.count + count_by (λ e. not (is_later (as_nanos l.now) e)) (dial_moments l.cooldowns)
+      ≡ count_by (λ e. not (is_later (as_nanos l.now) e)) (dial_moments l.initial.cooldowns);
 }
 
 abbrev pub decreases-loop-peer : goal.decreases-loop-peer

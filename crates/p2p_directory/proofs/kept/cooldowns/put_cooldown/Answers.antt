@@ -17,11 +17,20 @@ returns-then-as_nanos-clause-ends g c =
     let new = c.insert-2.new.self.entries in
     let before = as_nanos c.in-Ok-Some.before.1 in
     let m = as_nanos c.args.cooldown.1 in
-    let had = dial_seen cmp (cooldowns_view old) c.args.key ∙ ap (option_map (λ (k : Cooldown). k.dial_at)) (cooldown_seen cmp old c.args.key ∙ ap (option_map cooldown_view) (sym c.in-Ok-Some.ensures.old ∙ c.in-Ok-Some.field-0-is)) in
-    let other : nat_eq before m ≡ false = grind (arith, nat_tests, c.if-as_nanos.true, c.as_nanos-in-Ok-Some.ensures, c.as_nanos-in-Ok-Some-2.ensures) in
+    let had = dial_seen cmp (cooldowns_view old) c.args.key
+    ∙ ap (option_map (λ (k : Cooldown). k.dial_at)) (cooldown_seen cmp old c.args.key
+    ∙ ap (option_map cooldown_view) (sym c.in-Ok-Some.ensures.old ∙ c.in-Ok-Some.field-0-is)) in
+    let other : nat_eq before m ≡ false = grind (
+      arith,
+      nat_tests,
+      c.if-as_nanos.true,
+      c.as_nanos-in-Ok-Some.ensures,
+      c.as_nanos-in-Ok-Some-2.ensures,
+    ) in
     let more = rw c.as_nanos.ensures at c.in_default.ensures.updates.0 in
     let less = rw c.as_nanos-then-as_nanos.ensures at c.remove.ensures.updates.0 in
-    ends_instead g.met.C.PublicKey.exact c.args.ends.now.keys c.remove.new.self.keys (dial_moments (cooldowns_view old)) (dial_moments (cooldowns_view new)) c.args.key m before c.requires
+    ends_instead g.met.C.PublicKey.exact c.args.ends.now.keys c.remove.new.self.keys (dial_moments (cooldowns_view old))
+    (dial_moments (cooldowns_view new)) c.args.key m before c.requires
     (λ e. less e ∙ ap (cond (is_at (end_cmp cmp (before, c.args.key)) e) false) (more e))
     (dial_put cmp old new c.args.key c.args.cooldown c.in-Ok-Some.ensures.updates.0)
     had other
@@ -31,9 +40,13 @@ returns-else-as_nanos-clause-ends g c =
     let cmp = g.C.Ord.cmp in
     let old = c.args.moments.now.entries in
     let new = c.insert-2.new.self.entries in
-    let had = dial_seen cmp (cooldowns_view old) c.args.key ∙ ap (option_map (λ (k : Cooldown). k.dial_at)) (cooldown_seen cmp old c.args.key ∙ ap (option_map cooldown_view) (sym c.in-Ok-Some.ensures.old ∙ c.in-Ok-Some.field-0-is)) in
-    let same : as_nanos c.in-Ok-Some.before.1 ≡ as_nanos c.args.cooldown.1 = sym c.as_nanos-in-Ok-Some.ensures ∙ c.if-as_nanos.false ∙ c.as_nanos-in-Ok-Some-2.ensures in
-    ends_more g.met.C.PublicKey.exact c.args.ends.now.keys c.insert.new.self.keys (dial_moments (cooldowns_view old)) (dial_moments (cooldowns_view new)) c.args.key (as_nanos c.args.cooldown.1) c.requires
+    let had = dial_seen cmp (cooldowns_view old) c.args.key
+    ∙ ap (option_map (λ (k : Cooldown). k.dial_at)) (cooldown_seen cmp old c.args.key
+    ∙ ap (option_map cooldown_view) (sym c.in-Ok-Some.ensures.old ∙ c.in-Ok-Some.field-0-is)) in
+    let same : as_nanos c.in-Ok-Some.before.1 ≡ as_nanos c.args.cooldown.1 = sym c.as_nanos-in-Ok-Some.ensures
+    ∙ c.if-as_nanos.false ∙ c.as_nanos-in-Ok-Some-2.ensures in
+    ends_more g.met.C.PublicKey.exact c.args.ends.now.keys c.insert.new.self.keys (dial_moments (cooldowns_view old))
+    (dial_moments (cooldowns_view new)) c.args.key (as_nanos c.args.cooldown.1) c.requires
     (rw c.as_nanos.ensures at c.in_default.ensures.updates.0)
     (dial_put cmp old new c.args.key c.args.cooldown c.in-Ok-Some.ensures.updates.0)
     (same_or_other (had ∙ ap Some same))
@@ -43,8 +56,11 @@ returns-in-Ok-None-clause-ends g c =
     let cmp = g.C.Ord.cmp in
     let old = c.args.moments.now.entries in
     let new = c.insert-2.new.self.entries in
-    let had = dial_seen cmp (cooldowns_view old) c.args.key ∙ ap (option_map (λ (k : Cooldown). k.dial_at)) (cooldown_seen cmp old c.args.key ∙ ap (option_map cooldown_view) (sym c.in-Ok-None.ensures.old ∙ c.in-Ok-None.field-0-is)) in
-    ends_more g.met.C.PublicKey.exact c.args.ends.now.keys c.insert.new.self.keys (dial_moments (cooldowns_view old)) (dial_moments (cooldowns_view new)) c.args.key (as_nanos c.args.cooldown.1) c.requires
+    let had = dial_seen cmp (cooldowns_view old) c.args.key
+    ∙ ap (option_map (λ (k : Cooldown). k.dial_at)) (cooldown_seen cmp old c.args.key
+    ∙ ap (option_map cooldown_view) (sym c.in-Ok-None.ensures.old ∙ c.in-Ok-None.field-0-is)) in
+    ends_more g.met.C.PublicKey.exact c.args.ends.now.keys c.insert.new.self.keys (dial_moments (cooldowns_view old))
+    (dial_moments (cooldowns_view new)) c.args.key (as_nanos c.args.cooldown.1) c.requires
     (rw c.as_nanos.ensures at c.in_default.ensures.updates.0)
     (dial_put cmp old new c.args.key c.args.cooldown c.in-Ok-None.ensures.updates.0)
     (same_or_none had)
@@ -54,21 +70,27 @@ returns-in-Err-insert-clause-ends g c =
     let cmp = g.C.Ord.cmp in
     let old = c.args.moments.now.entries in
     let m = as_nanos c.args.cooldown.1 in
-    let had = dial_seen cmp (cooldowns_view old) c.args.key ∙ ap (option_map (λ (k : Cooldown). k.dial_at)) (cooldown_seen cmp old c.args.key ∙ ap (option_map cooldown_view) c.in-Err-insert.ensures.absent) in
+    let had = dial_seen cmp (cooldowns_view old) c.args.key
+    ∙ ap (option_map (λ (k : Cooldown). k.dial_at)) (cooldown_seen cmp old c.args.key
+    ∙ ap (option_map cooldown_view) c.in-Err-insert.ensures.absent) in
     let more = rw c.as_nanos.ensures at c.in_default.ensures.updates.0 in
     let less = rw c.as_nanos-in-Err-insert.ensures at c.remove-in-Err-insert.ensures.updates.0 in
     rw c.in-Err-insert.ensures.err
-    (ends_back g.met.C.PublicKey.exact c.args.ends.now.keys c.remove-in-Err-insert.new.self.keys (dial_moments (cooldowns_view old)) c.args.key m c.requires
+    (ends_back g.met.C.PublicKey.exact c.args.ends.now.keys c.remove-in-Err-insert.new.self.keys (dial_moments
+    (cooldowns_view old)) c.args.key m c.requires
     (λ e. less e ∙ ap (cond (is_at (end_cmp cmp (m, c.args.key)) e) false) (more e)) had)
 
 pub returns-then-as_nanos-clause-ok : goal.returns-then-as_nanos-clause-ok
 returns-then-as_nanos-clause-ok g c =
-    cooldown_put g.C.Ord.cmp c.args.moments.now.entries c.insert-2.new.self.entries c.args.key c.args.cooldown c.in-Ok-Some.ensures.updates.0
+    cooldown_put g.C.Ord.cmp c.args.moments.now.entries c.insert-2.new.self.entries c.args.key c.args.cooldown
+    c.in-Ok-Some.ensures.updates.0
 
 pub returns-else-as_nanos-clause-ok : goal.returns-else-as_nanos-clause-ok
 returns-else-as_nanos-clause-ok g c =
-    cooldown_put g.C.Ord.cmp c.args.moments.now.entries c.insert-2.new.self.entries c.args.key c.args.cooldown c.in-Ok-Some.ensures.updates.0
+    cooldown_put g.C.Ord.cmp c.args.moments.now.entries c.insert-2.new.self.entries c.args.key c.args.cooldown
+    c.in-Ok-Some.ensures.updates.0
 
 pub returns-in-Ok-None-clause-ok : goal.returns-in-Ok-None-clause-ok
 returns-in-Ok-None-clause-ok g c =
-    cooldown_put g.C.Ord.cmp c.args.moments.now.entries c.insert-2.new.self.entries c.args.key c.args.cooldown c.in-Ok-None.ensures.updates.0
+    cooldown_put g.C.Ord.cmp c.args.moments.now.entries c.insert-2.new.self.entries c.args.key c.args.cooldown
+    c.in-Ok-None.ensures.updates.0

@@ -8,8 +8,11 @@ use Rattle.p2p_directory.proofs.run.server.Server.forget_cooled.Goals as goal
 
 pub returns-clause-served : goal.returns-clause-served
 returns-clause-served g c = rw (← c.self.view_is) (λ bootstrappers myself cfg calls at.
-    Served.served_forgotten (setup_of g.C.Ord.cmp bootstrappers myself cfg) cfg.max_sets.ok g.met.C.PublicKey.exact calls _ _ at (as_nanos c.args.now) c.forget_cooled.result c.forget_cooled.ensures.answer c.forget_cooled.ensures.forgotten refl)
+    Served.served_forgotten (setup_of g.C.Ord.cmp bootstrappers myself cfg) cfg.max_sets.ok g.met.C.PublicKey.exact
+    calls _ _ at (as_nanos c.args.now) c.forget_cooled.result c.forget_cooled.ensures.answer
+    c.forget_cooled.ensures.forgotten refl)
 
 pub invariant_of-self : goal.invariant_of-self
 invariant_of-self g c =
-    held_by_forgetting g.C.Ord.cmp c.self.inside.directory c.forget_cooled.new.self (as_nanos c.args.now) (held_in g.C.Ord.cmp c.self.inside.slots) c.self.invariant c.forget_cooled.ensures.forgotten
+    held_by_forgetting g.C.Ord.cmp c.self.inside.directory c.forget_cooled.new.self (as_nanos c.args.now)
+    (held_in g.C.Ord.cmp c.self.inside.slots) c.self.invariant c.forget_cooled.ensures.forgotten
