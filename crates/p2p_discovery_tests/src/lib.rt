@@ -11,6 +11,8 @@ mod data;
 #[cfg(test)]
 mod discovery;
 #[cfg(test)]
+mod every_byte;
+#[cfg(test)]
 mod out_of_memory;
 #[cfg(test)]
 mod sets;
