@@ -34,6 +34,7 @@ use std::marker::Model;
 use std::num::NonZeroUsize;
 use std::time::Duration;
 
+mod agreement;
 pub(crate) mod blocked;
 mod cooled;
 mod grants;
@@ -766,30 +767,6 @@ impl<C: PublicKey> Directory<C> {
     {
         self.records
             .dialable(self.sets.allocator(), &self.blocks, now, &self.config)
-    }
-
-    /// What holds between calls: a record counts the retained sets that have its peer, a peer that
-    /// some set has is one with a record, no record is kept that may go, each record has the moments
-    /// that are kept of its peer, or the epoch where none are, and the bits of a retained set, which
-    /// [`Directory::get_random_bit_vec`] answers, are for each primary peer in order the opposite of
-    /// want. Does nothing.
-    pub fn agrees(&self)
-        ensures counts { (q : C) → IfSome (record_of C.cmp self.now q) (λ r.
-            (r.primary_sets ≡ set_count C.cmp Role.Primary q self.now.sets)
-            × (r.secondary_sets ≡ set_count C.cmp Role.Secondary q self.now.sets)) }
-        ensures named { (q : C) → is_named_of C.cmp self.now q ≡ true →
-            is_some (record_of C.cmp self.now q) ≡ true }
-        ensures kept { (q : C) → IfSome (record_of C.cmp self.now q) (λ r.
-            is_deletable r ≡ false) }
-        ensures cooled { (q : C) → IfSome (record_of C.cmp self.now q) (λ r.
-            (r.next_reservable_at ≡ reservable_from (cooldown_of C.cmp self.now q))
-            × (r.next_dial_at ≡ dialable_from (cooldown_of C.cmp self.now q))) }
-        ensures bits { (place : ℕ) → bit_vec_at C.cmp self.now place ≡ option_map (λ set. record {
-          index = set.index;
-          bits = map (λ q. not (wants_in C.cmp self.now q)) set.primary;
-        }) (slice_get self.now.sets place) }
-    {
-        let _count = self.records.len();
     }
 
     // The allocator of its collections.

@@ -10,7 +10,7 @@ returns g c =
     let spelled = infos_spelling g.C.FixedBytes.spelled g.C.Signature.FixedBytes.spelled in
     IfOk-weaker c.read_cfg.result _
     (λ is. length is * (6 + g.C.FixedBytes.SIZE + g.C.Signature.FixedBytes.SIZE)
-        + length c.read_cfg.new.buf ≤ length c.args.buf.now)
+    + length c.read_cfg.new.buf ≤ length c.args.buf.now)
     (λ is h. omega (
       arith,
       infos_bounded g.met.C.FixedBytes.fixed g.met.C.Signature.FixedBytes.fixed is h.0,

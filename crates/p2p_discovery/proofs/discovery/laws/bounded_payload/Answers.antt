@@ -9,5 +9,5 @@ returns g c =
     let least = 6 + g.C.FixedBytes.SIZE + g.C.Signature.FixedBytes.SIZE in
     IfOk-weaker c.decode_cfg.result _ (IsBoundedBy least (length c.args.frame))
     (λ p h. subst (λ n. IsBoundedBy least n p) (sym (ap length h.2))
-        (payload_bounded g.met.C.FixedBytes.fixed g.met.C.Signature.FixedBytes.fixed p h.0))
+    (payload_bounded g.met.C.FixedBytes.fixed g.met.C.Signature.FixedBytes.fixed p h.0))
     c.decode_cfg.ensures.found
