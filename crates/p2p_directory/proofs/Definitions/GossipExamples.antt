@@ -1,36 +1,29 @@
 -- Computed values of exchanges and corners of gossip. What is expected was worked out by hand from
 -- the definitions in words, and not by these.
 use Rattle.std.proofs.Common.{◌≡◌, ℕ, ◌+◌, ◌-◌, ◌*◌, ◌^◌, Bool, true, false, List, [], ◌∷◌, ◌++◌, Option, Some, None, refl}
-use Rattle.std.specs.Prelude.{filter, filter_map, ◌==◌, length, Result, Ok, Err}
+use Rattle.std.specs.Prelude.{◌==◌, length}
 use Rattle.std.specs.Duration.{max_nanos}
-use Rattle.std.specs.declared.time.Duration.{Duration}
-use Rattle.p2p_discovery.specs.declared.codec.error.CodecError.TheVariants.{InvalidLength, EndOfBuffer, InvalidEnum, ExtraData, InvalidVarint}
+use Rattle.p2p_discovery.specs.declared.codec.error.CodecError.TheVariants.{InvalidLength}
 use Rattle.p2p_discovery.specs.declared.discovery.Error.TheVariants.{TooManyPeers, ReceivedSelf, InvalidSignature, SynchronyBound}
 use Rattle.p2p_discovery.specs.declared.discovery.Info.{Info}
 use Rattle.p2p_discovery.specs.declared.discovery.PayloadConfig.{PayloadConfig}
-use Rattle.p2p_discovery.specs.declared.discovery.Payload.TheVariants as said
-use Rattle.p2p_discovery.specs.declared.types.ingress.Ingress.{Ingress}
-use Rattle.p2p_discovery.specs.declared.types.ingress.Ingress.TheVariants.{Socket, Dns}
+use Rattle.p2p_discovery.specs.declared.types.ingress.Ingress.TheVariants.{Socket}
 use Rattle.p2p_discovery.specs.declared.types.socket.IpAddr.TheVariants.{V4}
-use Rattle.p2p_discovery.specs.Ingress.{is_valid, ingress_at}
-use Rattle.p2p_discovery.specs.Judgement.{refusal, list_refusal, judge_of, Verifier}
-use Rattle.p2p_directory.specs.Calls.{Setup, Call, Event}
+use Rattle.p2p_discovery.specs.Ingress.{is_valid}
+use Rattle.p2p_directory.specs.Calls.{Setup, Call}
 use Rattle.p2p_directory.specs.Calls.Call.{Track, Dial, Listen, Connect, Release, Update, Block, UnblockExpired, Ask}
-use Rattle.p2p_directory.specs.Calls.Question.{StatusOf, InfosFor}
-use Rattle.p2p_directory.specs.Calls.Direction.{Dialer, Listener}
-use Rattle.p2p_directory.specs.declared.record.Status.TheVariants.{Inert, Reserved, Active}
-use Rattle.p2p_directory.specs.declared.node.Received.TheVariants as received
+use Rattle.p2p_directory.specs.Calls.Question.{StatusOf}
 use Rattle.p2p_directory.specs.History
-use Rattle.p2p_directory.specs.World.{World, world_at, event_in, past_after, past}
-use Rattle.p2p_directory.specs.Answers.{was_granted, was_taken, was_blocked, status_in, is_torn_down, bits_at, is_dialable, query_moment, sharable_info, infos_for, latest_index_in, is_tracked, epoch_millis}
-use Rattle.p2p_directory.specs.Received.{Wire, Standing, Outcome, wire_of, received_at, may_want_memory, ask_frame_at}
+use Rattle.p2p_directory.specs.World.{World, world_at, event_in}
+use Rattle.p2p_directory.specs.Answers.{was_granted, bits_at, is_dialable, query_moment, sharable_info, latest_index_in, is_tracked, epoch_millis}
+use Rattle.p2p_directory.specs.Received.{Wire, Standing, wire_of}
 use Rattle.p2p_directory.specs.Nodes.{Made, standing_in}
 use Rattle.p2p_directory.specs.Exchange as exchange
 use Rattle.p2p_directory.specs.Exchange.{exchanged_at}
 use Rattle.p2p_directory.specs.Exchange.Outcome.{NoSet, AskRefused, Malformed, ReplyRefused, Invalid, Applied}
 use Rattle.p2p_directory.specs.Laws.Gossip.{wanted_infos}
 use Rattle.p2p_directory.specs.Laws.Isolation.{left_for}
-use Rattle.p2p_directory.proofs.Definitions.Setting.{sec, info_at, info, own, setup, after_calls, track, listen, dial, update}
+use Rattle.p2p_directory.proofs.Definitions.Setting.{sec, info_at, info, own, setup, after_calls, track, listen, dial}
 
 -- ---- the setting
 

@@ -1,7 +1,7 @@
 -- Blocks by the replies to a run: of any moments, and where these never go back.
 use Rattle.std.proofs.Common.{◌≡◌, ℕ, ◌+◌, ◌≤◌, max, Bool, true, false, not, ◌&&◌, List, [], ◌∷◌, ◌++◌, Option, Some, None, refl, sym, ◌∙◌, ap, subst, arith}
 use Rattle.std.specs.Prelude.{if◌then◌else◌, nat_le, nat_lt, option_to_list, filter, IfSome}
-use Rattle.std.specs.List.{list_all, AllByRecursion}
+use Rattle.std.specs.List.{list_all}
 use Rattle.std.specs.Option.{option_map}
 use Rattle.std.specs.Option.{option_map}
 use Rattle.std.proofs.lemmas.Bool.{leb-true, ltb-false, not-true, and_parts}
@@ -20,7 +20,7 @@ use Rattle.p2p_directory.specs.Answers.{was_blocked}
 use Rattle.p2p_directory.specs.Run
 use Rattle.p2p_directory.specs.declared.run.commands.Reply.{Reply}
 use Rattle.p2p_directory.specs.declared.run.commands.Reply.TheVariants as reply
-use Rattle.p2p_directory.specs.Laws.Grants.{or_now, moment_of, moment_or, AreOver}
+use Rattle.p2p_directory.specs.Laws.Grants.{moment_or, AreOver}
 use Rattle.p2p_directory.specs.Laws.GrantRuns.{granted_by, blocked_by, IsAfter, KeepBlocks}
 use Rattle.p2p_directory.specs.Laws.BlockRuns.{expires_until, expired_by, unless_expired, IsNotBefore, block_taken_by, block_left, KeepLastBlock}
 use Rattle.p2p_directory.proofs.Definitions.Steps

@@ -1,6 +1,6 @@
 -- Grants and blocks by the replies to a run.
-use Rattle.std.proofs.Common.{◌≡◌, ℕ, ◌≤◌, Bool, true, false, not, ◌&&◌, List, [], ◌∷◌, ◌++◌, Option, Some, None, ◌⊎◌, inl, inr, refl, sym, ◌∙◌, ap, subst, arith}
-use Rattle.std.specs.Prelude.{if◌then◌else◌, nat_lt, option_to_list, filter}
+use Rattle.std.proofs.Common.{◌≡◌, ℕ, ◌≤◌, Bool, true, false, not, ◌&&◌, List, [], ◌∷◌, Option, Some, None, ◌⊎◌, inl, inr, refl, sym, ◌∙◌, ap, subst, arith}
+use Rattle.std.specs.Prelude.{if◌then◌else◌, nat_lt, filter}
 use Rattle.std.specs.Option.{option_map}
 use Rattle.std.specs.List.{list_all, list_any}
 use Rattle.p2p_discovery.specs.declared.types.ingress.Ingress.{Ingress}
@@ -13,11 +13,11 @@ use Rattle.p2p_directory.specs.History
 use Rattle.p2p_directory.specs.History.{last_with, found_with, unless_ended, last_unless_ended}
 use Rattle.p2p_directory.specs.World
 use Rattle.p2p_directory.specs.World.{World}
-use Rattle.p2p_directory.specs.Laws.Grants.{IsSpaced, IsSpacedUnlessForgotten, or_now, moment_or, moment_of, NeverGoBack, blocks_in, IsOverAt}
+use Rattle.p2p_directory.specs.Laws.Grants.{IsSpaced, IsSpacedUnlessForgotten, or_now, moment_or, moment_of, NeverGoBack}
 use Rattle.p2p_directory.specs.Run
 use Rattle.p2p_directory.specs.declared.run.commands.Reply.{Reply}
 use Rattle.p2p_directory.specs.declared.run.commands.Reply.TheVariants as reply
-use Rattle.p2p_directory.specs.Laws.GrantRuns.{granted_by, forgets_by, blocked_by, IsCooledAfter, last_after, kept_after, KeepCooldownUnlessForgotten, KeepCooldown, IsAfter, KeepBlocks}
+use Rattle.p2p_directory.specs.Laws.GrantRuns.{granted_by, forgets_by, blocked_by, IsCooledAfter, last_after, kept_after, KeepCooldownUnlessForgotten, KeepCooldown}
 use Rattle.p2p_directory.proofs.Definitions.Steps
 use Rattle.p2p_directory.proofs.LawsOfRuns.Spacing
 

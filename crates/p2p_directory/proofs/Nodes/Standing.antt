@@ -1,6 +1,5 @@
 -- A node stands where its server does.
 use Rattle.std.proofs.Common.{◌≡◌, true, List, Option, is_some, inl, inr, refl, sym, ◌∙◌, ap, subst}
-use Rattle.std.specs.declared.cmp.Ordering.{Ordering}
 use Rattle.p2p_directory.specs.declared.directory.Metadata.{Metadata}
 use Rattle.p2p_directory.specs.declared.run.commands.Reply.{Reply}
 use Rattle.p2p_directory.specs.declared.run.commands.Reply.TheVariants as reply

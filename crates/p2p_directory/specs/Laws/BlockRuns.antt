@@ -1,6 +1,6 @@
 -- When a blocked peer is granted, by the replies to a run, whatever the moments of its commands
 -- are: its commands and replies are in order, the oldest first.
-use Rattle.std.specs.Prelude.{ℕ, ◌+◌, ◌≤◌, true, nat_le, if◌then◌else◌, List, [], ◌∷◌, Option, Some}
+use Rattle.std.specs.Prelude.{ℕ, ◌+◌, ◌≤◌, true, nat_le, if◌then◌else◌, List, ◌∷◌, Option, Some}
 use Rattle.std.specs.Prelude.{None}
 use Rattle.std.specs.Option.{option_map}
 use Rattle.p2p_directory.specs.Moments.{cap}

@@ -1,5 +1,4 @@
 use Rattle.std.proofs.Common.{sym, ap, subst}
-use Rattle.std.specs.Prelude.{length}
 use Rattle.std.specs.Option.{option_map}
 use Rattle.std.specs.Cmp.{IsTotalOrder}
 use Rattle.p2p_directory.specs.PeerSets.{set_with, latest_index}

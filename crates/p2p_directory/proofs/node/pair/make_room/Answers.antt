@@ -1,6 +1,5 @@
 use Rattle.std.proofs.Common.{◌≡◌, true, refl, ◌∙◌, subst, get_or, below_more, arith}
 use Rattle.std.proofs.lemmas.List.{get_or_default}
-use Rattle.p2p_directory.specs.Private.Endpoints.{node_of}
 use Rattle.p2p_directory.specs.Private.Pairing.{has_pair_room}
 use Rattle.p2p_directory.proofs.Nodes.Pairs.{pair_room_grows}
 use Rattle.p2p_directory.proofs.node.pair.make_room.Goals as goal

@@ -1,4 +1,3 @@
-use Rattle.std.proofs.Common.{refl, sym, ◌∙◌}
 use Rattle.p2p_directory.proofs.Reservations.Slots.{held_is, same_contents}
 use Rattle.p2p_directory.proofs.node.endpoint.Endpoint.make_room.Goals as goal
 
