@@ -1,5 +1,6 @@
 //! Runs of commands, by their replies and by what they leave.
 
+ghost use Rattle.std.specs.Prelude.{◌≡◌, ◌+◌};
 ghost use Rattle.std.specs.Int.NonZero.{non_zero_usize_get};
 
 use crate::calls::{config, info, tracked};

@@ -119,7 +119,7 @@ fn reads_bits(
     now: Duration,
     told: &[(usize, u64, &[bool])],
 ) -> Result<(), AllocError> {
-    if let Some(reservation) = directory.listen(&TestKey(5), now, Duration::ZERO) {
+    if let Some(reservation) = directory.listen(&TestKey(5), now, Duration::ZERO)? {
         directory.connect(&TestKey(5), false);
         let outcome = assert_bits(rt, alloc, directory, told);
         directory.release(reservation);
