@@ -146,7 +146,10 @@ fn listens_and_releases(node: &mut Node<TestKey>) -> u64 {
             draw: Duration::ZERO,
         });
         let released = node.step(Command::Release(peer));
-        if let (Reply::Listen(true), Reply::Release) = (granted, released) {
+        let forgotten = node.step(Command::ForgetCooled(Duration::MAX));
+        if let (Reply::Listen(true), Reply::Release, Reply::ForgetCooled(_)) = (
+            granted, released, forgotten,
+        ) {
             done = done.saturating_add(1);
         }
     }
@@ -157,7 +160,7 @@ fn keeps_no_slots(alloc: Global, node: &mut Node<TestKey>) -> Result<u64, Fail> 
     let peers = set_of(alloc, ROUNDS)?;
     node.step(Command::Track { index: 0, peers });
     let mut memory = LowMemory::new(alloc)?;
-    memory.limit(alloc, 2_048)?;
+    memory.limit(alloc, 32_768)?;
     let done = listens_and_releases(node);
     memory.lift();
     Ok(done)

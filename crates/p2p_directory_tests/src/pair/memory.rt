@@ -24,7 +24,7 @@ fn hundred() -> Duration {
 const STEPS: usize = 96;
 
 // Two nodes with their room take some twenty kibibytes.
-const PAIR_STEPS: usize = 1_536;
+const PAIR_STEPS: usize = 2_048;
 
 static PREPARED: [Deed; 5] = [
     Deed::Left(Given::Track(0, &[1, 2], &[])),
@@ -133,8 +133,17 @@ static DONE: [Deed; 6] = [
     Deed::Left(Given::Status(1)),
 ];
 
-// Each reply is by those commands that were not refused for memory; a listen never is, for its room
-// is taken first. Whether some command was refused.
+// The status of a peer by whether it is tracked and was granted.
+fn status_after(tracks: bool, is_listened: bool) -> Option<Status> {
+    match (tracks, is_listened) {
+        (false, _) => None,
+        (true, true) => Some(Status::Reserved),
+        (true, false) => Some(Status::Inert),
+    }
+}
+
+// Each reply is by those commands that were not refused for memory; a listen may be, for the moments
+// of its grant. Whether some command was refused.
 fn is_some_refused(
     rt: &impl Abort,
     alloc: Global,
@@ -148,7 +157,8 @@ fn is_some_refused(
     let tracks = taken.is(alloc, left)?;
     assert!(rt; tracks || out.is(alloc, left)?);
     assert!(rt; taken.is(alloc, right)? || out.is(alloc, right)?);
-    assert!(rt; Said::Call(Told::Listen(tracks)).is(alloc, listen)?);
+    let is_listened = Said::Call(Told::Listen(tracks)).is(alloc, listen)?;
+    assert!(rt; is_listened || tracks && out.is(alloc, listen)?);
     let asked = Said::Ask(if tracks { Some(NOBODY) } else { None }).is(alloc, ask)?;
     assert!(rt; asked || tracks && matches!(ask, PairReply::OutOfMemory));
     let ended = if tracks {
@@ -158,9 +168,9 @@ fn is_some_refused(
     };
     let is_ended = ended.is(alloc, exchanged)?;
     assert!(rt; is_ended || tracks && matches!(exchanged, PairReply::Exchange(Exchanged::Memory)));
-    let status_of_one = Told::Status(if tracks { Some(Status::Reserved) } else { None });
+    let status_of_one = Told::Status(status_after(tracks, is_listened));
     assert!(rt; Said::Call(status_of_one).is(alloc, status)?);
-    Ok(!(tracks && taken.is(alloc, right)? && asked && is_ended))
+    Ok(!(tracks && is_listened && taken.is(alloc, right)? && asked && is_ended))
 }
 
 // Whether memory was refused in a run of two nodes within a budget.

@@ -17,9 +17,9 @@ use std::time::Duration;
 
 mod dialling;
 
-const ROW_STEPS: usize = 768;
+const ROW_STEPS: usize = 1_280;
 
-const CALL_STEPS: usize = 3_072;
+const CALL_STEPS: usize = 5_120;
 
 const QUESTION_STEPS: usize = 256;
 
