@@ -17,9 +17,9 @@ use std::time::Duration;
 
 mod dialling;
 
-const ROW_STEPS: usize = 1_280;
+const ROW_STEPS: usize = 2_048;
 
-const CALL_STEPS: usize = 5_120;
+const CALL_STEPS: usize = 8_192;
 
 const QUESTION_STEPS: usize = 256;
 
