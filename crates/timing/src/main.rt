@@ -2,7 +2,7 @@
 //! with no word the same calls are made with few peers and no time is printed.
 #![tactic(auto)]
 
-ghost use Rattle.std.specs.Prelude.{◌<◌};
+ghost use Rattle.std.specs.Prelude.{◌≡◌, ◌+◌, ◌-◌, ◌^◌, ◌<◌, IfOk, OnOk, if◌then◌else◌, length, min};
 ghost use Rattle.std.specs.Int.NonZero.{non_zero_usize_get};
 
 use p2p_directory::directory::{Config, Directory, TrackedPeers};
@@ -81,7 +81,13 @@ impl Times {
         }
     }
 
-    fn count(&mut self, time: Duration, done: bool) -> Result<(), AllocError> {
+    // One more time, of a call that did what was wanted or not.
+    fn count(&mut self, time: Duration, done: bool) -> Result<(), AllocError>
+        ensures times { OnOk result (length self.new.nanos.items ≡
+            length self.old.nanos.items + 1) }
+        ensures done { OnOk result (self.new.done ≡
+            (if done then min (self.old.done + 1) (2 ^ 64 - 1) else self.old.done)) }
+    {
         let nanos = time.as_secs().saturating_mul(1_000_000_000);
         self.nanos
             .push(nanos.saturating_add(u64::from(time.subsec_nanos())))?;
@@ -110,7 +116,9 @@ fn mixed(number: u64) -> u64 {
 }
 
 // As many keys, in no order, from a number on.
-fn keys(alloc: Global, from: usize, count: usize) -> Result<Vec<TestKey>, AllocError> {
+fn keys(alloc: Global, from: usize, count: usize) -> Result<Vec<TestKey>, AllocError>
+    ensures { IfOk result (λ keys. length keys.items ≡ count) }
+{
     let mut keys = Vec::with_capacity(alloc, count)?;
     for place in 0..count {
         keys.push(TestKey(mixed(from.saturating_add(place) as u64)))?;
@@ -164,13 +172,21 @@ fn track_each(
     Ok(())
 }
 
+// A directory with as many sets, which are all that it retains.
+fn full(alloc: Global, sets: usize, count: usize) -> Result<Directory<TestKey>, AllocError>
+    requires { sets < 1000 }
+{
+    let mut directory = directory(alloc, sets)?;
+    track_each(alloc, &mut directory, sets, count)?;
+    Ok(directory)
+}
+
 // Tracks sets into a full window.
 fn time_tracks(rt: &HostRuntime, sets: usize, count: usize) -> Result<Times, Stop>
     requires { sets < 1000 }
 {
     let alloc = rt.alloc();
-    let mut directory = directory(alloc, sets)?;
-    track_each(alloc, &mut directory, sets, count)?;
+    let mut directory = full(alloc, sets, count)?;
     let mut times = Times::new(alloc);
     for sample in 0..SAMPLES {
         let index = sets.saturating_add(sample);
@@ -205,8 +221,7 @@ fn time_updates(rt: &HostRuntime, sets: usize, count: usize) -> Result<Times, St
     requires { sets < 1000 }
 {
     let alloc = rt.alloc();
-    let mut directory = directory(alloc, sets)?;
-    track_each(alloc, &mut directory, sets, count)?;
+    let mut directory = full(alloc, sets, count)?;
     let mut times = Times::new(alloc);
     for sample in 0..SAMPLES {
         let infos = newest(alloc, sets, count, sample as u64)?;
@@ -217,25 +232,21 @@ fn time_updates(rt: &HostRuntime, sets: usize, count: usize) -> Result<Times, St
     Ok(times)
 }
 
-// Blocks as many peers, each a nanosecond later than the one before.
-fn block_each(
-    alloc: Global,
-    directory: &mut Directory<TestKey>,
-    count: usize,
-) -> Result<(), AllocError> {
+// A directory with as many blocks, each a nanosecond later than the one before.
+fn blocked(alloc: Global, count: usize) -> Result<Directory<TestKey>, AllocError> {
+    let mut directory = directory(alloc, 1)?;
     let mut now = Duration::ZERO;
     for key in keys(alloc, 0, count)? {
         directory.block(&key, now)?;
         now = now.saturating_add(Duration::from_nanos(1));
     }
-    Ok(())
+    Ok(directory)
 }
 
 // Asks many times when the next block ends.
 fn time_questions(rt: &HostRuntime, count: usize) -> Result<Times, Stop> {
     let alloc = rt.alloc();
-    let mut directory = directory(alloc, 1)?;
-    block_each(alloc, &mut directory, count)?;
+    let directory = blocked(alloc, count)?;
     let mut times = Times::new(alloc);
     for _ in 0..SAMPLES {
         let mut answered = true;
@@ -251,8 +262,7 @@ fn time_questions(rt: &HostRuntime, count: usize) -> Result<Times, Stop> {
 // Ends the first of the blocks.
 fn time_ends(rt: &HostRuntime, count: usize) -> Result<Times, Stop> {
     let alloc = rt.alloc();
-    let mut directory = directory(alloc, 1)?;
-    block_each(alloc, &mut directory, count)?;
+    let mut directory = blocked(alloc, count)?;
     let mut times = Times::new(alloc);
     for _ in 0..SAMPLES {
         if let Some(moment) = directory.next_unblock() {
