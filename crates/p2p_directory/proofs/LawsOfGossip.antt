@@ -1,4 +1,4 @@
--- Laws of gossip of two nodes.
+-- Laws of gossip of one node, and of two that exchange infos.
 pub mod Lists
 pub mod Infos
 pub mod Given
@@ -8,7 +8,5 @@ pub mod Wanted
 pub mod Exchanges
 pub mod Repeated
 pub mod Brought
-pub mod Pairs
 pub mod Greetings
 pub mod Late
-pub mod Replied

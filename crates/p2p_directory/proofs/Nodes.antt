@@ -4,5 +4,8 @@ pub mod Standing
 pub mod Worlds
 pub mod ReadBack
 pub mod Exchanging
--- .. and what one of two nodes answers is what is replied to both.
-pub mod Pairs
+-- .. and what one of a network answers is what is replied to a command.
+pub mod Frames
+pub mod Networks
+pub mod NetworkRuns
+pub mod TwoNodes

@@ -35,15 +35,17 @@ ghost use Rattle.p2p_directory.specs.Laws.IsolationRuns.{KeepAlone};
 ghost use Rattle.p2p_directory.specs.Laws.OrderRuns.{KeepOrder};
 ghost use Rattle.p2p_directory.specs.Laws.BoundRuns.{KeepBound};
 ghost use Rattle.p2p_discovery.specs.Info.{IsInfo, IsKeyed};
-ghost use Rattle.p2p_directory.specs.declared.node.pair.PairCommand.{PairCommand};
-ghost use Rattle.p2p_directory.specs.declared.node.pair.PairReply.{PairReply};
 ghost use Rattle.p2p_directory.specs.Received.{Wire, wire_of};
 ghost use Rattle.p2p_directory.specs.Nodes.{Made, NodeView, IsReceivedAt};
-ghost use Rattle.p2p_directory.specs.Pairs.{ArePairAnswers};
-ghost use Rattle.p2p_directory.specs.Laws.Gossip.{IsMade, KeepExchanges, KeepSigned, KeepGreetings};
-ghost use Rattle.p2p_directory.specs.Laws.LateFrames.{AreWritten, KeepReplies, KeepLate};
+ghost use Rattle.p2p_directory.specs.Laws.Gossip.{IsMade};
 ghost use Rattle.p2p_directory.specs.Laws.LateFrames.{TakesLateAt};
 ghost use Rattle.p2p_directory.specs.declared.node.Received.{Received};
+ghost use Rattle.p2p_directory.specs.declared.node.network.NetworkCommand.{NetworkCommand};
+ghost use Rattle.p2p_directory.specs.declared.node.network.NetworkReply.{NetworkReply};
+ghost use Rattle.p2p_directory.specs.Network.{AreNetworkAnswers, is_node};
+ghost use Rattle.p2p_directory.specs.Laws.Network.{AreMade, AtEachPoint, Provenance, HoldSigned};
+ghost use Rattle.p2p_directory.specs.Laws.Network.{OnlyGetNewer, Reach, OfEachReply};
+ghost use Rattle.p2p_directory.specs.Laws.Network as network;
 
 use p2p_discovery::codec::PublicKey;
 
@@ -271,67 +273,120 @@ pub fn isolation_of_a_run<C: PublicKey>()
         AreAnswers s [] cs rs → KeepBound s n [] cs rs }
 {}
 
-/// Gossip of two nodes by the replies to what is done to them from their start, where both own
-/// infos, and the infos of each command and of each frame that was accepted before, are signed in
-/// the namespaces of both.
-///
-/// At each point, an exchange of a set whose primary peers the replier retains at its index, within
-/// the limits of both and with the replier's moment at most the asker's bound ahead, is applied
-/// with exactly the wanted infos that may be shared, unless memory is refused. Afterwards the
-/// asker's info of each of their peers is at least as new. The same exchange directly repeated is
-/// applied and changes nothing, unless memory is refused. Each info that either node holds is
-/// signed in the namespaces of both. A greeting with the own info of the other node is taken,
-/// unless memory is refused, where the own keys differ and its timestamp is within the bound.
-pub fn gossip_of_a_run<C: PublicKey>()
-    ensures exchanges { (wire : Wire C C.Signature) (l r : Made C C.Signature) →
-        IsMade C.cmp l → IsMade C.cmp r →
-        (cs : List (PairCommand C C.Signature)) (rs : List (PairReply C C.Signature)) →
-        ArePairAnswers wire l r [] cs rs → KeepExchanges wire l r [] cs rs }
-    ensures infos { (wire : Wire C C.Signature) (l r : Made C C.Signature) →
-        IsMade C.cmp l → IsMade C.cmp r →
-        (cs : List (PairCommand C C.Signature)) (rs : List (PairReply C C.Signature)) →
-        ArePairAnswers wire l r [] cs rs → KeepSigned wire l r [] cs rs }
-    ensures greetings { (l r : Made C C.Signature) → IsMade C.cmp l → IsMade C.cmp r →
-        IsInfo l.directory.own → IsKeyed C.IsValue C.Signature.IsValue l.directory.own →
-        IsInfo r.directory.own → IsKeyed C.IsValue C.Signature.IsValue r.directory.own →
-        (cs : List (PairCommand C C.Signature)) (rs : List (PairReply C C.Signature)) →
-        let wire = wire_of C.SIZE C.spelled C.value
-        C.Signature.SIZE C.Signature.spelled C.Signature.value C.verifies in
-        ArePairAnswers wire l r [] cs rs → KeepGreetings wire l r [] cs rs }
-{}
-
-/// Replies of infos to bits, which may come late, and more than once.
-///
-/// At each point, where all infos that were given are signed in the namespaces of both nodes: a
-/// reply to bits that the other node was asked for earlier, where the replier retains a set of
-/// their index with the primary peers that the other's then had, is a frame of infos that are
-/// signed for both, none with the asker's key, none with a timestamp above the present
-/// milliseconds.
-///
-/// A frame of such infos, of any number that the node takes, at a moment from which that of the
-/// reply is at most the bound ahead, is applied, unless memory is refused, whatever was done to the
-/// node before. Afterwards the node's info of each of their peers that has a record is at least as
-/// new. Nothing changes where all were so before, and by a copy that follows at once.
-pub fn replies_may_come_late<C: PublicKey>()
-    ensures replies { (l r : Made C C.Signature) → IsMade C.cmp l → IsMade C.cmp r →
-        l.limits.max_bit_vec < 2 ^ 32 → r.limits.max_bit_vec < 2 ^ 32 →
-        (cs : List (PairCommand C C.Signature)) (rs : List (PairReply C C.Signature)) →
-        let wire = wire_of C.SIZE C.spelled C.value
-        C.Signature.SIZE C.Signature.spelled C.Signature.value C.verifies in
-        ArePairAnswers wire l r [] cs rs →
-        AreWritten wire C.IsValue C.Signature.IsValue l r [] cs rs →
-        KeepReplies wire C.IsValue C.Signature.IsValue l r [] cs rs }
-    ensures late { (l r : Made C C.Signature) → IsMade C.cmp l → IsMade C.cmp r →
-        (cs : List (PairCommand C C.Signature)) (rs : List (PairReply C C.Signature)) →
-        let wire = wire_of C.SIZE C.spelled C.value
-        C.Signature.SIZE C.Signature.spelled C.Signature.value C.verifies in
-        ArePairAnswers wire l r [] cs rs →
-        KeepLate wire C.IsValue C.Signature.IsValue l r [] cs rs }
-    ensures received { (m : Made C C.Signature) → IsMade C.cmp m →
+/// A frame of infos that are signed in the namespace of a node, none with its own key, none with a
+/// timestamp above the milliseconds of a moment, of any number that the node takes, at a moment
+/// from which that one is at most the bound ahead, is applied, unless memory is refused, whatever
+/// was done to the node before. Afterwards the node's info of each of their peers that has a record
+/// is at least as new. Nothing changes where all were so before, and by a copy that follows at
+/// once.
+pub fn infos_may_come_late<C: PublicKey>()
+    ensures { (m : Made C C.Signature) → IsMade C.cmp m →
         (calls : List (Call C C.Signature)) (frame : List ℕ) (now : ℕ) (r : Received)
         (v : NodeView C C.Signature) →
         let wire = wire_of C.SIZE C.spelled C.value
         C.Signature.SIZE C.Signature.spelled C.Signature.value C.verifies in
         IsReceivedAt m wire calls frame now r v →
         TakesLateAt wire C.IsValue C.Signature.IsValue m calls frame now r }
+{}
+
+/// Gossip of any number of nodes by the replies to what is done to them from their start.
+///
+/// Exchanges: at each point, where all own infos, and the infos of each command to any node and of
+/// each frame that any node accepted before, are signed in the namespaces of the asker and the
+/// replier, an exchange of a set whose primary peers the replier retains at its index, within the
+/// limits of both and with the replier's moment at most the asker's bound ahead, is applied with
+/// exactly the wanted infos that may be shared, unless memory is refused. Afterwards the asker's
+/// info of each of their peers is at least as new. The same exchange directly repeated is applied
+/// and changes nothing at any node, unless memory is refused.
+///
+/// Provenance, without any premise: each info that any node holds is the own info of some node, or
+/// was given to some node by a command, or by a frame that it accepted, before. Infos: where all
+/// that is given is signed for a node, so is all that any node holds.
+///
+/// Newer: what a node holds of a peer is at least as new later, as long as the peer stays present
+/// at it. Reach: of each primary peer of the set of an exchange that was applied under its
+/// premises, whose info the asker wanted and the replier might share, the asker holds an info at
+/// least as new directly afterwards, and as long as the peer stays present at it.
+///
+/// Greetings: one with the own info of any node, signed for the node that takes it, is taken,
+/// unless memory is refused, where the own keys differ and its timestamp is within the bound.
+/// Replies: to bits that any node was asked for earlier, where the replier retains a set of their
+/// index with the primary peers that the set at the place then had, a reply is a frame of infos
+/// that are signed for both, none with the asker's key, none with a timestamp above the present
+/// milliseconds. Late: such a frame is taken by any node, as [`infos_may_come_late`] says.
+///
+/// Acquaintance: as reach, for some info of each other peer of the list, wanted or not. Isolation
+/// and order: as for one directory, over the calls that each node accepted. Others: a command to
+/// one node leaves every other as it was, and an exchange leaves all but the asker.
+pub fn gossip_of_a_network<C: PublicKey>()
+    ensures exchanges { (wire : Wire C C.Signature) (size : ℕ) (node : ℕ → Made C C.Signature) →
+        AreMade wire size node C.cmp →
+        (cs : List (NetworkCommand C C.Signature)) (rs : List (NetworkReply C C.Signature)) →
+        AreNetworkAnswers wire size node [] cs rs →
+        network.KeepExchanges wire size node [] cs rs }
+    ensures provenance { (wire : Wire C C.Signature) (size : ℕ) (node : ℕ → Made C C.Signature) →
+        (cs : List (NetworkCommand C C.Signature)) (rs : List (NetworkReply C C.Signature)) →
+        AreNetworkAnswers wire size node [] cs rs →
+        AtEachPoint wire size node (Provenance wire size node) [] cs rs }
+    ensures infos { (wire : Wire C C.Signature) (size : ℕ) (node : ℕ → Made C C.Signature) →
+        (cs : List (NetworkCommand C C.Signature)) (rs : List (NetworkReply C C.Signature)) →
+        AreNetworkAnswers wire size node [] cs rs →
+        AtEachPoint wire size node (HoldSigned wire size node) [] cs rs }
+    ensures newer { (wire : Wire C C.Signature) (size : ℕ) (node : ℕ → Made C C.Signature) →
+        AreMade wire size node C.cmp →
+        (cs : List (NetworkCommand C C.Signature)) (rs : List (NetworkReply C C.Signature)) →
+        AreNetworkAnswers wire size node [] cs rs →
+        AtEachPoint wire size node (OnlyGetNewer wire size node) [] cs rs }
+    ensures reach { (wire : Wire C C.Signature) (size : ℕ) (node : ℕ → Made C C.Signature) →
+        AreMade wire size node C.cmp →
+        (cs : List (NetworkCommand C C.Signature)) (rs : List (NetworkReply C C.Signature)) →
+        AreNetworkAnswers wire size node [] cs rs →
+        AtEachPoint wire size node (Reach wire size node) [] cs rs }
+    ensures greetings { (size : ℕ) (node : ℕ → Made C C.Signature) →
+        let wire = wire_of C.SIZE C.spelled C.value
+        C.Signature.SIZE C.Signature.spelled C.Signature.value C.verifies in
+        AreMade wire size node C.cmp →
+        ((i : ℕ) → is_node wire size node i ≡ true → IsInfo (node i).directory.own) →
+        ((i : ℕ) → is_node wire size node i ≡ true →
+        IsKeyed C.IsValue C.Signature.IsValue (node i).directory.own) →
+        (cs : List (NetworkCommand C C.Signature)) (rs : List (NetworkReply C C.Signature)) →
+        AreNetworkAnswers wire size node [] cs rs →
+        OfEachReply wire size node (network.TakesGreeting wire size node) [] cs rs }
+    ensures late { (size : ℕ) (node : ℕ → Made C C.Signature) →
+        let wire = wire_of C.SIZE C.spelled C.value
+        C.Signature.SIZE C.Signature.spelled C.Signature.value C.verifies in
+        AreMade wire size node C.cmp →
+        (cs : List (NetworkCommand C C.Signature)) (rs : List (NetworkReply C C.Signature)) →
+        AreNetworkAnswers wire size node [] cs rs →
+        OfEachReply wire size node
+        (network.TakesFrame wire size node C.IsValue C.Signature.IsValue) [] cs rs }
+    ensures others { (wire : Wire C C.Signature) (size : ℕ) (node : ℕ → Made C C.Signature) →
+        (cs : List (NetworkCommand C C.Signature)) (rs : List (NetworkReply C C.Signature)) →
+        AreNetworkAnswers wire size node [] cs rs →
+        OfEachReply wire size node (network.LeavesOthers wire size node) [] cs rs }
+    ensures acquaintance { (wire : Wire C C.Signature) (size : ℕ) (node : ℕ → Made C C.Signature) →
+        AreMade wire size node C.cmp →
+        (cs : List (NetworkCommand C C.Signature)) (rs : List (NetworkReply C C.Signature)) →
+        AreNetworkAnswers wire size node [] cs rs →
+        AtEachPoint wire size node (network.Acquaint wire size node) [] cs rs }
+    ensures replies { (size : ℕ) (node : ℕ → Made C C.Signature) →
+        let wire = wire_of C.SIZE C.spelled C.value
+        C.Signature.SIZE C.Signature.spelled C.Signature.value C.verifies in
+        AreMade wire size node C.cmp →
+        ((i : ℕ) → is_node wire size node i ≡ true → (node i).limits.max_bit_vec < 2 ^ 32) →
+        (cs : List (NetworkCommand C C.Signature)) (rs : List (NetworkReply C C.Signature)) →
+        AreNetworkAnswers wire size node [] cs rs →
+        network.AreWritten wire size node C.IsValue C.Signature.IsValue [] cs rs →
+        OfEachReply wire size node
+        (network.RepliesInfos wire size node C.IsValue C.Signature.IsValue) [] cs rs }
+    ensures isolation { (wire : Wire C C.Signature) (size : ℕ) (node : ℕ → Made C C.Signature) →
+        AreMade wire size node C.cmp →
+        (cs : List (NetworkCommand C C.Signature)) (rs : List (NetworkReply C C.Signature)) →
+        AreNetworkAnswers wire size node [] cs rs →
+        AtEachPoint wire size node (network.Isolate wire size node) [] cs rs }
+    ensures order { (wire : Wire C C.Signature) (size : ℕ) (node : ℕ → Made C C.Signature) →
+        AreMade wire size node C.cmp →
+        (cs : List (NetworkCommand C C.Signature)) (rs : List (NetworkReply C C.Signature)) →
+        AreNetworkAnswers wire size node [] cs rs →
+        AtEachPoint wire size node (network.Reorder wire size node) [] cs rs }
 {}

@@ -14,6 +14,7 @@ ghost use Rattle.p2p_directory.specs.Laws.LateFrames.{TakesLateAt};
 use crate::directory::{Config, Directory};
 use crate::node::endpoint::Endpoint;
 pub use crate::node::exchanged::{Exchanged, exchange};
+pub use crate::node::network::{Network, NetworkCommand, NetworkReply, NetworkRun, run_network};
 pub use crate::node::pair::{PairCommand, PairReply, PairRun, Side, run_pair};
 use crate::run::server::Server;
 use crate::run::slots::Slots;
@@ -29,6 +30,7 @@ use std::time::Duration;
 
 mod endpoint;
 mod exchanged;
+mod network;
 mod pair;
 mod room;
 
@@ -146,13 +148,7 @@ impl<C: PublicKey> Node<C> {
         ensures limits { self.new.limits ≡ self.old.limits }
         ensures verifier { self.new.verifier ≡ self.old.verifier }
     {
-        let peer = room::peer_of(&command);
-        if let Err(AllocError) = self.endpoint.make_room(&command) {
-            return Reply::OutOfMemory;
-        }
-        let reply = self.endpoint.serve(command);
-        self.endpoint.drop_room(peer);
-        reply
+        self.endpoint.step(command)
     }
 
     /// The directory.

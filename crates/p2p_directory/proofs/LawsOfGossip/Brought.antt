@@ -29,7 +29,7 @@ use Rattle.p2p_directory.proofs.LawsOfGossip.Repeated
 -- WHAT WAS GIVEN, under a weaker property
 
 module _ {C S : Type 0} (P Q : Info C S → Type 0) (weaker : (i : Info C S) → P i → Q i) where
-  gives_weaker : (c : Call C S) → Gives P c → Gives Q c
+  pub gives_weaker : (c : Call C S) → Gives P c → Gives Q c
   gives_weaker (Update infos) h = all_weaker P Q weaker infos h
   gives_weaker (Track index primary secondary) h = tt
   gives_weaker (Dial p t draw) h = tt

@@ -74,7 +74,7 @@ module _ {C S : Type 0} (wire : Wire C S) (asker replier : Made C S) where
     v = world_after replier.directory ds
 
     -- what is brought is of the peer that it is brought for
-    brought_key : (w : World C S) (p : C) (i : Info C S) →
+    pub brought_key : (w : World C S) (p : C) (i : Info C S) →
         wanted_info asker w replier v (epoch_millis replier_now) p ≡ Some i → i.public_key ≡ p
     brought_key w p i e =
         let b = Wanted.brought_is asker replier v (epoch_millis replier_now) w p i e in

@@ -3,11 +3,9 @@ use Rattle.std.proofs.Common.{◌≡◌, ℕ, Bool, true, List, [], ◌∷◌, l
 use Rattle.std.proofs.Common.{None, Ok, inl, inr, refl, sym, ◌∙◌, ap, subst}
 use Rattle.std.specs.Prelude.{◌⊎◌}
 use Rattle.std.specs.Cmp.{IsTotalOrder}
-use Rattle.std.specs.Duration.{as_nanos}
 use Rattle.std.specs.Ordering.{is_eq}
 use Rattle.std.specs.declared.cmp.Ordering.{Ordering}
 use Rattle.std.specs.declared.cmp.Ordering.TheVariants.{Equal}
-use Rattle.std.specs.declared.time.Duration.{Duration}
 use Rattle.std.proofs.lemmas.Bool.{le-ltb}
 use Rattle.std.proofs.lemmas.Cmp.{tied_itself}
 use Rattle.p2p_discovery.specs.declared.discovery.Info.{Info}
@@ -17,12 +15,6 @@ use Rattle.p2p_discovery.specs.Judgement.{Judge, judge_of, refusal}
 use Rattle.p2p_discovery.specs.Reading.{whole}
 use Rattle.p2p_directory.specs.declared.node.Received.{Received}
 use Rattle.p2p_directory.specs.declared.node.Received.TheVariants as received
-use Rattle.p2p_directory.specs.declared.node.pair.Side.{Side}
-use Rattle.p2p_directory.specs.declared.node.pair.Side.TheVariants.{Left, Right}
-use Rattle.p2p_directory.specs.declared.node.pair.PairCommand.{PairCommand}
-use Rattle.p2p_directory.specs.declared.node.pair.PairCommand.TheVariants as command
-use Rattle.p2p_directory.specs.declared.node.pair.PairReply.{PairReply}
-use Rattle.p2p_directory.specs.declared.node.pair.PairReply.TheVariants as reply
 use Rattle.p2p_directory.specs.Calls.{Call}
 use Rattle.p2p_directory.specs.Calls.Call.{Update}
 use Rattle.p2p_directory.specs.History
@@ -34,19 +26,15 @@ use Rattle.p2p_directory.specs.Received as frames
 use Rattle.p2p_directory.specs.Received.{Wire, Outcome, wire_of, applying, taken, read_at}
 use Rattle.p2p_directory.specs.Received.{received_at, applied_with}
 use Rattle.p2p_directory.specs.Nodes.{Made, standing_in, calls_with}
-use Rattle.p2p_directory.specs.Pairs.{Done, made_at, calls_at, standing_at, IsPairAnswer}
-use Rattle.p2p_directory.specs.Pairs.{ArePairAnswers}
 use Rattle.p2p_directory.specs.Laws.Gossip.{IsMade, IsUpToDate}
 use Rattle.p2p_directory.specs.Laws.LateFrames.{AreKnown, IsTaken, FitsAt, IsFor, SpellsFor}
-use Rattle.p2p_directory.specs.Laws.LateFrames.{TakesLate, TakesFrame, KeepLate}
+use Rattle.p2p_directory.specs.Laws.LateFrames.{TakesLate}
 use Rattle.p2p_directory.proofs.Definitions.Keys.{exact_from}
 use Rattle.p2p_directory.proofs.Definitions.Law
-use Rattle.p2p_directory.proofs.Nodes.Pairs.{calls_after_frame}
 use Rattle.p2p_directory.proofs.Nodes.ReadBack.{is_admitted}
 use Rattle.p2p_directory.proofs.LawsOfGossip.Lists.{all_weaker, from_members, at_member}
 use Rattle.p2p_directory.proofs.LawsOfGossip.Updates
 use Rattle.p2p_directory.proofs.LawsOfGossip.Judged
-use Rattle.p2p_directory.proofs.LawsOfGossip.Pairs
 use Rattle.p2p_directory.proofs.LawsOfGossip.Greetings.{answer_or_memory, read_back}
 
 module _ {C S : Type 0} {key_size signature_size : ℕ} {key : C → List ℕ} {signature : S → List ℕ}
@@ -163,58 +151,3 @@ module _ {C S : Type 0} {key_size signature_size : ℕ} {key : C → List ℕ} {
         (received_at wire (standing_in m wire (world calls)) frame now) r) calls)
     takes_late calls frame now r may is = λ t infos h fits.
         is_taken frame now t infos h fits calls r may is
-
-  -- IN A RUN OF TWO NODES
-
-  module _ (left right : Made C S)
-      (made : (side : Side) → IsMade cmp (made_at wire left right side)) where
-    after_frame : (done : Done C S) (side : Side) (frame : List ℕ) (now : Duration) (r : Received) →
-        IsPairAnswer wire left right done (command.Frame side frame now) (reply.Frame r) →
-        calls_at wire left right ((command.Frame side frame now, reply.Frame r) ∷ done) side
-        ≡ calls_with (applied_with (received_at wire (standing_at wire left right done side) frame
-        (as_nanos now)) r) (calls_at wire left right done side)
-    after_frame done Left frame now r is = sym (calls_after_frame wire
-        (standing_at wire left right done Left) (as_nanos now) (calls_at wire left right done Left)
-        frame (frames.may_want_memory wire (standing_at wire left right done Left) frame
-        (as_nanos now)) r is)
-    after_frame done Right frame now r is = sym (calls_after_frame wire
-        (standing_at wire left right done Right) (as_nanos now)
-        (calls_at wire left right done Right) frame
-        (frames.may_want_memory wire (standing_at wire left right done Right) frame (as_nanos now))
-        r is)
-
-    takes : (done : Done C S) (c : PairCommand C S) (r : PairReply C S) →
-        IsPairAnswer wire left right done c r →
-        TakesFrame wire IsKey IsSignature left right done c r
-    takes done (command.Frame side frame now) (reply.Frame r) is =
-        let m = made_at wire left right side in
-        let calls = calls_at wire left right done side in
-        subst (λ after. TakesLate wire IsKey IsSignature m calls frame (as_nanos now) r after)
-        (sym (after_frame done side frame now r is))
-        (takes_late m (made side) calls frame (as_nanos now) r
-        (frames.may_want_memory wire (standing_at wire left right done side) frame (as_nanos now))
-        is)
-    takes done (command.Frame side frame now) (reply.Call r) is = tt
-    takes done (command.Frame side frame now) (reply.Ask r) is = tt
-    takes done (command.Frame side frame now) (reply.Exchange r) is = tt
-    takes done (command.Frame side frame now) reply.OutOfMemory is = tt
-    takes done (command.Call side x) r is = tt
-    takes done (command.Ask side place) r is = tt
-    takes done (command.Exchange asker place asker_now replier_now) r is = tt
-
-    -- at each point of a run
-    pub keep_late : (done : Done C S) (cs : List (PairCommand C S)) (rs : List (PairReply C S)) →
-        ArePairAnswers wire left right done cs rs →
-        KeepLate wire IsKey IsSignature left right done cs rs
-    keep_late done [] rs h = tt
-    keep_late done (c ∷ cs) [] h = tt
-    keep_late done (c ∷ cs) (r ∷ rs) h =
-        (takes done c r h.0, keep_late ((c, r) ∷ done) cs rs h.1)
-
-  -- .. from the start
-  pub keep_run : (left right : Made C S) → IsMade cmp left → IsMade cmp right →
-      (cs : List (PairCommand C S)) (rs : List (PairReply C S)) →
-      ArePairAnswers wire left right [] cs rs →
-      KeepLate wire IsKey IsSignature left right [] cs rs
-  keep_run left right l r cs rs answers =
-      keep_late left right (Pairs.both wire left right cmp l r) [] cs rs answers

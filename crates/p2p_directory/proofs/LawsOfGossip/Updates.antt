@@ -21,7 +21,7 @@ use Rattle.p2p_directory.proofs.LawsOfGossip.Lists.{Member, from_members, member
 module _ {C S : Type 0} (s : Setup C S) where
   -- AT LEAST AS NEW
 
-  since_first : (n : ℕ) (i : Info C S) (o : Option (Info C S)) → n ≤ i.timestamp →
+  pub since_first : (n : ℕ) (i : Info C S) (o : Option (Info C S)) → n ≤ i.timestamp →
       IsSince n (History.earlier_best i o)
   since_first n i None le = le
   since_first n i (Some j) le = go (nat_lt i.timestamp j.timestamp) refl

@@ -104,3 +104,20 @@ module _ {C S : Type 0} (s : Setup C S) (itself : (p : C) → History.same s p p
   pub primary_at_place : (w : World C S) (place : ℕ) (x : SetAt C) (p : C) →
       set_at_place s w place ≡ Some x → Member x.primary p → is_present_in s w p ≡ true
   primary_at_place w place x p e m = primary_present w x p (member_at w.sets place x e) m
+
+-- .. by their names
+module _ {C S : Type 0} (s : Setup C S) where
+  pub named_at_place : (w : World C S) (place : ℕ) (x : SetAt C) (p : C) →
+      set_at_place s w place ≡ Some x → History.is_in s p x.primary ≡ true →
+      is_present_in s w p ≡ true
+  named_at_place w place x p e named_in =
+      let counted : nat_lt 0 (History.primary_count s p w.sets) ≡ true =
+      lt-ltb 0 (History.primary_count s p w.sets)
+      (count_some (λ y. History.is_in s p y.primary) w.sets x (member_at w.sets place x e) named_in)
+      in
+      let named : History.is_named s p w.sets ≡ true =
+      or_left (nat_lt 0 (History.primary_count s p w.sets))
+      (nat_lt 0 (History.secondary_count s p w.sets)) counted in
+      or_left (History.is_persistent s p || History.is_named s p w.sets)
+      (not (History.is_inert (w.peer p).status))
+      (or_right (History.is_persistent s p) (History.is_named s p w.sets) named)

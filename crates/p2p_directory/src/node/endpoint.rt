@@ -13,14 +13,14 @@ ghost use Rattle.p2p_directory.specs.Run.{call_of, was_made};
 ghost use Rattle.p2p_directory.specs.Received.{wire_of, greeted, replied, taken, takes_room};
 ghost use Rattle.p2p_directory.specs.Received.{applies, told_with};
 ghost use Rattle.p2p_directory.specs.Nodes.{may_reserve, Answers, AnswersFrame, AsksWith};
-ghost use Rattle.p2p_directory.specs.Nodes.{AreValues, TellsValues};
+ghost use Rattle.p2p_directory.specs.Nodes.{AreValues, TellsValues, IsStepped};
 ghost use Rattle.p2p_directory.specs.Private.Frames.{fault_answer, HasSpelling, HaveSpelling};
 ghost use Rattle.p2p_directory.specs.Private.Serving.{has_room};
 ghost use Rattle.p2p_directory.specs.Private.Slots.{contents, has_slot, held_in};
 ghost use Rattle.p2p_directory.specs.Private.Endpoints.{node_of, IsServedBy};
 
 use crate::directory::Directory;
-use crate::node::Received;
+use crate::node::{Received, room};
 use crate::run::server::Server;
 use crate::run::{Command, Held, Reply};
 use bytes::Bytes;
@@ -119,6 +119,22 @@ impl<C: PublicKey> Endpoint<C> {
         self.server.in_order();
         self.server.drop_room(peer);
         self.server.in_order();
+    }
+
+    /// Serves one command, with a slot for what it may be granted while it does.
+    pub fn step(&mut self, command: Command<C>) -> Reply<C>
+        ensures stepped { IsStepped C.cmp command result (node_of self.old) (node_of self.new) }
+        ensures unchanged { was_made result ≡ false → node_of self.new ≡ node_of self.old }
+        ensures limits { self.new.limits ≡ self.old.limits }
+        ensures verifier { self.new.verifier ≡ self.old.verifier }
+    {
+        let peer = room::peer_of(&command);
+        if let Err(AllocError) = self.make_room(&command) {
+            return Reply::OutOfMemory;
+        }
+        let reply = self.serve(command);
+        self.drop_room(peer);
+        reply
     }
 
     /// The directory.

@@ -1,22 +1,21 @@
 //! Two nodes that are given commands, asked, handed frames, and that exchange infos.
 
-ghost use Rattle.std.specs.Prelude.{◌≡◌, ◌<◌, ◌-◌, ◌^◌, [], true, IfOk, OnOk};
+ghost use Rattle.std.specs.Prelude.{◌≡◌, ◌<◌, ◌≤◌, ◌-◌, ◌^◌, [], ◌∷◌, true, IfOk, length};
 ghost use Rattle.std.specs.Int.NonZero.{non_zero_usize_get};
 ghost use Rattle.std.specs.List.{AllPass};
-ghost use Rattle.p2p_discovery.specs.Info.{IsInfo, IsKeyed};
+ghost use Rattle.std.specs.Vec.{vec_capacity};
 ghost use Rattle.p2p_directory.specs.declared.node.pair.Side.TheVariants as side;
 ghost use Rattle.p2p_directory.specs.Received.{wire_of};
 ghost use Rattle.p2p_directory.specs.Nodes.{NodeStandsAt, made_of};
-ghost use Rattle.p2p_directory.specs.Pairs.{ArePairAnswers, calls_left};
-ghost use Rattle.p2p_directory.specs.Laws.Gossip.{KeepExchanges, KeepSigned, KeepGreetings};
-ghost use Rattle.p2p_directory.specs.Laws.LateFrames.{KeepReplies, KeepLate};
-ghost use Rattle.p2p_directory.specs.Private.Endpoints.{node_of};
-ghost use Rattle.p2p_directory.specs.Private.Pairing.{has_pair_room, IsPairServed, IsPairWritten};
-ghost use Rattle.p2p_directory.specs.Private.Pairing as pairing;
-ghost use Rattle.p2p_directory.specs.Private.Slots.{has_slot};
+ghost use Rattle.p2p_directory.specs.Pairs.{ArePairAnswers, calls_left, commands_in, command_in};
+ghost use Rattle.p2p_directory.specs.Pairs.{replies_in, reply_in};
+ghost use Rattle.p2p_directory.specs.Pairs as pairs;
+ghost use Rattle.p2p_directory.specs.Laws.TwoNodes.{KeepExchanges, KeepSigned, KeepGreetings};
+ghost use Rattle.p2p_directory.specs.Laws.TwoNodes.{KeepReplies, KeepLate};
+ghost use Rattle.p2p_directory.specs.Private.Networks.{is_of_node};
 
-use crate::node::endpoint::Endpoint;
 use crate::node::exchanged::Exchanged;
+use crate::node::network::{NetworkCommand, NetworkReply, NetworkRun, run_network};
 use crate::node::{Node, Received, Setup};
 use crate::run::{Command, Reply};
 use bytes::Bytes;
@@ -81,9 +80,9 @@ pub struct PairRun<C: PublicKey> {
     pub replies: Vec<PairReply<C>>,
 }
 
-/// Makes two nodes and serves the commands in turn. Each reply is that of the call, by what was
-/// done before it; a command that wants memory, or is replied `NotReserved` or `NotHeld`, is as not
-/// given.
+/// Makes two nodes and serves the commands in turn, as [`run_network`] of two. Each reply is that
+/// of the call, by what was done before it; a command that wants memory, or is replied
+/// `NotReserved` or `NotHeld`, is as not given.
 ///
 /// Room for all replies and all reservations is taken before the first command, so a `Call` is
 /// replied `OutOfMemory` only where [`run`](crate::run::run) may reply it, an `Ask` only where
@@ -168,241 +167,121 @@ pub fn run_pair<C: PublicKey>(
         C.IsValue C.Signature.IsValue (made_of C.cmp left) (made_of C.cmp right)
         [] commands.items run.replies.items) }
 {
-    let mut replies = Vec::with_capacity(alloc, commands.len())?;
-    let (mut left, mut right) = ends_of(alloc, left, right, &commands)?;
-    for command in commands {
-        replies.push_reserved(serve(&mut left, &mut right, command));
-    }
+    let replies = Vec::with_capacity(alloc, commands.len())?;
+    let setups = both(alloc, left, right)?;
+    let commands = network_commands(alloc, commands)?;
+    let NetworkRun {
+        nodes,
+        replies: told,
+    } = run_network(alloc, setups, commands)?;
+    let replies = pair_replies(told, replies);
+    let (left, right) = nodes.into_both();
     Ok(PairRun {
-        left: Node { endpoint: left },
-        right: Node { endpoint: right },
+        left,
+        right,
         replies,
     })
 }
 
-// Both nodes, with room for what the commands may be granted.
-fn ends_of<C: PublicKey>(
+// Both setups.
+fn both<C: PublicKey>(
     alloc: Global,
     left: Setup<C>,
     right: Setup<C>,
-    commands: &[PairCommand<C>],
-) -> Result<(Endpoint<C>, Endpoint<C>), AllocError>
-    requires left_sets { non_zero_usize_get left.cfg.max_sets < 2 ^ 64 - 1 }
-    requires left_bits { left.payload.max_bit_vec < 2 ^ 32 }
-    requires right_sets { non_zero_usize_get right.cfg.max_sets < 2 ^ 64 - 1 }
-    requires right_bits { right.payload.max_bit_vec < 2 ^ 32 }
-    ensures left { IfOk result (λ ends. NodeStandsAt (made_of C.cmp left) [] (node_of ends.0)) }
-    ensures right { IfOk result (λ ends. NodeStandsAt (made_of C.cmp right) [] (node_of ends.1)) }
-    ensures left_own { IfOk result (λ _.
-        IsInfo left.myself × IsKeyed C.IsValue C.Signature.IsValue left.myself) }
-    ensures right_own { IfOk result (λ _.
-        IsInfo right.myself × IsKeyed C.IsValue C.Signature.IsValue right.myself) }
-    ensures room { IfOk result (λ ends.
-        AllPass (has_pair_room C.cmp ends.0.slots ends.1.slots) commands.now) }
+) -> Result<Vec<Setup<C>>, AllocError>
+    ensures { IfOk result (λ setups. setups.items ≡ left ∷ right ∷ []) }
 {
-    let mut left = end_of(alloc, left)?;
-    let mut right = match end_of(alloc, right) {
-        Ok(right) => right,
-        Err(AllocError) => {
-            left.finish();
-            return Err(AllocError);
-        }
-    };
-    if make_room(&mut left, &mut right, commands).is_err() {
-        left.finish();
-        right.finish();
-        return Err(AllocError);
-    }
-    Ok((left, right))
+    let mut setups = Vec::with_capacity(alloc, 2)?;
+    setups.push_reserved(left);
+    setups.push_reserved(right);
+    Ok(setups)
 }
 
-// The endpoint of a new node.
-fn end_of<C: PublicKey>(alloc: Global, setup: Setup<C>) -> Result<Endpoint<C>, AllocError>
-    requires sets { non_zero_usize_get setup.cfg.max_sets < 2 ^ 64 - 1 }
-    requires bits { setup.payload.max_bit_vec < 2 ^ 32 }
-    ensures stands { IfOk result (λ end. NodeStandsAt (made_of C.cmp setup) [] (node_of end)) }
-    ensures own { IfOk result (λ _.
-        IsInfo setup.myself × IsKeyed C.IsValue C.Signature.IsValue setup.myself) }
+// The commands, as to a network.
+fn network_commands<C: PublicKey>(
+    alloc: Global,
+    commands: Vec<PairCommand<C>>,
+) -> Result<Vec<NetworkCommand<C>>, AllocError>
+    ensures { IfOk result (λ given. given.items ≡ commands_in commands.items) }
 {
-    let Node { endpoint } = Node::new(alloc, setup)?;
-    Ok(endpoint)
-}
-
-// Makes slots for what the commands may be granted.
-fn make_room<C: PublicKey>(
-    left: &mut Endpoint<C>,
-    right: &mut Endpoint<C>,
-    commands: &[PairCommand<C>],
-) -> Result<(), AllocError>
-    ensures left { node_of left.new ≡ node_of left.old }
-    ensures right { node_of right.new ≡ node_of right.old }
-    ensures room { OnOk result
-        (AllPass (has_pair_room C.cmp left.new.slots right.new.slots) commands.now) }
-{
+    let mut given = Vec::with_capacity(alloc, commands.len())?;
     for command in commands {
-        make_one(left, right, command)?;
+        given.push_reserved(network_command(command));
     }
-    Ok(())
+    Ok(given)
 }
 
-// Makes a slot for what the command may be granted, if it may be.
-fn make_one<C: PublicKey>(
-    left: &mut Endpoint<C>,
-    right: &mut Endpoint<C>,
-    command: &PairCommand<C>,
-) -> Result<(), AllocError>
-    ensures left { node_of left.new ≡ node_of left.old }
-    ensures right { node_of right.new ≡ node_of right.old }
-    ensures left_slots { OnOk result ((q : C) →
-        has_slot C.cmp left.old.slots q ≡ true → has_slot C.cmp left.new.slots q ≡ true) }
-    ensures right_slots { OnOk result ((q : C) →
-        has_slot C.cmp right.old.slots q ≡ true → has_slot C.cmp right.new.slots q ≡ true) }
-    ensures room { OnOk result
-        (has_pair_room C.cmp left.new.slots right.new.slots command.now ≡ true) }
+// The command, as to a network.
+fn network_command<C: PublicKey>(command: PairCommand<C>) -> NetworkCommand<C>
+    ensures { result ≡ command_in command }
 {
     match command {
-        PairCommand::Call(Side::Left, command) => left.make_room(command),
-        PairCommand::Call(Side::Right, command) => right.make_room(command),
-        _ => Ok(()),
-    }
-}
-
-// Serves one command to two nodes, where there is room for what it may be granted.
-fn serve<C: PublicKey>(
-    left: &mut Endpoint<C>,
-    right: &mut Endpoint<C>,
-    command: PairCommand<C>,
-) -> PairReply<C>
-    requires room { has_pair_room C.cmp left.old.slots right.old.slots command ≡ true }
-    ensures served { IsPairServed C.cmp (wire_of C.SIZE C.spelled C.value
-        C.Signature.SIZE C.Signature.spelled C.Signature.value C.verifies)
-        command result
-        (node_of left.old) (node_of right.old) (node_of left.new) (node_of right.new) }
-    ensures written { IsPairWritten C.cmp (wire_of C.SIZE C.spelled C.value
-        C.Signature.SIZE C.Signature.spelled C.Signature.value C.verifies)
-        C.IsValue C.Signature.IsValue command result
-        (node_of left.old) (node_of right.old) }
-    ensures left_slots { (q : C) →
-        has_slot C.cmp left.new.slots q ≡ has_slot C.cmp left.old.slots q }
-    ensures right_slots { (q : C) →
-        has_slot C.cmp right.new.slots q ≡ has_slot C.cmp right.old.slots q }
-{
-    match command {
-        PairCommand::Call(side, command) => call(left, right, side, command),
-        PairCommand::Ask(side, place) => ask(left, right, side, place),
-        PairCommand::Frame(side, frame, now) => receive(left, right, side, frame, now),
+        PairCommand::Call(side, command) => NetworkCommand::Call(index(side), command),
+        PairCommand::Ask(side, place) => NetworkCommand::Ask(index(side), place),
+        PairCommand::Frame(side, frame, now) => NetworkCommand::Frame(index(side), frame, now),
         PairCommand::Exchange {
             asker,
             place,
             asker_now,
             replier_now,
-        } => exchange(left, right, asker, place, asker_now, replier_now),
+        } => NetworkCommand::Exchange {
+            asker: index(asker),
+            replier: index(other(asker)),
+            place,
+            asker_now,
+            replier_now,
+        },
     }
 }
 
-// The node at a side serves a command of a run.
-fn call<C: PublicKey>(
-    left: &mut Endpoint<C>,
-    right: &mut Endpoint<C>,
-    side: Side,
-    command: Command<C>,
-) -> PairReply<C>
-    requires room { has_pair_room C.cmp left.old.slots right.old.slots
-        (PairCommand.Call side command) ≡ true }
-    ensures served { IsPairServed C.cmp (wire_of C.SIZE C.spelled C.value
-        C.Signature.SIZE C.Signature.spelled C.Signature.value C.verifies)
-        (PairCommand.Call side command) result
-        (node_of left.old) (node_of right.old) (node_of left.new) (node_of right.new) }
-    ensures left_slots { (q : C) →
-        has_slot C.cmp left.new.slots q ≡ has_slot C.cmp left.old.slots q }
-    ensures right_slots { (q : C) →
-        has_slot C.cmp right.new.slots q ≡ has_slot C.cmp right.old.slots q }
-{
-    PairReply::Call(match side {
-        Side::Left => left.serve(command),
-        Side::Right => right.serve(command),
-    })
-}
-
-// The node at a side is asked for the frame of the bits at a place.
-fn ask<C: PublicKey>(
-    left: &Endpoint<C>,
-    right: &Endpoint<C>,
-    side: Side,
-    place: usize,
-) -> PairReply<C>
-    ensures served { IsPairServed C.cmp (wire_of C.SIZE C.spelled C.value
-        C.Signature.SIZE C.Signature.spelled C.Signature.value C.verifies)
-        (PairCommand.Ask side place) result
-        (node_of left.now) (node_of right.now) (node_of left.now) (node_of right.now) }
-    ensures written { IsPairWritten C.cmp (wire_of C.SIZE C.spelled C.value
-        C.Signature.SIZE C.Signature.spelled C.Signature.value C.verifies)
-        C.IsValue C.Signature.IsValue (PairCommand.Ask side place) result
-        (node_of left.now) (node_of right.now) }
+// The number of the node at a side.
+fn index(side: Side) -> usize
+    ensures { result ≡ pairs.index side }
 {
     match side {
-        Side::Left => reply_to_ask(left.ask(place)),
-        Side::Right => reply_to_ask(right.ask(place)),
+        Side::Left => 0,
+        Side::Right => 1,
     }
 }
 
-// The reply that the answer to an `Ask` is.
-fn reply_to_ask<C: PublicKey>(frame: Result<Option<Bytes>, AllocError>) -> PairReply<C>
-    ensures { result ≡ pairing.reply_to_ask frame }
+// The side with which one exchanges.
+fn other(side: Side) -> Side
+    ensures { result ≡ pairs.other side }
 {
-    match frame {
-        Ok(frame) => PairReply::Ask(frame),
-        Err(AllocError) => PairReply::OutOfMemory,
+    match side {
+        Side::Left => Side::Right,
+        Side::Right => Side::Left,
     }
 }
 
-// The node at a side takes a frame.
-fn receive<C: PublicKey>(
-    left: &mut Endpoint<C>,
-    right: &mut Endpoint<C>,
-    side: Side,
-    frame: Bytes,
-    now: Duration,
-) -> PairReply<C>
-    ensures served { IsPairServed C.cmp (wire_of C.SIZE C.spelled C.value
-        C.Signature.SIZE C.Signature.spelled C.Signature.value C.verifies)
-        (PairCommand.Frame side frame now) result
-        (node_of left.old) (node_of right.old) (node_of left.new) (node_of right.new) }
-    ensures written { IsPairWritten C.cmp (wire_of C.SIZE C.spelled C.value
-        C.Signature.SIZE C.Signature.spelled C.Signature.value C.verifies)
-        C.IsValue C.Signature.IsValue (PairCommand.Frame side frame now) result
-        (node_of left.old) (node_of right.old) }
-    ensures left_slots { (q : C) →
-        has_slot C.cmp left.new.slots q ≡ has_slot C.cmp left.old.slots q }
-    ensures right_slots { (q : C) →
-        has_slot C.cmp right.new.slots q ≡ has_slot C.cmp right.old.slots q }
+// What a network replied, as a pair does: there are both nodes. Takes no memory.
+fn pair_replies<C: PublicKey>(
+    told: Vec<NetworkReply<C>>,
+    replies: Vec<PairReply<C>>,
+) -> Vec<PairReply<C>>
+    requires nodes { AllPass is_of_node told.items }
+    requires empty { replies.items ≡ [] }
+    requires room { length told.items ≤ vec_capacity replies }
+    ensures { replies_in result.items ≡ told.items }
 {
-    PairReply::Frame(match side {
-        Side::Left => left.answer(frame, now),
-        Side::Right => right.answer(frame, now),
-    })
+    let mut replies = replies;
+    for reply in told {
+        replies.push_reserved(pair_reply(reply));
+    }
+    replies
 }
 
-// The node at a side exchanges infos with the other.
-fn exchange<C: PublicKey>(
-    left: &mut Endpoint<C>,
-    right: &mut Endpoint<C>,
-    asker: Side,
-    place: usize,
-    asker_now: Duration,
-    replier_now: Duration,
-) -> PairReply<C>
-    ensures served { IsPairServed C.cmp (wire_of C.SIZE C.spelled C.value
-        C.Signature.SIZE C.Signature.spelled C.Signature.value C.verifies)
-        (PairCommand.Exchange asker place asker_now replier_now) result
-        (node_of left.old) (node_of right.old) (node_of left.new) (node_of right.new) }
-    ensures left_slots { (q : C) →
-        has_slot C.cmp left.new.slots q ≡ has_slot C.cmp left.old.slots q }
-    ensures right_slots { (q : C) →
-        has_slot C.cmp right.new.slots q ≡ has_slot C.cmp right.old.slots q }
+// One reply.
+fn pair_reply<C: PublicKey>(reply: NetworkReply<C>) -> PairReply<C>
+    requires { is_of_node reply ≡ true }
+    ensures { reply_in result ≡ reply }
 {
-    PairReply::Exchange(match asker {
-        Side::Left => left.exchange_with(right, place, asker_now, replier_now),
-        Side::Right => right.exchange_with(left, place, asker_now, replier_now),
-    })
+    match reply {
+        NetworkReply::Call(reply) => PairReply::Call(reply),
+        NetworkReply::Ask(frame) => PairReply::Ask(frame),
+        NetworkReply::Frame(answer) => PairReply::Frame(answer),
+        NetworkReply::Exchange(exchanged) => PairReply::Exchange(exchanged),
+        NetworkReply::OutOfMemory => PairReply::OutOfMemory,
+        NetworkReply::NoNode => unreachable!(),
+    }
 }

@@ -1,0 +1,142 @@
+-- Runs of a network: its nodes at the start, after one more reply, and in the end.
+use Rattle.std.proofs.Common.{◌≡◌, ◌<◌, ℕ, zero, suc, List, [], ◌∷◌, ◌++◌, length, refl, sym, ◌∙◌}
+use Rattle.std.proofs.Common.{subst, arith}
+use Rattle.std.specs.Prelude.{slice_index_or}
+use Rattle.std.specs.declared.cmp.Ordering.{Ordering}
+use Rattle.std.proofs.lemmas.List.{get_or-map, length-map}
+use Rattle.p2p_directory.specs.declared.node.Setup.{Setup as Given}
+use Rattle.p2p_directory.specs.declared.node.network.NetworkCommand.{NetworkCommand}
+use Rattle.p2p_directory.specs.declared.node.network.NetworkReply.{NetworkReply}
+use Rattle.p2p_directory.specs.Directory.{DirectoryView}
+use Rattle.p2p_directory.specs.Held.{ReleasesAll}
+use Rattle.p2p_directory.specs.Received.{Wire}
+use Rattle.p2p_directory.specs.Nodes.{Made, NodeView, NodeStandsAt, made_of}
+use Rattle.p2p_directory.specs.Network.{Done, IsNetworkAnswer, AreNetworkAnswers, done_after}
+use Rattle.p2p_directory.specs.Network.{StandAfter, node_made, AreReleased}
+use Rattle.p2p_directory.specs.Laws.Network.{IsWritten, AreWritten}
+use Rattle.p2p_directory.specs.Private.Endpoints.{EndpointView, node_of}
+use Rattle.p2p_directory.specs.Private.Networks.{nodes_of, IsAnsweredAt}
+
+-- TWO LISTS, whose elements belong together
+
+-- R holds of the two at each place
+abbrev pub OfBoth : {A B : Type 0} → (A → B → Type 0) → List A → List B → Type 0
+OfBoth {A} {B} R xs ys = (k : ℕ) (a : A) (b : B) → k < length xs →
+    R (slice_index_or xs k a) (slice_index_or ys k b)
+
+pub both_push : {A B : Type 0} (R : A → B → Type 0) (xs : List A) (ys : List B) (x : A) (y : B) →
+    length ys ≡ length xs → OfBoth R xs ys → R x y → OfBoth R (xs ++ x ∷ []) (ys ++ y ∷ [])
+both_push R [] [] x y same all one zero a b lt = one
+both_push R [] [] x y same all one (suc k) a b lt = absurd (omega (arith, lt))
+both_push R [] (z ∷ ys) x y same all one k a b lt = absurd (omega (arith, same))
+both_push R (z ∷ xs) [] x y same all one k a b lt = absurd (omega (arith, same))
+both_push R (z ∷ xs) (w ∷ ys) x y same all one zero a b lt = all zero a b (omega arith)
+both_push R (z ∷ xs) (w ∷ ys) x y same all one (suc k) a b lt =
+    both_push R xs ys x y (omega (arith, same)) (λ j c d inside. all (suc j) c d (omega (arith, inside)))
+    one k a b (omega (arith, lt))
+
+-- one more element
+pub all_push : {A : Type 0} (P : A → Type 0) (xs : List A) (x : A) →
+    ((k : ℕ) (a : A) → k < length xs → P (slice_index_or xs k a)) → P x →
+    (k : ℕ) (a : A) → k < length (xs ++ x ∷ []) → P (slice_index_or (xs ++ x ∷ []) k a)
+all_push P [] x all one zero a lt = one
+all_push P [] x all one (suc k) a lt = absurd (omega (arith, lt))
+all_push P (y ∷ xs) x all one zero a lt = all zero a (omega arith)
+all_push P (y ∷ xs) x all one (suc k) a lt =
+    all_push P xs x (λ j b inside. all (suc j) b (omega (arith, inside))) one k a (omega (arith, lt))
+
+module _ {C S : Type 0} (cmp : C → C → Ordering) where
+  -- THE START
+
+  -- an endpoint is a new node of a setup
+  abbrev pub IsNew : Given C S → EndpointView C S → Type 0
+  IsNew given e = NodeStandsAt (made_of cmp given) [] (node_of e)
+
+  pub stand_at_start : (wire : Wire C S) (setups : List (Given C S)) (es : List (EndpointView C S))
+      (other : Given C S) → length es ≡ length setups → OfBoth IsNew setups es →
+      StandAfter wire (length setups) (node_made cmp other setups) [] (nodes_of es)
+  stand_at_start wire setups es other same all = record {
+    count = length-map es node_of ∙ same;
+    each = λ i v lt. each i v lt es same all;
+  }
+    where
+      each : (i : ℕ) (v : NodeView C S) → i < length setups → (es : List (EndpointView C S)) →
+          length es ≡ length setups → OfBoth IsNew setups es →
+          NodeStandsAt (made_of cmp (slice_index_or setups i other)) []
+          (slice_index_or (nodes_of es) i v)
+      each i v lt [] same all = absurd (omega (arith, lt, same))
+      each i v lt (e ∷ es) same all =
+          subst (NodeStandsAt (made_of cmp (slice_index_or setups i other)) [])
+          (sym (get_or-map node_of (e ∷ es) i e v
+          (subst (λ n. i < n) (sym same) lt))) (all i other e lt)
+
+  -- THE END
+
+  -- all that is held was released
+  abbrev pub IsReleased : EndpointView C S → DirectoryView C S → Type 0
+  IsReleased e d = ReleasesAll cmp (node_of e).held (node_of e).directory d
+
+  pub are_released : (es : List (EndpointView C S)) (ds : List (DirectoryView C S)) →
+      length ds ≡ length es → OfBoth IsReleased es ds → AreReleased cmp (nodes_of es) ds
+  are_released es ds same all = record {
+    count = same ∙ sym (length-map es node_of);
+    each = λ i v d lt. each es all i v d (subst (λ n. i < n) (length-map es node_of) lt);
+  }
+    where
+      each : (es : List (EndpointView C S)) → OfBoth IsReleased es ds → (i : ℕ) (v : NodeView C S)
+          (d : DirectoryView C S) → i < length es → let node = slice_index_or (nodes_of es) i v in
+          ReleasesAll cmp node.held node.directory (slice_index_or ds i d)
+      each [] all i v d lt = absurd (omega (arith, lt))
+      each (e ∷ es) all i v d lt = subst
+          (λ (n : NodeView C S). ReleasesAll cmp n.held n.directory (slice_index_or ds i d))
+          (sym (get_or-map node_of (e ∷ es) i e v lt)) (all i e d lt)
+
+-- ONE MORE REPLY
+
+module _ {C S : Type 0} (wire : Wire C S) (size : ℕ) (node : ℕ → Made C S) where
+  answers_push : (done : Done C S) (cs : List (NetworkCommand C S)) (rs : List (NetworkReply C S))
+      (c : NetworkCommand C S) (r : NetworkReply C S) →
+      AreNetworkAnswers wire size node done cs rs →
+      IsNetworkAnswer wire size node (done_after wire size node done cs rs) c r →
+      AreNetworkAnswers wire size node done (cs ++ c ∷ []) (rs ++ r ∷ [])
+  answers_push done [] [] c r h last = (last, tt)
+  answers_push done [] (q ∷ rs) c r h last = absurd h
+  answers_push done (b ∷ cs) [] c r h last = absurd h
+  answers_push done (b ∷ cs) (q ∷ rs) c r h last =
+      (h.0, answers_push ((b, q) ∷ done) cs rs c r h.1 last)
+
+  done_push : (done : Done C S) (cs : List (NetworkCommand C S)) (rs : List (NetworkReply C S))
+      (c : NetworkCommand C S) (r : NetworkReply C S) →
+      AreNetworkAnswers wire size node done cs rs →
+      done_after wire size node done (cs ++ c ∷ []) (rs ++ r ∷ [])
+      ≡ (c, r) ∷ done_after wire size node done cs rs
+  done_push done [] [] c r h = refl
+  done_push done [] (q ∷ rs) c r h = absurd h
+  done_push done (b ∷ cs) [] c r h = absurd h
+  done_push done (b ∷ cs) (q ∷ rs) c r h = done_push ((b, q) ∷ done) cs rs c r h.1
+
+  -- one more command
+  pub one_more : (cs : List (NetworkCommand C S)) (rs : List (NetworkReply C S))
+      (c : NetworkCommand C S) (r : NetworkReply C S) (vs : List (NodeView C S)) →
+      AreNetworkAnswers wire size node [] cs rs →
+      IsAnsweredAt wire size node (done_after wire size node [] cs rs) c r vs →
+      AreNetworkAnswers wire size node [] (cs ++ c ∷ []) (rs ++ r ∷ []) × StandAfter wire size node
+      (done_after wire size node [] (cs ++ c ∷ []) (rs ++ r ∷ [])) vs
+  one_more cs rs c r vs answers served = (
+    answers_push [] cs rs c r answers served.answer,
+    subst (λ done. StandAfter wire size node done vs) (sym (done_push [] cs rs c r answers))
+        served.stand,
+  )
+
+  -- what is told with one more reply has a spelling, too
+  module _ (IsKey : C → Type 0) (IsSignature : S → Type 0) where
+    pub written_push : (done : Done C S) (cs : List (NetworkCommand C S))
+        (rs : List (NetworkReply C S)) (c : NetworkCommand C S) (r : NetworkReply C S) →
+        AreNetworkAnswers wire size node done cs rs → AreWritten wire size node IsKey IsSignature done cs rs →
+        IsWritten wire size node IsKey IsSignature (done_after wire size node done cs rs) c r →
+        AreWritten wire size node IsKey IsSignature done (cs ++ c ∷ []) (rs ++ r ∷ [])
+    written_push done [] [] c r h told last = (last, tt)
+    written_push done [] (q ∷ rs) c r h told last = absurd h
+    written_push done (b ∷ cs) [] c r h told last = absurd h
+    written_push done (b ∷ cs) (q ∷ rs) c r h told last =
+        (told.0, written_push ((b, q) ∷ done) cs rs c r h.1 told.1 last)

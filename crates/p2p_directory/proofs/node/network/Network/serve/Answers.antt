@@ -1,0 +1,63 @@
+use Rattle.std.proofs.Common.{sym, subst, arith}
+use Rattle.std.proofs.lemmas.List.{with_items_is}
+use Rattle.std.specs.Prelude.{length}
+use Rattle.p2p_directory.specs.declared.node.network.NetworkCommand.{NetworkCommand}
+use Rattle.p2p_directory.specs.declared.node.network.NetworkCommand.TheVariants as command
+use Rattle.p2p_directory.specs.Network.{node_made, StandAfter, IsServedAt}
+use Rattle.p2p_directory.specs.Received.{wire_of}
+use Rattle.p2p_directory.specs.Private.Networks.{nodes_of}
+use Rattle.p2p_directory.proofs.Nodes.Networks.{answered_served}
+use Rattle.p2p_directory.proofs.node.network.Network.serve.Goals as goal
+
+pub returns-in-Call : goal.returns-in-Call
+returns-in-Call g c = rw (← c.self.view_is, c.in-Call.is) (λ setups done other at.
+    let wire = wire_of g.C.FixedBytes.SIZE g.C.FixedBytes.spelled g.C.FixedBytes.value g.C.Signature.FixedBytes.SIZE g.C.Signature.FixedBytes.spelled g.C.Signature.FixedBytes.value g.C.PublicKey.verifies in
+    let size = length setups in
+    let node = node_made g.C.Ord.cmp other setups in
+    let x : NetworkCommand g.row.C.Denot g.row.C-Signature.Denot =
+    command.Call c.in-Call.node c.in-Call.command in
+    let same = with_items_is c.self.inside.ends c.step.new.ends
+    (omega (arith, c.step.auto.ends, c.deref_mut.ensures.len)) in
+    subst (λ es. IsServedAt wire size node done x c.step.result (nodes_of es)) (sym same)
+    (c.step.ensures setups done other (subst (λ es. StandAfter wire size node done (nodes_of es))
+    (sym c.deref_mut.ensures.value) at)))
+
+pub returns-in-Ask : goal.returns-in-Ask
+returns-in-Ask g c = rw (← c.self.view_is, c.in-Ask.is) (λ setups done other at.
+    let wire = wire_of g.C.FixedBytes.SIZE g.C.FixedBytes.spelled g.C.FixedBytes.value g.C.Signature.FixedBytes.SIZE g.C.Signature.FixedBytes.spelled g.C.Signature.FixedBytes.value g.C.PublicKey.verifies in
+    let size = length setups in
+    let node = node_made g.C.Ord.cmp other setups in
+    let x : NetworkCommand g.row.C.Denot g.row.C-Signature.Denot =
+    command.Ask c.in-Ask.node c.in-Ask.place in
+    subst (λ es. IsServedAt wire size node done x c.ask.result (nodes_of es)) c.deref.ensures.value
+    (answered_served wire size node done x _ _ (c.ask.ensures.answered setups done other (subst (λ es. StandAfter wire size node done (nodes_of es))
+    (sym c.deref.ensures.value) at))))
+
+pub returns-in-Frame : goal.returns-in-Frame
+returns-in-Frame g c = rw (← c.self.view_is, c.in-Frame.is) (λ setups done other at.
+    let wire = wire_of g.C.FixedBytes.SIZE g.C.FixedBytes.spelled g.C.FixedBytes.value g.C.Signature.FixedBytes.SIZE g.C.Signature.FixedBytes.spelled g.C.Signature.FixedBytes.value g.C.PublicKey.verifies in
+    let size = length setups in
+    let node = node_made g.C.Ord.cmp other setups in
+    let x : NetworkCommand g.row.C.Denot g.row.C-Signature.Denot =
+    command.Frame c.in-Frame.node c.in-Frame.frame c.in-Frame.now in
+    let same = with_items_is c.self.inside.ends c.receive.new.ends
+    (omega (arith, c.receive.auto.ends, c.deref_mut-in-Frame.ensures.len)) in
+    subst (λ es. IsServedAt wire size node done x c.receive.result (nodes_of es)) (sym same)
+    (answered_served wire size node done x _ _
+    (c.receive.ensures.answered setups done other (subst (λ es. StandAfter wire size node done (nodes_of es))
+    (sym c.deref_mut-in-Frame.ensures.value) at))))
+
+pub returns-in-Exchange : goal.returns-in-Exchange
+returns-in-Exchange g c = rw (← c.self.view_is, c.in-Exchange.is) (λ setups done other at.
+    let wire = wire_of g.C.FixedBytes.SIZE g.C.FixedBytes.spelled g.C.FixedBytes.value g.C.Signature.FixedBytes.SIZE g.C.Signature.FixedBytes.spelled g.C.Signature.FixedBytes.value g.C.PublicKey.verifies in
+    let size = length setups in
+    let node = node_made g.C.Ord.cmp other setups in
+    let x : NetworkCommand g.row.C.Denot g.row.C-Signature.Denot =
+    command.Exchange c.in-Exchange.asker c.in-Exchange.replier c.in-Exchange.place
+    c.in-Exchange.asker_now c.in-Exchange.replier_now in
+    let same = with_items_is c.self.inside.ends c.exchange.new.ends
+    (omega (arith, c.exchange.auto.ends, c.deref_mut-in-Exchange.ensures.len)) in
+    subst (λ es. IsServedAt wire size node done x c.exchange.result (nodes_of es)) (sym same)
+    (answered_served wire size node done x _ _
+    (c.exchange.ensures.answered setups done other (subst (λ es. StandAfter wire size node done (nodes_of es))
+    (sym c.deref_mut-in-Exchange.ensures.value) at))))

@@ -1,0 +1,45 @@
+use Rattle.std.specs.Prelude.{length}
+use Rattle.p2p_directory.specs.declared.node.network.NetworkCommand.TheVariants as command
+use Rattle.p2p_directory.specs.Network.{node_made, calls_at}
+use Rattle.p2p_directory.specs.Received.{wire_of}
+use Rattle.p2p_directory.specs.Private.Endpoints.{node_of}
+use Rattle.p2p_directory.proofs.Nodes.Networks.{stands_there, none_more, is_absent, ask_more}
+use Rattle.p2p_directory.proofs.Nodes.Networks.{ask_written}
+use Rattle.p2p_directory.proofs.Nodes.Worlds.{asked_in, bits_in}
+use Rattle.p2p_directory.proofs.node.network.ends.ask.Goals as goal
+
+pub returns-then-node-ends-clause-answered : goal.returns-then-node-ends-clause-answered
+returns-then-node-ends-clause-answered g c = λ setups done other at.
+    let wire = wire_of g.C.FixedBytes.SIZE g.C.FixedBytes.spelled g.C.FixedBytes.value g.C.Signature.FixedBytes.SIZE g.C.Signature.FixedBytes.spelled g.C.Signature.FixedBytes.value g.C.PublicKey.verifies in
+    let size = length setups in
+    let node = node_made g.C.Ord.cmp other setups in
+    let es = c.args.ends.now in
+    none_more wire size node done es at (command.Ask c.args.node c.args.place)
+    (is_absent wire size node done es at c.args.node c.if-node-ends.true)
+
+pub returns-clause-answered : goal.returns-clause-answered
+returns-clause-answered g c = λ setups done other at.
+    let wire = wire_of g.C.FixedBytes.SIZE g.C.FixedBytes.spelled g.C.FixedBytes.value g.C.Signature.FixedBytes.SIZE g.C.Signature.FixedBytes.spelled g.C.Signature.FixedBytes.value g.C.PublicKey.verifies in
+    let size = length setups in
+    let node = node_made g.C.Ord.cmp other setups in
+    let es = c.args.ends.now in
+    let i = c.args.node in
+    let e = c.index-ends-node.result in
+    rw c.reply_to_ask.ensures (ask_more wire size node done es at i c.args.place c.ask.result
+    c.if-node-ends.false (asked_in (node i) wire (calls_at wire size node done i) (node_of e)
+    (stands_there wire size node done es at i e c.if-node-ends.false c.index-ends-node.is)
+    c.args.place c.ask.result c.ask.ensures.seen))
+
+pub returns-clause-written : goal.returns-clause-written
+returns-clause-written g c = λ setups done other at.
+    let wire = wire_of g.C.FixedBytes.SIZE g.C.FixedBytes.spelled g.C.FixedBytes.value g.C.Signature.FixedBytes.SIZE g.C.Signature.FixedBytes.spelled g.C.Signature.FixedBytes.value g.C.PublicKey.verifies in
+    let size = length setups in
+    let node = node_made g.C.Ord.cmp other setups in
+    let es = c.args.ends.now in
+    let i = c.args.node in
+    let e = c.index-ends-node.result in
+    rw c.reply_to_ask.ensures (ask_written wire size node g.C.FixedBytes.IsValue
+    g.C.Signature.FixedBytes.IsValue done i c.args.place c.ask.result
+    (bits_in (node i) wire (calls_at wire size node done i) (node_of e)
+    (stands_there wire size node done es at i e c.if-node-ends.false c.index-ends-node.is)
+    c.args.place c.ask.result c.ask.ensures.spelled))

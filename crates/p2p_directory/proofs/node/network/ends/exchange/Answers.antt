@@ -1,0 +1,53 @@
+use Rattle.std.proofs.Common.{ap, subst, sym}
+use Rattle.std.specs.Prelude.{length, slice_index_or}
+use Rattle.std.specs.Duration.{as_nanos}
+use Rattle.p2p_directory.specs.declared.node.network.NetworkCommand.TheVariants as command
+use Rattle.p2p_directory.specs.Network.{node_made, calls_at}
+use Rattle.p2p_directory.specs.Received.{wire_of}
+use Rattle.p2p_directory.specs.Private.Endpoints.{node_of}
+use Rattle.p2p_directory.specs.Private.Networks.{KeepSlots}
+use Rattle.p2p_directory.specs.Private.Slots.{has_slot}
+use Rattle.p2p_directory.proofs.Nodes.Networks.{stands_at, none_more, not_served, exchange_more}
+use Rattle.p2p_directory.proofs.Nodes.Networks.{keep_slots}
+use Rattle.p2p_directory.proofs.Nodes.Worlds.{exchanged_in}
+use Rattle.p2p_directory.proofs.node.network.ends.exchange.Goals as goal
+
+pub returns-then-asker-ends-clause-answered : goal.returns-then-asker-ends-clause-answered
+returns-then-asker-ends-clause-answered g c = λ setups done other at.
+    let wire = wire_of g.C.FixedBytes.SIZE g.C.FixedBytes.spelled g.C.FixedBytes.value g.C.Signature.FixedBytes.SIZE g.C.Signature.FixedBytes.spelled g.C.Signature.FixedBytes.value g.C.PublicKey.verifies in
+    let size = length setups in
+    let node = node_made g.C.Ord.cmp other setups in
+    let es = c.args.ends.now in
+    none_more wire size node done es at (command.Exchange c.args.asker c.args.replier c.args.place
+    c.args.asker_now c.args.replier_now)
+    (not_served wire size node done es at c.args.asker c.args.replier c.then-asker-ends.either)
+
+pub returns-clause-answered : goal.returns-clause-answered
+returns-clause-answered g c = λ setups done other at.
+    let wire = wire_of g.C.FixedBytes.SIZE g.C.FixedBytes.spelled g.C.FixedBytes.value g.C.Signature.FixedBytes.SIZE g.C.Signature.FixedBytes.spelled g.C.Signature.FixedBytes.value g.C.PublicKey.verifies in
+    let size = length setups in
+    let node = node_made g.C.Ord.cmp other setups in
+    let es = c.args.ends.now in
+    let i = c.args.asker in
+    let j = c.args.replier in
+    let x = c.exchange_between.ensures in
+    let a = slice_index_or es i x.left in
+    let b = slice_index_or es j x.left in
+    let asks = c.if-asker-ends.false in
+    let replies = c.if-replier-ends.false in
+    let seen = x.seen x.left in
+    rw x.rest (exchange_more wire size node done es at i j c.args.place c.args.asker_now
+    c.args.replier_now c.exchange_between.result x.left asks replies c.if-asker-replier.false
+    (exchanged_in (node i) (node j) wire (calls_at wire size node done i)
+    (calls_at wire size node done j) (node_of a) (node_of b)
+    (stands_at wire size node done es at i x.left asks)
+    (stands_at wire size node done es at j x.left replies)
+    (slice_index_or setups i other).cfg.max_sets.ok c.args.place (as_nanos c.args.asker_now)
+    (as_nanos c.args.replier_now) c.exchange_between.result (node_of x.left) seen.answer seen.left))
+
+pub returns-clause-slots : goal.returns-clause-slots
+returns-clause-slots g c =
+    let x = c.exchange_between.ensures in
+    subst (KeepSlots g.C.Ord.cmp c.args.ends.now) (sym x.rest)
+    (keep_slots g.C.Ord.cmp c.args.ends.now c.args.asker x.left x.left c.if-asker-ends.false
+    (λ q. ap (λ slots. has_slot g.C.Ord.cmp slots q) (x.slots x.left)))

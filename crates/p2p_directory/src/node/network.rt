@@ -1,0 +1,426 @@
+//! Any number of nodes that are given commands, asked, handed frames, and that exchange infos.
+
+ghost use Rattle.std.specs.Prelude.{◌≡◌, ◌<◌, ◌≤◌, ◌-◌, ◌^◌, [], IfOk, length, slice_index_or};
+ghost use Rattle.std.specs.Prelude.{MatchOption, ◌∷◌};
+ghost use Rattle.std.specs.Int.NonZero.{non_zero_usize_get};
+ghost use Rattle.std.specs.List.{All};
+ghost use Rattle.p2p_discovery.specs.Info.{IsInfo, IsKeyed};
+ghost use Rattle.p2p_directory.specs.Received.{wire_of};
+ghost use Rattle.p2p_directory.specs.Nodes.{NodeView, NodeStandsAt, made_of};
+ghost use Rattle.p2p_directory.specs.Network.{OfNetwork, StandAfter, AreNetworkAnswers, done_after};
+ghost use Rattle.p2p_directory.specs.Network.{IsNetworkServed, AreReleased};
+ghost use Rattle.p2p_directory.specs.Laws.Network.{KeepExchanges, AtEachPoint, OfEachReply};
+ghost use Rattle.p2p_directory.specs.Laws.Network.{Provenance, HoldSigned, OnlyGetNewer, Reach};
+ghost use Rattle.p2p_directory.specs.Laws.Network.{Acquaint, TakesGreeting, RepliesInfos};
+ghost use Rattle.p2p_directory.specs.Laws.Network.{TakesFrame, LeavesOthers, Isolate, Reorder};
+ghost use Rattle.p2p_directory.specs.Private.Endpoints.{node_of};
+
+use crate::directory::Directory;
+use crate::node::endpoint::Endpoint;
+use crate::node::exchanged::Exchanged;
+use crate::node::network::ends::{ask, exchange, make_room, receive, serve, step};
+use crate::node::{Node, Received, Setup};
+use crate::run::{Command, Reply};
+use bytes::Bytes;
+use p2p_discovery::codec::PublicKey;
+use std::alloc::{AllocError, Global};
+use std::marker::Model;
+use std::time::Duration;
+
+mod ends;
+
+/// What is done to one of several nodes, which are counted from 0, or to two of them.
+#[derive(Drop)]
+pub enum NetworkCommand<C: PublicKey> {
+    /// The node serves the command as [`run`](crate::run::run) does.
+    Call(usize, Command<C>),
+    /// [`Node::ask`](crate::node::Node::ask) of the node, for the set at this place.
+    Ask(usize, usize),
+    /// [`Node::receive`](crate::node::Node::receive) by the node, of this frame at this moment.
+    Frame(usize, Bytes, Duration),
+    /// [`exchange`](crate::node::exchange) of the asker with the replier.
+    Exchange {
+        /// The node that asks.
+        asker: usize,
+        /// The node that replies.
+        replier: usize,
+        /// The place of the asker's set.
+        place: usize,
+        /// The asker's present moment, as the time since the epoch.
+        asker_now: Duration,
+        /// The replier's present moment, as the time since the epoch.
+        replier_now: Duration,
+    },
+}
+
+/// The reply to a [`NetworkCommand`].
+#[derive(Drop)]
+pub enum NetworkReply<C: PublicKey> {
+    /// The reply to a command.
+    Call(Reply<C>),
+    /// The frame that was asked for, where there is a set at the place.
+    Ask(Option<Bytes>),
+    /// The answer to a frame.
+    Frame(Received),
+    /// What an exchange came to.
+    Exchange(Exchanged<C>),
+    /// Memory for the frame of an `Ask` was refused. Nothing has changed.
+    OutOfMemory,
+    /// There is no such node, or a node was to exchange with itself. Nothing has changed.
+    NoNode,
+}
+
+/// Any number of nodes, which are counted from 0. A contract sees each of them. It must be spent,
+/// by [`Network::finish`].
+pub struct Network<C: PublicKey> {
+    ends: Vec<Endpoint<C>>,
+    // Room for the directories that are answered in the end.
+    room: Vec<Directory<C>>,
+}
+
+impl<C: PublicKey> Model for Network<C> {
+    ghost use Rattle.std.specs.Prelude.{◌≡◌, ◌≤◌, List, [], length};
+    ghost use Rattle.std.specs.Vec.{vec_capacity};
+    ghost use Rattle.p2p_directory.specs.Nodes.{NodeView};
+    ghost use Rattle.p2p_directory.specs.Private.Networks.{nodes_of};
+
+    ghost Value = { List (NodeView C C.Signature) };
+
+    ghost view = { λ n. nodes_of n.ends.items };
+
+    ghost invariant = { λ n.
+        (n.room.items ≡ []) × (length n.ends.items ≤ vec_capacity n.room) };
+}
+
+impl<C: PublicKey> Network<C> {
+    /// A node of each setup, in their order, as [`Node::new`] makes it.
+    ///
+    /// # Conditions
+    ///
+    /// Those of [`Node::new`], for each.
+    ///
+    /// # Errors
+    ///
+    /// `AllocError` where memory is refused.
+    ///
+    /// # Cost
+    ///
+    /// That of [`Node::new`], for each.
+    pub fn new(alloc: Global, setups: Vec<Setup<C>>) -> Result<Self, AllocError>
+        requires sets { All (λ s. non_zero_usize_get s.cfg.max_sets < 2 ^ 64 - 1) setups.items }
+        requires bits { All (λ s. s.payload.max_bit_vec < 2 ^ 32) setups.items }
+        ensures stand { IfOk result (λ nodes. OfNetwork C.cmp setups.items (λ size node.
+            StandAfter (wire_of C.SIZE C.spelled C.value
+            C.Signature.SIZE C.Signature.spelled C.Signature.value C.verifies)
+            size node [] nodes)) }
+        ensures own { IfOk result (λ _. All (λ s.
+            IsInfo s.myself × IsKeyed C.IsValue C.Signature.IsValue s.myself) setups.items) }
+    {
+        let room = Vec::with_capacity(alloc, setups.len())?;
+        let mut ends = Vec::with_capacity(alloc, setups.len())?;
+        for setup in setups {
+            match end_of(alloc, setup) {
+                Ok(end) => ends.push_reserved(end),
+                Err(AllocError) => {
+                    Network { ends, room }.finish();
+                    return Err(AllocError);
+                }
+            }
+        }
+        Ok(Network { ends, room })
+    }
+
+    /// Serves one command. A command to a node that there isn't, and an exchange of a node with
+    /// itself, is replied `NoNode`. A command that wants memory, or is replied `NoNode`,
+    /// `NotReserved` or `NotHeld`, is as not given.
+    ///
+    /// A `Call` is served as [`Node::step`] does: room for a reservation is taken before a `Dial`
+    /// or a `Listen`, so both may be replied `OutOfMemory` where that is refused.
+    ///
+    /// A command to one node leaves all others as they were, and an exchange all but the asker.
+    ///
+    /// # Cost
+    ///
+    /// That of the same call of one node, or of two.
+    pub fn serve(&mut self, command: NetworkCommand<C>) -> NetworkReply<C>
+        ensures { IsNetworkServed C.cmp (wire_of C.SIZE C.spelled C.value
+            C.Signature.SIZE C.Signature.spelled C.Signature.value C.verifies)
+            command result self.old self.new }
+    {
+        match command {
+            NetworkCommand::Call(node, command) => step(&mut self.ends, node, command),
+            NetworkCommand::Ask(node, place) => ask(&self.ends, node, place),
+            NetworkCommand::Frame(node, frame, now) => receive(&mut self.ends, node, frame, now),
+            NetworkCommand::Exchange {
+                asker,
+                replier,
+                place,
+                asker_now,
+                replier_now,
+            } => exchange(
+                &mut self.ends,
+                asker,
+                replier,
+                place,
+                asker_now,
+                replier_now,
+            ),
+        }
+    }
+
+    /// How many nodes there are.
+    pub fn nodes(&self) -> usize
+        ensures { result ≡ length self.now }
+    {
+        self.ends.len()
+    }
+
+    /// The directory of a node, or `None` where there is no such node.
+    pub fn directory(&self, node: usize) -> Option<&Directory<C>>
+        ensures { MatchOption result (length self.now ≤ node) (λ directory.
+            (v : NodeView C C.Signature) → (node < length self.now)
+            × (directory.now ≡ (slice_index_or self.now node v).directory)) }
+    {
+        if node >= self.ends.len() {
+            return None;
+        }
+        Some(self.ends[node].directory())
+    }
+
+    /// Releases all that is held, and answers the directories, in the order of their nodes. Takes
+    /// no memory.
+    ///
+    /// # Cost
+    ///
+    /// That of [`Node::finish`], for each.
+    pub fn finish(self) -> Vec<Directory<C>>
+        ensures { AreReleased C.cmp self result.items }
+    {
+        let Network {
+            ends,
+            room: mut directories,
+        } = self;
+        let mut left = ends.into_iter();
+        while let Some(end) = left.next() {
+            directories.push_reserved(end.finish());
+        }
+        left.destroy_empty();
+        directories
+    }
+}
+
+impl<C: PublicKey> Network<C> {
+    // The nodes, where there are two. Takes no memory.
+    pub(crate) fn into_both(self) -> (Node<C>, Node<C>)
+        requires { length self ≡ 2 }
+        ensures { self ≡ result.0 ∷ result.1 ∷ [] }
+    {
+        let Network { ends, room: _ } = self;
+        let mut ends = ends;
+        match (ends.pop(), ends.pop()) {
+            (Some(right), Some(left)) => {
+                ends.destroy_empty();
+                (Node { endpoint: left }, Node { endpoint: right })
+            }
+            (_right, _left) => unreachable!(),
+        }
+    }
+}
+
+// The endpoint of a new node.
+fn end_of<C: PublicKey>(alloc: Global, setup: Setup<C>) -> Result<Endpoint<C>, AllocError>
+    requires sets { non_zero_usize_get setup.cfg.max_sets < 2 ^ 64 - 1 }
+    requires bits { setup.payload.max_bit_vec < 2 ^ 32 }
+    ensures stands { IfOk result (λ end. NodeStandsAt (made_of C.cmp setup) [] (node_of end)) }
+    ensures own { IfOk result (λ _.
+        IsInfo setup.myself × IsKeyed C.IsValue C.Signature.IsValue setup.myself) }
+{
+    let Node { endpoint } = Node::new(alloc, setup)?;
+    Ok(endpoint)
+}
+
+/// What a run of a network leaves. It must be spent, by [`NetworkRun::finish`], or its nodes by
+/// [`Network::finish`].
+pub struct NetworkRun<C: PublicKey> {
+    /// The nodes after the last command.
+    pub nodes: Network<C>,
+    /// One reply for each command, in their order.
+    pub replies: Vec<NetworkReply<C>>,
+}
+
+impl<C: PublicKey> NetworkRun<C> {
+    /// Releases all that is held, and answers the directories, in the order of their nodes. Takes
+    /// no memory; the replies are dropped.
+    ///
+    /// # Cost
+    ///
+    /// That of [`Network::finish`].
+    pub fn finish(self) -> Vec<Directory<C>>
+        ensures { AreReleased C.cmp self.nodes result.items }
+    {
+        let NetworkRun { nodes, replies: _ } = self;
+        nodes.finish()
+    }
+}
+
+/// Makes the nodes and serves the commands in turn. Each reply is that of the call, by what was
+/// done before it; a command that wants memory, or is replied `NoNode`, `NotReserved` or `NotHeld`,
+/// is as not given.
+///
+/// Room for all replies, all reservations of all nodes and all directories is taken before the
+/// first command, so a `Call` is replied `OutOfMemory` only where [`run`](crate::run::run) may
+/// reply it, an `Ask` only where there is a set at the place, and a `Frame` and an `Exchange` are
+/// answered `Memory` only where [`Node::receive`] and [`exchange`](crate::node::exchange) may
+/// answer it.
+///
+/// The replies keep these rules, at each point of the run. What is given is each own info, and each
+/// info of a command to any node, or of a frame that any node accepted before.
+///
+/// - Exchanges: where all that is given is signed in the namespaces of the asker and the replier,
+///   the replier retains a set of the index of the asker's with the same primary peers, the limits
+///   of both admit the bits and the infos, and the replier's moment is at most the asker's bound
+///   past the asker's, an exchange is `Applied` with exactly the wanted infos that may be shared,
+///   unless memory is refused. Afterwards the asker's info of each of their peers is at least as
+///   new. The same exchange directly repeated is `Applied` and changes nothing at any node, unless
+///   memory is refused.
+/// - Provenance: each info that any node holds was given. Gossip invents nothing.
+/// - Infos: where all that is given is signed in the namespace of a node, so is all that any node
+///   holds.
+/// - Newer: the info that a node holds of a peer only gets newer as long as the peer stays present
+///   at it.
+/// - Reach: of each primary peer of the set of an exchange that was applied under the premises
+///   above, which the asker wanted and whose info the replier might share then, the asker holds an
+///   info at least as new directly afterwards, and as long as the peer stays present at it.
+/// - Acquaintance: of each other peer of the set whose info the replier might share then, wanted or
+///   not, the asker holds some info for as long. So whoever asks each of its neighbours once knows
+///   each peer that any of them knows.
+/// - Greetings: a frame with the greeting of the own info of any node, where it is signed in the
+///   namespace of the node that takes it, is `Greeted`, unless memory is refused, where the own
+///   keys differ and its timestamp is within the bound.
+/// - Replies: let a `Frame` hand a node the bits that another was earlier asked for, and let it
+///   retain a set of their index with the primary peers that the set at the place then had. Where
+///   all that is given is signed in the namespaces of both, what it replies spells infos that are
+///   signed in both, none with the other's key, none with a timestamp above the present
+///   milliseconds.
+/// - Late frames: a `Frame` of such infos, however late and however often it comes, is `Applied`
+///   with their number, unless memory is refused, where they are no more than the limit and the
+///   count of the node admit and the moment of the reply is at most its bound ahead. Afterwards its
+///   info of each of their peers that has a record is at least as new. Nothing changes where all
+///   were so before, and by a copy that follows at once.
+/// - Others: a command to one node leaves every other as it was, an exchange all but the asker.
+/// - Isolation and order: as for [`run`](crate::run::run), over the commands that a node accepted.
+///   Those on single other peers than one, and the infos of others, may be left out: all that is
+///   kept of the one is the same. Infos of `UpdatePeers`, frames and exchanges that follow each
+///   other directly at a node may be given in any order, where no two are of one peer with one
+///   timestamp: all that it keeps is the same.
+///
+/// It isn't said that any node answers, that lists are the same everywhere, or that infos spread by
+/// themselves: whoever gives the commands decides who asks whom.
+///
+/// What is left must be spent, by [`NetworkRun::finish`].
+///
+/// # Conditions
+///
+/// Those of [`Node::new`], for each.
+///
+/// # Errors
+///
+/// `AllocError` where memory is refused before the first command.
+///
+/// # Cost
+///
+/// That of making the nodes, that of the calls, and for each command a logarithm of how many peers
+/// the commands dial or listen for at its node.
+pub fn run_network<C: PublicKey>(
+    alloc: Global,
+    setups: Vec<Setup<C>>,
+    commands: Vec<NetworkCommand<C>>,
+) -> Result<NetworkRun<C>, AllocError>
+    requires sets { All (λ s. non_zero_usize_get s.cfg.max_sets < 2 ^ 64 - 1) setups.items }
+    requires bits { All (λ s. s.payload.max_bit_vec < 2 ^ 32) setups.items }
+    ensures answers { IfOk result (λ run. OfNetwork C.cmp setups.items (λ size node.
+        AreNetworkAnswers (wire_of C.SIZE C.spelled C.value
+        C.Signature.SIZE C.Signature.spelled C.Signature.value C.verifies)
+        size node [] commands.items run.replies.items)) }
+    ensures stand { IfOk result (λ run. OfNetwork C.cmp setups.items (λ size node.
+        let wire = wire_of C.SIZE C.spelled C.value
+        C.Signature.SIZE C.Signature.spelled C.Signature.value C.verifies in
+        StandAfter wire size node
+        (done_after wire size node [] commands.items run.replies.items) run.nodes)) }
+    ensures exchanges { IfOk result (λ run. OfNetwork C.cmp setups.items (λ size node.
+        let wire = wire_of C.SIZE C.spelled C.value
+        C.Signature.SIZE C.Signature.spelled C.Signature.value C.verifies in
+        KeepExchanges wire size node
+        [] commands.items run.replies.items)) }
+    ensures provenance { IfOk result (λ run. OfNetwork C.cmp setups.items (λ size node.
+        let wire = wire_of C.SIZE C.spelled C.value
+        C.Signature.SIZE C.Signature.spelled C.Signature.value C.verifies in
+        AtEachPoint wire size node (Provenance wire size node)
+        [] commands.items run.replies.items)) }
+    ensures infos { IfOk result (λ run. OfNetwork C.cmp setups.items (λ size node.
+        let wire = wire_of C.SIZE C.spelled C.value
+        C.Signature.SIZE C.Signature.spelled C.Signature.value C.verifies in
+        AtEachPoint wire size node (HoldSigned wire size node)
+        [] commands.items run.replies.items)) }
+    ensures newer { IfOk result (λ run. OfNetwork C.cmp setups.items (λ size node.
+        let wire = wire_of C.SIZE C.spelled C.value
+        C.Signature.SIZE C.Signature.spelled C.Signature.value C.verifies in
+        AtEachPoint wire size node (OnlyGetNewer wire size node)
+        [] commands.items run.replies.items)) }
+    ensures reach { IfOk result (λ run. OfNetwork C.cmp setups.items (λ size node.
+        let wire = wire_of C.SIZE C.spelled C.value
+        C.Signature.SIZE C.Signature.spelled C.Signature.value C.verifies in
+        AtEachPoint wire size node (Reach wire size node)
+        [] commands.items run.replies.items)) }
+    ensures acquaintance { IfOk result (λ run. OfNetwork C.cmp setups.items (λ size node.
+        let wire = wire_of C.SIZE C.spelled C.value
+        C.Signature.SIZE C.Signature.spelled C.Signature.value C.verifies in
+        AtEachPoint wire size node (Acquaint wire size node)
+        [] commands.items run.replies.items)) }
+    ensures greetings { IfOk result (λ run. OfNetwork C.cmp setups.items (λ size node.
+        let wire = wire_of C.SIZE C.spelled C.value
+        C.Signature.SIZE C.Signature.spelled C.Signature.value C.verifies in
+        OfEachReply wire size node (TakesGreeting wire size node)
+        [] commands.items run.replies.items)) }
+    ensures infos_replied { IfOk result (λ run. OfNetwork C.cmp setups.items (λ size node.
+        let wire = wire_of C.SIZE C.spelled C.value
+        C.Signature.SIZE C.Signature.spelled C.Signature.value C.verifies in
+        OfEachReply wire size node
+        (RepliesInfos wire size node C.IsValue C.Signature.IsValue)
+        [] commands.items run.replies.items)) }
+    ensures late { IfOk result (λ run. OfNetwork C.cmp setups.items (λ size node.
+        let wire = wire_of C.SIZE C.spelled C.value
+        C.Signature.SIZE C.Signature.spelled C.Signature.value C.verifies in
+        OfEachReply wire size node
+        (TakesFrame wire size node C.IsValue C.Signature.IsValue)
+        [] commands.items run.replies.items)) }
+    ensures others { IfOk result (λ run. OfNetwork C.cmp setups.items (λ size node.
+        let wire = wire_of C.SIZE C.spelled C.value
+        C.Signature.SIZE C.Signature.spelled C.Signature.value C.verifies in
+        OfEachReply wire size node (LeavesOthers wire size node)
+        [] commands.items run.replies.items)) }
+    ensures isolation { IfOk result (λ run. OfNetwork C.cmp setups.items (λ size node.
+        let wire = wire_of C.SIZE C.spelled C.value
+        C.Signature.SIZE C.Signature.spelled C.Signature.value C.verifies in
+        AtEachPoint wire size node (Isolate wire size node)
+        [] commands.items run.replies.items)) }
+    ensures order { IfOk result (λ run. OfNetwork C.cmp setups.items (λ size node.
+        let wire = wire_of C.SIZE C.spelled C.value
+        C.Signature.SIZE C.Signature.spelled C.Signature.value C.verifies in
+        AtEachPoint wire size node (Reorder wire size node)
+        [] commands.items run.replies.items)) }
+{
+    let mut replies = Vec::with_capacity(alloc, commands.len())?;
+    let Network { mut ends, room } = Network::new(alloc, setups)?;
+    if make_room(&mut ends, &commands).is_err() {
+        Network { ends, room }.finish();
+        return Err(AllocError);
+    }
+    for command in commands {
+        replies.push_reserved(serve(&mut ends, command));
+    }
+    Ok(NetworkRun {
+        nodes: Network { ends, room },
+        replies,
+    })
+}
