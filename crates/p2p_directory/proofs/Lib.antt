@@ -5,3 +5,4 @@ pub mod Refinement
 pub mod Reservations
 pub mod Nodes
 pub mod LawsOfGossip
+pub mod LawsOfNetworks

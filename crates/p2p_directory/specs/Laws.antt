@@ -13,6 +13,10 @@ pub mod OrderRuns
 pub mod BoundRuns
 -- What is kept answers as a world does.
 pub mod Refined
--- .. and those in Gossip and LateFrames in the promises of `run_pair`.
+-- .. and those in Gossip and LateFrames in what is promised of nodes that exchange infos.
 pub mod Gossip
 pub mod LateFrames
+-- .. and those in Network in what is promised of any number of nodes.
+pub mod Network
+-- .. of which two nodes are a case.
+pub mod TwoNodes

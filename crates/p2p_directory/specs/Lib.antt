@@ -15,8 +15,9 @@ pub mod Run
 -- What nodes promise rests on these, too.
 pub mod Received
 pub mod Nodes
--- .. and what an exchange and a run of two nodes promise, on these.
+-- .. and what an exchange, a run of any number of nodes and a run of two promise, on these.
 pub mod Exchange
+pub mod Network
 pub mod Pairs
 -- What is held of grants.
 pub mod Held

@@ -9,4 +9,4 @@ pub mod Serving
 pub mod Frames
 pub mod Endpoints
 pub mod Exchanging
-pub mod Pairing
+pub mod Networks

@@ -1,8 +1,9 @@
 //! What is retained of peer sets, with a bit beside each primary peer. It knows nothing of records.
 
 ghost use Rattle.std.specs.Prelude.{◌≡◌, ◌++◌, ◌∷◌, [], true, false, not, map, length, slice_get};
-ghost use Rattle.std.specs.Prelude.{IfNone, IfOk, IfErr, OnErr, OnOk, None};
-ghost use Rattle.std.specs.Prelude.{option_to_list};
+ghost use Rattle.std.specs.Prelude.{IfNone, IfOk, IfErr, OnErr, OnOk, None, Some};
+ghost use Rattle.std.specs.Prelude.{option_to_list, if◌then◌else◌};
+ghost use Rattle.std.specs.BTreeMap.{is_at, get};
 ghost use Rattle.std.specs.List.{filter, count_by, last_or};
 ghost use Rattle.std.specs.Map.{keys_of};
 ghost use Rattle.std.specs.Option.{option_copied};
@@ -15,11 +16,11 @@ ghost use Rattle.p2p_directory.specs.Private.Window.{set_with_bits, set_at, has_
 ghost use Rattle.p2p_directory.specs.Private.Window.{with_bit_of, IsAscending};
 ghost use Rattle.p2p_directory.specs.Private.Places.{IsIndexed, bit_at, bits_at};
 
-use crate::kept::places::{Place, Places};
+use crate::kept::places::{End, Place, Places, Queue};
 use p2p_discovery::codec::PublicKey;
 use p2p_discovery::sets::{BitSet, OrderedSet, SetError};
 use std::alloc::{AllocError, Global};
-use std::collections::VecDeque;
+use std::collections::{BTreeMap, VecDeque};
 use std::marker::Model;
 
 pub mod blocks;
@@ -28,6 +29,29 @@ pub mod places;
 
 /// Lets a value go. Its drop, which branches on what it holds, stands here and not in the caller.
 pub fn forget<T: Drop>(_value: T) {}
+
+/// Gives the key this value in place of the one that it may have, or leaves all as it was where
+/// memory is refused.
+pub fn put<C: PublicKey, V: Drop>(
+    map: &mut BTreeMap<C, V>,
+    key: C,
+    value: V,
+) -> Result<(), AllocError>
+    ensures ok { OnOk result ((q : C) → get C.cmp map.new q ≡
+        (if is_at (C.cmp key) q then Some value else get C.cmp map.old q)) }
+    ensures err { OnErr result (map.new.entries ≡ map.old.entries) }
+{
+    match map.insert(key, value) {
+        Ok(before) => {
+            forget(before);
+            Ok(())
+        }
+        Err(refused) => {
+            forget(refused);
+            Err(AllocError)
+        }
+    }
+}
 
 /// A retained set: its index, its primary peers, each with a bit, and those of its secondary peers
 /// that are not primary. The bit says whether the peer's info is known and not wanted.
@@ -355,7 +379,7 @@ fn pop_set<C: PublicKey>(
     ensures none { IfNone result (length sets.old.items ≡ 0) }
 {
     let oldest = sets.pop_front()?;
-    places.remove_first_of_each(oldest.primary.ordered().as_slice());
+    places.remove_each(oldest.primary.ordered().as_slice(), End::Front);
     Some(oldest)
 }
 
@@ -377,19 +401,16 @@ fn refresh_places<C: PublicKey>(
 }
 
 // Sets the bit at each of the places, and answers how many there are.
-fn set_bits<C: PublicKey>(
-    sets: &mut VecDeque<PeerSet<C>>,
-    places: &VecDeque<Place>,
-    known: bool,
-) -> usize
+fn set_bits<C: PublicKey>(sets: &mut VecDeque<PeerSet<C>>, places: &Queue, known: bool) -> usize
     requires { IsAscending sets.old.items }
-    ensures sets { sets.new.items ≡ bits_at known places.now.items sets.old.items }
-    ensures count { result ≡ length places.now.items }
+    ensures sets { sets.new.items ≡ bits_at known places.now sets.old.items }
+    ensures count { result ≡ length places.now }
 {
-    for k in 0..places.len() {
-        set_bit_at(sets, &places[k], known);
+    set_bit_at(sets, &places.first, known);
+    for k in 0..places.rest.len() {
+        set_bit_at(sets, &places.rest[k], known);
     }
-    places.len()
+    places.rest.len() + 1
 }
 
 // Sets the bit at a place, in the set with its index.

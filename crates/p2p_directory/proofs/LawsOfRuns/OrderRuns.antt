@@ -72,6 +72,20 @@ module _ {C S : Type 0} (s : Setup C S) (least : 1 ≤ s.max_sets) where
       at ∙ Ordered.updates_alike s (Run.world_after s first) infos (infos_together s (some ∷ more)) have one
       ∙ sym (updates_are_one first (Update some ∷ first) some more (Law.recomputed_is_one_step s least first (Update some)))
 
+  pub reordered : (calls later first : List (Call C S)) (given some : List (Info C S))
+      (more others : List (List (Info C S))) →
+      calls ≡ later ++ with_updates s (given ∷ more) first →
+      IsUnambiguous s (infos_together s (given ∷ more)) →
+      HaveSame (infos_together s (given ∷ more)) (infos_together s (some ∷ others)) →
+      Run.world_after s (later ++ with_updates s (some ∷ others) first) ≡ Run.world_after s calls
+  reordered calls later first given some more others is one have =
+      let before = with_updates s (given ∷ more) first in
+      sym (ap (Run.world_after s) is
+      ∙ Ordered.later_alike s least later before (with_updates s (some ∷ others) first)
+      (rearranged first before (infos_together s (given ∷ more)) some others
+      (updates_are_one first (Update given ∷ first) given more
+      (Law.recomputed_is_one_step s least first (Update given))) one have))
+
   -- an update is replied that it was done
   updated : (before : List (Call C S)) (given : List (Info C S)) (r : Reply C S) → Run.IsAnswer s before (Update given) r → r ≡ reply.UpdatePeers
   updated before given r a = go (replied s (Run.event_of s before (Update given)) (Run.world_after s before) (Run.world_after s (Update given ∷ before)) (Update given) r a)

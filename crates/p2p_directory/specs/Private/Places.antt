@@ -1,27 +1,24 @@
 -- Private: keys with the queues of their places, and the places of a key in retained sets.
-use Rattle.std.specs.Prelude.{ℕ, ◌≡◌, ◌<◌, ◌-◌, ◌==◌, length, take, Bool, List, [], ◌∷◌, ◌++◌}
-use Rattle.std.specs.Prelude.{IfSome, map, suc, if◌then◌else◌}
+use Rattle.std.specs.Prelude.{ℕ, ◌≡◌, ◌-◌, ◌==◌, length, take, drop, Bool, List, [], ◌∷◌, ◌++◌}
+use Rattle.std.specs.Prelude.{map, suc, if◌then◌else◌}
 use Rattle.std.specs.List.{AllByRecursion}
 use Rattle.std.specs.List.Sorted.{IsStrictlySortedBy}
 use Rattle.std.specs.Map.{lookup, keys_of}
 use Rattle.std.specs.BTreeMap.{is_at}
 use Rattle.std.specs.Option.{unwrap_or}
 use Rattle.std.specs.declared.cmp.Ordering.{Ordering}
-use Rattle.std.specs.declared.alloc.Global.{Global}
-use Rattle.std.specs.declared.collections.VecDeque.{VecDeque}
 use Rattle.p2p_directory.specs.declared.kept.places.Place.{Place}
+use Rattle.p2p_directory.specs.declared.kept.places.End.{End}
+use Rattle.p2p_directory.specs.declared.kept.places.End.TheVariants.{Front, Back}
 use Rattle.p2p_discovery.specs.BitSets.{with_bit}
 use Rattle.p2p_directory.specs.Private.Window.{SetWithBits, IsAscending}
 
--- the places without the last
-abbrev pub but_last : List Place → List Place
-but_last places = take (length places - 1) places
+-- the places without the one at an end
+abbrev pub without : End → List Place → List Place
+without Front places = drop 1 places
+without Back places = take (length places - 1) places
 
 module _ {C : Type 0} where
-  -- the queues as lists
-  abbrev pub queues_of : List (C × VecDeque Place Global) → List (C × List Place)
-  queues_of entries = map (λ e. (e.0, e.1.items)) entries
-
   -- the set with this bit at the place, if it is the set of the place
   abbrev pub bit_at : Bool → Place → SetWithBits C → SetWithBits C
   bit_at known place set =
@@ -37,10 +34,6 @@ module _ {C : Type 0} (cmp : C → C → Ordering) where
   -- the places of a key
   abbrev pub places_of : List (C × List Place) → C → List Place
   places_of places q = unwrap_or (lookup (is_at (cmp q)) places) []
-
-  -- each key has a place
-  abbrev pub HasNoEmpty : List (C × List Place) → Type 0
-  HasNoEmpty places = (q : C) → IfSome (lookup (is_at (cmp q)) places) (λ queue. 0 < length queue)
 
   -- where the key stands in a list, counted from n
   abbrev pub places_from : ℕ → ℕ → List C → C → List Place

@@ -18,7 +18,7 @@ ghost use Rattle.p2p_directory.specs.Directory.{released_record, kept_after_rele
 ghost use Rattle.p2p_directory.specs.Directory.{connected_record, updated_record, ChangesAt};
 
 use crate::directory::{Config, Metadata};
-use crate::kept::forget;
+use crate::kept::{forget, put};
 use crate::record::{DialStatus, Record, ReserveResult};
 use p2p_discovery::codec::PublicKey;
 use p2p_discovery::discovery::Info;
@@ -238,26 +238,5 @@ fn release_record<C: PublicKey>(found: &mut Record<C>, metadata: &Metadata<C>)
     found.release();
     if let Metadata::Dialer(_, ingress) = metadata {
         found.dial_failure(ingress);
-    }
-}
-
-// Gives the peer a record in place of the one that it may have.
-fn put<C: PublicKey>(
-    map: &mut BTreeMap<C, Record<C>>,
-    peer: C,
-    next: Record<C>,
-) -> Result<(), AllocError>
-    ensures { IfOk result (λ _. (q : C) →
-        get C.cmp map.new q ≡ (if is_at (C.cmp peer) q then Some next else get C.cmp map.old q)) }
-{
-    match map.insert(peer, next) {
-        Ok(before) => {
-            forget(before);
-            Ok(())
-        }
-        Err(refused) => {
-            forget(refused);
-            Err(AllocError)
-        }
     }
 }

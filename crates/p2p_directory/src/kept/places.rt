@@ -1,15 +1,16 @@
 //! The places at which keys stand: for each key a queue of them.
 
-ghost use Rattle.std.specs.Prelude.{◌≡◌, ◌++◌, ◌∷◌, [], drop, IfNone, IfSome, OnErr, OnOk};
-ghost use Rattle.std.specs.Prelude.{if◌then◌else◌};
+ghost use Rattle.std.specs.Prelude.{◌≡◌, ◌++◌, ◌∷◌, [], true, false, IfNone, IfSome};
+ghost use Rattle.std.specs.Prelude.{OnErr, OnOk, if◌then◌else◌};
 ghost use Rattle.std.specs.BTreeMap.{is_at};
 ghost use Rattle.std.specs.List.Sorted.{IsStrictlySortedBy};
 ghost use Rattle.p2p_directory.specs.PeerSets.{has_key};
-ghost use Rattle.p2p_directory.specs.Private.Places.{places_of, places_from, but_last};
+ghost use Rattle.p2p_directory.specs.Private.Places.{places_of, places_from, without};
 
 use crate::kept::forget;
 use p2p_discovery::codec::PublicKey;
 use std::alloc::{AllocError, Global};
+use std::collections::btree_map::Entry;
 use std::collections::{BTreeMap, VecDeque};
 use std::marker::Model;
 
@@ -20,24 +21,88 @@ pub struct Place {
     pub at: usize,
 }
 
-/// Keys, each with the queue of its places, which isn't empty. A contract sees the list of them in
-/// ascending order of their keys.
+/// An end of a queue.
+#[derive(Clone, Copy, Drop)]
+pub enum End {
+    Front,
+    Back,
+}
+
+/// The places of one key, in order. There is at least one, so a key with no place has no queue. A
+/// contract sees the list of them.
+#[derive(Drop)]
+pub struct Queue {
+    pub first: Place,
+    pub rest: VecDeque<Place>,
+}
+
+impl Model for Queue {
+    ghost use Rattle.std.specs.Prelude.{List, ◌∷◌};
+    ghost use Rattle.p2p_directory.specs.declared.kept.places.Place.{Place};
+
+    ghost Value = { List Place };
+
+    ghost view = { λ q. q.first ∷ q.rest.items };
+}
+
+impl Queue {
+    // The queue of one place. Takes no memory.
+    fn new(alloc: Global, place: Place) -> Queue
+        ensures { result ≡ place ∷ [] }
+    {
+        Queue {
+            first: place,
+            rest: VecDeque::new(alloc),
+        }
+    }
+
+    // One more place at the back, or none where memory is refused.
+    fn push(&mut self, place: Place) -> Result<(), AllocError>
+        ensures ok { OnOk result (self.new ≡ self.old ++ place ∷ []) }
+        ensures err { OnErr result (self.new ≡ self.old) }
+    {
+        match self.rest.push_back(place) {
+            Ok(()) => Ok(()),
+            Err(refused) => {
+                forget(refused);
+                Err(AllocError)
+            }
+        }
+    }
+
+    // Takes the place at an end and says true, unless it is the only one.
+    fn pop(&mut self, end: End) -> bool
+        ensures taken { result ≡ true → self.new ≡ without end self.old }
+        ensures only { result ≡ false → without end self.old ≡ [] }
+    {
+        match end {
+            End::Front => match self.rest.pop_front() {
+                Some(next) => {
+                    self.first = next;
+                    true
+                }
+                None => false,
+            },
+            End::Back => self.rest.pop_back().is_some(),
+        }
+    }
+}
+
+/// Keys, each with the queue of its places. A contract sees the list of them in ascending order of
+/// their keys.
 #[derive(Drop)]
 pub struct Places<C: PublicKey> {
     alloc: Global,
-    queues: BTreeMap<C, VecDeque<Place>>,
+    queues: BTreeMap<C, Queue>,
 }
 
 impl<C: PublicKey> Model for Places<C> {
     ghost use Rattle.std.specs.Prelude.{List};
     ghost use Rattle.p2p_directory.specs.declared.kept.places.Place.{Place};
-    ghost use Rattle.p2p_directory.specs.Private.Places.{queues_of, HasNoEmpty};
 
     ghost Value = { List (C × List Place) };
 
-    ghost view = { λ p. queues_of p.queues.entries };
-
-    ghost invariant = { λ p. HasNoEmpty C.cmp (queues_of p.queues.entries) };
+    ghost view = { λ p. p.queues.entries };
 }
 
 impl<C: PublicKey> Places<C> {
@@ -56,8 +121,8 @@ impl<C: PublicKey> Places<C> {
     /// # Cost
     ///
     /// One search among the keys.
-    pub fn get(&self, key: &C) -> Option<&VecDeque<Place>>
-        ensures some { IfSome result (λ queue. queue.now.items ≡ places_of C.cmp self.now key.now) }
+    pub fn get(&self, key: &C) -> Option<&Queue>
+        ensures some { IfSome result (λ queue. queue.now ≡ places_of C.cmp self.now key.now) }
         ensures none { IfNone result (places_of C.cmp self.now key.now ≡ []) }
     {
         self.queues.get(key)
@@ -71,7 +136,7 @@ impl<C: PublicKey> Places<C> {
     ///
     /// # Cost
     ///
-    /// One search among the keys.
+    /// One search among the keys, and one more where the key is new.
     pub fn add(&mut self, key: C, place: Place) -> Result<(), AllocError>
         ensures ok { OnOk result ((q : C) → places_of C.cmp self.new q ≡
             (if is_at (C.cmp key) q then places_of C.cmp self.old q ++ place ∷ []
@@ -80,13 +145,11 @@ impl<C: PublicKey> Places<C> {
             places_of C.cmp self.new q ≡ places_of C.cmp self.old q) }
     {
         match self.queues.entry(key) {
-            Ok(entry) => {
-                let queue = entry.or_insert(VecDeque::new(self.alloc));
-                let added = push_to(queue, place);
-                if queue.is_empty() {
-                    forget(self.queues.remove(&key));
-                }
-                added
+            // For the proof: it returns here.
+            Ok(Entry::Occupied(entry)) => return entry.into_mut().push(place),
+            Ok(Entry::Vacant(entry)) => {
+                entry.insert(Queue::new(self.alloc, place));
+                Ok(())
             }
             Err(refused) => {
                 forget(refused);
@@ -95,37 +158,18 @@ impl<C: PublicKey> Places<C> {
         }
     }
 
-    /// Takes the first place of the key, and the key with its last one. Takes no memory.
+    /// Takes the place of the key at an end, and the key with its only place. Takes no memory.
     ///
     /// # Cost
     ///
     /// One search among the keys, and one more where the key goes.
-    pub fn remove_first(&mut self, key: &C)
+    pub fn remove(&mut self, key: &C, end: End)
         ensures { (q : C) → places_of C.cmp self.new q ≡
-            (if is_at (C.cmp key.now) q then drop 1 (places_of C.cmp self.old q)
+            (if is_at (C.cmp key.now) q then without end (places_of C.cmp self.old q)
             else places_of C.cmp self.old q) }
     {
         if let Some(queue) = self.queues.get_mut(key) {
-            queue.pop_front();
-            if queue.is_empty() {
-                forget(self.queues.remove(key));
-            }
-        }
-    }
-
-    /// Takes the last place of the key, and the key where it had no other. Takes no memory.
-    ///
-    /// # Cost
-    ///
-    /// One search among the keys, and one more where the key goes.
-    pub fn remove_last(&mut self, key: &C)
-        ensures { (q : C) → places_of C.cmp self.new q ≡
-            (if is_at (C.cmp key.now) q then but_last (places_of C.cmp self.old q)
-            else places_of C.cmp self.old q) }
-    {
-        if let Some(queue) = self.queues.get_mut(key) {
-            queue.pop_back();
-            if queue.is_empty() {
+            if !queue.pop(end) {
                 forget(self.queues.remove(key));
             }
         }
@@ -144,8 +188,8 @@ impl<C: PublicKey> Places<C> {
     ///
     /// # Cost
     ///
-    /// One search for each of the keys; where memory is refused, one or two more for each that was
-    /// given its place.
+    /// One search for each of the keys, and one more for each that is new; where memory is refused,
+    /// as much again for those that were given their place.
     pub fn add_each(&mut self, keys: &[C], set: u64) -> Result<(), AllocError>
         requires { IsStrictlySortedBy C.cmp keys.now }
         ensures ok { OnOk result ((q : C) → places_of C.cmp self.new q ≡
@@ -155,14 +199,15 @@ impl<C: PublicKey> Places<C> {
     {
         for (at, key) in keys.iter().enumerate() {
             if let Err(refused) = self.add(*key, Place { set, at }) {
-                self.remove_last_of_each(&keys[..at]);
+                self.remove_each(&keys[..at], End::Back);
                 return Err(refused);
             }
         }
         Ok(())
     }
 
-    /// Takes the first place of each of the keys, and each key with its last one. Takes no memory.
+    /// Takes the place of each of the keys at an end, and each key with its only place. Takes no
+    /// memory.
     ///
     /// # Conditions
     ///
@@ -171,40 +216,14 @@ impl<C: PublicKey> Places<C> {
     /// # Cost
     ///
     /// One search for each of the keys, and one more for each that goes.
-    pub fn remove_first_of_each(&mut self, keys: &[C])
+    pub fn remove_each(&mut self, keys: &[C], end: End)
         requires { IsStrictlySortedBy C.cmp keys.now }
         ensures { (q : C) → places_of C.cmp self.new q ≡
-            (if has_key C.cmp keys.now q then drop 1 (places_of C.cmp self.old q)
+            (if has_key C.cmp keys.now q then without end (places_of C.cmp self.old q)
             else places_of C.cmp self.old q) }
     {
         for key in keys {
-            self.remove_first(key);
-        }
-    }
-
-    // Takes the last place of each of the keys.
-    fn remove_last_of_each(&mut self, keys: &[C])
-        requires { IsStrictlySortedBy C.cmp keys.now }
-        ensures { (q : C) → places_of C.cmp self.new q ≡
-            (if has_key C.cmp keys.now q then but_last (places_of C.cmp self.old q)
-            else places_of C.cmp self.old q) }
-    {
-        for key in keys {
-            self.remove_last(key);
-        }
-    }
-}
-
-// One more place at the end.
-fn push_to(queue: &mut VecDeque<Place>, place: Place) -> Result<(), AllocError>
-    ensures ok { OnOk result (queue.new.items ≡ queue.old.items ++ place ∷ []) }
-    ensures err { OnErr result (queue.new.items ≡ queue.old.items) }
-{
-    match queue.push_back(place) {
-        Ok(()) => Ok(()),
-        Err(refused) => {
-            forget(refused);
-            Err(AllocError)
+            self.remove(key, end);
         }
     }
 }

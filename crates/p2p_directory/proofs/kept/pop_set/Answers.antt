@@ -12,6 +12,6 @@ returns-clause-indexed g c =
     let old = places_of cmp c.args.places.now in
     let keys = c.as_slice.ensures.all ∙ c.ordered.ensures
     ∙ ap (λ (set : SetWithBits g.row.C.Denot). keys_of set.primary) c.oldest.view_is in
-    indexed_popped cmp c.args.places.now c.remove_first_of_each.new.self c.args.sets.now.items
+    indexed_popped cmp c.args.places.now c.remove_each.new.self c.args.sets.now.items
     _ c.in_ok-oldest.oldest c.requires c.in_ok-oldest.ensures.items
-    (λ q. c.remove_first_of_each.ensures q ∙ ap (λ ks. cond (has_key cmp ks q) (drop 1 (old q)) (old q)) keys)
+    (λ q. c.remove_each.ensures q ∙ ap (λ ks. cond (has_key cmp ks q) (drop 1 (old q)) (old q)) keys)

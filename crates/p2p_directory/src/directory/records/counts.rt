@@ -25,6 +25,7 @@ use crate::record::{Record, Role};
 use p2p_discovery::codec::PublicKey;
 use p2p_discovery::sets::{OrderedSet, SetError};
 use std::alloc::AllocError;
+use std::collections::btree_map::Entry;
 
 impl<C: PublicKey> Records<C> {
     // Counts one set of the peer more, in a new record with its moments where it has none, and says
@@ -43,10 +44,16 @@ impl<C: PublicKey> Records<C> {
         ensures err { OnErr result (self.new ≡ self.old) }
     {
         match self.map.entry(*peer) {
-            Ok(entry) => {
-                let found = entry.or_insert(Record::cooled(cooldowns.get(peer)));
+            Ok(Entry::Occupied(entry)) => {
+                let found = entry.into_mut();
                 found.count_more(role);
                 Ok(!found.want(limit))
+            }
+            Ok(Entry::Vacant(entry)) => {
+                let mut record = Record::cooled(cooldowns.get(peer));
+                record.count_more(role);
+                entry.insert(record);
+                Ok(false)
             }
             Err(refused) => {
                 forget(refused);

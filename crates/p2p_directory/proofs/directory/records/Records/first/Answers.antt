@@ -14,7 +14,7 @@ loop-peer-preserved g c = λ q.
     let record_at : Ingress → RecordView g.row.C.Denot g.row.C-Signature.Denot = λ ingress. new_record (Bootstrapper ingress) true in
     let same = is_eq (g.C.Ord.cmp c.in-Some.peer q) in
     let before = last_ingress_by g.C.Ord.cmp q c.loop-peer.yielded in
-    c.in_ok-put.ensures q
+    c.in_ok-put.ensures.ok q
     ∙ (λ i. if same then Some (c.bootstrapper.ensures i) else c.loop-peer.invariant q i)
     ∙ sym (mapped record_at same c.in-Some.ingress before)
     ∙ ap (option_map record_at) (sym (last_ingress-push g.C.Ord.cmp q c.loop-peer.yielded (c.in-Some.peer, c.in-Some.ingress)))

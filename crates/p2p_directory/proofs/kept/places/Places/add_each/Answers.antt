@@ -1,13 +1,14 @@
 use Rattle.std.proofs.Common.{◌++◌, take, cond, ap, ◌∙◌}
 use Rattle.std.proofs.lemmas.List.{take_all}
 use Rattle.p2p_directory.specs.PeerSets.{has_key}
-use Rattle.p2p_directory.specs.Private.Places.{places_of, places_from, but_last}
+use Rattle.p2p_directory.specs.declared.kept.places.End.TheVariants.{Back}
+use Rattle.p2p_directory.specs.Private.Places.{places_of, places_from, without}
 use Rattle.p2p_directory.proofs.SetsAndRecords.Naming.{one_changed, sorted_take, of_front, undone}
 use Rattle.p2p_directory.proofs.SetsAndRecords.Places.{one_added, all_added, last_goes}
 use Rattle.p2p_directory.proofs.kept.places.Places.add_each.Goals as goal
 
-pub remove_last_of_each-requires : goal.remove_last_of_each-requires
-remove_last_of_each-requires g c = sorted_take g.C.Ord.cmp c.loop-at.at c.args.keys.now c.requires
+pub remove_each-requires : goal.remove_each-requires
+remove_each-requires g c = sorted_take g.C.Ord.cmp c.loop-at.at c.args.keys.now c.requires
 
 pub loop-at-preserved : goal.loop-at-preserved
 loop-at-preserved g c = λ q.
@@ -26,11 +27,11 @@ returns-in-Err-clause-err g c = λ q.
     let cmp = g.C.Ord.cmp in
     let so_far = has_key cmp (take c.loop-at.at c.args.keys.now) q in
     let from = places_from cmp c.args.set 0 c.args.keys.now q in
-    undone so_far (λ ps. ps ++ from) but_last (places_of cmp c.remove_last_of_each.new.self q)
+    undone so_far (λ ps. ps ++ from) (without Back) (places_of cmp c.remove_each.new.self q)
     (places_of cmp c.add.new.self q) (places_of cmp c.args.self.now q)
     (λ h. last_goes cmp c.args.set c.args.keys.now q (places_of cmp c.args.self.now q)
     (of_front cmp c.args.keys.now c.loop-at.at q h))
-    (c.remove_last_of_each.ensures q) (c.in-Err.ensures.err q ∙ c.loop-at.invariant q)
+    (c.remove_each.ensures q) (c.in-Err.ensures.err q ∙ c.loop-at.invariant q)
 
 pub returns-clause-ok : goal.returns-clause-ok
 returns-clause-ok g c = λ q.

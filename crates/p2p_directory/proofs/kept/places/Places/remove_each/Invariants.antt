@@ -1,10 +1,10 @@
 use Rattle.std.proofs.Common.{◌≡◌, take, cond}
 use Rattle.p2p_directory.specs.PeerSets.{has_key}
-use Rattle.p2p_directory.specs.Private.Places.{places_of, but_last}
-use Rattle.p2p_directory.proofs.kept.places.Places.remove_last_of_each.Given as goal
+use Rattle.p2p_directory.specs.Private.Places.{places_of, without}
+use Rattle.p2p_directory.proofs.kept.places.Places.remove_each.Given as goal
 
--- the keys so far have lost their last place
+-- the keys so far have lost the place at the end
 abbrev pub invariant-loop-key : goal.invariant-loop-key
 invariant-loop-key g l = (q : g.row.C.Denot) →
     places_of g.C.Ord.cmp l.self q ≡ cond (has_key g.C.Ord.cmp (take l.key-index l.keys) q)
-    (but_last (places_of g.C.Ord.cmp l.initial.self q)) (places_of g.C.Ord.cmp l.initial.self q)
+    (without l.end (places_of g.C.Ord.cmp l.initial.self q)) (places_of g.C.Ord.cmp l.initial.self q)
