@@ -14,6 +14,13 @@ const PIECES: usize = 64;
 
 const PLACES: usize = 400_000;
 
+// Blocks of this size and above are cut to what is asked for; of smaller ones that were freed, the
+// C library hands out the whole, and only for a request of the same size.
+const CUT: usize = 2_040;
+
+// After so many budgets in a row that sufficed, all greater ones are taken to suffice.
+const SPARE: usize = 16;
+
 /// Takes blocks of this size until none is given. No page of them is written.
 fn take_each(blocks: &mut Vec<Vec<u8>>, alloc: Global, size: usize) -> Result<(), AllocError>
     ensures { length blocks.old.items ≤ length blocks.new.items }
@@ -88,8 +95,8 @@ impl LowMemory {
         Ok(LowMemory { blocks, filler })
     }
 
-    /// Leaves one piece of about so many bytes, and with 0 none: then each request is refused. What
-    /// was taken stays taken.
+    /// Leaves one piece of so many bytes, of which each block that is taken has a head of 8, and
+    /// with 0 none: then each request is refused. What was taken stays taken.
     ///
     /// # Errors
     ///
@@ -97,9 +104,13 @@ impl LowMemory {
     pub fn limit(&mut self, alloc: Global, budget: usize) -> Result<(), AllocError>
         ensures { self.old ≤ self.new }
     {
-        let plug: Vec<u8> = Vec::with_capacity(alloc, budget)?;
+        if budget == 0 {
+            return take_all(&mut self.filler, alloc, PIECE);
+        }
+        let plug: Vec<u8> = Vec::with_capacity(alloc, budget.saturating_add(CUT))?;
         take_all(&mut self.filler, alloc, PIECE)?;
         drop(plug);
+        self.filler.push(Vec::with_capacity(alloc, CUT)?)?;
         Ok(())
     }
 
@@ -108,5 +119,40 @@ impl LowMemory {
         ensures { self.new ≡ 0 }
     {
         self.filler.clear();
+    }
+}
+
+/// At which budgets memory was refused, of those that grow by [`STEP`] from 0 on.
+#[derive(Clone, Copy, Debug)]
+pub struct Tally {
+    blocks: usize,
+    spare: usize,
+}
+
+impl Tally {
+    /// No budget was tried yet.
+    pub const EMPTY: Tally = Tally {
+        blocks: 0,
+        spare: 0,
+    };
+
+    /// Counts the next budget: whether memory was refused within it.
+    pub fn count(&mut self, refused: bool) {
+        self.spare = self.spare.saturating_add(1);
+        if refused {
+            self.blocks = self.blocks.saturating_add(self.spare);
+            self.spare = 0;
+        }
+    }
+
+    /// Whether so many budgets in a row sufficed that greater ones need not be tried.
+    pub fn is_over(&self) -> bool {
+        self.spare >= SPARE
+    }
+
+    /// The least number of blocks of [`STEP`] bytes that sufficed, as all greater ones that were
+    /// tried.
+    pub fn blocks(&self) -> usize {
+        self.blocks
     }
 }

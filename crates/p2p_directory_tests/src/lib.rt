@@ -9,11 +9,15 @@ mod calls;
 #[cfg(test)]
 mod directory;
 #[cfg(test)]
+mod network;
+#[cfg(test)]
 mod node;
 #[cfg(test)]
 mod pair;
 #[cfg(test)]
 mod record;
+#[cfg(test)]
+mod refused;
 #[cfg(test)]
 mod run;
 #[cfg(test)]

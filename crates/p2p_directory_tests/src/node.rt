@@ -14,9 +14,6 @@ use std::process::Abort;
 use std::test::Fail;
 use std::time::Duration;
 
-pub(crate) mod memory;
-mod steps;
-
 const ROWS: &[u8] = b"rows";
 
 const MEBIBYTE: usize = 1 << 20;

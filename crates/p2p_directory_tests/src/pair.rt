@@ -21,7 +21,6 @@ use std::test::Fail;
 use std::time::Duration;
 
 mod many;
-mod memory;
 
 pub(crate) const ROWS: &[u8] = b"rows";
 
@@ -139,10 +138,13 @@ pub(crate) enum Said {
     Reply(u8, &'static [(u16, u64)]),
     Taken(usize),
     Refused(Error),
+    Data(u64, &'static [u8]),
+    Codec(CodecError),
+    // To bits of another number than the primary peers, by a frame or an exchange.
+    Malformed,
     // What an exchange came to.
     NoSet,
     AskRefused(CodecError),
-    Malformed,
     ReplyRefused(CodecError),
     Invalid(Error),
     // The keys and timestamps of the infos that were applied.
@@ -178,6 +180,10 @@ impl Said {
             Said::Greeted => Ok(matches!(received, Received::Greeted)),
             Said::Taken(count) => Ok(matches!(received, Received::Applied(n) if *n == count)),
             Said::Refused(error) => Ok(matches!(received, Received::Invalid(e) if *e == error)),
+            Said::Malformed => Ok(matches!(received, Received::Malformed)),
+            Said::Codec(fault) => Ok(matches!(received, Received::Codec(f) if *f == fault)),
+            Said::Data(channel, bytes) => Ok(matches!(received, Received::Data(data)
+                if data.channel == channel && data.message.as_slice() == bytes)),
             Said::Reply(count, told) => {
                 let wanted = infos(alloc, count, told)?;
                 Ok(matches!(received, Received::Reply(frame) if *frame == wanted))

@@ -30,7 +30,7 @@ fn track(alloc: Global, index: u64, primary: &[u64]) -> Result<Command<TestKey>,
 }
 
 // The shared setting, where so many sets more than one are retained.
-fn window(more: u8) -> Config
+pub(crate) fn window(more: u8) -> Config
     ensures { non_zero_usize_get result.max_sets ≡ 1 + more }
 {
     Config {

@@ -279,15 +279,19 @@ fn frames_within(
     }
 }
 
+// The bytes of the header (2) and what shares them (3); the queue has room for four.
+const FRAME_BLOCKS: usize = 6;
+
 #[test]
 fn frames_are_refused(rt: HostRuntime) -> Result<(), Fail> {
     let alloc = rt.alloc();
     let mut memory = LowMemory::new(alloc)?;
-    let mut tally = Tally::EMPTY;
+    let mut tally = low_memory::Tally::EMPTY;
     for step in 0..STEPS {
         tally.count(frames_within(&rt, alloc, &mut memory, step)?);
     }
-    tally.is_mixed(&rt);
+    let blocks = tally.blocks();
+    assert!(rt; blocks > 0 && blocks <= FRAME_BLOCKS, "{blocks} blocks");
     Ok(())
 }
 

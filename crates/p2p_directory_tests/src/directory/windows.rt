@@ -1,10 +1,7 @@
-//! Bits and blocks over many changes, and where memory is refused.
+//! Bits and blocks over many changes.
 
 use super::*;
-use crate::directory::{are_keys, assert_bits, directory_with, learn, now, track};
-use crate::node::memory::Tally;
-use low_memory::{LowMemory, STEP};
-use p2p_directory::directory::TrackedPeers;
+use crate::directory::{assert_bits, directory_with, learn, now, track};
 
 fn seconds(count: u64) -> Duration {
     Duration::from_secs(count)
@@ -214,116 +211,5 @@ fn a_thousand_blocks_end_in_five_steps(rt: HostRuntime) -> Result<(), Fail> {
     let alloc = rt.alloc();
     let mut directory = directory_with(alloc, NonZeroUsize::MIN, 1)?;
     ends_a_thousand(&rt, &mut directory)?;
-    Ok(())
-}
-
-const STEPS: usize = 256;
-
-// What is tried within little memory.
-#[derive(Clone, Copy, Debug)]
-enum Tried {
-    Track,
-    Block,
-}
-
-impl Tried {
-    // Whether memory was refused.
-    fn is_refused(self, directory: &mut Directory<TestKey>, peers: TrackedPeers<TestKey>) -> bool {
-        match self {
-            Tried::Track => directory.track(7, peers).is_err(),
-            Tried::Block => directory.block(&TestKey(8), now()).is_err(),
-        }
-    }
-}
-
-// Four sets of four, the info of peer 5 known, and nobody blocked.
-fn prepared(alloc: Global) -> Result<Directory<TestKey>, AllocError> {
-    let mut directory = directory_with(alloc, NonZeroUsize::MIN.saturating_add(3), 1)?;
-    for change in CHANGES.iter().take(4) {
-        track(alloc, &mut directory, change.index, change.primary, &[])?;
-    }
-    learn(alloc, &mut directory, 5, 1_000, 8005)?;
-    Ok(directory)
-}
-
-// The sets, their bits and all peers are as they were.
-fn assert_same_sets(
-    rt: &impl Abort,
-    alloc: Global,
-    directory: &Directory<TestKey>,
-) -> Result<(), AllocError> {
-    for change in CHANGES.iter().skip(3).take(1) {
-        assert_bits(rt, alloc, directory, change.told)?;
-    }
-    for change in CHANGES.iter().take(4) {
-        match directory.get_peer_set(change.index)? {
-            Some(set) => assert!(rt; are_keys(set.primary.as_slice(), change.primary)),
-            None => panic!(rt; "set {} is retained", change.index),
-        }
-    }
-    assert!(rt; directory.get_peer_set(7)?.is_none());
-    assert!(rt; are_keys(directory.all()?.primary.as_slice(), &[3, 4, 5, 6, 7]));
-    assert!(rt;
-        directory
-            .latest_update()?
-            .is_some_and(|update| update.index == 4)
-    );
-    Ok(())
-}
-
-// So are the blocks and what is told of peers.
-fn assert_same_peers(rt: &impl Abort, directory: &Directory<TestKey>) -> Result<(), AllocError> {
-    assert!(rt; directory.blocked_peers(now())?.is_empty());
-    assert_eq!(rt; directory.next_unblock(), None);
-    assert_eq!(rt; directory.latest_set_index(), Some(4));
-    assert_eq!(rt; directory.tracked(), 5);
-    assert_eq!(rt; directory.status(&TestKey(5)), Some(Status::Inert));
-    assert_eq!(rt; directory.status(&TestKey(8)), None);
-    assert_eq!(rt; told_of(directory, 5)?, None);
-    assert!(rt; directory.eligible(&TestKey(5), now()) && directory.acceptable(&TestKey(5), now()));
-    assert!(rt; !directory.eligible(&TestKey(8), now()));
-    let dialable = directory.dialable(now())?;
-    assert!(rt; are_keys(dialable.peers.as_slice(), &[5]));
-    Ok(())
-}
-
-// Whether memory was refused within a budget; then all is as it was, and what was tried is done
-// later.
-fn tries_within(
-    rt: &impl Abort,
-    alloc: Global,
-    memory: &mut LowMemory,
-    tried: Tried,
-    budget: usize,
-) -> Result<bool, Fail> {
-    let mut directory = prepared(alloc)?;
-    let peers = tracked(alloc, &[2, 5, 8, 30], &[31])?;
-    let again = tracked(alloc, &[2, 5, 8, 30], &[31])?;
-    memory.limit(alloc, budget)?;
-    let refused = tried.is_refused(&mut directory, peers);
-    memory.lift();
-    if refused {
-        assert_same_sets(rt, alloc, &directory)?;
-        assert_same_peers(rt, &directory)?;
-        assert!(rt;
-            !tried.is_refused(&mut directory, again),
-            "{tried:?} within {budget}"
-        );
-    }
-    Ok(refused)
-}
-
-#[test]
-fn sets_and_blocks_are_refused_memory(rt: HostRuntime) -> Result<(), Fail> {
-    let alloc = rt.alloc();
-    let mut memory = LowMemory::new(alloc)?;
-    for tried in [Tried::Track, Tried::Block] {
-        let mut tally = Tally::EMPTY;
-        for step in 0..STEPS {
-            let budget = step.saturating_mul(STEP);
-            tally.count(tries_within(&rt, alloc, &mut memory, tried, budget)?);
-        }
-        tally.assert_mixed(&rt);
-    }
     Ok(())
 }

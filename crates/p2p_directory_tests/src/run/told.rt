@@ -7,6 +7,7 @@ use p2p_directory::run::Reply;
 use p2p_discovery::codec::TestKey;
 use p2p_discovery::discovery::{BitVec, Info};
 use p2p_discovery::sets::BitMap;
+use p2p_discovery::types::Ingress;
 use std::time::Duration;
 
 /// A moment: seconds and nanoseconds since the epoch.
@@ -37,6 +38,8 @@ pub enum Told {
     All(Roles),
     // The key, the timestamp and the port.
     Info(Option<(u64, u64, u16)>),
+    // The key and the timestamp of an info at a name.
+    Named(u64, u64),
     // The keys with the timestamps.
     Infos(Option<&'static [(u64, u64)]>),
     // The index and the bits.
@@ -96,6 +99,11 @@ impl Told {
                 Some(info) => told.is_some_and(|told| is_info(info, told)),
                 None => told.is_none(),
             },
+            (Told::Named(key, timestamp), Reply::Info(Some(info))) => {
+                info.public_key.0 == key
+                    && info.timestamp == timestamp
+                    && matches!(info.ingress, Ingress::Dns { .. })
+            }
             (Told::Infos(told), Reply::Infos(infos)) => match infos {
                 Some(infos) => told.is_some_and(|told| are_infos(infos, told)),
                 None => told.is_none(),

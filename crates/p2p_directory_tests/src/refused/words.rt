@@ -1,0 +1,176 @@
+//! What is replied and what a directory answers, as text that is to be compared.
+
+use p2p_directory::directory::Directory;
+use p2p_directory::node::{Exchanged, Node, PairReply};
+use p2p_directory::run::{Command, Reply};
+use p2p_discovery::codec::TestKey;
+use p2p_discovery::discovery::BitVec;
+use p2p_discovery::sets::BitMap;
+use std::alloc::{AllocError, Global};
+use std::fmt;
+use std::fmt::Write;
+use std::time::Duration;
+
+// A reply as text, with all that it tells.
+#[derive(Drop)]
+pub(crate) struct Words<'a, T>(pub(crate) &'a T);
+
+impl fmt::Display for Words<'_, Reply<TestKey>> {
+    fn fmt<W: fmt::Write>(&self, f: &mut fmt::Formatter<W>) -> fmt::Result {
+        let reply = self.0;
+        write!(f, "{reply:?} ")?;
+        match reply {
+            Reply::Track(torn) => write!(f, "{torn:?}"),
+            Reply::Dial(answer)
+            | Reply::Listen(answer)
+            | Reply::Block(answer)
+            | Reply::UnblockExpired(answer)
+            | Reply::Eligible(answer)
+            | Reply::Acceptable(answer) => write!(f, "{answer:?}"),
+            Reply::ForgetCooled(count) | Reply::Tracked(count) => write!(f, "{count:?}"),
+            Reply::NextUnblock(moment) => write!(f, "{moment:?}"),
+            Reply::BlockedPeers(peers) => write!(f, "{peers:?}"),
+            Reply::Status(status) => write!(f, "{status:?}"),
+            Reply::GetPeerSet(peers) => write!(f, "{peers:?}"),
+            Reply::LatestSetIndex(index) => write!(f, "{index:?}"),
+            Reply::LatestUpdate(update) => write!(f, "{update:?}"),
+            Reply::All(peers) => write!(f, "{peers:?}"),
+            Reply::Info(info) => write!(f, "{info:?}"),
+            Reply::Infos(infos) => write!(f, "{infos:?}"),
+            Reply::GetRandomBitVec(bits) => write!(f, "{bits:?}"),
+            Reply::Dialable(dialable) => write!(f, "{dialable:?}"),
+            Reply::Connect
+            | Reply::Release
+            | Reply::UpdatePeers
+            | Reply::NotReserved
+            | Reply::NotHeld
+            | Reply::OutOfMemory => Ok(()),
+        }
+    }
+}
+
+impl fmt::Display for Words<'_, Exchanged<TestKey>> {
+    fn fmt<W: fmt::Write>(&self, f: &mut fmt::Formatter<W>) -> fmt::Result {
+        match self.0 {
+            Exchanged::NoSet => f.write_str("NoSet"),
+            Exchanged::AskRefused(fault) => write!(f, "AskRefused({fault:?})"),
+            Exchanged::Malformed => f.write_str("Malformed"),
+            Exchanged::ReplyRefused(fault) => write!(f, "ReplyRefused({fault:?})"),
+            Exchanged::Invalid(error) => write!(f, "Invalid({error:?})"),
+            Exchanged::Memory => f.write_str("Memory"),
+            Exchanged::Applied(infos) => write!(f, "Applied({infos:?})"),
+        }
+    }
+}
+
+impl fmt::Display for Words<'_, PairReply<TestKey>> {
+    fn fmt<W: fmt::Write>(&self, f: &mut fmt::Formatter<W>) -> fmt::Result {
+        match self.0 {
+            PairReply::Call(reply) => write!(f, "{}", Words(reply)),
+            PairReply::Ask(frame) => write!(f, "{frame:?}"),
+            PairReply::Frame(received) => write!(f, "{received:?}"),
+            PairReply::Exchange(exchanged) => write!(f, "{}", Words(exchanged)),
+            PairReply::OutOfMemory => f.write_str("OutOfMemory"),
+        }
+    }
+}
+
+// The peers with keys below this are asked for.
+const KEYS: u64 = 48;
+
+// In seconds: before, between and after the moments of cooldowns and blocks.
+static MOMENTS: [u64; 8] = [0, 59, 60, 100, 105, 110, 160, 1_000];
+
+fn seconds(count: u64) -> Duration {
+    Duration::from_secs(count)
+}
+
+fn tells_of_peers(text: &mut String, directory: &Directory<TestKey>) -> Result<(), AllocError> {
+    for key in 0..KEYS {
+        let peer = TestKey(key);
+        let status = directory.status(&peer);
+        let eligible = directory.eligible(&peer, seconds(100));
+        let acceptable = directory.acceptable(&peer, seconds(100));
+        let info = directory.info(&peer)?;
+        write!(
+            text,
+            "{peer:?} {status:?} {eligible:?} {acceptable:?} {info:?}\n"
+        )?;
+    }
+    Ok(())
+}
+
+fn tells_of_moments(text: &mut String, directory: &Directory<TestKey>) -> Result<(), AllocError> {
+    for moment in MOMENTS {
+        let dialable = directory.dialable(seconds(moment))?;
+        let blocked = directory.blocked_peers(seconds(moment))?;
+        write!(text, "{dialable:?} {blocked:?}\n")?;
+    }
+    Ok(())
+}
+
+// The set at a place, its bits, and what is told to one who knows nobody of it.
+fn tells_of_set(
+    text: &mut String,
+    alloc: Global,
+    directory: &Directory<TestKey>,
+    known: BitVec,
+) -> Result<(), AllocError> {
+    let set = directory.get_peer_set(known.index)?;
+    let nobody = BitVec {
+        index: known.index,
+        bits: BitMap::zeroes(alloc, known.bits.len())?,
+    };
+    let infos = directory.infos(&nobody, seconds(1_000))?;
+    write!(text, "{known:?} {set:?} {infos:?}\n")
+}
+
+fn tells_of_sets(
+    text: &mut String,
+    alloc: Global,
+    directory: &Directory<TestKey>,
+) -> Result<(), AllocError> {
+    for place in 0..3 {
+        if let Some(known) = directory.get_random_bit_vec(place)? {
+            tells_of_set(text, alloc, directory, known)?;
+        }
+    }
+    let index = directory.latest_set_index();
+    let tracked = directory.tracked();
+    let unblock = directory.next_unblock();
+    let update = directory.latest_update()?;
+    let all = directory.all()?;
+    write!(
+        text,
+        "{index:?} {tracked:?} {unblock:?} {update:?} {all:?}\n"
+    )
+}
+
+// What a directory answers to each question.
+pub(crate) fn tells(
+    text: &mut String,
+    alloc: Global,
+    directory: &Directory<TestKey>,
+) -> Result<(), AllocError> {
+    tells_of_peers(text, directory)?;
+    tells_of_moments(text, directory)?;
+    tells_of_sets(text, alloc, directory)
+}
+
+// .. then who is released, and how many cooldowns are forgotten at each moment.
+pub(crate) fn tells_all(
+    text: &mut String,
+    alloc: Global,
+    node: &mut Node<TestKey>,
+) -> Result<(), AllocError> {
+    tells(text, alloc, node.directory())?;
+    for key in 0..KEYS {
+        let released = node.step(Command::Release(TestKey(key)));
+        write!(text, "{}\n", Words(&released))?;
+    }
+    for moment in MOMENTS {
+        let forgotten = node.step(Command::ForgetCooled(seconds(moment)));
+        write!(text, "{}\n", Words(&forgotten))?;
+    }
+    tells(text, alloc, node.directory())
+}
