@@ -4,7 +4,6 @@ pub mod Ordered
 pub mod Bounded
 pub mod Spacing
 pub mod Dialled
-pub mod Quiet
 pub mod GrantRuns
 pub mod BlockRuns
 pub mod DialRuns

@@ -1,6 +1,5 @@
 pub mod Definitions
 pub mod LawsOfRuns
-pub mod SetsAndRecords
 pub mod Refinement
 pub mod Reservations
 pub mod Nodes

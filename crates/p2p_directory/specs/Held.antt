@@ -3,10 +3,10 @@ use Rattle.std.specs.Prelude.{◌≡◌, not, List, Option, Some, None, find, is
 use Rattle.std.specs.List.{filter}
 use Rattle.std.specs.declared.cmp.Ordering.{Ordering}
 use Rattle.std.specs.BTreeMap.{is_at}
-use Rattle.p2p_directory.specs.declared.directory.Metadata.{Metadata}
-use Rattle.p2p_directory.specs.Record.{RecordView}
-use Rattle.p2p_directory.specs.Directory.{DirectoryView, record_of, key_of, kept_after_release}
-use Rattle.p2p_directory.specs.Directory.{is_busy}
+use Rattle.p2p_tracker.specs.declared.directory.Metadata.{Metadata}
+use Rattle.p2p_tracker.specs.Record.{RecordView}
+use Rattle.p2p_tracker.specs.Directory.{DirectoryView, record_of, key_of, kept_after_release}
+use Rattle.p2p_tracker.specs.Directory.{is_busy}
 
 module _ {C S : Type 0} where
   -- the record of a peer once what is held of it, if anything, was released

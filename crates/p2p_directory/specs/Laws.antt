@@ -4,7 +4,6 @@ pub mod Isolation
 pub mod Order
 pub mod Bounds
 pub mod Grants
-pub mod Dials
 pub mod GrantRuns
 pub mod BlockRuns
 pub mod DialRuns

@@ -1,15 +1,15 @@
 -- What `run` promises of replies and of what is left rests on these: read them in this order.
-pub mod Calls
-pub mod Moments
-pub mod PeerSets
-pub mod Lists
-pub mod Blocks
-pub mod Cooldowns
-pub mod History
-pub mod World
-pub mod Answers
-pub mod Record
-pub mod Directory
+pub use Rattle.p2p_tracker.specs.Calls
+pub use Rattle.p2p_tracker.specs.Moments
+pub use Rattle.p2p_tracker.specs.PeerSets
+pub use Rattle.p2p_tracker.specs.Lists
+pub use Rattle.p2p_tracker.specs.Blocks
+pub use Rattle.p2p_tracker.specs.Cooldowns
+pub use Rattle.p2p_tracker.specs.History
+pub use Rattle.p2p_tracker.specs.World
+pub use Rattle.p2p_tracker.specs.Answers
+pub use Rattle.p2p_tracker.specs.Record
+pub use Rattle.p2p_tracker.specs.Directory
 pub mod Refinement
 pub mod Run
 -- What nodes promise rests on these, too.
@@ -22,7 +22,8 @@ pub mod Pairs
 -- What is held of grants.
 pub mod Held
 -- The step of one accepted call: the main law and other laws alone speak of it.
-pub mod Step
+pub use Rattle.p2p_tracker.specs.Step
+pub use Rattle.p2p_tracker.specs.Dials
 -- Laws of whole runs. What `run` says of its replies together rests on those whose names end in
 -- `Runs`.
 pub mod Laws

@@ -18,16 +18,16 @@ use Rattle.p2p_directory.specs.declared.node.network.NetworkReply.{NetworkReply}
 use Rattle.p2p_directory.specs.declared.node.network.NetworkReply.TheVariants as reply
 use Rattle.p2p_directory.specs.declared.run.commands.Command.{Command}
 use Rattle.p2p_directory.specs.declared.run.commands.Reply.TheVariants as run_reply
-use Rattle.p2p_directory.specs.Calls.{Call}
-use Rattle.p2p_directory.specs.World.{World}
-use Rattle.p2p_directory.specs.Answers.{set_at_place}
+use Rattle.p2p_tracker.specs.Calls.{Call}
+use Rattle.p2p_tracker.specs.World.{World}
+use Rattle.p2p_tracker.specs.Answers.{set_at_place}
 use Rattle.p2p_directory.specs.Run.{call_of, next, world_after}
 use Rattle.p2p_directory.specs.Run as run
 use Rattle.p2p_directory.specs.Received.{Wire, Standing, applies, received_at, ask_frame_at}
 use Rattle.p2p_directory.specs.Received as frames
 use Rattle.p2p_directory.specs.Exchange.{exchanged_at, infos_applied}
 use Rattle.p2p_directory.specs.Exchange as exchange
-use Rattle.p2p_directory.specs.Directory.{DirectoryView}
+use Rattle.p2p_tracker.specs.Directory.{DirectoryView}
 use Rattle.p2p_directory.specs.Held.{ReleasesAll}
 use Rattle.p2p_directory.specs.Nodes.{NodeView, Made, NodeStandsAt, made_of, standing_in}
 use Rattle.p2p_directory.specs.Nodes.{calls_with, may_reserve}

@@ -10,17 +10,17 @@ use Rattle.p2p_discovery.specs.declared.discovery.Info.{Info}
 use Rattle.p2p_discovery.specs.declared.discovery.PayloadConfig.{PayloadConfig}
 use Rattle.p2p_discovery.specs.Info.{IsInfo, IsKeyed}
 use Rattle.p2p_discovery.specs.Judgement.{Verifier, judge_of}
-use Rattle.p2p_directory.specs.declared.directory.Metadata.{Metadata}
+use Rattle.p2p_tracker.specs.declared.directory.Metadata.{Metadata}
 use Rattle.p2p_directory.specs.declared.node.Received.{Received}
 use Rattle.p2p_directory.specs.declared.node.Setup.{Setup as Given}
 use Rattle.p2p_directory.specs.declared.run.commands.Command.{Command}
 use Rattle.p2p_directory.specs.declared.run.commands.Reply.{Reply}
 use Rattle.p2p_directory.specs.declared.run.commands.Reply.TheVariants as reply
-use Rattle.p2p_directory.specs.Calls.{Setup, Call}
-use Rattle.p2p_directory.specs.Calls.Call.{Dial, Listen, Update}
-use Rattle.p2p_directory.specs.World.{World}
-use Rattle.p2p_directory.specs.Answers.{infos_for, set_at_place}
-use Rattle.p2p_directory.specs.Directory.{DirectoryView, Updates, bit_vec_at, infos_in}
+use Rattle.p2p_tracker.specs.Calls.{Setup, Call}
+use Rattle.p2p_tracker.specs.Calls.Call.{Dial, Listen, Update}
+use Rattle.p2p_tracker.specs.World.{World}
+use Rattle.p2p_tracker.specs.Answers.{infos_for, set_at_place}
+use Rattle.p2p_tracker.specs.Directory.{DirectoryView, Updates, bit_vec_at, infos_in}
 use Rattle.p2p_directory.specs.Held.{held_of}
 use Rattle.p2p_directory.specs.Refinement.{Refines}
 use Rattle.p2p_directory.specs.Run.{setup_of, call_of, world_after, next, bit_vec_in}

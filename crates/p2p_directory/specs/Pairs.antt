@@ -10,7 +10,7 @@ use Rattle.p2p_directory.specs.declared.node.pair.PairCommand.{PairCommand}
 use Rattle.p2p_directory.specs.declared.node.pair.PairCommand.TheVariants as command
 use Rattle.p2p_directory.specs.declared.node.pair.PairReply.{PairReply}
 use Rattle.p2p_directory.specs.declared.node.pair.PairReply.TheVariants as reply
-use Rattle.p2p_directory.specs.Calls.{Call}
+use Rattle.p2p_tracker.specs.Calls.{Call}
 use Rattle.p2p_directory.specs.Received.{Wire}
 use Rattle.p2p_directory.specs.Nodes.{Made}
 use Rattle.p2p_directory.specs.Network.{Done, calls_at, AreNetworkAnswers, done_after}

@@ -2,19 +2,19 @@
 use Rattle.std.specs.Prelude.{ℕ, ◌≡◌, ◌-◌, ◌^◌, min, if◌then◌else◌, Option, Some, None}
 use Rattle.p2p_discovery.specs.declared.discovery.Info.{Info}
 use Rattle.p2p_discovery.specs.declared.types.ingress.Ingress.{Ingress}
-use Rattle.p2p_directory.specs.declared.record.Address.{Address}
-use Rattle.p2p_directory.specs.declared.record.Address.TheVariants.{Unknown, Myself, Bootstrapper}
-use Rattle.p2p_directory.specs.declared.record.Address.TheVariants.{Discovered}
-use Rattle.p2p_directory.specs.declared.directory.Metadata.{Metadata}
-use Rattle.p2p_directory.specs.declared.directory.Metadata.TheVariants as metadata
-use Rattle.p2p_directory.specs.Calls.{Setup, Direction}
-use Rattle.p2p_directory.specs.Calls.Direction.{Listener, Dialer}
-use Rattle.p2p_directory.specs.History.{is_own, is_persistent, primary_count, secondary_count}
-use Rattle.p2p_directory.specs.World.{World, Known, last_ingress, reservable_from, dialable_from}
-use Rattle.p2p_directory.specs.Answers.{is_present_in}
-use Rattle.p2p_directory.specs.Record.{RecordView}
-use Rattle.p2p_directory.specs.Directory.{ConfigView, DirectoryView, record_of}
-use Rattle.p2p_directory.specs.Directory.{unblock_of, cooldown_of}
+use Rattle.p2p_tracker.specs.declared.record.Address.{Address}
+use Rattle.p2p_tracker.specs.declared.record.Address.TheVariants.{Unknown, Myself, Bootstrapper}
+use Rattle.p2p_tracker.specs.declared.record.Address.TheVariants.{Discovered}
+use Rattle.p2p_tracker.specs.declared.directory.Metadata.{Metadata}
+use Rattle.p2p_tracker.specs.declared.directory.Metadata.TheVariants as metadata
+use Rattle.p2p_tracker.specs.Calls.{Setup, Direction}
+use Rattle.p2p_tracker.specs.Calls.Direction.{Listener, Dialer}
+use Rattle.p2p_tracker.specs.History.{is_own, is_persistent, primary_count, secondary_count}
+use Rattle.p2p_tracker.specs.World.{World, Known, last_ingress, reservable_from, dialable_from}
+use Rattle.p2p_tracker.specs.Answers.{is_present_in}
+use Rattle.p2p_tracker.specs.Record.{RecordView}
+use Rattle.p2p_tracker.specs.Directory.{ConfigView, DirectoryView, record_of}
+use Rattle.p2p_tracker.specs.Directory.{unblock_of, cooldown_of}
 
 -- the metadata of a reservation of p
 abbrev pub metadata_of : {C S : Type 0} → C → Direction → Metadata C S

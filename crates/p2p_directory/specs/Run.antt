@@ -8,34 +8,34 @@ use Rattle.std.specs.declared.cmp.Ordering.{Ordering}
 use Rattle.p2p_discovery.specs.declared.discovery.BitVec.{BitVec}
 use Rattle.p2p_discovery.specs.declared.discovery.Info.{Info}
 use Rattle.p2p_discovery.specs.declared.types.ingress.Ingress.{Ingress}
-use Rattle.p2p_directory.specs.declared.directory.Config.{Config}
+use Rattle.p2p_tracker.specs.declared.directory.Config.{Config}
 use Rattle.p2p_directory.specs.declared.run.commands.Command.{Command}
 use Rattle.p2p_directory.specs.declared.run.commands.Command.TheVariants as command
 use Rattle.p2p_directory.specs.declared.run.commands.Reply.{Reply}
 use Rattle.p2p_directory.specs.declared.run.commands.Reply.TheVariants as reply
-use Rattle.p2p_directory.specs.declared.directory.PeerSetUpdate.{PeerSetUpdate}
-use Rattle.p2p_directory.specs.declared.directory.Metadata.{Metadata}
+use Rattle.p2p_tracker.specs.declared.directory.PeerSetUpdate.{PeerSetUpdate}
+use Rattle.p2p_tracker.specs.declared.directory.Metadata.{Metadata}
 use Rattle.p2p_discovery.specs.Ingress.{takes_none}
-use Rattle.p2p_directory.specs.Calls.{Setup, SetAt, Question, Call, Event}
-use Rattle.p2p_directory.specs.Calls.Question.{StatusOf, NumberTracked, NextUnblock, BlockedAt}
-use Rattle.p2p_directory.specs.Calls.Question.{PeerSet, LatestIndex, AllPeers, LatestUpdate}
-use Rattle.p2p_directory.specs.Calls.Question.{InfoOf, InfosFor, BitsAt, IsEligible, IsAcceptable}
-use Rattle.p2p_directory.specs.Calls.Question.{DialableAt}
-use Rattle.p2p_directory.specs.Calls.Call.{Track, Dial, Listen, Connect, Release, Update, Block}
-use Rattle.p2p_directory.specs.Calls.Call.{UnblockExpired, ForgetCooled, Ask}
-use Rattle.p2p_directory.specs.PeerSets.{has_peers}
-use Rattle.p2p_directory.specs.Lists.{Somebody}
-use Rattle.p2p_directory.specs.History.{is_inert, is_named, taken_sets}
-use Rattle.p2p_directory.specs.World.{World, world_at, past, event_in}
-use Rattle.p2p_directory.specs.Answers.{IsTrackAnswer, was_granted, was_taken, was_blocked}
-use Rattle.p2p_directory.specs.Answers.{may_connect, may_release, status_in, IsNumberTracked}
-use Rattle.p2p_directory.specs.Answers.{set_with_index, set_at_place, latest_index_in, bits_at}
-use Rattle.p2p_directory.specs.Answers.{AreAll, IsLatestUpdate, sharable_info, infos_for}
-use Rattle.p2p_directory.specs.Answers.{is_blocked_at}
-use Rattle.p2p_directory.specs.Answers.{AreBlocked, IsNextUnblock, IsAnyExpired, IsNumberCooled}
-use Rattle.p2p_directory.specs.Answers.{is_eligible_at}
-use Rattle.p2p_directory.specs.Answers.{is_acceptable_at, is_dialable, IsDialable}
-use Rattle.p2p_directory.specs.Directory.{peers_of, set_in}
+use Rattle.p2p_tracker.specs.Calls.{Setup, SetAt, Question, Call, Event}
+use Rattle.p2p_tracker.specs.Calls.Question.{StatusOf, NumberTracked, NextUnblock, BlockedAt}
+use Rattle.p2p_tracker.specs.Calls.Question.{PeerSet, LatestIndex, AllPeers, LatestUpdate}
+use Rattle.p2p_tracker.specs.Calls.Question.{InfoOf, InfosFor, BitsAt, IsEligible, IsAcceptable}
+use Rattle.p2p_tracker.specs.Calls.Question.{DialableAt}
+use Rattle.p2p_tracker.specs.Calls.Call.{Track, Dial, Listen, Connect, Release, Update, Block}
+use Rattle.p2p_tracker.specs.Calls.Call.{UnblockExpired, ForgetCooled, Ask}
+use Rattle.p2p_tracker.specs.PeerSets.{has_peers}
+use Rattle.p2p_tracker.specs.Lists.{Somebody}
+use Rattle.p2p_tracker.specs.History.{is_inert, is_named, taken_sets}
+use Rattle.p2p_tracker.specs.World.{World, world_at, past, event_in}
+use Rattle.p2p_tracker.specs.Answers.{IsTrackAnswer, was_granted, was_taken, was_blocked}
+use Rattle.p2p_tracker.specs.Answers.{may_connect, may_release, status_in, IsNumberTracked}
+use Rattle.p2p_tracker.specs.Answers.{set_with_index, set_at_place, latest_index_in, bits_at}
+use Rattle.p2p_tracker.specs.Answers.{AreAll, IsLatestUpdate, sharable_info, infos_for}
+use Rattle.p2p_tracker.specs.Answers.{is_blocked_at}
+use Rattle.p2p_tracker.specs.Answers.{AreBlocked, IsNextUnblock, IsAnyExpired, IsNumberCooled}
+use Rattle.p2p_tracker.specs.Answers.{is_eligible_at}
+use Rattle.p2p_tracker.specs.Answers.{is_acceptable_at, is_dialable, IsDialable}
+use Rattle.p2p_tracker.specs.Directory.{peers_of, set_in}
 use Rattle.p2p_directory.specs.Refinement.{metadata_of}
 
 -- WHAT A RUN IS GIVEN

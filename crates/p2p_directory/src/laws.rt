@@ -4,25 +4,25 @@ ghost use Rattle.std.specs.Prelude.{◌≡◌, ◌≤◌, ◌<◌, ◌^◌, ℕ,
 ghost use Rattle.std.specs.Prelude.{map, Option, None};
 ghost use Rattle.std.specs.List.{AllByRecursion};
 ghost use Rattle.p2p_discovery.specs.declared.discovery.Info.{Info};
-ghost use Rattle.p2p_directory.specs.Calls.{Setup, Call};
-ghost use Rattle.p2p_directory.specs.Calls.Call.{Update};
-ghost use Rattle.p2p_directory.specs.History.{taken_sets};
-ghost use Rattle.p2p_directory.specs.World.{World, world_at, past};
-ghost use Rattle.p2p_directory.specs.Step.{step, new_known};
-ghost use Rattle.p2p_directory.specs.Lists.{Lists, IsLeastOf};
-ghost use Rattle.p2p_directory.specs.Answers.{is_present_in, IsNumberTracked, IsNumberCooled};
-ghost use Rattle.p2p_directory.specs.Answers.{is_torn_down, IsDialable};
-ghost use Rattle.p2p_directory.specs.declared.directory.Metadata.{Metadata};
-ghost use Rattle.p2p_directory.specs.Directory.{DirectoryView, Reserves, Connects, Releases};
-ghost use Rattle.p2p_directory.specs.Directory.{BlocksUntil, Updates, LeavesOthers, IsAsBefore};
-ghost use Rattle.p2p_directory.specs.Directory.{key_of, infos_of};
+ghost use Rattle.p2p_tracker.specs.Calls.{Setup, Call};
+ghost use Rattle.p2p_tracker.specs.Calls.Call.{Update};
+ghost use Rattle.p2p_tracker.specs.History.{taken_sets};
+ghost use Rattle.p2p_tracker.specs.World.{World, world_at, past};
+ghost use Rattle.p2p_tracker.specs.Step.{step, new_known};
+ghost use Rattle.p2p_tracker.specs.Lists.{Lists, IsLeastOf};
+ghost use Rattle.p2p_tracker.specs.Answers.{is_present_in, IsNumberTracked, IsNumberCooled};
+ghost use Rattle.p2p_tracker.specs.Answers.{is_torn_down, IsDialable};
+ghost use Rattle.p2p_tracker.specs.declared.directory.Metadata.{Metadata};
+ghost use Rattle.p2p_tracker.specs.Directory.{DirectoryView, Reserves, Connects, Releases};
+ghost use Rattle.p2p_tracker.specs.Directory.{BlocksUntil, Updates, LeavesOthers, IsAsBefore};
+ghost use Rattle.p2p_tracker.specs.Directory.{key_of, infos_of};
 ghost use Rattle.p2p_directory.specs.Laws.Isolation.{SameFor, AnswersAlike, left_for};
 ghost use Rattle.p2p_directory.specs.Laws.Isolation.{is_on_another, narrowed};
 ghost use Rattle.p2p_directory.specs.Laws.Order.{HaveSame, IsUnambiguous};
 ghost use Rattle.p2p_directory.specs.Laws.Bounds.{NamesAtMost, IsBounded};
 ghost use Rattle.p2p_directory.specs.Laws.Grants.{KeepsCooldown, KeepsCooldownUnlessForgotten};
 ghost use Rattle.p2p_directory.specs.Laws.Grants.{NeverGoBack, KeepsBlocks};
-ghost use Rattle.p2p_directory.specs.Laws.Dials.{AreChosen, AreDialled, IsBefore};
+ghost use Rattle.p2p_tracker.specs.Dials.{AreChosen, AreDialled, IsBefore};
 ghost use Rattle.p2p_directory.specs.declared.run.commands.Reply.{Reply};
 ghost use Rattle.p2p_directory.specs.Refinement.{Refines};
 ghost use Rattle.p2p_directory.specs.Run.{AreAnswers, world_after};
@@ -61,7 +61,7 @@ pub fn recomputed_is_one_step<C: PublicKey>()
 /// Whoever goes on with a directory that a run or a node leaves gets the answers of the world that
 /// the accepted calls make. Where the directory refines that world, as the clause `directory` of
 /// [`run`](crate::run::run) says of the one that it hands back, each answer by what is kept, in the
-/// words of the calls of [`Directory`](crate::directory::Directory), is that of the world: those
+/// words of the calls of [`Directory`](p2p_tracker::directory::Directory), is that of the world: those
 /// of each question, who is granted, whether a block has ended, and how many cooldowns. The limit of failures fits
 /// `usize`, as in each `Config`.
 pub fn refined_answers<C: PublicKey>()

@@ -11,7 +11,6 @@ ghost use Rattle.p2p_directory.specs.Nodes.{NodeStandsAt, made_of, IsStepped, Is
 ghost use Rattle.p2p_directory.specs.Nodes.{AnswersFrame, AsksWith, TellsValues, AtEach};
 ghost use Rattle.p2p_directory.specs.Laws.LateFrames.{TakesLateAt};
 
-use crate::directory::{Config, Directory};
 use crate::node::endpoint::Endpoint;
 pub use crate::node::exchanged::{Exchanged, exchange};
 pub use crate::node::network::{Network, NetworkCommand, NetworkReply, NetworkRun, run_network};
@@ -24,6 +23,7 @@ use p2p_discovery::codec::{CodecError, PublicKey, Write};
 use p2p_discovery::data::Data;
 use p2p_discovery::discovery::{Error, Info, PayloadConfig};
 use p2p_discovery::types::Ingress;
+use p2p_tracker::directory::{Config, Directory};
 use std::alloc::{AllocError, Global};
 use std::marker::Model;
 use std::time::Duration;

@@ -3,7 +3,7 @@
 ghost use Rattle.std.specs.Prelude.{ℕ, ◌≡◌, ◌<◌, ◌-◌, ◌^◌, [], None, true, IfOk, OnOk, OnErr};
 ghost use Rattle.std.specs.Int.NonZero.{non_zero_usize_get};
 ghost use Rattle.std.specs.List.{AllPass};
-ghost use Rattle.p2p_directory.specs.Directory.{bit_vec_at};
+ghost use Rattle.p2p_tracker.specs.Directory.{bit_vec_at};
 ghost use Rattle.p2p_directory.specs.Held.{held_of};
 ghost use Rattle.p2p_directory.specs.Private.Slots.{has_slot, held_in};
 ghost use Rattle.p2p_directory.specs.Private.Serving.{has_room};
@@ -19,7 +19,6 @@ ghost use Rattle.p2p_directory.specs.Laws.IsolationRuns.{KeepAlone};
 ghost use Rattle.p2p_directory.specs.Laws.OrderRuns.{KeepOrder};
 ghost use Rattle.p2p_directory.specs.Laws.BoundRuns.{KeepBound};
 
-use crate::directory::{Config, Directory};
 pub use crate::run::commands::{Command, Reply};
 pub use crate::run::held::Held;
 pub use crate::run::outcome::Run;
@@ -28,6 +27,7 @@ use crate::run::slots::Slots;
 use p2p_discovery::codec::PublicKey;
 use p2p_discovery::discovery::Info;
 use p2p_discovery::types::Ingress;
+use p2p_tracker::directory::{Config, Directory};
 use std::alloc::{AllocError, Global};
 
 mod commands;

@@ -1,6 +1,5 @@
 //! Nodes, by their answers to commands and frames.
 
-use crate::calls::{config, tracked};
 use bytes::Bytes;
 use p2p_directory::node::{Node, Received, Setup};
 use p2p_directory::record::Status;
@@ -9,6 +8,7 @@ use p2p_discovery::codec::{CodecError, TestKey, Write};
 use p2p_discovery::data::Data;
 use p2p_discovery::discovery::{Error, Info, PayloadConfig};
 use p2p_discovery::types::{Ingress, IpAddr, SocketAddr};
+use p2p_tracker_tests::fixtures::{config, tracked};
 use std::alloc::{AllocError, Global};
 use std::process::Abort;
 use std::test::Fail;

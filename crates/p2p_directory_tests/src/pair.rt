@@ -3,7 +3,6 @@
 ghost use Rattle.std.specs.Prelude.{◌≡◌, ◌<◌, ◌^◌, IfOk};
 ghost use Rattle.std.specs.Int.NonZero.{non_zero_usize_get};
 
-use crate::calls::config;
 use crate::node::{greeting, infos};
 use crate::run::given::Given;
 use crate::run::told::Told;
@@ -15,6 +14,7 @@ use p2p_directory::run::Command;
 use p2p_discovery::codec::{CodecError, TestKey};
 use p2p_discovery::discovery::{Error, Info, PayloadConfig};
 use p2p_discovery::types::{Ingress, IpAddr, SocketAddr};
+use p2p_tracker_tests::fixtures::config;
 use std::alloc::{AllocError, Global};
 use std::process::Abort;
 use std::test::Fail;

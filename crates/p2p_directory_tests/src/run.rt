@@ -3,15 +3,13 @@
 ghost use Rattle.std.specs.Prelude.{◌≡◌, ◌+◌};
 ghost use Rattle.std.specs.Int.NonZero.{non_zero_usize_get};
 
-use crate::calls::{config, info, tracked};
 use crate::run::given::{Given, served, served_from};
 use crate::run::told::Told;
 use p2p_directory::directory::Config;
 use p2p_directory::record::Status;
 use p2p_directory::run::{Command, Reply, Run, run};
-use p2p_discovery::codec::{TestKey, TestSignature};
-use p2p_discovery::discovery::Info;
-use p2p_discovery::types::{Ingress, IpAddr, SocketAddr};
+use p2p_discovery::codec::TestKey;
+use p2p_tracker_tests::fixtures::{config, info, tracked};
 use std::alloc::{AllocError, Global};
 use std::num::NonZeroUsize;
 use std::process::Abort;
@@ -47,10 +45,6 @@ fn window_at_limit_zero() -> Config
         dial_fail_limit: 0,
         ..window(1)
     }
-}
-
-fn ingress(port: u16) -> Ingress {
-    Ingress::Socket(SocketAddr::new(IpAddr::V4([1, 2, 3, 4]), port))
 }
 
 // Keys and ports: the own key among them, and one key twice.

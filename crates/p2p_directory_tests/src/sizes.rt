@@ -1,6 +1,5 @@
 //! No size alone makes a call want memory: directories and nodes of many peers, with ample memory.
 
-use crate::calls::{directory_from, info};
 use crate::node::{greeting, node};
 use low_memory::LowMemory;
 use p2p_directory::directory::{Directory, TrackedPeers};
@@ -8,6 +7,7 @@ use p2p_directory::node::{Node, Received};
 use p2p_directory::run::{Command, Reply};
 use p2p_discovery::codec::TestKey;
 use p2p_discovery::sets::OrderedSet;
+use p2p_tracker_tests::fixtures::{directory_from, info};
 use std::alloc::{AllocError, Global};
 use std::process::Abort;
 use std::test::Fail;

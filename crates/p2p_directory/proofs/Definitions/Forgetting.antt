@@ -5,12 +5,12 @@ use Rattle.std.specs.Duration.{max_nanos}
 use Rattle.p2p_discovery.specs.declared.types.ingress.Ingress.TheVariants.{Socket}
 use Rattle.p2p_discovery.specs.declared.types.socket.IpAddr.TheVariants.{V4}
 use Rattle.p2p_discovery.specs.Ingress.{is_valid}
-use Rattle.p2p_directory.specs.Calls.{Setup, Call, Cooldown, Event}
-use Rattle.p2p_directory.specs.Calls.Call.{Dial, Listen, Connect, Release, Block, UnblockExpired, ForgetCooled}
-use Rattle.p2p_directory.specs.declared.record.Status.TheVariants.{Reserved, Active}
-use Rattle.p2p_directory.specs.History
-use Rattle.p2p_directory.specs.World.{world_at, event_in, past_after}
-use Rattle.p2p_directory.specs.Answers.{was_granted, was_taken, status_in, is_torn_down, is_tracked, is_dialable, query_moment, is_cooled_at}
+use Rattle.p2p_tracker.specs.Calls.{Setup, Call, Cooldown, Event}
+use Rattle.p2p_tracker.specs.Calls.Call.{Dial, Listen, Connect, Release, Block, UnblockExpired, ForgetCooled}
+use Rattle.p2p_tracker.specs.declared.record.Status.TheVariants.{Reserved, Active}
+use Rattle.p2p_tracker.specs.History
+use Rattle.p2p_tracker.specs.World.{world_at, event_in, past_after}
+use Rattle.p2p_tracker.specs.Answers.{was_granted, was_taken, status_in, is_torn_down, is_tracked, is_dialable, query_moment, is_cooled_at}
 use Rattle.p2p_directory.proofs.Definitions.Setting.{sec, setup, after_calls, track, listen, dial, update}
 
 abbrev keys : List ℕ

@@ -10,12 +10,12 @@ use Rattle.p2p_discovery.specs.declared.discovery.PayloadConfig.{PayloadConfig}
 use Rattle.p2p_discovery.specs.declared.types.ingress.Ingress.TheVariants.{Socket}
 use Rattle.p2p_discovery.specs.declared.types.socket.IpAddr.TheVariants.{V4}
 use Rattle.p2p_discovery.specs.Ingress.{is_valid}
-use Rattle.p2p_directory.specs.Calls.{Setup, Call}
-use Rattle.p2p_directory.specs.Calls.Call.{Track, Dial, Listen, Connect, Release, Update, Block, UnblockExpired, Ask}
-use Rattle.p2p_directory.specs.Calls.Question.{StatusOf}
-use Rattle.p2p_directory.specs.History
-use Rattle.p2p_directory.specs.World.{World, world_at, event_in}
-use Rattle.p2p_directory.specs.Answers.{was_granted, bits_at, is_dialable, query_moment, sharable_info, latest_index_in, is_tracked, epoch_millis}
+use Rattle.p2p_tracker.specs.Calls.{Setup, Call}
+use Rattle.p2p_tracker.specs.Calls.Call.{Track, Dial, Listen, Connect, Release, Update, Block, UnblockExpired, Ask}
+use Rattle.p2p_tracker.specs.Calls.Question.{StatusOf}
+use Rattle.p2p_tracker.specs.History
+use Rattle.p2p_tracker.specs.World.{World, world_at, event_in}
+use Rattle.p2p_tracker.specs.Answers.{was_granted, bits_at, is_dialable, query_moment, sharable_info, latest_index_in, is_tracked, epoch_millis}
 use Rattle.p2p_directory.specs.Received.{Wire, Standing, wire_of}
 use Rattle.p2p_directory.specs.Nodes.{Made, standing_in}
 use Rattle.p2p_directory.specs.Exchange as exchange

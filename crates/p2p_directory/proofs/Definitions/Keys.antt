@@ -3,8 +3,8 @@ use Rattle.std.proofs.Common.{◌≡◌, true, sym, ◌∙◌, ap, refl}
 use Rattle.std.specs.declared.cmp.Ordering.{Ordering}
 use Rattle.std.specs.declared.cmp.Ordering.TheVariants.{Less, Equal, Greater}
 use Rattle.std.specs.Ordering.{is_eq}
-use Rattle.p2p_directory.specs.Calls.{Setup}
-use Rattle.p2p_directory.specs.History.{IsExact}
+use Rattle.p2p_tracker.specs.Calls.{Setup}
+use Rattle.p2p_tracker.specs.History.{IsExact}
 
 equal_only : (o : Ordering) → is_eq o ≡ true → o ≡ Equal
 equal_only Equal e = refl

@@ -3,9 +3,9 @@ use Rattle.std.proofs.Common.{◌≡◌, ℕ, suc, ◌+◌, Bool, true, false, �
 use Rattle.std.specs.Prelude.{nat_lt}
 use Rattle.std.specs.List.{list_all, last_or}
 use Rattle.std.proofs.lemmas.List.{drop-drop, length-drop}
-use Rattle.p2p_directory.specs.Calls.{Setup, Call, SetAt}
-use Rattle.p2p_directory.specs.History
-use Rattle.p2p_directory.specs.World
+use Rattle.p2p_tracker.specs.Calls.{Setup, Call, SetAt}
+use Rattle.p2p_tracker.specs.History
+use Rattle.p2p_tracker.specs.World
 use Rattle.p2p_directory.proofs.Definitions.Law.{below, Decided, decided_past}
 
 -- the index is above that of this set, if there is one

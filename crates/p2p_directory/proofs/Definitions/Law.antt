@@ -6,18 +6,18 @@ use Rattle.std.proofs.lemmas.List.{append-nil, drop-append-le, length_push}
 use Rattle.std.proofs.lemmas.List.Folds.{list_all-append}
 use Rattle.std.proofs.lemmas.Bool.{ltb-true, lt-ltb, and_parts, and_from}
 use Rattle.p2p_discovery.specs.declared.types.ingress.Ingress.{Ingress}
-use Rattle.p2p_directory.specs.declared.record.Status.{Status}
-use Rattle.p2p_directory.specs.Calls.{Setup, Call, SetAt, Grant, Event}
-use Rattle.p2p_directory.specs.Calls.Call.{Track, Dial, Listen, Connect, Release, Update, Block, UnblockExpired, ForgetCooled, Ask}
-use Rattle.p2p_directory.specs.declared.record.Status.TheVariants.{Inert, Reserved, Active}
-use Rattle.p2p_directory.specs.Calls.Event.{Nothing, Tracked, Blocked}
-use Rattle.p2p_directory.specs.History
-use Rattle.p2p_directory.specs.History.{last_of}
-use Rattle.p2p_directory.specs.World
-use Rattle.p2p_directory.specs.Step
-use Rattle.p2p_directory.specs.World.{Known, Peer, World}
+use Rattle.p2p_tracker.specs.declared.record.Status.{Status}
+use Rattle.p2p_tracker.specs.Calls.{Setup, Call, SetAt, Grant, Event}
+use Rattle.p2p_tracker.specs.Calls.Call.{Track, Dial, Listen, Connect, Release, Update, Block, UnblockExpired, ForgetCooled, Ask}
+use Rattle.p2p_tracker.specs.declared.record.Status.TheVariants.{Inert, Reserved, Active}
+use Rattle.p2p_tracker.specs.Calls.Event.{Nothing, Tracked, Blocked}
+use Rattle.p2p_tracker.specs.History
+use Rattle.p2p_tracker.specs.History.{last_of}
+use Rattle.p2p_tracker.specs.World
+use Rattle.p2p_tracker.specs.Step
+use Rattle.p2p_tracker.specs.World.{Known, Peer, World}
 use Rattle.p2p_directory.proofs.Definitions.Steps
-use Rattle.p2p_directory.proofs.Definitions.Knowledge
+use Rattle.p2p_tracker.proofs.Definitions.Knowledge
 
 -- INDEXES: what lies above each retained set lies above each set that was ever taken
 

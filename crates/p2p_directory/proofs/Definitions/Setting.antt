@@ -4,9 +4,9 @@ use Rattle.std.specs.Ordering.{nat_cmp}
 use Rattle.p2p_discovery.specs.declared.discovery.Info.{Info}
 use Rattle.p2p_discovery.specs.declared.types.ingress.Ingress.TheVariants.{Socket}
 use Rattle.p2p_discovery.specs.declared.types.socket.IpAddr.TheVariants.{V4}
-use Rattle.p2p_directory.specs.Calls.{Setup, Call, Event}
-use Rattle.p2p_directory.specs.Calls.Call.{Track, Dial, Listen, Update}
-use Rattle.p2p_directory.specs.World.{past_after, past}
+use Rattle.p2p_tracker.specs.Calls.{Setup, Call, Event}
+use Rattle.p2p_tracker.specs.Calls.Call.{Track, Dial, Listen, Update}
+use Rattle.p2p_tracker.specs.World.{past_after, past}
 
 -- so many seconds
 abbrev pub sec : ℕ → ℕ

@@ -1,12 +1,12 @@
 -- The world before any call.
 use Rattle.std.proofs.Common.{◌≡◌, ℕ, zero, suc, ◌-◌, List, [], drop, None, refl}
-use Rattle.p2p_directory.specs.Calls.{Setup, SetAt}
-use Rattle.p2p_directory.specs.declared.record.Status.TheVariants.{Inert}
-use Rattle.p2p_directory.specs.History
-use Rattle.p2p_directory.specs.World
-use Rattle.p2p_directory.specs.Step
-use Rattle.p2p_directory.specs.World.{World}
-use Rattle.p2p_directory.proofs.Definitions.Knowledge
+use Rattle.p2p_tracker.specs.Calls.{Setup, SetAt}
+use Rattle.p2p_tracker.specs.declared.record.Status.TheVariants.{Inert}
+use Rattle.p2p_tracker.specs.History
+use Rattle.p2p_tracker.specs.World
+use Rattle.p2p_tracker.specs.Step
+use Rattle.p2p_tracker.specs.World.{World}
+use Rattle.p2p_tracker.proofs.Definitions.Knowledge
 
 module _ {C S : Type 0} (s : Setup C S) where
   -- nothing is retained, reserved, blocked or cooling down, and of each key only what is known of a new peer

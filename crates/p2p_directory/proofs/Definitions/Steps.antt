@@ -3,13 +3,13 @@ use Rattle.std.proofs.Common.{◌≡◌, ℕ, ◌+◌, ◌-◌, Bool, true, fals
 use Rattle.std.specs.Prelude.{if◌then◌else◌, nat_le, option_map}
 use Rattle.std.specs.List.{list_any}
 use Rattle.std.proofs.lemmas.List.{append-nil, drop-append-le, drop-drop, length-append, length-drop}
-use Rattle.p2p_directory.specs.Calls.{Setup, Grant, Event}
-use Rattle.p2p_directory.specs.declared.record.Status.TheVariants.{Inert, Reserved, Active}
-use Rattle.p2p_directory.specs.Calls.Event.{Nothing, Tracked, Granted, Connected, Released, Updated, Blocked, Expired, Forgot}
-use Rattle.p2p_directory.specs.Moments.{cap}
-use Rattle.p2p_directory.specs.History
-use Rattle.p2p_directory.specs.History.{last_of, last_with, found_with, last_unless_ended, unless_ended}
-use Rattle.p2p_directory.specs.Step
+use Rattle.p2p_tracker.specs.Calls.{Setup, Grant, Event}
+use Rattle.p2p_tracker.specs.declared.record.Status.TheVariants.{Inert, Reserved, Active}
+use Rattle.p2p_tracker.specs.Calls.Event.{Nothing, Tracked, Granted, Connected, Released, Updated, Blocked, Expired, Forgot}
+use Rattle.p2p_tracker.specs.Moments.{cap}
+use Rattle.p2p_tracker.specs.History
+use Rattle.p2p_tracker.specs.History.{last_of, last_with, found_with, last_unless_ended, unless_ended}
+use Rattle.p2p_tracker.specs.Step
 
 -- RETAINED SETS
 

@@ -6,13 +6,13 @@ use Rattle.std.specs.List.{AllByRecursion}
 use Rattle.p2p_discovery.specs.declared.discovery.Info.{Info}
 use Rattle.p2p_directory.specs.declared.node.exchanged.Exchanged.{Exchanged}
 use Rattle.p2p_directory.specs.declared.node.exchanged.Exchanged.TheVariants as exchanged
-use Rattle.p2p_directory.specs.Calls.{Setup, Call, SetAt}
-use Rattle.p2p_directory.specs.Calls.Call.{Track, Dial, Listen, Connect, Release, Update, Block}
-use Rattle.p2p_directory.specs.Calls.Call.{UnblockExpired, ForgetCooled, Ask}
-use Rattle.p2p_directory.specs.History
-use Rattle.p2p_directory.specs.World.{World}
-use Rattle.p2p_directory.specs.Step
-use Rattle.p2p_directory.specs.Answers.{set_at_place, set_with_index}
+use Rattle.p2p_tracker.specs.Calls.{Setup, Call, SetAt}
+use Rattle.p2p_tracker.specs.Calls.Call.{Track, Dial, Listen, Connect, Release, Update, Block}
+use Rattle.p2p_tracker.specs.Calls.Call.{UnblockExpired, ForgetCooled, Ask}
+use Rattle.p2p_tracker.specs.History
+use Rattle.p2p_tracker.specs.World.{World}
+use Rattle.p2p_tracker.specs.Step
+use Rattle.p2p_tracker.specs.Answers.{set_at_place, set_with_index}
 use Rattle.p2p_directory.specs.Run.{world_after}
 use Rattle.p2p_directory.specs.Received.{Wire}
 use Rattle.p2p_directory.specs.Exchange

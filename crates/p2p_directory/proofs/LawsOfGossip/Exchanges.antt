@@ -9,13 +9,13 @@ use Rattle.std.proofs.lemmas.List.{length-map}
 use Rattle.p2p_discovery.specs.declared.codec.error.CodecError.TheVariants.{InvalidLength}
 use Rattle.p2p_discovery.specs.declared.discovery.Info.{Info}
 use Rattle.p2p_discovery.specs.Judgement.{Judge, judge_of, is_signed, refusal, list_refusal}
-use Rattle.p2p_directory.specs.Calls.{Call, SetAt}
-use Rattle.p2p_directory.specs.Calls.Call.{Update}
-use Rattle.p2p_directory.specs.History
-use Rattle.p2p_directory.specs.World.{World}
-use Rattle.p2p_directory.specs.Step
-use Rattle.p2p_directory.specs.Answers.{is_present_in, bits_of, set_at_place, set_with_index}
-use Rattle.p2p_directory.specs.Answers.{infos_for, shared_infos, wants, wants_with, epoch_millis}
+use Rattle.p2p_tracker.specs.Calls.{Call, SetAt}
+use Rattle.p2p_tracker.specs.Calls.Call.{Update}
+use Rattle.p2p_tracker.specs.History
+use Rattle.p2p_tracker.specs.World.{World}
+use Rattle.p2p_tracker.specs.Step
+use Rattle.p2p_tracker.specs.Answers.{is_present_in, bits_of, set_at_place, set_with_index}
+use Rattle.p2p_tracker.specs.Answers.{infos_for, shared_infos, wants, wants_with, epoch_millis}
 use Rattle.p2p_directory.specs.Run.{world_after, bit_vec_of}
 use Rattle.p2p_directory.specs.Received.{Wire}
 use Rattle.p2p_directory.specs.Exchange

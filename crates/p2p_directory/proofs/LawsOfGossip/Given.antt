@@ -10,7 +10,7 @@ use Rattle.p2p_discovery.specs.declared.discovery.Info.{Info}
 use Rattle.p2p_discovery.specs.Judgement.{list_refusal}
 use Rattle.p2p_directory.specs.declared.node.exchanged.Exchanged.{Exchanged}
 use Rattle.p2p_directory.specs.declared.node.exchanged.Exchanged.TheVariants as exchanged
-use Rattle.p2p_directory.specs.Calls.{Call}
+use Rattle.p2p_tracker.specs.Calls.{Call}
 use Rattle.p2p_directory.specs.Received.{Standing}
 use Rattle.p2p_directory.specs.Exchange
 use Rattle.p2p_directory.specs.Exchange.{Outcome}

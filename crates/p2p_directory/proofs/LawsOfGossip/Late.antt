@@ -15,12 +15,12 @@ use Rattle.p2p_discovery.specs.Judgement.{Judge, judge_of, refusal}
 use Rattle.p2p_discovery.specs.Reading.{whole}
 use Rattle.p2p_directory.specs.declared.node.Received.{Received}
 use Rattle.p2p_directory.specs.declared.node.Received.TheVariants as received
-use Rattle.p2p_directory.specs.Calls.{Call}
-use Rattle.p2p_directory.specs.Calls.Call.{Update}
-use Rattle.p2p_directory.specs.History
-use Rattle.p2p_directory.specs.World.{World}
-use Rattle.p2p_directory.specs.Step
-use Rattle.p2p_directory.specs.Answers.{is_present_in}
+use Rattle.p2p_tracker.specs.Calls.{Call}
+use Rattle.p2p_tracker.specs.Calls.Call.{Update}
+use Rattle.p2p_tracker.specs.History
+use Rattle.p2p_tracker.specs.World.{World}
+use Rattle.p2p_tracker.specs.Step
+use Rattle.p2p_tracker.specs.Answers.{is_present_in}
 use Rattle.p2p_directory.specs.Run.{world_after}
 use Rattle.p2p_directory.specs.Received as frames
 use Rattle.p2p_directory.specs.Received.{Wire, Outcome, wire_of, applying, taken, read_at}

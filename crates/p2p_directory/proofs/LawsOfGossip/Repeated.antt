@@ -4,22 +4,22 @@ use Rattle.std.proofs.Common.{Some, None, refl, sym, subst, arith}
 use Rattle.std.specs.Prelude.{if◌then◌else◌, filter, nat_lt, nat_le, not}
 use Rattle.std.proofs.lemmas.Bool.{leb-true, le-leb}
 use Rattle.p2p_discovery.specs.declared.discovery.Info.{Info}
-use Rattle.p2p_directory.specs.declared.record.Status.{Status}
-use Rattle.p2p_directory.specs.declared.record.Status.TheVariants.{Inert, Reserved, Active}
-use Rattle.p2p_directory.specs.Calls.{Setup, Call, SetAt}
-use Rattle.p2p_directory.specs.Calls.Call.{Update}
-use Rattle.p2p_directory.specs.History
-use Rattle.p2p_directory.specs.World.{World, Known}
-use Rattle.p2p_directory.specs.Step
-use Rattle.p2p_directory.specs.Answers.{is_present_in, set_at_place, set_with_index, wants}
-use Rattle.p2p_directory.specs.Answers.{wants_with, epoch_millis}
+use Rattle.p2p_tracker.specs.declared.record.Status.{Status}
+use Rattle.p2p_tracker.specs.declared.record.Status.TheVariants.{Inert, Reserved, Active}
+use Rattle.p2p_tracker.specs.Calls.{Setup, Call, SetAt}
+use Rattle.p2p_tracker.specs.Calls.Call.{Update}
+use Rattle.p2p_tracker.specs.History
+use Rattle.p2p_tracker.specs.World.{World, Known}
+use Rattle.p2p_tracker.specs.Step
+use Rattle.p2p_tracker.specs.Answers.{is_present_in, set_at_place, set_with_index, wants}
+use Rattle.p2p_tracker.specs.Answers.{wants_with, epoch_millis}
 use Rattle.p2p_directory.specs.Run.{world_after}
 use Rattle.p2p_directory.specs.Received.{Wire}
 use Rattle.p2p_directory.specs.Exchange
 use Rattle.p2p_directory.specs.Exchange.Outcome.{Applied}
 use Rattle.p2p_directory.specs.Nodes.{Made, standing_in}
 use Rattle.p2p_directory.specs.Laws.Gossip.{wanted_info, wanted_infos}
-use Rattle.p2p_directory.proofs.Definitions.Knowledge
+use Rattle.p2p_tracker.proofs.Definitions.Knowledge
 use Rattle.p2p_directory.proofs.Definitions.Law
 use Rattle.p2p_directory.proofs.LawsOfGossip.Lists.{IsLess, length_less, member_less}
 use Rattle.p2p_directory.proofs.LawsOfGossip.Infos

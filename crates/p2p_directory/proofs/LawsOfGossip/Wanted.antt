@@ -5,11 +5,11 @@ use Rattle.std.specs.Prelude.{if◌then◌else◌, filter_map, nat_le, nat_lt, n
 use Rattle.std.specs.List.{cons_option}
 use Rattle.std.proofs.lemmas.Bool.{leb-true, lt-ltb, or_left, or_right}
 use Rattle.p2p_discovery.specs.declared.discovery.Info.{Info}
-use Rattle.p2p_directory.specs.Calls.{Setup, SetAt}
-use Rattle.p2p_directory.specs.History
-use Rattle.p2p_directory.specs.World.{World}
-use Rattle.p2p_directory.specs.Answers.{wants, sharable_info, shared_infos, shared_info}
-use Rattle.p2p_directory.specs.Answers.{is_present_in, set_at_place}
+use Rattle.p2p_tracker.specs.Calls.{Setup, SetAt}
+use Rattle.p2p_tracker.specs.History
+use Rattle.p2p_tracker.specs.World.{World}
+use Rattle.p2p_tracker.specs.Answers.{wants, sharable_info, shared_infos, shared_info}
+use Rattle.p2p_tracker.specs.Answers.{is_present_in, set_at_place}
 use Rattle.p2p_directory.specs.Nodes.{Made}
 use Rattle.p2p_directory.specs.Laws.Gossip.{unless_above, wanted_info}
 use Rattle.p2p_directory.proofs.LawsOfGossip.Lists.{inside, IsLess, Member, member_at, any_member}

@@ -17,10 +17,10 @@ use Rattle.p2p_directory.specs.declared.node.network.NetworkCommand.{NetworkComm
 use Rattle.p2p_directory.specs.declared.node.network.NetworkCommand.TheVariants as command
 use Rattle.p2p_directory.specs.declared.node.network.NetworkReply.{NetworkReply}
 use Rattle.p2p_directory.specs.declared.node.network.NetworkReply.TheVariants as reply
-use Rattle.p2p_directory.specs.Calls.{Call, SetAt}
-use Rattle.p2p_directory.specs.Calls.Call.{Update}
-use Rattle.p2p_directory.specs.History
-use Rattle.p2p_directory.specs.World.{World}
+use Rattle.p2p_tracker.specs.Calls.{Call, SetAt}
+use Rattle.p2p_tracker.specs.Calls.Call.{Update}
+use Rattle.p2p_tracker.specs.History
+use Rattle.p2p_tracker.specs.World.{World}
 use Rattle.p2p_directory.specs.Run.{world_after}
 use Rattle.p2p_directory.specs.Received.{Wire}
 use Rattle.p2p_directory.specs.Exchange

@@ -8,15 +8,15 @@ use Rattle.p2p_directory.specs.declared.node.network.NetworkCommand.{NetworkComm
 use Rattle.p2p_directory.specs.declared.node.network.NetworkCommand.TheVariants as command
 use Rattle.p2p_directory.specs.declared.node.network.NetworkReply.{NetworkReply}
 use Rattle.p2p_directory.specs.declared.node.network.NetworkReply.TheVariants as reply
-use Rattle.p2p_directory.specs.Calls.{Setup, Call, Event}
-use Rattle.p2p_directory.specs.Calls.Call.{Update}
-use Rattle.p2p_directory.specs.Calls.Event.{Nothing, Tracked, Granted, Connected, Released, Updated}
-use Rattle.p2p_directory.specs.Calls.Event.{Blocked, Expired, Forgot}
-use Rattle.p2p_directory.specs.History
-use Rattle.p2p_directory.specs.World
-use Rattle.p2p_directory.specs.World.{World, Known}
-use Rattle.p2p_directory.specs.Step
-use Rattle.p2p_directory.specs.Answers.{is_present_in}
+use Rattle.p2p_tracker.specs.Calls.{Setup, Call, Event}
+use Rattle.p2p_tracker.specs.Calls.Call.{Update}
+use Rattle.p2p_tracker.specs.Calls.Event.{Nothing, Tracked, Granted, Connected, Released, Updated}
+use Rattle.p2p_tracker.specs.Calls.Event.{Blocked, Expired, Forgot}
+use Rattle.p2p_tracker.specs.History
+use Rattle.p2p_tracker.specs.World
+use Rattle.p2p_tracker.specs.World.{World, Known}
+use Rattle.p2p_tracker.specs.Step
+use Rattle.p2p_tracker.specs.Answers.{is_present_in}
 use Rattle.p2p_directory.specs.Run.{call_of, is_accepted, world_after}
 use Rattle.p2p_directory.specs.Received.{Wire, applies}
 use Rattle.p2p_directory.specs.Nodes.{Made, calls_with}
@@ -26,7 +26,7 @@ use Rattle.p2p_directory.specs.Network.{Done, changed_by, calls_then, calls_at}
 use Rattle.p2p_directory.specs.Laws.Gossip.{IsSince}
 use Rattle.std.specs.declared.cmp.Ordering.{Ordering}
 use Rattle.p2p_directory.specs.Laws.Network.{AreMade, StaysPresent, HoldsSince, OnlyGetNewer}
-use Rattle.p2p_directory.proofs.Definitions.Knowledge
+use Rattle.p2p_tracker.proofs.Definitions.Knowledge
 use Rattle.p2p_directory.proofs.Definitions.Law
 use Rattle.p2p_directory.proofs.LawsOfGossip.Updates.{since_first}
 

@@ -12,16 +12,16 @@ use Rattle.std.specs.declared.time.Duration.{Duration}
 use Rattle.p2p_discovery.specs.declared.discovery.Info.{Info}
 use Rattle.p2p_directory.specs.declared.node.exchanged.Exchanged.{Exchanged}
 use Rattle.p2p_directory.specs.declared.node.exchanged.Exchanged.TheVariants as exchanged
-use Rattle.p2p_directory.specs.Calls.{SetAt}
+use Rattle.p2p_tracker.specs.Calls.{SetAt}
 use Rattle.p2p_directory.specs.declared.node.network.NetworkCommand.TheVariants as command_of
 use Rattle.p2p_directory.specs.declared.node.network.NetworkReply.TheVariants as reply_of
-use Rattle.p2p_directory.specs.Calls.Call.{Update}
-use Rattle.p2p_directory.specs.History
-use Rattle.p2p_directory.specs.World.{Peer}
+use Rattle.p2p_tracker.specs.Calls.Call.{Update}
+use Rattle.p2p_tracker.specs.History
+use Rattle.p2p_tracker.specs.World.{Peer}
 use Rattle.p2p_directory.specs.Run.{world_after}
 use Rattle.p2p_directory.specs.Nodes.{calls_with}
-use Rattle.p2p_directory.specs.Answers.{epoch_millis, wants, wants_with, is_present_in}
-use Rattle.p2p_directory.specs.Answers.{sharable_info}
+use Rattle.p2p_tracker.specs.Answers.{epoch_millis, wants, wants_with, is_present_in}
+use Rattle.p2p_tracker.specs.Answers.{sharable_info}
 use Rattle.p2p_directory.specs.Received.{Wire}
 use Rattle.p2p_directory.specs.Exchange.{infos_applied}
 use Rattle.p2p_directory.specs.Nodes.{Made}

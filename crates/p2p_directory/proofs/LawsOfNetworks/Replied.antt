@@ -18,10 +18,10 @@ use Rattle.p2p_directory.specs.declared.node.network.NetworkCommand.{NetworkComm
 use Rattle.p2p_directory.specs.declared.node.network.NetworkCommand.TheVariants as command
 use Rattle.p2p_directory.specs.declared.node.network.NetworkReply.{NetworkReply}
 use Rattle.p2p_directory.specs.declared.node.network.NetworkReply.TheVariants as reply
-use Rattle.p2p_directory.specs.Calls.{SetAt}
-use Rattle.p2p_directory.specs.History
-use Rattle.p2p_directory.specs.World.{World}
-use Rattle.p2p_directory.specs.Answers.{bits_of, wants, epoch_millis}
+use Rattle.p2p_tracker.specs.Calls.{SetAt}
+use Rattle.p2p_tracker.specs.History
+use Rattle.p2p_tracker.specs.World.{World}
+use Rattle.p2p_tracker.specs.Answers.{bits_of, wants, epoch_millis}
 use Rattle.p2p_directory.specs.Run.{bit_vec_of}
 use Rattle.p2p_directory.specs.Received as frames
 use Rattle.p2p_directory.specs.Received.{Wire, Standing, Outcome, wire_of, only, replied, read_at}

@@ -14,12 +14,12 @@ use Rattle.std.proofs.lemmas.List.Folds.{list_any-append}
 use Rattle.std.proofs.lemmas.List.Sums.{sum_by-cons}
 use Rattle.std.proofs.lemmas.Map.Keys.{IsDistinct-from_sorted}
 use Rattle.std.proofs.lemmas.Map.Made.{length-le_from_is_member}
-use Rattle.p2p_directory.specs.Calls.{Setup, Call, SetAt}
-use Rattle.p2p_directory.specs.History
-use Rattle.p2p_directory.specs.World
-use Rattle.p2p_directory.specs.World.{World}
-use Rattle.p2p_directory.specs.Answers.{is_present_in}
-use Rattle.p2p_directory.specs.Lists.{Lists}
+use Rattle.p2p_tracker.specs.Calls.{Setup, Call, SetAt}
+use Rattle.p2p_tracker.specs.History
+use Rattle.p2p_tracker.specs.World
+use Rattle.p2p_tracker.specs.World.{World}
+use Rattle.p2p_tracker.specs.Answers.{is_present_in}
+use Rattle.p2p_tracker.specs.Lists.{Lists}
 use Rattle.p2p_directory.specs.Laws.Bounds.{names_in, NamesAtMost, is_left_over, IsBounded}
 
 -- what each has, each that is left has

@@ -1,24 +1,24 @@
 -- Dials by the replies to a run.
 use Rattle.std.proofs.Common.{◌≡◌, ℕ, ◌≤◌, Bool, true, false, cond, not, ◌||◌, List, [], ◌∷◌, Option, ◌⊎◌, inl, inr, refl, sym, ◌∙◌, ap, subst}
 use Rattle.std.specs.Cmp.{IsTotalOrder}
-use Rattle.p2p_directory.specs.Calls.{Setup, Question, Call}
-use Rattle.p2p_directory.specs.Calls.Question.{StatusOf, NumberTracked, NextUnblock, BlockedAt, PeerSet, LatestIndex, AllPeers, LatestUpdate, InfoOf, InfosFor, BitsAt, IsEligible, IsAcceptable, DialableAt}
-use Rattle.p2p_directory.specs.Calls.Call.{Track, Dial, Listen, Connect, Release, Update, Block, UnblockExpired, ForgetCooled, Ask}
-use Rattle.p2p_directory.specs.History
-use Rattle.p2p_directory.specs.History.{last_with}
-use Rattle.p2p_directory.specs.World
-use Rattle.p2p_directory.specs.World.{World}
-use Rattle.p2p_directory.specs.Answers.{IsDialable, is_dialable, query_moment, was_granted}
+use Rattle.p2p_tracker.specs.Calls.{Setup, Question, Call}
+use Rattle.p2p_tracker.specs.Calls.Question.{StatusOf, NumberTracked, NextUnblock, BlockedAt, PeerSet, LatestIndex, AllPeers, LatestUpdate, InfoOf, InfosFor, BitsAt, IsEligible, IsAcceptable, DialableAt}
+use Rattle.p2p_tracker.specs.Calls.Call.{Track, Dial, Listen, Connect, Release, Update, Block, UnblockExpired, ForgetCooled, Ask}
+use Rattle.p2p_tracker.specs.History
+use Rattle.p2p_tracker.specs.History.{last_with}
+use Rattle.p2p_tracker.specs.World
+use Rattle.p2p_tracker.specs.World.{World}
+use Rattle.p2p_tracker.specs.Answers.{IsDialable, is_dialable, query_moment, was_granted}
 use Rattle.p2p_directory.specs.Laws.Isolation.{SameFor}
-use Rattle.p2p_directory.specs.Laws.Dials.{IsDialled}
+use Rattle.p2p_tracker.specs.Dials.{IsDialled}
 use Rattle.p2p_directory.specs.Run
 use Rattle.p2p_directory.specs.declared.run.commands.Reply.{Reply}
 use Rattle.p2p_directory.specs.declared.run.commands.Reply.TheVariants as reply
 use Rattle.p2p_directory.specs.Laws.DialRuns.{IsGrantedOrOutOfMemory, next_query, without, AreGrantedAt, IsRepeated, IsQuiet, IsDialableKept, KeepDialable}
 use Rattle.p2p_directory.proofs.LawsOfRuns.Isolation
 use Rattle.p2p_directory.proofs.LawsOfRuns.Dialled
-use Rattle.p2p_directory.proofs.Definitions.Listed
-use Rattle.p2p_directory.proofs.LawsOfRuns.Quiet
+use Rattle.p2p_tracker.proofs.Definitions.Listed
+use Rattle.p2p_tracker.proofs.Definitions.Quiet
 use Rattle.p2p_directory.proofs.LawsOfRuns.GrantRuns.{replied}
 
 module _ {C S : Type 0} (s : Setup C S) where

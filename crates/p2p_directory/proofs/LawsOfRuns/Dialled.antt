@@ -9,16 +9,16 @@ use Rattle.std.specs.Ordering.{is_eq, ordering_reverse}
 use Rattle.std.specs.declared.cmp.Ordering.TheVariants.{Less, Equal, Greater}
 use Rattle.std.proofs.lemmas.Bool.{and_parts, and_from, leb-true, le-leb}
 use Rattle.p2p_discovery.specs.declared.types.ingress.Ingress.{Ingress}
-use Rattle.p2p_directory.specs.Calls.{Setup, Call, Grant, Event}
-use Rattle.p2p_directory.specs.Calls.Call.{Dial}
-use Rattle.p2p_directory.specs.History
-use Rattle.p2p_directory.specs.History.{last_unless_ended}
-use Rattle.p2p_directory.specs.World
-use Rattle.p2p_directory.specs.World.{World, Peer}
-use Rattle.p2p_directory.specs.Answers.{is_dialable, is_dialable_with}
-use Rattle.p2p_directory.specs.Lists.{Lists}
+use Rattle.p2p_tracker.specs.Calls.{Setup, Call, Grant, Event}
+use Rattle.p2p_tracker.specs.Calls.Call.{Dial}
+use Rattle.p2p_tracker.specs.History
+use Rattle.p2p_tracker.specs.History.{last_unless_ended}
+use Rattle.p2p_tracker.specs.World
+use Rattle.p2p_tracker.specs.World.{World, Peer}
+use Rattle.p2p_tracker.specs.Answers.{is_dialable, is_dialable_with}
+use Rattle.p2p_tracker.specs.Lists.{Lists}
 use Rattle.p2p_directory.specs.Laws.Isolation.{SameFor}
-use Rattle.p2p_directory.specs.Laws.Dials.{IsApart, AreChosen, IsDialled, AreDialled}
+use Rattle.p2p_tracker.specs.Dials.{IsApart, AreChosen, IsDialled, AreDialled}
 use Rattle.p2p_directory.proofs.LawsOfRuns.Isolation
 
 -- the parts of a test

@@ -1,11 +1,11 @@
 -- Of a peer that is absent all is forgotten.
 use Rattle.std.proofs.Common.{◌≡◌, false, List, sym, ◌∙◌, ap}
 use Rattle.std.specs.Prelude.{if◌then◌else◌}
-use Rattle.p2p_directory.specs.Calls.{Setup, Call}
-use Rattle.p2p_directory.specs.History
-use Rattle.p2p_directory.specs.World
-use Rattle.p2p_directory.specs.Step
-use Rattle.p2p_directory.specs.Answers.{is_present_in}
+use Rattle.p2p_tracker.specs.Calls.{Setup, Call}
+use Rattle.p2p_tracker.specs.History
+use Rattle.p2p_tracker.specs.World
+use Rattle.p2p_tracker.specs.Step
+use Rattle.p2p_tracker.specs.Answers.{is_present_in}
 use Rattle.p2p_directory.proofs.LawsOfRuns.Isolation
 
 module _ {C S : Type 0} (s : Setup C S) where

@@ -1,17 +1,17 @@
 -- Worked runs: replies that the laws of grants, blocks and dials allow, and replies that they refuse.
 use Rattle.std.proofs.Common.{◌≡◌, ℕ, true, false, Bool, List, [], ◌∷◌, Some, None, refl, sym, ◌∙◌, subst, arith}
 use Rattle.std.specs.List.Sorted.{IsStrictlySortedBy}
-use Rattle.p2p_directory.specs.Calls.{Call}
-use Rattle.p2p_directory.specs.Calls.Call.{Listen, Block, UnblockExpired, ForgetCooled, Release, Ask}
-use Rattle.p2p_directory.specs.Calls.Question.{NumberTracked, DialableAt}
-use Rattle.p2p_directory.specs.History.{life}
-use Rattle.p2p_directory.specs.declared.record.Dialable.{Dialable}
+use Rattle.p2p_tracker.specs.Calls.{Call}
+use Rattle.p2p_tracker.specs.Calls.Call.{Listen, Block, UnblockExpired, ForgetCooled, Release, Ask}
+use Rattle.p2p_tracker.specs.Calls.Question.{NumberTracked, DialableAt}
+use Rattle.p2p_tracker.specs.History.{life}
+use Rattle.p2p_tracker.specs.declared.record.Dialable.{Dialable}
 use Rattle.p2p_directory.specs.declared.run.commands.Reply.{Reply}
 use Rattle.p2p_directory.specs.declared.run.commands.Reply.TheVariants as reply
 use Rattle.p2p_directory.specs.Run.{AreAnswers}
 use Rattle.p2p_directory.specs.Laws.GrantRuns.{KeepCooldownUnlessForgotten, KeepCooldown, KeepBlocks}
 use Rattle.p2p_directory.specs.Laws.BlockRuns.{KeepLastBlock}
-use Rattle.p2p_directory.specs.Laws.Dials.{IsBefore}
+use Rattle.p2p_tracker.specs.Dials.{IsBefore}
 use Rattle.p2p_directory.specs.Laws.DialRuns.{next_query, AreGrantedAt, KeepDialable}
 use Rattle.p2p_directory.proofs.Definitions.Setting.{sec, setup, track, listen, dial}
 

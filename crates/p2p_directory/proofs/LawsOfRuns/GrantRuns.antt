@@ -4,15 +4,15 @@ use Rattle.std.specs.Prelude.{if◌then◌else◌, nat_lt, filter}
 use Rattle.std.specs.Option.{option_map}
 use Rattle.std.specs.List.{list_all, list_any}
 use Rattle.p2p_discovery.specs.declared.types.ingress.Ingress.{Ingress}
-use Rattle.p2p_directory.specs.declared.record.Status.{Status}
-use Rattle.p2p_directory.specs.Calls.{Setup, SetAt, Call, Grant, Event}
-use Rattle.p2p_directory.specs.Calls.Call.{Track, Dial, Listen, Connect, Release, Update, Block, UnblockExpired, ForgetCooled, Ask}
-use Rattle.p2p_directory.specs.Calls.Direction.{Listener, Dialer}
-use Rattle.p2p_directory.specs.Calls.Event.{Nothing, Tracked, Updated, Blocked, Expired, Forgot}
-use Rattle.p2p_directory.specs.History
-use Rattle.p2p_directory.specs.History.{last_with, found_with, unless_ended, last_unless_ended}
-use Rattle.p2p_directory.specs.World
-use Rattle.p2p_directory.specs.World.{World}
+use Rattle.p2p_tracker.specs.declared.record.Status.{Status}
+use Rattle.p2p_tracker.specs.Calls.{Setup, SetAt, Call, Grant, Event}
+use Rattle.p2p_tracker.specs.Calls.Call.{Track, Dial, Listen, Connect, Release, Update, Block, UnblockExpired, ForgetCooled, Ask}
+use Rattle.p2p_tracker.specs.Calls.Direction.{Listener, Dialer}
+use Rattle.p2p_tracker.specs.Calls.Event.{Nothing, Tracked, Updated, Blocked, Expired, Forgot}
+use Rattle.p2p_tracker.specs.History
+use Rattle.p2p_tracker.specs.History.{last_with, found_with, unless_ended, last_unless_ended}
+use Rattle.p2p_tracker.specs.World
+use Rattle.p2p_tracker.specs.World.{World}
 use Rattle.p2p_directory.specs.Laws.Grants.{IsSpaced, IsSpacedUnlessForgotten, or_now, moment_or, moment_of, NeverGoBack}
 use Rattle.p2p_directory.specs.Run
 use Rattle.p2p_directory.specs.declared.run.commands.Reply.{Reply}

@@ -3,12 +3,12 @@ use Rattle.std.proofs.Common.{◌≡◌, ℕ, ◌≤◌, true, false, not, List,
 use Rattle.std.specs.Prelude.{if◌then◌else◌}
 use Rattle.std.specs.Option.{option_map, IsSomeAnd}
 use Rattle.p2p_discovery.specs.Ingress.{takes_none}
-use Rattle.p2p_directory.specs.Calls.{Setup, Question, Call, Event}
-use Rattle.p2p_directory.specs.Calls.Question.{StatusOf, NumberTracked, NextUnblock, BlockedAt, PeerSet, LatestIndex, AllPeers, LatestUpdate, InfoOf, InfosFor, BitsAt, IsEligible, IsAcceptable, DialableAt}
-use Rattle.p2p_directory.specs.Calls.Call.{Track, Dial, Listen, Connect, Release, Update, Block, UnblockExpired, ForgetCooled, Ask}
-use Rattle.p2p_directory.specs.History
-use Rattle.p2p_directory.specs.World.{World}
-use Rattle.p2p_directory.specs.Answers.{was_granted, was_blocked, was_taken, is_torn_down}
+use Rattle.p2p_tracker.specs.Calls.{Setup, Question, Call, Event}
+use Rattle.p2p_tracker.specs.Calls.Question.{StatusOf, NumberTracked, NextUnblock, BlockedAt, PeerSet, LatestIndex, AllPeers, LatestUpdate, InfoOf, InfosFor, BitsAt, IsEligible, IsAcceptable, DialableAt}
+use Rattle.p2p_tracker.specs.Calls.Call.{Track, Dial, Listen, Connect, Release, Update, Block, UnblockExpired, ForgetCooled, Ask}
+use Rattle.p2p_tracker.specs.History
+use Rattle.p2p_tracker.specs.World.{World}
+use Rattle.p2p_tracker.specs.Answers.{was_granted, was_blocked, was_taken, is_torn_down}
 use Rattle.p2p_directory.specs.Run
 use Rattle.p2p_directory.specs.declared.run.commands.Reply.{Reply}
 use Rattle.p2p_directory.specs.declared.run.commands.Reply.TheVariants as reply

@@ -3,15 +3,15 @@ use Rattle.std.proofs.Common.{◌≡◌, ◌≤◌, Bool, true, false, cond, Lis
 use Rattle.std.specs.Prelude.{if◌then◌else◌, nat_lt, filter}
 use Rattle.std.proofs.lemmas.Bool.{ltb-true, ltb-false}
 use Rattle.p2p_discovery.specs.declared.discovery.Info.{Info}
-use Rattle.p2p_directory.specs.Calls.{Setup, Call}
-use Rattle.p2p_directory.specs.Calls.Call.{Update}
-use Rattle.p2p_directory.specs.History
-use Rattle.p2p_directory.specs.History.{first_greatest, earlier_best}
-use Rattle.p2p_directory.specs.World
-use Rattle.p2p_directory.specs.Step
-use Rattle.p2p_directory.specs.World.{World, Known}
+use Rattle.p2p_tracker.specs.Calls.{Setup, Call}
+use Rattle.p2p_tracker.specs.Calls.Call.{Update}
+use Rattle.p2p_tracker.specs.History
+use Rattle.p2p_tracker.specs.History.{first_greatest, earlier_best}
+use Rattle.p2p_tracker.specs.World
+use Rattle.p2p_tracker.specs.Step
+use Rattle.p2p_tracker.specs.World.{World, Known}
 use Rattle.p2p_directory.specs.Laws.Order.{Member, HaveSame, IsUnambiguous}
-use Rattle.p2p_directory.proofs.Definitions.Knowledge
+use Rattle.p2p_tracker.proofs.Definitions.Knowledge
 use Rattle.p2p_directory.proofs.Definitions.Law
 
 -- what the first of greatest timestamp is

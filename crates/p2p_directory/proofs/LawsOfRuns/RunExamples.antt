@@ -3,10 +3,10 @@ use Rattle.std.proofs.Common.{◌≡◌, ℕ, true, false, Bool, List, [], ◌�
 use Rattle.std.specs.List.Sorted.{IsStrictlySortedBy}
 use Rattle.std.specs.Prelude.{◌⊎◌}
 use Rattle.p2p_discovery.specs.declared.discovery.Info.{Info}
-use Rattle.p2p_directory.specs.Calls.{Call}
-use Rattle.p2p_directory.specs.Calls.Call.{Block, Connect, Update, Ask}
-use Rattle.p2p_directory.specs.Calls.Question.{NumberTracked, InfoOf}
-use Rattle.p2p_directory.specs.History.{is_in, life}
+use Rattle.p2p_tracker.specs.Calls.{Call}
+use Rattle.p2p_tracker.specs.Calls.Call.{Block, Connect, Update, Ask}
+use Rattle.p2p_tracker.specs.Calls.Question.{NumberTracked, InfoOf}
+use Rattle.p2p_tracker.specs.History.{is_in, life}
 use Rattle.p2p_directory.specs.declared.run.commands.Reply.{Reply}
 use Rattle.p2p_directory.specs.declared.run.commands.Reply.TheVariants as reply
 use Rattle.p2p_directory.specs.Laws.Bounds.{NamesAtMost}

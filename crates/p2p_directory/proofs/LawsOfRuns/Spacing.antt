@@ -4,17 +4,17 @@ use Rattle.std.specs.Prelude.{if◌then◌else◌, nat_lt, nat_le, option_to_lis
 use Rattle.std.specs.List.{list_all, list_any}
 use Rattle.std.proofs.lemmas.Bool.{leb-true, ltb-false, not-true, and_parts}
 use Rattle.p2p_discovery.specs.declared.types.ingress.Ingress.{Ingress}
-use Rattle.p2p_directory.specs.declared.record.Status.{Status}
-use Rattle.p2p_directory.specs.Calls.{Setup, Call, SetAt, Grant, Event}
-use Rattle.p2p_directory.specs.Calls.Call.{Track, Dial, Listen, Connect, Release, Update, Block, UnblockExpired, ForgetCooled, Ask}
-use Rattle.p2p_directory.specs.declared.record.Status.TheVariants.{Inert, Reserved, Active}
-use Rattle.p2p_directory.specs.Calls.Event.{Nothing, Tracked, Granted, Connected, Released, Updated, Blocked, Expired, Forgot}
-use Rattle.p2p_directory.specs.Moments.{cap}
-use Rattle.p2p_directory.specs.History
-use Rattle.p2p_directory.specs.History.{last_with, found_with, unless_ended}
-use Rattle.p2p_directory.specs.World
-use Rattle.p2p_directory.specs.Step
-use Rattle.p2p_directory.specs.World.{Known, Peer, World}
+use Rattle.p2p_tracker.specs.declared.record.Status.{Status}
+use Rattle.p2p_tracker.specs.Calls.{Setup, Call, SetAt, Grant, Event}
+use Rattle.p2p_tracker.specs.Calls.Call.{Track, Dial, Listen, Connect, Release, Update, Block, UnblockExpired, ForgetCooled, Ask}
+use Rattle.p2p_tracker.specs.declared.record.Status.TheVariants.{Inert, Reserved, Active}
+use Rattle.p2p_tracker.specs.Calls.Event.{Nothing, Tracked, Granted, Connected, Released, Updated, Blocked, Expired, Forgot}
+use Rattle.p2p_tracker.specs.Moments.{cap}
+use Rattle.p2p_tracker.specs.History
+use Rattle.p2p_tracker.specs.History.{last_with, found_with, unless_ended}
+use Rattle.p2p_tracker.specs.World
+use Rattle.p2p_tracker.specs.Step
+use Rattle.p2p_tracker.specs.World.{Known, Peer, World}
 use Rattle.p2p_directory.specs.Laws.Grants.{IsCooledAfter, IsCooledUnlessForgotten, IsSpaced, IsSpacedUnlessForgotten, KeepsCooldown, KeepsCooldownUnlessForgotten, moment_or, NeverGoBack, blocks_in, AreOver, IsOverAt, KeepsBlocks}
 use Rattle.p2p_directory.proofs.Definitions.Steps
 

@@ -22,7 +22,7 @@ use Rattle.p2p_directory.specs.declared.node.network.NetworkReply.{NetworkReply}
 use Rattle.p2p_directory.specs.declared.node.network.NetworkReply.TheVariants as reply
 use Rattle.p2p_directory.specs.declared.run.commands.Command.{Command}
 use Rattle.p2p_directory.specs.declared.run.commands.Reply.{Reply}
-use Rattle.p2p_directory.specs.Calls.{Call}
+use Rattle.p2p_tracker.specs.Calls.{Call}
 use Rattle.p2p_directory.specs.Run.{call_of}
 use Rattle.p2p_directory.specs.Received as frames
 use Rattle.p2p_directory.specs.Received.{Wire}

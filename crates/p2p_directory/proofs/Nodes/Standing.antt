@@ -1,10 +1,10 @@
 -- A node stands where its server does.
 use Rattle.std.proofs.Common.{◌≡◌, true, List, Option, is_some, inl, inr, refl, sym, ◌∙◌, ap, subst}
-use Rattle.p2p_directory.specs.declared.directory.Metadata.{Metadata}
+use Rattle.p2p_tracker.specs.declared.directory.Metadata.{Metadata}
 use Rattle.p2p_directory.specs.declared.run.commands.Reply.{Reply}
 use Rattle.p2p_directory.specs.declared.run.commands.Reply.TheVariants as reply
-use Rattle.p2p_directory.specs.Calls.{Setup, Call}
-use Rattle.p2p_directory.specs.World.{World}
+use Rattle.p2p_tracker.specs.Calls.{Setup, Call}
+use Rattle.p2p_tracker.specs.World.{World}
 use Rattle.p2p_directory.specs.Held.{held_of}
 use Rattle.p2p_directory.specs.Refinement.{Refines}
 use Rattle.p2p_directory.specs.Run.{world_after, next, Holds}

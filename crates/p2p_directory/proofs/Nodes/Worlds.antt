@@ -5,12 +5,12 @@ use Rattle.p2p_discovery.specs.declared.discovery.BitVec.{BitVec}
 use Rattle.p2p_discovery.specs.declared.discovery.Info.{Info}
 use Rattle.p2p_discovery.specs.Judgement.{judge_of}
 use Rattle.p2p_directory.specs.declared.node.Received.{Received}
-use Rattle.p2p_directory.specs.Calls.{Call}
-use Rattle.p2p_directory.specs.Calls.Call.{Update}
-use Rattle.p2p_directory.specs.Calls.Event.{Updated}
-use Rattle.p2p_directory.specs.World.{World}
-use Rattle.p2p_directory.specs.Step.{world_with}
-use Rattle.p2p_directory.specs.Directory.{Updates, bit_vec_at}
+use Rattle.p2p_tracker.specs.Calls.{Call}
+use Rattle.p2p_tracker.specs.Calls.Call.{Update}
+use Rattle.p2p_tracker.specs.Calls.Event.{Updated}
+use Rattle.p2p_tracker.specs.World.{World}
+use Rattle.p2p_tracker.specs.Step.{world_with}
+use Rattle.p2p_tracker.specs.Directory.{Updates, bit_vec_at}
 use Rattle.p2p_directory.specs.Held.{held_of}
 use Rattle.p2p_directory.specs.Refinement.{Refines}
 use Rattle.p2p_directory.specs.Run.{world_after, Holds}

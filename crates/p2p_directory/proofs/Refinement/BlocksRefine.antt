@@ -4,24 +4,24 @@ use Rattle.std.specs.Prelude.{if◌then◌else◌, nat_lt, nat_le}
 use Rattle.std.specs.Option.{option_map, option_map_or}
 use Rattle.std.specs.List.{last_or, list_any}
 use Rattle.std.specs.BTreeMap.{is_at}
-use Rattle.p2p_directory.specs.declared.directory.PeerSetUpdate.{PeerSetUpdate}
-use Rattle.p2p_directory.specs.declared.directory.TrackedPeers.{TrackedPeers}
-use Rattle.p2p_directory.specs.Calls.{Setup}
-use Rattle.p2p_directory.specs.Calls.Event.{Blocked, Expired}
-use Rattle.p2p_directory.specs.Moments.{cap}
-use Rattle.p2p_directory.specs.History.{same, is_own, is_inert, is_persistent, is_named, is_entitled}
-use Rattle.p2p_directory.specs.World
-use Rattle.p2p_directory.specs.World.{World, Peer}
-use Rattle.p2p_directory.specs.Step.{unblock_after, world_with}
-use Rattle.p2p_directory.specs.Answers.{is_present_in, AreAll, IsLatestUpdate, is_blocked_at, AreBlocked, IsNextUnblock, IsAnyExpired, is_eligible_at, is_acceptable_at}
-use Rattle.p2p_directory.specs.Lists.{Lists, IsLeastOf, Somebody}
-use Rattle.p2p_directory.specs.Blocks.{IsAnyUntil}
-use Rattle.p2p_directory.specs.Record.{is_myself, is_eligible, is_acceptable}
-use Rattle.p2p_directory.specs.Directory.{DirectoryView, record_of, unblock_of, is_blocked_in, may_block, if_later, is_free_and, is_named_of, AreAllOf, IsUpdateOf, BlocksUntil, EndsBlocks}
+use Rattle.p2p_tracker.specs.declared.directory.PeerSetUpdate.{PeerSetUpdate}
+use Rattle.p2p_tracker.specs.declared.directory.TrackedPeers.{TrackedPeers}
+use Rattle.p2p_tracker.specs.Calls.{Setup}
+use Rattle.p2p_tracker.specs.Calls.Event.{Blocked, Expired}
+use Rattle.p2p_tracker.specs.Moments.{cap}
+use Rattle.p2p_tracker.specs.History.{same, is_own, is_inert, is_persistent, is_named, is_entitled}
+use Rattle.p2p_tracker.specs.World
+use Rattle.p2p_tracker.specs.World.{World, Peer}
+use Rattle.p2p_tracker.specs.Step.{unblock_after, world_with}
+use Rattle.p2p_tracker.specs.Answers.{is_present_in, AreAll, IsLatestUpdate, is_blocked_at, AreBlocked, IsNextUnblock, IsAnyExpired, is_eligible_at, is_acceptable_at}
+use Rattle.p2p_tracker.specs.Lists.{Lists, IsLeastOf, Somebody}
+use Rattle.p2p_tracker.specs.Blocks.{IsAnyUntil}
+use Rattle.p2p_tracker.specs.Record.{is_myself, is_eligible, is_acceptable}
+use Rattle.p2p_tracker.specs.Directory.{DirectoryView, record_of, unblock_of, is_blocked_in, may_block, if_later, is_free_and, is_named_of, AreAllOf, IsUpdateOf, BlocksUntil, EndsBlocks}
 use Rattle.p2p_directory.specs.Refinement.{Refines}
 use Rattle.p2p_directory.specs.Run.{update_in}
-use Rattle.p2p_directory.proofs.Definitions.Listed
-use Rattle.p2p_directory.proofs.Definitions.Listed.{lists_alike, somebody_alike}
+use Rattle.p2p_tracker.proofs.Definitions.Listed
+use Rattle.p2p_tracker.proofs.Definitions.Listed.{lists_alike, somebody_alike}
 use Rattle.p2p_directory.proofs.Refinement.CallsRefine.{same_cooldowns, unchanged}
 use Rattle.p2p_directory.proofs.Refinement.RecordOfPeer.{record_with, shown_entitled, eligible_is_entitled, absent_not_entitled, myself_is_own, le_not_lt}
 

@@ -7,25 +7,25 @@ use Rattle.std.specs.Option.{option_map, option_map_or}
 use Rattle.std.specs.List.{list_any, list_all, last_or}
 use Rattle.std.proofs.lemmas.Map.Views.{tells_apart}
 use Rattle.p2p_discovery.specs.declared.types.ingress.Ingress.{Ingress}
-use Rattle.p2p_directory.specs.declared.record.Address.TheVariants.{Myself, Bootstrapper}
-use Rattle.p2p_directory.specs.declared.record.Status.{Status}
-use Rattle.p2p_directory.specs.declared.record.Status.TheVariants.{Inert, Reserved}
-use Rattle.p2p_directory.specs.Calls.{Setup, Call, SetAt, Direction, Grant, Cooldown}
-use Rattle.p2p_directory.specs.Calls.Event.{Tracked, Granted, Released, Forgot}
-use Rattle.p2p_directory.specs.History.{same, is_own, is_inert, is_persistent, is_named, is_present_with, last_of}
-use Rattle.p2p_directory.specs.World
-use Rattle.p2p_directory.specs.Step
-use Rattle.p2p_directory.specs.World.{World, Known, Peer, last_ingress_by, reservable_from, may_listen}
-use Rattle.p2p_directory.specs.Step.{new_known, world_with}
-use Rattle.p2p_directory.specs.Answers.{is_present_in, IsTeardown, status_in, is_cooled_by, is_cooled_at, IsNumberCooled}
-use Rattle.p2p_directory.specs.Record.{RecordView, new_record, with_cooldown, moments_after, is_eligible, reserved_record, unless_deletable}
-use Rattle.p2p_directory.specs.PeerSets.{latest_index, is_above}
-use Rattle.p2p_directory.specs.Blocks.{unblock_in}
-use Rattle.p2p_directory.specs.Cooldowns.{cooldown_in, unless_cooled}
-use Rattle.p2p_directory.specs.Directory.{DirectoryView, unblock_of, cooldown_of, is_cooled_in, IsNumberCooledIn, ForgetsCooled, record_of, first_record, kept_after_release, record_with_sets, is_connectable, ChangesRecord, Reserves, TakesSet, AreTornDown}
+use Rattle.p2p_tracker.specs.declared.record.Address.TheVariants.{Myself, Bootstrapper}
+use Rattle.p2p_tracker.specs.declared.record.Status.{Status}
+use Rattle.p2p_tracker.specs.declared.record.Status.TheVariants.{Inert, Reserved}
+use Rattle.p2p_tracker.specs.Calls.{Setup, Call, SetAt, Direction, Grant, Cooldown}
+use Rattle.p2p_tracker.specs.Calls.Event.{Tracked, Granted, Released, Forgot}
+use Rattle.p2p_tracker.specs.History.{same, is_own, is_inert, is_persistent, is_named, is_present_with, last_of}
+use Rattle.p2p_tracker.specs.World
+use Rattle.p2p_tracker.specs.Step
+use Rattle.p2p_tracker.specs.World.{World, Known, Peer, last_ingress_by, reservable_from, may_listen}
+use Rattle.p2p_tracker.specs.Step.{new_known, world_with}
+use Rattle.p2p_tracker.specs.Answers.{is_present_in, IsTeardown, status_in, is_cooled_by, is_cooled_at, IsNumberCooled}
+use Rattle.p2p_tracker.specs.Record.{RecordView, new_record, with_cooldown, moments_after, is_eligible, reserved_record, unless_deletable}
+use Rattle.p2p_tracker.specs.PeerSets.{latest_index, is_above}
+use Rattle.p2p_tracker.specs.Blocks.{unblock_in}
+use Rattle.p2p_tracker.specs.Cooldowns.{cooldown_in, unless_cooled}
+use Rattle.p2p_tracker.specs.Directory.{DirectoryView, unblock_of, cooldown_of, is_cooled_in, IsNumberCooledIn, ForgetsCooled, record_of, first_record, kept_after_release, record_with_sets, is_connectable, ChangesRecord, Reserves, TakesSet, AreTornDown}
 use Rattle.p2p_directory.specs.Refinement.{Refines, config_of, metadata_of, address_known}
 use Rattle.p2p_directory.proofs.Refinement.RecordOfPeer.{record_with, shown, shown_entitled, shown_busy, shown_with_sets, some_given, release_of_record, settled, failed_once}
-use Rattle.p2p_directory.proofs.Definitions.Listed.{lists_alike}
+use Rattle.p2p_tracker.proofs.Definitions.Listed.{lists_alike}
 use Rattle.p2p_directory.proofs.Definitions.Start.{new_world, new_at_start}
 use Rattle.p2p_directory.proofs.Definitions.Latest
 use Rattle.p2p_directory.proofs.Definitions.Latest.{latest_decides}

@@ -6,19 +6,19 @@ use Rattle.std.specs.Option.{option_map_or, option_and_then}
 use Rattle.std.proofs.lemmas.Bool.{and_parts, and_from}
 use Rattle.p2p_discovery.specs.declared.types.ingress.Ingress.{Ingress}
 use Rattle.p2p_discovery.specs.declared.discovery.Info.{Info}
-use Rattle.p2p_directory.specs.declared.record.Address.TheVariants.{Myself}
-use Rattle.p2p_directory.specs.Calls.{Setup, SetAt, Cooldown}
-use Rattle.p2p_directory.specs.History.{is_own, is_inert, is_persistent, is_named, is_present_with, is_entitled, primary_count, secondary_count}
-use Rattle.p2p_directory.specs.World
-use Rattle.p2p_directory.specs.World.{World, Known, Peer, last_ingress, reservable_from, dialable_from}
-use Rattle.p2p_directory.specs.Answers
-use Rattle.p2p_directory.specs.Answers.{is_present_in, AreAll, IsLatestUpdate, is_eligible_at, is_acceptable_at, is_target, is_dialable, query_moment, IsDialable}
-use Rattle.p2p_directory.specs.Record.{RecordView, DialView, is_eligible, is_grant, may_come, has_valid_ingress, ingress_of, is_dial_candidate, may_be_dialled, reserve_answer, dial_status, is_now, later_moment}
-use Rattle.p2p_directory.specs.Directory.{DirectoryView, may_listen_in, may_dial_in, ingress_in, is_dialable_in, query_moment_in, AreDialableIn}
+use Rattle.p2p_tracker.specs.declared.record.Address.TheVariants.{Myself}
+use Rattle.p2p_tracker.specs.Calls.{Setup, SetAt, Cooldown}
+use Rattle.p2p_tracker.specs.History.{is_own, is_inert, is_persistent, is_named, is_present_with, is_entitled, primary_count, secondary_count}
+use Rattle.p2p_tracker.specs.World
+use Rattle.p2p_tracker.specs.World.{World, Known, Peer, last_ingress, reservable_from, dialable_from}
+use Rattle.p2p_tracker.specs.Answers
+use Rattle.p2p_tracker.specs.Answers.{is_present_in, AreAll, IsLatestUpdate, is_eligible_at, is_acceptable_at, is_target, is_dialable, query_moment, IsDialable}
+use Rattle.p2p_tracker.specs.Record.{RecordView, DialView, is_eligible, is_grant, may_come, has_valid_ingress, ingress_of, is_dial_candidate, may_be_dialled, reserve_answer, dial_status, is_now, later_moment}
+use Rattle.p2p_tracker.specs.Directory.{DirectoryView, may_listen_in, may_dial_in, ingress_in, is_dialable_in, query_moment_in, AreDialableIn}
 use Rattle.p2p_directory.specs.Refinement.{Refines, address_given, address_known, address_of}
-use Rattle.p2p_directory.proofs.Definitions.Listed
-use Rattle.p2p_directory.proofs.Definitions.Listed.{lists_alike, somebody_alike}
-use Rattle.p2p_directory.proofs.SetsAndRecords.Dialables.{later_parts, later_moments, shuffle}
+use Rattle.p2p_tracker.proofs.Definitions.Listed
+use Rattle.p2p_tracker.proofs.Definitions.Listed.{lists_alike, somebody_alike}
+use Rattle.p2p_tracker.proofs.SetsAndRecords.Dialables.{later_parts, later_moments, shuffle}
 use Rattle.p2p_directory.proofs.Refinement.RecordOfPeer.{record_with, shown, shown_may_come, eligible_is_entitled, absent_not_entitled}
 
 neither : (b : Bool) → (b && false) ≡ false

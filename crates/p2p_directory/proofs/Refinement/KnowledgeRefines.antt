@@ -12,23 +12,23 @@ use Rattle.std.proofs.lemmas.Bool.Decides.{nat_tests}
 use Rattle.std.proofs.lemmas.Map.Views.{tells_apart}
 use Rattle.p2p_discovery.specs.declared.discovery.Info.{Info}
 use Rattle.p2p_discovery.specs.declared.types.ingress.Ingress.{Ingress}
-use Rattle.p2p_directory.specs.declared.record.Address.TheVariants.{Myself, Discovered}
-use Rattle.p2p_directory.specs.declared.record.Status.{Status}
-use Rattle.p2p_directory.specs.declared.record.Status.TheVariants.{Inert, Reserved, Active}
-use Rattle.p2p_directory.specs.Calls.{Setup, SetAt, Cooldown}
-use Rattle.p2p_directory.specs.Calls.Event.{Connected, Updated}
-use Rattle.p2p_directory.specs.History.{same, is_own, is_inert, is_reserved, is_persistent, is_named, is_present_with, is_newer, first_greatest, primary_count, secondary_count}
-use Rattle.p2p_directory.specs.World.{World, Known, Peer, last_ingress, reservable_from, dialable_from}
-use Rattle.p2p_directory.specs.Step
-use Rattle.p2p_directory.specs.Step.{new_known, world_with, status_connected}
-use Rattle.p2p_directory.specs.Answers.{is_present_in, wants, wants_with, active_info, sharable_of, sharable_info, shared_info, infos_for, epoch_millis, IsNumberTracked}
-use Rattle.p2p_directory.specs.PeerSets.{set_with}
-use Rattle.p2p_directory.specs.Record.{RecordView, is_myself, after_success, address_after_offer, address_after_infos, wants_by, sharable_by}
-use Rattle.p2p_directory.specs.Directory.{DirectoryView, record_of, connected_record, updated_record, infos_of, sharable_in, sharable_of_record, shared_at, infos_in, is_known, bit_vec_at, other_keys, Connects, Updates}
+use Rattle.p2p_tracker.specs.declared.record.Address.TheVariants.{Myself, Discovered}
+use Rattle.p2p_tracker.specs.declared.record.Status.{Status}
+use Rattle.p2p_tracker.specs.declared.record.Status.TheVariants.{Inert, Reserved, Active}
+use Rattle.p2p_tracker.specs.Calls.{Setup, SetAt, Cooldown}
+use Rattle.p2p_tracker.specs.Calls.Event.{Connected, Updated}
+use Rattle.p2p_tracker.specs.History.{same, is_own, is_inert, is_reserved, is_persistent, is_named, is_present_with, is_newer, first_greatest, primary_count, secondary_count}
+use Rattle.p2p_tracker.specs.World.{World, Known, Peer, last_ingress, reservable_from, dialable_from}
+use Rattle.p2p_tracker.specs.Step
+use Rattle.p2p_tracker.specs.Step.{new_known, world_with, status_connected}
+use Rattle.p2p_tracker.specs.Answers.{is_present_in, wants, wants_with, active_info, sharable_of, sharable_info, shared_info, infos_for, epoch_millis, IsNumberTracked}
+use Rattle.p2p_tracker.specs.PeerSets.{set_with}
+use Rattle.p2p_tracker.specs.Record.{RecordView, is_myself, after_success, address_after_offer, address_after_infos, wants_by, sharable_by}
+use Rattle.p2p_tracker.specs.Directory.{DirectoryView, record_of, connected_record, updated_record, infos_of, sharable_in, sharable_of_record, shared_at, infos_in, is_known, bit_vec_at, other_keys, Connects, Updates}
 use Rattle.p2p_directory.specs.Refinement.{Refines, address_given, address_known, address_of}
 use Rattle.p2p_directory.specs.Run.{bit_vec_of, bit_vec_in}
-use Rattle.p2p_directory.proofs.SetsAndRecords.Listing.{listed_by_value}
-use Rattle.p2p_directory.proofs.Definitions.Knowledge.{later, updated_all_with_best}
+use Rattle.p2p_tracker.proofs.SetsAndRecords.Listing.{listed_by_value}
+use Rattle.p2p_tracker.proofs.Definitions.Knowledge.{later, updated_all_with_best}
 use Rattle.p2p_directory.proofs.Refinement.RecordOfPeer.{record_with, shown, myself_is_own, absent_parts, inert_only}
 use Rattle.p2p_directory.proofs.Refinement.CallsRefine.{tie_status, same_blocks, same_cooldowns, unchanged, remains, or_true}
 

@@ -7,20 +7,20 @@ use Rattle.std.proofs.lemmas.Bool.Decides.{nat_tests}
 use Rattle.p2p_discovery.specs.declared.discovery.Info.{Info}
 use Rattle.p2p_discovery.specs.declared.types.ingress.Ingress.{Ingress}
 use Rattle.p2p_discovery.specs.Ingress.{same_ingress}
-use Rattle.p2p_directory.specs.declared.record.Address.{Address}
-use Rattle.p2p_directory.specs.declared.record.Address.TheVariants.{Unknown, Myself, Discovered}
-use Rattle.p2p_directory.specs.declared.record.Status.{Status}
-use Rattle.p2p_directory.specs.declared.record.Status.TheVariants.{Inert, Reserved, Active}
-use Rattle.p2p_directory.specs.declared.record.ReserveResult.TheVariants as reserve
-use Rattle.p2p_directory.specs.Calls.{Setup, SetAt, Direction, Cooldown}
-use Rattle.p2p_directory.specs.Calls.Direction.{Listener, Dialer}
-use Rattle.p2p_directory.specs.History.{same, is_own, is_inert, is_persistent, is_named, is_present_with, primary_count, secondary_count, is_entitled}
-use Rattle.p2p_directory.specs.World
-use Rattle.p2p_directory.specs.Step
-use Rattle.p2p_directory.specs.World.{Known, Peer, last_ingress, last_ingress_by, reservable_from, dialable_from}
-use Rattle.p2p_directory.specs.Step.{new_known}
-use Rattle.p2p_directory.specs.Record.{RecordView, fresh, is_myself, is_eligible, is_grant, may_come, after_failure, with_counts, unless_deletable}
-use Rattle.p2p_directory.specs.Directory.{address_after_release, released_record, is_connectable, record_with_sets}
+use Rattle.p2p_tracker.specs.declared.record.Address.{Address}
+use Rattle.p2p_tracker.specs.declared.record.Address.TheVariants.{Unknown, Myself, Discovered}
+use Rattle.p2p_tracker.specs.declared.record.Status.{Status}
+use Rattle.p2p_tracker.specs.declared.record.Status.TheVariants.{Inert, Reserved, Active}
+use Rattle.p2p_tracker.specs.declared.record.ReserveResult.TheVariants as reserve
+use Rattle.p2p_tracker.specs.Calls.{Setup, SetAt, Direction, Cooldown}
+use Rattle.p2p_tracker.specs.Calls.Direction.{Listener, Dialer}
+use Rattle.p2p_tracker.specs.History.{same, is_own, is_inert, is_persistent, is_named, is_present_with, primary_count, secondary_count, is_entitled}
+use Rattle.p2p_tracker.specs.World
+use Rattle.p2p_tracker.specs.Step
+use Rattle.p2p_tracker.specs.World.{Known, Peer, last_ingress, last_ingress_by, reservable_from, dialable_from}
+use Rattle.p2p_tracker.specs.Step.{new_known}
+use Rattle.p2p_tracker.specs.Record.{RecordView, fresh, is_myself, is_eligible, is_grant, may_come, after_failure, with_counts, unless_deletable}
+use Rattle.p2p_tracker.specs.Directory.{address_after_release, released_record, is_connectable, record_with_sets}
 use Rattle.p2p_directory.specs.Refinement.{metadata_of, address_given, address_known, address_of}
 
 module _ {C S : Type 0} (s : Setup C S) where

@@ -6,15 +6,15 @@ use Rattle.std.specs.BTreeMap.{is_at}
 use Rattle.std.specs.declared.cmp.Ordering.{Ordering}
 use Rattle.std.proofs.lemmas.Map.Lookups.{CmpEqualImpliesEq}
 use Rattle.std.proofs.lemmas.Map.Views.{tells_apart}
-use Rattle.p2p_directory.specs.declared.directory.Metadata.{Metadata}
-use Rattle.p2p_directory.specs.declared.record.Status.{Status}
-use Rattle.p2p_directory.specs.declared.record.Status.TheVariants.{Inert, Reserved, Active}
-use Rattle.p2p_directory.specs.Calls.{SetAt}
-use Rattle.p2p_directory.specs.History.{is_inert, is_reserved}
-use Rattle.p2p_directory.specs.Record.{RecordView, with_cooldown}
-use Rattle.p2p_directory.specs.Directory.{DirectoryView, is_busy, record_of, key_of, released_record, kept_after_release, connected_record, IsBusy, IsReserved, ChangesRecord, Connects, TakesSet, ForgetsCooled, ChangesAt, cooldown_of, is_cooled_in, record_at}
+use Rattle.p2p_tracker.specs.declared.directory.Metadata.{Metadata}
+use Rattle.p2p_tracker.specs.declared.record.Status.{Status}
+use Rattle.p2p_tracker.specs.declared.record.Status.TheVariants.{Inert, Reserved, Active}
+use Rattle.p2p_tracker.specs.Calls.{SetAt}
+use Rattle.p2p_tracker.specs.History.{is_inert, is_reserved}
+use Rattle.p2p_tracker.specs.Record.{RecordView, with_cooldown}
+use Rattle.p2p_tracker.specs.Directory.{DirectoryView, is_busy, record_of, key_of, released_record, kept_after_release, connected_record, IsBusy, IsReserved, ChangesRecord, Connects, TakesSet, ForgetsCooled, ChangesAt, cooldown_of, is_cooled_in, record_at}
 use Rattle.p2p_directory.specs.Held.{AreHeld, after_release}
-use Rattle.p2p_directory.proofs.SetsAndRecords.Consistent.{status_unless, status_with_sets}
+use Rattle.p2p_tracker.proofs.SetsAndRecords.Consistent.{status_unless, status_with_sets}
 
 module _ {C S : Type 0} where
   -- who is released is not busy

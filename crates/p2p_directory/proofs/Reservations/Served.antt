@@ -9,26 +9,26 @@ use Rattle.std.proofs.lemmas.Map.Views.{tells_apart}
 use Rattle.std.proofs.lemmas.Bool.{and_parts}
 use Rattle.p2p_discovery.specs.declared.discovery.Info.{Info}
 use Rattle.p2p_discovery.specs.declared.types.ingress.Ingress.{Ingress}
-use Rattle.p2p_directory.specs.declared.directory.Metadata.{Metadata}
-use Rattle.p2p_directory.specs.declared.directory.Metadata.TheVariants as metadata
-use Rattle.p2p_directory.specs.declared.record.Status.{Status}
-use Rattle.p2p_directory.specs.declared.record.Status.TheVariants.{Inert, Reserved, Active}
+use Rattle.p2p_tracker.specs.declared.directory.Metadata.{Metadata}
+use Rattle.p2p_tracker.specs.declared.directory.Metadata.TheVariants as metadata
+use Rattle.p2p_tracker.specs.declared.record.Status.{Status}
+use Rattle.p2p_tracker.specs.declared.record.Status.TheVariants.{Inert, Reserved, Active}
 use Rattle.p2p_directory.specs.declared.run.commands.Reply.TheVariants as reply
-use Rattle.p2p_directory.specs.Calls.{Setup, Call, Event, Direction, Grant}
-use Rattle.p2p_directory.specs.Calls.Call.{Track, Dial, Listen, Connect, Release, Update, Block, UnblockExpired, ForgetCooled}
-use Rattle.p2p_directory.specs.Calls.Direction.{Listener, Dialer}
-use Rattle.p2p_directory.specs.Calls.Event.{Nothing, Tracked, Granted, Connected, Released, Updated, Blocked, Expired, Forgot}
-use Rattle.p2p_directory.specs.History
-use Rattle.p2p_directory.specs.History.{is_inert, is_reserved}
-use Rattle.p2p_directory.specs.World
-use Rattle.p2p_directory.specs.World.{World, event_in}
-use Rattle.p2p_directory.specs.Step.{world_with, new_known, status_connected}
-use Rattle.p2p_directory.specs.Moments.{cap}
-use Rattle.p2p_directory.specs.Answers.{is_present_in, was_taken, was_granted, was_blocked}
-use Rattle.p2p_directory.specs.Blocks.{IsAnyUntil}
-use Rattle.p2p_directory.specs.Record.{RecordView}
-use Rattle.p2p_directory.specs.PeerSets.{set_of, latest_index, is_above}
-use Rattle.p2p_directory.specs.Directory.{DirectoryView, is_busy, record_of, first_record, kept_after_release, unblock_of, may_block, BlocksUntil, EndsBlocks, IsNumberCooledIn, ForgetsCooled, may_listen_in, may_dial_in, ingress_in, ChangesRecord, Reserves, Connects, Updates, TakesSet, AreTornDown}
+use Rattle.p2p_tracker.specs.Calls.{Setup, Call, Event, Direction, Grant}
+use Rattle.p2p_tracker.specs.Calls.Call.{Track, Dial, Listen, Connect, Release, Update, Block, UnblockExpired, ForgetCooled}
+use Rattle.p2p_tracker.specs.Calls.Direction.{Listener, Dialer}
+use Rattle.p2p_tracker.specs.Calls.Event.{Nothing, Tracked, Granted, Connected, Released, Updated, Blocked, Expired, Forgot}
+use Rattle.p2p_tracker.specs.History
+use Rattle.p2p_tracker.specs.History.{is_inert, is_reserved}
+use Rattle.p2p_tracker.specs.World
+use Rattle.p2p_tracker.specs.World.{World, event_in}
+use Rattle.p2p_tracker.specs.Step.{world_with, new_known, status_connected}
+use Rattle.p2p_tracker.specs.Moments.{cap}
+use Rattle.p2p_tracker.specs.Answers.{is_present_in, was_taken, was_granted, was_blocked}
+use Rattle.p2p_tracker.specs.Blocks.{IsAnyUntil}
+use Rattle.p2p_tracker.specs.Record.{RecordView}
+use Rattle.p2p_tracker.specs.PeerSets.{set_of, latest_index, is_above}
+use Rattle.p2p_tracker.specs.Directory.{DirectoryView, is_busy, record_of, first_record, kept_after_release, unblock_of, may_block, BlocksUntil, EndsBlocks, IsNumberCooledIn, ForgetsCooled, may_listen_in, may_dial_in, ingress_in, ChangesRecord, Reserves, Connects, Updates, TakesSet, AreTornDown}
 use Rattle.p2p_directory.specs.Held.{AreHeld}
 use Rattle.p2p_directory.specs.Private.Serving.{ServerView, StandsAt, IsServedAt}
 use Rattle.p2p_directory.specs.Private.Slots.{held_in}

@@ -8,11 +8,11 @@ use Rattle.std.specs.Map.{keys_of}
 use Rattle.std.specs.declared.cmp.Ordering.TheVariants.{Equal}
 use Rattle.p2p_discovery.specs.declared.discovery.Info.{Info}
 use Rattle.p2p_discovery.specs.Ingress.{takes_none}
-use Rattle.p2p_directory.specs.declared.record.Status.{Status}
+use Rattle.p2p_tracker.specs.declared.record.Status.{Status}
 use Rattle.p2p_directory.specs.declared.run.commands.Reply.TheVariants as reply
-use Rattle.p2p_directory.specs.Calls.{Setup, Call}
-use Rattle.p2p_directory.specs.PeerSets.{latest_index}
-use Rattle.p2p_directory.specs.Directory.{record_of, unblock_of}
+use Rattle.p2p_tracker.specs.Calls.{Setup, Call}
+use Rattle.p2p_tracker.specs.PeerSets.{latest_index}
+use Rattle.p2p_tracker.specs.Directory.{record_of, unblock_of}
 use Rattle.p2p_directory.specs.Private.Serving.{ServerView, StandsAt, IsServedAt}
 use Rattle.p2p_directory.specs.Private.Slots.{held_in}
 use Rattle.p2p_directory.specs.Run.{world_after}
@@ -25,19 +25,19 @@ use Rattle.std.specs.Duration.{as_nanos}
 use Rattle.std.specs.declared.time.Duration.{Duration}
 use Rattle.std.specs.Option.{IsSomeAnd}
 use Rattle.p2p_discovery.specs.declared.discovery.BitVec.{BitVec}
-use Rattle.p2p_directory.specs.declared.directory.TrackedPeers.{TrackedPeers}
-use Rattle.p2p_directory.specs.declared.directory.PeerSetUpdate.{PeerSetUpdate}
-use Rattle.p2p_directory.specs.declared.record.Dialable.{Dialable}
-use Rattle.p2p_directory.specs.Calls.{Question}
-use Rattle.p2p_directory.specs.Calls.Call.{Ask}
-use Rattle.p2p_directory.specs.Calls.Question.{StatusOf, NumberTracked, NextUnblock, BlockedAt, PeerSet, LatestIndex, AllPeers, LatestUpdate, InfoOf, InfosFor, BitsAt, IsEligible, IsAcceptable, DialableAt}
-use Rattle.p2p_directory.specs.Answers.{IsNumberTracked, is_dialable}
-use Rattle.p2p_directory.specs.PeerSets.{set_with, has_peers}
-use Rattle.p2p_directory.specs.Lists.{Lists, IsLeastOf, Somebody}
-use Rattle.p2p_directory.specs.Record.{is_eligible, is_acceptable}
-use Rattle.p2p_directory.specs.Directory.{peers_of, peer_set_in, sharable_in, infos_in, bit_vec_at, other_keys, is_blocked_in, is_free_and, is_named_of, AreAllOf, IsUpdateOf, is_dialable_in, AreDialableIn}
+use Rattle.p2p_tracker.specs.declared.directory.TrackedPeers.{TrackedPeers}
+use Rattle.p2p_tracker.specs.declared.directory.PeerSetUpdate.{PeerSetUpdate}
+use Rattle.p2p_tracker.specs.declared.record.Dialable.{Dialable}
+use Rattle.p2p_tracker.specs.Calls.{Question}
+use Rattle.p2p_tracker.specs.Calls.Call.{Ask}
+use Rattle.p2p_tracker.specs.Calls.Question.{StatusOf, NumberTracked, NextUnblock, BlockedAt, PeerSet, LatestIndex, AllPeers, LatestUpdate, InfoOf, InfosFor, BitsAt, IsEligible, IsAcceptable, DialableAt}
+use Rattle.p2p_tracker.specs.Answers.{IsNumberTracked, is_dialable}
+use Rattle.p2p_tracker.specs.PeerSets.{set_with, has_peers}
+use Rattle.p2p_tracker.specs.Lists.{Lists, IsLeastOf, Somebody}
+use Rattle.p2p_tracker.specs.Record.{is_eligible, is_acceptable}
+use Rattle.p2p_tracker.specs.Directory.{peers_of, peer_set_in, sharable_in, infos_in, bit_vec_at, other_keys, is_blocked_in, is_free_and, is_named_of, AreAllOf, IsUpdateOf, is_dialable_in, AreDialableIn}
 use Rattle.p2p_directory.specs.Run.{MayWantToTell}
-use Rattle.p2p_directory.proofs.Definitions.Listed.{somebody_alike}
+use Rattle.p2p_tracker.proofs.Definitions.Listed.{somebody_alike}
 use Rattle.p2p_directory.proofs.Reservations.Served.{same_views, idle}
 
 module _ {C S : Type 0} (s : Setup C S) where

@@ -3,10 +3,10 @@
 use Rattle.std.specs.Prelude.{ℕ, ◌+◌, ◌≤◌, true, nat_le, if◌then◌else◌, List, ◌∷◌, Option, Some}
 use Rattle.std.specs.Prelude.{None}
 use Rattle.std.specs.Option.{option_map}
-use Rattle.p2p_directory.specs.Moments.{cap}
-use Rattle.p2p_directory.specs.Calls.{Setup, Call}
-use Rattle.p2p_directory.specs.Calls.Call.{Block, UnblockExpired}
-use Rattle.p2p_directory.specs.History.{same}
+use Rattle.p2p_tracker.specs.Moments.{cap}
+use Rattle.p2p_tracker.specs.Calls.{Setup, Call}
+use Rattle.p2p_tracker.specs.Calls.Call.{Block, UnblockExpired}
+use Rattle.p2p_tracker.specs.History.{same}
 use Rattle.p2p_directory.specs.declared.run.commands.Reply.{Reply}
 use Rattle.p2p_directory.specs.declared.run.commands.Reply.TheVariants as reply
 use Rattle.p2p_directory.specs.Run.{was_made}

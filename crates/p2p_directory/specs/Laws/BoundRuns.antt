@@ -2,10 +2,10 @@
 -- oldest first.
 use Rattle.std.specs.Prelude.{ℕ, ◌+◌, ◌*◌, ◌≤◌, List, ◌∷◌, length}
 use Rattle.std.specs.List.{AllByRecursion}
-use Rattle.p2p_directory.specs.Calls.{Setup, Call}
-use Rattle.p2p_directory.specs.History.{is_persistent, taken_sets}
-use Rattle.p2p_directory.specs.World.{past}
-use Rattle.p2p_directory.specs.Lists.{Lists}
+use Rattle.p2p_tracker.specs.Calls.{Setup, Call}
+use Rattle.p2p_tracker.specs.History.{is_persistent, taken_sets}
+use Rattle.p2p_tracker.specs.World.{past}
+use Rattle.p2p_tracker.specs.Lists.{Lists}
 use Rattle.p2p_directory.specs.declared.run.commands.Reply.{Reply}
 use Rattle.p2p_directory.specs.declared.run.commands.Reply.TheVariants as reply
 use Rattle.p2p_directory.specs.Run.{world_after, next}

@@ -3,14 +3,14 @@
 use Rattle.std.specs.Prelude.{◌≡◌, ℕ, ◌≤◌, true, not, List, ◌∷◌, filter, Option}
 use Rattle.std.specs.Option.{option_map}
 use Rattle.std.specs.Duration.{as_nanos}
-use Rattle.p2p_directory.specs.Calls.{Setup, Question, Call}
-use Rattle.p2p_directory.specs.Calls.Question.{DialableAt}
-use Rattle.p2p_directory.specs.Calls.Call.{Dial, Ask}
-use Rattle.p2p_directory.specs.History.{same, is_in}
+use Rattle.p2p_tracker.specs.Calls.{Setup, Question, Call}
+use Rattle.p2p_tracker.specs.Calls.Question.{DialableAt}
+use Rattle.p2p_tracker.specs.Calls.Call.{Dial, Ask}
+use Rattle.p2p_tracker.specs.History.{same, is_in}
 use Rattle.p2p_directory.specs.declared.run.commands.Reply.{Reply}
 use Rattle.p2p_directory.specs.declared.run.commands.Reply.TheVariants as reply
-use Rattle.p2p_directory.specs.declared.record.Dialable.{Dialable}
-use Rattle.p2p_directory.specs.Laws.Dials.{IsBefore}
+use Rattle.p2p_tracker.specs.declared.record.Dialable.{Dialable}
+use Rattle.p2p_tracker.specs.Dials.{IsBefore}
 
 -- a dial was granted, or memory was refused
 abbrev pub IsGrantedOrOutOfMemory : {C S : Type 0} → Reply C S → Type 0

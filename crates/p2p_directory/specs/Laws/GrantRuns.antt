@@ -2,10 +2,10 @@
 -- oldest first.
 use Rattle.std.specs.Prelude.{ℕ, ◌+◌, ◌≤◌, true, if◌then◌else◌, List, ◌∷◌, ◌++◌, Option, Some}
 use Rattle.std.specs.Prelude.{None, Bool, false, nat_le, option_to_list}
-use Rattle.p2p_directory.specs.Moments.{cap, jitter}
-use Rattle.p2p_directory.specs.Calls.{Setup, Call}
-use Rattle.p2p_directory.specs.Calls.Call.{Dial, Listen, Block, ForgetCooled}
-use Rattle.p2p_directory.specs.History.{same}
+use Rattle.p2p_tracker.specs.Moments.{cap, jitter}
+use Rattle.p2p_tracker.specs.Calls.{Setup, Call}
+use Rattle.p2p_tracker.specs.Calls.Call.{Dial, Listen, Block, ForgetCooled}
+use Rattle.p2p_tracker.specs.History.{same}
 use Rattle.p2p_directory.specs.declared.run.commands.Reply.{Reply}
 use Rattle.p2p_directory.specs.declared.run.commands.Reply.TheVariants as reply
 use Rattle.p2p_directory.specs.Laws.Grants.{moment_or, AreOver}

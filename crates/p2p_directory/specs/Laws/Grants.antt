@@ -2,10 +2,10 @@
 use Rattle.std.specs.Prelude.{◌≡◌, ℕ, ◌+◌, ◌≤◌, false, List, [], ◌∷◌, ◌++◌, Option, Some, None}
 use Rattle.std.specs.Prelude.{option_to_list}
 use Rattle.std.specs.List.{AllByRecursion, list_any}
-use Rattle.p2p_directory.specs.Moments.{cap}
-use Rattle.p2p_directory.specs.Calls.{Setup, Call, Grant, Event}
-use Rattle.p2p_directory.specs.Calls.Call.{Dial, Listen, Block, UnblockExpired, ForgetCooled}
-use Rattle.p2p_directory.specs.History.{last_with, grant_by, is_forgetting, block_by}
+use Rattle.p2p_tracker.specs.Moments.{cap}
+use Rattle.p2p_tracker.specs.Calls.{Setup, Call, Grant, Event}
+use Rattle.p2p_tracker.specs.Calls.Call.{Dial, Listen, Block, UnblockExpired, ForgetCooled}
+use Rattle.p2p_tracker.specs.History.{last_with, grant_by, is_forgetting, block_by}
 
 -- a moment, or now where there is none
 abbrev pub or_now : ℕ → Option ℕ → ℕ

@@ -1,13 +1,13 @@
 -- What the calls on other single peers leave as it was.
 use Rattle.std.specs.Prelude.{◌≡◌, ℕ, Bool, false, not, if◌then◌else◌, List, [], ◌∷◌, filter}
-use Rattle.p2p_directory.specs.Calls.{Setup, Question, Call}
-use Rattle.p2p_directory.specs.Calls.Question.{StatusOf, InfoOf, IsEligible, IsAcceptable}
-use Rattle.p2p_directory.specs.Calls.Call.{Dial, Listen, Connect, Release, Update, Block, Ask}
-use Rattle.p2p_directory.specs.History.{same}
-use Rattle.p2p_directory.specs.World.{World, event_in}
-use Rattle.p2p_directory.specs.Answers.{is_present_in, status_in, sharable_info, wants}
-use Rattle.p2p_directory.specs.Answers.{is_blocked_at, is_eligible_at, is_acceptable_at}
-use Rattle.p2p_directory.specs.Answers.{is_cooled_at, is_dialable, query_moment}
+use Rattle.p2p_tracker.specs.Calls.{Setup, Question, Call}
+use Rattle.p2p_tracker.specs.Calls.Question.{StatusOf, InfoOf, IsEligible, IsAcceptable}
+use Rattle.p2p_tracker.specs.Calls.Call.{Dial, Listen, Connect, Release, Update, Block, Ask}
+use Rattle.p2p_tracker.specs.History.{same}
+use Rattle.p2p_tracker.specs.World.{World, event_in}
+use Rattle.p2p_tracker.specs.Answers.{is_present_in, status_in, sharable_info, wants}
+use Rattle.p2p_tracker.specs.Answers.{is_blocked_at, is_eligible_at, is_acceptable_at}
+use Rattle.p2p_tracker.specs.Answers.{is_cooled_at, is_dialable, query_moment}
 
 module _ {C S : Type 0} (s : Setup C S) where
   -- a question about a single peer other than p

@@ -2,12 +2,12 @@
 -- replies are in order, the oldest first.
 use Rattle.std.specs.Prelude.{◌≡◌, Bool, true, false, if◌then◌else◌, List, ◌∷◌, Option, Some, None}
 use Rattle.std.specs.Option.{option_map}
-use Rattle.p2p_directory.specs.Calls.{Setup, Question, Call}
-use Rattle.p2p_directory.specs.Calls.Question.{StatusOf, InfoOf, IsEligible, IsAcceptable}
-use Rattle.p2p_directory.specs.Calls.Question.{DialableAt}
-use Rattle.p2p_directory.specs.Calls.Call.{Track, Dial, Listen, Connect, Release, Block, Ask}
-use Rattle.p2p_directory.specs.History.{same, is_in}
-use Rattle.p2p_directory.specs.Answers.{was_taken, is_torn_down, is_dialable}
+use Rattle.p2p_tracker.specs.Calls.{Setup, Question, Call}
+use Rattle.p2p_tracker.specs.Calls.Question.{StatusOf, InfoOf, IsEligible, IsAcceptable}
+use Rattle.p2p_tracker.specs.Calls.Question.{DialableAt}
+use Rattle.p2p_tracker.specs.Calls.Call.{Track, Dial, Listen, Connect, Release, Block, Ask}
+use Rattle.p2p_tracker.specs.History.{same, is_in}
+use Rattle.p2p_tracker.specs.Answers.{was_taken, is_torn_down, is_dialable}
 use Rattle.p2p_directory.specs.declared.run.commands.Reply.{Reply}
 use Rattle.p2p_directory.specs.declared.run.commands.Reply.TheVariants as reply
 use Rattle.p2p_directory.specs.Run.{world_after, event_of, IsAnswer, next}

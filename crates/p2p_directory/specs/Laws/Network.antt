@@ -18,13 +18,13 @@ use Rattle.p2p_directory.specs.declared.node.network.NetworkCommand.{NetworkComm
 use Rattle.p2p_directory.specs.declared.node.network.NetworkCommand.TheVariants as command
 use Rattle.p2p_directory.specs.declared.node.network.NetworkReply.{NetworkReply}
 use Rattle.p2p_directory.specs.declared.node.network.NetworkReply.TheVariants as reply
-use Rattle.p2p_directory.specs.Calls.{Call, SetAt}
-use Rattle.p2p_directory.specs.Calls.Call.{Update}
-use Rattle.p2p_directory.specs.History.{is_own, is_in}
+use Rattle.p2p_tracker.specs.Calls.{Call, SetAt}
+use Rattle.p2p_tracker.specs.Calls.Call.{Update}
+use Rattle.p2p_tracker.specs.History.{is_own, is_in}
 use Rattle.p2p_directory.specs.Run.{call_of, world_after}
 use Rattle.p2p_directory.specs.Received.{Wire, applies, received_at, told_with}
-use Rattle.p2p_directory.specs.Answers.{is_present_in, set_at_place, set_with_index, infos_for}
-use Rattle.p2p_directory.specs.Answers.{bits_of, epoch_millis, sharable_info}
+use Rattle.p2p_tracker.specs.Answers.{is_present_in, set_at_place, set_with_index, infos_for}
+use Rattle.p2p_tracker.specs.Answers.{bits_of, epoch_millis, sharable_info}
 use Rattle.p2p_directory.specs.Nodes.{Made, AreValues}
 use Rattle.p2p_directory.specs.Exchange.{infos_applied}
 use Rattle.p2p_directory.specs.Network.{infos_of_frame}

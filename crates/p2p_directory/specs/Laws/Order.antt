@@ -1,8 +1,8 @@
 -- Infos in another order.
 use Rattle.std.specs.Prelude.{◌≡◌, true, List, [], ◌∷◌, ◌⊎◌, ◌↔◌}
 use Rattle.p2p_discovery.specs.declared.discovery.Info.{Info}
-use Rattle.p2p_directory.specs.Calls.{Setup}
-use Rattle.p2p_directory.specs.History.{same}
+use Rattle.p2p_tracker.specs.Calls.{Setup}
+use Rattle.p2p_tracker.specs.History.{same}
 
 abbrev pub Member : {A : Type 0} → List A → A → Type 0
 Member [] x = ⊥

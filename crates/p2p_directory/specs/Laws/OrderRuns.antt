@@ -2,8 +2,8 @@
 -- first.
 use Rattle.std.specs.Prelude.{◌≡◌, List, [], ◌∷◌, ◌++◌}
 use Rattle.p2p_discovery.specs.declared.discovery.Info.{Info}
-use Rattle.p2p_directory.specs.Calls.{Setup, Call}
-use Rattle.p2p_directory.specs.Calls.Call.{Update}
+use Rattle.p2p_tracker.specs.Calls.{Setup, Call}
+use Rattle.p2p_tracker.specs.Calls.Call.{Update}
 use Rattle.p2p_directory.specs.declared.run.commands.Reply.{Reply}
 use Rattle.p2p_directory.specs.Run.{world_after, IsAnswer, next}
 use Rattle.p2p_directory.specs.Laws.Order.{HaveSame, IsUnambiguous}

@@ -3,22 +3,22 @@ use Rattle.std.specs.Prelude.{ℕ, ◌≡◌, Bool, List, Option, length}
 use Rattle.std.specs.Option.{option_map}
 use Rattle.std.specs.List.Sorted.{IsStrictlySortedBy}
 use Rattle.std.specs.Map.{keys_of}
-use Rattle.p2p_directory.specs.declared.directory.PeerSetUpdate.{PeerSetUpdate}
-use Rattle.p2p_directory.specs.declared.directory.TrackedPeers.{TrackedPeers}
-use Rattle.p2p_directory.specs.Calls.{Setup}
-use Rattle.p2p_directory.specs.PeerSets.{latest_index}
-use Rattle.p2p_directory.specs.Lists.{Lists, IsLeastOf}
-use Rattle.p2p_directory.specs.Blocks.{IsAnyUntil}
-use Rattle.p2p_directory.specs.Record.{is_eligible, is_acceptable}
-use Rattle.p2p_directory.specs.World.{World, may_listen, may_dial}
-use Rattle.p2p_directory.specs.Answers.{status_in, IsNumberTracked, AreBlocked, IsNextUnblock}
-use Rattle.p2p_directory.specs.Answers.{IsAnyExpired, IsNumberCooled, set_with_index, latest_index_in, AreAll}
-use Rattle.p2p_directory.specs.Answers.{IsLatestUpdate, sharable_info, infos_for, is_eligible_at}
-use Rattle.p2p_directory.specs.Answers.{is_acceptable_at, IsDialable}
-use Rattle.p2p_directory.specs.Directory.{DirectoryView, record_of, unblock_of, other_keys}
-use Rattle.p2p_directory.specs.Directory.{is_blocked_in, peers_of, peer_set_in, AreAllOf, IsUpdateOf}
-use Rattle.p2p_directory.specs.Directory.{sharable_in, infos_in, bit_vec_at, is_free_and, IsNumberCooledIn}
-use Rattle.p2p_directory.specs.Directory.{AreDialableIn, may_listen_in, may_dial_in}
+use Rattle.p2p_tracker.specs.declared.directory.PeerSetUpdate.{PeerSetUpdate}
+use Rattle.p2p_tracker.specs.declared.directory.TrackedPeers.{TrackedPeers}
+use Rattle.p2p_tracker.specs.Calls.{Setup}
+use Rattle.p2p_tracker.specs.PeerSets.{latest_index}
+use Rattle.p2p_tracker.specs.Lists.{Lists, IsLeastOf}
+use Rattle.p2p_tracker.specs.Blocks.{IsAnyUntil}
+use Rattle.p2p_tracker.specs.Record.{is_eligible, is_acceptable}
+use Rattle.p2p_tracker.specs.World.{World, may_listen, may_dial}
+use Rattle.p2p_tracker.specs.Answers.{status_in, IsNumberTracked, AreBlocked, IsNextUnblock}
+use Rattle.p2p_tracker.specs.Answers.{IsAnyExpired, IsNumberCooled, set_with_index, latest_index_in, AreAll}
+use Rattle.p2p_tracker.specs.Answers.{IsLatestUpdate, sharable_info, infos_for, is_eligible_at}
+use Rattle.p2p_tracker.specs.Answers.{is_acceptable_at, IsDialable}
+use Rattle.p2p_tracker.specs.Directory.{DirectoryView, record_of, unblock_of, other_keys}
+use Rattle.p2p_tracker.specs.Directory.{is_blocked_in, peers_of, peer_set_in, AreAllOf, IsUpdateOf}
+use Rattle.p2p_tracker.specs.Directory.{sharable_in, infos_in, bit_vec_at, is_free_and, IsNumberCooledIn}
+use Rattle.p2p_tracker.specs.Directory.{AreDialableIn, may_listen_in, may_dial_in}
 use Rattle.p2p_directory.specs.Run.{bit_vec_in, update_in}
 
 module _ {C S : Type 0} (s : Setup C S) (w : World C S) (d : DirectoryView C S) where

@@ -3,11 +3,11 @@ use Rattle.std.specs.Prelude.{List, Option}
 use Rattle.std.specs.declared.cmp.Ordering.{Ordering}
 use Rattle.p2p_discovery.specs.declared.discovery.PayloadConfig.{PayloadConfig}
 use Rattle.p2p_discovery.specs.Judgement.{Verifier}
-use Rattle.p2p_directory.specs.declared.directory.Metadata.{Metadata}
+use Rattle.p2p_tracker.specs.declared.directory.Metadata.{Metadata}
 use Rattle.p2p_directory.specs.declared.run.commands.Command.{Command}
 use Rattle.p2p_directory.specs.declared.run.commands.Reply.{Reply}
-use Rattle.p2p_directory.specs.Calls.{Call}
-use Rattle.p2p_directory.specs.Directory.{DirectoryView}
+use Rattle.p2p_tracker.specs.Calls.{Call}
+use Rattle.p2p_tracker.specs.Directory.{DirectoryView}
 use Rattle.p2p_directory.specs.Nodes.{NodeView, Made, NodeStandsAt, AtEach}
 use Rattle.p2p_directory.specs.Private.Slots.{contents}
 use Rattle.p2p_directory.specs.Run.{call_of, next, IsAnswer}

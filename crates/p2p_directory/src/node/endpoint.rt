@@ -7,7 +7,7 @@ ghost use Rattle.p2p_discovery.specs.Payload.{CanSpell, payload_spelling, IsPayl
 ghost use Rattle.p2p_discovery.specs.Payload.{IsKeyedPayload};
 ghost use Rattle.p2p_discovery.specs.Judgement.{judge_of, refusal, list_refusal};
 ghost use Rattle.p2p_discovery.specs.declared.discovery.Payload.TheVariants.{Peers};
-ghost use Rattle.p2p_directory.specs.Directory.{bit_vec_at, infos_in};
+ghost use Rattle.p2p_tracker.specs.Directory.{bit_vec_at, infos_in};
 ghost use Rattle.p2p_directory.specs.Held.{held_of, AreHeld, ReleasesAll};
 ghost use Rattle.p2p_directory.specs.Run.{call_of, was_made};
 ghost use Rattle.p2p_directory.specs.Received.{wire_of, greeted, replied, taken, takes_room};
@@ -19,13 +19,13 @@ ghost use Rattle.p2p_directory.specs.Private.Serving.{has_room};
 ghost use Rattle.p2p_directory.specs.Private.Slots.{contents, has_slot, held_in};
 ghost use Rattle.p2p_directory.specs.Private.Endpoints.{node_of, IsServedBy};
 
-use crate::directory::Directory;
 use crate::node::{Received, room};
 use crate::run::server::Server;
 use crate::run::{Command, Held, Reply};
 use bytes::Bytes;
 use p2p_discovery::codec::{CodecError, PublicKey, Read, Write};
 use p2p_discovery::discovery::{BitVec, Info, InfoVerifier, Infos, Payload, PayloadConfig};
+use p2p_tracker::directory::Directory;
 use std::alloc::{AllocError, Global};
 use std::marker::Model;
 use std::time::Duration;

@@ -15,7 +15,6 @@ ghost use Rattle.p2p_directory.specs.Laws.Network.{Acquaint, TakesGreeting, Repl
 ghost use Rattle.p2p_directory.specs.Laws.Network.{TakesFrame, LeavesOthers, Isolate, Reorder};
 ghost use Rattle.p2p_directory.specs.Private.Endpoints.{node_of};
 
-use crate::directory::Directory;
 use crate::node::endpoint::Endpoint;
 use crate::node::exchanged::Exchanged;
 use crate::node::network::ends::{ask, exchange, make_room, receive, serve, step};
@@ -23,6 +22,7 @@ use crate::node::{Node, Received, Setup};
 use crate::run::{Command, Reply};
 use bytes::Bytes;
 use p2p_discovery::codec::PublicKey;
+use p2p_tracker::directory::Directory;
 use std::alloc::{AllocError, Global};
 use std::marker::Model;
 use std::time::Duration;

@@ -1,10 +1,10 @@
 //! Commands and their replies.
 
-use crate::directory::{PeerSetUpdate, TrackedPeers};
-use crate::record::{Dialable, Status};
 use p2p_discovery::codec::PublicKey;
 use p2p_discovery::discovery::{BitVec, Info};
 use p2p_discovery::sets::OrderedSet;
+use p2p_tracker::directory::{PeerSetUpdate, TrackedPeers};
+use p2p_tracker::record::{Dialable, Status};
 use std::fmt;
 use std::time::Duration;
 

@@ -5,12 +5,12 @@ ghost use Rattle.std.specs.Prelude.{length, map, is_some, slice_get, ifâ—Œthenâ—
 ghost use Rattle.std.specs.Option.{option_map};
 ghost use Rattle.std.specs.BTreeMap.{is_at};
 ghost use Rattle.std.specs.List.Sorted.{IsStrictlySortedBy};
-ghost use Rattle.p2p_directory.specs.Directory.{key_of};
+ghost use Rattle.p2p_tracker.specs.Directory.{key_of};
 ghost use Rattle.p2p_directory.specs.Held.{held_of, all_but, AreHeld, ReleasesAll};
 ghost use Rattle.p2p_directory.specs.Private.Slots.{held_in, AreFull};
 
-use crate::directory::{Directory, Reservation};
 use p2p_discovery::codec::PublicKey;
+use p2p_tracker::directory::{Directory, Reservation};
 use std::collections::BTreeMap;
 use std::marker::Model;
 
@@ -23,7 +23,7 @@ pub struct Held<C: PublicKey> {
 
 impl<C: PublicKey> Model for Held<C> {
     ghost use Rattle.std.specs.Prelude.{List};
-    ghost use Rattle.p2p_directory.specs.declared.directory.Metadata.{Metadata};
+    ghost use Rattle.p2p_tracker.specs.declared.directory.Metadata.{Metadata};
 
     ghost Value = { List (Metadata C C.Signature) };
 

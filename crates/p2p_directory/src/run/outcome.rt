@@ -2,10 +2,10 @@
 
 ghost use Rattle.p2p_directory.specs.Held.{held_of, AreHeld};
 
-use crate::directory::Directory;
 use crate::run::commands::Reply;
 use crate::run::held::Held;
 use p2p_discovery::codec::PublicKey;
+use p2p_tracker::directory::Directory;
 
 /// What a run leaves. A reservation is held of exactly the peers that are reserved or connected in
 /// the directory.

@@ -1,15 +1,13 @@
 //! A directory that serves commands, and holds what it grants.
 
 ghost use Rattle.std.specs.Prelude.{◌≡◌, true, false, None, OnOk, OnErr, IfSome};
-ghost use Rattle.p2p_directory.specs.Directory.{Updates};
+ghost use Rattle.p2p_tracker.specs.Directory.{Updates};
 ghost use Rattle.p2p_directory.specs.Held.{held_of, AreHeld};
 ghost use Rattle.p2p_directory.specs.Private.Slots.{has_slot, held_in, AreSlots};
 ghost use Rattle.p2p_directory.specs.Private.Serving.{has_room, IsServed};
 ghost use Rattle.p2p_directory.specs.Nodes.{may_reserve};
 ghost use Rattle.p2p_directory.specs.Run.{call_of, was_made};
 
-use crate::directory::{Directory, TrackedPeers};
-use crate::record::Status;
 use crate::run::commands::{Command, Reply};
 use crate::run::held::Held;
 use crate::run::make_slot;
@@ -17,6 +15,8 @@ use crate::run::outcome::Run;
 use crate::run::slots::Slots;
 use p2p_discovery::codec::PublicKey;
 use p2p_discovery::discovery::Info;
+use p2p_tracker::directory::{Directory, TrackedPeers};
+use p2p_tracker::record::Status;
 use std::alloc::AllocError;
 use std::marker::Model;
 use std::time::Duration;

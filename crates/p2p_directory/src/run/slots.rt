@@ -4,13 +4,13 @@
 ghost use Rattle.std.specs.Prelude.{◌≡◌, [], false, true, ◌||◌, if◌then◌else◌};
 ghost use Rattle.std.specs.Prelude.{IfSome, IfNone, OnOk, OnErr, None, Some, is_some};
 ghost use Rattle.std.specs.BTreeMap.{is_at};
-ghost use Rattle.p2p_directory.specs.Directory.{key_of};
+ghost use Rattle.p2p_tracker.specs.Directory.{key_of};
 ghost use Rattle.p2p_directory.specs.Held.{held_of};
 ghost use Rattle.p2p_directory.specs.Private.Slots.{slot_of, has_slot, held_in, AreSlots};
 
-use crate::directory::Reservation;
 use crate::run::held::Held;
 use p2p_discovery::codec::PublicKey;
+use p2p_tracker::directory::Reservation;
 use std::alloc::{AllocError, AllocFailed, Global};
 use std::cmp::Ordering;
 use std::collections::BTreeMap;
@@ -27,7 +27,7 @@ pub struct Slots<C: PublicKey> {
 
 impl<C: PublicKey> Model for Slots<C> {
     ghost use Rattle.std.specs.Prelude.{List, Option};
-    ghost use Rattle.p2p_directory.specs.declared.directory.Metadata.{Metadata};
+    ghost use Rattle.p2p_tracker.specs.declared.directory.Metadata.{Metadata};
 
     ghost Value = { List (C × Option (Metadata C C.Signature)) };
 

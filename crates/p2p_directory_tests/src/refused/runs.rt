@@ -1,6 +1,5 @@
 //! Runs of commands: what is replied is what the others alone are replied.
 
-use crate::calls::info;
 use crate::pair::{Deed, ROWS, setup};
 use crate::refused::pair::{commands_of, is_out_of_memory};
 use crate::refused::words::{Words, tells};
@@ -11,6 +10,7 @@ use low_memory::LowMemory;
 use p2p_directory::node::{PairReply, PairRun, Side, run_pair};
 use p2p_directory::run::{Command, Reply, Run, run};
 use p2p_discovery::codec::TestKey;
+use p2p_tracker_tests::fixtures::info;
 use std::alloc::{AllocError, Global};
 use std::fmt::Write;
 use std::process::Abort;

@@ -1,14 +1,13 @@
 //! Directories and nodes that are made.
 
-use crate::calls::{config, info};
 use crate::pair::{ROWS, setup};
 use crate::refused::words::tells;
 use crate::refused::{Scenario, blocks_of};
-use crate::run::given::bootstrappers_of;
 use low_memory::LowMemory;
 use p2p_directory::directory::Directory;
 use p2p_directory::node::{Node, Setup};
 use p2p_discovery::codec::TestKey;
+use p2p_tracker_tests::fixtures::{bootstrappers_of, config, info};
 use std::alloc::{AllocError, Global};
 use std::process::Abort;
 use std::test::Fail;

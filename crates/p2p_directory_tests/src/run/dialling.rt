@@ -7,9 +7,11 @@ ghost use Rattle.p2p_directory.specs.Held.{held_of, AreHeld};
 use super::*;
 use p2p_directory::directory::{Directory, Metadata, TrackedPeers};
 use p2p_directory::run::Held;
-use p2p_discovery::codec::PublicKey;
+use p2p_discovery::codec::{PublicKey, TestSignature};
+use p2p_discovery::discovery::Info;
 use p2p_discovery::sets::OrderedSet;
-use p2p_discovery::types::Hostname;
+use p2p_discovery::types::{Hostname, Ingress, IpAddr, SocketAddr};
+use p2p_tracker_tests::fixtures::ingress;
 
 fn name(alloc: Global, port: u16) -> Result<Ingress, Fail> {
     Ok(Ingress::Dns {

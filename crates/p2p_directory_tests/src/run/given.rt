@@ -3,15 +3,14 @@
 ghost use Rattle.std.specs.Prelude.{◌<◌};
 ghost use Rattle.std.specs.Int.NonZero.{non_zero_usize_get};
 
-use crate::calls::{info, tracked};
-use crate::run::ingress;
 use crate::run::told::{Moment, Told};
 use p2p_directory::directory::Config;
 use p2p_directory::run::{Command, Run, run};
-use p2p_discovery::codec::{TestKey, TestSignature};
-use p2p_discovery::discovery::{BitVec, Info};
+use p2p_discovery::codec::TestKey;
+use p2p_discovery::discovery::BitVec;
 use p2p_discovery::sets::BitMap;
 use p2p_discovery::types::Ingress;
+use p2p_tracker_tests::fixtures::{bootstrappers_of, info, infos_of, ingress, tracked};
 use std::alloc::{AllocError, Global};
 use std::process::Abort;
 use std::time::Duration;
@@ -51,20 +50,6 @@ pub enum Given {
 
 fn seconds(count: u64) -> Duration {
     Duration::from_secs(count)
-}
-
-/// The infos of keys, timestamps and ports.
-pub fn infos_of(alloc: Global, told: &[(u64, u64, u16)]) -> Result<Vec<Info<TestKey>>, AllocError> {
-    let mut infos = Vec::new(alloc);
-    for (key, timestamp, port) in told {
-        infos.push(Info {
-            ingress: ingress(*port),
-            timestamp: *timestamp,
-            public_key: TestKey(*key),
-            signature: TestSignature(0),
-        })?;
-    }
-    Ok(infos)
 }
 
 impl Given {
@@ -155,17 +140,6 @@ fn commands_of(
 }
 
 /// Peers at 1.2.3.4 and a port.
-pub fn bootstrappers_of(
-    alloc: Global,
-    peers: &[(u64, u16)],
-) -> Result<Vec<(TestKey, Ingress)>, AllocError> {
-    let mut bootstrappers = Vec::new(alloc);
-    for (key, port) in peers {
-        bootstrappers.push((TestKey(*key), ingress(*port)))?;
-    }
-    Ok(bootstrappers)
-}
-
 /// What a run of node 9 leaves, whose commands were each replied what stands beside it. The
 /// bootstrappers are keys with ports.
 pub fn served(

@@ -1,8 +1,8 @@
 //! Which infos a run tells to one who knows some bits.
 
-use crate::calls::config;
 use crate::run::given::{Given, served};
 use crate::run::told::Told;
+use p2p_tracker_tests::fixtures::config;
 use std::test::Fail;
 
 static TELLS_WHAT_MAY_BE_SHARED_BY_NOW: [(Given, Told); 12] = [

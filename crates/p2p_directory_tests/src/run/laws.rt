@@ -1,13 +1,13 @@
 //! Runs of which the laws of whole runs speak: bounds, orders of infos, and peers left alone.
 
-use crate::calls::{config, info};
 use crate::run::given::{Given, served};
 use crate::run::told::Told;
-use crate::run::{ingress, window};
+use crate::run::window;
 use p2p_directory::record::Status;
 use p2p_directory::run::{Command, Reply, run};
 use p2p_discovery::codec::{TestKey, TestSignature};
 use p2p_discovery::discovery::Info;
+use p2p_tracker_tests::fixtures::{config, info, ingress};
 use std::alloc::{AllocError, Global};
 use std::test::Fail;
 

@@ -1,6 +1,5 @@
 //! Replies that a test wants, written shortly.
 
-use crate::run::ingress;
 use p2p_directory::directory::{PeerSetUpdate, TrackedPeers};
 use p2p_directory::record::{Dialable, Status};
 use p2p_directory::run::Reply;
@@ -8,6 +7,7 @@ use p2p_discovery::codec::TestKey;
 use p2p_discovery::discovery::{BitVec, Info};
 use p2p_discovery::sets::BitMap;
 use p2p_discovery::types::Ingress;
+use p2p_tracker_tests::fixtures::ingress;
 use std::time::Duration;
 
 /// A moment: seconds and nanoseconds since the epoch.

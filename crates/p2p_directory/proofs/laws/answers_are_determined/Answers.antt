@@ -1,7 +1,7 @@
 use Rattle.std.proofs.Common.{subst, sym}
 use Rattle.std.specs.Cmp.{IsTotalOrder}
 use Rattle.p2p_directory.proofs.Definitions.Keys.{exact_from}
-use Rattle.p2p_directory.proofs.Definitions.Listed
+use Rattle.p2p_tracker.proofs.Definitions.Listed
 use Rattle.p2p_directory.proofs.laws.answers_are_determined.Goals as goal
 
 pub returns-clause-lists : goal.returns-clause-lists

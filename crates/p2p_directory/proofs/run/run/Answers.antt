@@ -2,7 +2,7 @@ use Rattle.std.proofs.Common.{◌≡◌, ◌<◌, ◌^◌, [], true, length, sym
 use Rattle.std.specs.Prelude.{is_some}
 use Rattle.std.proofs.lemmas.List.{length_push}
 use Rattle.p2p_directory.specs.Refinement.{Refines}
-use Rattle.p2p_directory.specs.Directory.{bit_vec_at}
+use Rattle.p2p_tracker.specs.Directory.{bit_vec_at}
 use Rattle.p2p_directory.specs.Run.{setup_of, calls_of, world_after, accepted, AreAnswers, bit_vec_in, Holds}
 use Rattle.p2p_directory.specs.Private.Serving.{has_room}
 use Rattle.p2p_directory.specs.Private.Slots.{held_in}
@@ -16,7 +16,8 @@ use Rattle.p2p_directory.proofs.LawsOfRuns.OrderRuns.{keep_order}
 use Rattle.p2p_directory.proofs.LawsOfRuns.BoundRuns.{keep_bound}
 use Rattle.p2p_directory.proofs.Refinement.KnowledgeRefines.{tie_bits}
 use Rattle.p2p_directory.proofs.Reservations.Served.{are_held, stands_at_start}
-use Rattle.p2p_directory.proofs.Reservations.Replies.{item_left, item_moved, item_has, all_moved, one_more, room_stays}
+use Rattle.p2p_tracker.proofs.SetsAndRecords.Moved.{item_left, item_moved, item_has, all_moved}
+use Rattle.p2p_directory.proofs.Reservations.Replies.{one_more, room_stays}
 use Rattle.p2p_directory.proofs.run.run.Goals as goal
 
 pub new-server-requires : goal.new-server-requires

@@ -7,7 +7,7 @@ ghost use Rattle.p2p_discovery.specs.declared.discovery.Info.{Info};
 ghost use Rattle.p2p_discovery.specs.declared.discovery.Payload.TheVariants as said;
 ghost use Rattle.p2p_discovery.specs.Judgement.{judge_of, list_refusal};
 ghost use Rattle.p2p_discovery.specs.Payload.{IsAdmitted, payload_spelling};
-ghost use Rattle.p2p_directory.specs.Directory.{infos_in};
+ghost use Rattle.p2p_tracker.specs.Directory.{infos_in};
 ghost use Rattle.p2p_directory.specs.Received.{wire_of};
 ghost use Rattle.p2p_directory.specs.Nodes.{standing_of, IsLeft};
 ghost use Rattle.p2p_directory.specs.Exchange.{asked_at, replied_at, judged_at, IsAnswer};

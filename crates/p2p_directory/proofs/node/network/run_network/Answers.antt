@@ -10,7 +10,7 @@ use Rattle.p2p_directory.specs.Received.{wire_of}
 use Rattle.p2p_directory.specs.Private.Networks.{HasRoomFor, KeepSlots, nodes_of}
 use Rattle.p2p_directory.proofs.Nodes.NetworkRuns.{one_more, written_push}
 use Rattle.p2p_directory.proofs.Nodes.Networks.{room_for_stays}
-use Rattle.p2p_directory.proofs.Reservations.Replies.{item_left, item_moved, item_has, all_moved}
+use Rattle.p2p_tracker.proofs.SetsAndRecords.Moved.{item_left, item_moved, item_has, all_moved}
 use Rattle.std.specs.declared.cmp.Ordering.{Ordering}
 use Rattle.std.proofs.lemmas.Bool.{ltb-true}
 use Rattle.p2p_directory.specs.declared.node.Setup.{Setup as Given}

@@ -1,7 +1,7 @@
 use Rattle.std.proofs.Common.{[], ◌∷◌, ◌++◌, length, sym, ◌∙◌, ap, arith}
 use Rattle.std.proofs.lemmas.List.{length_push, map-append}
 use Rattle.p2p_directory.specs.Pairs.{command_in, commands_in}
-use Rattle.p2p_directory.proofs.Reservations.Replies.{item_left, item_moved, all_moved}
+use Rattle.p2p_tracker.proofs.SetsAndRecords.Moved.{item_left, item_moved, all_moved}
 use Rattle.p2p_directory.proofs.node.pair.network_commands.Goals as goal
 
 pub loop-command-init : goal.loop-command-init

@@ -2,7 +2,7 @@ use Rattle.std.proofs.Common.{◌≡◌, true, [], ◌∷◌, ◌++◌, length, 
 use Rattle.std.proofs.lemmas.List.{length_push, map-append}
 use Rattle.p2p_directory.specs.Pairs.{reply_in, replies_in}
 use Rattle.p2p_directory.specs.Private.Networks.{is_of_node}
-use Rattle.p2p_directory.proofs.Reservations.Replies.{item_left, item_moved, item_has, all_moved}
+use Rattle.p2p_tracker.proofs.SetsAndRecords.Moved.{item_left, item_moved, item_has, all_moved}
 use Rattle.p2p_directory.proofs.node.pair.pair_replies.Goals as goal
 
 pub loop-reply-init : goal.loop-reply-init

@@ -2,9 +2,9 @@ use Rattle.std.proofs.Common.{length, Some, sym, ap, ◌∙◌, arith, subst}
 use Rattle.std.specs.Prelude.{IfSome}
 use Rattle.std.specs.Option.{option_map}
 use Rattle.std.specs.Duration.{as_nanos}
-use Rattle.p2p_directory.specs.Directory.{infos_in}
+use Rattle.p2p_tracker.specs.Directory.{infos_in}
 use Rattle.p2p_directory.specs.Private.Frames.{HaveSpelling}
-use Rattle.p2p_directory.proofs.SetsAndRecords.Shared.{few_told}
+use Rattle.p2p_tracker.proofs.SetsAndRecords.Shared.{few_told}
 use Rattle.p2p_directory.proofs.node.endpoint.Endpoint.reply_frame.Goals as goal
 
 pub frame_of-requires : goal.frame_of-requires

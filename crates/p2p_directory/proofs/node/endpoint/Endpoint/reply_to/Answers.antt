@@ -1,7 +1,7 @@
 use Rattle.std.proofs.Common.{sym, ◌∙◌, arith, subst}
 use Rattle.std.specs.Duration.{as_nanos}
 use Rattle.p2p_discovery.specs.Payload.{IsAdmitted, payload_spelling}
-use Rattle.p2p_directory.specs.Directory.{infos_in}
+use Rattle.p2p_tracker.specs.Directory.{infos_in}
 use Rattle.p2p_directory.specs.Received.{wire_of}
 use Rattle.p2p_directory.specs.Nodes.{standing_of}
 use Rattle.p2p_directory.specs.Exchange.{replied_at}

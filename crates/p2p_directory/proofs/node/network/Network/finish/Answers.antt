@@ -3,7 +3,7 @@ use Rattle.std.proofs.lemmas.List.{length_push}
 use Rattle.p2p_directory.specs.Network.{AreReleased}
 use Rattle.p2p_directory.specs.Private.Networks.{nodes_of}
 use Rattle.p2p_directory.proofs.Nodes.NetworkRuns.{both_push, IsReleased, are_released}
-use Rattle.p2p_directory.proofs.Reservations.Replies.{item_left, item_moved, all_moved}
+use Rattle.p2p_tracker.proofs.SetsAndRecords.Moved.{item_left, item_moved, all_moved}
 use Rattle.p2p_directory.proofs.node.network.Network.finish.Goals as goal
 
 pub loop-end-init : goal.loop-end-init

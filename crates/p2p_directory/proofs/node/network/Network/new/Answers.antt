@@ -5,7 +5,7 @@ use Rattle.p2p_discovery.specs.Info.{IsInfo, IsKeyed}
 use Rattle.p2p_directory.specs.Received.{wire_of}
 use Rattle.p2p_directory.proofs.Nodes.NetworkRuns.{OfBoth, both_push, all_push, IsNew}
 use Rattle.p2p_directory.proofs.Nodes.NetworkRuns.{stand_at_start}
-use Rattle.p2p_directory.proofs.Reservations.Replies.{item_left, item_moved, all_moved}
+use Rattle.p2p_tracker.proofs.SetsAndRecords.Moved.{item_left, item_moved, all_moved}
 use Rattle.p2p_directory.proofs.node.network.Network.new.Goals as goal
 
 pub loop-setup-init : goal.loop-setup-init

@@ -3,10 +3,10 @@ use Rattle.std.specs.Prelude.{if◌then◌else◌}
 use Rattle.std.specs.Option.{option_map}
 use Rattle.std.specs.BTreeMap.{is_at}
 use Rattle.p2p_discovery.specs.declared.types.ingress.Ingress.{Ingress}
-use Rattle.p2p_directory.specs.declared.directory.Metadata.{Metadata}
-use Rattle.p2p_directory.specs.declared.directory.Metadata.TheVariants as metadata
-use Rattle.p2p_directory.specs.Record.{reserved_record}
-use Rattle.p2p_directory.specs.Directory.{key_of, ingress_in, IsBusy}
+use Rattle.p2p_tracker.specs.declared.directory.Metadata.{Metadata}
+use Rattle.p2p_tracker.specs.declared.directory.Metadata.TheVariants as metadata
+use Rattle.p2p_tracker.specs.Record.{reserved_record}
+use Rattle.p2p_tracker.specs.Directory.{key_of, ingress_in, IsBusy}
 use Rattle.p2p_directory.specs.Private.Slots.{held_in}
 use Rattle.p2p_directory.proofs.Reservations.Holding.{held_by_grant}
 use Rattle.std.specs.Duration.{as_nanos}

@@ -2,7 +2,7 @@ use Rattle.std.proofs.Common.{◌≡◌, Bool, true, false, Option, Some, None, 
 use Rattle.std.specs.Option.{IsSomeAnd}
 use Rattle.p2p_discovery.specs.declared.discovery.Info.{Info}
 use Rattle.p2p_discovery.specs.Ingress.{takes_none}
-use Rattle.p2p_directory.specs.Directory.{sharable_in}
+use Rattle.p2p_tracker.specs.Directory.{sharable_in}
 use Rattle.p2p_directory.specs.Run.{setup_of}
 use Rattle.p2p_directory.proofs.Reservations.Told
 use Rattle.p2p_directory.proofs.run.server.Server.info.Goals as goal

@@ -1,10 +1,10 @@
 use Rattle.std.proofs.Common.{◌≡◌, Bool, true, false, List, Option, Some, None, sym, subst, ◌∙◌, refl}
 use Rattle.std.specs.Prelude.{IfSome, IfNone}
 use Rattle.std.specs.declared.cmp.Ordering.{Ordering}
-use Rattle.p2p_directory.specs.declared.directory.Metadata.{Metadata}
-use Rattle.p2p_directory.specs.Calls.{SetAt}
-use Rattle.p2p_directory.specs.PeerSets.{set_of}
-use Rattle.p2p_directory.specs.Directory.{DirectoryView, TakesSet}
+use Rattle.p2p_tracker.specs.declared.directory.Metadata.{Metadata}
+use Rattle.p2p_tracker.specs.Calls.{SetAt}
+use Rattle.p2p_tracker.specs.PeerSets.{set_of}
+use Rattle.p2p_tracker.specs.Directory.{DirectoryView, TakesSet}
 use Rattle.p2p_directory.specs.Held.{AreHeld}
 use Rattle.p2p_directory.specs.Private.Slots.{held_in}
 use Rattle.p2p_directory.specs.Run.{setup_of}

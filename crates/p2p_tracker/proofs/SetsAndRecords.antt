@@ -1,0 +1,22 @@
+-- Retained sets, records and their counts: what holds between calls.
+pub mod Naming
+pub mod Entries
+pub mod Listing
+pub mod Blocks
+pub mod Ends
+pub mod Cooldowns
+pub mod Places
+pub mod Dialables
+pub mod Counting
+pub mod Consistent
+pub mod Retained
+pub mod Windows
+pub mod Indexed
+pub mod Changes
+pub mod Own
+pub mod Bootstrapped
+pub mod Infos
+pub mod Shared
+pub mod Taken
+pub mod Cooled
+pub mod Moved

@@ -1,0 +1,192 @@
+-- The moments of records are those that are kept of their peers: calls keep it so.
+use Rattle.std.proofs.Common.{◌≡◌, ℕ, Bool, true, false, List, Option, Some, None, IfSome, sym, ap, subst, refl, ◌∙◌}
+use Rattle.std.specs.Prelude.{if◌then◌else◌, nat_le}
+use Rattle.std.specs.declared.cmp.Ordering.{Ordering}
+use Rattle.std.specs.Option.{option_map}
+use Rattle.std.specs.BTreeMap.{is_at}
+use Rattle.p2p_discovery.specs.declared.discovery.Info.{Info}
+use Rattle.p2p_discovery.specs.declared.types.ingress.Ingress.{Ingress}
+use Rattle.p2p_tracker.specs.declared.record.Address.TheVariants.{Myself, Bootstrapper}
+use Rattle.p2p_tracker.specs.declared.record.Status.{Status}
+use Rattle.p2p_tracker.specs.declared.directory.Metadata.{Metadata}
+use Rattle.p2p_tracker.specs.Calls.{SetAt, Cooldown}
+use Rattle.p2p_tracker.specs.World.{last_ingress_by, reservable_from, dialable_from}
+use Rattle.p2p_tracker.specs.Answers.{is_cooled_by}
+use Rattle.p2p_tracker.specs.Record.{RecordView, new_record, with_cooldown, moments_after, reserved_record}
+use Rattle.p2p_tracker.specs.Record.{is_deletable, with_counts, fresh}
+use Rattle.p2p_tracker.specs.PeerSets.{set_count}
+use Rattle.p2p_tracker.specs.declared.record.Role.TheVariants.{Primary, Secondary}
+use Rattle.p2p_tracker.specs.Directory.{first_record, is_known, has_status, released_record, kept_after_release}
+use Rattle.p2p_tracker.specs.Directory.{connected_record, updated_record, record_with_sets}
+use Rattle.p2p_tracker.specs.Cooldowns.{unless_cooled}
+use Rattle.p2p_tracker.specs.Private.Window.{SetWithBits}
+use Rattle.p2p_tracker.specs.Private.Counts.{AreCooled, IsWhole}
+use Rattle.p2p_tracker.proofs.SetsAndRecords.Changes.{IsSound, IsKept, kept_same, each_sound, bits_same}
+use Rattle.p2p_tracker.proofs.SetsAndRecords.Changes.{changed_with_bits}
+
+module _ {C S : Type 0} where
+  -- what is kept has these moments
+  abbrev pub HasMoments : Option Cooldown → Option (RecordView C S) → Type 0
+  HasMoments k o = o ≡ option_map (with_cooldown k) o
+
+  -- a change leaves moments as they are
+  abbrev pub KeepsMoments : (Option (RecordView C S) → Option (RecordView C S)) → Type 0
+  KeepsMoments f = (k : Option Cooldown) (o : Option (RecordView C S)) → HasMoments k o → HasMoments k (f o)
+
+  -- what may go has its moments
+  goes : (k : Option Cooldown) (r : RecordView C S) (b : Bool) →
+      (if b then None else Some (with_cooldown k r)) ≡ option_map (with_cooldown k) (if b then None else Some r)
+  goes k r true = refl
+  goes k r false = refl
+
+  pub connect_keeps : (dialer : Bool) → KeepsMoments (option_map (connected_record dialer))
+  connect_keeps dialer k None e = refl
+  connect_keeps dialer k (Some r) e = ap (option_map (connected_record dialer)) e
+
+  pub update_keeps : (infos : List (Info C S)) → KeepsMoments (option_map (updated_record infos))
+  update_keeps infos k None e = refl
+  update_keeps infos k (Some r) e = ap (option_map (updated_record infos)) e
+
+  pub release_keeps : (m : Metadata C S) → KeepsMoments (kept_after_release m)
+  release_keeps m k None e = refl
+  release_keeps m k (Some r) e = ap (kept_after_release m) e
+      ∙ goes k (released_record m r) (is_deletable (released_record m r))
+
+  -- moments that are given
+  pub given : (k : Option Cooldown) (o : Option (RecordView C S)) → HasMoments k (option_map (with_cooldown k) o)
+  given k None = refl
+  given k (Some r) = refl
+
+  twice : (k k2 : Option Cooldown) (o : Option (RecordView C S)) →
+      option_map (with_cooldown k2) (option_map (with_cooldown k) o) ≡ option_map (with_cooldown k2) o
+  twice k k2 None = refl
+  twice k k2 (Some r) = refl
+
+  -- moments that go
+  pub emptied : (b : Bool) (o now new : Option (RecordView C S)) (k k2 : Option Cooldown) →
+      new ≡ (if b then option_map (with_cooldown None) now else now) → k2 ≡ (if b then None else k) →
+      now ≡ option_map (with_cooldown k) o → new ≡ option_map (with_cooldown k2) o
+  emptied true o now new k k2 change is has = change ∙ ap (option_map (with_cooldown None)) has ∙ twice k None o
+      ∙ ap (λ x. option_map (with_cooldown x) o) (sym is)
+  emptied false o now new k k2 change is has = change ∙ has ∙ ap (λ x. option_map (with_cooldown x) o) (sym is)
+
+  -- the moments of a record
+  pub moments_of_record : (k : Option Cooldown) (o : Option (RecordView C S)) → HasMoments k o →
+      IfSome o (λ r. (r.next_reservable_at ≡ reservable_from k) × (r.next_dial_at ≡ dialable_from k))
+  moments_of_record k None e = tt
+  moments_of_record k (Some r) e = let same : r ≡ with_cooldown k r = cc in (
+    ap (λ x. x.next_reservable_at) same,
+    ap (λ x. x.next_dial_at) same,
+  )
+
+  -- what is forgotten of a peer
+  pub forgotten : (now : ℕ) (k k2 : Option Cooldown) (old new : Option (RecordView C S)) → HasMoments k old →
+      k2 ≡ unless_cooled now k → new ≡ option_map (with_cooldown k2) old →
+      new ≡ (if is_cooled_by now k then option_map (with_cooldown None) old else old)
+  forgotten now None k2 old new has is change = change ∙ ap (λ x. option_map (with_cooldown x) old) is ∙ sym has
+  forgotten now (Some c) k2 old new has is change = change ∙ ap (λ x. option_map (with_cooldown x) old) is
+      ∙ go (nat_le c.dial_at now)
+    where
+      go : (b : Bool) → option_map (with_cooldown (if b then None else Some c)) old
+          ≡ (if b then option_map (with_cooldown None) old else old)
+      go true = refl
+      go false = sym has
+
+  kept_cooled : (k : Option Cooldown) (o : Option (RecordView C S)) → IsSound o →
+      IsKept o (option_map (with_cooldown k) o)
+  kept_cooled k None sound = kept_same None sound
+  kept_cooled k (Some r) sound = record { sound = sound; primary = refl; secondary = refl; own = refl }
+
+  known_cooled : (limit : ℕ) (k : Option Cooldown) (o : Option (RecordView C S)) →
+      is_known limit (option_map (with_cooldown k) o) ≡ is_known limit o
+  known_cooled limit k None = refl
+  known_cooled limit k (Some r) = refl
+
+  -- moments leave each status
+  pub status_with_moments : (test : Status → Bool) (k : Option Cooldown) (o : Option (RecordView C S)) →
+      has_status test (option_map (with_cooldown k) o) ≡ has_status test o
+  status_with_moments test k None = refl
+  status_with_moments test k (Some r) = refl
+
+module _ {C S : Type 0} (cmp : C → C → Ordering) where
+  -- at first no moments are kept
+  pub first_cooled : (bootstrappers : List (C × Ingress)) (own : Info C S) (q : C) →
+      HasMoments None (first_record cmp bootstrappers own q)
+  first_cooled bootstrappers own q = go (is_at (cmp own.public_key) q) (last_ingress_by cmp q bootstrappers)
+    where
+      made : Bool → Option Ingress → Option (RecordView C S)
+      made b o = if b then Some (new_record (Myself own) true) else option_map (λ ingress. new_record
+          (Bootstrapper ingress) true) o
+
+      go : (b : Bool) (o : Option Ingress) → HasMoments None (made b o)
+      go true o = refl
+      go false None = refl
+      go false (Some a) = refl
+
+  -- one record changes
+  pub cooled_at : (old new : C → Option (RecordView C S)) (cooldowns : C →
+      Option Cooldown) (p : C) (f : Option (RecordView C S) → Option (RecordView C S)) → AreCooled cmp old cooldowns →
+      ((q : C) → new q ≡ (if is_at (cmp p) q then f (old q) else old q)) → KeepsMoments f → AreCooled cmp new cooldowns
+  cooled_at old new cooldowns p f was change keeps q = change q ∙ go (is_at (cmp p) q)
+      ∙ ap (option_map (with_cooldown (cooldowns q))) (sym (change q))
+    where
+      go : (b : Bool) → HasMoments (cooldowns q) (if b then f (old q) else old q)
+      go true = keeps (cooldowns q) (old q) (was q)
+      go false = was q
+
+  -- each record changes
+  pub cooled_each : (old new : C → Option (RecordView C S)) (cooldowns : C → Option Cooldown) (f : C →
+      Option (RecordView C S) → Option (RecordView C S)) → AreCooled cmp old cooldowns →
+      ((q : C) → new q ≡ f q (old q)) → ((q : C) (o : Option (RecordView C S)) → HasMoments (cooldowns q) o →
+      HasMoments (cooldowns q) (f q o)) → AreCooled cmp new cooldowns
+  cooled_each old new cooldowns f was change keeps q = change q ∙ keeps q (old q) (was q)
+      ∙ ap (option_map (with_cooldown (cooldowns q))) (sym (change q))
+
+  -- p is reserved, and the moments of this grant are kept
+  pub cooled_reserved : (old new : C → Option (RecordView C S)) (cooldowns cooldowns2 : C →
+      Option Cooldown) (p : C) (now draw cooldown : ℕ) → AreCooled cmp old cooldowns →
+      ((q : C) → new q ≡ (if is_at (cmp p) q then option_map (reserved_record now draw cooldown) (old q) else old q)) →
+      ((q : C) → cooldowns2 q ≡ (if is_at (cmp p) q then Some (moments_after now draw cooldown) else cooldowns q)) →
+      AreCooled cmp new cooldowns2
+  cooled_reserved old new cooldowns cooldowns2 p now draw cooldown was change kept q =
+      change q ∙ go (is_at (cmp p) q) ∙ (λ i. option_map (with_cooldown (sym (kept q) i)) (sym (change q) i))
+    where
+      granted : (o : Option (RecordView C S)) → HasMoments (Some (moments_after now draw cooldown))
+          (option_map (reserved_record now draw cooldown) o)
+      granted None = refl
+      granted (Some r) = refl
+
+      go : (b : Bool) → HasMoments (if b then Some (moments_after now draw cooldown) else cooldowns q)
+          (if b then option_map (reserved_record now draw cooldown) (old q) else old q)
+      go true = granted (old q)
+      go false = was q
+
+  -- each record is given the moments that are kept
+  pub cooled_anew : (max limit : ℕ) (window : List (SetWithBits C)) (old new : C →
+      Option (RecordView C S)) (cooldowns cooldowns2 : C → Option Cooldown) →
+      IsWhole cmp max limit window old cooldowns →
+      ((q : C) → new q ≡ option_map (with_cooldown (cooldowns2 q)) (old q)) →
+      IsWhole cmp max limit window new cooldowns2
+  cooled_anew max limit window old new cooldowns cooldowns2 was change = record {
+    whole =
+        changed_with_bits cmp max limit window window old new was.whole
+        (λ q. subst (IsKept (old q)) (sym (change q)) (kept_cooled (cooldowns2 q) (old q)
+        (each_sound cmp max limit window old was.whole q))) refl
+        (bits_same cmp limit window old new was.whole.bits (λ q. ap (is_known limit) (change q)
+        ∙ known_cooled limit (cooldowns2 q) (old q)));
+    cooled = λ q. change q ∙ given (cooldowns2 q) (old q)
+        ∙ ap (option_map (with_cooldown (cooldowns2 q))) (sym (change q));
+  }
+
+  -- these are the sets
+  pub cooled_with_sets : (sets : List (SetAt C)) (k : Option Cooldown) (q : C) (o : Option (RecordView C S)) →
+      HasMoments k o → HasMoments k (record_with_sets cmp sets k q o)
+  cooled_with_sets sets k q None e = goes k (counted (fresh k)) (is_deletable (counted (fresh k)))
+    where
+      counted : RecordView C S → RecordView C S
+      counted r = with_counts (set_count cmp Primary q sets) (set_count cmp Secondary q sets) r
+  cooled_with_sets sets k q (Some r) e = ap (record_with_sets cmp sets k q) e
+      ∙ goes k (counted r) (is_deletable (counted r))
+    where
+      counted : RecordView C S → RecordView C S
+      counted r = with_counts (set_count cmp Primary q sets) (set_count cmp Secondary q sets) r

@@ -1,0 +1,115 @@
+-- What is told of a set: the set with an index, and what is chosen of two lists side by side.
+use Rattle.std.proofs.Common.{◌≡◌, ◌==◌, Bool, true, false, cond, ℕ, zero, suc, ◌+◌, ◌≤◌, List, [], ◌∷◌, ◌++◌, length, drop, Option, Some, None, refl, sym, ◌∙◌, ap, subst, arith, zip, filter_map, slice_get}
+use Rattle.std.specs.Prelude.{option_to_list, if◌then◌else◌}
+use Rattle.std.specs.Option.{option_map}
+use Rattle.std.specs.List.{cons_option}
+use Rattle.std.specs.Map.{keys_of}
+use Rattle.std.specs.declared.cmp.Ordering.{Ordering}
+use Rattle.p2p_discovery.specs.declared.discovery.Info.{Info}
+use Rattle.p2p_tracker.specs.Calls.{SetAt}
+use Rattle.p2p_tracker.specs.Answers.{epoch_millis}
+use Rattle.p2p_tracker.specs.PeerSets.{set_with}
+use Rattle.p2p_tracker.specs.Record.{RecordView}
+use Rattle.p2p_tracker.specs.Directory.{DirectoryView, shared_at, shared_of, shared_for, infos_in}
+use Rattle.p2p_tracker.specs.Private.Window.{SetWithBits, plain_set, plain_sets, set_at}
+
+-- the set with an index, without its bits
+plain_found : {C : Type 0} (window : List (SetWithBits C)) (index : ℕ) → set_with index (plain_sets window) ≡ option_map plain_set (set_at window index)
+plain_found [] index = refl
+plain_found (x ∷ window) index = go (x.index == index) (plain_found window index)
+  where
+    go : (b : Bool) → set_with index (plain_sets window) ≡ option_map plain_set (set_at window index) →
+        cond b (Some (plain_set x)) (set_with index (plain_sets window)) ≡ option_map plain_set (cond b (Some x) (set_at window index))
+    go true later = refl
+    go false later = later
+
+module _ {C S : Type 0} (cmp : C → C → Ordering) where
+  -- what is answered of the set that is found, if one is
+  abbrev answered_of : List (C × RecordView C S) → List Bool → ℕ → Option (SetAt C) → Option (List (Info C S))
+  answered_of records bits now o = elim o [
+    | None ↦ Some []
+    | Some set ↦ shared_for cmp records (epoch_millis now) set.primary bits
+  ]
+
+  pub infos_found : (d : DirectoryView C S) (window : List (SetWithBits C)) (index : ℕ) (bits : List Bool) (now : ℕ) (x : SetWithBits C) → d.sets ≡ plain_sets window → set_at window index ≡ Some x →
+      infos_in cmp d index bits now ≡ shared_for cmp d.records (epoch_millis now) (keys_of x.primary) bits
+  infos_found d window index bits now x sets is =
+      ap (answered_of d.records bits now) (ap (set_with index) sets ∙ plain_found window index ∙ ap (option_map plain_set) is)
+
+  pub infos_not_found : (d : DirectoryView C S) (window : List (SetWithBits C)) (index : ℕ) (bits : List Bool) (now : ℕ) → d.sets ≡ plain_sets window → set_at window index ≡ None → infos_in cmp d index bits now ≡ Some []
+  infos_not_found d window index bits now sets is =
+      ap (answered_of d.records bits now) (ap (set_with index) sets ∙ plain_found window index ∙ ap (option_map plain_set) is)
+
+pub next_place : (i : ℕ) → suc i ≡ i + 1
+next_place i = omega (arith)
+
+-- the pair at a place, and those behind it
+pub pair_at : {A B : Type 0} (ps : List A) (bs : List B) (i : ℕ) (p : A) (b : B) → slice_get ps i ≡ Some p → slice_get bs i ≡ Some b → drop i (zip ps bs) ≡ (p, b) ∷ drop (suc i) (zip ps bs)
+pair_at [] bs i p b e f = absurd cc
+pair_at (q ∷ ps) [] i p b e f = absurd cc
+pair_at (q ∷ ps) (c ∷ bs) zero p b e f = λ k. (some_is q p e k, some_is c b f k) ∷ zip ps bs
+  where
+    some_is : {X : Type 0} (x y : X) → Some x ≡ Some y → x ≡ y
+    some_is x y e = cc
+pair_at (q ∷ ps) (c ∷ bs) (suc i) p b e f = pair_at ps bs i p b e f
+
+-- no more is chosen than there are
+few_chosen : {A B X : Type 0} (choose : A × B → Option X) (ps : List A) (bs : List B) → length (filter_map choose (zip ps bs)) ≤ length bs
+few_chosen choose [] bs = omega (arith)
+few_chosen choose (p ∷ ps) [] = omega (arith)
+few_chosen {X = X} choose (p ∷ ps) (b ∷ bs) = go (choose (p, b)) (few_chosen choose ps bs)
+  where
+    go : (o : Option X) → length (filter_map choose (zip ps bs)) ≤ length bs → length (cons_option o (filter_map choose (zip ps bs))) ≤ suc (length bs)
+    go None h = omega (arith, h)
+    go (Some x) h = omega (arith, h)
+
+-- no more infos are told than there are bits
+pub few_told : {C S : Type 0} (cmp : C → C → Ordering) (d : DirectoryView C S) (index : ℕ) (bits : List Bool) (now : ℕ) (is : List (Info C S)) → Some is ≡ infos_in cmp d index bits now → length is ≤ length bits
+few_told {C = C} {S = S} cmp d index bits now is told = go (set_with index d.sets) told
+  where
+    one : (b : Bool) (all : List (Info C S)) → length all ≤ length bits → Some is ≡ (if b then Some all else None) → length is ≤ length bits
+    one true all h e = let same : is ≡ all = cc in subst (λ xs. length xs ≤ length bits) (sym same) h
+    one false all h e = absurd cc
+
+    go : (o : Option (SetAt C)) → Some is ≡ answered_of cmp d.records bits now o → length is ≤ length bits
+    go None e = let same : is ≡ [] = cc in subst (λ xs. length xs ≤ length bits) (sym same) (omega (arith))
+    go (Some x) e = one (length bits == length x.primary) (shared_of cmp d.records (epoch_millis now) x.primary bits) (few_chosen (shared_at cmp d.records (epoch_millis now)) x.primary bits) e
+
+module _ {A B X : Type 0} (choose : A × B → Option X) where
+  -- what is chosen from a place on
+  abbrev pub chosen_from : ℕ → List A → List B → List X
+  chosen_from i ps bs = filter_map choose (drop i (zip ps bs))
+
+  -- .. is what is chosen there, and from the next place on
+  pub chosen_at : (ps : List A) (bs : List B) (i : ℕ) (p : A) (b : B) → slice_get ps i ≡ Some p → slice_get bs i ≡ Some b →
+      chosen_from i ps bs ≡ option_to_list (choose (p, b)) ++ chosen_from (i + 1) ps bs
+  chosen_at ps bs i p b e f =
+      ap (filter_map choose) (pair_at ps bs i p b e f) ∙ joined (choose (p, b)) (chosen_from (suc i) ps bs) ∙ ap (λ k. option_to_list (choose (p, b)) ++ chosen_from k ps bs) (next_place i)
+    where
+      joined : (o : Option X) (xs : List X) → cons_option o xs ≡ option_to_list o ++ xs
+      joined None xs = refl
+      joined (Some x) xs = refl
+
+  -- behind the last nothing is
+  pub chosen_behind : (ps : List A) (bs : List B) (i : ℕ) → length ps ≤ i → chosen_from i ps bs ≡ []
+  chosen_behind ps bs i past = ap (filter_map choose) (none ps bs i past)
+    where
+      none : (ps : List A) (bs : List B) (i : ℕ) → length ps ≤ i → drop i (zip ps bs) ≡ []
+      none [] bs zero past = refl
+      none [] bs (suc i) past = refl
+      none (q ∷ ps) bs zero past = absurd (omega (arith, past))
+      none (q ∷ ps) [] (suc i) past = refl
+      none (q ∷ ps) (c ∷ bs) (suc i) past = none ps bs i (omega (arith, past))
+
+  -- no more is chosen from a place on than at all
+  pub chosen_within : (ps : List A) (bs : List B) (i : ℕ) → length (chosen_from i ps bs) ≤ length (filter_map choose (zip ps bs))
+  chosen_within ps bs i = go (zip ps bs) i
+    where
+      grown : (o : Option X) (xs : List X) → length xs ≤ length (cons_option o xs)
+      grown None xs = omega (arith)
+      grown (Some x) xs = omega (arith)
+
+      go : (es : List (A × B)) (i : ℕ) → length (filter_map choose (drop i es)) ≤ length (filter_map choose es)
+      go es zero = omega (arith)
+      go [] (suc i) = omega (arith)
+      go (e ∷ es) (suc i) = omega (arith, go es i, grown (choose e) (filter_map choose es))

@@ -1,0 +1,39 @@
+use Rattle.std.proofs.Common.{◌∷◌, [], sym, ◌∙◌, ap, refl}
+use Rattle.std.specs.Option.{option_map}
+use Rattle.std.specs.BTreeMap.{is_at}
+use Rattle.std.proofs.lemmas.List.Elements.{filter-append}
+use Rattle.p2p_discovery.specs.declared.discovery.Info.{Info}
+use Rattle.p2p_tracker.specs.Directory.{record_at, infos_of, updated_record}
+use Rattle.p2p_tracker.proofs.SetsAndRecords.Changes.{updated_more, updated_none}
+use Rattle.p2p_tracker.proofs.SetsAndRecords.Moved.{item_moved, all_moved}
+use Rattle.p2p_tracker.proofs.directory.update.update_each.Goals as goal
+
+pub loop-info-init : goal.loop-info-init
+loop-info-init g c = record {
+  rest = c.into_iter-info-iterator.ensures.into_iter_gives.0;
+  sets = refl;
+  records = λ q. updated_none (record_at g.C.Ord.cmp c.args.records.now q);
+  bits = λ was. was;
+}
+
+pub loop-info-preserved : goal.loop-info-preserved
+loop-info-preserved g c =
+    let cmp = g.C.Ord.cmp in
+    let kept = c.loop-info.invariant in
+    let before = c.loop-info.yielded in
+    let info = c.in-Some.info in
+    record {
+      rest = item_moved before c.loop-info.info-iterator.rest.items c.next.new.self.rest.items c.args.infos.items info kept.rest c.in-Some.ensures.steps.0;
+      sets = c.update_one.ensures.sets ∙ kept.sets;
+      records = λ q.
+          updated_more (is_at (cmp info.public_key) q) (infos_of cmp before q) info (record_at cmp c.args.records.now q) (record_at cmp c.loop-info.records q) (record_at cmp c.update_one.new.records q) (kept.records q) (c.update_one.ensures.records q)
+          ∙ ap (λ is. option_map (updated_record is) (record_at cmp c.args.records.now q)) (sym (filter-append (λ (i : Info g.row.C.Denot g.row.C-Signature.Denot). is_at (cmp i.public_key) q) before (info ∷ [])));
+      bits = λ was. c.update_one.ensures.bits (kept.bits was);
+    }
+
+pub returns-clause-records : goal.returns-clause-records
+returns-clause-records g c = λ q.
+    let cmp = g.C.Ord.cmp in
+    let rest = c.loop-info.info-iterator.rest in
+    let all = all_moved c.loop-info.yielded rest.items c.args.infos.items c.loop-info.invariant.rest (sym rest.ok.0 ∙ c.in-None.ensures.steps.0) in
+    c.loop-info.invariant.records q ∙ ap (λ infos. option_map (updated_record (infos_of cmp infos q)) (record_at cmp c.args.records.now q)) all

@@ -1,0 +1,17 @@
+-- What a directory promises rests on these: read them in this order.
+pub mod Calls
+pub mod Moments
+pub mod PeerSets
+pub mod Lists
+pub mod Blocks
+pub mod Cooldowns
+pub mod History
+pub mod World
+pub mod Answers
+pub mod Record
+pub mod Directory
+-- The step of one accepted call: the main law and other laws alone speak of it.
+pub mod Step
+-- Dials of the peers that an answer of `dialable` names.
+pub mod Dials
+pub mod Private

@@ -1,0 +1,191 @@
+-- The world that a past makes, what a call does in it, and the step of one accepted call.
+use Rattle.std.specs.Prelude.{ℕ, Bool, false, not, ◌&&◌, ◌||◌, if◌then◌else◌, List, [], ◌∷◌, Option}
+use Rattle.std.specs.Prelude.{Some, None, nat_lt, nat_le, filter}
+use Rattle.std.specs.List.{list_all}
+use Rattle.std.specs.Ordering.{is_eq}
+use Rattle.std.specs.declared.cmp.Ordering.{Ordering}
+use Rattle.p2p_discovery.specs.declared.discovery.Info.{Info}
+use Rattle.p2p_discovery.specs.declared.types.ingress.Ingress.{Ingress}
+use Rattle.p2p_discovery.specs.Ingress.{is_valid}
+use Rattle.p2p_tracker.specs.declared.record.Status.{Status}
+use Rattle.p2p_tracker.specs.Calls.{Setup, Call, SetAt, Grant, Cooldown, Event}
+use Rattle.p2p_tracker.specs.Calls.Call.{Track, Dial, Listen, Connect, Release, Update, Block}
+use Rattle.p2p_tracker.specs.Calls.Call.{UnblockExpired, ForgetCooled, Ask}
+use Rattle.p2p_tracker.specs.declared.record.Status.TheVariants.{Inert, Reserved, Active}
+use Rattle.p2p_tracker.specs.Calls.Direction.{Listener, Dialer}
+use Rattle.p2p_tracker.specs.Calls.Event.{Nothing, Tracked, Granted, Connected, Released, Updated}
+use Rattle.p2p_tracker.specs.Calls.Event.{Blocked, Expired, Forgot}
+use Rattle.p2p_tracker.specs.History.{is_own, is_in, taken_sets, retained_sets, primary_count}
+use Rattle.p2p_tracker.specs.History.{is_persistent, is_entitled, is_inert, status_at, held_at}
+use Rattle.p2p_tracker.specs.History.{life, info_in, fails_in, cooldown_at, unblock_at}
+
+-- what is known of a peer, and goes when the peer goes
+pub record Known (C S : Type 0) : Type 0 where
+  pub info : Option (Info C S)
+  pub fails : ℕ
+
+-- a peer: how it stands, and what is known of it
+pub record Peer (C S : Type 0) : Type 0 where
+  pub status : Status
+  pub known : Known C S
+
+-- what a directory keeps: the retained sets, the oldest first, and for each key its peer, until
+-- when its block holds, and the moments of its last grant, unless that is forgotten
+pub record State (C S : Type 0) : Type 0 where
+  pub sets : List (SetAt C)
+  pub peer : C → Peer C S
+  pub unblock : C → Option ℕ
+  pub cooldown : C → Option Cooldown
+
+-- a directory's state, and for each key the grant that is held beside it
+pub record World (C S : Type 0) : Type 0 where
+  pub state : State C S
+  pub open state use *
+  pub held : C → Option Grant
+
+-- the unblock moment is later than t
+abbrev pub is_blocked : Option ℕ → ℕ → Bool
+is_blocked None t = false
+is_blocked (Some moment) t = nat_lt t moment
+
+-- from when a peer may be reserved, by the moments that are kept of it; without any, from the epoch
+abbrev pub reservable_from : Option Cooldown → ℕ
+reservable_from None = 0
+reservable_from (Some cooldown) = cooldown.reservable_at
+
+-- from when a peer is dialable, by the moments that are kept of it; without any, from the epoch
+abbrev pub dialable_from : Option Cooldown → ℕ
+dialable_from None = 0
+dialable_from (Some cooldown) = cooldown.dial_at
+
+-- the last of these ingresses that is given for p, in this order of keys
+abbrev pub last_ingress_by : {C : Type 0} → (C → C → Ordering) → C → List (C × Ingress) →
+    Option Ingress
+last_ingress_by cmp p [] = None
+last_ingress_by cmp p (b ∷ bs) = elim (last_ingress_by cmp p bs) [
+  | None ↦ (if is_eq (cmp b.0 p) then Some b.1 else None)
+  | Some a ↦ Some a
+]
+
+module _ {C S : Type 0} (s : Setup C S) where
+  -- THE WORLD THAT A PAST MAKES
+
+  -- what is known of p by its life
+  abbrev pub known_in : C → List (Event C S) → Known C S
+  known_in p l = record { info = info_in s p l; fails = fails_in s p l }
+
+  -- p at the end of a past
+  abbrev pub peer_at : C → List (Event C S) → Peer C S
+  peer_at p h = record { status = status_at s p h; known = known_in p (life s p h) }
+
+  -- the state at the end of a past
+  abbrev pub state_at : List (Event C S) → State C S
+  state_at h = record {
+    sets = retained_sets s h;
+    peer = λ p. peer_at p h;
+    unblock = λ p. unblock_at s p h;
+    cooldown = λ p. cooldown_at s p h;
+  }
+
+  -- the world at the end of a past
+  abbrev pub world_at : List (Event C S) → World C S
+  world_at h = record { state = state_at h; held = λ p. held_at s p h }
+
+  -- ADDRESS AND GRANT
+
+  -- the last bootstrapper ingress of p
+  abbrev pub last_ingress : C → List (C × Ingress) → Option Ingress
+  last_ingress p bootstrappers = last_ingress_by s.cmp p bootstrappers
+
+  -- the info's ingress, else the last bootstrapper ingress of p
+  abbrev pub address_with : C → Option (Info C S) → Option Ingress
+  address_with p None = last_ingress p s.bootstrappers
+  address_with p (Some i) = Some i.ingress
+
+  -- the address is known and valid
+  abbrev pub is_valid_address : Option Ingress → Bool
+  is_valid_address None = false
+  is_valid_address (Some a) = is_valid s.allow_private_ips s.allow_dns a
+
+  -- in a primary set, or persistent
+  abbrev pub is_dial_target : C → List (SetAt C) → Bool
+  is_dial_target p sets = nat_lt 0 (primary_count s p sets) || is_persistent s p
+
+  -- a listen of p at t is granted
+  abbrev pub may_listen : C → ℕ → List (SetAt C) → Peer C S → Option ℕ → Option Cooldown → Bool
+  may_listen p t sets peer unblock cooldown =
+      is_entitled s p sets && is_inert peer.status && not (is_blocked unblock t) &&
+      nat_le (reservable_from cooldown) t
+
+  -- a dial of p at t is granted
+  abbrev pub may_dial : C → ℕ → List (SetAt C) → Peer C S → Option ℕ → Option Cooldown → Bool
+  may_dial p t sets peer unblock cooldown =
+      may_listen p t sets peer unblock cooldown && is_dial_target p sets &&
+      is_valid_address (address_with p peer.known.info)
+
+  -- WHAT A CALL DOES, in a world
+
+  -- a listen of p: a grant, or nothing
+  abbrev pub listen_event : C → ℕ → ℕ → Bool → Event C S
+  listen_event p t draw granted =
+      if granted then Granted p (record { t = t; draw = draw; direction = Listener }) else Nothing
+
+  -- a dial of p at an address: a grant, or nothing
+  abbrev pub dial_event : C → ℕ → ℕ → Bool → Option Ingress → Event C S
+  dial_event p t draw granted None = Nothing
+  dial_event p t draw granted (Some a) =
+      if granted then Granted p (record { t = t; draw = draw; direction = Dialer a }) else Nothing
+
+  -- only what is reserved can connect
+  abbrev pub connect_event : C → Bool → Status → Event C S
+  connect_event p dialer Inert = Nothing
+  connect_event p dialer Reserved = Connected p dialer
+  connect_event p dialer Active = Nothing
+
+  -- only what is held can be released
+  abbrev pub release_event : C → Option Grant → Event C S
+  release_event p None = Nothing
+  release_event p (Some grant) = Released p grant.direction
+
+  -- a track is taken where its index is above each of these sets'; a peer in both roles is primary
+  -- only
+  abbrev pub track_event : List (SetAt C) → ℕ → List C → List C → Event C S
+  track_event sets index primary secondary =
+      if list_all (λ x. nat_lt x.index index) sets
+      then Tracked (record {
+        index = index;
+        primary = primary;
+        secondary = filter (λ q. not (is_in s q primary)) secondary;
+      })
+      else Nothing
+
+  -- a block is taken where p isn't the own key and isn't blocked at t
+  abbrev pub block_event : C → ℕ → Option ℕ → Event C S
+  block_event p t unblock =
+      if not (is_own s p) && not (is_blocked unblock t) then Blocked p t else Nothing
+
+  -- what each call does in a world, with the sets that a track is held against
+  abbrev pub event_in : List (SetAt C) → World C S → Call C S → Event C S
+  event_in sets w (Track index primary secondary) = track_event sets index primary secondary
+  event_in sets w (Dial p t draw) =
+      dial_event p t draw (may_dial p t w.sets (w.peer p) (w.unblock p) (w.cooldown p))
+      (address_with p (w.peer p).known.info)
+  event_in sets w (Listen p t draw) =
+      listen_event p t draw (may_listen p t w.sets (w.peer p) (w.unblock p) (w.cooldown p))
+  event_in sets w (Connect p dialer) = connect_event p dialer (w.peer p).status
+  event_in sets w (Release p) = release_event p (w.held p)
+  event_in sets w (Update infos) = Updated infos
+  event_in sets w (Block p t) = block_event p t (w.unblock p)
+  event_in sets w (UnblockExpired t) = Expired t
+  event_in sets w (ForgetCooled t) = Forgot t
+  event_in sets w (Ask question) = Nothing
+
+  -- a past with one more call: what it does in the world at that point; a track is held against
+  -- every set taken before
+  abbrev pub past_after : List (Event C S) → Call C S → List (Event C S)
+  past_after h c = event_in (taken_sets s h) (world_at h) c ∷ h
+
+  -- the past that calls make, both the newest first
+  abbrev pub past : List (Call C S) → List (Event C S)
+  past [] = []
+  past (c ∷ cs) = past_after (past cs) c

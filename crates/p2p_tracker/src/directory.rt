@@ -1,0 +1,787 @@
+//! The directory of peers: the retained sets, and a record of each peer that is in one of them,
+//! persistent, reserved or connected.
+
+ghost use Rattle.std.specs.Prelude.{ℕ, ◌≡◌, ◌<◌, ◌≤◌, ◌^◌, ◌+◌, ◌-◌, [], false, true, Some, None};
+ghost use Rattle.std.specs.Prelude.{IfSome, IfNone, IfOk, IsOk, OnErr, is_some, length, map, not};
+ghost use Rattle.std.specs.Prelude.{slice_get};
+ghost use Rattle.std.specs.List.Sorted.{IsStrictlySortedBy};
+ghost use Rattle.std.specs.Option.{option_map, IsSomeAnd};
+ghost use Rattle.std.specs.BTreeMap.{is_at};
+ghost use Rattle.std.specs.Map.{keys_of};
+ghost use Rattle.std.specs.Duration.{as_nanos};
+ghost use Rattle.std.specs.Int.NonZero.{non_zero_usize_get};
+ghost use Rattle.p2p_discovery.specs.Ingress.{takes_none};
+ghost use Rattle.p2p_tracker.specs.PeerSets.{set_of, latest_index, is_above};
+ghost use Rattle.p2p_tracker.specs.Directory.{record_at, peers_of};
+ghost use Rattle.p2p_tracker.specs.PeerSets.{has_peers};
+ghost use Rattle.p2p_tracker.specs.Private.Window.{plain_set};
+
+use crate::directory::blocked::blocked_at;
+use crate::directory::infos::{epoch_millis, shared_for};
+use crate::directory::records::Records;
+use crate::directory::track::{add, drop_oldest};
+use crate::directory::update::update_each;
+use crate::kept::blocks::Blocks;
+use crate::kept::cooldowns::Cooldowns;
+use crate::kept::{PeerSet, Window};
+use crate::record::{Dialable, Status};
+use p2p_discovery::codec::PublicKey;
+use p2p_discovery::discovery::{BitVec, Info};
+use p2p_discovery::sets::OrderedSet;
+use p2p_discovery::types::Ingress;
+use std::alloc::{AllocError, Global};
+use std::marker::Model;
+use std::num::NonZeroUsize;
+use std::time::Duration;
+
+mod agreement;
+pub(crate) mod blocked;
+mod cooled;
+mod grants;
+mod infos;
+pub(crate) mod records;
+mod track;
+mod update;
+
+/// How a directory behaves.
+#[derive(Clone, Copy, Debug)]
+pub struct Config {
+    /// Whether addresses that are not global may be dialled.
+    pub allow_private_ips: bool,
+    /// Whether names may be dialled.
+    pub allow_dns: bool,
+    /// How many peer sets are retained.
+    pub max_sets: NonZeroUsize,
+    /// After how many failed dials a peer's info is asked for again.
+    pub dial_fail_limit: usize,
+    /// The least time between two reservations of one peer.
+    pub peer_connection_cooldown: Duration,
+    /// How long a block lasts.
+    pub block_duration: Duration,
+}
+
+/// The peers of one set, by role.
+#[derive(Debug, Drop)]
+pub struct TrackedPeers<C: PublicKey> {
+    /// The primary peers.
+    pub primary: OrderedSet<C>,
+    /// The secondary peers.
+    pub secondary: OrderedSet<C>,
+}
+
+impl<C: PublicKey> TrackedPeers<C> {
+    /// The peers of both roles.
+    pub fn new(primary: OrderedSet<C>, secondary: OrderedSet<C>) -> Self
+        ensures { result ≡ record { primary = primary; secondary = secondary } }
+    {
+        TrackedPeers { primary, secondary }
+    }
+}
+
+/// What is told of the latest set: its index and its peers, and the peers of all retained sets.
+#[derive(Debug, Drop)]
+pub struct PeerSetUpdate<C: PublicKey> {
+    /// The index of the latest set.
+    pub index: u64,
+    /// The peers of the latest set.
+    pub latest: TrackedPeers<C>,
+    /// The peers of all retained sets: one that is primary in some is primary only.
+    pub all: TrackedPeers<C>,
+}
+
+/// Whom a reservation is for, and in which direction the connection goes.
+#[derive(Drop)]
+pub enum Metadata<P: PublicKey> {
+    /// The peer is dialled at this address.
+    Dialer(P, Ingress),
+    /// The peer comes.
+    Listener(P),
+}
+
+impl<P: PublicKey> Metadata<P> {
+    ghost use Rattle.p2p_tracker.specs.Directory.{key_of};
+
+    /// The key of the peer.
+    pub fn public_key(&self) -> &P
+        ensures { result.now ≡ key_of self.now }
+    {
+        match self {
+            Metadata::Dialer(key, _) => key,
+            Metadata::Listener(key) => key,
+        }
+    }
+}
+
+/// The leave to connect with a peer. It is made by the directory alone and has to be given back to
+/// it, by [`Directory::release`].
+pub struct Reservation<P: PublicKey> {
+    metadata: Metadata<P>,
+}
+
+impl<P: PublicKey> Model for Reservation<P> {
+    ghost use Rattle.p2p_tracker.specs.declared.directory.Metadata.{Metadata};
+
+    ghost Value = { Metadata P P.Signature };
+
+    ghost view = { λ r. r.metadata };
+}
+
+impl<P: PublicKey> Reservation<P> {
+    /// Whom the reservation is for, and in which direction.
+    pub fn metadata(&self) -> &Metadata<P>
+        ensures { result.now ≡ self.now }
+    {
+        &self.metadata
+    }
+}
+
+/// The directory of peers. A contract sees its configuration, its retained sets, the oldest first,
+/// and for each key what is kept of the peer, its record or nothing, until when it is blocked, if
+/// it is, and the moments of its last grant, if there was one and it isn't forgotten.
+#[derive(Drop)]
+pub struct Directory<C: PublicKey> {
+    config: Config,
+    sets: Window<C>,
+    records: Records<C>,
+    blocks: Blocks<C>,
+    cooldowns: Cooldowns<C>,
+}
+
+impl<C: PublicKey> Model for Directory<C> {
+    ghost use Rattle.std.specs.Int.NonZero.{non_zero_usize_get};
+    ghost use Rattle.p2p_tracker.specs.Directory.{DirectoryView, config_view, record_at};
+    ghost use Rattle.p2p_tracker.specs.Private.Window.{plain_sets};
+    ghost use Rattle.p2p_tracker.specs.Cooldowns.{cooldown_in};
+    ghost use Rattle.p2p_tracker.specs.Private.Counts.{IsWhole};
+
+    ghost Value = { DirectoryView C C.Signature };
+
+    ghost view = { λ d. record {
+      config = config_view d.config;
+      sets = plain_sets d.sets;
+      records = d.records;
+      blocks = d.blocks;
+      cooldowns = d.cooldowns;
+    } };
+
+    ghost invariant = { λ d. IsWhole C.cmp (non_zero_usize_get d.config.max_sets)
+        d.config.dial_fail_limit d.sets (record_at C.cmp d.records)
+        (cooldown_in C.cmp d.cooldowns) };
+}
+
+impl<C: PublicKey> Directory<C> {
+    ghost use Rattle.p2p_tracker.specs.Directory.{config_view, key_of, record_of, first_record};
+    ghost use Rattle.p2p_tracker.specs.Directory.{IsBusy, IsReserved, StayBusy, StayReserved};
+    ghost use Rattle.p2p_tracker.specs.Directory.{Reserves, Releases, Connects, Updates};
+    ghost use Rattle.p2p_tracker.specs.Directory.{TakesSet, AreTornDown};
+    ghost use Rattle.p2p_tracker.specs.Directory.{sharable_in, infos_in, bit_vec_at, other_keys};
+    ghost use Rattle.p2p_tracker.specs.Directory.{unblock_of, is_blocked_in, may_block};
+    ghost use Rattle.p2p_tracker.specs.Directory.{BlocksUntil, EndsBlocks, is_free_and};
+    ghost use Rattle.p2p_tracker.specs.Directory.{may_listen_in, may_dial_in, ingress_in};
+    ghost use Rattle.p2p_tracker.specs.Directory.{peer_set_in, is_named_of, AreAllOf, IsUpdateOf};
+    ghost use Rattle.p2p_tracker.specs.Directory.{is_dialable_in, AreDialableIn, wants_in};
+    ghost use Rattle.p2p_tracker.specs.Directory.{cooldown_of};
+    ghost use Rattle.p2p_tracker.specs.World.{reservable_from, dialable_from};
+    ghost use Rattle.p2p_tracker.specs.Lists.{Lists, IsLeastOf, Somebody};
+    ghost use Rattle.p2p_tracker.specs.Blocks.{IsAnyUntil};
+    ghost use Rattle.p2p_tracker.specs.Dials.{IsBefore};
+    ghost use Rattle.p2p_tracker.specs.Moments.{cap};
+    ghost use Rattle.p2p_tracker.specs.Record.{is_eligible, is_acceptable, is_deletable};
+    ghost use Rattle.p2p_tracker.specs.declared.record.Role.TheVariants as Role;
+    ghost use Rattle.p2p_tracker.specs.PeerSets.{has_peers, set_with, set_count};
+
+    /// A directory that retains no set and blocks nobody. Its records are the own one and those of
+    /// the bootstrappers: a later bootstrapper of the same key replaces an earlier one, and the own
+    /// record one of its key.
+    ///
+    /// # Conditions
+    ///
+    /// `cfg.max_sets` is below the greatest `usize`.
+    ///
+    /// # Errors
+    ///
+    /// `AllocError` where memory is refused.
+    ///
+    /// # Cost
+    ///
+    /// One search among the records for each bootstrapper.
+    pub fn init(
+        alloc: Global,
+        bootstrappers: Vec<(C, Ingress)>,
+        myself: Info<C>,
+        cfg: Config,
+    ) -> Result<Self, AllocError>
+        requires { non_zero_usize_get cfg.max_sets < 2 ^ 64 - 1 }
+        ensures config { IfOk result (λ d. d.config ≡ config_view cfg) }
+        ensures sets { IfOk result (λ d. d.sets ≡ []) }
+        ensures blocks { IfOk result (λ d. d.blocks ≡ []) }
+        ensures cooldowns { IfOk result (λ d. d.cooldowns ≡ []) }
+        ensures records { IfOk result (λ d. (q : C) →
+            record_of C.cmp d q ≡ first_record C.cmp bootstrappers.items myself q) }
+    {
+        let records = Records::first(alloc, bootstrappers, myself)?;
+        Ok(Directory {
+            config: cfg,
+            sets: Window::new(alloc),
+            records,
+            blocks: Blocks::new(alloc),
+            cooldowns: Cooldowns::new(alloc),
+        })
+    }
+
+    /// Takes a peer set, where its index is above that of each set that was taken before: it is
+    /// counted for its peers, and then the oldest retained set goes, where there is one too many.
+    /// A peer in both roles is primary only.
+    ///
+    /// Answers `None`, takes no memory and changes nothing where the index is not above. Else it
+    /// answers the peers whose connections have to end: those that are reserved or connected, were
+    /// eligible and are no longer. Whoever is reserved or connected stays so.
+    ///
+    /// # Errors
+    ///
+    /// `AllocError` where memory is refused; then nothing has changed.
+    ///
+    /// # Cost
+    ///
+    /// One search among the records and one among the kept moments for each peer of the new set, one
+    /// search among the records for each peer of the set that goes, and one more for each record
+    /// that goes with it; and for each primary peer of either set one search among the places, and
+    /// one more for each that has no place left.
+    pub fn track(
+        &mut self,
+        index: u64,
+        peers: TrackedPeers<C>,
+    ) -> Result<Option<OrderedSet<C>>, AllocError>
+        ensures err { OnErr result (self.new ≡ self.old) }
+        ensures untaken { is_above index (latest_index self.old.sets) ≡ false → result ≡ Ok None }
+        ensures answer { IfOk result (λ torn. is_some torn ≡
+            is_above index (latest_index self.old.sets)) }
+        ensures refused { IfOk result (λ torn. IfNone torn (self.new ≡ self.old)) }
+        ensures taken { IfOk result (λ torn. IfSome torn (λ _.
+            TakesSet C.cmp self.old self.new (set_of C.cmp index peers.primary peers.secondary))) }
+        ensures torn { IfOk result (λ torn. IfSome torn (AreTornDown C.cmp self.old self.new)) }
+        ensures busy { StayBusy C.cmp self.old self.new }
+        ensures reserved { StayReserved C.cmp self.old self.new }
+    {
+        if !self.sets.is_next(index) {
+            return Ok(None);
+        }
+        let alloc = self.sets.allocator();
+        let max_sets = self.config.max_sets.get();
+        let limit = self.config.dial_fail_limit;
+        let set = PeerSet::new(alloc, index, peers.primary, peers.secondary)?;
+        let torn = Vec::with_capacity(alloc, self.sets.leaving_count(max_sets)?)?;
+        let cooldowns = &self.cooldowns;
+        add(&mut self.sets, &mut self.records, cooldowns, set, limit)?;
+        Ok(Some(drop_oldest(&mut self.sets, &mut self.records, max_sets, torn)))
+    }
+
+    /// Reserves the peer for a dial at the moment `now`, a time since the epoch, at the address
+    /// that is known of it.
+    ///
+    /// Answers `None`, takes no memory and changes nothing where the peer is blocked or has no
+    /// record, its dial status is [`Unavailable`](crate::record::DialStatus::Unavailable), or `now`
+    /// is before its reservable moment. The dial moment is not asked for. Else the peer is reserved
+    /// and its moments are set as by [`Record::reserve`](crate::record::Record::reserve), with the
+    /// draw. They are kept until [`Directory::forget_cooled`] forgets them, also where the record
+    /// goes. The reservation has the very address that is to be dialled. Whoever is reserved or
+    /// connected stays so.
+    ///
+    /// # Errors
+    ///
+    /// `AllocError` where memory is refused, for that address or for the moments; then nothing has
+    /// changed.
+    ///
+    /// # Cost
+    ///
+    /// One search among the blocks, and where the peer is reserved two among the records and one
+    /// among the kept moments.
+    pub fn dial(
+        &mut self,
+        peer: &C,
+        now: Duration,
+        draw: Duration,
+    ) -> Result<Option<Reservation<C>>, AllocError>
+        ensures err { OnErr result (self.new ≡ self.old) }
+        ensures none { may_dial_in C.cmp self.old (as_nanos now) peer.now ≡ false →
+            result ≡ Ok None }
+        ensures answer { IfOk result (λ reservation. is_some reservation ≡
+            may_dial_in C.cmp self.old (as_nanos now) peer.now) }
+        ensures refused { IfOk result (λ reservation. IfNone reservation (self.new ≡ self.old)) }
+        ensures reservation { IfOk result (λ reservation. IfSome reservation (λ metadata.
+            option_map (Metadata.Dialer peer.now) (ingress_in C.cmp self.old peer.now)
+            ≡ Some metadata)) }
+        ensures granted { IfOk result (λ reservation. IfSome reservation (λ _.
+            Reserves C.cmp self.old self.new peer.now (as_nanos now) (as_nanos draw))) }
+        ensures is_busy { IfOk result (λ reservation. IfSome reservation (λ metadata.
+            IsBusy C.cmp self.new (key_of metadata))) }
+        ensures is_reserved { IfOk result (λ reservation. IfSome reservation (λ metadata.
+            IsReserved C.cmp self.new (key_of metadata))) }
+        ensures busy { StayBusy C.cmp self.old self.new }
+        ensures reserved { StayReserved C.cmp self.old self.new }
+    {
+        match self.dialled(peer, now)? {
+            Some(ingress) => {
+                self.grant(peer, now, draw)?;
+                Ok(Some(Reservation {
+                    metadata: Metadata::Dialer(*peer, ingress),
+                }))
+            }
+            None => Ok(None),
+        }
+    }
+
+    /// Reserves the peer for a connection that it asks for at the moment `now`, a time since the
+    /// epoch.
+    ///
+    /// Answers `None`, takes no memory and changes nothing where the peer is blocked or has no
+    /// record, it is not eligible, not inert, or `now` is before its reservable moment. Else the
+    /// peer is reserved and its moments are set as by
+    /// [`Record::reserve`](crate::record::Record::reserve), with the draw. They are kept until
+    /// [`Directory::forget_cooled`] forgets them, also where the record goes. Whoever is reserved
+    /// or connected stays so.
+    ///
+    /// # Errors
+    ///
+    /// `AllocError` where memory for the moments is refused; then nothing has changed.
+    ///
+    /// # Cost
+    ///
+    /// One search among the blocks, and where the peer is reserved two among the records and one
+    /// among the kept moments.
+    pub fn listen(
+        &mut self,
+        peer: &C,
+        now: Duration,
+        draw: Duration,
+    ) -> Result<Option<Reservation<C>>, AllocError>
+        ensures err { OnErr result (self.new ≡ self.old) }
+        ensures none { may_listen_in C.cmp self.old (as_nanos now) peer.now ≡ false →
+            result ≡ Ok None }
+        ensures answer { IfOk result (λ reservation. is_some reservation ≡
+            may_listen_in C.cmp self.old (as_nanos now) peer.now) }
+        ensures refused { IfOk result (λ reservation. IfNone reservation (self.new ≡ self.old)) }
+        ensures reservation { IfOk result (λ reservation. IfSome reservation (λ metadata.
+            metadata ≡ Metadata.Listener peer.now)) }
+        ensures granted { IfOk result (λ reservation. IfSome reservation (λ _.
+            Reserves C.cmp self.old self.new peer.now (as_nanos now) (as_nanos draw))) }
+        ensures is_busy { IfOk result (λ reservation. IfSome reservation (λ metadata.
+            IsBusy C.cmp self.new (key_of metadata))) }
+        ensures is_reserved { IfOk result (λ reservation. IfSome reservation (λ metadata.
+            IsReserved C.cmp self.new (key_of metadata))) }
+        ensures busy { StayBusy C.cmp self.old self.new }
+        ensures reserved { StayReserved C.cmp self.old self.new }
+    {
+        if self.is_blocked(peer, now) || !self.records.may_come(peer, now) {
+            return Ok(None);
+        }
+        self.grant(peer, now, draw)?;
+        Ok(Some(Reservation {
+            metadata: Metadata::Listener(*peer),
+        }))
+    }
+
+    /// Takes a reservation back: its peer is inert, a dialler's counts a failure at the address
+    /// that was dialled, and a record that is deletable then goes; the moments of its cooldown stay
+    /// kept. Every other peer that is reserved or connected stays so. Takes no memory.
+    ///
+    /// # Conditions
+    ///
+    /// The peer has a record that is not inert: the directory is one that granted the reservation.
+    ///
+    /// # Cost
+    ///
+    /// One search among the records, and one more where the record goes; one among the places, and
+    /// one step to each of the peer's own places.
+    pub fn release(&mut self, reservation: Reservation<C>)
+        requires { IsBusy C.cmp self.old (key_of reservation) }
+        ensures released { Releases C.cmp self.old self.new reservation }
+        ensures others { (q : C) → is_at (C.cmp (key_of reservation)) q ≡ false →
+            IsBusy C.cmp self.old q → IsBusy C.cmp self.new q }
+        ensures reserved { (q : C) → is_at (C.cmp (key_of reservation)) q ≡ false →
+            IsReserved C.cmp self.old q → IsReserved C.cmp self.new q }
+    {
+        let Reservation { metadata } = reservation;
+        let limit = self.config.dial_fail_limit;
+        let known = self.records.release(&metadata, limit);
+        self.sets.refresh(metadata.public_key(), known);
+    }
+
+    /// Connects a peer that is reserved, as its dialer or not: it is active, and where the local
+    /// node dialled it, its dials have not failed any more. Every other peer that is reserved or
+    /// connected stays so. Takes no memory.
+    ///
+    /// # Conditions
+    ///
+    /// The peer is reserved.
+    ///
+    /// # Cost
+    ///
+    /// One search among the records, one among the places, and one step to each of the peer's own
+    /// places.
+    pub fn connect(&mut self, peer: &C, dialer: bool)
+        requires { IsReserved C.cmp self.old peer.now }
+        ensures connected { Connects C.cmp self.old self.new peer.now dialer }
+        ensures busy { StayBusy C.cmp self.old self.new }
+        ensures reserved { (q : C) → is_at (C.cmp peer.now) q ≡ false →
+            IsReserved C.cmp self.old q → IsReserved C.cmp self.new q }
+    {
+        let limit = self.config.dial_fail_limit;
+        let known = self.records.connect(peer, dialer, limit);
+        self.sets.refresh(peer, known);
+    }
+
+    /// Offers infos to the records of their peers, in whichever order they stand: each peer's is
+    /// then the first of greatest timestamp among the one that was known and those of the list. One
+    /// that is new has not failed yet. That of the local node stays, and an info of a peer that has
+    /// no record is dropped. Whoever is reserved or connected stays so. Takes no memory.
+    ///
+    /// # Cost
+    ///
+    /// For each info one search among the records, and where it is taken one among the places, and
+    /// one step to each of the peer's own places.
+    pub fn update_peers(&mut self, infos: Vec<Info<C>>)
+        ensures updated { Updates C.cmp self.old self.new infos.items }
+        ensures busy { StayBusy C.cmp self.old self.new }
+        ensures reserved { StayReserved C.cmp self.old self.new }
+    {
+        let limit = self.config.dial_fail_limit;
+        update_each(&mut self.sets, &mut self.records, infos, limit);
+    }
+
+    /// The info of the peer that others may be told: that of the local node, and that of a peer
+    /// that is connected. Takes memory only for an info whose ingress is a name.
+    ///
+    /// # Errors
+    ///
+    /// `AllocError` where memory is refused.
+    ///
+    /// # Cost
+    ///
+    /// One search among the records.
+    pub fn info(&self, peer: &C) -> Result<Option<Info<C>>, AllocError>
+        ensures info { IfOk result (λ info. info ≡ sharable_in C.cmp self.now peer.now) }
+        ensures none { sharable_in C.cmp self.now peer.now ≡ None → IsOk result }
+        ensures socket { IfSome (sharable_in C.cmp self.now peer.now)
+            (λ info. takes_none info.ingress ≡ true → IsOk result) }
+    {
+        match self.records.get(peer) {
+            Some(found) => found.sharable(),
+            None => Ok(None),
+        }
+    }
+
+    /// The infos for one who knows these bits, asked at the moment `now`, a time since the epoch:
+    /// of the primary peers of the retained set with the index whose bit is false, in their order,
+    /// those infos that others may be told and whose timestamp is not above the whole milliseconds
+    /// of `now`.
+    ///
+    /// Answers an empty list where no retained set has the index, and `None` where the bits are of
+    /// another number than its primary peers. Takes memory only where an info is shared: the room
+    /// for the list once, and that of ingresses that are names.
+    ///
+    /// # Errors
+    ///
+    /// `AllocError` where memory is refused; that is, where an info is shared.
+    ///
+    /// # Cost
+    ///
+    /// One pass over the retained sets, and for each primary peer of that one two searches among
+    /// the records.
+    pub fn infos(&self, bit_vec: &BitVec, now: Duration) -> Result<Option<Vec<Info<C>>>, AllocError>
+        ensures infos { IfOk result (λ infos. option_map (λ v. v.items) infos
+            ≡ infos_in C.cmp self.now bit_vec.now.index bit_vec.now.bits (as_nanos now)) }
+        ensures err { OnErr result (IsSomeAnd
+            (infos_in C.cmp self.now bit_vec.now.index bit_vec.now.bits (as_nanos now))
+            (λ infos. 0 < length infos)) }
+    {
+        let alloc = self.sets.allocator();
+        match self.sets.get(bit_vec.index) {
+            Some(set) => {
+                let peers = set.primary().ordered();
+                shared_for(
+                    alloc,
+                    &self.records,
+                    peers,
+                    &bit_vec.bits,
+                    epoch_millis(now),
+                )
+            }
+            None => Ok(Some(Vec::new(alloc))),
+        }
+    }
+
+    /// The bits of the retained set at a place, counted from 0 in order of index, with its index:
+    /// for each primary peer in order whether its info is known, and not wanted. `None` where there
+    /// is no such place.
+    ///
+    /// # Errors
+    ///
+    /// `AllocError` where memory is refused.
+    ///
+    /// # Cost
+    ///
+    /// Proportional to the bytes of the answer.
+    pub fn get_random_bit_vec(&self, place: usize) -> Result<Option<BitVec>, AllocError>
+        ensures bits { IfOk result (λ bits. bits ≡ bit_vec_at C.cmp self.now place) }
+        ensures none { slice_get self.now.sets place ≡ None → IsOk result }
+    {
+        match self.sets.at(place) {
+            Some(set) => Ok(Some(BitVec {
+                index: set.index(),
+                bits: set.primary().knowledge()?,
+            })),
+            None => Ok(None),
+        }
+    }
+
+    /// How many peers have a record, but for the local node. Takes no memory.
+    ///
+    /// # Cost
+    ///
+    /// Constant.
+    pub fn tracked(&self) -> usize
+        ensures count { result ≡ length (other_keys self.now.records) }
+        ensures sorted { IsStrictlySortedBy C.cmp (keys_of self.now.records) }
+    {
+        self.records.len() - 1
+    }
+
+    /// Whether the peer is connected, or `None` where there is no record of it. Takes no memory.
+    ///
+    /// # Cost
+    ///
+    /// One search among the records.
+    pub fn status(&self, peer: &C) -> Option<Status>
+        ensures { result ≡ option_map (λ r. r.status) (record_of C.cmp self.now peer.now) }
+    {
+        match self.records.get(peer) {
+            Some(found) => Some(found.status()),
+            None => None,
+        }
+    }
+
+    /// The index of the latest peer set, or `None` where none was taken. Takes no memory.
+    pub fn latest_set_index(&self) -> Option<u64>
+        ensures { result ≡ latest_index self.now.sets }
+    {
+        self.sets.latest_index()
+    }
+    /// Blocks the peer from the moment `now` on, a time since the epoch, for the duration of the
+    /// configuration, whether there is a record of it or not. The sum is capped at the greatest
+    /// `Duration`.
+    ///
+    /// Answers false, takes no memory and changes nothing for the local node, or a peer that is
+    /// blocked at `now`. Else it answers true, and the peer is blocked until then; an earlier block
+    /// that had ended is replaced. A connection of the peer stays.
+    ///
+    /// # Errors
+    ///
+    /// `AllocError` where memory is refused; then nothing has changed.
+    ///
+    /// # Cost
+    ///
+    /// One search among the records, two among the blocks, and one or two among their moments.
+    pub fn block(&mut self, peer: &C, now: Duration) -> Result<bool, AllocError>
+        ensures err { OnErr result (self.new ≡ self.old) }
+        ensures untaken { may_block C.cmp self.old (as_nanos now) peer.now ≡ false →
+            result ≡ Ok false }
+        ensures answer { IfOk result (λ taken.
+            taken ≡ may_block C.cmp self.old (as_nanos now) peer.now) }
+        ensures refused { result ≡ Ok false → self.new ≡ self.old }
+        ensures taken { result ≡ Ok true → BlocksUntil C.cmp self.old self.new peer.now
+            (cap (as_nanos now + self.old.config.block_duration)) }
+        ensures busy { StayBusy C.cmp self.old self.new }
+        ensures reserved { StayReserved C.cmp self.old self.new }
+    {
+        if !self.records.is_blockable(peer) || self.is_blocked(peer, now) {
+            return Ok(false);
+        }
+        let until = now.saturating_add(self.config.block_duration);
+        self.blocks.put(*peer, until)?;
+        Ok(true)
+    }
+
+    /// Ends the blocks that hold until the moment `now`, a time since the epoch, or until an
+    /// earlier one, and answers whether there were any. All else stays. Takes no memory.
+    ///
+    /// # Cost
+    ///
+    /// One step to the first of the moments, and for each block that ends one removal there and one
+    /// among the blocks.
+    pub fn unblock_expired(&mut self, now: Duration) -> bool
+        ensures answer { IsAnyUntil (unblock_of C.cmp self.old) (as_nanos now) result }
+        ensures ended { EndsBlocks C.cmp self.old self.new (as_nanos now) }
+        ensures busy { StayBusy C.cmp self.old self.new }
+        ensures reserved { StayReserved C.cmp self.old self.new }
+    {
+        self.blocks.drop_until(now) > 0
+    }
+
+    /// The least moment until which a block holds, as the time since the epoch, or `None` where
+    /// there is no block. A block that has ended counts until [`Directory::unblock_expired`] ends
+    /// it. Takes no memory.
+    ///
+    /// # Cost
+    ///
+    /// One step to the first of the moments, and one search among the blocks.
+    pub fn next_unblock(&self) -> Option<Duration>
+        ensures { IsLeastOf (unblock_of C.cmp self.now) (option_map as_nanos result) }
+    {
+        match self.blocks.least() {
+            Some((_, moment)) => Some(moment),
+            None => None,
+        }
+    }
+
+    /// The peers that are blocked at the moment `now`, a time since the epoch: those whose block
+    /// holds until later.
+    ///
+    /// # Errors
+    ///
+    /// `AllocError` where memory is refused; that is, where somebody is blocked.
+    ///
+    /// # Cost
+    ///
+    /// One pass over the blocks, and one sort of the peers.
+    pub fn blocked_peers(&self, now: Duration) -> Result<OrderedSet<C>, AllocError>
+        ensures peers { IfOk result (Lists C.cmp (is_blocked_in C.cmp self.now (as_nanos now))) }
+        ensures err { OnErr result (Somebody (is_blocked_in C.cmp self.now (as_nanos now))) }
+    {
+        blocked_at(self.sets.allocator(), &self.blocks, now)
+    }
+
+    /// The peers of the retained set with an index, by role, or `None` where there is no such set.
+    ///
+    /// # Errors
+    ///
+    /// `AllocError` where memory is refused; that is, where the set has a peer.
+    ///
+    /// # Cost
+    ///
+    /// One pass over the retained sets, and over the peers of that one.
+    pub fn get_peer_set(&self, index: u64) -> Result<Option<TrackedPeers<C>>, AllocError>
+        ensures peers { IfOk result (λ peers. peers ≡ peer_set_in self.now index) }
+        ensures err { OnErr result (IsSomeAnd (set_with index self.now.sets)
+            (λ set. has_peers set ≡ true)) }
+    {
+        match self.sets.get(index) {
+            Some(set) => Ok(Some(peers_in(set)?)),
+            None => Ok(None),
+        }
+    }
+
+    /// The latest set with its index, and the peers of all retained sets, or `None` where no set
+    /// was taken.
+    ///
+    /// # Errors
+    ///
+    /// `AllocError` where memory is refused; that is, where a retained set has a peer.
+    ///
+    /// # Cost
+    ///
+    /// That of [`Directory::all`], and one pass over the peers of the latest set.
+    pub fn latest_update(&self) -> Result<Option<PeerSetUpdate<C>>, AllocError>
+        ensures update { IfOk result (IsUpdateOf C.cmp self.now) }
+        ensures err { OnErr result (Somebody (is_named_of C.cmp self.now)) }
+    {
+        match self.sets.last() {
+            Some(set) => Ok(Some(PeerSetUpdate {
+                index: set.index(),
+                latest: peers_in(set)?,
+                all: self.all()?,
+            })),
+            None => Ok(None),
+        }
+    }
+
+    /// The peers of all retained sets, by role: one that is primary in some set is primary only.
+    ///
+    /// # Errors
+    ///
+    /// `AllocError` where memory is refused; that is, where a retained set has a peer.
+    ///
+    /// # Cost
+    ///
+    /// One pass over the records, and one sort of each list.
+    pub fn all(&self) -> Result<TrackedPeers<C>, AllocError>
+        ensures peers { IfOk result (AreAllOf C.cmp self.now) }
+        ensures err { OnErr result (Somebody (is_named_of C.cmp self.now)) }
+    {
+        self.records.all(self.sets.allocator())
+    }
+
+    /// Whether the peer may be connected at the moment `now`, a time since the epoch: it is not
+    /// blocked, and its record is eligible. False where there is no record. Takes no memory.
+    ///
+    /// # Cost
+    ///
+    /// One search among the blocks, and one among the records.
+    pub fn eligible(&self, peer: &C, now: Duration) -> bool
+        ensures { result ≡ is_free_and C.cmp is_eligible self.now (as_nanos now) peer.now }
+    {
+        match self.records.get(peer) {
+            Some(found) => !self.is_blocked(peer, now) && found.eligible(),
+            None => false,
+        }
+    }
+
+    /// Whether a connection of the peer may be accepted at the moment `now`, a time since the
+    /// epoch: it is not blocked, and its record is acceptable. False where there is no record.
+    /// Takes no memory.
+    ///
+    /// # Cost
+    ///
+    /// One search among the blocks, and one among the records.
+    pub fn acceptable(&self, peer: &C, now: Duration) -> bool
+        ensures { result ≡ is_free_and C.cmp is_acceptable self.now (as_nanos now) peer.now }
+    {
+        match self.records.get(peer) {
+            Some(found) => !self.is_blocked(peer, now) && found.acceptable(),
+            None => false,
+        }
+    }
+
+    /// The peers that may be dialled at the moment `now`, a time since the epoch, in ascending
+    /// order: those whose dial status is [`Now`](crate::record::DialStatus::Now) and that are not
+    /// blocked. With them the moment from which it is worth to ask again: the least of the unblock
+    /// moments of blocked peers that have a record, and of the dial moments of the others whose
+    /// status is [`After`](crate::record::DialStatus::After). While nothing is called in between,
+    /// the answer stays the same up to before that moment, and for ever where there is none.
+    ///
+    /// # Errors
+    ///
+    /// `AllocError` where memory is refused; that is, where somebody may be dialled.
+    ///
+    /// # Cost
+    ///
+    /// One pass over the records, with one search among the blocks for each.
+    pub fn dialable(&self, now: Duration) -> Result<Dialable<C>, AllocError>
+        ensures dialable { IfOk result (λ answer. AreDialableIn C.cmp self.now (as_nanos now)
+            answer.peers.items (option_map as_nanos answer.next_query_at)) }
+        ensures quiet { IfOk result (λ answer. (u : ℕ) → as_nanos now ≤ u →
+            IsBefore u (option_map as_nanos answer.next_query_at) →
+            AreDialableIn C.cmp self.now u
+            answer.peers.items (option_map as_nanos answer.next_query_at)) }
+        ensures err { OnErr result (Somebody (is_dialable_in C.cmp self.now (as_nanos now))) }
+    {
+        self.records
+            .dialable(self.sets.allocator(), &self.blocks, now, &self.config)
+    }
+
+    /// The allocator of its collections, for what is built from its answers.
+    pub fn allocator(&self) -> Global {
+        self.sets.allocator()
+    }
+}
+
+// The peers of a set, by role.
+fn peers_in<C: PublicKey>(set: &PeerSet<C>) -> Result<TrackedPeers<C>, AllocError>
+    ensures peers { IfOk result (λ peers. peers ≡ peers_of (plain_set set.now)) }
+    ensures err { OnErr result (has_peers (plain_set set.now) ≡ true) }
+{
+    Ok(TrackedPeers {
+        primary: set.primary().ordered().clone()?,
+        secondary: set.secondary().clone()?,
+    })
+}

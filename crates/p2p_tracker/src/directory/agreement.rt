@@ -1,0 +1,40 @@
+//! What holds between calls.
+
+ghost use Rattle.std.specs.Prelude.{ℕ, ◌≡◌, true, false, IfSome, is_some, map, not, slice_get};
+ghost use Rattle.std.specs.Option.{option_map};
+
+use crate::directory::Directory;
+use p2p_discovery::codec::PublicKey;
+
+impl<C: PublicKey> Directory<C> {
+    ghost use Rattle.p2p_tracker.specs.Directory.{record_of, cooldown_of, is_named_of};
+    ghost use Rattle.p2p_tracker.specs.Directory.{bit_vec_at, wants_in};
+    ghost use Rattle.p2p_tracker.specs.World.{reservable_from, dialable_from};
+    ghost use Rattle.p2p_tracker.specs.Record.{is_deletable};
+    ghost use Rattle.p2p_tracker.specs.declared.record.Role.TheVariants as Role;
+    ghost use Rattle.p2p_tracker.specs.PeerSets.{set_count};
+
+    /// What holds between calls: a record counts the retained sets that have its peer, a peer that
+    /// some set has is one with a record, no record is kept that may go, each record has the moments
+    /// that are kept of its peer, or the epoch where none are, and the bits of a retained set, which
+    /// [`Directory::get_random_bit_vec`] answers, are for each primary peer in order the opposite of
+    /// want. Does nothing.
+    pub fn agrees(&self)
+        ensures counts { (q : C) → IfSome (record_of C.cmp self.now q) (λ r.
+            (r.primary_sets ≡ set_count C.cmp Role.Primary q self.now.sets)
+            × (r.secondary_sets ≡ set_count C.cmp Role.Secondary q self.now.sets)) }
+        ensures named { (q : C) → is_named_of C.cmp self.now q ≡ true →
+            is_some (record_of C.cmp self.now q) ≡ true }
+        ensures kept { (q : C) → IfSome (record_of C.cmp self.now q) (λ r.
+            is_deletable r ≡ false) }
+        ensures cooled { (q : C) → IfSome (record_of C.cmp self.now q) (λ r.
+            (r.next_reservable_at ≡ reservable_from (cooldown_of C.cmp self.now q))
+            × (r.next_dial_at ≡ dialable_from (cooldown_of C.cmp self.now q))) }
+        ensures bits { (place : ℕ) → bit_vec_at C.cmp self.now place ≡ option_map (λ set. record {
+          index = set.index;
+          bits = map (λ q. not (wants_in C.cmp self.now q)) set.primary;
+        }) (slice_get self.now.sets place) }
+    {
+        let _count = self.records.len();
+    }
+}

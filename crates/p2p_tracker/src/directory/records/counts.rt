@@ -1,0 +1,289 @@
+//! The counts of sets in the records of many peers.
+
+ghost use Rattle.std.specs.Prelude.{◌≡◌, ◌+◌, ◌≤◌, ◌<◌, ◌++◌, ◌∷◌, [], ℕ, false, true, IfOk, OnOk};
+ghost use Rattle.std.specs.Prelude.{OnErr, if◌then◌else◌, length, vec_capacity};
+ghost use Rattle.std.specs.List.{filter, IsDistinct};
+ghost use Rattle.std.specs.List.Sorted.{IsStrictlySortedBy};
+ghost use Rattle.std.specs.Ordering.{eq_by_cmp};
+ghost use Rattle.std.specs.Option.{option_map_or};
+ghost use Rattle.std.specs.Map.{keys_of};
+ghost use Rattle.p2p_tracker.specs.declared.record.Role.{Role};
+ghost use Rattle.p2p_tracker.specs.declared.record.Role.TheVariants.{Primary, Secondary};
+ghost use Rattle.p2p_tracker.specs.Private.Counts.{one_set_more, one_set_less};
+ghost use Rattle.p2p_tracker.specs.Private.Counts.{is_torn_down_without};
+ghost use Rattle.p2p_tracker.specs.PeerSets.{has_key, AreRolesDisjoint};
+ghost use Rattle.p2p_tracker.specs.Directory.{record_at, is_known, ChangesAt};
+ghost use Rattle.p2p_tracker.specs.Cooldowns.{cooldown_in};
+ghost use Rattle.p2p_tracker.specs.Private.Window.{plain_set, set_with_bits};
+ghost use Rattle.p2p_tracker.specs.Private.Counts.{IsOfMap, record_joining, record_leaving};
+ghost use Rattle.p2p_tracker.specs.Private.Counts.{is_torn_down_leaving, IsRestored};
+
+use crate::directory::records::Records;
+use crate::kept::cooldowns::Cooldowns;
+use crate::kept::{PeerSet, forget};
+use crate::record::{Record, Role};
+use p2p_discovery::codec::PublicKey;
+use p2p_discovery::sets::{OrderedSet, SetError};
+use std::alloc::AllocError;
+use std::collections::btree_map::Entry;
+
+impl<C: PublicKey> Records<C> {
+    // Counts one set of the peer more, in a new record with its moments where it has none, and says
+    // whether the peer's info is known, and not wanted.
+    fn join_one(
+        &mut self,
+        peer: &C,
+        role: Role,
+        limit: usize,
+        cooldowns: &Cooldowns<C>,
+    ) -> Result<bool, AllocError>
+        ensures ok { OnOk result (ChangesAt C.cmp self.old self.new peer.now
+            (one_set_more role (cooldown_in C.cmp cooldowns.now peer.now))) }
+        ensures known { IfOk result (λ known.
+            known ≡ is_known limit (record_at C.cmp self.old peer.now)) }
+        ensures err { OnErr result (self.new ≡ self.old) }
+    {
+        match self.map.entry(*peer) {
+            Ok(Entry::Occupied(entry)) => {
+                let found = entry.into_mut();
+                found.count_more(role);
+                Ok(!found.want(limit))
+            }
+            Ok(Entry::Vacant(entry)) => {
+                let mut record = Record::cooled(cooldowns.get(peer));
+                record.count_more(role);
+                entry.insert(record);
+                Ok(false)
+            }
+            Err(refused) => {
+                forget(refused);
+                Err(AllocError)
+            }
+        }
+    }
+
+    // Counts one set of the peer less, takes out its record where that is deletable then, and says
+    // whether its connection has to end.
+    fn leave_one(&mut self, peer: &C, role: Role) -> bool
+        ensures records { ChangesAt C.cmp self.old self.new peer.now (one_set_less role) }
+        ensures torn { result ≡ option_map_or (is_torn_down_without role)
+            (record_at C.cmp self.old peer.now) false }
+    {
+        let mut torn = false;
+        if let Some(found) = self.map.get_mut(peer) {
+            torn = found.is_torn_down_without(role);
+            found.count_less(role);
+            if found.deletable() {
+                forget(self.map.remove(peer));
+            }
+        }
+        torn
+    }
+
+    // Counts one set of each peer less, and adds to a list those whose connections have to end.
+    fn leave_each(&mut self, peers: &[C], role: Role, torn: &mut Vec<C>)
+        requires sorted { IsStrictlySortedBy C.cmp peers.now }
+        requires room { length torn.old.items + length peers.now ≤ vec_capacity torn.old }
+        ensures records { (q : C) → record_at C.cmp self.new q ≡
+            (if has_key C.cmp peers.now q then one_set_less role (record_at C.cmp self.old q)
+            else record_at C.cmp self.old q) }
+        ensures torn { torn.new.items ≡ torn.old.items ++
+            filter (λ q. option_map_or (is_torn_down_without role)
+            (record_at C.cmp self.old q) false) peers.now }
+        ensures capacity { vec_capacity torn.new ≡ vec_capacity torn.old }
+        ensures length { length torn.new.items ≤ length torn.old.items + length peers.now }
+    {
+        for peer in peers {
+            let ends = self.leave_one(peer, role);
+            push_if(torn, *peer, ends);
+        }
+    }
+
+    // Counts one set of each peer less, where nobody's connection has to end by it.
+    fn undo_each(&mut self, peers: &[C], role: Role)
+        requires { IsStrictlySortedBy C.cmp peers.now }
+        ensures { (q : C) → record_at C.cmp self.new q ≡
+            (if has_key C.cmp peers.now q then one_set_less role (record_at C.cmp self.old q)
+            else record_at C.cmp self.old q) }
+    {
+        for peer in peers {
+            let _ = self.leave_one(peer, role);
+        }
+    }
+
+    // Counts one set of each peer more, or leaves all as it was.
+    fn join_secondary(
+        &mut self,
+        peers: &[C],
+        limit: usize,
+        cooldowns: &Cooldowns<C>,
+    ) -> Result<(), AllocError>
+        requires { IsStrictlySortedBy C.cmp peers.now }
+        ensures ok { OnOk result ((q : C) → record_at C.cmp self.new q ≡
+            (if has_key C.cmp peers.now q
+            then one_set_more Secondary (cooldown_in C.cmp cooldowns.now q)
+            (record_at C.cmp self.old q)
+            else record_at C.cmp self.old q)) }
+        ensures err { OnErr result ((q : C) →
+            (has_key C.cmp peers.now q ≡ true →
+            IsRestored C.cmp Secondary (cooldown_in C.cmp cooldowns.now q)
+            (record_at C.cmp self.old q)) →
+            record_at C.cmp self.new q ≡ record_at C.cmp self.old q) }
+    {
+        for (place, peer) in peers.iter().enumerate() {
+            if let Err(refused) = self.join_one(peer, Role::Secondary, limit, cooldowns) {
+                self.undo_each(&peers[..place], Role::Secondary);
+                return Err(refused);
+            }
+        }
+        Ok(())
+    }
+
+    // Counts one set of each primary peer more and sets its bit, or leaves all records as they
+    // were.
+    fn join_primary(
+        &mut self,
+        set: &mut PeerSet<C>,
+        limit: usize,
+        cooldowns: &Cooldowns<C>,
+    ) -> Result<(), AllocError>
+        ensures disjoint { AreRolesDisjoint C.cmp (plain_set set.old) }
+        ensures ok { OnOk result ((q : C) → record_at C.cmp self.new q ≡
+            (if has_key C.cmp (keys_of set.old.primary) q
+            then one_set_more Primary (cooldown_in C.cmp cooldowns.now q)
+            (record_at C.cmp self.old q)
+            else record_at C.cmp self.old q)) }
+        ensures bits { OnOk result (set.new ≡
+            set_with_bits (λ q. is_known limit (record_at C.cmp self.old q)) (plain_set set.old)) }
+        ensures err { OnErr result ((q : C) →
+            (has_key C.cmp (keys_of set.old.primary) q ≡ true →
+            IsRestored C.cmp Primary (cooldown_in C.cmp cooldowns.now q)
+            (record_at C.cmp self.old q)) →
+            record_at C.cmp self.new q ≡ record_at C.cmp self.old q) }
+    {
+        // For the proof: the clauses of `as_slice` say that the peers are in order.
+        let _peers = set.primary().ordered().as_slice();
+        for place in 0..set.primary().len() {
+            let peer = set.primary()[place];
+            match self.join_one(&peer, Role::Primary, limit, cooldowns) {
+                Ok(known) => set.set_bit(place, known),
+                Err(refused) => {
+                    self.undo_each(&set.primary().ordered().as_slice()[..place], Role::Primary);
+                    return Err(refused);
+                }
+            }
+        }
+        Ok(())
+    }
+
+    // Counts a set more for the peers of each role and sets its bits, or leaves what is kept of
+    // each peer as it was.
+    fn join_roles(
+        &mut self,
+        set: &mut PeerSet<C>,
+        limit: usize,
+        cooldowns: &Cooldowns<C>,
+    ) -> Result<(), AllocError>
+        ensures disjoint { AreRolesDisjoint C.cmp (plain_set set.old) }
+        ensures ok { OnOk result ((q : C) → record_at C.cmp self.new q ≡
+            record_joining C.cmp (plain_set set.old) (cooldown_in C.cmp cooldowns.now q) q
+            (record_at C.cmp self.old q)) }
+        ensures bits { OnOk result (set.new ≡
+            set_with_bits (λ q. is_known limit (record_at C.cmp self.old q)) (plain_set set.old)) }
+        ensures err { OnErr result (
+            ((q : C) (role : Role) → IsRestored C.cmp role (cooldown_in C.cmp cooldowns.now q)
+            (record_at C.cmp self.old q)) →
+            (q : C) → record_at C.cmp self.new q ≡ record_at C.cmp self.old q) }
+    {
+        if let Err(refused) = self.join_primary(set, limit, cooldowns) {
+            return Err(refused);
+        }
+        let joined = self.join_secondary(set.secondary().as_slice(), limit, cooldowns);
+        if let Err(refused) = joined {
+            self.undo_each(set.primary().ordered().as_slice(), Role::Primary);
+            return Err(refused);
+        }
+        Ok(())
+    }
+
+    /// Counts a set that comes for each of its peers and sets its bits, or leaves all records as
+    /// they were where memory is refused. A peer that has no record gets one, with its moments.
+    pub fn join(
+        &mut self,
+        set: &mut PeerSet<C>,
+        limit: usize,
+        cooldowns: &Cooldowns<C>,
+    ) -> Result<(), AllocError>
+        ensures disjoint { AreRolesDisjoint C.cmp (plain_set set.old) }
+        ensures map { IsOfMap C.cmp self.old }
+        ensures ok { OnOk result ((q : C) → record_at C.cmp self.new q ≡
+            record_joining C.cmp (plain_set set.old) (cooldown_in C.cmp cooldowns.now q) q
+            (record_at C.cmp self.old q)) }
+        ensures bits { OnOk result (set.new ≡
+            set_with_bits (λ q. is_known limit (record_at C.cmp self.old q)) (plain_set set.old)) }
+        ensures err { OnErr result (
+            ((q : C) (role : Role) → IsRestored C.cmp role (cooldown_in C.cmp cooldowns.now q)
+            (record_at C.cmp self.old q)) →
+            self.new ≡ self.old) }
+    {
+        // For the proof: the clauses of `len` say that the keys are in order.
+        let _before = self.map.len();
+        let joined = self.join_roles(set, limit, cooldowns);
+        let _after = self.map.len();
+        joined
+    }
+
+    /// Counts a set less for each of its peers, where nobody's connection has to end by it.
+    pub fn undo(&mut self, set: &PeerSet<C>)
+        ensures map { IsOfMap C.cmp self.new }
+        ensures records { (q : C) → record_at C.cmp self.new q ≡
+            record_leaving C.cmp (plain_set set.now) q (record_at C.cmp self.old q) }
+    {
+        self.undo_each(set.primary().ordered().as_slice(), Role::Primary);
+        self.undo_each(set.secondary().as_slice(), Role::Secondary);
+        // For the proof: the clauses of `len` say that the keys are in order.
+        let _after = self.map.len();
+    }
+
+    /// Counts a set that goes for each of its peers, and takes out the records that are deletable
+    /// then. Answers the peers whose connections have to end, in the list that is handed in: there
+    /// is room in it for all peers of the set.
+    pub fn leave(&mut self, set: &PeerSet<C>, mut torn: Vec<C>) -> OrderedSet<C>
+        requires empty { torn.items ≡ [] }
+        requires room { length set.now.primary + length set.now.secondary ≤ vec_capacity torn }
+        ensures disjoint { AreRolesDisjoint C.cmp (plain_set set.now) }
+        ensures records { (q : C) → record_at C.cmp self.new q ≡
+            record_leaving C.cmp (plain_set set.now) q (record_at C.cmp self.old q) }
+        ensures sorted { IsStrictlySortedBy C.cmp result }
+        ensures members { (q : C) → has_key C.cmp result q ≡
+            is_torn_down_leaving C.cmp (plain_set set.now) q (record_at C.cmp self.old q) }
+    {
+        self.leave_each(set.primary().ordered().as_slice(), Role::Primary, &mut torn);
+        self.leave_each(set.secondary().as_slice(), Role::Secondary, &mut torn);
+        ordered(torn)
+    }
+}
+
+// Adds the peer to a list that has room for it, where it is to be added.
+fn push_if<C: PublicKey>(list: &mut Vec<C>, peer: C, is_added: bool)
+    requires { length list.old.items < vec_capacity list.old }
+    ensures items { list.new.items ≡ list.old.items ++ (if is_added then peer ∷ [] else []) }
+    ensures capacity { vec_capacity list.new ≡ vec_capacity list.old }
+    ensures length { length list.new.items ≤ length list.old.items + 1 }
+{
+    if is_added {
+        list.push_reserved(peer);
+    }
+}
+
+/// The set of these peers, which are distinct.
+pub fn ordered<C: PublicKey>(peers: Vec<C>) -> OrderedSet<C>
+    requires { IsDistinct (eq_by_cmp C.cmp) peers.items }
+    ensures sorted { IsStrictlySortedBy C.cmp result }
+    ensures members { (q : C) → has_key C.cmp result q ≡ has_key C.cmp peers.items q }
+{
+    match OrderedSet::try_from(peers) {
+        Ok(set) => set,
+        Err(SetError::Duplicate) => unreachable!(),
+    }
+}

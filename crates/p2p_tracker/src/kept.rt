@@ -1,0 +1,426 @@
+//! What is retained of peer sets, with a bit beside each primary peer. It knows nothing of records.
+
+ghost use Rattle.std.specs.Prelude.{◌≡◌, ◌++◌, ◌∷◌, [], true, false, not, map, length, slice_get};
+ghost use Rattle.std.specs.Prelude.{IfNone, IfOk, IfErr, OnErr, OnOk, None, Some};
+ghost use Rattle.std.specs.Prelude.{option_to_list, if◌then◌else◌};
+ghost use Rattle.std.specs.BTreeMap.{is_at, get};
+ghost use Rattle.std.specs.List.{filter, count_by, last_or};
+ghost use Rattle.std.specs.Map.{keys_of};
+ghost use Rattle.std.specs.Option.{option_copied};
+ghost use Rattle.p2p_discovery.specs.BitSets.{with_bit};
+ghost use Rattle.p2p_tracker.specs.PeerSets.{has_key, set_of, latest_index, is_above};
+ghost use Rattle.p2p_tracker.specs.PeerSets.{AreRolesDisjoint};
+ghost use Rattle.p2p_tracker.specs.Private.Counts.{leaving_count};
+ghost use Rattle.p2p_tracker.specs.Private.Window.{SetWithBits, plain_set, plain_sets};
+ghost use Rattle.p2p_tracker.specs.Private.Window.{set_with_bits, set_at, has_primary};
+ghost use Rattle.p2p_tracker.specs.Private.Window.{with_bit_of, IsAscending};
+ghost use Rattle.p2p_tracker.specs.Private.Places.{IsIndexed, bit_at, bits_at};
+
+use crate::kept::places::{End, Place, Places, Queue};
+use p2p_discovery::codec::PublicKey;
+use p2p_discovery::sets::{BitSet, OrderedSet, SetError};
+use std::alloc::{AllocError, Global};
+use std::collections::{BTreeMap, VecDeque};
+use std::marker::Model;
+
+pub mod blocks;
+pub mod cooldowns;
+pub mod places;
+
+/// Lets a value go. Its drop, which branches on what it holds, stands here and not in the caller.
+pub fn forget<T: Drop>(_value: T) {}
+
+/// Gives the key this value in place of the one that it may have, or leaves all as it was where
+/// memory is refused.
+pub fn put<C: PublicKey, V: Drop>(
+    map: &mut BTreeMap<C, V>,
+    key: C,
+    value: V,
+) -> Result<(), AllocError>
+    ensures ok { OnOk result ((q : C) → get C.cmp map.new q ≡
+        (if is_at (C.cmp key) q then Some value else get C.cmp map.old q)) }
+    ensures err { OnErr result (map.new.entries ≡ map.old.entries) }
+{
+    match map.insert(key, value) {
+        Ok(before) => {
+            forget(before);
+            Ok(())
+        }
+        Err(refused) => {
+            forget(refused);
+            Err(AllocError)
+        }
+    }
+}
+
+/// A retained set: its index, its primary peers, each with a bit, and those of its secondary peers
+/// that are not primary. The bit says whether the peer's info is known and not wanted.
+#[derive(Drop)]
+pub struct PeerSet<C: PublicKey> {
+    index: u64,
+    primary: BitSet<C>,
+    secondary: OrderedSet<C>,
+}
+
+impl<C: PublicKey> Model for PeerSet<C> {
+    ghost use Rattle.p2p_tracker.specs.Private.Window.{SetWithBits, plain_set};
+
+    ghost Value = { SetWithBits C };
+
+    ghost use Rattle.p2p_tracker.specs.PeerSets.{AreRolesDisjoint};
+
+    ghost view = { λ set. record {
+      index = set.index;
+      primary = set.primary;
+      secondary = set.secondary;
+    } };
+
+    ghost invariant = { λ set. AreRolesDisjoint C.cmp
+        (plain_set (record {
+          index = set.index;
+          primary = set.primary;
+          secondary = set.secondary;
+        })) };
+}
+
+impl<C: PublicKey> PeerSet<C> {
+    /// The set of these peers, with no bit set; a peer in both roles is primary only.
+    pub fn new(
+        alloc: Global,
+        index: u64,
+        primary: OrderedSet<C>,
+        secondary: OrderedSet<C>,
+    ) -> Result<PeerSet<C>, AllocError>
+        ensures { IfOk result (λ set.
+            set ≡ set_with_bits (λ q. false) (set_of C.cmp index primary secondary)) }
+    {
+        let secondary = without(alloc, &secondary, &primary)?;
+        let primary = BitSet::new(alloc, primary)?;
+        Ok(PeerSet {
+            index,
+            primary,
+            secondary,
+        })
+    }
+
+    /// Its index.
+    pub fn index(&self) -> u64
+        ensures { result ≡ self.now.index }
+    {
+        self.index
+    }
+
+    /// Its primary peers with their bits.
+    pub fn primary(&self) -> &BitSet<C>
+        ensures bits { result.now ≡ self.now.primary }
+        ensures disjoint { AreRolesDisjoint C.cmp (plain_set self.now) }
+    {
+        &self.primary
+    }
+
+    /// Its secondary peers.
+    pub fn secondary(&self) -> &OrderedSet<C>
+        ensures { result.now ≡ self.now.secondary }
+    {
+        &self.secondary
+    }
+
+    /// Sets the bit of the primary peer at a place, if there is one.
+    pub fn set_bit(&mut self, place: usize, known: bool)
+        ensures { self.new ≡
+            record self.old { primary = with_bit self.old.primary place known } }
+    {
+        self.primary.update_at(place, known);
+    }
+}
+
+// Whether the peer is in the set.
+fn contains<C: PublicKey>(set: &OrderedSet<C>, peer: &C) -> bool
+    ensures { result ≡ has_key C.cmp set.now peer.now }
+{
+    match set.position(peer) {
+        Some(_) => true,
+        None => false,
+    }
+}
+
+// Those of the peers that are not in the set.
+fn peers_outside<C: PublicKey>(
+    alloc: Global,
+    peers: &[C],
+    set: &OrderedSet<C>,
+) -> Result<Vec<C>, AllocError>
+    ensures { IfOk result (λ rest. rest.items ≡
+        filter (λ q. not (has_key C.cmp set.now q)) peers.now) }
+{
+    let mut rest = Vec::new(alloc);
+    for peer in peers {
+        if !contains(set, peer) {
+            rest.push(*peer)?;
+        }
+    }
+    Ok(rest)
+}
+
+// The peers of one set that are not in another.
+fn without<C: PublicKey>(
+    alloc: Global,
+    set: &OrderedSet<C>,
+    other: &OrderedSet<C>,
+) -> Result<OrderedSet<C>, AllocError>
+    ensures { IfOk result (λ rest. rest ≡ filter (λ q. not (has_key C.cmp other.now q)) set.now) }
+{
+    let rest = peers_outside(alloc, set.as_slice(), other)?;
+    match OrderedSet::try_from(rest) {
+        Ok(rest) => Ok(rest),
+        Err(SetError::Duplicate) => unreachable!(),
+    }
+}
+
+/// The retained sets. A contract sees the list of them, with a bit beside each primary peer, in
+/// ascending order of their indices.
+#[derive(Drop)]
+pub struct Window<C: PublicKey> {
+    sets: VecDeque<PeerSet<C>>,
+    places: Places<C>,
+}
+
+impl<C: PublicKey> Model for Window<C> {
+    ghost use Rattle.std.specs.Prelude.{List};
+    ghost use Rattle.p2p_tracker.specs.Private.Window.{SetWithBits};
+    ghost use Rattle.p2p_tracker.specs.Private.Places.{IsIndexed};
+
+    ghost Value = { List (SetWithBits C) };
+
+    ghost view = { λ w. w.sets.items };
+
+    ghost invariant = { λ w. IsIndexed C.cmp w.places w.sets.items };
+}
+
+impl<C: PublicKey> Window<C> {
+    /// A window with no set.
+    pub fn new(alloc: Global) -> Self
+        ensures { result ≡ [] }
+    {
+        Window {
+            sets: VecDeque::new(alloc),
+            places: Places::new(alloc),
+        }
+    }
+
+    /// The allocator of its sets.
+    pub fn allocator(&self) -> Global {
+        *self.sets.allocator()
+    }
+
+    /// How many sets there are.
+    pub fn len(&self) -> usize
+        ensures { result ≡ length self.now }
+    {
+        self.sets.len()
+    }
+
+    /// The set at a place, counted from 0 in order of index.
+    pub fn at(&self, place: usize) -> Option<&PeerSet<C>>
+        ensures { option_copied result ≡ slice_get self.now place }
+    {
+        self.sets.get(place)
+    }
+
+    /// The set with an index.
+    pub fn get(&self, index: u64) -> Option<&PeerSet<C>>
+        ensures { option_copied result ≡ set_at self.now index }
+    {
+        set_with_index(&self.sets, index)
+    }
+
+    /// The latest set.
+    pub fn last(&self) -> Option<&PeerSet<C>>
+        ensures { option_copied result ≡ last_or None self.now }
+    {
+        self.sets.back()
+    }
+
+    /// The index of the latest set.
+    pub fn latest_index(&self) -> Option<u64>
+        ensures { result ≡ latest_index (plain_sets self.now) }
+    {
+        match self.sets.back() {
+            Some(set) => Some(set.index()),
+            None => None,
+        }
+    }
+
+    /// Whether the index is above that of the latest set, if there is one.
+    pub fn is_next(&self, index: u64) -> bool
+        ensures { result ≡ is_above index (latest_index (plain_sets self.now)) }
+    {
+        match self.latest_index() {
+            Some(latest) => latest < index,
+            None => true,
+        }
+    }
+
+    /// How many peers the oldest set has, where it goes when one more comes: there are `max` sets.
+    ///
+    /// # Errors
+    ///
+    /// `AllocError` where there are more than any list could hold.
+    pub fn leaving_count(&self, max: usize) -> Result<usize, AllocError>
+        ensures { IfOk result (λ count. count ≡ leaving_count max (plain_sets self.now)) }
+    {
+        match self.sets.front() {
+            Some(oldest) if self.sets.len() == max => {
+                let primary = oldest.primary.len();
+                primary
+                    .checked_add(oldest.secondary.len())
+                    .ok_or(AllocError)
+            }
+            _ => Ok(0),
+        }
+    }
+
+    /// Takes in a set as the latest. Where memory is refused all is as it was, and the set comes
+    /// back.
+    ///
+    /// # Conditions
+    ///
+    /// Its index is above the latest.
+    ///
+    /// # Cost
+    ///
+    /// One search among the places for each primary peer of the set.
+    pub fn push(&mut self, set: PeerSet<C>) -> Result<(), PeerSet<C>>
+        requires { is_above set.index (latest_index (plain_sets self.old)) ≡ true }
+        ensures ok { OnOk result (self.new ≡ self.old ++ set ∷ []) }
+        ensures err { OnErr result (self.new ≡ self.old) }
+        ensures back { IfErr result (λ back. back ≡ set) }
+    {
+        push_set(&mut self.sets, &mut self.places, set)
+    }
+
+    /// Takes out the set with the least index. Takes no memory.
+    ///
+    /// # Cost
+    ///
+    /// One search among the places for each primary peer of the set, and one more for each that has
+    /// no place left.
+    pub fn pop_first(&mut self) -> Option<PeerSet<C>>
+        ensures sets { self.old ≡ option_to_list result ++ self.new }
+        ensures none { IfNone result (length self.old ≡ 0) }
+    {
+        pop_set(&mut self.sets, &mut self.places)
+    }
+
+    /// Sets the peer's bit in every set that has it as primary, and answers in how many. Takes no
+    /// memory.
+    ///
+    /// # Cost
+    ///
+    /// One search among the places, and for each set that has the peer as primary the search of that
+    /// set by its index, and one bit. No other set is looked at, and no list of peers is searched.
+    pub fn refresh(&mut self, peer: &C, known: bool) -> usize
+        ensures sets { self.new ≡ map (with_bit_of C.cmp peer.now known) self.old }
+        ensures count { result ≡ count_by (has_primary C.cmp peer.now) self.old }
+    {
+        refresh_places(&mut self.sets, &self.places, peer, known)
+    }
+}
+
+// The first set with an index.
+fn set_with_index<C: PublicKey>(sets: &VecDeque<PeerSet<C>>, index: u64) -> Option<&PeerSet<C>>
+    ensures { option_copied result ≡ set_at sets.now.items index }
+{
+    for place in 0..sets.len() {
+        let set = &sets[place];
+        if set.index() == index {
+            return Some(set);
+        }
+    }
+    None
+}
+
+// Takes in a set as the latest with the places of its primary peers, or leaves both as they were.
+fn push_set<C: PublicKey>(
+    sets: &mut VecDeque<PeerSet<C>>,
+    places: &mut Places<C>,
+    set: PeerSet<C>,
+) -> Result<(), PeerSet<C>>
+    requires indexed { IsIndexed C.cmp places.old sets.old.items }
+    requires above { is_above set.index (latest_index (plain_sets sets.old.items)) ≡ true }
+    ensures indexed { IsIndexed C.cmp places.new sets.new.items }
+    ensures ok { OnOk result (sets.new.items ≡ sets.old.items ++ set ∷ []) }
+    ensures err { OnErr result (sets.new.items ≡ sets.old.items) }
+    ensures back { IfErr result (λ back. back ≡ set) }
+{
+    if sets.try_reserve(1).is_err() {
+        return Err(set);
+    }
+    if places
+        .add_each(set.primary.ordered().as_slice(), set.index)
+        .is_err()
+    {
+        return Err(set);
+    }
+    match sets.push_back(set) {
+        Ok(()) => Ok(()),
+        Err(refused) => Err(refused.value),
+    }
+}
+
+// Takes out the first set with the places of its primary peers.
+fn pop_set<C: PublicKey>(
+    sets: &mut VecDeque<PeerSet<C>>,
+    places: &mut Places<C>,
+) -> Option<PeerSet<C>>
+    requires { IsIndexed C.cmp places.old sets.old.items }
+    ensures indexed { IsIndexed C.cmp places.new sets.new.items }
+    ensures sets { sets.old.items ≡ option_to_list result ++ sets.new.items }
+    ensures none { IfNone result (length sets.old.items ≡ 0) }
+{
+    let oldest = sets.pop_front()?;
+    places.remove_each(oldest.primary.ordered().as_slice(), End::Front);
+    Some(oldest)
+}
+
+// Sets the bit at each place of the peer, and answers how many there are.
+fn refresh_places<C: PublicKey>(
+    sets: &mut VecDeque<PeerSet<C>>,
+    places: &Places<C>,
+    peer: &C,
+    known: bool,
+) -> usize
+    requires { IsIndexed C.cmp places.now sets.old.items }
+    ensures sets { sets.new.items ≡ map (with_bit_of C.cmp peer.now known) sets.old.items }
+    ensures count { result ≡ count_by (has_primary C.cmp peer.now) sets.old.items }
+{
+    match places.get(peer) {
+        Some(queue) => set_bits(sets, queue, known),
+        None => 0,
+    }
+}
+
+// Sets the bit at each of the places, and answers how many there are.
+fn set_bits<C: PublicKey>(sets: &mut VecDeque<PeerSet<C>>, places: &Queue, known: bool) -> usize
+    requires { IsAscending sets.old.items }
+    ensures sets { sets.new.items ≡ bits_at known places.now sets.old.items }
+    ensures count { result ≡ length places.now }
+{
+    set_bit_at(sets, &places.first, known);
+    for k in 0..places.rest.len() {
+        set_bit_at(sets, &places.rest[k], known);
+    }
+    places.rest.len() + 1
+}
+
+// Sets the bit at a place, in the set with its index.
+fn set_bit_at<C: PublicKey>(sets: &mut VecDeque<PeerSet<C>>, place: &Place, known: bool)
+    requires { IsAscending sets.old.items }
+    ensures { sets.new.items ≡ map (bit_at known place.now) sets.old.items }
+{
+    if let Ok(found) = sets.binary_search_by_key(&place.set, |set| set.index()) {
+        if let Some(set) = sets.get_mut(found) {
+            set.set_bit(place.at, known);
+        }
+    }
+}

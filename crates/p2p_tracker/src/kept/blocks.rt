@@ -1,0 +1,217 @@
+//! Until when the blocks of peers hold.
+
+ghost use Rattle.std.specs.Prelude.{ℕ, ◌≡◌, ◌≤◌, ◌<◌, [], length, not, true, false, if◌then◌else◌};
+ghost use Rattle.std.specs.Prelude.{IfNone, IfSome, OnErr, OnOk, Some};
+ghost use Rattle.std.specs.Duration.{as_nanos};
+ghost use Rattle.std.specs.List.{filter, count_by};
+ghost use Rattle.std.specs.List.Sorted.{IsStrictlySortedBy};
+ghost use Rattle.std.specs.Map.{keys_of};
+ghost use Rattle.std.specs.BTreeMap.{is_at};
+ghost use Rattle.std.specs.BTreeSet.{contains};
+ghost use Rattle.std.specs.Option.{option_map};
+ghost use Rattle.p2p_tracker.specs.Blocks.{in_nanos, is_later, unblock_in, IsLeastBlock};
+ghost use Rattle.p2p_tracker.specs.Private.Ends.{end_cmp, AreEnds};
+
+use crate::kept::forget;
+use p2p_discovery::codec::PublicKey;
+use std::alloc::{AllocError, Global};
+use std::collections::{BTreeMap, BTreeSet, btree_map};
+use std::marker::Model;
+use std::time::Duration;
+
+/// Peers, each with the moment until which its block holds: a time since the epoch. A contract sees
+/// the list of them in ascending order of their keys, with the moments in nanoseconds.
+#[derive(Drop)]
+pub struct Blocks<C: PublicKey> {
+    alloc: Global,
+    moments: BTreeMap<C, Duration>,
+    ends: BTreeSet<(u128, C)>,
+}
+
+impl<C: PublicKey> Model for Blocks<C> {
+    ghost use Rattle.std.specs.Prelude.{ℕ, List};
+    ghost use Rattle.p2p_tracker.specs.Blocks.{in_nanos};
+    ghost use Rattle.p2p_tracker.specs.Private.Ends.{AreEnds};
+
+    ghost Value = { List (C × ℕ) };
+
+    ghost view = { λ b. in_nanos b.moments.entries };
+
+    ghost invariant = { λ b. AreEnds C.cmp b.ends.keys (in_nanos b.moments.entries) };
+}
+
+impl<C: PublicKey> Blocks<C> {
+    /// No block. Takes no memory.
+    pub fn new(alloc: Global) -> Self
+        ensures { result ≡ [] }
+    {
+        Blocks {
+            alloc,
+            moments: BTreeMap::new(alloc),
+            ends: BTreeSet::new(alloc),
+        }
+    }
+
+    /// The allocator of its blocks.
+    pub fn allocator(&self) -> Global {
+        self.alloc
+    }
+
+    /// Gives the peer this moment, in place of the one that it may have. Other peers keep theirs.
+    ///
+    /// # Errors
+    ///
+    /// `AllocError` where memory is refused; then nothing has changed.
+    ///
+    /// # Cost
+    ///
+    /// One search among the blocks and one among the moments, and one more there where the peer had
+    /// another moment or memory is refused.
+    pub fn put(&mut self, key: C, moment: Duration) -> Result<(), AllocError>
+        ensures err { OnErr result (self.new ≡ self.old) }
+        ensures ok { OnOk result ((q : C) → unblock_in C.cmp self.new q ≡
+            (if is_at (C.cmp key) q then Some (as_nanos moment)
+            else unblock_in C.cmp self.old q)) }
+    {
+        put_end(&mut self.moments, &mut self.ends, key, moment)
+    }
+
+    /// The moment of the peer, or `None` where it has none. Takes no memory.
+    ///
+    /// # Cost
+    ///
+    /// One search among the blocks.
+    pub fn get(&self, key: &C) -> Option<Duration>
+        ensures { option_map as_nanos result ≡ unblock_in C.cmp self.now key.now }
+    {
+        self.moments.get(key).copied()
+    }
+
+    /// The least moment with its peer, of equal moments the one with the least key; `None` exactly
+    /// where there is no block. Takes no memory.
+    ///
+    /// # Cost
+    ///
+    /// One step to the first of the moments, and one search among the blocks.
+    pub fn least(&self) -> Option<(C, Duration)>
+        ensures none { IfNone result (self.now ≡ []) }
+        ensures least { IfSome result (λ e. IsLeastBlock C.cmp self.now (e.0, as_nanos e.1)) }
+    {
+        first_to_end(&self.moments, &self.ends)
+    }
+
+    /// Takes out each peer whose moment is at or before `now`, a time since the epoch, and answers
+    /// how many there were. Other peers keep theirs. Takes no memory.
+    ///
+    /// # Cost
+    ///
+    /// One step to the first of the moments, and for each block that ends one removal there and one
+    /// among the blocks.
+    pub fn drop_until(&mut self, now: Duration) -> usize
+        ensures sorted { IsStrictlySortedBy C.cmp (keys_of self.old) }
+        ensures left { self.new ≡ filter (is_later (as_nanos now)) self.old }
+        ensures count { result ≡ count_by (λ e. not (is_later (as_nanos now) e)) self.old }
+    {
+        let _moments = self.moments.len();
+        drop_ended(&mut self.moments, &mut self.ends, now)
+    }
+
+    /// The peers in ascending order of their keys, each with its moment. Takes no memory.
+    pub fn iter(&self) -> btree_map::Iter<'_, C, Duration>
+        ensures all { in_nanos result ≡ self.now }
+        ensures sorted { IsStrictlySortedBy C.cmp (keys_of self.now) }
+    {
+        self.moments.iter()
+    }
+}
+
+// Gives the key this moment in both. Where memory is refused both have the same pairs as before.
+fn put_end<C: PublicKey>(
+    moments: &mut BTreeMap<C, Duration>,
+    ends: &mut BTreeSet<(u128, C)>,
+    key: C,
+    moment: Duration,
+) -> Result<(), AllocError>
+    requires { AreEnds C.cmp ends.old.keys (in_nanos moments.old.entries) }
+    ensures ends { AreEnds C.cmp ends.new.keys (in_nanos moments.new.entries) }
+    ensures err { OnErr result (moments.new.entries ≡ moments.old.entries) }
+    ensures ok { OnOk result ((q : C) → unblock_in C.cmp (in_nanos moments.new.entries) q ≡
+        (if is_at (C.cmp key) q then Some (as_nanos moment)
+        else unblock_in C.cmp (in_nanos moments.old.entries) q)) }
+{
+    if let Err(refused) = ends.insert((moment.as_nanos(), key)) {
+        forget(refused);
+        return Err(AllocError);
+    }
+    match moments.insert(key, moment) {
+        Ok(Some(before)) => {
+            if before.as_nanos() != moment.as_nanos() {
+                ends.remove(&(before.as_nanos(), key));
+            }
+            Ok(())
+        }
+        Ok(None) => Ok(()),
+        Err(refused) => {
+            ends.remove(&(moment.as_nanos(), key));
+            forget(refused);
+            Err(AllocError)
+        }
+    }
+}
+
+// The least moment with its key, of equal moments the one of the least key.
+fn first_to_end<C: PublicKey>(
+    moments: &BTreeMap<C, Duration>,
+    ends: &BTreeSet<(u128, C)>,
+) -> Option<(C, Duration)>
+    requires { AreEnds C.cmp ends.now.keys (in_nanos moments.now.entries) }
+    ensures none { IfNone result (moments.now.entries ≡ []) }
+    ensures least { IfSome result (λ e.
+        IsLeastBlock C.cmp (in_nanos moments.now.entries) (e.0, as_nanos e.1)) }
+{
+    let (_, key) = ends.first()?;
+    let moment = moments.get(key)?;
+    Some((*key, *moment))
+}
+
+// Takes the first of the ends, where it is at or before `now`.
+pub(crate) fn take_ended<C: PublicKey>(
+    ends: &mut BTreeSet<(u128, C)>,
+    now: Duration,
+) -> Option<(u128, C)>
+    ensures some { IfSome result (λ end. (end.0 ≤ as_nanos now)
+        × (contains (end_cmp C.cmp) ends.old end ≡ true)
+        × ((e : ℕ × C) → contains (end_cmp C.cmp) ends.new e ≡
+        (if is_at (end_cmp C.cmp end) e then false else contains (end_cmp C.cmp) ends.old e))
+        × (length ends.new.keys < length ends.old.keys)) }
+    ensures none { IfNone result ((e : ℕ × C)
+        → contains (end_cmp C.cmp) ends.old e ≡ true → as_nanos now < e.0) }
+    ensures stay { IfNone result (ends.new.keys ≡ ends.old.keys) }
+{
+    match ends.first() {
+        Some((end, _)) if *end <= now.as_nanos() => ends.pop_first(),
+        _ => None,
+    }
+}
+
+// Takes out each pair whose moment is at or before `now`, and answers how many there were.
+fn drop_ended<C: PublicKey>(
+    moments: &mut BTreeMap<C, Duration>,
+    ends: &mut BTreeSet<(u128, C)>,
+    now: Duration,
+) -> usize
+    requires { AreEnds C.cmp ends.old.keys (in_nanos moments.old.entries) }
+    ensures ends { AreEnds C.cmp ends.new.keys (in_nanos moments.new.entries) }
+    ensures left { in_nanos moments.new.entries ≡
+        filter (is_later (as_nanos now)) (in_nanos moments.old.entries) }
+    ensures count { result ≡
+        count_by (λ e. not (is_later (as_nanos now) e)) (in_nanos moments.old.entries) }
+{
+    let mut count = 0;
+    let _most = moments.len();
+    while let Some(end) = take_ended(ends, now) {
+        moments.remove(&end.1);
+        count += 1;
+    }
+    count
+}

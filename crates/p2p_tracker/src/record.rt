@@ -1,0 +1,576 @@
+//! What is known of one peer.
+
+ghost use Rattle.std.specs.Prelude.{◌≡◌, ◌+◌, ◌-◌, ◌<◌, ◌^◌, [], false, not, true};
+ghost use Rattle.std.specs.Prelude.{IfOk, IfSome, IsOk, None};
+ghost use Rattle.std.specs.Option.{option_copied, option_map};
+ghost use Rattle.std.specs.Duration.{as_nanos};
+ghost use Rattle.p2p_discovery.specs.Ingress.{takes_none};
+ghost use Rattle.p2p_tracker.specs.Moments.{cap, jitter};
+ghost use Rattle.p2p_tracker.specs.History.{is_inert, is_reserved};
+ghost use Rattle.p2p_tracker.specs.Record.{new_record, reserve_answer, record_after_asking};
+ghost use Rattle.p2p_tracker.specs.Record.{reserved_record, moments_after, fresh};
+ghost use Rattle.p2p_tracker.specs.Cooldowns.{cooldown_view};
+ghost use Rattle.p2p_tracker.specs.Record.{is_eligible, is_deletable, needs_teardown};
+ghost use Rattle.p2p_tracker.specs.Record.{is_outbound_target};
+ghost use Rattle.p2p_tracker.specs.Record.{after_failure, after_success, is_myself};
+ghost use Rattle.p2p_tracker.specs.Record.{takes_info, address_after_update, wants_info};
+ghost use Rattle.p2p_tracker.specs.Record.{sharable_by};
+ghost use Rattle.p2p_tracker.specs.Record.{ingress_of, dial_view, dial_status, is_acceptable};
+ghost use Rattle.p2p_tracker.specs.Private.Counts.{with_one_more, with_one_less};
+ghost use Rattle.p2p_tracker.specs.Private.Counts.{is_torn_down_without};
+
+use p2p_discovery::codec::PublicKey;
+use p2p_discovery::discovery::Info;
+use p2p_discovery::types::Ingress;
+use std::alloc::{AllocError, Global};
+use std::marker::Model;
+use std::time::Duration;
+
+/// What is known of a peer's address.
+#[derive(Drop)]
+pub enum Address<C: PublicKey> {
+    /// Nothing is known yet.
+    Unknown,
+    /// The peer is the local node.
+    Myself(Info<C>),
+    /// The address was given when the directory was made.
+    Bootstrapper(Ingress),
+    /// The peer's own info, and how often a dial at its ingress has failed since.
+    Discovered(Info<C>, usize),
+}
+
+/// Whether a peer is connected.
+#[derive(Clone, Copy, Debug, PartialEq, Eq)]
+pub enum Status {
+    /// Neither reserved nor connected.
+    Inert,
+    /// Reserved by whoever is about to connect.
+    Reserved,
+    /// Connected.
+    Active,
+}
+
+/// The part that a peer has in a set.
+#[derive(Clone, Copy, Debug, PartialEq, Eq)]
+pub(crate) enum Role {
+    Primary,
+    Secondary,
+}
+
+/// The answer to a request for a reservation.
+#[derive(Clone, Copy, Debug, PartialEq, Eq)]
+pub enum ReserveResult {
+    /// The peer is reserved now.
+    Reserved,
+    /// The last reservation was too short a time ago.
+    RateLimited,
+    /// The peer is the local node, or is reserved or connected already.
+    Unavailable,
+}
+
+/// When a peer may be dialled.
+#[derive(Clone, Copy, Debug, PartialEq, Eq)]
+pub enum DialStatus {
+    /// Now.
+    Now,
+    /// After this moment, a duration since the epoch.
+    After(Duration),
+    /// The peer is not to be dialled, is reserved or connected already, or has no valid ingress.
+    Unavailable,
+}
+
+/// The peers that may be dialled, and when it is worth to ask again.
+#[derive(Debug, Drop)]
+pub struct Dialable<C: PublicKey> {
+    /// The peers that may be dialled now, in ascending order.
+    pub peers: Vec<C>,
+    /// The least moment at which another peer may become dialable, a duration since the epoch, if
+    /// there is one.
+    pub next_query_at: Option<Duration>,
+}
+
+impl<C: PublicKey> Dialable<C> {
+    /// Nobody may be dialled, and no moment is known at which somebody may. Takes no memory.
+    pub fn new(alloc: Global) -> Self
+        ensures peers { result.peers.items ≡ [] }
+        ensures moment { result.next_query_at ≡ None }
+    {
+        Dialable {
+            peers: Vec::new(alloc),
+            next_query_at: None,
+        }
+    }
+}
+
+/// What is known of one peer: its address, its connection, in how many retained sets it is, and
+/// when it may be reserved and dialled again.
+#[derive(Drop)]
+pub struct Record<C: PublicKey> {
+    address: Address<C>,
+    status: Status,
+    primary_sets: usize,
+    secondary_sets: usize,
+    persistent: bool,
+    next_reservable_at: Duration,
+    next_dial_at: Duration,
+}
+
+impl<C: PublicKey> Model for Record<C> {
+    ghost use Rattle.std.specs.Duration.{as_nanos};
+    ghost use Rattle.p2p_tracker.specs.Record.{RecordView};
+
+    ghost Value = { RecordView C C.Signature };
+
+    ghost view = { λ r. record {
+      address = r.address;
+      status = r.status;
+      primary_sets = r.primary_sets;
+      secondary_sets = r.secondary_sets;
+      persistent = r.persistent;
+      next_reservable_at = as_nanos r.next_reservable_at;
+      next_dial_at = as_nanos r.next_dial_at;
+    } };
+}
+
+impl<C: PublicKey> Record<C> {
+    /// The record of a peer of which nothing is known: in no set, not persistent, inert, and free
+    /// to be reserved and dialled from the epoch on.
+    pub fn unknown() -> Self
+        ensures { result ≡ new_record Address.Unknown false }
+    {
+        Record::new(Address::Unknown, false)
+    }
+
+    /// The persistent record of the local node.
+    pub fn myself(info: Info<C>) -> Self
+        ensures { result ≡ new_record (Address.Myself info) true }
+    {
+        Record::new(Address::Myself(info), true)
+    }
+
+    /// The persistent record of a peer whose address is known from the start.
+    pub fn bootstrapper(ingress: Ingress) -> Self
+        ensures { result ≡ new_record (Address.Bootstrapper ingress) true }
+    {
+        Record::new(Address::Bootstrapper(ingress), true)
+    }
+
+    fn new(address: Address<C>, persistent: bool) -> Self
+        ensures { result ≡ new_record address persistent }
+    {
+        Record {
+            address,
+            status: Status::Inert,
+            primary_sets: 0,
+            secondary_sets: 0,
+            persistent,
+            next_reservable_at: Duration::ZERO,
+            next_dial_at: Duration::ZERO,
+        }
+    }
+
+    // The record of a peer of which nothing is known but these moments of its cooldown, if any.
+    pub(crate) fn cooled(cooldown: Option<(Duration, Duration)>) -> Self
+        ensures { result ≡ fresh (option_map cooldown_view cooldown) }
+    {
+        let mut record = Record::unknown();
+        if let Some((reservable, dial)) = cooldown {
+            record.set_cooldown(reservable, dial);
+        }
+        record
+    }
+
+    /// Takes a peer's info, and answers whether it was taken: of the local node never, where no
+    /// info is known always, else where the timestamp is above that of the known one. An info that
+    /// is taken has not failed yet. Keys are not compared, and nothing else changes.
+    pub fn update(&mut self, info: Info<C>) -> bool
+        ensures taken { result ≡ takes_info info self.old.address }
+        ensures after { self.new ≡
+            record self.old { address = address_after_update info self.old.address } }
+    {
+        let taken = match &self.address {
+            Address::Myself(_) => false,
+            Address::Unknown | Address::Bootstrapper(_) => true,
+            Address::Discovered(known, _) => known.timestamp < info.timestamp,
+        };
+        if taken {
+            self.address = Address::Discovered(info, 0);
+        }
+        taken
+    }
+
+    /// Counts one more primary set.
+    ///
+    /// # Conditions
+    ///
+    /// The count is below the greatest `usize`.
+    pub fn increment_primary(&mut self)
+        requires { self.old.primary_sets < 2 ^ 64 - 1 }
+        ensures { self.new ≡ record self.old { primary_sets = self.old.primary_sets + 1 } }
+    {
+        self.primary_sets += 1;
+    }
+
+    /// Counts one primary set less.
+    ///
+    /// # Conditions
+    ///
+    /// The count is above 0.
+    pub fn decrement_primary(&mut self)
+        requires { 0 < self.old.primary_sets }
+        ensures { self.new ≡ record self.old { primary_sets = self.old.primary_sets - 1 } }
+    {
+        self.primary_sets -= 1;
+    }
+
+    /// Counts one more secondary set.
+    ///
+    /// # Conditions
+    ///
+    /// The count is below the greatest `usize`.
+    pub fn increment_secondary(&mut self)
+        requires { self.old.secondary_sets < 2 ^ 64 - 1 }
+        ensures { self.new ≡ record self.old { secondary_sets = self.old.secondary_sets + 1 } }
+    {
+        self.secondary_sets += 1;
+    }
+
+    /// Counts one secondary set less.
+    ///
+    /// # Conditions
+    ///
+    /// The count is above 0.
+    pub fn decrement_secondary(&mut self)
+        requires { 0 < self.old.secondary_sets }
+        ensures { self.new ≡ record self.old { secondary_sets = self.old.secondary_sets - 1 } }
+    {
+        self.secondary_sets -= 1;
+    }
+
+    /// Asks for a reservation at the moment `now`.
+    ///
+    /// `Unavailable` for the local node or a peer that is not inert; else `RateLimited` where `now`
+    /// is before the reservable moment; else `Reserved`. Then the peer is reserved, it is
+    /// reservable again at `now + interval`, and may be dialled from that moment and the jitter on:
+    /// the draw, at most twice half the interval, the halving rounded down to nanoseconds. Both
+    /// sums are capped at the greatest `Duration`. Nothing changes unless the answer is `Reserved`.
+    pub fn reserve(&mut self, now: Duration, draw: Duration, interval: Duration) -> ReserveResult
+        ensures answer { result ≡ reserve_answer (as_nanos now) self.old }
+        ensures after { self.new ≡
+            record_after_asking result (as_nanos now) (as_nanos draw) (as_nanos interval) self.old }
+    {
+        let answer = self.reserve_result(now);
+        if answer == ReserveResult::Reserved {
+            self.set_reserved(now, draw, interval);
+        }
+        answer
+    }
+
+    // What the peer is told that asks for a reservation at the moment `now`.
+    pub(crate) fn reserve_result(&self, now: Duration) -> ReserveResult
+        ensures { result ≡ reserve_answer (as_nanos now) self.now }
+    {
+        if let Address::Myself(_) = &self.address {
+            return ReserveResult::Unavailable;
+        }
+        if self.status != Status::Inert {
+            return ReserveResult::Unavailable;
+        }
+        if now.as_nanos() < self.next_reservable_at.as_nanos() {
+            return ReserveResult::RateLimited;
+        }
+        ReserveResult::Reserved
+    }
+
+    // Reserves the peer at the moment `now`.
+    pub(crate) fn set_reserved(&mut self, now: Duration, draw: Duration, interval: Duration)
+        ensures { self.new ≡
+            reserved_record (as_nanos now) (as_nanos draw) (as_nanos interval) self.old }
+    {
+        let (reservable, dial) = next_moments(now, draw, interval);
+        self.status = Status::Reserved;
+        self.set_cooldown(reservable, dial);
+    }
+
+    /// Connects the peer: it is active.
+    ///
+    /// # Conditions
+    ///
+    /// It was reserved.
+    pub fn connect(&mut self)
+        requires { is_reserved self.old.status ≡ true }
+        ensures { self.new ≡ record self.old { status = Status.Active } }
+    {
+        self.status = Status::Active;
+    }
+
+    /// Ends the reservation or the connection: the peer is inert.
+    ///
+    /// # Conditions
+    ///
+    /// It was not inert.
+    pub fn release(&mut self)
+        requires { is_inert self.old.status ≡ false }
+        ensures { self.new ≡ record self.old { status = Status.Inert } }
+    {
+        self.status = Status::Inert;
+    }
+
+    /// Counts one more failure, capped at the greatest `usize`, where the peer's own info is known
+    /// with this ingress. Nothing else changes.
+    pub fn dial_failure(&mut self, ingress: &Ingress)
+        ensures { self.new ≡
+            record self.old { address = after_failure ingress.now self.old.address } }
+    {
+        if let Address::Discovered(info, fails) = &mut self.address {
+            if info.ingress == *ingress {
+                *fails = fails.saturating_add(1);
+            }
+        }
+    }
+
+    /// Counts no failure any more, where the peer's own info is known. Nothing else changes.
+    pub fn dial_success(&mut self)
+        ensures { self.new ≡ record self.old { address = after_success self.old.address } }
+    {
+        if let Address::Discovered(_, fails) = &mut self.address {
+            *fails = 0;
+        }
+    }
+
+    /// Whether the peer's info is wanted: of the local node never, where none is known always, else
+    /// where the peer is not connected and dials failed at least `limit` times.
+    pub fn want(&self, limit: usize) -> bool
+        ensures { result ≡ wants_info limit self.now }
+    {
+        match &self.address {
+            Address::Myself(_) => false,
+            Address::Unknown | Address::Bootstrapper(_) => true,
+            Address::Discovered(_, fails) => self.status != Status::Active && *fails >= limit,
+        }
+    }
+
+    /// The info that may be told to others: the own info always, another peer's while it is
+    /// connected. It takes memory only for an info whose ingress is a name.
+    ///
+    /// # Errors
+    ///
+    /// `AllocError` where memory is refused.
+    pub fn sharable(&self) -> Result<Option<Info<C>>, AllocError>
+        ensures info { IfOk result (λ info. info ≡ sharable_by self.now.status self.now.address) }
+        ensures none { sharable_by self.now.status self.now.address ≡ None → IsOk result }
+        ensures socket { IfSome (sharable_by self.now.status self.now.address)
+            (λ info. takes_none info.ingress ≡ true → IsOk result) }
+    {
+        match self.sharable_info() {
+            Some(info) => Ok(Some(info.clone()?)),
+            None => Ok(None),
+        }
+    }
+
+    // The info that may be told to others, where it stands.
+    pub(crate) fn sharable_info(&self) -> Option<&Info<C>>
+        ensures { option_copied result ≡ sharable_by self.now.status self.now.address }
+    {
+        match &self.address {
+            Address::Myself(info) => Some(info),
+            Address::Discovered(info, _) if self.status == Status::Active => Some(info),
+            _ => None,
+        }
+    }
+
+    /// When the peer may be dialled, asked at the moment `now`.
+    ///
+    /// `Unavailable` unless the peer is inert and to be dialled, is a bootstrapper or of known
+    /// info, and its ingress is valid under what is allowed; then `After` its dial moment where
+    /// that is later than `now`; else `Now`. Moments are durations since the epoch.
+    pub fn dialable(&self, now: Duration, allow_private_ips: bool, allow_dns: bool) -> DialStatus
+        ensures { dial_view result ≡
+            dial_status (as_nanos now) allow_private_ips allow_dns self.now }
+    {
+        if self.status != Status::Inert || !self.is_outbound_target() {
+            return DialStatus::Unavailable;
+        }
+        let ingress = match &self.address {
+            Address::Unknown | Address::Myself(_) => return DialStatus::Unavailable,
+            Address::Bootstrapper(ingress) => ingress,
+            Address::Discovered(info, _) => &info.ingress,
+        };
+        if !ingress.is_valid(allow_private_ips, allow_dns) {
+            return DialStatus::Unavailable;
+        }
+        if now.as_nanos() < self.next_dial_at.as_nanos() {
+            DialStatus::After(self.next_dial_at)
+        } else {
+            DialStatus::Now
+        }
+    }
+
+    /// Whether the peer may be connected: it is not the local node, and in a set or persistent.
+    pub fn eligible(&self) -> bool
+        ensures { result ≡ is_eligible self.now }
+    {
+        match &self.address {
+            Address::Myself(_) => false,
+            _ => self.primary_sets > 0 || self.secondary_sets > 0 || self.persistent,
+        }
+    }
+
+    /// Whether a connection of the peer may be accepted: it is eligible and inert.
+    pub fn acceptable(&self) -> bool
+        ensures { result ≡ is_acceptable self.now }
+    {
+        self.eligible() && self.status == Status::Inert
+    }
+
+    /// Whether the connection has to end: the peer is not inert and not eligible.
+    pub fn needs_teardown(&self) -> bool
+        ensures { result ≡ needs_teardown self.now }
+    {
+        self.status != Status::Inert && !self.eligible()
+    }
+
+    /// Whether the record may go: the peer is in no set, not persistent and inert.
+    pub fn deletable(&self) -> bool
+        ensures { result ≡ is_deletable self.now }
+    {
+        self.primary_sets == 0
+            && self.secondary_sets == 0
+            && !self.persistent
+            && self.status == Status::Inert
+    }
+
+    /// Whether the peer is to be dialled: it is in a primary set or persistent.
+    pub fn is_outbound_target(&self) -> bool
+        ensures { result ≡ is_outbound_target self.now }
+    {
+        self.primary_sets > 0 || self.persistent
+    }
+
+    /// Whether the peer may be blocked: it is not the local node.
+    pub fn is_blockable(&self) -> bool
+        ensures { result ≡ not (is_myself self.now.address) }
+    {
+        !matches!(&self.address, Address::Myself(_))
+    }
+
+    /// Where the peer is reached, if that is known.
+    pub fn ingress(&self) -> Option<&Ingress>
+        ensures { option_copied result ≡ ingress_of self.now.address }
+    {
+        match &self.address {
+            Address::Unknown => None,
+            Address::Myself(info) => Some(&info.ingress),
+            Address::Bootstrapper(ingress) => Some(ingress),
+            Address::Discovered(info, _) => Some(&info.ingress),
+        }
+    }
+
+    // Counts one set of the role more, at most to the greatest `usize`.
+    pub(crate) fn count_more(&mut self, role: Role)
+        ensures { self.new ≡ with_one_more role self.old }
+    {
+        match role {
+            Role::Primary => self.primary_sets = self.primary_sets.saturating_add(1),
+            Role::Secondary => self.secondary_sets = self.secondary_sets.saturating_add(1),
+        }
+    }
+
+    // Counts one set of the role less, if there is one.
+    pub(crate) fn count_less(&mut self, role: Role)
+        ensures { self.new ≡ with_one_less role self.old }
+    {
+        match role {
+            Role::Primary => self.primary_sets = self.primary_sets.saturating_sub(1),
+            Role::Secondary => self.secondary_sets = self.secondary_sets.saturating_sub(1),
+        }
+    }
+
+    // Whether the connection has to end once one set of the role less has the peer: the peer is not
+    // inert, is eligible, and would not be any longer.
+    #[tactic(auto, unfolding(crate::specs::Private::Counts::is_torn_down_without))]
+    pub(crate) fn is_torn_down_without(&self, role: Role) -> bool
+        ensures { result ≡ is_torn_down_without role self.now }
+    {
+        let stays_in_set = match role {
+            Role::Primary => self.primary_sets > 1 || self.secondary_sets > 0,
+            Role::Secondary => self.primary_sets > 0 || self.secondary_sets > 1,
+        };
+        self.status != Status::Inert && self.eligible() && !stays_in_set && !self.persistent
+    }
+
+    /// In how many primary sets the peer is.
+    pub fn primary_sets(&self) -> usize
+        ensures { result ≡ self.now.primary_sets }
+    {
+        self.primary_sets
+    }
+
+    /// In how many secondary sets the peer is.
+    pub fn secondary_sets(&self) -> usize
+        ensures { result ≡ self.now.secondary_sets }
+    {
+        self.secondary_sets
+    }
+
+    /// Whether the peer is connected.
+    pub fn status(&self) -> Status
+        ensures { result ≡ self.now.status }
+    {
+        self.status
+    }
+
+    /// From when the peer may be reserved again, and from when it may be dialled again: durations
+    /// since the epoch.
+    pub fn cooldown(&self) -> (Duration, Duration)
+        ensures reservable { as_nanos result.0 ≡ self.now.next_reservable_at }
+        ensures dial { as_nanos result.1 ≡ self.now.next_dial_at }
+    {
+        (self.next_reservable_at, self.next_dial_at)
+    }
+
+    /// From when the peer may be reserved again, and from when it may be dialled again, is set:
+    /// durations since the epoch. Nothing else changes.
+    pub fn set_cooldown(&mut self, reservable: Duration, dial: Duration)
+        ensures { self.new ≡ record self.old {
+          next_reservable_at = as_nanos reservable;
+          next_dial_at = as_nanos dial;
+        } }
+    {
+        self.next_reservable_at = reservable;
+        self.next_dial_at = dial;
+    }
+
+    /// What is known of the peer's address.
+    pub fn address(&self) -> &Address<C>
+        ensures { result.now ≡ self.now.address }
+    {
+        &self.address
+    }
+}
+
+/// From when a peer may be reserved again, and from when it may be dialled again, after a grant at
+/// the moment `now`.
+pub(crate) fn next_moments(
+    now: Duration,
+    draw: Duration,
+    interval: Duration,
+) -> (Duration, Duration)
+    ensures { cooldown_view result ≡
+        moments_after (as_nanos now) (as_nanos draw) (as_nanos interval) }
+{
+    let reservable = now.saturating_add(interval);
+    (reservable, jittered(reservable, draw, interval))
+}
+
+// The moment with the jitter added.
+fn jittered(moment: Duration, draw: Duration, cooldown: Duration) -> Duration
+    ensures { as_nanos result ≡ cap (as_nanos moment + jitter (as_nanos draw) (as_nanos cooldown)) }
+{
+    let width = (cooldown / 2).saturating_mul(2);
+    if draw.as_nanos() < width.as_nanos() {
+        moment.saturating_add(draw)
+    } else {
+        moment.saturating_add(width)
+    }
+}
