@@ -249,8 +249,8 @@ struct PairRow {
 }
 
 static ROWS_OF_TWO: [PairRow; 1] = [
-    // Nodes and window of both (234 each), what a grant takes (143), 12 replies (9 each), frames,
-    // infos.
+    // Nodes and window of both (234 each), what a grant takes (143), 12 replies (9 each) of the
+    // network and as many of the pair, both setups and endpoints (88), frames, infos.
     PairRow {
         deeds: &[
             Deed::Left(Given::Track(0, &[1, 2], &[])),
@@ -266,7 +266,7 @@ static ROWS_OF_TWO: [PairRow; 1] = [
             Deed::Left(Given::Bits(0)),
             Deed::Exchange(Side::Left, 0, 70, 100),
         ],
-        blocks: 730,
+        blocks: 924,
     },
 ];
 
