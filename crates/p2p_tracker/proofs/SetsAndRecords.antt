@@ -6,6 +6,7 @@ pub mod Blocks
 pub mod Ends
 pub mod Cooldowns
 pub mod Places
+pub mod Walks
 pub mod Dialables
 pub mod Counting
 pub mod Consistent

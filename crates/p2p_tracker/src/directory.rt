@@ -1,32 +1,26 @@
 //! The directory of peers: the retained sets, and a record of each peer that is in one of them,
 //! persistent, reserved or connected.
 
-ghost use Rattle.std.specs.Prelude.{ℕ, ◌≡◌, ◌<◌, ◌≤◌, ◌^◌, ◌+◌, ◌-◌, [], false, true, Some, None};
-ghost use Rattle.std.specs.Prelude.{IfSome, IfNone, IfOk, IsOk, OnErr, is_some, length, map, not};
-ghost use Rattle.std.specs.Prelude.{slice_get};
+ghost use Rattle.std.specs.Prelude.{◌≡◌, ◌<◌, ◌^◌, ◌-◌, [], false, Some, None};
+ghost use Rattle.std.specs.Prelude.{IfSome, IfNone, IfOk, OnErr, is_some, length};
 ghost use Rattle.std.specs.List.Sorted.{IsStrictlySortedBy};
-ghost use Rattle.std.specs.Option.{option_map, IsSomeAnd};
+ghost use Rattle.std.specs.Option.{option_map};
 ghost use Rattle.std.specs.BTreeMap.{is_at};
 ghost use Rattle.std.specs.Map.{keys_of};
 ghost use Rattle.std.specs.Duration.{as_nanos};
 ghost use Rattle.std.specs.Int.NonZero.{non_zero_usize_get};
-ghost use Rattle.p2p_discovery.specs.Ingress.{takes_none};
 ghost use Rattle.p2p_tracker.specs.PeerSets.{set_of, latest_index, is_above};
-ghost use Rattle.p2p_tracker.specs.Directory.{record_at, peers_of};
-ghost use Rattle.p2p_tracker.specs.PeerSets.{has_peers};
-ghost use Rattle.p2p_tracker.specs.Private.Window.{plain_set};
+ghost use Rattle.p2p_tracker.specs.Directory.{record_at};
 
-use crate::directory::blocked::blocked_at;
-use crate::directory::infos::{epoch_millis, shared_for};
 use crate::directory::records::Records;
 use crate::directory::track::{add, drop_oldest};
 use crate::directory::update::update_each;
 use crate::kept::blocks::Blocks;
 use crate::kept::cooldowns::Cooldowns;
 use crate::kept::{PeerSet, Window};
-use crate::record::{Dialable, Status};
+use crate::record::Status;
 use p2p_discovery::codec::PublicKey;
-use p2p_discovery::discovery::{BitVec, Info};
+use p2p_discovery::discovery::Info;
 use p2p_discovery::sets::OrderedSet;
 use p2p_discovery::types::Ingress;
 use std::alloc::{AllocError, Global};
@@ -37,8 +31,10 @@ use std::time::Duration;
 mod agreement;
 pub(crate) mod blocked;
 mod cooled;
+mod eligibility;
 mod grants;
 mod infos;
+mod peer_sets;
 pub(crate) mod records;
 mod track;
 mod update;
@@ -140,6 +136,7 @@ impl<P: PublicKey> Reservation<P> {
 /// it is, and the moments of its last grant, if there was one and it isn't forgotten.
 #[derive(Drop)]
 pub struct Directory<C: PublicKey> {
+    alloc: Global,
     config: Config,
     sets: Window<C>,
     records: Records<C>,
@@ -174,21 +171,8 @@ impl<C: PublicKey> Directory<C> {
     ghost use Rattle.p2p_tracker.specs.Directory.{IsBusy, IsReserved, StayBusy, StayReserved};
     ghost use Rattle.p2p_tracker.specs.Directory.{Reserves, Releases, Connects, Updates};
     ghost use Rattle.p2p_tracker.specs.Directory.{TakesSet, AreTornDown};
-    ghost use Rattle.p2p_tracker.specs.Directory.{sharable_in, infos_in, bit_vec_at, other_keys};
-    ghost use Rattle.p2p_tracker.specs.Directory.{unblock_of, is_blocked_in, may_block};
-    ghost use Rattle.p2p_tracker.specs.Directory.{BlocksUntil, EndsBlocks, is_free_and};
+    ghost use Rattle.p2p_tracker.specs.Directory.{other_keys};
     ghost use Rattle.p2p_tracker.specs.Directory.{may_listen_in, may_dial_in, ingress_in};
-    ghost use Rattle.p2p_tracker.specs.Directory.{peer_set_in, is_named_of, AreAllOf, IsUpdateOf};
-    ghost use Rattle.p2p_tracker.specs.Directory.{is_dialable_in, AreDialableIn, wants_in};
-    ghost use Rattle.p2p_tracker.specs.Directory.{cooldown_of};
-    ghost use Rattle.p2p_tracker.specs.World.{reservable_from, dialable_from};
-    ghost use Rattle.p2p_tracker.specs.Lists.{Lists, IsLeastOf, Somebody};
-    ghost use Rattle.p2p_tracker.specs.Blocks.{IsAnyUntil};
-    ghost use Rattle.p2p_tracker.specs.Dials.{IsBefore};
-    ghost use Rattle.p2p_tracker.specs.Moments.{cap};
-    ghost use Rattle.p2p_tracker.specs.Record.{is_eligible, is_acceptable, is_deletable};
-    ghost use Rattle.p2p_tracker.specs.declared.record.Role.TheVariants as Role;
-    ghost use Rattle.p2p_tracker.specs.PeerSets.{has_peers, set_with, set_count};
 
     /// A directory that retains no set and blocks nobody. Its records are the own one and those of
     /// the bootstrappers: a later bootstrapper of the same key replaces an earlier one, and the own
@@ -221,6 +205,7 @@ impl<C: PublicKey> Directory<C> {
     {
         let records = Records::first(alloc, bootstrappers, myself)?;
         Ok(Directory {
+            alloc,
             config: cfg,
             sets: Window::new(alloc),
             records,
@@ -241,12 +226,19 @@ impl<C: PublicKey> Directory<C> {
     ///
     /// `AllocError` where memory is refused; then nothing has changed.
     ///
+    /// # Examples
+    ///
+    /// `track_set`, which the test `a_set_is_tracked_and_its_peers_are_met` of `p2p_tracker_tests`
+    /// runs.
+    ///
     /// # Cost
     ///
-    /// One search among the records and one among the kept moments for each peer of the new set, one
-    /// search among the records for each peer of the set that goes, and one more for each record
-    /// that goes with it; and for each primary peer of either set one search among the places, and
-    /// one more for each that has no place left.
+    /// One search among the records and one among the kept moments for each peer of the new set,
+    /// one search among the records for each peer of the set that goes, and one more for each record
+    /// that goes with it; one search among the places for each primary peer of the new set; and for
+    /// the set that goes a walk along the places, or where there are many for each of its primary
+    /// peers, one search among them for each of these, and one more for each that has no place
+    /// left.
     pub fn track(
         &mut self,
         index: u64,
@@ -266,7 +258,7 @@ impl<C: PublicKey> Directory<C> {
         if !self.sets.is_next(index) {
             return Ok(None);
         }
-        let alloc = self.sets.allocator();
+        let alloc = self.alloc;
         let max_sets = self.config.max_sets.get();
         let limit = self.config.dial_fail_limit;
         let set = PeerSet::new(alloc, index, peers.primary, peers.secondary)?;
@@ -291,6 +283,10 @@ impl<C: PublicKey> Directory<C> {
     ///
     /// `AllocError` where memory is refused, for that address or for the moments; then nothing has
     /// changed.
+    ///
+    /// # Examples
+    ///
+    /// `dial`, which the test `a_set_is_tracked_and_its_peers_are_met` of `p2p_tracker_tests` runs.
     ///
     /// # Cost
     ///
@@ -345,6 +341,11 @@ impl<C: PublicKey> Directory<C> {
     ///
     /// `AllocError` where memory for the moments is refused; then nothing has changed.
     ///
+    /// # Examples
+    ///
+    /// `accept`, which the test `a_set_is_tracked_and_its_peers_are_met` of `p2p_tracker_tests`
+    /// runs.
+    ///
     /// # Cost
     ///
     /// One search among the blocks, and where the peer is reserved two among the records and one
@@ -391,8 +392,9 @@ impl<C: PublicKey> Directory<C> {
     ///
     /// # Cost
     ///
-    /// One search among the records, and one more where the record goes; one among the places, and
-    /// one step to each of the peer's own places.
+    /// One search among the records, and one more where the record goes. Where the peer's info
+    /// comes to be wanted or not, one search among the places, and one step to each of the peer's
+    /// own.
     pub fn release(&mut self, reservation: Reservation<C>)
         requires { IsBusy C.cmp self.old (key_of reservation) }
         ensures released { Releases C.cmp self.old self.new reservation }
@@ -404,7 +406,7 @@ impl<C: PublicKey> Directory<C> {
         let Reservation { metadata } = reservation;
         let limit = self.config.dial_fail_limit;
         let known = self.records.release(&metadata, limit);
-        self.sets.refresh(metadata.public_key(), known);
+        self.sets.renew(metadata.public_key(), known);
     }
 
     /// Connects a peer that is reserved, as its dialer or not: it is active, and where the local
@@ -417,8 +419,8 @@ impl<C: PublicKey> Directory<C> {
     ///
     /// # Cost
     ///
-    /// One search among the records, one among the places, and one step to each of the peer's own
-    /// places.
+    /// One search among the records. Where the peer's info comes to be wanted or not, one among the
+    /// places, and one step to each of the peer's own.
     pub fn connect(&mut self, peer: &C, dialer: bool)
         requires { IsReserved C.cmp self.old peer.now }
         ensures connected { Connects C.cmp self.old self.new peer.now dialer }
@@ -428,7 +430,7 @@ impl<C: PublicKey> Directory<C> {
     {
         let limit = self.config.dial_fail_limit;
         let known = self.records.connect(peer, dialer, limit);
-        self.sets.refresh(peer, known);
+        self.sets.renew(peer, known);
     }
 
     /// Offers infos to the records of their peers, in whichever order they stand: each peer's is
@@ -438,8 +440,8 @@ impl<C: PublicKey> Directory<C> {
     ///
     /// # Cost
     ///
-    /// For each info one search among the records, and where it is taken one among the places, and
-    /// one step to each of the peer's own places.
+    /// For each info one search among the records, and where the peer's info comes to be wanted or
+    /// not one among the places, and one step to each of the peer's own.
     pub fn update_peers(&mut self, infos: Vec<Info<C>>)
         ensures updated { Updates C.cmp self.old self.new infos.items }
         ensures busy { StayBusy C.cmp self.old self.new }
@@ -447,92 +449,6 @@ impl<C: PublicKey> Directory<C> {
     {
         let limit = self.config.dial_fail_limit;
         update_each(&mut self.sets, &mut self.records, infos, limit);
-    }
-
-    /// The info of the peer that others may be told: that of the local node, and that of a peer
-    /// that is connected. Takes memory only for an info whose ingress is a name.
-    ///
-    /// # Errors
-    ///
-    /// `AllocError` where memory is refused.
-    ///
-    /// # Cost
-    ///
-    /// One search among the records.
-    pub fn info(&self, peer: &C) -> Result<Option<Info<C>>, AllocError>
-        ensures info { IfOk result (λ info. info ≡ sharable_in C.cmp self.now peer.now) }
-        ensures none { sharable_in C.cmp self.now peer.now ≡ None → IsOk result }
-        ensures socket { IfSome (sharable_in C.cmp self.now peer.now)
-            (λ info. takes_none info.ingress ≡ true → IsOk result) }
-    {
-        match self.records.get(peer) {
-            Some(found) => found.sharable(),
-            None => Ok(None),
-        }
-    }
-
-    /// The infos for one who knows these bits, asked at the moment `now`, a time since the epoch:
-    /// of the primary peers of the retained set with the index whose bit is false, in their order,
-    /// those infos that others may be told and whose timestamp is not above the whole milliseconds
-    /// of `now`.
-    ///
-    /// Answers an empty list where no retained set has the index, and `None` where the bits are of
-    /// another number than its primary peers. Takes memory only where an info is shared: the room
-    /// for the list once, and that of ingresses that are names.
-    ///
-    /// # Errors
-    ///
-    /// `AllocError` where memory is refused; that is, where an info is shared.
-    ///
-    /// # Cost
-    ///
-    /// One pass over the retained sets, and for each primary peer of that one two searches among
-    /// the records.
-    pub fn infos(&self, bit_vec: &BitVec, now: Duration) -> Result<Option<Vec<Info<C>>>, AllocError>
-        ensures infos { IfOk result (λ infos. option_map (λ v. v.items) infos
-            ≡ infos_in C.cmp self.now bit_vec.now.index bit_vec.now.bits (as_nanos now)) }
-        ensures err { OnErr result (IsSomeAnd
-            (infos_in C.cmp self.now bit_vec.now.index bit_vec.now.bits (as_nanos now))
-            (λ infos. 0 < length infos)) }
-    {
-        let alloc = self.sets.allocator();
-        match self.sets.get(bit_vec.index) {
-            Some(set) => {
-                let peers = set.primary().ordered();
-                shared_for(
-                    alloc,
-                    &self.records,
-                    peers,
-                    &bit_vec.bits,
-                    epoch_millis(now),
-                )
-            }
-            None => Ok(Some(Vec::new(alloc))),
-        }
-    }
-
-    /// The bits of the retained set at a place, counted from 0 in order of index, with its index:
-    /// for each primary peer in order whether its info is known, and not wanted. `None` where there
-    /// is no such place.
-    ///
-    /// # Errors
-    ///
-    /// `AllocError` where memory is refused.
-    ///
-    /// # Cost
-    ///
-    /// Proportional to the bytes of the answer.
-    pub fn get_random_bit_vec(&self, place: usize) -> Result<Option<BitVec>, AllocError>
-        ensures bits { IfOk result (λ bits. bits ≡ bit_vec_at C.cmp self.now place) }
-        ensures none { slice_get self.now.sets place ≡ None → IsOk result }
-    {
-        match self.sets.at(place) {
-            Some(set) => Ok(Some(BitVec {
-                index: set.index(),
-                bits: set.primary().knowledge()?,
-            })),
-            None => Ok(None),
-        }
     }
 
     /// How many peers have a record, but for the local node. Takes no memory.
@@ -561,227 +477,8 @@ impl<C: PublicKey> Directory<C> {
         }
     }
 
-    /// The index of the latest peer set, or `None` where none was taken. Takes no memory.
-    pub fn latest_set_index(&self) -> Option<u64>
-        ensures { result ≡ latest_index self.now.sets }
-    {
-        self.sets.latest_index()
-    }
-    /// Blocks the peer from the moment `now` on, a time since the epoch, for the duration of the
-    /// configuration, whether there is a record of it or not. The sum is capped at the greatest
-    /// `Duration`.
-    ///
-    /// Answers false, takes no memory and changes nothing for the local node, or a peer that is
-    /// blocked at `now`. Else it answers true, and the peer is blocked until then; an earlier block
-    /// that had ended is replaced. A connection of the peer stays.
-    ///
-    /// # Errors
-    ///
-    /// `AllocError` where memory is refused; then nothing has changed.
-    ///
-    /// # Cost
-    ///
-    /// One search among the records, two among the blocks, and one or two among their moments.
-    pub fn block(&mut self, peer: &C, now: Duration) -> Result<bool, AllocError>
-        ensures err { OnErr result (self.new ≡ self.old) }
-        ensures untaken { may_block C.cmp self.old (as_nanos now) peer.now ≡ false →
-            result ≡ Ok false }
-        ensures answer { IfOk result (λ taken.
-            taken ≡ may_block C.cmp self.old (as_nanos now) peer.now) }
-        ensures refused { result ≡ Ok false → self.new ≡ self.old }
-        ensures taken { result ≡ Ok true → BlocksUntil C.cmp self.old self.new peer.now
-            (cap (as_nanos now + self.old.config.block_duration)) }
-        ensures busy { StayBusy C.cmp self.old self.new }
-        ensures reserved { StayReserved C.cmp self.old self.new }
-    {
-        if !self.records.is_blockable(peer) || self.is_blocked(peer, now) {
-            return Ok(false);
-        }
-        let until = now.saturating_add(self.config.block_duration);
-        self.blocks.put(*peer, until)?;
-        Ok(true)
-    }
-
-    /// Ends the blocks that hold until the moment `now`, a time since the epoch, or until an
-    /// earlier one, and answers whether there were any. All else stays. Takes no memory.
-    ///
-    /// # Cost
-    ///
-    /// One step to the first of the moments, and for each block that ends one removal there and one
-    /// among the blocks.
-    pub fn unblock_expired(&mut self, now: Duration) -> bool
-        ensures answer { IsAnyUntil (unblock_of C.cmp self.old) (as_nanos now) result }
-        ensures ended { EndsBlocks C.cmp self.old self.new (as_nanos now) }
-        ensures busy { StayBusy C.cmp self.old self.new }
-        ensures reserved { StayReserved C.cmp self.old self.new }
-    {
-        self.blocks.drop_until(now) > 0
-    }
-
-    /// The least moment until which a block holds, as the time since the epoch, or `None` where
-    /// there is no block. A block that has ended counts until [`Directory::unblock_expired`] ends
-    /// it. Takes no memory.
-    ///
-    /// # Cost
-    ///
-    /// One step to the first of the moments, and one search among the blocks.
-    pub fn next_unblock(&self) -> Option<Duration>
-        ensures { IsLeastOf (unblock_of C.cmp self.now) (option_map as_nanos result) }
-    {
-        match self.blocks.least() {
-            Some((_, moment)) => Some(moment),
-            None => None,
-        }
-    }
-
-    /// The peers that are blocked at the moment `now`, a time since the epoch: those whose block
-    /// holds until later.
-    ///
-    /// # Errors
-    ///
-    /// `AllocError` where memory is refused; that is, where somebody is blocked.
-    ///
-    /// # Cost
-    ///
-    /// One pass over the blocks, and one sort of the peers.
-    pub fn blocked_peers(&self, now: Duration) -> Result<OrderedSet<C>, AllocError>
-        ensures peers { IfOk result (Lists C.cmp (is_blocked_in C.cmp self.now (as_nanos now))) }
-        ensures err { OnErr result (Somebody (is_blocked_in C.cmp self.now (as_nanos now))) }
-    {
-        blocked_at(self.sets.allocator(), &self.blocks, now)
-    }
-
-    /// The peers of the retained set with an index, by role, or `None` where there is no such set.
-    ///
-    /// # Errors
-    ///
-    /// `AllocError` where memory is refused; that is, where the set has a peer.
-    ///
-    /// # Cost
-    ///
-    /// One pass over the retained sets, and over the peers of that one.
-    pub fn get_peer_set(&self, index: u64) -> Result<Option<TrackedPeers<C>>, AllocError>
-        ensures peers { IfOk result (λ peers. peers ≡ peer_set_in self.now index) }
-        ensures err { OnErr result (IsSomeAnd (set_with index self.now.sets)
-            (λ set. has_peers set ≡ true)) }
-    {
-        match self.sets.get(index) {
-            Some(set) => Ok(Some(peers_in(set)?)),
-            None => Ok(None),
-        }
-    }
-
-    /// The latest set with its index, and the peers of all retained sets, or `None` where no set
-    /// was taken.
-    ///
-    /// # Errors
-    ///
-    /// `AllocError` where memory is refused; that is, where a retained set has a peer.
-    ///
-    /// # Cost
-    ///
-    /// That of [`Directory::all`], and one pass over the peers of the latest set.
-    pub fn latest_update(&self) -> Result<Option<PeerSetUpdate<C>>, AllocError>
-        ensures update { IfOk result (IsUpdateOf C.cmp self.now) }
-        ensures err { OnErr result (Somebody (is_named_of C.cmp self.now)) }
-    {
-        match self.sets.last() {
-            Some(set) => Ok(Some(PeerSetUpdate {
-                index: set.index(),
-                latest: peers_in(set)?,
-                all: self.all()?,
-            })),
-            None => Ok(None),
-        }
-    }
-
-    /// The peers of all retained sets, by role: one that is primary in some set is primary only.
-    ///
-    /// # Errors
-    ///
-    /// `AllocError` where memory is refused; that is, where a retained set has a peer.
-    ///
-    /// # Cost
-    ///
-    /// One pass over the records, and one sort of each list.
-    pub fn all(&self) -> Result<TrackedPeers<C>, AllocError>
-        ensures peers { IfOk result (AreAllOf C.cmp self.now) }
-        ensures err { OnErr result (Somebody (is_named_of C.cmp self.now)) }
-    {
-        self.records.all(self.sets.allocator())
-    }
-
-    /// Whether the peer may be connected at the moment `now`, a time since the epoch: it is not
-    /// blocked, and its record is eligible. False where there is no record. Takes no memory.
-    ///
-    /// # Cost
-    ///
-    /// One search among the blocks, and one among the records.
-    pub fn eligible(&self, peer: &C, now: Duration) -> bool
-        ensures { result ≡ is_free_and C.cmp is_eligible self.now (as_nanos now) peer.now }
-    {
-        match self.records.get(peer) {
-            Some(found) => !self.is_blocked(peer, now) && found.eligible(),
-            None => false,
-        }
-    }
-
-    /// Whether a connection of the peer may be accepted at the moment `now`, a time since the
-    /// epoch: it is not blocked, and its record is acceptable. False where there is no record.
-    /// Takes no memory.
-    ///
-    /// # Cost
-    ///
-    /// One search among the blocks, and one among the records.
-    pub fn acceptable(&self, peer: &C, now: Duration) -> bool
-        ensures { result ≡ is_free_and C.cmp is_acceptable self.now (as_nanos now) peer.now }
-    {
-        match self.records.get(peer) {
-            Some(found) => !self.is_blocked(peer, now) && found.acceptable(),
-            None => false,
-        }
-    }
-
-    /// The peers that may be dialled at the moment `now`, a time since the epoch, in ascending
-    /// order: those whose dial status is [`Now`](crate::record::DialStatus::Now) and that are not
-    /// blocked. With them the moment from which it is worth to ask again: the least of the unblock
-    /// moments of blocked peers that have a record, and of the dial moments of the others whose
-    /// status is [`After`](crate::record::DialStatus::After). While nothing is called in between,
-    /// the answer stays the same up to before that moment, and for ever where there is none.
-    ///
-    /// # Errors
-    ///
-    /// `AllocError` where memory is refused; that is, where somebody may be dialled.
-    ///
-    /// # Cost
-    ///
-    /// One pass over the records, with one search among the blocks for each.
-    pub fn dialable(&self, now: Duration) -> Result<Dialable<C>, AllocError>
-        ensures dialable { IfOk result (λ answer. AreDialableIn C.cmp self.now (as_nanos now)
-            answer.peers.items (option_map as_nanos answer.next_query_at)) }
-        ensures quiet { IfOk result (λ answer. (u : ℕ) → as_nanos now ≤ u →
-            IsBefore u (option_map as_nanos answer.next_query_at) →
-            AreDialableIn C.cmp self.now u
-            answer.peers.items (option_map as_nanos answer.next_query_at)) }
-        ensures err { OnErr result (Somebody (is_dialable_in C.cmp self.now (as_nanos now))) }
-    {
-        self.records
-            .dialable(self.sets.allocator(), &self.blocks, now, &self.config)
-    }
-
     /// The allocator of its collections, for what is built from its answers.
     pub fn allocator(&self) -> Global {
-        self.sets.allocator()
+        self.alloc
     }
-}
-
-// The peers of a set, by role.
-fn peers_in<C: PublicKey>(set: &PeerSet<C>) -> Result<TrackedPeers<C>, AllocError>
-    ensures peers { IfOk result (λ peers. peers ≡ peers_of (plain_set set.now)) }
-    ensures err { OnErr result (has_peers (plain_set set.now) ≡ true) }
-{
-    Ok(TrackedPeers {
-        primary: set.primary().ordered().clone()?,
-        secondary: set.secondary().clone()?,
-    })
 }

@@ -1,11 +1,11 @@
 //! What is retained of peer sets, with a bit beside each primary peer. It knows nothing of records.
 
 ghost use Rattle.std.specs.Prelude.{◌≡◌, ◌++◌, ◌∷◌, [], true, false, not, map, length, slice_get};
-ghost use Rattle.std.specs.Prelude.{IfNone, IfOk, IfErr, OnErr, OnOk, None, Some};
+ghost use Rattle.std.specs.Prelude.{IfNone, IfSome, IfOk, IfErr, OnErr, OnOk, None, Some};
+ghost use Rattle.std.specs.Prelude.{◌<◌, ◌≤◌, get_or};
 ghost use Rattle.std.specs.Prelude.{option_to_list, if◌then◌else◌};
 ghost use Rattle.std.specs.BTreeMap.{is_at, get};
 ghost use Rattle.std.specs.List.{filter, count_by, last_or};
-ghost use Rattle.std.specs.Map.{keys_of};
 ghost use Rattle.std.specs.Option.{option_copied};
 ghost use Rattle.p2p_discovery.specs.BitSets.{with_bit};
 ghost use Rattle.p2p_tracker.specs.PeerSets.{has_key, set_of, latest_index, is_above};
@@ -14,9 +14,10 @@ ghost use Rattle.p2p_tracker.specs.Private.Counts.{leaving_count};
 ghost use Rattle.p2p_tracker.specs.Private.Window.{SetWithBits, plain_set, plain_sets};
 ghost use Rattle.p2p_tracker.specs.Private.Window.{set_with_bits, set_at, has_primary};
 ghost use Rattle.p2p_tracker.specs.Private.Window.{with_bit_of, IsAscending};
-ghost use Rattle.p2p_tracker.specs.Private.Places.{IsIndexed, bit_at, bits_at};
+ghost use Rattle.p2p_tracker.specs.Private.Places.{IsIndexed, AreEarlier, bit_at, bits_at, walk};
+ghost use Rattle.p2p_tracker.specs.Private.Places.{indices, has_index};
 
-use crate::kept::places::{End, Place, Places, Queue};
+use crate::kept::places::{Links, Place, Places};
 use p2p_discovery::codec::PublicKey;
 use p2p_discovery::sets::{BitSet, OrderedSet, SetError};
 use std::alloc::{AllocError, Global};
@@ -51,6 +52,13 @@ pub fn put<C: PublicKey, V: Drop>(
             Err(AllocError)
         }
     }
+}
+
+/// Whether a peer's info is known, and not wanted, before a change and after it.
+#[derive(Clone, Copy)]
+pub struct Known {
+    pub before: bool,
+    pub after: bool,
 }
 
 /// A retained set: its index, its primary peers, each with a bit, and those of its secondary peers
@@ -182,6 +190,7 @@ fn without<C: PublicKey>(
 #[derive(Drop)]
 pub struct Window<C: PublicKey> {
     sets: VecDeque<PeerSet<C>>,
+    links: VecDeque<Links>,
     places: Places<C>,
 }
 
@@ -194,7 +203,7 @@ impl<C: PublicKey> Model for Window<C> {
 
     ghost view = { λ w. w.sets.items };
 
-    ghost invariant = { λ w. IsIndexed C.cmp w.places w.sets.items };
+    ghost invariant = { λ w. IsIndexed C.cmp w.places w.links.items w.sets.items };
 }
 
 impl<C: PublicKey> Window<C> {
@@ -204,13 +213,9 @@ impl<C: PublicKey> Window<C> {
     {
         Window {
             sets: VecDeque::new(alloc),
+            links: VecDeque::new(alloc),
             places: Places::new(alloc),
         }
-    }
-
-    /// The allocator of its sets.
-    pub fn allocator(&self) -> Global {
-        *self.sets.allocator()
     }
 
     /// How many sets there are.
@@ -296,20 +301,20 @@ impl<C: PublicKey> Window<C> {
         ensures err { OnErr result (self.new ≡ self.old) }
         ensures back { IfErr result (λ back. back ≡ set) }
     {
-        push_set(&mut self.sets, &mut self.places, set)
+        push_set(&mut self.sets, &mut self.links, &mut self.places, set)
     }
 
     /// Takes out the set with the least index. Takes no memory.
     ///
     /// # Cost
     ///
-    /// One search among the places for each primary peer of the set, and one more for each that has
-    /// no place left.
+    /// A walk along the places; or where there are many for each primary peer of the set, one
+    /// search among them for each of these, and one more for each that has no place left.
     pub fn pop_first(&mut self) -> Option<PeerSet<C>>
         ensures sets { self.old ≡ option_to_list result ++ self.new }
         ensures none { IfNone result (length self.old ≡ 0) }
     {
-        pop_set(&mut self.sets, &mut self.places)
+        pop_set(&mut self.sets, &mut self.links, &mut self.places)
     }
 
     /// Sets the peer's bit in every set that has it as primary, and answers in how many. Takes no
@@ -317,13 +322,33 @@ impl<C: PublicKey> Window<C> {
     ///
     /// # Cost
     ///
-    /// One search among the places, and for each set that has the peer as primary the search of that
-    /// set by its index, and one bit. No other set is looked at, and no list of peers is searched.
+    /// One search among the places, and for each set that has the peer as primary the search of
+    /// that set by its index, and one bit, and one such search more. No other set is looked at, and
+    /// no list of peers is searched.
     pub fn refresh(&mut self, peer: &C, known: bool) -> usize
         ensures sets { self.new ≡ map (with_bit_of C.cmp peer.now known) self.old }
         ensures count { result ≡ count_by (has_primary C.cmp peer.now) self.old }
     {
-        refresh_places(&mut self.sets, &self.places, peer, known)
+        refresh_places(&mut self.sets, &self.links, &self.places, peer, known)
+    }
+
+    /// Sets the peer's bit in every set that has it as primary, where it was another before. Takes
+    /// no memory.
+    ///
+    /// # Conditions
+    ///
+    /// The bits are what they were before.
+    ///
+    /// # Cost
+    ///
+    /// Constant where the bit stays, else that of [`Window::refresh`].
+    pub fn renew(&mut self, peer: &C, known: Known)
+        requires { map (with_bit_of C.cmp peer.now known.before) self.old ≡ self.old }
+        ensures { self.new ≡ map (with_bit_of C.cmp peer.now known.after) self.old }
+    {
+        if known.before != known.after {
+            self.refresh(peer, known.after);
+        }
     }
 }
 
@@ -340,15 +365,16 @@ fn set_with_index<C: PublicKey>(sets: &VecDeque<PeerSet<C>>, index: u64) -> Opti
     None
 }
 
-// Takes in a set as the latest with the places of its primary peers, or leaves both as they were.
+// Takes in a set as the latest with the places of its primary peers, or leaves all as it was.
 fn push_set<C: PublicKey>(
     sets: &mut VecDeque<PeerSet<C>>,
+    links: &mut VecDeque<Links>,
     places: &mut Places<C>,
     set: PeerSet<C>,
 ) -> Result<(), PeerSet<C>>
-    requires indexed { IsIndexed C.cmp places.old sets.old.items }
+    requires indexed { IsIndexed C.cmp places.old links.old.items sets.old.items }
     requires above { is_above set.index (latest_index (plain_sets sets.old.items)) ≡ true }
-    ensures indexed { IsIndexed C.cmp places.new sets.new.items }
+    ensures indexed { IsIndexed C.cmp places.new links.new.items sets.new.items }
     ensures ok { OnOk result (sets.new.items ≡ sets.old.items ++ set ∷ []) }
     ensures err { OnErr result (sets.new.items ≡ sets.old.items) }
     ensures back { IfErr result (λ back. back ≡ set) }
@@ -356,71 +382,106 @@ fn push_set<C: PublicKey>(
     if sets.try_reserve(1).is_err() {
         return Err(set);
     }
-    if places
-        .add_each(set.primary.ordered().as_slice(), set.index)
-        .is_err()
-    {
+    if links.try_reserve(1).is_err() {
         return Err(set);
     }
-    match sets.push_back(set) {
-        Ok(()) => Ok(()),
-        Err(refused) => Err(refused.value),
+    match places.add_each(set.primary.ordered().as_slice(), set.index) {
+        Ok(older) => {
+            links.push_back_reserved(older);
+            sets.push_back_reserved(set);
+            Ok(())
+        }
+        Err(_) => Err(set),
     }
 }
 
 // Takes out the first set with the places of its primary peers.
 fn pop_set<C: PublicKey>(
     sets: &mut VecDeque<PeerSet<C>>,
+    links: &mut VecDeque<Links>,
     places: &mut Places<C>,
 ) -> Option<PeerSet<C>>
-    requires { IsIndexed C.cmp places.old sets.old.items }
-    ensures indexed { IsIndexed C.cmp places.new sets.new.items }
+    requires { IsIndexed C.cmp places.old links.old.items sets.old.items }
+    ensures indexed { IsIndexed C.cmp places.new links.new.items sets.new.items }
     ensures sets { sets.old.items ≡ option_to_list result ++ sets.new.items }
     ensures none { IfNone result (length sets.old.items ≡ 0) }
 {
     let oldest = sets.pop_front()?;
-    places.remove_each(oldest.primary.ordered().as_slice(), End::Front);
+    forget(links.pop_front());
+    places.remove_set(oldest.primary.ordered().as_slice(), oldest.index);
     Some(oldest)
 }
 
 // Sets the bit at each place of the peer, and answers how many there are.
 fn refresh_places<C: PublicKey>(
     sets: &mut VecDeque<PeerSet<C>>,
+    links: &VecDeque<Links>,
     places: &Places<C>,
     peer: &C,
     known: bool,
 ) -> usize
-    requires { IsIndexed C.cmp places.now sets.old.items }
+    requires { IsIndexed C.cmp places.now links.now.items sets.old.items }
     ensures sets { sets.new.items ≡ map (with_bit_of C.cmp peer.now known) sets.old.items }
     ensures count { result ≡ count_by (has_primary C.cmp peer.now) sets.old.items }
 {
-    match places.get(peer) {
-        Some(queue) => set_bits(sets, queue, known),
-        None => 0,
+    set_bits(sets, links, places.get(peer), known)
+}
+
+// Sets the bit at each place that a walk meets, and answers how many there are.
+fn set_bits<C: PublicKey>(
+    sets: &mut VecDeque<PeerSet<C>>,
+    links: &VecDeque<Links>,
+    latest: Option<Place>,
+    known: bool,
+) -> usize
+    requires ascending { IsAscending sets.old.items }
+    requires earlier { AreEarlier (indices sets.old.items) links.now.items }
+    requires few { length (walk (indices sets.old.items) links.now.items latest) ≤
+        length sets.old.items }
+    ensures sets { sets.new.items ≡
+        bits_at known (walk (indices sets.old.items) links.now.items latest) sets.old.items }
+    ensures count { result ≡ length (walk (indices sets.old.items) links.now.items latest) }
+{
+    let mut next = latest;
+    for count in 0..sets.len() {
+        let Some(place) = next else { return count };
+        let Some(found) = set_bit_at(sets, &place, known) else {
+            return count
+        };
+        next = link_at(links, found, place.at);
+    }
+    sets.len()
+}
+
+// What stands beside a peer of one of the sets.
+fn link_at(links: &VecDeque<Links>, found: usize, at: usize) -> Option<Place>
+    ensures { result ≡ get_or (get_or links.now.items found []) at None }
+{
+    match links.get(found) {
+        Some(older) => older.get(at),
+        None => None,
     }
 }
 
-// Sets the bit at each of the places, and answers how many there are.
-fn set_bits<C: PublicKey>(sets: &mut VecDeque<PeerSet<C>>, places: &Queue, known: bool) -> usize
+// Sets the bit at a place, in the set with its index, and answers where that set is.
+fn set_bit_at<C: PublicKey>(
+    sets: &mut VecDeque<PeerSet<C>>,
+    place: &Place,
+    known: bool,
+) -> Option<usize>
     requires { IsAscending sets.old.items }
-    ensures sets { sets.new.items ≡ bits_at known places.now sets.old.items }
-    ensures count { result ≡ length places.now }
+    ensures sets { sets.new.items ≡ map (bit_at known place.now) sets.old.items }
+    ensures some { IfSome result (λ found. (found < length sets.old.items)
+        × (get_or (indices sets.old.items) found 0 ≡ place.now.set)) }
+    ensures none { IfNone result (has_index (indices sets.old.items) place.now.set ≡ false) }
 {
-    set_bit_at(sets, &places.first, known);
-    for k in 0..places.rest.len() {
-        set_bit_at(sets, &places.rest[k], known);
-    }
-    places.rest.len() + 1
-}
-
-// Sets the bit at a place, in the set with its index.
-fn set_bit_at<C: PublicKey>(sets: &mut VecDeque<PeerSet<C>>, place: &Place, known: bool)
-    requires { IsAscending sets.old.items }
-    ensures { sets.new.items ≡ map (bit_at known place.now) sets.old.items }
-{
-    if let Ok(found) = sets.binary_search_by_key(&place.set, |set| set.index()) {
-        if let Some(set) = sets.get_mut(found) {
-            set.set_bit(place.at, known);
+    match sets.binary_search_by_key(&place.set, |set| set.index()) {
+        Ok(found) => {
+            if let Some(set) = sets.get_mut(found) {
+                set.set_bit(place.at, known);
+            }
+            Some(found)
         }
+        Err(_) => None,
     }
 }

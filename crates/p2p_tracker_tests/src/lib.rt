@@ -9,6 +9,8 @@
 mod calls;
 #[cfg(test)]
 mod directory;
+#[cfg(test)]
+mod examples;
 pub mod fixtures;
 #[cfg(test)]
 mod record;

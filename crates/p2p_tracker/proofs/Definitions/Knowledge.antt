@@ -1,5 +1,7 @@
 -- What one more event of a life changes of what is known.
-use Rattle.std.proofs.Common.{zero-add, ◌≡◌, ℕ, suc, ◌+◌, ◌<◌, ◌≤◌, Bool, true, false, cond, ◌&&◌, ◌||◌, List, [], ◌∷◌, ◌++◌, Option, Some, None, refl, sym, ◌∙◌, ap, arith}
+use Rattle.std.proofs.Common.{zero-add, ◌≡◌, ℕ, suc, ◌+◌, ◌<◌, ◌≤◌, Bool, true, false, cond, ◌&&◌}
+use Rattle.std.proofs.Common.{◌||◌, List, [], ◌∷◌, ◌++◌, Option, Some, None, refl, sym, ◌∙◌, ap}
+use Rattle.std.proofs.Common.{arith}
 use Rattle.std.specs.Prelude.{if◌then◌else◌, nat_lt, filter}
 use Rattle.std.proofs.lemmas.List.{append-nil}
 use Rattle.std.proofs.lemmas.List.Sums.{sum_by-cons}
@@ -61,7 +63,8 @@ module _ {C S : Type 0} (s : Setup C S) where
   kept_unless_newer (Some i) None e = refl
   kept_unless_newer (Some i) (Some j) e = go (nat_lt i.timestamp j.timestamp) refl e
     where
-      go : (x : Bool) → nat_lt i.timestamp j.timestamp ≡ x → History.is_newer (Some i) (if x then Some j else Some i) ≡ false → (if x then Some j else Some i) ≡ Some i
+      go : (x : Bool) → nat_lt i.timestamp j.timestamp ≡ x →
+          History.is_newer (Some i) (if x then Some j else Some i) ≡ false → (if x then Some j else Some i) ≡ Some i
       go true f e = absurd (cc)
       go false f e = refl
 
@@ -84,22 +87,34 @@ module _ {C S : Type 0} (s : Setup C S) where
 
   newer_some : (j : Info C S) (c : Option (Info C S)) → History.is_newer None (later (Some j) c) ≡ true
   newer_some j None = refl
-  newer_some j (Some k) = elim (nat_lt j.timestamp k.timestamp) as (λ x. History.is_newer None (if x then Some k else Some j) ≡ true) [ true ↦ refl | false ↦ refl ]
+  newer_some j (Some k) =
+      elim (nat_lt j.timestamp k.timestamp) as (λ x. History.is_newer None (if x then Some k else Some j) ≡ true)
+      [ true ↦ refl | false ↦ refl ]
 
   newer_chain : (a b c : Option (Info C S)) → History.is_newer a (later b c) ≡ (History.is_newer (later a b) c || History.is_newer a b)
   newer_chain None None c = sym (or_false (History.is_newer None c))
   newer_chain None (Some j) c = newer_some j c ∙ sym (or_true (History.is_newer (Some j) c))
   newer_chain (Some i) None c = sym (or_false (History.is_newer (Some i) c))
-  newer_chain (Some i) (Some j) None = elim (nat_lt i.timestamp j.timestamp) as (λ x. nat_lt i.timestamp j.timestamp ≡ (History.is_newer (if x then Some j else Some i) None || nat_lt i.timestamp j.timestamp)) [ true ↦ refl | false ↦ refl ]
+  newer_chain (Some i) (Some j) None =
+      elim (nat_lt i.timestamp j.timestamp) as
+      (λ x. nat_lt i.timestamp j.timestamp
+      ≡ (History.is_newer (if x then Some j else Some i) None || nat_lt i.timestamp j.timestamp))
+      [ true ↦ refl | false ↦ refl ]
   newer_chain (Some i) (Some j) (Some k) = go (nat_lt i.timestamp j.timestamp) (nat_lt j.timestamp k.timestamp) refl refl
     where
       go : (x y : Bool) → nat_lt i.timestamp j.timestamp ≡ x → nat_lt j.timestamp k.timestamp ≡ y →
-          History.is_newer (Some i) (if y then Some k else Some j) ≡ (History.is_newer (if x then Some j else Some i) (Some k) || nat_lt i.timestamp j.timestamp)
-      go true true e f = lt-ltb i.timestamp k.timestamp (omega (arith, ltb-true i.timestamp j.timestamp e, ltb-true j.timestamp k.timestamp f)) ∙ sym (ap (λ x. x || nat_lt i.timestamp j.timestamp) f)
+          History.is_newer (Some i) (if y then Some k else Some j)
+          ≡ (History.is_newer (if x then Some j else Some i) (Some k) || nat_lt i.timestamp j.timestamp)
+      go true true e f =
+          lt-ltb i.timestamp k.timestamp
+          (omega (arith, ltb-true i.timestamp j.timestamp e, ltb-true j.timestamp k.timestamp f))
+          ∙ sym (ap (λ x. x || nat_lt i.timestamp j.timestamp) f)
       go true false e f = e ∙ sym (ap (λ x. nat_lt j.timestamp k.timestamp || x) e ∙ or_true (nat_lt j.timestamp k.timestamp))
       go false true e f = sym (ap (λ x. nat_lt i.timestamp k.timestamp || x) e ∙ or_false (nat_lt i.timestamp k.timestamp))
       go false false e f =
-          ap (λ x. x || nat_lt i.timestamp j.timestamp) (sym (le-ltb i.timestamp k.timestamp (omega (arith, ltb-false i.timestamp j.timestamp e, ltb-false j.timestamp k.timestamp f))))
+          ap (λ x. x || nat_lt i.timestamp j.timestamp)
+          (sym (le-ltb i.timestamp k.timestamp
+          (omega (arith, ltb-false i.timestamp j.timestamp e, ltb-false j.timestamp k.timestamp f))))
 
   -- ONE INFO AFTER ANOTHER
 
@@ -132,14 +147,19 @@ module _ {C S : Type 0} (s : Setup C S) where
   updated_with_best k i (Some j) e = go (nat_lt j.timestamp i.timestamp) refl
     where
       go : (b : Bool) → nat_lt j.timestamp i.timestamp ≡ b → (if b then record k { info = Some i; fails = 0 } else k) ≡ with_best k (Some i)
-      go true f = sym (known_path (ap (λ x. later x (Some i)) e ∙ ap (λ b. if b then Some i else Some j) f) (ap (λ x. if History.is_newer x (Some i) then 0 else k.fails) e ∙ ap (λ b. if b then 0 else k.fails) f))
-      go false f = sym (known_path (ap (λ x. later x (Some i)) e ∙ ap (λ b. if b then Some i else Some j) f ∙ sym e) (ap (λ x. if History.is_newer x (Some i) then 0 else k.fails) e ∙ ap (λ b. if b then 0 else k.fails) f))
+      go true f = sym
+          (known_path (ap (λ x. later x (Some i)) e ∙ ap (λ b. if b then Some i else Some j) f)
+          (ap (λ x. if History.is_newer x (Some i) then 0 else k.fails) e ∙ ap (λ b. if b then 0 else k.fails) f))
+      go false f =
+          sym (known_path (ap (λ x. later x (Some i)) e ∙ ap (λ b. if b then Some i else Some j) f ∙ sym e)
+          (ap (λ x. if History.is_newer x (Some i) then 0 else k.fails) e ∙ ap (λ b. if b then 0 else k.fails) f))
 
   -- updated one by one, the best of them all is what comes
   pub updated_all_with_best : (k : Known C S) (is : List (Info C S)) → Step.known_with_infos s k is ≡ with_best k (History.first_greatest is)
   updated_all_with_best k [] = sym (with_best_none k)
   updated_all_with_best k (i ∷ is) =
-      ap (λ x. Step.known_with_infos s x is) (updated_with_best k i k.info refl) ∙ updated_all_with_best (with_best k (Some i)) is ∙ with_best_twice k (Some i) (History.first_greatest is)
+      ap (λ x. Step.known_with_infos s x is) (updated_with_best k i k.info refl)
+      ∙ updated_all_with_best (with_best k (Some i)) is ∙ with_best_twice k (Some i) (History.first_greatest is)
 
   -- INFO IN A LIFE
 
@@ -162,7 +182,8 @@ module _ {C S : Type 0} (s : Setup C S) where
   one_failure p None e = 0
   one_failure p (Some i) e = cond (History.is_failure s p i.ingress e) 1 0
 
-  failures-cons : (p : C) (o : Option (Info C S)) (e : Event C S) (l : List (Event C S)) → History.failures_of s p o (e ∷ l) ≡ one_failure p o e + History.failures_of s p o l
+  failures-cons : (p : C) (o : Option (Info C S)) (e : Event C S) (l : List (Event C S)) →
+      History.failures_of s p o (e ∷ l) ≡ one_failure p o e + History.failures_of s p o l
   failures-cons p None e l = omega arith
   failures-cons p (Some i) e l = sum_by-cons (λ x. cond (History.is_failure s p i.ingress x) 1 0) e l
 
@@ -171,11 +192,14 @@ module _ {C S : Type 0} (s : Setup C S) where
   failures_none p (Some i) = refl
 
   fails_step : (p : C) (e : Event C S) (l : List (Event C S)) → History.fails_in s p (e ∷ l)
-      ≡ (if History.is_brought_by s p e l || History.connects_as_dialer s p e then 0 else one_failure p (History.info_in s p (e ∷ l)) e + History.failures_of s p (History.info_in s p (e ∷ l)) (History.since_cleared s p l))
+      ≡ (if History.is_brought_by s p e l || History.connects_as_dialer s p e then 0 else one_failure p
+      (History.info_in s p (e ∷ l)) e + History.failures_of s p (History.info_in s p (e ∷ l))
+      (History.since_cleared s p l))
   fails_step p e l = go (History.is_brought_by s p e l || History.connects_as_dialer s p e)
     where
       go : (b : Bool) → History.failures_of s p (History.info_in s p (e ∷ l)) (if b then [] else e ∷ History.since_cleared s p l)
-          ≡ (if b then 0 else one_failure p (History.info_in s p (e ∷ l)) e + History.failures_of s p (History.info_in s p (e ∷ l)) (History.since_cleared s p l))
+          ≡ (if b then 0 else one_failure p (History.info_in s p (e ∷ l)) e + History.failures_of s p
+          (History.info_in s p (e ∷ l)) (History.since_cleared s p l))
       go true = failures_none p (History.info_in s p (e ∷ l))
       go false = failures-cons p (History.info_in s p (e ∷ l)) e (History.since_cleared s p l)
 
@@ -184,8 +208,10 @@ module _ {C S : Type 0} (s : Setup C S) where
       History.fails_in s p (e ∷ l) ≡ (if History.connects_as_dialer s p e then 0 else one_failure p (History.info_in s p l) e + History.fails_in s p l)
   fails_quiet p e l same =
       fails_step p e l
-      ∙ ap (λ o. if History.is_newer (History.info_in s p l) o || History.connects_as_dialer s p e then 0 else one_failure p o e + History.failures_of s p o (History.since_cleared s p l)) same
-      ∙ ap (λ b. if b || History.connects_as_dialer s p e then 0 else one_failure p (History.info_in s p l) e + History.fails_in s p l) (not_newer (History.info_in s p l))
+      ∙ ap (λ o. if History.is_newer (History.info_in s p l) o || History.connects_as_dialer s p e then 0
+      else one_failure p o e + History.failures_of s p o (History.since_cleared s p l)) same
+      ∙ ap (λ b. if b || History.connects_as_dialer s p e then 0 else one_failure p (History.info_in s p l) e
+      + History.fails_in s p l) (not_newer (History.info_in s p l))
 
   -- ONE MORE CALL OF A LIFE
 
@@ -199,7 +225,8 @@ module _ {C S : Type 0} (s : Setup C S) where
   no_failure p e none None = refl
   no_failure p e none (Some i) = ap (λ b. cond b 1 0) (none i.ingress)
 
-  fails_same : (p : C) (e : Event C S) (l : List (Event C S)) → History.info_in s p (e ∷ l) ≡ History.info_in s p l → ((a : Ingress) → History.is_failure s p a e ≡ false) →
+  fails_same : (p : C) (e : Event C S) (l : List (Event C S)) →
+      History.info_in s p (e ∷ l) ≡ History.info_in s p l → ((a : Ingress) → History.is_failure s p a e ≡ false) →
       History.fails_in s p (e ∷ l) ≡ (if History.connects_as_dialer s p e then 0 else History.fails_in s p l)
   fails_same p e l same none =
       fails_quiet p e l same
@@ -207,36 +234,48 @@ module _ {C S : Type 0} (s : Setup C S) where
       ∙ ap (λ n. if History.connects_as_dialer s p e then 0 else n) (zero-add (History.fails_in s p l))
 
   -- an event that says nothing of p
-  nothing_known : (p : C) (e : Event C S) (l : List (Event C S)) → History.infos_by s p e ≡ [] → ((a : Ingress) → History.is_failure s p a e ≡ false) → History.connects_as_dialer s p e ≡ false →
+  nothing_known : (p : C) (e : Event C S) (l : List (Event C S)) → History.infos_by s p e ≡ [] →
+      ((a : Ingress) → History.is_failure s p a e ≡ false) → History.connects_as_dialer s p e ≡ false →
       World.known_in s p (e ∷ l) ≡ World.known_in s p l
   nothing_known p e l no_info none no_dial =
       let same = info_quiet p e l no_info in
       known_path same
       (fails_same p e l same none ∙ ap (λ b. if b then 0 else History.fails_in s p l) no_dial)
 
-  fails_by_best : (p : C) (e : Event C S) (l : List (Event C S)) (x : Option (Info C S)) → ((a : Ingress) → History.is_failure s p a e ≡ false) → (b : Bool) → History.is_newer (History.info_in s p l) x ≡ b →
+  fails_by_best : (p : C) (e : Event C S) (l : List (Event C S)) (x : Option (Info C S)) →
+      ((a : Ingress) → History.is_failure s p a e ≡ false) → (b : Bool) →
+      History.is_newer (History.info_in s p l) x ≡ b →
       (if History.is_newer (History.info_in s p l) (later (History.info_in s p l) x) || false then 0
       else one_failure p (later (History.info_in s p l) x) e + History.failures_of s p (later (History.info_in s p l) x) (History.since_cleared s p l))
       ≡ (if b then 0 else History.fails_in s p l)
   fails_by_best p e l x none true f =
-      ap (λ b. if b || false then 0 else one_failure p (later (History.info_in s p l) x) e + History.failures_of s p (later (History.info_in s p l) x) (History.since_cleared s p l))
+      ap (λ b. if b || false then 0 else one_failure p (later (History.info_in s p l) x) e + History.failures_of s
+      p (later (History.info_in s p l) x) (History.since_cleared s p l))
       (newer_later (History.info_in s p l) x ∙ f)
   fails_by_best p e l x none false f =
       let old_newer : History.is_newer (History.info_in s p l) (later (History.info_in s p l) x) ≡ false = newer_later (History.info_in s p l) x ∙ f in
-      ap (λ b. if b || false then 0 else one_failure p (later (History.info_in s p l) x) e + History.failures_of s p (later (History.info_in s p l) x) (History.since_cleared s p l)) old_newer
+      ap (λ b. if b || false then 0 else one_failure p (later (History.info_in s p l) x) e + History.failures_of s
+      p (later (History.info_in s p l) x) (History.since_cleared s p l)) old_newer
       ∙ ap (λ o. one_failure p o e + History.failures_of s p o (History.since_cleared s p l)) (kept_unless_newer (History.info_in s p l) x old_newer)
       ∙ ap (λ n. n + History.fails_in s p l) (no_failure p e none (History.info_in s p l))
       ∙ zero-add (History.fails_in s p l)
 
   fails_updated : (p : C) (infos : List (Info C S)) (l : List (Event C S)) → History.is_own s p ≡ false →
-      History.fails_in s p (Updated infos ∷ l) ≡ (if History.is_newer (History.info_in s p l) (History.first_greatest (History.infos_by s p (Updated infos))) then 0 else History.fails_in s p l)
+      History.fails_in s p (Updated infos ∷ l)
+      ≡ (if History.is_newer (History.info_in s p l)
+      (History.first_greatest (History.infos_by s p (Updated infos))) then 0 else History.fails_in s p l)
   fails_updated p infos l other =
       fails_step p (Updated infos) l
-      ∙ ap (λ o. if History.is_newer (History.info_in s p l) o || false then 0 else one_failure p o (Updated infos) + History.failures_of s p o (History.since_cleared s p l)) (info_updated p infos l other)
-      ∙ fails_by_best p (Updated infos) l (History.first_greatest (History.infos_by s p (Updated infos))) (λ a. refl) (History.is_newer (History.info_in s p l) (History.first_greatest (History.infos_by s p (Updated infos)))) refl
+      ∙ ap (λ o. if History.is_newer (History.info_in s p l) o || false then 0 else one_failure p o (Updated infos)
+      + History.failures_of s p o (History.since_cleared s p l)) (info_updated p infos l other)
+      ∙ fails_by_best p (Updated infos) l (History.first_greatest (History.infos_by s p (Updated infos)))
+      (λ a. refl) (History.is_newer (History.info_in s p l)
+      (History.first_greatest (History.infos_by s p (Updated infos)))) refl
 
   known_updated : (p : C) (infos : List (Info C S)) (l : List (Event C S)) (own : Bool) → History.is_own s p ≡ own →
-      World.known_in s p (Updated infos ∷ l) ≡ (if own then World.known_in s p l else Step.known_with_infos s (World.known_in s p l) (filter (λ i. History.same s i.public_key p) infos))
+      World.known_in s p (Updated infos ∷ l)
+      ≡ (if own then World.known_in s p l else Step.known_with_infos s (World.known_in s p l)
+      (filter (λ i. History.same s i.public_key p) infos))
   known_updated p infos l true own =
       let same : History.info_in s p (Updated infos ∷ l) ≡ History.info_in s p l = info_own p (Updated infos ∷ l) own ∙ sym (info_own p l own) in
       known_path same (fails_same p (Updated infos) l same (λ a. refl))
@@ -245,7 +284,8 @@ module _ {C S : Type 0} (s : Setup C S) where
       (fails_updated p infos l other)
       ∙ sym (updated_all_with_best (World.known_in s p l) (filter (λ i. History.same s i.public_key p) infos))
 
-  known_connected : (p q : C) (dialer : Bool) (l : List (Event C S)) → World.known_in s p (Connected q dialer ∷ l) ≡ Step.known_after s p (Connected q dialer) (World.known_in s p l)
+  known_connected : (p q : C) (dialer : Bool) (l : List (Event C S)) →
+      World.known_in s p (Connected q dialer ∷ l) ≡ Step.known_after s p (Connected q dialer) (World.known_in s p l)
   known_connected p q dialer l =
       known_path same (fails_same p (Connected q dialer) l same (λ a. refl))
       ∙ go (History.same s q p && dialer)
@@ -261,7 +301,8 @@ module _ {C S : Type 0} (s : Setup C S) where
 
   -- how a release counts
   failure_counts : (p q : C) (direction : Direction) (k : Known C S) (o : Option (Info C S)) (n : ℕ) → k.info ≡ o → k.fails ≡ n →
-      ◌≡◌ {A = Known C S} (record k { fails = one_failure p o (Released q direction) + n }) (if History.same s q p && Step.is_failed_dial s o direction then record k { fails = suc k.fails } else k)
+      ◌≡◌ {A = Known C S} (record k { fails = one_failure p o (Released q direction) + n })
+      (if History.same s q p && Step.is_failed_dial s o direction then record k { fails = suc k.fails } else k)
   failure_counts p q direction k None n e f = go (History.same s q p)
     where
       go : (b : Bool) → ◌≡◌ {A = Known C S} (record k { fails = 0 + n }) (if b && false then record k { fails = suc k.fails } else k)
@@ -273,7 +314,9 @@ module _ {C S : Type 0} (s : Setup C S) where
       go true = known_path refl (omega arith)
       go false = known_path refl ((zero-add n) ∙ sym f)
 
-  known_released : (p q : C) (direction : Direction) (l : List (Event C S)) → World.known_in s p (Released q direction ∷ l) ≡ Step.known_after s p (Released q direction) (World.known_in s p l)
+  known_released : (p q : C) (direction : Direction) (l : List (Event C S)) →
+      World.known_in s p (Released q direction ∷ l) ≡ Step.known_after s p (Released q direction)
+      (World.known_in s p l)
   known_released p q direction l =
       known_path same (fails_quiet p (Released q direction) l same)
       ∙ failure_counts p q direction (World.known_in s p l) (History.info_in s p l) (History.fails_in s p l) refl refl
@@ -302,6 +345,7 @@ module _ {C S : Type 0} (s : Setup C S) where
   unfolding History.life
   known_life p e h = go (History.is_present s p (e ∷ h))
     where
-      go : (b : Bool) → World.known_in s p (if b then e ∷ History.life s p h else []) ≡ (if b then Step.known_after s p e (World.known_in s p (History.life s p h)) else Step.new_known s p)
+      go : (b : Bool) → World.known_in s p (if b then e ∷ History.life s p h else [])
+          ≡ (if b then Step.known_after s p e (World.known_in s p (History.life s p h)) else Step.new_known s p)
       go true = known_step p e (History.life s p h)
       go false = known_nothing p

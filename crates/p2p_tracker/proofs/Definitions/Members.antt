@@ -47,7 +47,8 @@ module _ {C : Type 0} {cmp : C → C → Ordering} (total : IsTotalOrder cmp) (e
       tail : x ≡ y → (p : C) → (b : Bool) → is_at (cmp x) p ≡ b → has_key cmp xs p ≡ has_key cmp ys p
       tail e p true f =
           let at_x : x ≡ p = tells_apart exact x p f in
-          subst (λ q. has_key cmp xs q ≡ has_key cmp ys q) at_x (all_above x xs sx.0 ∙ sym (subst (λ q. has_key cmp ys q ≡ false) (sym e) (all_above y ys sy.0)))
+          subst (λ q. has_key cmp xs q ≡ has_key cmp ys q) at_x
+          (all_above x xs sx.0 ∙ sym (subst (λ q. has_key cmp ys q ≡ false) (sym e) (all_above y ys sy.0)))
       tail e p false f =
           sym (ap (λ b. b || has_key cmp xs p) f) ∙ members p ∙ ap (λ b. b || has_key cmp ys p) (ap (λ q. is_at (cmp q) p) (sym e) ∙ f)
 

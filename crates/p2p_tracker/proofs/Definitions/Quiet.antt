@@ -27,7 +27,8 @@ StaysAlike target present o d t u = (due target o d u ≡ due target o d t) × (
 
 -- .. where it isn't blocked at either
 unblocked : (target : Bool) (d t u : ℕ) → t ≤ u → ((n : ℕ) → (if target && nat_lt t d then Some d else None) ≡ Some n → u < n) →
-    ((target && true && nat_le d u) ≡ (target && true && nat_le d t)) × ((if target && nat_lt u d then Some d else None) ≡ (if target && nat_lt t d then Some d else None))
+    ((target && true && nat_le d u) ≡ (target && true && nat_le d t))
+    × ((if target && nat_lt u d then Some d else None) ≡ (if target && nat_lt t d then Some d else None))
 unblocked false d t u le next = (refl, refl)
 unblocked true d t u le next = go (nat_lt t d) refl
   where
@@ -53,7 +54,8 @@ blocked false false true false m d t u before after absent le next = (refl, refl
 blocked true present true true m d t u before after absent le next = (refl, refl)
 blocked false present true true m d t u before after absent le next = (refl, refl)
 
-pub stays : (target present : Bool) (o : Option ℕ) (d t u : ℕ) → (present ≡ false → target ≡ false) → t ≤ u → ((n : ℕ) → query target present o d t ≡ Some n → u < n) →
+pub stays : (target present : Bool) (o : Option ℕ) (d t u : ℕ) → (present ≡ false → target ≡ false) → t ≤ u →
+    ((n : ℕ) → query target present o d t ≡ Some n → u < n) →
     StaysAlike target present o d t u
 stays target present None d t u absent le next = unblocked target d t u le next
 stays target present (Some m) d t u absent le next = blocked target present (nat_lt t m) (nat_lt u m) m d t u refl refl absent le next
@@ -68,7 +70,8 @@ not_entitled false false false rest e = refl
 module _ {C S : Type 0} (s : Setup C S) where
   absent : (p : C) (w : World C S) → is_present_in s w p ≡ false → is_target s p w.sets (w.peer p) ≡ false
   absent p w e =
-      ap (λ b. b && History.is_inert (w.peer p).status && World.is_valid_address s (World.address_with s p (w.peer p).known.info) && World.is_dial_target s p w.sets)
+      ap (λ b. b && History.is_inert (w.peer p).status && World.is_valid_address s
+      (World.address_with s p (w.peer p).known.info) && World.is_dial_target s p w.sets)
       (not_entitled (not (History.is_own s p)) (History.is_persistent s p) (History.is_named s p w.sets) (not (History.is_inert (w.peer p).status)) e)
 
   -- the whole answer stays
@@ -84,7 +87,9 @@ module _ {C S : Type 0} (s : Setup C S) where
           (absent p w) le (Listed.least_later (query_moment s w t) u next before answer.1 p)
 
   -- and there is no other
-  pub only_dialable : IsTotalOrder s.cmp → History.IsExact s → (w : World C S) (t : ℕ) (ps qs : List C) (next after : Option ℕ) → IsDialable s w t ps next → IsDialable s w t qs after → (ps ≡ qs) × (next ≡ after)
+  pub only_dialable : IsTotalOrder s.cmp → History.IsExact s →
+      (w : World C S) (t : ℕ) (ps qs : List C) (next after : Option ℕ) → IsDialable s w t ps next →
+      IsDialable s w t qs after → (ps ≡ qs) × (next ≡ after)
   only_dialable total exact w t ps qs next after x y = (
     Listed.one_list s total exact (is_dialable s w t) ps qs x.0 y.0,
     Listed.one_least s (query_moment s w t) next after x.1 y.1,

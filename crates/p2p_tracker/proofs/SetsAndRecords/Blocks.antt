@@ -1,5 +1,7 @@
 -- Keys with moments: as they are kept and as contracts see them, and who is blocked.
-use Rattle.std.proofs.Common.{◌≡◌, ℕ, suc, ◌≤◌, Bool, true, false, ◌||◌, cond, not, nat_lt, List, [], ◌∷◌, filter, length, Option, Some, None, refl, sym, ◌∙◌, ap, subst, arith}
+use Rattle.std.proofs.Common.{◌≡◌, ℕ, suc, ◌≤◌, Bool, true, false, ◌||◌, cond, not, nat_lt, List}
+use Rattle.std.proofs.Common.{[], ◌∷◌, filter, length, Option, Some, None, refl, sym, ◌∙◌, ap}
+use Rattle.std.proofs.Common.{subst, arith}
 use Rattle.std.specs.declared.cmp.Ordering.{Ordering}
 use Rattle.std.specs.declared.time.Duration.{Duration}
 use Rattle.std.specs.BTreeMap.{is_at}
@@ -23,7 +25,8 @@ use Rattle.p2p_tracker.specs.Blocks.{in_nanos, is_later, IsAnyUntil, unblock_in}
 
 -- AS CONTRACTS SEE THEM
 
-put-in_nanos : (b : Bool) (moment : Duration) (o : Option Duration) → option_map as_nanos (cond b (Some moment) o) ≡ cond b (Some (as_nanos moment)) (option_map as_nanos o)
+put-in_nanos : (b : Bool) (moment : Duration) (o : Option Duration) →
+    option_map as_nanos (cond b (Some moment) o) ≡ cond b (Some (as_nanos moment)) (option_map as_nanos o)
 put-in_nanos true moment o = refl
 put-in_nanos false moment o = refl
 
@@ -33,7 +36,8 @@ module _ {C : Type 0} where
   keys-in_nanos (e ∷ es) = ap (λ ks. e.0 ∷ ks) (keys-in_nanos es)
 
   -- what is in order by its keys is so as contracts see it
-  pub sorted-in_nanos : (cmp : C → C → Ordering) (es : List (C × Duration)) (bs : List (C × ℕ)) → in_nanos es ≡ bs → IsStrictlySortedBy cmp (keys_of es) → IsStrictlySortedBy cmp (keys_of bs)
+  pub sorted-in_nanos : (cmp : C → C → Ordering) (es : List (C × Duration)) (bs : List (C × ℕ)) →
+      in_nanos es ≡ bs → IsStrictlySortedBy cmp (keys_of es) → IsStrictlySortedBy cmp (keys_of bs)
   sorted-in_nanos cmp es bs seen up = subst (IsStrictlySortedBy cmp) (sym (keys-in_nanos es) ∙ ap keys_of seen) up
 
   pub lookup-in_nanos : (test : C → Bool) (es : List (C × Duration)) → lookup test (in_nanos es) ≡ option_map as_nanos (lookup test es)
@@ -63,27 +67,34 @@ later_is_blocked now (Some moment) = refl
 
 module _ {C : Type 0} {cmp : C → C → Ordering} (total : IsTotalOrder cmp) where
   -- the keys whose moments are later than now are the blocked ones
-  pub blocked_listed : (bs : List (C × ℕ)) (now : ℕ) → IsStrictlySortedBy cmp (keys_of bs) → Lists cmp (λ q. is_blocked (unblock_in cmp bs q) now) (keys_of (filter (is_later now) bs))
+  pub blocked_listed : (bs : List (C × ℕ)) (now : ℕ) → IsStrictlySortedBy cmp (keys_of bs) →
+      Lists cmp (λ q. is_blocked (unblock_in cmp bs q) now) (keys_of (filter (is_later now) bs))
   blocked_listed bs now up =
       let lists = listed_by_value total (nat_lt now) bs up in
       record { sorted = lists.sorted; members = λ q. lists.members q ∙ later_is_blocked now (unblock_in cmp bs q) }
 
   -- where a moment is later, somebody is blocked
-  pub somebody_blocked : CmpEqualImpliesEq cmp → (bs : List (C × ℕ)) (now : ℕ) → IsStrictlySortedBy cmp (keys_of bs) → list_any (is_later now) bs ≡ true → Somebody (λ q. is_blocked (unblock_in cmp bs q) now)
+  pub somebody_blocked : CmpEqualImpliesEq cmp → (bs : List (C × ℕ)) (now : ℕ) →
+      IsStrictlySortedBy cmp (keys_of bs) → list_any (is_later now) bs ≡ true →
+      Somebody (λ q. is_blocked (unblock_in cmp bs q) now)
   somebody_blocked exact bs now up any =
       let some = somebody_passes total exact (is_later now) bs up any in
       (some.0, sym (later_is_blocked now (unblock_in cmp bs some.0)) ∙ some.1)
 
   -- what is left of a block when those that end are dropped
-  pub left_blocks : (bs : List (C × ℕ)) (now : ℕ) → IsStrictlySortedBy cmp (keys_of bs) → (q : C) → unblock_in cmp (filter (is_later now) bs) q ≡ if_later now (unblock_in cmp bs q)
-  left_blocks bs now up q = lookup-filter-values (eq_by_cmp_equiv total) (nat_lt now) q bs (IsDistinct-from_sorted cmp (keys_of bs) up) ∙ go (unblock_in cmp bs q)
+  pub left_blocks : (bs : List (C × ℕ)) (now : ℕ) → IsStrictlySortedBy cmp (keys_of bs) → (q : C) →
+      unblock_in cmp (filter (is_later now) bs) q ≡ if_later now (unblock_in cmp bs q)
+  left_blocks bs now up q =
+      lookup-filter-values (eq_by_cmp_equiv total) (nat_lt now) q bs (IsDistinct-from_sorted cmp (keys_of bs) up)
+      ∙ go (unblock_in cmp bs q)
     where
       go : (o : Option ℕ) → option_filter (nat_lt now) o ≡ if_later now o
       go None = refl
       go (Some moment) = refl
 
   -- whether any block ends, by how many do
-  pub any_ends : CmpEqualImpliesEq cmp → (bs : List (C × ℕ)) (now n : ℕ) → IsStrictlySortedBy cmp (keys_of bs) → n ≡ count_by (λ e. not (is_later now e)) bs → IsAnyUntil (unblock_in cmp bs) now (nat_lt 0 n)
+  pub any_ends : CmpEqualImpliesEq cmp → (bs : List (C × ℕ)) (now n : ℕ) → IsStrictlySortedBy cmp (keys_of bs) →
+      n ≡ count_by (λ e. not (is_later now e)) bs → IsAnyUntil (unblock_in cmp bs) now (nat_lt 0 n)
   any_ends exact bs now n up count = (from, to)
     where
       ends : C × ℕ → Bool
@@ -93,7 +104,8 @@ module _ {C : Type 0} {cmp : C → C → Ordering} (total : IsTotalOrder cmp) wh
       counted [] = refl
       counted (x ∷ xs) = go (ends x) (counted xs)
         where
-          go : (b : Bool) → nat_lt 0 (length (filter ends xs)) ≡ list_any ends xs → nat_lt 0 (length (cond b (x ∷ filter ends xs) (filter ends xs))) ≡ (b || list_any ends xs)
+          go : (b : Bool) → nat_lt 0 (length (filter ends xs)) ≡ list_any ends xs →
+              nat_lt 0 (length (cond b (x ∷ filter ends xs) (filter ends xs))) ≡ (b || list_any ends xs)
           go true rest = lt-ltb 0 (suc (length (filter ends xs))) (omega arith)
           go false rest = rest
 
@@ -124,7 +136,9 @@ module _ {C : Type 0} {cmp : C → C → Ordering} (total : IsTotalOrder cmp) wh
           nobody [] e = refl
           nobody (x ∷ xs) e = step (ends x) e (nobody xs)
             where
-              step : (b : Bool) → (b || list_any ends xs) ≡ false → (list_any ends xs ≡ false → filter ends xs ≡ []) → cond b (x ∷ filter ends xs) (filter ends xs) ≡ []
+              step : (b : Bool) → (b || list_any ends xs) ≡ false →
+                  (list_any ends xs ≡ false → filter ends xs ≡ []) →
+                  cond b (x ∷ filter ends xs) (filter ends xs) ≡ []
               step true e rest = absurd (cc)
               step false e rest = rest e
 

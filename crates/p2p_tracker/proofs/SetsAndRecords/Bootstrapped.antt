@@ -20,11 +20,13 @@ last_ingress-push cmp q (x ∷ xs) b =
     first : Option Ingress
     first = if is_eq (cmp x.0 q) then Some x.1 else None
 
-    go : (t : Bool) → else_first (if t then Some b.1 else last_ingress_by cmp q xs) first ≡ (if t then Some b.1 else else_first (last_ingress_by cmp q xs) first)
+    go : (t : Bool) → else_first (if t then Some b.1 else last_ingress_by cmp q xs) first
+        ≡ (if t then Some b.1 else else_first (last_ingress_by cmp q xs) first)
     go true = refl
     go false = refl
 
 -- a change of the ingress, or of what stands for it
-pub mapped : {X : Type 0} (f : Ingress → X) (t : Bool) (a : Ingress) (o : Option Ingress) → option_map f (if t then Some a else o) ≡ (if t then Some (f a) else option_map f o)
+pub mapped : {X : Type 0} (f : Ingress → X) (t : Bool) (a : Ingress) (o : Option Ingress) →
+    option_map f (if t then Some a else o) ≡ (if t then Some (f a) else option_map f o)
 mapped f true a o = refl
 mapped f false a o = refl

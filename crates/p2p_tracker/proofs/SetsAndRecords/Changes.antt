@@ -20,7 +20,12 @@ use Rattle.p2p_tracker.specs.declared.record.Status.TheVariants.{Inert, Reserved
 use Rattle.p2p_tracker.specs.declared.record.ReserveResult.TheVariants as answer
 use Rattle.p2p_tracker.specs.Calls.{SetAt, Cooldown}
 use Rattle.p2p_tracker.specs.History.{is_inert, first_greatest}
-use Rattle.p2p_tracker.specs.Record.{RecordView, is_myself, is_wanted, is_outbound_target, is_dial_candidate, has_valid_ingress, ingress_of, may_be_dialled, reserve_answer, is_eligible, is_grant, is_active, may_come, wants_by, is_deletable, reserved_record, unless_deletable, after_failure, after_success, address_after_update, address_after_offer}
+use Rattle.p2p_tracker.specs.Record.{RecordView, is_myself, is_wanted, is_outbound_target}
+use Rattle.p2p_tracker.specs.Record.{is_dial_candidate, has_valid_ingress, ingress_of}
+use Rattle.p2p_tracker.specs.Record.{may_be_dialled, reserve_answer, is_eligible, is_grant}
+use Rattle.p2p_tracker.specs.Record.{is_active, may_come, wants_by, is_deletable, reserved_record}
+use Rattle.p2p_tracker.specs.Record.{unless_deletable, after_failure, after_success}
+use Rattle.p2p_tracker.specs.Record.{address_after_update, address_after_offer}
 use Rattle.p2p_tracker.specs.Directory.{ConfigView, DirectoryView, record_of, has_status, ChangesAt, ChangesRecord}
 use Rattle.p2p_tracker.specs.Directory.{is_known, released_record, address_after_release, kept_after_release, connected_record, updated_record}
 use Rattle.p2p_tracker.specs.Private.Window.{SetWithBits, plain_sets, sets_with_bits, bits_with, with_bit_of}
@@ -109,7 +114,9 @@ module _ {C S : Type 0} where
       go false own false late e = absurd cc
 
   -- who is reserved is wanted as before
-  known_reserved : (limit now draw cooldown : ℕ) (o : Option (RecordView C S)) → option_map_or (may_come now) o false ≡ true → is_known limit (option_map (reserved_record now draw cooldown) o) ≡ is_known limit o
+  known_reserved : (limit now draw cooldown : ℕ) (o : Option (RecordView C S)) →
+      option_map_or (may_come now) o false ≡ true →
+      is_known limit (option_map (reserved_record now draw cooldown) o) ≡ is_known limit o
   known_reserved limit now draw cooldown None can = refl
   known_reserved limit now draw cooldown (Some r) can = ap not (wants r.address (idle r.status (may_come_inert now r can)))
     where
@@ -130,7 +137,8 @@ module _ {C S : Type 0} where
   updated_none (Some r) = refl
 
   -- one more info is offered after those before, where it is of the record's peer
-  pub updated_more : (here : Bool) (infos : List (Info C S)) (i : Info C S) (old now new : Option (RecordView C S)) → now ≡ option_map (updated_record infos) old →
+  pub updated_more : (here : Bool) (infos : List (Info C S)) (i : Info C S)
+      (old now new : Option (RecordView C S)) → now ≡ option_map (updated_record infos) old →
       new ≡ (if here then option_map (updated_record (i ∷ [])) now else now) → new ≡ option_map (updated_record (infos ++ (if here then i ∷ [] else []))) old
   updated_more false infos i old now new before one = one ∙ before ∙ ap (λ is. option_map (updated_record is) old) (sym (append-nil infos))
   updated_more true infos i None now new before one = one ∙ ap (option_map (updated_record (i ∷ []))) before
@@ -140,7 +148,8 @@ module _ {C S : Type 0} where
   -- WHAT GOES
 
   -- the own record doesn't go
-  pub own_unless : (r : RecordView C S) → (is_myself r.address ≡ true → r.persistent ≡ true) → option_map_or (λ x. is_myself x.address) (unless_deletable r) false ≡ is_myself r.address
+  pub own_unless : (r : RecordView C S) → (is_myself r.address ≡ true → r.persistent ≡ true) →
+      option_map_or (λ x. is_myself x.address) (unless_deletable r) false ≡ is_myself r.address
   own_unless r persists = go (is_deletable r) (is_myself r.address) refl refl
     where
       wanted : (p s : Bool) (persistent : Bool) → persistent ≡ true → ((p || s) || persistent) ≡ true
@@ -188,7 +197,9 @@ module _ {C S : Type 0} where
 
 module _ {C : Type 0} (cmp : C → C → Ordering) where
   -- a bit set anew
-  set_anew : (p : C) (b : Bool) (known : C → Bool) (sets : List (SetAt C)) → map (with_bit_of cmp p b) (sets_with_bits known sets) ≡ sets_with_bits (λ q. if is_at (cmp p) q then b else known q) sets
+  set_anew : (p : C) (b : Bool) (known : C → Bool) (sets : List (SetAt C)) →
+      map (with_bit_of cmp p b) (sets_with_bits known sets)
+      ≡ sets_with_bits (λ q. if is_at (cmp p) q then b else known q) sets
   set_anew p b known [] = refl
   set_anew p b known (x ∷ sets) = λ i. record { index = x.index; primary = peers x.primary i; secondary = x.secondary } ∷ set_anew p b known sets i
     where
@@ -199,7 +210,8 @@ module _ {C : Type 0} (cmp : C → C → Ordering) where
 module _ {C S : Type 0} (cmp : C → C → Ordering) where
   -- WHAT HOLDS BETWEEN CALLS
 
-  pub each_sound : (max limit : ℕ) (window : List (SetWithBits C)) (old : C → Option (RecordView C S)) → IsInvariant cmp max limit window old → (q : C) → IsSound (old q)
+  pub each_sound : (max limit : ℕ) (window : List (SetWithBits C)) (old : C → Option (RecordView C S)) →
+      IsInvariant cmp max limit window old → (q : C) → IsSound (old q)
   each_sound max limit window old was q = go (old q) (was.counts.none_deletable q) (was.own.persists q)
     where
       go : (o : Option (RecordView C S)) → IfSome o (λ r. is_deletable r ≡ false) → IfSome o (λ r. is_myself r.address ≡ true → r.persistent ≡ true) → IsSound o
@@ -207,7 +219,9 @@ module _ {C S : Type 0} (cmp : C → C → Ordering) where
       go (Some r) e f = (e, f)
 
   -- whether a record is in a set, by the sets
-  pub primary_by_sets : (max : ℕ) (sets : List (SetAt C)) (old : C → Option (RecordView C S)) → IsConsistent cmp max sets old → (q : C) → option_map_or is_primary_record (old q) false ≡ nat_lt 0 (set_count cmp Primary q sets)
+  pub primary_by_sets : (max : ℕ) (sets : List (SetAt C)) (old : C → Option (RecordView C S)) →
+      IsConsistent cmp max sets old → (q : C) →
+      option_map_or is_primary_record (old q) false ≡ nat_lt 0 (set_count cmp Primary q sets)
   primary_by_sets max sets old was q = go (old q) ∙ ap (nat_lt 0) (was.counts q).0
     where
       go : (o : Option (RecordView C S)) → option_map_or is_primary_record o false ≡ nat_lt 0 (option_map_or (λ r. r.primary_sets) o 0)
@@ -218,7 +232,10 @@ module _ {C S : Type 0} (cmp : C → C → Ordering) where
       option_map_or is_secondary_record (old q) false ≡ (nat_lt 0 (set_count cmp Secondary q sets) && not (nat_lt 0 (set_count cmp Primary q sets)))
   secondary_by_sets max sets old was q = go (old q) ∙ (λ i. nat_lt 0 ((was.counts q).1 i) && not (nat_lt 0 ((was.counts q).0 i)))
     where
-      go : (o : Option (RecordView C S)) → option_map_or is_secondary_record o false ≡ (nat_lt 0 (option_map_or (λ r. r.secondary_sets) o 0) && not (nat_lt 0 (option_map_or (λ r. r.primary_sets) o 0)))
+      go : (o : Option (RecordView C S)) →
+          option_map_or is_secondary_record o false
+          ≡ (nat_lt 0 (option_map_or (λ r. r.secondary_sets) o 0) && not
+          (nat_lt 0 (option_map_or (λ r. r.primary_sets) o 0)))
       go None = refl
       go (Some r) = refl
 
@@ -231,11 +248,14 @@ module _ {C S : Type 0} (cmp : C → C → Ordering) where
       either false true e = refl
       either false false e = e
 
-      go : (o : Option (RecordView C S)) → option_map_or is_record_in_set o false ≡ true → (nat_lt 0 (option_map_or (λ r. r.primary_sets) o 0) || nat_lt 0 (option_map_or (λ r. r.secondary_sets) o 0)) ≡ true
+      go : (o : Option (RecordView C S)) → option_map_or is_record_in_set o false ≡ true →
+          (nat_lt 0 (option_map_or (λ r. r.primary_sets) o 0) || nat_lt 0
+          (option_map_or (λ r. r.secondary_sets) o 0)) ≡ true
       go None e = absurd cc
       go (Some r) e = either (nat_lt 0 r.primary_sets) (nat_lt 0 r.secondary_sets) e
 
-  pub counts_kept : (max : ℕ) (sets : List (SetAt C)) (old new : C → Option (RecordView C S)) → IsConsistent cmp max sets old → ((q : C) → IsKept (old q) (new q)) → IsConsistent cmp max sets new
+  pub counts_kept : (max : ℕ) (sets : List (SetAt C)) (old new : C → Option (RecordView C S)) →
+      IsConsistent cmp max sets old → ((q : C) → IsKept (old q) (new q)) → IsConsistent cmp max sets new
   counts_kept max sets old new was keeps = record {
     none_deletable = λ q. stays (new q) (keeps q).sound;
     counts = λ q. ((keeps q).primary ∙ (was.counts q).0, (keeps q).secondary ∙ (was.counts q).1);
@@ -260,12 +280,16 @@ module _ {C S : Type 0} (cmp : C → C → Ordering) where
       lasts (Some r) sound = sound.1
 
   -- the bits stay right where nobody's info comes to be wanted or not
-  pub bits_same : (limit : ℕ) (window : List (SetWithBits C)) (old new : C → Option (RecordView C S)) → AreMarked cmp limit window old → ((q : C) → is_known limit (new q) ≡ is_known limit (old q)) → AreMarked cmp limit window new
+  pub bits_same : (limit : ℕ) (window : List (SetWithBits C)) (old new : C → Option (RecordView C S)) →
+      AreMarked cmp limit window old → ((q : C) → is_known limit (new q) ≡ is_known limit (old q)) →
+      AreMarked cmp limit window new
   bits_same limit window old new was same = was ∙ (λ i. sets_with_bits (λ q. sym (same q) i) (plain_sets window))
 
   -- they are right again where the one of p is set anew, if nobody else's info comes to be wanted or not
-  pub bits_anew : (limit : ℕ) (window window2 : List (SetWithBits C)) (old new : C → Option (RecordView C S)) (p : C) (b : Bool) → AreMarked cmp limit window old →
-      ((q : C) → is_known limit (new q) ≡ (if is_at (cmp p) q then b else is_known limit (old q))) → window2 ≡ map (with_bit_of cmp p b) window → AreMarked cmp limit window2 new
+  pub bits_anew : (limit : ℕ) (window window2 : List (SetWithBits C)) (old new : C → Option (RecordView C S))
+      (p : C) (b : Bool) → AreMarked cmp limit window old →
+      ((q : C) → is_known limit (new q) ≡ (if is_at (cmp p) q then b else is_known limit (old q))) →
+      window2 ≡ map (with_bit_of cmp p b) window → AreMarked cmp limit window2 new
   bits_anew limit window window2 old new p b was same is =
       is ∙ ap (map (with_bit_of cmp p b)) was ∙ set_anew cmp p b (λ q. is_known limit (old q)) (plain_sets window)
       ∙ (λ i. sets_with_bits (λ q. sym (same q) i) (sym (plain_with_bit cmp p b window) i))
@@ -274,18 +298,39 @@ module _ {C S : Type 0} (cmp : C → C → Ordering) where
   module _ (exact : CmpEqualImpliesEq cmp) where
     -- what is known of each peer, where the record of p changed
     pub known_anew : (limit : ℕ) (old new : C → Option (RecordView C S)) (p : C) (f : Option (RecordView C S) → Option (RecordView C S)) (b : Bool) →
-        ((q : C) → new q ≡ (if is_at (cmp p) q then f (old q) else old q)) → b ≡ is_known limit (new p) → (q : C) → is_known limit (new q) ≡ (if is_at (cmp p) q then b else is_known limit (old q))
+        ((q : C) → new q ≡ (if is_at (cmp p) q then f (old q) else old q)) → b ≡ is_known limit (new p) → (q : C) →
+        is_known limit (new q) ≡ (if is_at (cmp p) q then b else is_known limit (old q))
     known_anew limit old new p f b change is q = go (is_at (cmp p) q) refl
       where
         go : (here : Bool) → is_at (cmp p) q ≡ here → is_known limit (new q) ≡ (if here then b else is_known limit (old q))
         go true e = ap (λ k. is_known limit (new k)) (sym (tells_apart exact p q e)) ∙ sym is
         go false e = ap (is_known limit) (change q ∙ (λ i. if e i then f (old q) else old q))
 
+    -- the bit of p is what it is
+    pub marked_again : (limit : ℕ) (window : List (SetWithBits C)) (old : C → Option (RecordView C S)) (p : C)
+        (b : Bool) → AreMarked cmp limit window old → b ≡ is_known limit (old p) →
+        map (with_bit_of cmp p b) window ≡ window
+    marked_again limit window old p b was is =
+        bits_anew limit window (map (with_bit_of cmp p b) window) old old p b was
+        (λ q. same q (is_at (cmp p) q) refl) refl
+        ∙ ap (sets_with_bits (λ q. is_known limit (old q))) (plain_with_bit cmp p b window) ∙ sym was
+      where
+        same : (q : C) (here : Bool) → is_at (cmp p) q ≡ here →
+            is_known limit (old q) ≡ (if here then b else is_known limit (old q))
+        same q true e = ap (λ k. is_known limit (old k)) (sym (tells_apart exact p q e)) ∙ sym is
+        same q false e = refl
+
     -- one record changes, and its bit is set anew
-    pub changed_at : (max limit : ℕ) (window window2 : List (SetWithBits C)) (old new : C → Option (RecordView C S)) (p : C) (f : Option (RecordView C S) → Option (RecordView C S)) (b : Bool) → IsInvariant cmp max limit window old →
-        ((q : C) → new q ≡ (if is_at (cmp p) q then f (old q) else old q)) → ((o : Option (RecordView C S)) → IsSound o → IsKept o (f o)) → b ≡ is_known limit (new p) → window2 ≡ map (with_bit_of cmp p b) window → IsInvariant cmp max limit window2 new
+    pub changed_at : (max limit : ℕ) (window window2 : List (SetWithBits C))
+        (old new : C → Option (RecordView C S)) (p : C) (f : Option (RecordView C S) → Option (RecordView C S))
+        (b : Bool) → IsInvariant cmp max limit window old →
+        ((q : C) → new q ≡ (if is_at (cmp p) q then f (old q) else old q)) →
+        ((o : Option (RecordView C S)) → IsSound o → IsKept o (f o)) → b ≡ is_known limit (new p) →
+        window2 ≡ map (with_bit_of cmp p b) window → IsInvariant cmp max limit window2 new
     changed_at max limit window window2 old new p f b was change keeps is anew = record {
-      counts = subst (λ sets. IsConsistent cmp max sets new) (sym (ap plain_sets anew ∙ plain_with_bit cmp p b window)) (counts_kept max (plain_sets window) old new was.counts each);
+      counts = subst (λ sets. IsConsistent cmp max sets new)
+          (sym (ap plain_sets anew ∙ plain_with_bit cmp p b window))
+          (counts_kept max (plain_sets window) old new was.counts each);
       own = own_kept old new was.own each;
       bits = bits_anew limit window window2 old new p b was.bits (known_anew limit old new p f b change is) anew;
     }
@@ -301,8 +346,11 @@ module _ {C S : Type 0} (cmp : C → C → Ordering) where
             go false = kept_same (old q) (sound q)
 
   -- p is reserved
-  pub reserved_at : (max limit : ℕ) (window : List (SetWithBits C)) (old new : C → Option (RecordView C S)) (p : C) (now draw cooldown : ℕ) → CmpEqualImpliesEq cmp → IsInvariant cmp max limit window old →
-      ((q : C) → new q ≡ (if is_at (cmp p) q then option_map (reserved_record now draw cooldown) (old q) else old q)) → option_map_or (may_come now) (old p) false ≡ true → IsInvariant cmp max limit window new
+  pub reserved_at : (max limit : ℕ) (window : List (SetWithBits C)) (old new : C → Option (RecordView C S)) (p : C)
+      (now draw cooldown : ℕ) → CmpEqualImpliesEq cmp → IsInvariant cmp max limit window old →
+      ((q : C) → new q
+      ≡ (if is_at (cmp p) q then option_map (reserved_record now draw cooldown) (old q) else old q)) →
+      option_map_or (may_come now) (old p) false ≡ true → IsInvariant cmp max limit window new
   reserved_at max limit window old new p now draw cooldown exact was change can = record {
     counts = counts_kept max (plain_sets window) old new was.counts each;
     own = own_kept old new was.own each;
@@ -319,12 +367,16 @@ module _ {C S : Type 0} (cmp : C → C → Ordering) where
       same : (q : C) → is_known limit (new q) ≡ is_known limit (old q)
       same q = ap (is_known limit) (change q) ∙ go (is_at (cmp p) q) refl
         where
-          go : (here : Bool) → is_at (cmp p) q ≡ here → is_known limit (if here then option_map (reserved_record now draw cooldown) (old q) else old q) ≡ is_known limit (old q)
-          go true e = known_reserved limit now draw cooldown (old q) (ap (λ k. option_map_or (may_come now) (old k) false) (sym (tells_apart exact p q e)) ∙ can)
+          go : (here : Bool) → is_at (cmp p) q ≡ here →
+              is_known limit (if here then option_map (reserved_record now draw cooldown) (old q) else old q)
+              ≡ is_known limit (old q)
+          go true e = known_reserved limit now draw cooldown (old q)
+              (ap (λ k. option_map_or (may_come now) (old k) false) (sym (tells_apart exact p q e)) ∙ can)
           go false e = refl
 
   -- who is dialled may come
-  pub dialled_may_come : (cfg : Config) (now : ℕ) (o : Option (RecordView C S)) (a : Ingress) → option_and_then (dialled_of cfg now) o ≡ Some a → option_map_or (may_come now) o false ≡ true
+  pub dialled_may_come : (cfg : Config) (now : ℕ) (o : Option (RecordView C S)) (a : Ingress) →
+      option_and_then (dialled_of cfg now) o ≡ Some a → option_map_or (may_come now) o false ≡ true
   dialled_may_come cfg now None a e = absurd cc
   dialled_may_come cfg now (Some r) a e = go (may_be_dialled now cfg.allow_private_ips cfg.allow_dns r) refl e
     where
@@ -339,17 +391,22 @@ module _ {C S : Type 0} (cmp : C → C → Ordering) where
       wanted false true pers h = refl
       wanted false false pers h = h
 
-      go : (b : Bool) → may_be_dialled now cfg.allow_private_ips cfg.allow_dns r ≡ b → (if b then ingress_of r.address else None) ≡ Some a → may_come now r ≡ true
+      go : (b : Bool) → may_be_dialled now cfg.allow_private_ips cfg.allow_dns r ≡ b →
+          (if b then ingress_of r.address else None) ≡ Some a → may_come now r ≡ true
       go true h f =
           let parts = and_parts (is_dial_candidate cfg.allow_private_ips cfg.allow_dns r) (is_grant (reserve_answer now r)) h in
           let candidate = and_parts (is_inert r.status && is_outbound_target r) (has_valid_ingress cfg.allow_private_ips cfg.allow_dns r.address) parts.0 in
           let target = (and_parts (is_inert r.status) (is_outbound_target r) candidate.0).1 in
           and_from (is_eligible r) (is_grant (reserve_answer now r))
-          (and_from (not (is_myself r.address)) (is_wanted r) (known r.address candidate.1) (wanted (nat_lt 0 r.primary_sets) (nat_lt 0 r.secondary_sets) r.persistent target)) parts.1
+          (and_from (not (is_myself r.address)) (is_wanted r) (known r.address candidate.1)
+          (wanted (nat_lt 0 r.primary_sets) (nat_lt 0 r.secondary_sets) r.persistent target)) parts.1
       go false h f = absurd cc
 
   -- each record changes, and the bits are right again
-  pub changed_with_bits : (max limit : ℕ) (window window2 : List (SetWithBits C)) (old new : C → Option (RecordView C S)) → IsInvariant cmp max limit window old → ((q : C) → IsKept (old q) (new q)) → plain_sets window2 ≡ plain_sets window → AreMarked cmp limit window2 new → IsInvariant cmp max limit window2 new
+  pub changed_with_bits : (max limit : ℕ) (window window2 : List (SetWithBits C))
+      (old new : C → Option (RecordView C S)) → IsInvariant cmp max limit window old →
+      ((q : C) → IsKept (old q) (new q)) → plain_sets window2 ≡ plain_sets window →
+      AreMarked cmp limit window2 new → IsInvariant cmp max limit window2 new
   changed_with_bits max limit window window2 old new was keeps sets bits = record {
     counts = subst (λ sets. IsConsistent cmp max sets new) (sym sets) (counts_kept max (plain_sets window) old new was.counts keeps);
     own = own_kept old new was.own keeps;
@@ -359,16 +416,35 @@ module _ {C S : Type 0} (cmp : C → C → Ordering) where
   -- WHAT CALLERS SEE
 
   -- one record changes, and nothing else
-  pub changes_view : (d : DirectoryView C S) (config : ConfigView) (window window2 : List (SetWithBits C)) (records records2 : List (C × RecordView C S)) (blocks : List (C × ℕ)) (cooldowns : List (C × Cooldown)) (p : C) (f : Option (RecordView C S) → Option (RecordView C S)) (b : Bool) →
-      record { config = config; sets = plain_sets window; records = records; blocks = blocks; cooldowns = cooldowns } ≡ d → window2 ≡ map (with_bit_of cmp p b) window → ChangesAt cmp records records2 p f →
+  pub changes_view : (d : DirectoryView C S) (config : ConfigView) (window window2 : List (SetWithBits C))
+      (records records2 : List (C × RecordView C S)) (blocks : List (C × ℕ)) (cooldowns : List (C × Cooldown))
+      (p : C) (f : Option (RecordView C S) → Option (RecordView C S)) (b : Bool) →
+      record {
+        config = config;
+        sets = plain_sets window;
+        records = records;
+        blocks = blocks;
+        cooldowns =
+            cooldowns;
+      } ≡ d → window2 ≡ map (with_bit_of cmp p b) window → ChangesAt cmp records records2 p f →
       ChangesRecord cmp d (record { config = config; sets = plain_sets window2; records = records2; blocks = blocks; cooldowns = cooldowns }) p f
   changes_view d config window window2 records records2 blocks cooldowns p f b view anew change =
-      subst (λ d. ChangesRecord cmp d (record { config = config; sets = plain_sets window2; records = records2; blocks = blocks; cooldowns = cooldowns }) p f) view
+      subst (λ d. ChangesRecord cmp d
+      (record {
+        config = config;
+        sets = plain_sets window2;
+        records = records2;
+        blocks = blocks;
+        cooldowns =
+            cooldowns;
+      }) p f) view
       (record { config = refl; sets = ap plain_sets anew ∙ plain_with_bit cmp p b window; blocks = refl; cooldowns = refl; records = change })
 
   -- whose status passes a test does so again, where the one record that changes does
-  pub status_after_change : (test : Status → Bool) (d d2 : DirectoryView C S) (p : C) (f : Option (RecordView C S) → Option (RecordView C S)) → ChangesRecord cmp d d2 p f →
-      ((o : Option (RecordView C S)) → has_status test o ≡ true → has_status test (f o) ≡ true) → (q : C) → has_status test (record_of cmp d q) ≡ true → has_status test (record_of cmp d2 q) ≡ true
+  pub status_after_change : (test : Status → Bool) (d d2 : DirectoryView C S) (p : C)
+      (f : Option (RecordView C S) → Option (RecordView C S)) → ChangesRecord cmp d d2 p f →
+      ((o : Option (RecordView C S)) → has_status test o ≡ true → has_status test (f o) ≡ true) → (q : C) →
+      has_status test (record_of cmp d q) ≡ true → has_status test (record_of cmp d2 q) ≡ true
   status_after_change test d d2 p f change stays q before = ap (has_status test) (change.records q) ∙ go (is_at (cmp p) q)
     where
       go : (here : Bool) → has_status test (if here then f (record_of cmp d q) else record_of cmp d q) ≡ true
@@ -376,6 +452,9 @@ module _ {C S : Type 0} (cmp : C → C → Ordering) where
       go false = before
 
   -- .. and where it is another's
-  pub others_status : (test : Status → Bool) (d d2 : DirectoryView C S) (p : C) (f : Option (RecordView C S) → Option (RecordView C S)) → ChangesRecord cmp d d2 p f →
+  pub others_status : (test : Status → Bool) (d d2 : DirectoryView C S) (p : C) (f : Option (RecordView C S) →
+      Option (RecordView C S)) → ChangesRecord cmp d d2 p f →
       (q : C) → is_at (cmp p) q ≡ false → has_status test (record_of cmp d q) ≡ true → has_status test (record_of cmp d2 q) ≡ true
-  others_status test d d2 p f change q other before = ap (has_status test) (change.records q ∙ (λ i. if other i then f (record_of cmp d q) else record_of cmp d q)) ∙ before
+  others_status test d d2 p f change q other before =
+      ap (has_status test) (change.records q ∙ (λ i. if other i then f (record_of cmp d q) else record_of cmp d q))
+      ∙ before

@@ -1,5 +1,7 @@
 -- Records counted for the sets that come and go, at one key.
-use Rattle.std.proofs.Common.{◌≡◌, ℕ, ◌+◌, ◌-◌, ◌^◌, ◌<◌, ◌≤◌, min, Bool, true, false, cond, ◌||◌, ◌&&◌, not, nat_lt, Option, Some, None, IfSome, sym, ap, refl, ◌∙◌, arith}
+use Rattle.std.proofs.Common.{◌≡◌, ℕ, ◌+◌, ◌-◌, ◌^◌, ◌<◌, ◌≤◌, min, Bool, true, false, cond, ◌||◌}
+use Rattle.std.proofs.Common.{◌&&◌, not, nat_lt, Option, Some, None, IfSome, sym, ap, refl, ◌∙◌}
+use Rattle.std.proofs.Common.{arith}
 use Rattle.std.specs.Prelude.{if◌then◌else◌, unwrap_or}
 use Rattle.std.specs.Option.{option_map_or}
 use Rattle.std.proofs.lemmas.Bool.{lt-ltb}
@@ -126,7 +128,8 @@ module _ {C S : Type 0} where
   stays_secondary p s r h = stays (with_counts p s r) (wanted_secondary p s r.persistent h)
 
   -- what is kept has its counts
-  pub at_its_counts : (k : Option Cooldown) (o : Option (RecordView C S)) (p s : ℕ) → option_map_or (λ r. r.primary_sets) o 0 ≡ p → option_map_or (λ r. r.secondary_sets) o 0 ≡ s →
+  pub at_its_counts : (k : Option Cooldown) (o : Option (RecordView C S)) (p s : ℕ) →
+      option_map_or (λ r. r.primary_sets) o 0 ≡ p → option_map_or (λ r. r.secondary_sets) o 0 ≡ s →
       IfSome o (λ r. is_deletable r ≡ false) → o ≡ at_counts p s (unwrap_or o (fresh k))
   at_its_counts k None p s e f h = λ i. at_counts (e i) (f i) (fresh k)
   at_its_counts k (Some r) p s e f h = sym (ap (λ b. if b then None else Some r) h) ∙ (λ i. at_counts (e i) (f i) r)
@@ -139,14 +142,16 @@ module _ {C S : Type 0} where
   base_secondary k None = refl
   base_secondary k (Some r) = refl
 
-  more_primary : (k : Option Cooldown) (o : Option (RecordView C S)) (p s : ℕ) → (unwrap_or o (fresh k)).primary_sets ≡ p → (unwrap_or o (fresh k)).secondary_sets ≡ s → p < 2 ^ 64 - 1 →
+  more_primary : (k : Option Cooldown) (o : Option (RecordView C S)) (p s : ℕ) →
+      (unwrap_or o (fresh k)).primary_sets ≡ p → (unwrap_or o (fresh k)).secondary_sets ≡ s → p < 2 ^ 64 - 1 →
       one_set_more Primary k o ≡ at_counts (p + 1) s (unwrap_or o (fresh k))
   more_primary k o p s e f h =
       (λ i. Some (with_counts (min (e i + 1) (2 ^ 64 - 1)) (f i) (unwrap_or o (fresh k))))
       ∙ ap (λ n. Some (with_counts n s (unwrap_or o (fresh k)))) (uncapped p h)
       ∙ sym (stays_primary (p + 1) s (unwrap_or o (fresh k)) (omega arith))
 
-  more_secondary : (k : Option Cooldown) (o : Option (RecordView C S)) (p s : ℕ) → (unwrap_or o (fresh k)).primary_sets ≡ p → (unwrap_or o (fresh k)).secondary_sets ≡ s → s < 2 ^ 64 - 1 →
+  more_secondary : (k : Option Cooldown) (o : Option (RecordView C S)) (p s : ℕ) →
+      (unwrap_or o (fresh k)).primary_sets ≡ p → (unwrap_or o (fresh k)).secondary_sets ≡ s → s < 2 ^ 64 - 1 →
       one_set_more Secondary k o ≡ at_counts p (s + 1) (unwrap_or o (fresh k))
   more_secondary k o p s e f h =
       (λ i. Some (with_counts (e i) (min (f i + 1) (2 ^ 64 - 1)) (unwrap_or o (fresh k))))
@@ -155,7 +160,8 @@ module _ {C S : Type 0} where
 
   -- a set that comes, with the peer as a primary (a) or secondary one (c)
   pub joined : (k : Option Cooldown) (a c : Bool) → (a ≡ true → c ≡ false) → (o : Option (RecordView C S)) (p s : ℕ) →
-      option_map_or (λ r. r.primary_sets) o 0 ≡ p → option_map_or (λ r. r.secondary_sets) o 0 ≡ s → IfSome o (λ r. is_deletable r ≡ false) → p < 2 ^ 64 - 1 → s < 2 ^ 64 - 1 →
+      option_map_or (λ r. r.primary_sets) o 0 ≡ p → option_map_or (λ r. r.secondary_sets) o 0 ≡ s →
+      IfSome o (λ r. is_deletable r ≡ false) → p < 2 ^ 64 - 1 → s < 2 ^ 64 - 1 →
       (if c then one_set_more Secondary k (if a then one_set_more Primary k o else o) else (if a then one_set_more Primary k o else o))
       ≡ at_counts (p + one a) (s + one c) (unwrap_or o (fresh k))
   joined k true true disjoint o p s e f h hp hs = absurd (let x = disjoint refl in cc)
@@ -177,11 +183,17 @@ module _ {C S : Type 0} where
 
   -- TESTS OF WHAT IS KEPT
 
-  pub connectable_kept : (r : RecordView C S) → option_map_or (λ x. not (is_inert x.status) && is_eligible x) (unless_deletable r) false ≡ (not (is_inert r.status) && is_eligible r)
+  pub connectable_kept : (r : RecordView C S) →
+      option_map_or (λ x. not (is_inert x.status) && is_eligible x) (unless_deletable r) false
+      ≡ (not (is_inert r.status) && is_eligible r)
   connectable_kept r = go (is_deletable r) refl
     where
-      go : (b : Bool) → is_deletable r ≡ b → option_map_or (λ x. not (is_inert x.status) && is_eligible x) (if b then None else Some r) false ≡ (not (is_inert r.status) && is_eligible r)
-      go true e = and_last (not (is_inert r.status)) (not (is_myself r.address)) ∙ (λ i. not (is_inert r.status) && (not (is_myself r.address) && unwanted (is_wanted r) (is_inert r.status) e i))
+      go : (b : Bool) → is_deletable r ≡ b →
+          option_map_or (λ x. not (is_inert x.status) && is_eligible x) (if b then None else Some r) false
+          ≡ (not (is_inert r.status) && is_eligible r)
+      go true e = and_last (not (is_inert r.status)) (not (is_myself r.address))
+          ∙ (λ i. not (is_inert r.status) &&
+          (not (is_myself r.address) && unwanted (is_wanted r) (is_inert r.status) e i))
       go false e = refl
 
   pub eligible_kept : (r : RecordView C S) → option_map_or is_eligible (unless_deletable r) false ≡ is_eligible r
@@ -197,7 +209,8 @@ module _ {C S : Type 0} where
 
   -- who is torn down by a set that goes
   pub torn_left : (a c : Bool) → (a ≡ true → c ≡ false) → (p s : ℕ) (r : RecordView C S) → one a ≤ p → one c ≤ s →
-      ((a && option_map_or (is_torn_down_without Primary) (at_counts p s r) false) || (c && option_map_or (is_torn_down_without Secondary) (at_counts p s r) false))
+      ((a && option_map_or (is_torn_down_without Primary) (at_counts p s r) false) ||
+      (c && option_map_or (is_torn_down_without Secondary) (at_counts p s r) false))
       ≡ ((not (is_inert r.status) && is_eligible (with_counts p s r)) && not (is_eligible (with_counts (p - one a) (s - one c) r)))
   unfolding is_torn_down_without
   torn_left true true disjoint p s r la lc = absurd (let x = disjoint refl in cc)
@@ -244,7 +257,8 @@ module _ {C S : Type 0} where
       go false e = e
 
   -- one set more and then less
-  pub restored : (k : Option Cooldown) (role : Role) (o : Option (RecordView C S)) (p s : ℕ) → option_map_or (λ r. r.primary_sets) o 0 ≡ p → option_map_or (λ r. r.secondary_sets) o 0 ≡ s →
+  pub restored : (k : Option Cooldown) (role : Role) (o : Option (RecordView C S)) (p s : ℕ) →
+      option_map_or (λ r. r.primary_sets) o 0 ≡ p → option_map_or (λ r. r.secondary_sets) o 0 ≡ s →
       IfSome o (λ r. is_deletable r ≡ false) → p < 2 ^ 64 - 1 → s < 2 ^ 64 - 1 → one_set_less role (one_set_more role k o) ≡ o
   restored k Primary o p s e f h hp hs =
       ap (one_set_less Primary) (more_primary k o p s (base_primary k o ∙ e) (base_secondary k o ∙ f) hp)

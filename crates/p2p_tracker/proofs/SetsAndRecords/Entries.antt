@@ -9,7 +9,8 @@ use Rattle.p2p_tracker.specs.Record.{RecordView}
 use Rattle.p2p_tracker.specs.Directory.{record_at}
 use Rattle.p2p_tracker.specs.Private.Counts.{IsOfMap}
 
-pub same_entries : {C S : Type 0} {cmp : C → C → Ordering} → IsTotalOrder cmp → CmpEqualImpliesEq cmp → (m n : BTreeMap C (RecordView C S)) → tree.IsOrdered cmp m → tree.IsOrdered cmp n →
+pub same_entries : {C S : Type 0} {cmp : C → C → Ordering} → IsTotalOrder cmp → CmpEqualImpliesEq cmp →
+    (m n : BTreeMap C (RecordView C S)) → tree.IsOrdered cmp m → tree.IsOrdered cmp n →
     (new old : List (C × RecordView C S)) → m.entries ≡ new → n.entries ≡ old → ((q : C) → record_at cmp new q ≡ record_at cmp old q) → new ≡ old
 same_entries {cmp = cmp} total exact m n ordered_m ordered_n new old is_new is_old same =
     sym is_new
@@ -17,5 +18,7 @@ same_entries {cmp = cmp} total exact m n ordered_m ordered_n new old is_new is_o
     ∙ is_old
 
 -- the same of what two maps hold
-pub same_held : {C S : Type 0} {cmp : C → C → Ordering} → IsTotalOrder cmp → CmpEqualImpliesEq cmp → (new old : List (C × RecordView C S)) → IsOfMap cmp new → IsOfMap cmp old → ((q : C) → record_at cmp new q ≡ record_at cmp old q) → new ≡ old
+pub same_held : {C S : Type 0} {cmp : C → C → Ordering} → IsTotalOrder cmp → CmpEqualImpliesEq cmp →
+    (new old : List (C × RecordView C S)) → IsOfMap cmp new → IsOfMap cmp old →
+    ((q : C) → record_at cmp new q ≡ record_at cmp old q) → new ≡ old
 same_held total exact new old (m, ordered_m, is_new) (n, ordered_n, is_old) same = same_entries total exact m n ordered_m ordered_n new old is_new is_old same

@@ -1,5 +1,7 @@
 -- The keys of the entries that pass a test, in order: they list the keys whose entry passes.
-use Rattle.std.proofs.Common.{◌≡◌, ℕ, ◌≤◌, ◌⊎◌, min, Bool, true, false, ◌||◌, cond, List, [], ◌∷◌, ◌++◌, filter, Option, Some, None, refl, sym, ◌∙◌, ap, subst, arith, append_assoc}
+use Rattle.std.proofs.Common.{◌≡◌, ℕ, ◌≤◌, ◌⊎◌, min, Bool, true, false, ◌||◌, cond, List, [], ◌∷◌}
+use Rattle.std.proofs.Common.{◌++◌, filter, Option, Some, None, refl, sym, ◌∙◌, ap, subst, arith}
+use Rattle.std.proofs.Common.{append_assoc}
 use Rattle.std.specs.Prelude.{if◌then◌else◌, nat_lt}
 use mathlib.Core.Logic.{inl, inr}
 use Rattle.std.proofs.lemmas.Bool.{ltb-true, ltb-false}
@@ -92,8 +94,11 @@ module _ {C X : Type 0} {cmp : C → C → Ordering} (total : IsTotalOrder cmp) 
   pub somebody_passes : CmpEqualImpliesEq cmp → (test : C × X → Bool) (es : List (C × X)) → IsStrictlySortedBy cmp (keys_of es) → list_any test es ≡ true →
       Somebody (λ q. option_map_or (λ x. test (q, x)) (lookup (is_at (cmp q)) es) false)
   somebody_passes exact test es up any =
-      let some = some_left test es any in
-      (some.0, first_listed (λ q. option_map_or (λ x. test (q, x)) (lookup (is_at (cmp q)) es) false) some.0 some.1 (subst (Lists cmp _) some.2 (listed exact test es up)))
+      let some = some_left test es any in (
+        some.0,
+        first_listed (λ q. option_map_or (λ x. test (q, x)) (lookup (is_at (cmp q)) es) false) some.0 some.1
+            (subst (Lists cmp _) some.2 (listed exact test es up)),
+      )
     where
       first_listed : (f : C → Bool) (p : C) (ps : List C) → Lists cmp f (p ∷ ps) → f p ≡ true
       first_listed f p ps lists = sym (lists.members p) ∙ ap (λ o. is_eq o || has_key cmp ps p) (tied_itself total p)
@@ -110,17 +115,20 @@ module _ {C X : Type 0} {cmp : C → C → Ordering} (total : IsTotalOrder cmp) 
 -- LOOPS OVER ENTRIES: one more
 
 -- those listed so far, with those that are left
-pub listed_step : {C X : Type 0} (test : C × X → Bool) (so_far so_far2 all : List C) (e : C × X) (left left2 : List (C × X)) → left ≡ e ∷ left2 → so_far ++ keys_of (filter test left) ≡ all →
+pub listed_step : {C X : Type 0} (test : C × X → Bool) (so_far so_far2 all : List C) (e : C × X)
+    (left left2 : List (C × X)) → left ≡ e ∷ left2 → so_far ++ keys_of (filter test left) ≡ all →
     so_far2 ≡ so_far ++ (if test e then e.0 ∷ [] else []) → so_far2 ++ keys_of (filter test left2) ≡ all
 listed_step test so_far so_far2 all e left left2 is whole more =
     ap (λ ps. ps ++ keys_of (filter test left2)) more ∙ go (test e) ∙ ap (λ es. so_far ++ keys_of (filter test es)) (sym is) ∙ whole
   where
-    go : (b : Bool) → (so_far ++ (if b then e.0 ∷ [] else [])) ++ keys_of (filter test left2) ≡ so_far ++ keys_of (cond b (e ∷ filter test left2) (filter test left2))
+    go : (b : Bool) → (so_far ++ (if b then e.0 ∷ [] else [])) ++ keys_of (filter test left2) ≡ so_far
+        ++ keys_of (cond b (e ∷ filter test left2) (filter test left2))
     go true = append_assoc so_far (e.0 ∷ []) (keys_of (filter test left2))
     go false = append_assoc so_far [] (keys_of (filter test left2))
 
 -- who passes of those that are left is one of all
-pub left_step : {A : Type 0} (test : A → Bool) (all : Bool) (e : A) (left left2 : List A) → left ≡ e ∷ left2 → (list_any test left ≡ true → all ≡ true) → list_any test left2 ≡ true → all ≡ true
+pub left_step : {A : Type 0} (test : A → Bool) (all : Bool) (e : A) (left left2 : List A) → left ≡ e ∷ left2 →
+    (list_any test left ≡ true → all ≡ true) → list_any test left2 ≡ true → all ≡ true
 left_step test all e left left2 is whole any = whole (ap (list_any test) is ∙ go (test e))
   where
     go : (b : Bool) → (b || list_any test left2) ≡ true
@@ -128,7 +136,8 @@ left_step test all e left left2 is whole any = whole (ap (list_any test) is ∙ 
     go false = any
 
 -- .. and so is the next one
-pub left_here : {A : Type 0} (test : A → Bool) (all : Bool) (e : A) (left left2 : List A) → left ≡ e ∷ left2 → (list_any test left ≡ true → all ≡ true) → test e ≡ true → all ≡ true
+pub left_here : {A : Type 0} (test : A → Bool) (all : Bool) (e : A) (left left2 : List A) → left ≡ e ∷ left2 →
+    (list_any test left ≡ true → all ≡ true) → test e ≡ true → all ≡ true
 left_here test all e left left2 is whole here = whole (ap (list_any test) is ∙ ap (λ b. b || list_any test left2) here)
 
 -- LEAST MOMENTS
@@ -140,10 +149,12 @@ earliest_assoc (Some a) (Some b) None = refl
 earliest_assoc (Some a) (Some b) (Some c) = ap Some (omega arith)
 
 -- the least moment so far, with that of those that are left
-pub least_step : {A : Type 0} (moment : A → Option ℕ) (so_far so_far2 all : Option ℕ) (e : A) (left left2 : List A) → left ≡ e ∷ left2 → earliest so_far (least_by moment left) ≡ all →
+pub least_step : {A : Type 0} (moment : A → Option ℕ) (so_far so_far2 all : Option ℕ) (e : A)
+    (left left2 : List A) → left ≡ e ∷ left2 → earliest so_far (least_by moment left) ≡ all →
     so_far2 ≡ earliest so_far (moment e) → earliest so_far2 (least_by moment left2) ≡ all
 least_step moment so_far so_far2 all e left left2 is whole more =
-    ap (λ o. earliest o (least_by moment left2)) more ∙ earliest_assoc so_far (moment e) (least_by moment left2) ∙ ap (λ es. earliest so_far (least_by moment es)) (sym is) ∙ whole
+    ap (λ o. earliest o (least_by moment left2)) more ∙ earliest_assoc so_far (moment e) (least_by moment left2)
+    ∙ ap (λ es. earliest so_far (least_by moment es)) (sym is) ∙ whole
 
 -- the least of the moments of the entries is that of their keys
 module _ {C X : Type 0} {cmp : C → C → Ordering} (total : IsTotalOrder cmp) (exact : CmpEqualImpliesEq cmp) (moment : C × X → Option ℕ) where
@@ -161,7 +172,12 @@ module _ {C X : Type 0} {cmp : C → C → Ordering} (total : IsTotalOrder cmp) 
 
       -- a key with a moment among the others has no entry before
       other : (p : C) (n : ℕ) → moment_at es p ≡ Some n → is_at (cmp p) e.0 ≡ true → ⊥
-      other p n has same = absurd (let f = sym (ap (option_and_then (λ x. moment (p, x))) (lookup-none (is_at (cmp p)) es (none_past_head (eq_by_cmp_equiv total) p e es (IsDistinct-from_sorted cmp (keys_of (e ∷ es)) up) same))) ∙ has in cc)
+      other p n has same =
+          absurd (let f =
+          sym (ap (option_and_then (λ x. moment (p, x)))
+          (lookup-none (is_at (cmp p)) es
+          (none_past_head (eq_by_cmp_equiv total) p e es
+          (IsDistinct-from_sorted cmp (keys_of (e ∷ es)) up) same))) ∙ has in cc)
 
       later : (p : C) (n : ℕ) → moment_at es p ≡ Some n → moment_at (e ∷ es) p ≡ Some n
       later p n has = go2 (is_at (cmp p) e.0) refl
@@ -180,12 +196,19 @@ module _ {C X : Type 0} {cmp : C → C → Ordering} (total : IsTotalOrder cmp) 
 
       go : (o : Option ℕ) → moment e ≡ o → (l : Option ℕ) → IsLeastOf (moment_at es) l → IsLeastOf (moment_at (e ∷ es)) (earliest o l)
       go None is None least = λ p. either (λ m. m ≡ None) p is (least p)
-      go None is (Some l) least = ((least.0.0, later least.0.0 l least.0.1), λ p n. either (λ m. m ≡ Some n → l ≤ n) p (λ has. absurd (let f = sym is ∙ has in cc)) (least.1 p n))
-      go (Some m) is None least =
-          ((e.0, first ∙ is), λ p n. either (λ o. o ≡ Some n → m ≤ n) p (λ has. let f : m ≡ n = (let f = sym is ∙ has in cc) in omega (arith, f)) (λ has. absurd (let f = sym (least p) ∙ has in cc)))
+      go None is (Some l) least = (
+        (least.0.0, later least.0.0 l least.0.1),
+        λ p n. either (λ m. m ≡ Some n → l ≤ n) p (λ has. absurd (let f = sym is ∙ has in cc)) (least.1 p n),
+      )
+      go (Some m) is None least = (
+        (e.0, first ∙ is),
+        λ p n. either (λ o. o ≡ Some n → m ≤ n) p (λ has. let f : m ≡ n = (let f = sym is ∙ has in cc) in
+            omega (arith, f)) (λ has. absurd (let f = sym (least p) ∙ has in cc)),
+      )
       go (Some m) is (Some l) least = (
         pick (le_total m l),
-        λ p n. either (λ o. o ≡ Some n → min m l ≤ n) p (λ has. let f : m ≡ n = (let f = sym is ∙ has in cc) in omega (arith, f)) (λ has. omega (arith, least.1 p n has)),
+        λ p n. either (λ o. o ≡ Some n → min m l ≤ n) p (λ has. let f : m ≡ n = (let f = sym is ∙ has in cc) in
+            omega (arith, f)) (λ has. omega (arith, least.1 p n has)),
       )
         where
           le_total : (a b : ℕ) → (min a b ≡ a) ⊎ (min a b ≡ b)

@@ -19,7 +19,9 @@ item_moved before rest rest2 all x whole is = append_assoc before (x ∷ []) res
 pub item_has : {A : Type 0} (P : A → Type 0) (before rest rest2 all : List A) (x : A) → before ++ rest ≡ all → rest ≡ x ∷ rest2 → All P all → P x
 item_has {A} P before rest rest2 all x whole is h =
     let e = ap (λ ys. before ++ ys) (sym is) ∙ whole in
-    subst P (place before) (subst (All P) (sym e) h (length before) x (subst (λ ys. length before < length ys) (sym e) (item_left before rest rest2 all x whole is)))
+    subst P (place before)
+    (subst (All P) (sym e) h (length before) x
+    (subst (λ ys. length before < length ys) (sym e) (item_left before rest rest2 all x whole is)))
   where
     place : (ys : List A) → get_or (ys ++ x ∷ rest2) (length ys) x ≡ x
     place [] = refl

@@ -1,5 +1,7 @@
 -- Keys named one after another by a list without repeats.
-use Rattle.std.proofs.Common.{◌≡◌, ℕ, ◌+◌, ◌<◌, Bool, true, false, cond, ◌||◌, ◌&&◌, zero, suc, List, [], ◌∷◌, ◌++◌, take, drop, length, get_or, sym, ap, refl, ◌∙◌, subst, arith}
+use Rattle.std.proofs.Common.{◌≡◌, ℕ, ◌+◌, ◌<◌, Bool, true, false, cond, ◌||◌, ◌&&◌, zero, suc}
+use Rattle.std.proofs.Common.{List, [], ◌∷◌, ◌++◌, take, drop, length, get_or, sym, ap, refl, ◌∙◌}
+use Rattle.std.proofs.Common.{subst, arith}
 use mathlib.Core.Bool.{true≢false}
 use Rattle.std.specs.declared.cmp.Ordering.{Ordering}
 use Rattle.std.specs.declared.cmp.Ordering.TheVariants.{Less}
@@ -17,13 +19,15 @@ use Rattle.std.proofs.lemmas.Map.Views.{tells_apart, any-filter_same}
 use Rattle.p2p_discovery.specs.Ordered.{IsPlaceOf}
 use Rattle.p2p_tracker.specs.PeerSets.{has_key}
 
-step : {X : Type 0} (a b : Bool) → (b ≡ true → a ≡ false) → (f : X → X) (new now old : X) → new ≡ cond b (f now) now → now ≡ cond a (f old) old → new ≡ cond (a || b) (f old) old
+step : {X : Type 0} (a b : Bool) → (b ≡ true → a ≡ false) → (f : X → X) (new now old : X) →
+    new ≡ cond b (f now) now → now ≡ cond a (f old) old → new ≡ cond (a || b) (f old) old
 step true true h f new now old d e = absurd (true≢false (h refl))
 step true false h f new now old d e = d ∙ e
 step false true h f new now old d e = d ∙ ap f e
 step false false h f new now old d e = d ∙ e
 
-module _ {C : Type 0} {cmp : C → C → Ordering} (o : IsTotalOrder cmp) (exact : CmpEqualImpliesEq cmp) (keys : List C) (i : ℕ) (key : C) (low : i < length keys) (is : key ≡ get_or keys i key) where
+module _ {C : Type 0} {cmp : C → C → Ordering} (o : IsTotalOrder cmp) (exact : CmpEqualImpliesEq cmp)
+    (keys : List C) (i : ℕ) (key : C) (low : i < length keys) (is : key ≡ get_or keys i key) where
   module _ (up : IsStrictlySortedBy cmp keys) where
     -- and none before it
     pub not_yet : has_key cmp (take i keys) key ≡ false
@@ -34,11 +38,15 @@ module _ {C : Type 0} {cmp : C → C → Ordering} (o : IsTotalOrder cmp) (exact
         rw (get_or-take i keys j d before) (ap is_eq less))
 
     -- a change made for the keys before it, and then for it
-    pub one_changed : {X : Type 0} (f : X → X) (q : C) (new now old : X) → new ≡ cond (is_at (cmp key) q) (f now) now → now ≡ cond (has_key cmp (take i keys) q) (f old) old → new ≡ cond (has_key cmp (take (i + 1) keys) q) (f old) old
+    pub one_changed : {X : Type 0} (f : X → X) (q : C) (new now old : X) →
+        new ≡ cond (is_at (cmp key) q) (f now) now → now ≡ cond (has_key cmp (take i keys) q) (f old) old →
+        new ≡ cond (has_key cmp (take (i + 1) keys) q) (f old) old
     one_changed {X} f q new now old d e =
         let test : C → Bool = λ k. is_at (cmp k) q in
         let more = list_any_more test keys i key low ∙ ap (λ k. has_key cmp (take i keys) q || test k) (sym is) in
-        rw more (step (has_key cmp (take i keys) q) (test key) (λ same. subst (λ k. has_key cmp (take i keys) k ≡ false) (tells_apart exact key q same) not_yet) f new now old d e)
+        rw more (step (has_key cmp (take i keys) q) (test key)
+        (λ same. subst (λ k. has_key cmp (take i keys) k ≡ false) (tells_apart exact key q same) not_yet) f new
+        now old d e)
 
 or_true_right : (a b : Bool) → b ≡ true → (a || b) ≡ true
 or_true_right true b e = refl
@@ -53,14 +61,16 @@ either true h = absurd (h refl)
 either false h = refl
 
 -- and one that has no place is none of them
-pub nowhere : {C : Type 0} {cmp : C → C → Ordering} → CmpEqualImpliesEq cmp → (keys : List C) (key : C) → ((k : ℕ) → IsPlaceOf key keys k → ⊥) → has_key cmp keys key ≡ false
+pub nowhere : {C : Type 0} {cmp : C → C → Ordering} → CmpEqualImpliesEq cmp → (keys : List C) (key : C) →
+    ((k : ℕ) → IsPlaceOf key keys k → ⊥) → has_key cmp keys key ≡ false
 nowhere {cmp = cmp} exact keys key absent = list_any_none (λ x. is_at (cmp x) key) keys (λ j d below.
     either (is_at (cmp (get_or keys j d)) key) (λ same.
     let here : get_or keys j key ≡ key = get_or_default keys j key d below ∙ tells_apart exact (get_or keys j d) key same in
     absent j (record { in_range = below; at_place = here })))
 
 -- those of some keys that pass a test
-pub names-filter : {C : Type 0} {cmp : C → C → Ordering} → CmpEqualImpliesEq cmp → (test : C → Bool) (keys : List C) (q : C) → has_key cmp (filter test keys) q ≡ (test q && has_key cmp keys q)
+pub names-filter : {C : Type 0} {cmp : C → C → Ordering} → CmpEqualImpliesEq cmp →
+    (test : C → Bool) (keys : List C) (q : C) → has_key cmp (filter test keys) q ≡ (test q && has_key cmp keys q)
 names-filter {cmp = cmp} exact test keys q = any-filter_same (λ k. is_at (cmp k) q) test (test q) (λ k e. ap test (tells_apart exact k q e)) keys
 
 all_take : {A : Type 0} (P : A → Type 0) (i : ℕ) (xs : List A) → AllByRecursion P xs → AllByRecursion P (take i xs)
@@ -81,7 +91,8 @@ all_joined P [] ys h k = k
 all_joined P (x ∷ xs) ys h k = (h.0, all_joined P xs ys h.1 k)
 
 -- none of these keys is x
-none_is : {C : Type 0} {cmp : C → C → Ordering} → IsTotalOrder cmp → (x : C) (ys : List C) → has_key cmp ys x ≡ false → AllByRecursion (λ y. eq_by_cmp cmp x y ≡ false) ys
+none_is : {C : Type 0} {cmp : C → C → Ordering} → IsTotalOrder cmp → (x : C) (ys : List C) →
+    has_key cmp ys x ≡ false → AllByRecursion (λ y. eq_by_cmp cmp x y ≡ false) ys
 none_is o x [] h = tt
 none_is {cmp = cmp} o x (y ∷ ys) h =
     let parts = neither (is_at (cmp y) x) (has_key cmp ys x) h in
@@ -92,7 +103,9 @@ none_is {cmp = cmp} o x (y ∷ ys) h =
     neither false b e = (refl, e)
 
 -- distinct keys and others that are distinct, of which none is among the first, are distinct together
-pub distinct_both : {C : Type 0} {cmp : C → C → Ordering} → IsTotalOrder cmp → (xs ys : List C) → IsDistinct (eq_by_cmp cmp) xs → IsDistinct (eq_by_cmp cmp) ys → ((q : C) → has_key cmp xs q ≡ true → has_key cmp ys q ≡ false) → IsDistinct (eq_by_cmp cmp) (xs ++ ys)
+pub distinct_both : {C : Type 0} {cmp : C → C → Ordering} → IsTotalOrder cmp → (xs ys : List C) →
+    IsDistinct (eq_by_cmp cmp) xs → IsDistinct (eq_by_cmp cmp) ys →
+    ((q : C) → has_key cmp xs q ≡ true → has_key cmp ys q ≡ false) → IsDistinct (eq_by_cmp cmp) (xs ++ ys)
 unfolding IsDistinct
 distinct_both o [] ys dx dy apart = dy
 distinct_both {cmp = cmp} o (x ∷ xs) ys dx dy apart = (
@@ -121,12 +134,15 @@ unfolding IsDistinct
 none_distinct e = tt
 
 -- what was counted more and then less is as it was
-pub undone : {X : Type 0} (b : Bool) (more less : X → X) (new now old : X) → (b ≡ true → less (more old) ≡ old) → new ≡ cond b (less now) now → now ≡ cond b (more old) old → new ≡ old
+pub undone : {X : Type 0} (b : Bool) (more less : X → X) (new now old : X) → (b ≡ true → less (more old) ≡ old) →
+    new ≡ cond b (less now) now → now ≡ cond b (more old) old → new ≡ old
 undone true more less new now old back d e = d ∙ ap less e ∙ back refl
 undone false more less new now old back d e = d ∙ e
 
 -- a change at p is the same at q where that is p
-pub changed_here : {C X : Type 0} {cmp : C → C → Ordering} → CmpEqualImpliesEq cmp → (p q : C) (f : C → X → X) (new now : X) → new ≡ cond (is_at (cmp p) q) (f p now) now → new ≡ cond (is_at (cmp p) q) (f q now) now
+pub changed_here : {C X : Type 0} {cmp : C → C → Ordering} → CmpEqualImpliesEq cmp →
+    (p q : C) (f : C → X → X) (new now : X) → new ≡ cond (is_at (cmp p) q) (f p now) now →
+    new ≡ cond (is_at (cmp p) q) (f q now) now
 changed_here {cmp = cmp} exact p q f new now change = change ∙ go (is_at (cmp p) q) refl
   where
     go : (b : Bool) → is_at (cmp p) q ≡ b → cond b (f p now) now ≡ cond b (f q now) now

@@ -1,5 +1,7 @@
--- Keys with the lists of their places, as a place comes or goes.
-use Rattle.std.proofs.Common.{◌≡◌, ℕ, zero, suc, ◌+◌, ◌-◌, ◌||◌, filter, ◌<◌, ◌++◌, Bool, true, false, cond, List, [], ◌∷◌, drop, take, length, get_or, Option, refl, sym, ◌∙◌, ap, arith, length-append, append-nil}
+-- Keys with their latest places, as places come or go.
+use Rattle.std.proofs.Common.{◌≡◌, ℕ, zero, suc, ◌+◌, ◌||◌, filter, ◌<◌, ◌++◌, Bool, true, ◌⊎◌, inl, inr}
+use Rattle.std.proofs.Common.{false, cond, List, [], ◌∷◌, length, get_or, map, Option, Some, None, refl}
+use Rattle.std.proofs.Common.{sym, ◌∙◌, ap, arith}
 use mathlib.Core.Bool.{true≢false}
 use Rattle.std.specs.Cmp.{IsTotalOrder}
 use Rattle.std.specs.Ordering.{is_eq}
@@ -13,21 +15,15 @@ use Rattle.std.specs.Map.{keys_of}
 use Rattle.std.proofs.lemmas.List.Sums.{length-filter}
 use Rattle.p2p_tracker.specs.PeerSets.{has_key}
 use Rattle.p2p_tracker.specs.Private.Window.{SetWithBits, has_primary}
-use Rattle.std.specs.Option.{unwrap_or}
 use Rattle.std.specs.declared.cmp.Ordering.{Ordering}
 use Rattle.std.proofs.lemmas.Map.Lookups.{CmpEqualImpliesEq}
 use Rattle.std.proofs.lemmas.Map.Views.{tells_apart}
 use Rattle.p2p_tracker.specs.declared.kept.places.Place.{Place}
-use Rattle.p2p_tracker.specs.declared.kept.places.End.TheVariants.{Back}
-use Rattle.p2p_tracker.specs.Private.Places.{places_from, places_in, without}
+use Rattle.p2p_tracker.specs.Private.Places.{places_from, places_in, beside, first_or, in_place}
 
 -- the only place of a key
 abbrev pub only : ℕ → ℕ → List Place
 only set at = record { set = set; at = at } ∷ []
-
--- the places in a queue, where there is one
-abbrev pub listed : Option (List Place) → List Place
-listed o = unwrap_or o []
 
 module _ {C : Type 0} (cmp : C → C → Ordering) where
   -- keys without q give it no place
@@ -42,44 +38,85 @@ module _ {C : Type 0} (cmp : C → C → Ordering) where
       go false e rest = rest e
 
   -- each of ascending keys has its place among them
-  pub place_of : IsTotalOrder cmp → (set n : ℕ) (ks : List C) (i : ℕ) (key : C) → i < length ks →
+  pub its_place : IsTotalOrder cmp → (set n : ℕ) (ks : List C) (i : ℕ) (key : C) → i < length ks →
       key ≡ get_or ks i key → IsStrictlySortedBy cmp ks →
       places_from cmp set n ks key ≡ only set (n + i)
-  place_of o set n [] i key low is up = absurd (omega (arith, low))
-  place_of o set n (k ∷ ks) zero key low is up =
+  its_place o set n [] i key low is up = absurd (omega (arith, low))
+  its_place o set n (k ∷ ks) zero key low is up =
       let here : is_at (cmp k) key ≡ true = ap (λ x. is_at (cmp x) key) (sym is) ∙ ap is_eq (tied_itself o key) in
       ap (λ b. cond b (only set n) (places_from cmp set (suc n) ks key)) here
       ∙ ap (only set) (let e : n ≡ n + 0 = omega arith in e)
-  place_of o set n (k ∷ ks) (suc i) key low is up =
+  its_place o set n (k ∷ ks) (suc i) key low is up =
       let less : cmp k key ≡ Less = ap (cmp k) is
       ∙ Less-from_sorted cmp (k ∷ ks) 0 (suc i) key up (omega arith) low in
       ap (λ b. cond b (only set n) (places_from cmp set (suc n) ks key)) (ap is_eq less)
-      ∙ place_of o set (suc n) ks i key (omega (arith, low)) is (sorted_tail cmp k ks up)
+      ∙ its_place o set (suc n) ks i key (omega (arith, low)) is (sorted_tail cmp k ks up)
       ∙ ap (only set) (let e : suc n + i ≡ n + suc i = omega arith in e)
 
   -- one more of ascending keys has its place
   pub one_added : IsTotalOrder cmp → CmpEqualImpliesEq cmp → (set : ℕ) (ks : List C) (i : ℕ) (key : C) →
       i < length ks → key ≡ get_or ks i key → IsStrictlySortedBy cmp ks →
-      (q : C) (now : List Place) → cond (is_at (cmp key) q) (now ++ only set i) now
-      ≡ cond (is_at (cmp key) q) (now ++ places_from cmp set 0 ks q) now
+      (q : C) (now : Option Place) → cond (is_at (cmp key) q) (Some (record { set = set; at = i })) now
+      ≡ cond (is_at (cmp key) q) (first_or now (places_from cmp set 0 ks q)) now
   one_added o exact set ks i key low is up q now = go (is_at (cmp key) q) (λ e.
-      ap (λ k. places_from cmp set 0 ks k) (sym (tells_apart exact key q e)) ∙ place_of o set 0 ks i key low is up
+      ap (λ k. places_from cmp set 0 ks k) (sym (tells_apart exact key q e)) ∙ its_place o set 0 ks i key low is up
       ∙ ap (only set) (let e : 0 + i ≡ i = omega arith in e))
     where
       go : (b : Bool) → (b ≡ true → places_from cmp set 0 ks q ≡ only set i) →
-          cond b (now ++ only set i) now ≡ cond b (now ++ places_from cmp set 0 ks q) now
-      go true same = ap (λ ps. now ++ ps) (sym (same refl))
+          cond b (Some (record { set = set; at = i })) now ≡ cond b (first_or now (places_from cmp set 0 ks q)) now
+      go true same = sym (ap (first_or now) (same refl))
       go false same = refl
 
-  -- where each of the keys has its place, each key has those among them
-  pub all_added : (set : ℕ) (ks : List C) (q : C) (old : List Place) →
-      cond (has_key cmp ks q) (old ++ places_from cmp set 0 ks q) old ≡ old ++ places_from cmp set 0 ks q
+  -- where each of the keys has its place, each key has the one among them, or else its own
+  pub all_added : (set : ℕ) (ks : List C) (q : C) (old : Option Place) →
+      cond (has_key cmp ks q) (first_or old (places_from cmp set 0 ks q)) old
+      ≡ first_or old (places_from cmp set 0 ks q)
   all_added set ks q old = go (has_key cmp ks q) (no_place set 0 ks q)
     where
       go : (b : Bool) → (b ≡ false → places_from cmp set 0 ks q ≡ []) →
-          cond b (old ++ places_from cmp set 0 ks q) old ≡ old ++ places_from cmp set 0 ks q
+          cond b (first_or old (places_from cmp set 0 ks q)) old ≡ first_or old (places_from cmp set 0 ks q)
       go true none = refl
-      go false none = sym (append-nil old) ∙ ap (λ ps. old ++ ps) (sym (none refl))
+      go false none = sym (ap (first_or old) (none refl))
+
+  -- what stands beside one of ascending keys
+  beside_at : IsTotalOrder cmp → (ks : List C) (os : List (Option Place)) (i : ℕ) (key : C) → i < length ks →
+      length os ≡ length ks → key ≡ get_or ks i key → IsStrictlySortedBy cmp ks →
+      beside cmp ks os key ≡ get_or os i None
+  beside_at o [] os i key low same is up = absurd (omega (arith, low))
+  beside_at o (k ∷ ks) [] i key low same is up = absurd (omega (arith, same))
+  beside_at o (k ∷ ks) (x ∷ os) zero key low same is up =
+      let here : is_at (cmp k) key ≡ true = ap (λ x. is_at (cmp x) key) (sym is) ∙ ap is_eq (tied_itself o key) in
+      ap (λ b. cond b x (beside cmp ks os key)) here
+  beside_at o (k ∷ ks) (x ∷ os) (suc i) key low same is up =
+      let less : cmp k key ≡ Less = ap (cmp k) is
+      ∙ Less-from_sorted cmp (k ∷ ks) 0 (suc i) key up (omega arith) low in
+      ap (λ b. cond b x (beside cmp ks os key)) (ap is_eq less)
+      ∙ beside_at o ks os i key (omega (arith, low)) (omega (arith, same)) is (sorted_tail cmp k ks up)
+
+  -- one more of ascending keys gets what stands beside it
+  pub one_restored : IsTotalOrder cmp → CmpEqualImpliesEq cmp → (ks : List C) (os : List (Option Place)) (i : ℕ)
+      (key : C) (b : Option Place) → i < length ks → length os ≡ length ks → key ≡ get_or ks i key →
+      b ≡ get_or os i None → IsStrictlySortedBy cmp ks → (q : C) (now : Option Place) →
+      cond (is_at (cmp key) q) (in_place b now) now ≡ cond (is_at (cmp key) q) (in_place (beside cmp ks os q) now) now
+  one_restored o exact ks os i key b low same is at up q now = go (is_at (cmp key) q) (λ e.
+      ap (beside cmp ks os) (sym (tells_apart exact key q e)) ∙ beside_at o ks os i key low same is up ∙ sym at)
+    where
+      go : (c : Bool) → (c ≡ true → beside cmp ks os q ≡ b) →
+          cond c (in_place b now) now ≡ cond c (in_place (beside cmp ks os q) now) now
+      go true same = ap (λ x. in_place x now) (sym (same refl))
+      go false same = refl
+
+  -- what stands beside a key, where that is f of each
+  pub beside_all : CmpEqualImpliesEq cmp → (f : C → Option Place) (ks : List C) (q : C) → has_key cmp ks q ≡ true →
+      beside cmp ks (map f ks) q ≡ f q
+  beside_all exact f [] q has = absurd (true≢false (sym has))
+  beside_all exact f (k ∷ ks) q has = go (is_at (cmp k) q) refl has (beside_all exact f ks q)
+    where
+      go : (b : Bool) → is_at (cmp k) q ≡ b → (b || has_key cmp ks q) ≡ true →
+          (has_key cmp ks q ≡ true → beside cmp ks (map f ks) q ≡ f q) →
+          cond b (f k) (beside cmp ks (map f ks) q) ≡ f q
+      go true e has rest = ap f (tells_apart exact k q e)
+      go false e has rest = rest has
 
   -- a key stands once in a list that has it
   one_place : (set n : ℕ) (ks : List C) (q : C) → length (places_from cmp set n ks q) ≡ cond (has_key cmp ks q) 1 0
@@ -91,32 +128,36 @@ module _ {C : Type 0} (cmp : C → C → Ordering) where
       go true rest = refl
       go false rest = rest
 
-  -- a place that was added last goes as the last, and one that comes first goes as the first
-  pub last_goes : (set : ℕ) (ks : List C) (q : C) (old : List Place) → has_key cmp ks q ≡ true →
-      without Back (old ++ places_from cmp set 0 ks q) ≡ old
-  last_goes set ks q old has = go (places_from cmp set 0 ks q) (one_place set 0 ks q ∙ ap (λ b. cond b 1 0) has)
+  -- a place that came goes, and the one before is back
+  pub last_goes : (set : ℕ) (ks : List C) (q : C) (old before : Option Place) → has_key cmp ks q ≡ true →
+      before ≡ old → in_place before (first_or old (places_from cmp set 0 ks q)) ≡ old
+  last_goes set ks q old before has is =
+      go (places_from cmp set 0 ks q) (one_place set 0 ks q ∙ ap (λ b. cond b 1 0) has)
     where
-      front : (old : List Place) (p : Place) → take (length old) (old ++ p ∷ []) ≡ old
-      front [] p = refl
-      front (x ∷ old) p = ap (λ ps. x ∷ ps) (front old p)
-
-      go : (ps : List Place) → length ps ≡ 1 → without Back (old ++ ps) ≡ old
+      go : (ps : List Place) → length ps ≡ 1 → in_place before (first_or old ps) ≡ old
       go [] e = absurd (omega (arith, e))
-      go (p ∷ []) e = (let n : length (old ++ p ∷ []) - 1 ≡ length old = omega (arith, length-append old (p ∷ [])) in
-          ap (λ k. take k (old ++ p ∷ [])) n) ∙ front old p
-      go (p ∷ r ∷ ps) e = absurd (omega (arith, e))
+      go (p ∷ ps) e = is
 
-  pub first_goes : (set : ℕ) (ks : List C) (q : C) (rest : List Place) →
-      cond (has_key cmp ks q) (drop 1 (places_from cmp set 0 ks q ++ rest)) (places_from cmp set 0 ks q ++ rest)
-      ≡ rest
-  first_goes set ks q rest = go (has_key cmp ks q) (places_from cmp set 0 ks q) (one_place set 0 ks q)
+  -- a key has no place in a list, or one, beside which stands what is its own
+  pub one_or_none : CmpEqualImpliesEq cmp → (f : C → Option Place) (set n : ℕ) (ks : List C) (q : C) →
+      (places_from cmp set n ks q ≡ []) ⊎
+      ((i : ℕ) × (places_from cmp set n ks q ≡ only set (n + i)) × (get_or (map f ks) i None ≡ f q))
+  one_or_none exact f set n [] q = inl refl
+  one_or_none exact f set n (k ∷ ks) q = go (is_at (cmp k) q) refl (one_or_none exact f set (suc n) ks q)
     where
-      go : (b : Bool) (ps : List Place) → length ps ≡ cond b 1 0 → cond b (drop 1 (ps ++ rest)) (ps ++ rest) ≡ rest
-      go true [] e = absurd (omega (arith, e))
-      go true (p ∷ []) e = refl
-      go true (p ∷ r ∷ ps) e = absurd (omega (arith, e))
-      go false [] e = refl
-      go false (p ∷ ps) e = absurd (omega (arith, e))
+      go : (b : Bool) → is_at (cmp k) q ≡ b →
+          (places_from cmp set (suc n) ks q ≡ []) ⊎
+          ((i : ℕ) × (places_from cmp set (suc n) ks q ≡ only set (suc n + i)) × (get_or (map f ks) i None ≡ f q)) →
+          (cond b (only set n) (places_from cmp set (suc n) ks q) ≡ []) ⊎
+          ((i : ℕ) × (cond b (only set n) (places_from cmp set (suc n) ks q) ≡ only set (n + i)) ×
+          (get_or (map f (k ∷ ks)) i None ≡ f q))
+      go true e rest = inr (0, ap (only set) (let h : n ≡ n + 0 = omega arith in h), ap f (tells_apart exact k q e))
+      go false e (inl none) = inl none
+      go false e (inr found) = inr (
+        suc found.0,
+        found.1 ∙ ap (only set) (let h : suc n + found.0 ≡ n + suc found.0 = omega arith in h),
+        found.2,
+      )
 
   -- so its places are as many as the sets that have it
   pub places_counted : (sets : List (SetWithBits C)) (q : C) →

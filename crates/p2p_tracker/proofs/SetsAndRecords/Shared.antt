@@ -1,5 +1,7 @@
 -- What is told of a set: the set with an index, and what is chosen of two lists side by side.
-use Rattle.std.proofs.Common.{◌≡◌, ◌==◌, Bool, true, false, cond, ℕ, zero, suc, ◌+◌, ◌≤◌, List, [], ◌∷◌, ◌++◌, length, drop, Option, Some, None, refl, sym, ◌∙◌, ap, subst, arith, zip, filter_map, slice_get}
+use Rattle.std.proofs.Common.{◌≡◌, ◌==◌, Bool, true, false, cond, ℕ, zero, suc, ◌+◌, ◌≤◌, List, []}
+use Rattle.std.proofs.Common.{◌∷◌, ◌++◌, length, drop, Option, Some, None, refl, sym, ◌∙◌, ap}
+use Rattle.std.proofs.Common.{subst, arith, zip, filter_map, slice_get}
 use Rattle.std.specs.Prelude.{option_to_list, if◌then◌else◌}
 use Rattle.std.specs.Option.{option_map}
 use Rattle.std.specs.List.{cons_option}
@@ -31,12 +33,14 @@ module _ {C S : Type 0} (cmp : C → C → Ordering) where
     | Some set ↦ shared_for cmp records (epoch_millis now) set.primary bits
   ]
 
-  pub infos_found : (d : DirectoryView C S) (window : List (SetWithBits C)) (index : ℕ) (bits : List Bool) (now : ℕ) (x : SetWithBits C) → d.sets ≡ plain_sets window → set_at window index ≡ Some x →
+  pub infos_found : (d : DirectoryView C S) (window : List (SetWithBits C)) (index : ℕ) (bits : List Bool)
+      (now : ℕ) (x : SetWithBits C) → d.sets ≡ plain_sets window → set_at window index ≡ Some x →
       infos_in cmp d index bits now ≡ shared_for cmp d.records (epoch_millis now) (keys_of x.primary) bits
   infos_found d window index bits now x sets is =
       ap (answered_of d.records bits now) (ap (set_with index) sets ∙ plain_found window index ∙ ap (option_map plain_set) is)
 
-  pub infos_not_found : (d : DirectoryView C S) (window : List (SetWithBits C)) (index : ℕ) (bits : List Bool) (now : ℕ) → d.sets ≡ plain_sets window → set_at window index ≡ None → infos_in cmp d index bits now ≡ Some []
+  pub infos_not_found : (d : DirectoryView C S) (window : List (SetWithBits C)) (index : ℕ) (bits : List Bool)
+      (now : ℕ) → d.sets ≡ plain_sets window → set_at window index ≡ None → infos_in cmp d index bits now ≡ Some []
   infos_not_found d window index bits now sets is =
       ap (answered_of d.records bits now) (ap (set_with index) sets ∙ plain_found window index ∙ ap (option_map plain_set) is)
 
@@ -44,7 +48,8 @@ pub next_place : (i : ℕ) → suc i ≡ i + 1
 next_place i = omega (arith)
 
 -- the pair at a place, and those behind it
-pub pair_at : {A B : Type 0} (ps : List A) (bs : List B) (i : ℕ) (p : A) (b : B) → slice_get ps i ≡ Some p → slice_get bs i ≡ Some b → drop i (zip ps bs) ≡ (p, b) ∷ drop (suc i) (zip ps bs)
+pub pair_at : {A B : Type 0} (ps : List A) (bs : List B) (i : ℕ) (p : A) (b : B) → slice_get ps i ≡ Some p →
+    slice_get bs i ≡ Some b → drop i (zip ps bs) ≡ (p, b) ∷ drop (suc i) (zip ps bs)
 pair_at [] bs i p b e f = absurd cc
 pair_at (q ∷ ps) [] i p b e f = absurd cc
 pair_at (q ∷ ps) (c ∷ bs) zero p b e f = λ k. (some_is q p e k, some_is c b f k) ∷ zip ps bs
@@ -64,7 +69,8 @@ few_chosen {X = X} choose (p ∷ ps) (b ∷ bs) = go (choose (p, b)) (few_chosen
     go (Some x) h = omega (arith, h)
 
 -- no more infos are told than there are bits
-pub few_told : {C S : Type 0} (cmp : C → C → Ordering) (d : DirectoryView C S) (index : ℕ) (bits : List Bool) (now : ℕ) (is : List (Info C S)) → Some is ≡ infos_in cmp d index bits now → length is ≤ length bits
+pub few_told : {C S : Type 0} (cmp : C → C → Ordering) (d : DirectoryView C S) (index : ℕ) (bits : List Bool)
+    (now : ℕ) (is : List (Info C S)) → Some is ≡ infos_in cmp d index bits now → length is ≤ length bits
 few_told {C = C} {S = S} cmp d index bits now is told = go (set_with index d.sets) told
   where
     one : (b : Bool) (all : List (Info C S)) → length all ≤ length bits → Some is ≡ (if b then Some all else None) → length is ≤ length bits
@@ -73,7 +79,9 @@ few_told {C = C} {S = S} cmp d index bits now is told = go (set_with index d.set
 
     go : (o : Option (SetAt C)) → Some is ≡ answered_of cmp d.records bits now o → length is ≤ length bits
     go None e = let same : is ≡ [] = cc in subst (λ xs. length xs ≤ length bits) (sym same) (omega (arith))
-    go (Some x) e = one (length bits == length x.primary) (shared_of cmp d.records (epoch_millis now) x.primary bits) (few_chosen (shared_at cmp d.records (epoch_millis now)) x.primary bits) e
+    go (Some x) e =
+        one (length bits == length x.primary) (shared_of cmp d.records (epoch_millis now) x.primary bits)
+        (few_chosen (shared_at cmp d.records (epoch_millis now)) x.primary bits) e
 
 module _ {A B X : Type 0} (choose : A × B → Option X) where
   -- what is chosen from a place on
@@ -84,7 +92,8 @@ module _ {A B X : Type 0} (choose : A × B → Option X) where
   pub chosen_at : (ps : List A) (bs : List B) (i : ℕ) (p : A) (b : B) → slice_get ps i ≡ Some p → slice_get bs i ≡ Some b →
       chosen_from i ps bs ≡ option_to_list (choose (p, b)) ++ chosen_from (i + 1) ps bs
   chosen_at ps bs i p b e f =
-      ap (filter_map choose) (pair_at ps bs i p b e f) ∙ joined (choose (p, b)) (chosen_from (suc i) ps bs) ∙ ap (λ k. option_to_list (choose (p, b)) ++ chosen_from k ps bs) (next_place i)
+      ap (filter_map choose) (pair_at ps bs i p b e f) ∙ joined (choose (p, b)) (chosen_from (suc i) ps bs)
+      ∙ ap (λ k. option_to_list (choose (p, b)) ++ chosen_from k ps bs) (next_place i)
     where
       joined : (o : Option X) (xs : List X) → cons_option o xs ≡ option_to_list o ++ xs
       joined None xs = refl

@@ -1,5 +1,7 @@
 -- Retained sets with their bits: what a new bit leaves, and that their indices ascend.
-use Rattle.std.proofs.Common.{◌≡◌, ℕ, zero, suc, ◌<◌, ◌≤◌, ◌+◌, Bool, true, false, cond, List, [], ◌∷◌, ◌++◌, map, take, drop, length, get_or, Option, Some, None, sym, ap, refl, subst, ◌∙◌, arith}
+use Rattle.std.proofs.Common.{◌≡◌, ℕ, zero, suc, ◌<◌, ◌≤◌, ◌+◌, Bool, true, false, cond, List, []}
+use Rattle.std.proofs.Common.{◌∷◌, ◌++◌, map, take, drop, length, get_or, Option, Some, None, sym}
+use Rattle.std.proofs.Common.{ap, refl, subst, ◌∙◌, arith}
 use Rattle.std.specs.Prelude.{◌==◌, nat_lt, nat_eq, find, slice_get}
 use Rattle.std.specs.declared.cmp.Ordering.{Ordering}
 use Rattle.std.specs.declared.cmp.Ordering.TheVariants.{Less, Equal, Greater}
@@ -45,7 +47,8 @@ pub bits_more : {P : Type 0} (known : P → Bool) (es : List (P × Bool)) (i : �
 bits_more known es i x low is = go known es i x low is ∙ ap (λ k. map (λ q. (q, known q)) (take k (keys_of es)) ++ drop k es) (next i)
   where
     go : {P : Type 0} (known : P → Bool) (es : List (P × Bool)) (i : ℕ) (x : P) → i < length es → x ≡ get_or (keys_of es) i x →
-        with_bit (map (λ q. (q, known q)) (take i (keys_of es)) ++ drop i es) i (known x) ≡ map (λ q. (q, known q)) (take (suc i) (keys_of es)) ++ drop (suc i) es
+        with_bit (map (λ q. (q, known q)) (take i (keys_of es)) ++ drop i es) i (known x)
+        ≡ map (λ q. (q, known q)) (take (suc i) (keys_of es)) ++ drop (suc i) es
     go known [] i x low is = absurd (omega (arith, low))
     go known (e ∷ es) zero x low is = ap (λ y. (e.0, known y) ∷ es) is
     go known (e ∷ es) (suc i) x low is = ap (λ rest. (e.0, known e.0) ∷ rest) (go known es i x (omega (arith, low)) is)
@@ -54,14 +57,16 @@ pub plain_again : {C : Type 0} (known : C → Bool) (set : SetAt C) → plain_se
 plain_again known set = λ i. record { index = set.index; primary = keys_with_bits known set.primary i; secondary = set.secondary }
 
 -- the bits of the first peers leave the peers
-pub keys_of_front : {P : Type 0} (known : P → Bool) (es : List (P × Bool)) (i : ℕ) → keys_of (map (λ q. (q, known q)) (take i (keys_of es)) ++ drop i es) ≡ keys_of es
+pub keys_of_front : {P : Type 0} (known : P → Bool) (es : List (P × Bool)) (i : ℕ) →
+    keys_of (map (λ q. (q, known q)) (take i (keys_of es)) ++ drop i es) ≡ keys_of es
 keys_of_front known [] zero = refl
 keys_of_front known [] (suc i) = refl
 keys_of_front known (e ∷ es) zero = refl
 keys_of_front known (e ∷ es) (suc i) = ap (λ ks. e.0 ∷ ks) (keys_of_front known es i)
 
 -- .. and all of them are the bits that peers have
-pub all_known : {P : Type 0} (known : P → Bool) (es : List (P × Bool)) (i : ℕ) → length es ≤ i → map (λ q. (q, known q)) (take i (keys_of es)) ++ drop i es ≡ map (λ q. (q, known q)) (keys_of es)
+pub all_known : {P : Type 0} (known : P → Bool) (es : List (P × Bool)) (i : ℕ) → length es ≤ i →
+    map (λ q. (q, known q)) (take i (keys_of es)) ++ drop i es ≡ map (λ q. (q, known q)) (keys_of es)
 all_known known [] zero le = refl
 all_known known [] (suc i) le = refl
 all_known known (e ∷ es) zero le = absurd (omega (arith, le))
@@ -90,7 +95,8 @@ unfolding IsStrictlySortedBy
 none_ascends C = tt
 
 -- each number is below one that is above the last of ascending ones
-all_below : (n x : ℕ) (ns : List ℕ) → IsStrictlySortedBy nat_cmp (x ∷ ns) → is_above n (last_or (Some x) ns) ≡ true → AllByRecursion (λ y. nat_cmp y n ≡ Less) (x ∷ ns)
+all_below : (n x : ℕ) (ns : List ℕ) → IsStrictlySortedBy nat_cmp (x ∷ ns) →
+    is_above n (last_or (Some x) ns) ≡ true → AllByRecursion (λ y. nat_cmp y n ≡ Less) (x ∷ ns)
 unfolding IsStrictlySortedBy
 all_below n x [] up above = (less x n above, tt)
   where
@@ -117,11 +123,14 @@ module _ {C : Type 0} where
   latest_plain sets = last_index None sets
 
   -- a set whose index is above the latest ascends
-  pub ascending_push : (sets : List (SetWithBits C)) (set : SetWithBits C) → IsAscending sets → is_above set.index (latest_index (plain_sets sets)) ≡ true → IsAscending (sets ++ set ∷ [])
+  pub ascending_push : (sets : List (SetWithBits C)) (set : SetWithBits C) → IsAscending sets →
+      is_above set.index (latest_index (plain_sets sets)) ≡ true → IsAscending (sets ++ set ∷ [])
   ascending_push [] set up above = pushed set.index [] up tt
   ascending_push (x ∷ sets) set up above =
       subst (IsStrictlySortedBy nat_cmp) (sym (map-append (λ (y : SetWithBits C). y.index) (x ∷ sets) (set ∷ [])))
-      (pushed set.index (map (λ y. y.index) (x ∷ sets)) up (all_below set.index x.index (map (λ y. y.index) sets) up (ap (is_above set.index) (indices (Some x) sets) ∙ above)))
+      (pushed set.index (map (λ y. y.index) (x ∷ sets)) up
+      (all_below set.index x.index (map (λ y. y.index) sets) up
+      (ap (is_above set.index) (indices (Some x) sets) ∙ above)))
     where
       indices : (o : Option (SetWithBits C)) (sets : List (SetWithBits C)) →
           last_or (option_map (λ y. y.index) o) (map (λ y. y.index) sets) ≡ option_map (λ y. y.index) (last_or (option_map plain_set o) (plain_sets sets))
@@ -130,7 +139,8 @@ module _ {C : Type 0} where
       indices o (x ∷ sets) = indices (Some x) sets
 
   -- new bits leave the indices
-  pub ascending_with_bit : (cmp : C → C → Ordering) (p : C) (b : Bool) (old new : List (SetWithBits C)) → new ≡ map (with_bit_of cmp p b) old → IsAscending old → IsAscending new
+  pub ascending_with_bit : (cmp : C → C → Ordering) (p : C) (b : Bool) (old new : List (SetWithBits C)) →
+      new ≡ map (with_bit_of cmp p b) old → IsAscending old → IsAscending new
   ascending_with_bit cmp p b old new e up = subst IsAscending (sym e) (subst (IsStrictlySortedBy nat_cmp) (sym (go old)) up)
     where
       go : (sets : List (SetWithBits C)) → map (λ y. y.index) (map (with_bit_of cmp p b) sets) ≡ map (λ y. y.index) sets
@@ -140,27 +150,35 @@ module _ {C : Type 0} where
 -- ONE AFTER THE OTHER
 
 -- what is found is the first that passes a test
-pub found_at : {A : Type 0} (test : A → Bool) (xs : List A) (i : ℕ) (x : A) → find test (take i xs) ≡ None → i < length xs → x ≡ get_or xs i x → test x ≡ true → find test xs ≡ Some x
+pub found_at : {A : Type 0} (test : A → Bool) (xs : List A) (i : ℕ) (x : A) → find test (take i xs) ≡ None →
+    i < length xs → x ≡ get_or xs i x → test x ≡ true → find test xs ≡ Some x
 found_at test [] i x none low is passes = absurd (omega (arith, low))
-found_at test (y ∷ ys) zero x none low is passes = (λ i. cond (test (sym is i)) (Some y) (find test ys)) ∙ (λ i. cond (passes i) (Some (sym is i)) (find test ys))
+found_at test (y ∷ ys) zero x none low is passes = (λ i. cond (test (sym is i)) (Some y) (find test ys))
+    ∙ (λ i. cond (passes i) (Some (sym is i)) (find test ys))
 found_at test (y ∷ ys) (suc i) x none low is passes = go (test y) none (λ n. found_at test ys i x n (omega (arith, low)) is passes)
   where
-    go : (b : Bool) → cond b (Some y) (find test (take i ys)) ≡ None → (find test (take i ys) ≡ None → find test ys ≡ Some x) → cond b (Some y) (find test ys) ≡ Some x
+    go : (b : Bool) → cond b (Some y) (find test (take i ys)) ≡ None →
+        (find test (take i ys) ≡ None → find test ys ≡ Some x) → cond b (Some y) (find test ys) ≡ Some x
     go true e h = absurd cc
     go false e h = h e
 
 -- .. and none so far, where one more doesn't pass it
-pub not_found_more : {A : Type 0} (test : A → Bool) (xs : List A) (i : ℕ) (x : A) → find test (take i xs) ≡ None → i < length xs → x ≡ get_or xs i x → test x ≡ false → find test (take (i + 1) xs) ≡ None
+pub not_found_more : {A : Type 0} (test : A → Bool) (xs : List A) (i : ℕ) (x : A) → find test (take i xs) ≡ None →
+    i < length xs → x ≡ get_or xs i x → test x ≡ false → find test (take (i + 1) xs) ≡ None
 not_found_more test xs i x none low is fails = ap (λ k. find test (take k xs)) (sym (next i)) ∙ go test xs i x none low is fails
   where
-    one_more : {A : Type 0} (b : Bool) (y : A) (before after : Option A) → cond b (Some y) before ≡ None → (before ≡ None → after ≡ None) → cond b (Some y) after ≡ None
+    one_more : {A : Type 0} (b : Bool) (y : A) (before after : Option A) → cond b (Some y) before ≡ None →
+        (before ≡ None → after ≡ None) → cond b (Some y) after ≡ None
     one_more true y before after e h = e
     one_more false y before after e h = h e
 
-    go : {A : Type 0} (test : A → Bool) (xs : List A) (i : ℕ) (x : A) → find test (take i xs) ≡ None → i < length xs → x ≡ get_or xs i x → test x ≡ false → find test (take (suc i) xs) ≡ None
+    go : {A : Type 0} (test : A → Bool) (xs : List A) (i : ℕ) (x : A) → find test (take i xs) ≡ None →
+        i < length xs → x ≡ get_or xs i x → test x ≡ false → find test (take (suc i) xs) ≡ None
     go test [] i x none low is fails = absurd (omega (arith, low))
     go test (y ∷ ys) zero x none low is fails = λ i. cond ((ap test (sym is) ∙ fails) i) (Some y) None
-    go test (y ∷ ys) (suc i) x none low is fails = one_more (test y) y (find test (take i ys)) (find test (take (suc i) ys)) none (λ n. go test ys i x n (omega (arith, low)) is fails)
+    go test (y ∷ ys) (suc i) x none low is fails =
+        one_more (test y) y (find test (take i ys)) (find test (take (suc i) ys)) none
+        (λ n. go test ys i x n (omega (arith, low)) is fails)
 
 -- SHOWN BITS
 
@@ -170,9 +188,13 @@ module _ {C : Type 0} where
   bits_of_known known (q ∷ peers) = ap (λ bits. known q ∷ bits) (bits_of_known known peers)
 
   -- the stored bits of the set at a place are those that peers have
-  pub bits_shown : (known : C → Bool) (window : List (SetWithBits C)) (place : ℕ) (x : SetWithBits C) → window ≡ sets_with_bits known (plain_sets window) → slice_get window place ≡ Some x →
+  pub bits_shown : (known : C → Bool) (window : List (SetWithBits C)) (place : ℕ) (x : SetWithBits C) →
+      window ≡ sets_with_bits known (plain_sets window) → slice_get window place ≡ Some x →
       (set : SetAt C) × (slice_get (plain_sets window) place ≡ Some set) × (x.index ≡ set.index) × (values_of x.primary ≡ map known set.primary)
-  bits_shown known window place x is found = go (slice_get (plain_sets window) place) refl (sym (slice_get-map (set_with_bits known) (plain_sets window) place) ∙ ap (λ w. slice_get w place) (sym is) ∙ found)
+  bits_shown known window place x is found =
+      go (slice_get (plain_sets window) place) refl
+      (sym (slice_get-map (set_with_bits known) (plain_sets window) place) ∙ ap (λ w. slice_get w place) (sym is)
+      ∙ found)
     where
       go : (o : Option (SetAt C)) → slice_get (plain_sets window) place ≡ o → option_map (set_with_bits known) o ≡ Some x →
           (set : SetAt C) × (slice_get (plain_sets window) place ≡ Some set) × (x.index ≡ set.index) × (values_of x.primary ≡ map known set.primary)
@@ -201,6 +223,7 @@ module _ {C : Type 0} where
   pub last_plain : (window : List (SetWithBits C)) → last_or None (plain_sets window) ≡ option_map plain_set (last_or None window)
   last_plain window = go None window
     where
-      go : (o : Option (SetWithBits C)) (window : List (SetWithBits C)) → last_or (option_map plain_set o) (plain_sets window) ≡ option_map plain_set (last_or o window)
+      go : (o : Option (SetWithBits C)) (window : List (SetWithBits C)) →
+          last_or (option_map plain_set o) (plain_sets window) ≡ option_map plain_set (last_or o window)
       go o [] = refl
       go o (x ∷ window) = go (Some x) window

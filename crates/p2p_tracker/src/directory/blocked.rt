@@ -1,13 +1,15 @@
-//! Who is blocked at a moment.
+//! Blocks: who is blocked until when, and who is at a moment.
 
-ghost use Rattle.std.specs.Prelude.{◌≡◌, true, IfOk, OnErr};
+ghost use Rattle.std.specs.Prelude.{◌≡◌, ◌+◌, true, false, IfOk, OnErr};
 ghost use Rattle.std.specs.Duration.{as_nanos};
 ghost use Rattle.std.specs.List.{filter, list_any};
 ghost use Rattle.std.specs.Map.{keys_of};
+ghost use Rattle.std.specs.Option.{option_map};
 ghost use Rattle.p2p_tracker.specs.World.{is_blocked};
 ghost use Rattle.p2p_tracker.specs.Lists.{Lists, Somebody};
 ghost use Rattle.p2p_tracker.specs.Blocks.{in_nanos, is_later, unblock_in};
 
+use crate::directory::Directory;
 use crate::directory::records::counts::ordered;
 use crate::kept::blocks::Blocks;
 use p2p_discovery::codec::PublicKey;
@@ -15,6 +17,99 @@ use p2p_discovery::sets::OrderedSet;
 use std::alloc::{AllocError, Global};
 use std::collections::btree_map;
 use std::time::Duration;
+
+impl<C: PublicKey> Directory<C> {
+    ghost use Rattle.p2p_tracker.specs.Blocks.{IsAnyUntil};
+    ghost use Rattle.p2p_tracker.specs.Directory.{unblock_of, is_blocked_in, may_block};
+    ghost use Rattle.p2p_tracker.specs.Directory.{BlocksUntil, EndsBlocks};
+    ghost use Rattle.p2p_tracker.specs.Directory.{StayBusy, StayReserved};
+    ghost use Rattle.p2p_tracker.specs.Lists.{IsLeastOf};
+    ghost use Rattle.p2p_tracker.specs.Moments.{cap};
+
+    /// Blocks the peer from the moment `now` on, a time since the epoch, for the duration of the
+    /// configuration, whether there is a record of it or not. The sum is capped at the greatest
+    /// `Duration`.
+    ///
+    /// Answers false, takes no memory and changes nothing for the local node, or a peer that is
+    /// blocked at `now`. Else it answers true, and the peer is blocked until then; an earlier block
+    /// that had ended is replaced. A connection of the peer stays.
+    ///
+    /// # Errors
+    ///
+    /// `AllocError` where memory is refused; then nothing has changed.
+    ///
+    /// # Cost
+    ///
+    /// One search among the records, two among the blocks, and one or two among their moments.
+    pub fn block(&mut self, peer: &C, now: Duration) -> Result<bool, AllocError>
+        ensures err { OnErr result (self.new ≡ self.old) }
+        ensures untaken { may_block C.cmp self.old (as_nanos now) peer.now ≡ false →
+            result ≡ Ok false }
+        ensures answer { IfOk result (λ taken.
+            taken ≡ may_block C.cmp self.old (as_nanos now) peer.now) }
+        ensures refused { result ≡ Ok false → self.new ≡ self.old }
+        ensures taken { result ≡ Ok true → BlocksUntil C.cmp self.old self.new peer.now
+            (cap (as_nanos now + self.old.config.block_duration)) }
+        ensures busy { StayBusy C.cmp self.old self.new }
+        ensures reserved { StayReserved C.cmp self.old self.new }
+    {
+        if !self.records.is_blockable(peer) || self.is_blocked(peer, now) {
+            return Ok(false);
+        }
+        let until = now.saturating_add(self.config.block_duration);
+        self.blocks.put(*peer, until)?;
+        Ok(true)
+    }
+
+    /// Ends the blocks that hold until the moment `now`, a time since the epoch, or until an
+    /// earlier one, and answers whether there were any. All else stays. Takes no memory.
+    ///
+    /// # Cost
+    ///
+    /// One step to the first of the moments, and for each block that ends one removal there and one
+    /// among the blocks.
+    pub fn unblock_expired(&mut self, now: Duration) -> bool
+        ensures answer { IsAnyUntil (unblock_of C.cmp self.old) (as_nanos now) result }
+        ensures ended { EndsBlocks C.cmp self.old self.new (as_nanos now) }
+        ensures busy { StayBusy C.cmp self.old self.new }
+        ensures reserved { StayReserved C.cmp self.old self.new }
+    {
+        self.blocks.drop_until(now) > 0
+    }
+
+    /// The least moment until which a block holds, as the time since the epoch, or `None` where
+    /// there is no block. A block that has ended counts until [`Directory::unblock_expired`] ends
+    /// it. Takes no memory.
+    ///
+    /// # Cost
+    ///
+    /// One step to the first of the moments, and one search among the blocks.
+    pub fn next_unblock(&self) -> Option<Duration>
+        ensures { IsLeastOf (unblock_of C.cmp self.now) (option_map as_nanos result) }
+    {
+        match self.blocks.least() {
+            Some((_, moment)) => Some(moment),
+            None => None,
+        }
+    }
+
+    /// The peers that are blocked at the moment `now`, a time since the epoch: those whose block
+    /// holds until later.
+    ///
+    /// # Errors
+    ///
+    /// `AllocError` where memory is refused; that is, where somebody is blocked.
+    ///
+    /// # Cost
+    ///
+    /// One pass over the blocks, and one sort of the peers.
+    pub fn blocked_peers(&self, now: Duration) -> Result<OrderedSet<C>, AllocError>
+        ensures peers { IfOk result (Lists C.cmp (is_blocked_in C.cmp self.now (as_nanos now))) }
+        ensures err { OnErr result (Somebody (is_blocked_in C.cmp self.now (as_nanos now))) }
+    {
+        blocked_at(self.alloc, &self.blocks, now)
+    }
+}
 
 /// The peers whose blocks hold at the moment `now`, a time since the epoch.
 ///

@@ -1,19 +1,111 @@
-//! Infos for one who knows some bits.
+//! What others are told: infos, and which of them are known.
 
-ghost use Rattle.std.specs.Prelude.{◌≡◌, ◌≤◌, ◌<◌, ◌+◌, ◌++◌, length};
-ghost use Rattle.std.specs.Prelude.{option_map, option_to_list, vec_capacity};
-ghost use Rattle.std.specs.Prelude.{IfOk, OnOk, OnErr};
+ghost use Rattle.std.specs.Prelude.{◌≡◌, ◌<◌, ◌+◌, ◌++◌, length, slice_get, None, true};
+ghost use Rattle.std.specs.Prelude.{option_map, option_to_list};
+ghost use Rattle.std.specs.Prelude.{IfOk, IfSome, IsOk, OnOk, OnErr};
 ghost use Rattle.std.specs.Option.{option_copied, IsSomeAnd};
 ghost use Rattle.std.specs.Duration.{as_nanos};
+ghost use Rattle.p2p_discovery.specs.Ingress.{takes_none};
 ghost use Rattle.p2p_tracker.specs.Answers.{epoch_millis};
 ghost use Rattle.p2p_tracker.specs.Directory.{shared_at, shared_of, shared_for};
 
+use crate::directory::Directory;
 use crate::directory::records::Records;
 use p2p_discovery::codec::PublicKey;
-use p2p_discovery::discovery::Info;
+use p2p_discovery::discovery::{BitVec, Info};
 use p2p_discovery::sets::{BitMap, OrderedSet};
 use std::alloc::{AllocError, Global};
 use std::time::Duration;
+
+impl<C: PublicKey> Directory<C> {
+    ghost use Rattle.p2p_tracker.specs.Directory.{sharable_in, infos_in, bit_vec_at};
+
+    /// The info of the peer that others may be told: that of the local node, and that of a peer
+    /// that is connected. Takes memory only for an info whose ingress is a name.
+    ///
+    /// # Errors
+    ///
+    /// `AllocError` where memory is refused.
+    ///
+    /// # Cost
+    ///
+    /// One search among the records.
+    pub fn info(&self, peer: &C) -> Result<Option<Info<C>>, AllocError>
+        ensures info { IfOk result (λ info. info ≡ sharable_in C.cmp self.now peer.now) }
+        ensures none { sharable_in C.cmp self.now peer.now ≡ None → IsOk result }
+        ensures socket { IfSome (sharable_in C.cmp self.now peer.now)
+            (λ info. takes_none info.ingress ≡ true → IsOk result) }
+    {
+        match self.records.get(peer) {
+            Some(found) => found.sharable(),
+            None => Ok(None),
+        }
+    }
+
+    /// The infos for one who knows these bits, asked at the moment `now`, a time since the epoch:
+    /// of the primary peers of the retained set with the index whose bit is false, in their order,
+    /// those infos that others may be told and whose timestamp is not above the whole milliseconds
+    /// of `now`.
+    ///
+    /// Answers an empty list where no retained set has the index, and `None` where the bits are of
+    /// another number than its primary peers. Takes memory only where an info is shared: for the
+    /// list as it grows, and for ingresses that are names.
+    ///
+    /// # Errors
+    ///
+    /// `AllocError` where memory is refused; that is, where an info is shared.
+    ///
+    /// # Cost
+    ///
+    /// One pass over the retained sets, and for each primary peer of that one whose bit is false one
+    /// search among the records.
+    pub fn infos(&self, bit_vec: &BitVec, now: Duration) -> Result<Option<Vec<Info<C>>>, AllocError>
+        ensures infos { IfOk result (λ infos. option_map (λ v. v.items) infos
+            ≡ infos_in C.cmp self.now bit_vec.now.index bit_vec.now.bits (as_nanos now)) }
+        ensures err { OnErr result (IsSomeAnd
+            (infos_in C.cmp self.now bit_vec.now.index bit_vec.now.bits (as_nanos now))
+            (λ infos. 0 < length infos)) }
+    {
+        let alloc = self.alloc;
+        match self.sets.get(bit_vec.index) {
+            Some(set) => {
+                let peers = set.primary().ordered();
+                shared_for(
+                    alloc,
+                    &self.records,
+                    peers,
+                    &bit_vec.bits,
+                    epoch_millis(now),
+                )
+            }
+            None => Ok(Some(Vec::new(alloc))),
+        }
+    }
+
+    /// The bits of the retained set at a place, counted from 0 in order of index, with its index:
+    /// for each primary peer in order whether its info is known, and not wanted. `None` where there
+    /// is no such place.
+    ///
+    /// # Errors
+    ///
+    /// `AllocError` where memory is refused.
+    ///
+    /// # Cost
+    ///
+    /// Proportional to the bytes of the answer.
+    pub fn get_random_bit_vec(&self, place: usize) -> Result<Option<BitVec>, AllocError>
+        ensures bits { IfOk result (λ bits. bits ≡ bit_vec_at C.cmp self.now place) }
+        ensures none { slice_get self.now.sets place ≡ None → IsOk result }
+    {
+        match self.sets.at(place) {
+            Some(set) => Ok(Some(BitVec {
+                index: set.index(),
+                bits: set.primary().knowledge()?,
+            })),
+            None => Ok(None),
+        }
+    }
+}
 
 /// The whole milliseconds of a moment, at most the greatest `u64`.
 pub fn epoch_millis(now: Duration) -> u64
@@ -43,31 +135,12 @@ pub fn shared_for<C: PublicKey>(
     if bits.len() != peers.len() as u64 {
         return Ok(None);
     }
-    let count = count_shared(records, peers, bits, millis);
-    let mut infos = Vec::with_capacity(alloc, count)?;
+    let mut infos = Vec::new(alloc);
     copy_shared(&mut infos, records, peers, bits, millis)?;
     Ok(Some(infos))
 }
 
-// How many infos of these peers are shared.
-fn count_shared<C: PublicKey>(
-    records: &Records<C>,
-    peers: &OrderedSet<C>,
-    bits: &BitMap,
-    millis: u64,
-) -> usize
-    requires { length bits.now ≡ length peers.now }
-    ensures { result ≡ length (shared_of C.cmp records.now millis peers.now bits.now) }
-{
-    let mut count = 0;
-    for place in 0..peers.len() {
-        let known = bits.get(place as u64);
-        count += count_info(shared(records, &peers[place], known, millis));
-    }
-    count
-}
-
-// Appends copies of the infos of these peers that are shared, where there is room for them.
+// Appends copies of the infos of these peers that are shared.
 fn copy_shared<C: PublicKey>(
     infos: &mut Vec<Info<C>>,
     records: &Records<C>,
@@ -75,10 +148,7 @@ fn copy_shared<C: PublicKey>(
     bits: &BitMap,
     millis: u64,
 ) -> Result<(), AllocError>
-    requires bits { length bits.now ≡ length peers.now }
-    requires room { length infos.old.items
-        + length (shared_of C.cmp records.now millis peers.now bits.now)
-        ≤ vec_capacity infos.old }
+    requires { length bits.now ≡ length peers.now }
     ensures infos { OnOk result (infos.new.items
         ≡ infos.old.items ++ shared_of C.cmp records.now millis peers.now bits.now) }
     ensures err { OnErr result
@@ -111,31 +181,17 @@ fn shared<'a, C: PublicKey>(
     }
 }
 
-// One for an info.
-fn count_info<C: PublicKey>(info: Option<&Info<C>>) -> usize
-    ensures count { result ≡ length (option_to_list (option_copied info.entry)) }
-    ensures few { result ≤ 1 }
-{
-    match info {
-        Some(_) => 1,
-        None => 0,
-    }
-}
-
-// Appends a copy of the info, where there is room.
+// Appends a copy of the info.
 fn copy_info<C: PublicKey>(
     infos: &mut Vec<Info<C>>,
     info: Option<&Info<C>>,
 ) -> Result<(), AllocError>
-    requires { length infos.old.items + length (option_to_list (option_copied info))
-        ≤ vec_capacity infos.old }
     ensures infos { OnOk result (infos.new.items
         ≡ infos.old.items ++ option_to_list (option_copied info.entry)) }
-    ensures room { vec_capacity infos.new ≡ vec_capacity infos.old }
     ensures err { OnErr result (0 < length (option_to_list (option_copied info.entry))) }
 {
     if let Some(info) = info {
-        infos.push_reserved(info.clone()?);
+        infos.push(info.clone()?)?;
     }
     Ok(())
 }

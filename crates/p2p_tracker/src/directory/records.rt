@@ -1,13 +1,13 @@
 //! What a directory keeps of each peer, seen at each key.
 
 ghost use Rattle.std.specs.Prelude.{◌≡◌, ◌∷◌, [], false, true, not, IfOk, IfSome, IfNone, Some};
-ghost use Rattle.std.specs.Prelude.{None, IsOk, OnErr};
-ghost use Rattle.std.specs.Prelude.{if◌then◌else◌, length};
+ghost use Rattle.std.specs.Prelude.{None};
+ghost use Rattle.std.specs.Prelude.{length};
 ghost use Rattle.std.specs.Option.{option_map, option_map_or, option_copied};
 ghost use Rattle.std.specs.Map.{keys_of};
 ghost use Rattle.std.specs.List.Sorted.{IsStrictlySortedBy};
 ghost use Rattle.std.specs.Duration.{as_nanos};
-ghost use Rattle.std.specs.BTreeMap.{is_at, get};
+ghost use Rattle.std.specs.BTreeMap.{get};
 ghost use Rattle.p2p_tracker.specs.History.{is_inert, is_reserved};
 ghost use Rattle.p2p_tracker.specs.Record.{may_come, reserved_record, with_cooldown};
 ghost use Rattle.p2p_tracker.specs.Record.{is_myself};
@@ -18,7 +18,7 @@ ghost use Rattle.p2p_tracker.specs.Directory.{released_record, kept_after_releas
 ghost use Rattle.p2p_tracker.specs.Directory.{connected_record, updated_record, ChangesAt};
 
 use crate::directory::{Config, Metadata};
-use crate::kept::{forget, put};
+use crate::kept::{Known, forget, put};
 use crate::record::{DialStatus, Record, ReserveResult};
 use p2p_discovery::codec::PublicKey;
 use p2p_discovery::discovery::Info;
@@ -133,58 +133,77 @@ impl<C: PublicKey> Records<C> {
     }
 
     /// Ends the reservation of its peer, and takes out the record where it is deletable then. Says
-    /// whether the peer's info is known then, and not wanted.
-    pub fn release(&mut self, metadata: &Metadata<C>, limit: usize) -> bool
+    /// whether the peer's info is known, and not wanted.
+    pub fn release(&mut self, metadata: &Metadata<C>, limit: usize) -> Known
         requires { is_busy (record_at C.cmp self.old (key_of metadata.now)) ≡ true }
         ensures change { ChangesAt C.cmp self.old self.new (key_of metadata.now)
             (kept_after_release metadata.now) }
-        ensures known { result ≡
+        ensures before { result.before ≡
+            is_known limit (record_at C.cmp self.old (key_of metadata.now)) }
+        ensures after { result.after ≡
             is_known limit (record_at C.cmp self.new (key_of metadata.now)) }
     {
         let peer = *metadata.public_key();
-        let mut known = false;
+        let mut known = Known {
+            before: false,
+            after: false,
+        };
         if let Some(found) = self.map.get_mut(&peer) {
+            known.before = !found.want(limit);
             release_record(found, metadata);
             if found.deletable() {
                 forget(self.map.remove(&peer));
             } else {
-                known = !found.want(limit);
+                known.after = !found.want(limit);
             }
         }
         known
     }
 
-    /// Connects the peer, as its dialer or not. Says whether its info is known then, and not
-    /// wanted.
-    pub fn connect(&mut self, peer: &C, dialer: bool, limit: usize) -> bool
+    /// Connects the peer, as its dialer or not. Says whether its info is known, and not wanted.
+    pub fn connect(&mut self, peer: &C, dialer: bool, limit: usize) -> Known
         requires { has_status is_reserved (record_at C.cmp self.old peer.now) ≡ true }
         ensures change { ChangesAt C.cmp self.old self.new peer.now
             (option_map (connected_record dialer)) }
-        ensures known { result ≡ is_known limit (record_at C.cmp self.new peer.now) }
+        ensures before { result.before ≡ is_known limit (record_at C.cmp self.old peer.now) }
+        ensures after { result.after ≡ is_known limit (record_at C.cmp self.new peer.now) }
     {
         match self.map.get_mut(peer) {
             Some(found) => {
+                let before = !found.want(limit);
                 connect_record(found, dialer);
-                !found.want(limit)
+                Known {
+                    before,
+                    after: !found.want(limit),
+                }
             }
-            None => false,
+            None => Known {
+                before: false,
+                after: false,
+            },
         }
     }
 
     /// Offers an info to the record of its peer. Where it is taken, says whether the peer's info is
-    /// then not wanted; else nothing has changed.
-    pub fn update(&mut self, info: Info<C>, limit: usize) -> Option<bool>
+    /// known, and not wanted; else nothing has changed.
+    pub fn update(&mut self, info: Info<C>, limit: usize) -> Option<Known>
         ensures change { ChangesAt C.cmp self.old self.new info.public_key
             (option_map (updated_record (info ∷ []))) }
-        ensures known { IfSome result (λ known.
-            known ≡ is_known limit (record_at C.cmp self.new info.public_key)) }
+        ensures before { IfSome result (λ known.
+            known.before ≡ is_known limit (record_at C.cmp self.old info.public_key)) }
+        ensures after { IfSome result (λ known.
+            known.after ≡ is_known limit (record_at C.cmp self.new info.public_key)) }
         ensures none { IfNone result ((q : C) →
             record_at C.cmp self.new q ≡ record_at C.cmp self.old q) }
     {
         let peer = info.public_key;
         if let Some(found) = self.map.get_mut(&peer) {
+            let before = !found.want(limit);
             if found.update(info) {
-                return Some(!found.want(limit));
+                return Some(Known {
+                    before,
+                    after: !found.want(limit),
+                });
             }
         }
         None

@@ -18,11 +18,11 @@ pub fn update_each<C: PublicKey>(
     infos: Vec<Info<C>>,
     limit: usize,
 )
+    requires { AreMarked C.cmp limit sets.old (record_at C.cmp records.old) }
     ensures sets { plain_sets sets.new ≡ plain_sets sets.old }
     ensures records { (q : C) → record_at C.cmp records.new q ≡
         option_map (updated_record (infos_of C.cmp infos.items q)) (record_at C.cmp records.old q) }
-    ensures bits { AreMarked C.cmp limit sets.old (record_at C.cmp records.old) →
-        AreMarked C.cmp limit sets.new (record_at C.cmp records.new) }
+    ensures bits { AreMarked C.cmp limit sets.new (record_at C.cmp records.new) }
 {
     for info in infos {
         update_one(sets, records, info, limit);
@@ -36,14 +36,14 @@ fn update_one<C: PublicKey>(
     info: Info<C>,
     limit: usize,
 )
+    requires { AreMarked C.cmp limit sets.old (record_at C.cmp records.old) }
     ensures sets { plain_sets sets.new ≡ plain_sets sets.old }
     ensures records { ChangesAt C.cmp records.old records.new info.public_key
         (option_map (updated_record (info ∷ []))) }
-    ensures bits { AreMarked C.cmp limit sets.old (record_at C.cmp records.old) →
-        AreMarked C.cmp limit sets.new (record_at C.cmp records.new) }
+    ensures bits { AreMarked C.cmp limit sets.new (record_at C.cmp records.new) }
 {
     let peer = info.public_key;
     if let Some(known) = records.update(info, limit) {
-        sets.refresh(&peer, known);
+        sets.renew(&peer, known);
     }
 }

@@ -23,7 +23,6 @@ use std::time::Duration;
 /// the list of them in ascending order of their keys, with the moments in nanoseconds.
 #[derive(Drop)]
 pub struct Blocks<C: PublicKey> {
-    alloc: Global,
     moments: BTreeMap<C, Duration>,
     ends: BTreeSet<(u128, C)>,
 }
@@ -46,15 +45,9 @@ impl<C: PublicKey> Blocks<C> {
         ensures { result ≡ [] }
     {
         Blocks {
-            alloc,
             moments: BTreeMap::new(alloc),
             ends: BTreeSet::new(alloc),
         }
-    }
-
-    /// The allocator of its blocks.
-    pub fn allocator(&self) -> Global {
-        self.alloc
     }
 
     /// Gives the peer this moment, in place of the one that it may have. Other peers keep theirs.

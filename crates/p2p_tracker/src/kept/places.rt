@@ -1,18 +1,21 @@
-//! The places at which keys stand: for each key a queue of them.
+//! The latest place at which each key stands, and from each place the one before it.
 
-ghost use Rattle.std.specs.Prelude.{◌≡◌, ◌++◌, ◌∷◌, [], true, false, IfNone, IfSome};
-ghost use Rattle.std.specs.Prelude.{OnErr, OnOk, if◌then◌else◌};
+ghost use Rattle.std.specs.Prelude.{◌≡◌, [], false, None, Some, map, length, get_or};
+ghost use Rattle.std.specs.Prelude.{IfOk, OnErr, OnOk, if◌then◌else◌};
 ghost use Rattle.std.specs.BTreeMap.{is_at};
 ghost use Rattle.std.specs.List.Sorted.{IsStrictlySortedBy};
 ghost use Rattle.p2p_tracker.specs.PeerSets.{has_key};
-ghost use Rattle.p2p_tracker.specs.Private.Places.{places_of, places_from, without};
+ghost use Rattle.p2p_tracker.specs.Private.Places.{place_of, places_from, beside};
+ghost use Rattle.p2p_tracker.specs.Private.Places.{first_or, in_place, unless_in};
 
 use crate::kept::forget;
 use p2p_discovery::codec::PublicKey;
 use std::alloc::{AllocError, Global};
-use std::collections::btree_map::Entry;
-use std::collections::{BTreeMap, VecDeque};
+use std::collections::BTreeMap;
 use std::marker::Model;
+
+// A walk past so many places takes about as long as one search.
+const SPARSE: usize = 16;
 
 /// Where a key stands: the index of a set, and the place in its list of primary peers.
 #[derive(Clone, Copy, Drop)]
@@ -21,88 +24,49 @@ pub struct Place {
     pub at: usize,
 }
 
-/// An end of a queue.
-#[derive(Clone, Copy, Drop)]
-pub enum End {
-    Front,
-    Back,
-}
-
-/// The places of one key, in order. There is at least one, so a key with no place has no queue. A
-/// contract sees the list of them.
+/// What stands beside the primary peers of a set: for each the place that was its latest when the
+/// set came, if it had one. A contract sees the list of them.
 #[derive(Drop)]
-pub struct Queue {
-    pub first: Place,
-    pub rest: VecDeque<Place>,
+pub struct Links {
+    older: Vec<Option<Place>>,
 }
 
-impl Model for Queue {
-    ghost use Rattle.std.specs.Prelude.{List, ◌∷◌};
+impl Model for Links {
+    ghost use Rattle.std.specs.Prelude.{List, Option};
     ghost use Rattle.p2p_tracker.specs.declared.kept.places.Place.{Place};
 
-    ghost Value = { List Place };
+    ghost Value = { List (Option Place) };
 
-    ghost view = { λ q. q.first ∷ q.rest.items };
+    ghost view = { λ links. links.older.items };
 }
 
-impl Queue {
-    // The queue of one place. Takes no memory.
-    fn new(alloc: Global, place: Place) -> Queue
-        ensures { result ≡ place ∷ [] }
+impl Links {
+    /// What stands beside the peer at a place, if there is one.
+    pub fn get(&self, at: usize) -> Option<Place>
+        ensures { result ≡ get_or self.now at None }
     {
-        Queue {
-            first: place,
-            rest: VecDeque::new(alloc),
-        }
-    }
-
-    // One more place at the back, or none where memory is refused.
-    fn push(&mut self, place: Place) -> Result<(), AllocError>
-        ensures ok { OnOk result (self.new ≡ self.old ++ place ∷ []) }
-        ensures err { OnErr result (self.new ≡ self.old) }
-    {
-        match self.rest.push_back(place) {
-            Ok(()) => Ok(()),
-            Err(refused) => {
-                forget(refused);
-                Err(AllocError)
-            }
-        }
-    }
-
-    // Takes the place at an end and says true, unless it is the only one.
-    fn pop(&mut self, end: End) -> bool
-        ensures taken { result ≡ true → self.new ≡ without end self.old }
-        ensures only { result ≡ false → without end self.old ≡ [] }
-    {
-        match end {
-            End::Front => match self.rest.pop_front() {
-                Some(next) => {
-                    self.first = next;
-                    true
-                }
-                None => false,
-            },
-            End::Back => self.rest.pop_back().is_some(),
+        match self.older.get(at) {
+            Some(older) => *older,
+            None => None,
         }
     }
 }
 
-/// Keys, each with the queue of its places. A contract sees the list of them in ascending order of
-/// their keys.
+/// Keys, each with its latest place. A contract sees the list of them in ascending order of their
+/// keys.
 #[derive(Drop)]
 pub struct Places<C: PublicKey> {
     alloc: Global,
-    queues: BTreeMap<C, Queue>,
+    latest: BTreeMap<C, Place>,
 }
 
 impl<C: PublicKey> Model for Places<C> {
     ghost use Rattle.std.specs.Prelude.{List};
     ghost use Rattle.p2p_tracker.specs.declared.kept.places.Place.{Place};
 
-    ghost Value = { List (C × List Place) };
+    ghost Value = { List (C × Place) };
 
-    ghost view = { λ p. p.queues.entries };
+    ghost view = { λ p. p.latest.entries };
 }
 
 impl<C: PublicKey> Places<C> {
@@ -112,45 +76,42 @@ impl<C: PublicKey> Places<C> {
     {
         Places {
             alloc,
-            queues: BTreeMap::new(alloc),
+            latest: BTreeMap::new(alloc),
         }
     }
 
-    /// The places of the key, in order; `None` where it has none.
+    /// The latest place of the key.
     ///
     /// # Cost
     ///
     /// One search among the keys.
-    pub fn get(&self, key: &C) -> Option<&Queue>
-        ensures some { IfSome result (λ queue. queue.now ≡ places_of C.cmp self.now key.now) }
-        ensures none { IfNone result (places_of C.cmp self.now key.now ≡ []) }
+    pub fn get(&self, key: &C) -> Option<Place>
+        ensures { result ≡ place_of C.cmp self.now key.now }
     {
-        self.queues.get(key)
+        match self.latest.get(key) {
+            Some(place) => Some(*place),
+            None => None,
+        }
     }
 
-    /// Gives the key one more place, after those that it has.
+    /// Makes this the latest place of the key, and answers the one before.
     ///
     /// # Errors
     ///
-    /// `AllocError` where memory is refused; then each key has the places that it had.
+    /// `AllocError` where memory is refused; then each key has the place that it had.
     ///
     /// # Cost
     ///
-    /// One search among the keys, and one more where the key is new.
-    pub fn add(&mut self, key: C, place: Place) -> Result<(), AllocError>
-        ensures ok { OnOk result ((q : C) → places_of C.cmp self.new q ≡
-            (if is_at (C.cmp key) q then places_of C.cmp self.old q ++ place ∷ []
-            else places_of C.cmp self.old q)) }
+    /// One search among the keys.
+    pub fn add(&mut self, key: C, place: Place) -> Result<Option<Place>, AllocError>
+        ensures ok { OnOk result ((q : C) → place_of C.cmp self.new q ≡
+            (if is_at (C.cmp key) q then Some place else place_of C.cmp self.old q)) }
+        ensures before { IfOk result (λ before. before ≡ place_of C.cmp self.old key) }
         ensures err { OnErr result ((q : C) →
-            places_of C.cmp self.new q ≡ places_of C.cmp self.old q) }
+            place_of C.cmp self.new q ≡ place_of C.cmp self.old q) }
     {
-        match self.queues.entry(key) {
-            // For the proof: it returns here.
-            Ok(Entry::Occupied(entry)) => return entry.into_mut().push(place),
-            Ok(Entry::Vacant(entry)) => {
-                entry.insert(Queue::new(self.alloc, place));
-                Ok(())
-            }
+        match self.latest.insert(key, place) {
+            Ok(before) => Ok(before),
             Err(refused) => {
                 forget(refused);
                 Err(AllocError)
@@ -158,25 +119,51 @@ impl<C: PublicKey> Places<C> {
         }
     }
 
-    /// Takes the place of the key at an end, and the key with its only place. Takes no memory.
+    /// Gives a key that has a place the one before, or takes the key out where there was none.
+    /// Takes no memory.
     ///
     /// # Cost
     ///
-    /// One search among the keys, and one more where the key goes.
-    pub fn remove(&mut self, key: &C, end: End)
-        ensures { (q : C) → places_of C.cmp self.new q ≡
-            (if is_at (C.cmp key.now) q then without end (places_of C.cmp self.old q)
-            else places_of C.cmp self.old q) }
+    /// One search among the keys.
+    pub fn restore(&mut self, key: &C, before: Option<Place>)
+        ensures { (q : C) → place_of C.cmp self.new q ≡
+            (if is_at (C.cmp key.now) q then in_place before (place_of C.cmp self.old q)
+            else place_of C.cmp self.old q) }
     {
-        if let Some(queue) = self.queues.get_mut(key) {
-            if !queue.pop(end) {
-                forget(self.queues.remove(key));
+        match before {
+            Some(place) => {
+                if let Some(found) = self.latest.get_mut(key) {
+                    *found = place;
+                }
             }
+            None => forget(self.latest.remove(key)),
         }
     }
 
-    /// Gives each of the keys one more place, after those that it has: where it stands among them,
-    /// in the set with an index.
+    /// Gives each of the keys that has a place what stands beside it. Takes no memory.
+    ///
+    /// # Conditions
+    ///
+    /// The keys ascend.
+    ///
+    /// # Cost
+    ///
+    /// One search for each of the keys.
+    fn restore_each(&mut self, keys: &[C], older: &[Option<Place>])
+        requires sorted { IsStrictlySortedBy C.cmp keys.now }
+        requires same { length older.now ≡ length keys.now }
+        ensures { (q : C) → place_of C.cmp self.new q ≡
+            (if has_key C.cmp keys.now q
+            then in_place (beside C.cmp keys.now older.now q) (place_of C.cmp self.old q)
+            else place_of C.cmp self.old q) }
+    {
+        for at in 0..keys.len() {
+            self.restore(&keys[at], older[at]);
+        }
+    }
+
+    /// Makes where each of the keys stands among them, in the set with an index, its latest place,
+    /// and answers the ones before.
     ///
     /// # Conditions
     ///
@@ -184,46 +171,87 @@ impl<C: PublicKey> Places<C> {
     ///
     /// # Errors
     ///
-    /// `AllocError` where memory is refused; then each key has the places that it had.
+    /// `AllocError` where memory is refused; then each key has the place that it had.
     ///
     /// # Cost
     ///
-    /// One search for each of the keys, and one more for each that is new; where memory is refused,
-    /// as much again for those that were given their place.
-    pub fn add_each(&mut self, keys: &[C], set: u64) -> Result<(), AllocError>
+    /// One search for each of the keys; where memory is refused, as much again for those that were
+    /// given their place.
+    pub fn add_each(&mut self, keys: &[C], set: u64) -> Result<Links, AllocError>
         requires { IsStrictlySortedBy C.cmp keys.now }
-        ensures ok { OnOk result ((q : C) → places_of C.cmp self.new q ≡
-            places_of C.cmp self.old q ++ places_from C.cmp set 0 keys.now q) }
+        ensures ok { OnOk result ((q : C) → place_of C.cmp self.new q ≡
+            first_or (place_of C.cmp self.old q) (places_from C.cmp set 0 keys.now q)) }
+        ensures links { IfOk result (λ links. links ≡ map (place_of C.cmp self.old) keys.now) }
         ensures err { OnErr result ((q : C) →
-            places_of C.cmp self.new q ≡ places_of C.cmp self.old q) }
+            place_of C.cmp self.new q ≡ place_of C.cmp self.old q) }
     {
+        let mut older = Vec::with_capacity(self.alloc, keys.len())?;
         for (at, key) in keys.iter().enumerate() {
-            if let Err(refused) = self.add(*key, Place { set, at }) {
-                self.remove_each(&keys[..at], End::Back);
-                return Err(refused);
+            match self.add(*key, Place { set, at }) {
+                Ok(before) => older.push_reserved(before),
+                Err(refused) => {
+                    self.restore_each(&keys[..at], older.as_slice());
+                    return Err(refused);
+                }
             }
         }
-        Ok(())
+        Ok(Links { older })
     }
 
-    /// Takes the place of each of the keys at an end, and each key with its only place. Takes no
-    /// memory.
+    // Takes out the keys whose latest place is in the set with an index, by a walk along all.
+    fn sweep(&mut self, set: u64)
+        ensures { (q : C) → place_of C.cmp self.new q ≡
+            unless_in set (place_of C.cmp self.old q) }
+    {
+        self.latest.retain(|_, place| place.set != set);
+    }
+
+    // Takes out the key if its latest place is in the set with an index.
+    fn remove(&mut self, key: &C, set: u64)
+        ensures { (q : C) → place_of C.cmp self.new q ≡
+            (if is_at (C.cmp key.now) q then unless_in set (place_of C.cmp self.old q)
+            else place_of C.cmp self.old q) }
+    {
+        if let Some(place) = self.get(key) {
+            if place.set == set {
+                self.restore(key, None);
+            }
+        }
+    }
+
+    // Takes out those of the keys whose latest place is in the set with an index.
+    fn remove_each(&mut self, keys: &[C], set: u64)
+        requires { IsStrictlySortedBy C.cmp keys.now }
+        ensures { (q : C) → place_of C.cmp self.new q ≡
+            (if has_key C.cmp keys.now q then unless_in set (place_of C.cmp self.old q)
+            else place_of C.cmp self.old q) }
+    {
+        for key in keys {
+            self.remove(key, set);
+        }
+    }
+
+    /// Takes out the keys whose latest place is in the set with an index. Takes no memory.
     ///
     /// # Conditions
     ///
-    /// The keys ascend.
+    /// They are among the keys that are handed in, which ascend.
     ///
     /// # Cost
     ///
-    /// One search for each of the keys, and one more for each that goes.
-    pub fn remove_each(&mut self, keys: &[C], end: End)
-        requires { IsStrictlySortedBy C.cmp keys.now }
-        ensures { (q : C) → places_of C.cmp self.new q ≡
-            (if has_key C.cmp keys.now q then without end (places_of C.cmp self.old q)
-            else places_of C.cmp self.old q) }
+    /// A walk along the places; or where there are more than `SPARSE` for each of the keys, one
+    /// search among them for each of the keys, and one more for each that goes.
+    pub fn remove_set(&mut self, keys: &[C], set: u64)
+        requires sorted { IsStrictlySortedBy C.cmp keys.now }
+        requires others { (q : C) → has_key C.cmp keys.now q ≡ false →
+            unless_in set (place_of C.cmp self.old q) ≡ place_of C.cmp self.old q }
+        ensures { (q : C) → place_of C.cmp self.new q ≡
+            unless_in set (place_of C.cmp self.old q) }
     {
-        for key in keys {
-            self.remove(key, end);
+        if self.latest.len() / SPARSE <= keys.len() {
+            self.sweep(set);
+        } else {
+            self.remove_each(keys, set);
         }
     }
 }

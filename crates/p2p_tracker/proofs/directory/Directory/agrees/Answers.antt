@@ -35,15 +35,20 @@ returns-clause-bits g c = λ place i.
 
 pub returns-clause-counts : goal.returns-clause-counts
 returns-clause-counts g c = λ q. counted g.C.Ord.cmp c.args.self.now.sets q (record_of g.C.Ord.cmp c.args.self.now q)
-    (subst (λ (d : DirectoryView g.row.C.Denot g.row.C-Signature.Denot). AreCounted g.C.Ord.cmp d.sets q (record_of g.C.Ord.cmp d q)) c.self.view_is (c.self.invariant.whole.counts.counts q))
+    (subst (λ (d : DirectoryView g.row.C.Denot g.row.C-Signature.Denot). AreCounted g.C.Ord.cmp d.sets q
+    (record_of g.C.Ord.cmp d q)) c.self.view_is (c.self.invariant.whole.counts.counts q))
 
 pub returns-clause-named : goal.returns-clause-named
 returns-clause-named g c = λ q named. has_record g.C.Ord.cmp c.args.self.now.sets q (record_of g.C.Ord.cmp c.args.self.now q)
-    (subst (λ (d : DirectoryView g.row.C.Denot g.row.C-Signature.Denot). AreCounted g.C.Ord.cmp d.sets q (record_of g.C.Ord.cmp d q)) c.self.view_is (c.self.invariant.whole.counts.counts q)) named
+    (subst (λ (d : DirectoryView g.row.C.Denot g.row.C-Signature.Denot). AreCounted g.C.Ord.cmp d.sets q
+    (record_of g.C.Ord.cmp d q)) c.self.view_is (c.self.invariant.whole.counts.counts q)) named
 
 pub returns-clause-kept : goal.returns-clause-kept
-returns-clause-kept g c = λ q. subst (λ (d : DirectoryView g.row.C.Denot g.row.C-Signature.Denot). IfSome (record_of g.C.Ord.cmp d q) (λ r. is_deletable r ≡ false)) c.self.view_is (c.self.invariant.whole.counts.none_deletable q)
+returns-clause-kept g c =
+    λ q. subst (λ (d : DirectoryView g.row.C.Denot g.row.C-Signature.Denot). IfSome (record_of g.C.Ord.cmp d q)
+    (λ r. is_deletable r ≡ false)) c.self.view_is (c.self.invariant.whole.counts.none_deletable q)
 
 pub returns-clause-cooled : goal.returns-clause-cooled
 returns-clause-cooled g c = λ q. moments_of_record (cooldown_of g.C.Ord.cmp c.args.self.now q) (record_of g.C.Ord.cmp c.args.self.now q)
-    (subst (λ (d : DirectoryView g.row.C.Denot g.row.C-Signature.Denot). HasMoments (cooldown_of g.C.Ord.cmp d q) (record_of g.C.Ord.cmp d q)) c.self.view_is (c.self.invariant.cooled q))
+    (subst (λ (d : DirectoryView g.row.C.Denot g.row.C-Signature.Denot). HasMoments (cooldown_of g.C.Ord.cmp d q)
+    (record_of g.C.Ord.cmp d q)) c.self.view_is (c.self.invariant.cooled q))

@@ -31,4 +31,10 @@ pub returns-clause-err : goal.returns-clause-err
 returns-clause-err g c =
     let cmp = g.C.Ord.cmp in
     let max = non_zero_usize_get c.self.inside.config.max_sets in
-    rw (← c.self.view_is) (on_err c.all.result (λ some. (some.0, named_by_sets cmp max (plain_sets c.self.inside.sets) (record_at cmp c.self.inside.records) c.self.invariant.whole.counts some.0 some.1)) c.all.ensures.err)
+    rw (← c.self.view_is)
+    (on_err c.all.result
+    (λ some. (
+      some.0,
+      named_by_sets cmp max (plain_sets c.self.inside.sets) (record_at cmp c.self.inside.records)
+          c.self.invariant.whole.counts some.0 some.1,
+    )) c.all.ensures.err)

@@ -17,12 +17,36 @@ on_err (Err e) f h = f h
 
 pub returns-clause-dialable : goal.returns-clause-dialable
 returns-clause-dialable g c = rw (← c.self.view_is)
-    (both _ _ _ c.dialable.result (λ answer listed least. are_dialable g.C.Ord.cmp (config_view c.self.inside.config) (plain_sets c.self.inside.sets) c.self.inside.records c.self.inside.blocks c.self.inside.cooldowns c.self.inside.config (as_nanos c.args.now) refl refl _ _ listed least) c.dialable.ensures.peers c.dialable.ensures.next)
+    (both _ _ _ c.dialable.result
+    (λ answer listed least. are_dialable g.C.Ord.cmp (config_view c.self.inside.config)
+    (plain_sets c.self.inside.sets) c.self.inside.records c.self.inside.blocks c.self.inside.cooldowns
+    c.self.inside.config (as_nanos c.args.now) refl refl _ _ listed least) c.dialable.ensures.peers
+    c.dialable.ensures.next)
 
 pub returns-clause-quiet : goal.returns-clause-quiet
 returns-clause-quiet g c = rw (← c.self.view_is)
-    (both _ _ _ c.dialable.result (λ answer listed least u later before. stay_dialable g.C.Ord.cmp (record { config = config_view c.self.inside.config; sets = plain_sets c.self.inside.sets; records = c.self.inside.records; blocks = c.self.inside.blocks; cooldowns = c.self.inside.cooldowns }) (as_nanos c.args.now) u _ _ (are_dialable g.C.Ord.cmp (config_view c.self.inside.config) (plain_sets c.self.inside.sets) c.self.inside.records c.self.inside.blocks c.self.inside.cooldowns c.self.inside.config (as_nanos c.args.now) refl refl _ _ listed least) later before) c.dialable.ensures.peers c.dialable.ensures.next)
+    (both _ _ _ c.dialable.result
+    (λ answer listed least u later before. stay_dialable g.C.Ord.cmp
+    (record {
+      config = config_view c.self.inside.config;
+      sets = plain_sets c.self.inside.sets;
+      records =
+          c.self.inside.records;
+      blocks = c.self.inside.blocks;
+      cooldowns = c.self.inside.cooldowns;
+    })
+    (as_nanos c.args.now) u _ _
+    (are_dialable g.C.Ord.cmp (config_view c.self.inside.config) (plain_sets c.self.inside.sets)
+    c.self.inside.records c.self.inside.blocks c.self.inside.cooldowns c.self.inside.config
+    (as_nanos c.args.now) refl refl _ _ listed least) later before) c.dialable.ensures.peers
+    c.dialable.ensures.next)
 
 pub returns-clause-err : goal.returns-clause-err
 returns-clause-err g c = rw (← c.self.view_is)
-    (on_err c.dialable.result (λ some. (some.0, is_dialable_by g.C.Ord.cmp (config_view c.self.inside.config) (plain_sets c.self.inside.sets) c.self.inside.records c.self.inside.blocks c.self.inside.cooldowns c.self.inside.config (as_nanos c.args.now) refl refl some.0 ∙ some.1)) c.dialable.ensures.err)
+    (on_err c.dialable.result
+    (λ some. (
+      some.0,
+      is_dialable_by g.C.Ord.cmp (config_view c.self.inside.config) (plain_sets c.self.inside.sets)
+          c.self.inside.records c.self.inside.blocks c.self.inside.cooldowns c.self.inside.config
+          (as_nanos c.args.now) refl refl some.0 ∙ some.1,
+    )) c.dialable.ensures.err)

@@ -10,9 +10,19 @@ use Rattle.p2p_tracker.proofs.directory.Directory.get_random_bit_vec.Goals as go
 pub returns-in_ok-knowledge-in-Some-clause-bits : goal.returns-in_ok-knowledge-in-Some-clause-bits
 returns-in_ok-knowledge-in-Some-clause-bits g c =
     let cmp = g.C.Ord.cmp in
-    let d : DirectoryView g.row.C.Denot g.row.C-Signature.Denot = record { config = config_view c.self.inside.config; sets = plain_sets c.self.inside.sets; records = c.self.inside.records; blocks = c.self.inside.blocks; cooldowns = c.self.inside.cooldowns } in
+    let d : DirectoryView g.row.C.Denot g.row.C-Signature.Denot =
+    record {
+      config = config_view c.self.inside.config;
+      sets = plain_sets c.self.inside.sets;
+      records =
+          c.self.inside.records;
+      blocks = c.self.inside.blocks;
+      cooldowns = c.self.inside.cooldowns;
+    } in
     let x = c.in-Some.set.now in
-    let found = bits_shown (λ q. is_known c.self.inside.config.dial_fail_limit (record_at cmp c.self.inside.records q)) c.self.inside.sets c.args.place x c.self.invariant.whole.bits (sym c.in-Some.ensures) in
+    let found = bits_shown
+    (λ q. is_known c.self.inside.config.dial_fail_limit (record_at cmp c.self.inside.records q))
+    c.self.inside.sets c.args.place x c.self.invariant.whole.bits (sym c.in-Some.ensures) in
     (λ i. Some (record {
       index = (c.index.ensures ∙ found.2) i;
       bits = (c.in_ok-knowledge-in-Some.ensures ∙ ap values_of c.primary.ensures.bits ∙ found.3) i;
@@ -23,6 +33,15 @@ returns-in_ok-knowledge-in-Some-clause-bits g c =
 pub returns-in-None-clause-bits : goal.returns-in-None-clause-bits
 returns-in-None-clause-bits g c =
     let cmp = g.C.Ord.cmp in
-    let d : DirectoryView g.row.C.Denot g.row.C-Signature.Denot = record { config = config_view c.self.inside.config; sets = plain_sets c.self.inside.sets; records = c.self.inside.records; blocks = c.self.inside.blocks; cooldowns = c.self.inside.cooldowns } in
-    sym (ap (option_map (λ (set : SetAt g.row.C.Denot). record { index = set.index; bits = known_bits cmp d set })) (none_shown c.self.inside.sets c.args.place (sym c.in-None.ensures)))
+    let d : DirectoryView g.row.C.Denot g.row.C-Signature.Denot =
+    record {
+      config = config_view c.self.inside.config;
+      sets = plain_sets c.self.inside.sets;
+      records =
+          c.self.inside.records;
+      blocks = c.self.inside.blocks;
+      cooldowns = c.self.inside.cooldowns;
+    } in
+    sym (ap (option_map (λ (set : SetAt g.row.C.Denot). record { index = set.index; bits = known_bits cmp d set }))
+    (none_shown c.self.inside.sets c.args.place (sym c.in-None.ensures)))
     ∙ ap (λ d. bit_vec_at cmp d c.args.place) c.self.view_is

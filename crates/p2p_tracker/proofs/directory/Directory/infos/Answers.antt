@@ -13,7 +13,15 @@ pub returns-in-Some-clause-infos : goal.returns-in-Some-clause-infos
 returns-in-Some-clause-infos g c =
     let cmp = g.C.Ord.cmp in
     let v = c.args.bit_vec.now in
-    let d : DirectoryView g.row.C.Denot g.row.C-Signature.Denot = record { config = config_view c.self.inside.config; sets = plain_sets c.self.inside.sets; records = c.self.inside.records; blocks = c.self.inside.blocks; cooldowns = c.self.inside.cooldowns } in
+    let d : DirectoryView g.row.C.Denot g.row.C-Signature.Denot =
+    record {
+      config = config_view c.self.inside.config;
+      sets = plain_sets c.self.inside.sets;
+      records =
+          c.self.inside.records;
+      blocks = c.self.inside.blocks;
+      cooldowns = c.self.inside.cooldowns;
+    } in
     let found = infos_found cmp d c.self.inside.sets v.index v.bits (as_nanos c.args.now) c.in-Some.set.now refl (sym c.in-Some.ensures) in
     let peers = c.ordered-peers.ensures ∙ ap (λ es. keys_of es) c.primary.ensures.bits in
     let told =
@@ -26,7 +34,15 @@ pub returns-in-Some-clause-err : goal.returns-in-Some-clause-err
 returns-in-Some-clause-err g c =
     let cmp = g.C.Ord.cmp in
     let v = c.args.bit_vec.now in
-    let d : DirectoryView g.row.C.Denot g.row.C-Signature.Denot = record { config = config_view c.self.inside.config; sets = plain_sets c.self.inside.sets; records = c.self.inside.records; blocks = c.self.inside.blocks; cooldowns = c.self.inside.cooldowns } in
+    let d : DirectoryView g.row.C.Denot g.row.C-Signature.Denot =
+    record {
+      config = config_view c.self.inside.config;
+      sets = plain_sets c.self.inside.sets;
+      records =
+          c.self.inside.records;
+      blocks = c.self.inside.blocks;
+      cooldowns = c.self.inside.cooldowns;
+    } in
     let found = infos_found cmp d c.self.inside.sets v.index v.bits (as_nanos c.args.now) c.in-Some.set.now refl (sym c.in-Some.ensures) in
     let peers = c.ordered-peers.ensures ∙ ap (λ es. keys_of es) c.primary.ensures.bits in
     let told =
@@ -39,6 +55,14 @@ pub returns-in-None-clause-infos : goal.returns-in-None-clause-infos
 returns-in-None-clause-infos g c =
     let cmp = g.C.Ord.cmp in
     let v = c.args.bit_vec.now in
-    let d : DirectoryView g.row.C.Denot g.row.C-Signature.Denot = record { config = config_view c.self.inside.config; sets = plain_sets c.self.inside.sets; records = c.self.inside.records; blocks = c.self.inside.blocks; cooldowns = c.self.inside.cooldowns } in
+    let d : DirectoryView g.row.C.Denot g.row.C-Signature.Denot =
+    record {
+      config = config_view c.self.inside.config;
+      sets = plain_sets c.self.inside.sets;
+      records =
+          c.self.inside.records;
+      blocks = c.self.inside.blocks;
+      cooldowns = c.self.inside.cooldowns;
+    } in
     let is = infos_not_found cmp d c.self.inside.sets v.index v.bits (as_nanos c.args.now) refl (sym c.in-None.ensures) in
     ap Some c.new.ensures.items ∙ sym is ∙ ap (λ d. infos_in cmp d v.index v.bits (as_nanos c.args.now)) c.self.view_is

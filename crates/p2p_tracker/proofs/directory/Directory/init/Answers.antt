@@ -19,7 +19,8 @@ invariant_of-result g c =
         own = first_own g.C.Ord.cmp c.args.bootstrappers.items c.args.myself records c.in_ok-records.ensures;
         bits = refl;
       };
-      cooled = λ q. c.in_ok-records.ensures q ∙ first_cooled cmp c.args.bootstrappers.items c.args.myself q ∙ (λ i. option_map (with_cooldown (none q i)) (sym (c.in_ok-records.ensures q) i));
+      cooled = λ q. c.in_ok-records.ensures q ∙ first_cooled cmp c.args.bootstrappers.items c.args.myself q
+          ∙ (λ i. option_map (with_cooldown (none q i)) (sym (c.in_ok-records.ensures q) i));
     })
   where
     none : (q : g.row.C.Denot) → None ≡ cooldown_in g.C.Ord.cmp c.new-3.result q

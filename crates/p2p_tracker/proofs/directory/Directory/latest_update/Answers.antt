@@ -14,7 +14,10 @@ on_err (Err e) h = h
 
 pub returns-in_err-peers_in-in-Some-clause-err : goal.returns-in_err-peers_in-in-Some-clause-err
 returns-in_err-peers_in-in-Some-clause-err g c = rw (← c.self.view_is)
-    (on_err c.from_residual.result (named_in_last g.met.C.Ord.total (plain_sets c.self.inside.sets) (plain_set c.in-Some.set.now) (last_plain c.self.inside.sets ∙ sym (ap (option_map plain_set) c.in-Some.ensures)) c.in_err-peers_in-in-Some.ensures.err))
+    (on_err c.from_residual.result
+    (named_in_last g.met.C.Ord.total (plain_sets c.self.inside.sets) (plain_set c.in-Some.set.now)
+    (last_plain c.self.inside.sets ∙ sym (ap (option_map plain_set) c.in-Some.ensures))
+    c.in_err-peers_in-in-Some.ensures.err))
 
 pub returns-in_ok-all-in-Some-clause-update : goal.returns-in_ok-all-in-Some-clause-update
 returns-in_ok-all-in-Some-clause-update g c = (

@@ -12,6 +12,9 @@ use Rattle.p2p_tracker.proofs.SetsAndRecords.Cooled.{cooled_each, update_keeps}
 use Rattle.p2p_tracker.proofs.SetsAndRecords.Changes.{IsKept, changed_with_bits, each_sound, kept_updated}
 use Rattle.p2p_tracker.proofs.directory.Directory.update_peers.Goals as goal
 
+pub update_each-requires : goal.update_each-requires
+update_each-requires g c = c.self.invariant.whole.bits
+
 pub invariant_of-self : goal.invariant_of-self
 invariant_of-self g c =
     let cmp = g.C.Ord.cmp in
@@ -22,14 +25,27 @@ invariant_of-self g c =
     let new = record_at cmp c.update_each.new.records in
     record {
       whole = changed_with_bits cmp max limit window c.update_each.new.sets old new c.self.invariant.whole
-          (λ q. subst (IsKept (old q)) (sym (c.update_each.ensures.records q)) (kept_updated (infos_of cmp c.args.infos.items q) (old q) (each_sound cmp max limit window old c.self.invariant.whole q)))
-          c.update_each.ensures.sets (c.update_each.ensures.bits c.self.invariant.whole.bits);
-      cooled = cooled_each cmp old new (cooldown_in cmp c.self.inside.cooldowns) (λ q. option_map (updated_record (infos_of cmp c.args.infos.items q))) c.self.invariant.cooled c.update_each.ensures.records (λ q. update_keeps (infos_of cmp c.args.infos.items q) (cooldown_in cmp c.self.inside.cooldowns q));
+          (λ q. subst (IsKept (old q)) (sym (c.update_each.ensures.records q))
+          (kept_updated (infos_of cmp c.args.infos.items q) (old q)
+          (each_sound cmp max limit window old c.self.invariant.whole q)))
+          c.update_each.ensures.sets c.update_each.ensures.bits;
+      cooled = cooled_each cmp old new (cooldown_in cmp c.self.inside.cooldowns)
+          (λ q. option_map (updated_record (infos_of cmp c.args.infos.items q))) c.self.invariant.cooled
+          c.update_each.ensures.records
+          (λ q. update_keeps (infos_of cmp c.args.infos.items q) (cooldown_in cmp c.self.inside.cooldowns q));
     }
 
 pub returns-clause-updated : goal.returns-clause-updated
 returns-clause-updated g c =
-    let new : DirectoryView g.row.C.Denot g.row.C-Signature.Denot = record { config = config_view c.self.inside.config; sets = plain_sets c.update_each.new.sets; records = c.update_each.new.records; blocks = c.self.inside.blocks; cooldowns = c.self.inside.cooldowns } in
+    let new : DirectoryView g.row.C.Denot g.row.C-Signature.Denot =
+    record {
+      config = config_view c.self.inside.config;
+      sets = plain_sets c.update_each.new.sets;
+      records =
+          c.update_each.new.records;
+      blocks = c.self.inside.blocks;
+      cooldowns = c.self.inside.cooldowns;
+    } in
     subst (λ d. Updates g.C.Ord.cmp d new c.args.infos.items) c.self.view_is (record {
       config = refl;
       sets = c.update_each.ensures.sets;
@@ -39,7 +55,8 @@ returns-clause-updated g c =
     })
 
 -- infos leave each status
-same_status : {C S : Type 0} (test : Status → Bool) (infos : List (Info C S)) (o : Option (RecordView C S)) → has_status test (option_map (updated_record infos) o) ≡ has_status test o
+same_status : {C S : Type 0} (test : Status → Bool) (infos : List (Info C S)) (o : Option (RecordView C S)) →
+    has_status test (option_map (updated_record infos) o) ≡ has_status test o
 same_status test infos None = refl
 same_status test infos (Some r) = refl
 
@@ -47,7 +64,8 @@ pub returns-clause-busy : goal.returns-clause-busy
 returns-clause-busy g c = λ q before.
     let cmp = g.C.Ord.cmp in
     let updated = returns-clause-updated g c in
-    ap is_busy (updated.records q) ∙ same_status (λ status. not (is_inert status)) (infos_of cmp c.args.infos.items q) (record_of cmp c.args.self.now q) ∙ before
+    ap is_busy (updated.records q) ∙ same_status (λ status. not (is_inert status))
+    (infos_of cmp c.args.infos.items q) (record_of cmp c.args.self.now q) ∙ before
 
 pub returns-clause-reserved : goal.returns-clause-reserved
 returns-clause-reserved g c = λ q before.

@@ -18,7 +18,8 @@ pub returns-in_err-peers-clause-err : goal.returns-in_err-peers-clause-err
 returns-in_err-peers-clause-err g c =
     let now = as_nanos c.args.now in
     on_err c.from_residual.result
-    (somebody_blocked g.met.C.Ord.total g.met.C.PublicKey.exact c.args.blocks.now now c.iter.ensures.sorted (sym (ap (list_any (is_later now)) c.iter.ensures.all) ∙ c.in_err-peers.ensures.err))
+    (somebody_blocked g.met.C.Ord.total g.met.C.PublicKey.exact c.args.blocks.now now c.iter.ensures.sorted
+    (sym (ap (list_any (is_later now)) c.iter.ensures.all) ∙ c.in_err-peers.ensures.err))
 
 pub ordered-requires : goal.ordered-requires
 ordered-requires g c =

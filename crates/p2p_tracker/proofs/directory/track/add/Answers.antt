@@ -14,7 +14,9 @@ returns-in-Err-clause-records g c = λ back.
     let cmp = g.C.Ord.cmp in
     let known : g.row.C.Denot → Bool = λ q. is_known c.args.limit (record_at cmp c.args.records.now q) in
     let set : SetAt g.row.C.Denot = plain_set c.args.set in
-    let plain : plain_set c.in-Err.refused ≡ set = ap (λ (s : SetWithBits g.row.C.Denot). plain_set s) (c.in-Err.ensures.back ∙ c.in_ok-join.ensures.bits) ∙ plain_again known set in
+    let plain : plain_set c.in-Err.refused ≡ set =
+    ap (λ (s : SetWithBits g.row.C.Denot). plain_set s) (c.in-Err.ensures.back ∙ c.in_ok-join.ensures.bits)
+    ∙ plain_again known set in
     same_held g.met.C.Ord.total g.met.C.PublicKey.exact c.undo.new.self c.args.records.now c.undo.ensures.map c.join.ensures.map (λ q.
     c.undo.ensures.records q
     ∙ (λ i. record_leaving cmp (plain i) q (c.in_ok-join.ensures.ok q i))

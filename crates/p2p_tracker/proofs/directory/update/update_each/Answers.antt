@@ -13,8 +13,11 @@ loop-info-init g c = record {
   rest = c.into_iter-info-iterator.ensures.into_iter_gives.0;
   sets = refl;
   records = λ q. updated_none (record_at g.C.Ord.cmp c.args.records.now q);
-  bits = λ was. was;
+  bits = c.requires;
 }
+
+pub update_one-requires : goal.update_one-requires
+update_one-requires g c = c.loop-info.invariant.bits
 
 pub loop-info-preserved : goal.loop-info-preserved
 loop-info-preserved g c =
@@ -26,9 +29,13 @@ loop-info-preserved g c =
       rest = item_moved before c.loop-info.info-iterator.rest.items c.next.new.self.rest.items c.args.infos.items info kept.rest c.in-Some.ensures.steps.0;
       sets = c.update_one.ensures.sets ∙ kept.sets;
       records = λ q.
-          updated_more (is_at (cmp info.public_key) q) (infos_of cmp before q) info (record_at cmp c.args.records.now q) (record_at cmp c.loop-info.records q) (record_at cmp c.update_one.new.records q) (kept.records q) (c.update_one.ensures.records q)
-          ∙ ap (λ is. option_map (updated_record is) (record_at cmp c.args.records.now q)) (sym (filter-append (λ (i : Info g.row.C.Denot g.row.C-Signature.Denot). is_at (cmp i.public_key) q) before (info ∷ [])));
-      bits = λ was. c.update_one.ensures.bits (kept.bits was);
+          updated_more (is_at (cmp info.public_key) q) (infos_of cmp before q) info
+          (record_at cmp c.args.records.now q) (record_at cmp c.loop-info.records q)
+          (record_at cmp c.update_one.new.records q) (kept.records q) (c.update_one.ensures.records q)
+          ∙ ap (λ is. option_map (updated_record is) (record_at cmp c.args.records.now q))
+          (sym (filter-append (λ (i : Info g.row.C.Denot g.row.C-Signature.Denot). is_at (cmp i.public_key) q)
+          before (info ∷ [])));
+      bits = c.update_one.ensures.bits;
     }
 
 pub returns-clause-records : goal.returns-clause-records

@@ -12,6 +12,5 @@ invariant-loop-info g l = record {
   sets : plain_sets l.sets ≡ plain_sets l.fn.sets;
   records : (q : g.row.C.Denot) → record_at g.C.Ord.cmp l.records q ≡
       option_map (updated_record (infos_of g.C.Ord.cmp l.yielded q)) (record_at g.C.Ord.cmp l.fn.records q);
-  bits : AreMarked g.C.Ord.cmp l.fn.limit l.fn.sets (record_at g.C.Ord.cmp l.fn.records) →
-      AreMarked g.C.Ord.cmp l.fn.limit l.sets (record_at g.C.Ord.cmp l.records);
+  bits : AreMarked g.C.Ord.cmp l.fn.limit l.sets (record_at g.C.Ord.cmp l.records);
 }

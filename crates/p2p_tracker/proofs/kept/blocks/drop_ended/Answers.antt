@@ -5,7 +5,9 @@ use Rattle.std.specs.List.{count_by}
 use Rattle.std.specs.Map.{remove_entry}
 use Rattle.p2p_tracker.specs.Blocks.{in_nanos, is_later}
 use Rattle.p2p_tracker.proofs.SetsAndRecords.Blocks.{sorted-in_nanos}
-use Rattle.p2p_tracker.proofs.SetsAndRecords.Ends.{end_is, end_of, ends_taken, unblock_gone, removed-in_nanos, left_removed, count_removed, count_step, count_last, all_left, none_left}
+use Rattle.p2p_tracker.proofs.SetsAndRecords.Ends.{end_is, end_of, ends_taken, unblock_gone}
+use Rattle.p2p_tracker.proofs.SetsAndRecords.Ends.{removed-in_nanos, left_removed, count_removed}
+use Rattle.p2p_tracker.proofs.SetsAndRecords.Ends.{count_step, count_last, all_left, none_left}
 use Rattle.p2p_tracker.proofs.kept.blocks.drop_ended.Goals as goal
 
 pub loop-end-preserved : goal.loop-end-preserved

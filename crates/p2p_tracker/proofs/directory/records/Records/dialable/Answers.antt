@@ -19,17 +19,23 @@ on_err (Err e) f h = f h
 pub returns-clause-peers : goal.returns-clause-peers
 returns-clause-peers g c = rw (← c.self.view_is)
     (if_ok _ _ c.dialable_in.result (λ answer is. subst (Lists g.C.Ord.cmp _) (sym is)
-    (listed g.met.C.Ord.total g.met.C.PublicKey.exact (λ e. is_now (entry_state g.C.Ord.cmp c.args.blocks.now c.args.cfg.now (as_nanos c.args.now) e)) c.self.inside.map.entries c.len-count.ensures.ordered))
+    (listed g.met.C.Ord.total g.met.C.PublicKey.exact
+    (λ e. is_now (entry_state g.C.Ord.cmp c.args.blocks.now c.args.cfg.now (as_nanos c.args.now) e))
+    c.self.inside.map.entries c.len-count.ensures.ordered))
     c.dialable_in.ensures.peers)
 
 pub returns-clause-next : goal.returns-clause-next
 returns-clause-next g c = rw (← c.self.view_is)
     (if_ok _ _ c.dialable_in.result (λ answer is. subst (IsLeastOf _) (sym is)
-    (least_of_entries g.met.C.Ord.total g.met.C.PublicKey.exact (λ e. later_moment (entry_state g.C.Ord.cmp c.args.blocks.now c.args.cfg.now (as_nanos c.args.now) e)) c.self.inside.map.entries c.len-count.ensures.ordered))
+    (least_of_entries g.met.C.Ord.total g.met.C.PublicKey.exact
+    (λ e. later_moment (entry_state g.C.Ord.cmp c.args.blocks.now c.args.cfg.now (as_nanos c.args.now) e))
+    c.self.inside.map.entries c.len-count.ensures.ordered))
     c.dialable_in.ensures.next)
 
 pub returns-clause-err : goal.returns-clause-err
 returns-clause-err g c = rw (← c.self.view_is)
     (on_err c.dialable_in.result
-    (somebody_passes g.met.C.Ord.total g.met.C.PublicKey.exact (λ e. is_now (entry_state g.C.Ord.cmp c.args.blocks.now c.args.cfg.now (as_nanos c.args.now) e)) c.self.inside.map.entries c.len-count.ensures.ordered)
+    (somebody_passes g.met.C.Ord.total g.met.C.PublicKey.exact
+    (λ e. is_now (entry_state g.C.Ord.cmp c.args.blocks.now c.args.cfg.now (as_nanos c.args.now) e))
+    c.self.inside.map.entries c.len-count.ensures.ordered)
     c.dialable_in.ensures.err)

@@ -15,7 +15,9 @@ invariant-loop-place g l =
     let was : SetWithBits g.row.C.Denot = l.initial.set in
     record {
       records : (q : g.row.C.Denot) → record_at cmp l.self q ≡
-          cond (has_key cmp (take l.place (keys_of was.primary)) q) (one_set_more Primary (cooldown_in cmp l.cooldowns q) (record_at cmp l.initial.self q)) (record_at cmp l.initial.self q);
+          cond (has_key cmp (take l.place (keys_of was.primary)) q)
+          (one_set_more Primary (cooldown_in cmp l.cooldowns q) (record_at cmp l.initial.self q))
+          (record_at cmp l.initial.self q);
       set : l.set ≡ record was {
         primary = map (λ q. (q, is_known l.limit (record_at cmp l.initial.self q))) (take l.place (keys_of was.primary)) ++ drop l.place was.primary;
       };

@@ -24,7 +24,9 @@ fails true b e = e
 fails false b e = refl
 
 -- the list is made of those of both roles
-both : {A : Type 0} (test later : A → Bool) (ps ss ps2 ss2 before mid new : List A) → before ≡ [] → ps2 ≡ ps → ss2 ≡ ss → mid ≡ before ++ filter test ps2 → new ≡ mid ++ filter later ss2 → new ≡ filter test ps ++ filter later ss
+both : {A : Type 0} (test later : A → Bool) (ps ss ps2 ss2 before mid new : List A) → before ≡ [] → ps2 ≡ ps →
+    ss2 ≡ ss → mid ≡ before ++ filter test ps2 → new ≡ mid ++ filter later ss2 →
+    new ≡ filter test ps ++ filter later ss
 both test later ps ss ps2 ss2 before mid new empty is_p is_s one two =
     two ∙ (λ i. one i ++ filter later (is_s i)) ∙ (λ i. (empty i ++ filter test (is_p i)) ++ filter later ss)
 
@@ -38,12 +40,22 @@ ordered-requires-2 g c =
     let is_s : c.as_slice-2.result.now ≡ ss = c.as_slice-2.ensures.all ∙ c.secondary.ensures in
     let test : g.row.C.Denot → Bool = λ q. option_map_or (is_torn_down_without Primary) (record_at cmp c.args.self.now q) false in
     let later : g.row.C.Denot → Bool = λ q. option_map_or (is_torn_down_without Secondary) (record_at cmp c.leave_each.new.self q) false in
-    let items = both test later ps ss c.as_slice.result.now c.as_slice-2.result.now c.args.torn.items c.leave_each.new.torn.items c.leave_each-2.new.torn.items c.requires.empty is_p is_s c.leave_each.ensures.torn c.leave_each-2.ensures.torn in
+    let items = both test later ps ss c.as_slice.result.now c.as_slice-2.result.now c.args.torn.items
+    c.leave_each.new.torn.items c.leave_each-2.new.torn.items c.requires.empty is_p is_s
+    c.leave_each.ensures.torn c.leave_each-2.ensures.torn in
     subst (IsDistinct (eq_by_cmp cmp)) (sym items)
     (distinct_both g.met.C.Ord.total (filter test ps) (filter later ss)
-    (IsDistinct-from_sorted cmp _ (IsStrictlySortedBy-filter cmp test ps (subst (IsStrictlySortedBy cmp) is_p (subst (IsStrictlySortedBy cmp) (sym c.as_slice.ensures.all) c.as_slice.ensures.sorted))))
-    (IsDistinct-from_sorted cmp _ (IsStrictlySortedBy-filter cmp later ss (subst (IsStrictlySortedBy cmp) is_s (subst (IsStrictlySortedBy cmp) (sym c.as_slice-2.ensures.all) c.as_slice-2.ensures.sorted))))
-    (λ q h. names-filter exact later ss q ∙ fails (later q) (has_key cmp ss q) (c.primary.ensures.disjoint q (passes (test q) (has_key cmp ps q) (sym (names-filter exact test ps q) ∙ h)))))
+    (IsDistinct-from_sorted cmp _
+    (IsStrictlySortedBy-filter cmp test ps
+    (subst (IsStrictlySortedBy cmp) is_p
+    (subst (IsStrictlySortedBy cmp) (sym c.as_slice.ensures.all) c.as_slice.ensures.sorted))))
+    (IsDistinct-from_sorted cmp _
+    (IsStrictlySortedBy-filter cmp later ss
+    (subst (IsStrictlySortedBy cmp) is_s
+    (subst (IsStrictlySortedBy cmp) (sym c.as_slice-2.ensures.all) c.as_slice-2.ensures.sorted))))
+    (λ q h. names-filter exact later ss q ∙ fails (later q) (has_key cmp ss q)
+    (c.primary.ensures.disjoint q
+    (passes (test q) (has_key cmp ps q) (sym (names-filter exact test ps q) ∙ h)))))
 
 and_true : (x : Bool) → (x && true) ≡ x
 and_true true = refl
@@ -71,7 +83,9 @@ returns-clause-members g c = λ q.
     let is_s : c.as_slice-2.result.now ≡ ss = c.as_slice-2.ensures.all ∙ c.secondary.ensures in
     let test : g.row.C.Denot → Bool = λ p. option_map_or (is_torn_down_without Primary) (record_at cmp c.args.self.now p) false in
     let later : g.row.C.Denot → Bool = λ p. option_map_or (is_torn_down_without Secondary) (record_at cmp c.leave_each.new.self p) false in
-    let items = both test later ps ss c.as_slice.result.now c.as_slice-2.result.now c.args.torn.items c.leave_each.new.torn.items c.leave_each-2.new.torn.items c.requires.empty is_p is_s c.leave_each.ensures.torn c.leave_each-2.ensures.torn in
+    let items = both test later ps ss c.as_slice.result.now c.as_slice-2.result.now c.args.torn.items
+    c.leave_each.new.torn.items c.leave_each-2.new.torn.items c.requires.empty is_p is_s
+    c.leave_each.ensures.torn c.leave_each-2.ensures.torn in
     let old = record_at cmp c.args.self.now q in
     let same : has_key cmp ss q ≡ true → record_at cmp c.leave_each.new.self q ≡ old =
     λ h. c.leave_each.ensures.records q ∙ ap (λ b. cond b (one_set_less Primary old) old)
@@ -80,4 +94,5 @@ returns-clause-members g c = λ q.
     ∙ ap (λ ks. has_key cmp ks q) items
     ∙ list_any-append (λ k. is_at (cmp k) q) (filter test ps) (filter later ss)
     ∙ (λ i. names-filter exact test ps q i || names-filter exact later ss q i)
-    ∙ by_role (test q) (later q) (option_map_or (is_torn_down_without Secondary) old false) (has_key cmp ps q) (has_key cmp ss q) (λ h. ap (λ o. option_map_or (is_torn_down_without Secondary) o false) (same h))
+    ∙ by_role (test q) (later q) (option_map_or (is_torn_down_without Secondary) old false) (has_key cmp ps q)
+    (has_key cmp ss q) (λ h. ap (λ o. option_map_or (is_torn_down_without Secondary) o false) (same h))

@@ -34,10 +34,13 @@ loop-peer-preserved g c =
     record {
       records = λ q.
           one_changed g.met.C.Ord.total g.met.C.PublicKey.exact keys i x c.loop-peer-test.true c.peer-item.is c.requires.sorted
-          (one_set_less c.args.role) q (record_at cmp c.leave_one-ends.new.self q) (record_at cmp c.loop-peer.self q) (record_at cmp c.args.self.now q) (c.leave_one-ends.ensures.records q) (c.loop-peer.invariant.records q);
+          (one_set_less c.args.role) q (record_at cmp c.leave_one-ends.new.self q)
+          (record_at cmp c.loop-peer.self q) (record_at cmp c.args.self.now q)
+          (c.leave_one-ends.ensures.records q) (c.loop-peer.invariant.records q);
       torn =
           added test c.leave_one-ends.result x keys c.args.torn.now.items c.loop-peer.torn.items c.push_if.new.list.items i c.loop-peer-test.true c.peer-item.is
-          (c.leave_one-ends.ensures.torn ∙ ap (λ o. option_map_or (is_torn_down_without c.args.role) o false) before) c.loop-peer.invariant.torn c.push_if.ensures.items;
+          (c.leave_one-ends.ensures.torn ∙ ap (λ o. option_map_or (is_torn_down_without c.args.role) o false)
+          before) c.loop-peer.invariant.torn c.push_if.ensures.items;
       capacity = c.push_if.ensures.capacity ∙ c.loop-peer.invariant.capacity;
       length = omega (arith, c.push_if.ensures.length, c.loop-peer.invariant.length);
     }

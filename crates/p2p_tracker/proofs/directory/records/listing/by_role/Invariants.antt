@@ -8,6 +8,7 @@ use Rattle.p2p_tracker.proofs.directory.records.listing.by_role.Given as goal
 abbrev pub invariant-loop-peer : goal.invariant-loop-peer
 invariant-loop-peer g l = record {
   primary : l.primary.items ++ keys_of (filter (λ e. is_primary_record e.1) l.peer-iterator) ≡ keys_of (filter (λ e. is_primary_record e.1) l.map.entries);
-  secondary : l.secondary.items ++ keys_of (filter (λ e. is_secondary_record e.1) l.peer-iterator) ≡ keys_of (filter (λ e. is_secondary_record e.1) l.map.entries);
+  secondary : l.secondary.items ++ keys_of (filter (λ e. is_secondary_record e.1) l.peer-iterator)
+      ≡ keys_of (filter (λ e. is_secondary_record e.1) l.map.entries);
   left : list_any (λ e. is_record_in_set e.1) l.peer-iterator ≡ true → list_any (λ e. is_record_in_set e.1) l.map.entries ≡ true;
 }

@@ -12,7 +12,8 @@ abbrev pub invariant-loop-peer : goal.invariant-loop-peer
 invariant-loop-peer g l = record {
   peers : l.answer.peers.items ++ keys_of (filter (λ e. is_now (entry_state g.C.Ord.cmp l.blocks l.cfg (as_nanos l.now) e)) l.peer-iterator)
       ≡ keys_of (filter (λ e. is_now (entry_state g.C.Ord.cmp l.blocks l.cfg (as_nanos l.now) e)) l.map.entries);
-  next : earliest (option_map as_nanos l.answer.next_query_at) (least_by (λ e. later_moment (entry_state g.C.Ord.cmp l.blocks l.cfg (as_nanos l.now) e)) l.peer-iterator)
+  next : earliest (option_map as_nanos l.answer.next_query_at)
+      (least_by (λ e. later_moment (entry_state g.C.Ord.cmp l.blocks l.cfg (as_nanos l.now) e)) l.peer-iterator)
       ≡ least_by (λ e. later_moment (entry_state g.C.Ord.cmp l.blocks l.cfg (as_nanos l.now) e)) l.map.entries;
   left : list_any (λ e. is_now (entry_state g.C.Ord.cmp l.blocks l.cfg (as_nanos l.now) e)) l.peer-iterator ≡ true
       → list_any (λ e. is_now (entry_state g.C.Ord.cmp l.blocks l.cfg (as_nanos l.now) e)) l.map.entries ≡ true;

@@ -1,0 +1,33 @@
+use Rattle.std.proofs.Common.{◌≡◌, ℕ, Bool, true, false, cond, not, Option, Some, None, rules, refl, ap, ◌∙◌}
+use Rattle.std.specs.Prelude.{◌==◌}
+use Rattle.std.specs.Map.{keys_of}
+use Rattle.std.specs.Cmp.{eq_by_cmp_equiv}
+use Rattle.std.proofs.lemmas.Map.Entries.{option_filter, lookup-filter-values}
+use Rattle.std.proofs.lemmas.Map.Keys.{IsDistinct-from_sorted}
+use Rattle.std.proofs.lemmas.Map.Made.{filter_same_pairs}
+use Rattle.p2p_tracker.specs.declared.kept.places.Place.{Place}
+use Rattle.p2p_tracker.specs.Private.Places.{place_of, unless_in}
+use Rattle.p2p_tracker.proofs.kept.places.Places.sweep.Goals as goal
+
+abbrev stays : ℕ → Place → Bool
+stays set place = not (place.set == set)
+
+seen : (set : ℕ) (o : Option Place) → option_filter (stays set) o ≡ unless_in set o
+seen set None = refl
+seen set (Some place) = go (place.set == set)
+  where
+    go : (b : Bool) → cond (not b) (Some place) None ≡ cond b None (Some place)
+    go true = refl
+    go false = refl
+
+pub returns : goal.returns
+returns g c = λ q.
+    let cmp = g.C.Ord.cmp in
+    let set = c.args.set in
+    let es = c.self.inside.latest.entries in
+    ap (λ es. place_of cmp es q)
+    (filter_same_pairs _ (λ e. not (e.1.set == set)) _ (λ k v b w f' t. search rules) es _ c.retain.ensures.filtered)
+    ∙ lookup-filter-values (eq_by_cmp_equiv g.met.C.Ord.total) (stays set) q es
+    (IsDistinct-from_sorted cmp (keys_of es) c.retain.ensures.was_ordered)
+    ∙ seen set (place_of cmp es q)
+    ∙ ap (λ es. unless_in set (place_of cmp es q)) c.self.view_is

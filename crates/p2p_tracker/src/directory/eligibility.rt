@@ -1,0 +1,76 @@
+//! Who may be connected, accepted or dialled.
+
+ghost use Rattle.std.specs.Prelude.{ℕ, ◌≡◌, ◌≤◌, IfOk, OnErr};
+ghost use Rattle.std.specs.Option.{option_map};
+ghost use Rattle.std.specs.Duration.{as_nanos};
+
+use crate::directory::Directory;
+use crate::record::Dialable;
+use p2p_discovery::codec::PublicKey;
+use std::alloc::AllocError;
+use std::time::Duration;
+
+impl<C: PublicKey> Directory<C> {
+    ghost use Rattle.p2p_tracker.specs.Dials.{IsBefore};
+    ghost use Rattle.p2p_tracker.specs.Directory.{is_free_and, is_dialable_in, AreDialableIn};
+    ghost use Rattle.p2p_tracker.specs.Lists.{Somebody};
+    ghost use Rattle.p2p_tracker.specs.Record.{is_eligible, is_acceptable};
+
+    /// Whether the peer may be connected at the moment `now`, a time since the epoch: it is not
+    /// blocked, and its record is eligible. False where there is no record. Takes no memory.
+    ///
+    /// # Cost
+    ///
+    /// One search among the blocks, and one among the records.
+    pub fn eligible(&self, peer: &C, now: Duration) -> bool
+        ensures { result ≡ is_free_and C.cmp is_eligible self.now (as_nanos now) peer.now }
+    {
+        match self.records.get(peer) {
+            Some(found) => !self.is_blocked(peer, now) && found.eligible(),
+            None => false,
+        }
+    }
+
+    /// Whether a connection of the peer may be accepted at the moment `now`, a time since the
+    /// epoch: it is not blocked, and its record is acceptable. False where there is no record.
+    /// Takes no memory.
+    ///
+    /// # Cost
+    ///
+    /// One search among the blocks, and one among the records.
+    pub fn acceptable(&self, peer: &C, now: Duration) -> bool
+        ensures { result ≡ is_free_and C.cmp is_acceptable self.now (as_nanos now) peer.now }
+    {
+        match self.records.get(peer) {
+            Some(found) => !self.is_blocked(peer, now) && found.acceptable(),
+            None => false,
+        }
+    }
+
+    /// The peers that may be dialled at the moment `now`, a time since the epoch, in ascending
+    /// order: those whose dial status is [`Now`](crate::record::DialStatus::Now) and that are not
+    /// blocked. With them the moment from which it is worth to ask again: the least of the unblock
+    /// moments of blocked peers that have a record, and of the dial moments of the others whose
+    /// status is [`After`](crate::record::DialStatus::After). While nothing is called in between,
+    /// the answer stays the same up to before that moment, and for ever where there is none.
+    ///
+    /// # Errors
+    ///
+    /// `AllocError` where memory is refused; that is, where somebody may be dialled.
+    ///
+    /// # Cost
+    ///
+    /// One pass over the records, with one search among the blocks for each.
+    pub fn dialable(&self, now: Duration) -> Result<Dialable<C>, AllocError>
+        ensures dialable { IfOk result (λ answer. AreDialableIn C.cmp self.now (as_nanos now)
+            answer.peers.items (option_map as_nanos answer.next_query_at)) }
+        ensures quiet { IfOk result (λ answer. (u : ℕ) → as_nanos now ≤ u →
+            IsBefore u (option_map as_nanos answer.next_query_at) →
+            AreDialableIn C.cmp self.now u
+            answer.peers.items (option_map as_nanos answer.next_query_at)) }
+        ensures err { OnErr result (Somebody (is_dialable_in C.cmp self.now (as_nanos now))) }
+    {
+        self.records
+            .dialable(self.alloc, &self.blocks, now, &self.config)
+    }
+}

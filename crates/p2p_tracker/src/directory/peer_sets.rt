@@ -1,0 +1,95 @@
+//! Questions about the retained sets.
+
+ghost use Rattle.std.specs.Prelude.{◌≡◌, true, IfOk, OnErr};
+ghost use Rattle.std.specs.Option.{IsSomeAnd};
+ghost use Rattle.p2p_tracker.specs.PeerSets.{latest_index, has_peers, set_with};
+ghost use Rattle.p2p_tracker.specs.Directory.{peers_of};
+ghost use Rattle.p2p_tracker.specs.Private.Window.{plain_set};
+
+use crate::directory::{Directory, PeerSetUpdate, TrackedPeers};
+use crate::kept::PeerSet;
+use p2p_discovery::codec::PublicKey;
+use std::alloc::AllocError;
+
+impl<C: PublicKey> Directory<C> {
+    ghost use Rattle.p2p_tracker.specs.Directory.{peer_set_in, is_named_of, AreAllOf, IsUpdateOf};
+    ghost use Rattle.p2p_tracker.specs.Lists.{Somebody};
+
+    /// The peers of the retained set with an index, by role, or `None` where there is no such set.
+    ///
+    /// # Errors
+    ///
+    /// `AllocError` where memory is refused; that is, where the set has a peer.
+    ///
+    /// # Cost
+    ///
+    /// One pass over the retained sets, and over the peers of that one.
+    pub fn get_peer_set(&self, index: u64) -> Result<Option<TrackedPeers<C>>, AllocError>
+        ensures peers { IfOk result (λ peers. peers ≡ peer_set_in self.now index) }
+        ensures err { OnErr result (IsSomeAnd (set_with index self.now.sets)
+            (λ set. has_peers set ≡ true)) }
+    {
+        match self.sets.get(index) {
+            Some(set) => Ok(Some(peers_in(set)?)),
+            None => Ok(None),
+        }
+    }
+
+    /// The latest set with its index, and the peers of all retained sets, or `None` where no set
+    /// was taken.
+    ///
+    /// # Errors
+    ///
+    /// `AllocError` where memory is refused; that is, where a retained set has a peer.
+    ///
+    /// # Cost
+    ///
+    /// That of [`Directory::all`], and one pass over the peers of the latest set.
+    pub fn latest_update(&self) -> Result<Option<PeerSetUpdate<C>>, AllocError>
+        ensures update { IfOk result (IsUpdateOf C.cmp self.now) }
+        ensures err { OnErr result (Somebody (is_named_of C.cmp self.now)) }
+    {
+        match self.sets.last() {
+            Some(set) => Ok(Some(PeerSetUpdate {
+                index: set.index(),
+                latest: peers_in(set)?,
+                all: self.all()?,
+            })),
+            None => Ok(None),
+        }
+    }
+
+    /// The index of the latest peer set, or `None` where none was taken. Takes no memory.
+    pub fn latest_set_index(&self) -> Option<u64>
+        ensures { result ≡ latest_index self.now.sets }
+    {
+        self.sets.latest_index()
+    }
+
+    /// The peers of all retained sets, by role: one that is primary in some set is primary only.
+    ///
+    /// # Errors
+    ///
+    /// `AllocError` where memory is refused; that is, where a retained set has a peer.
+    ///
+    /// # Cost
+    ///
+    /// One pass over the records, and one sort of each list.
+    pub fn all(&self) -> Result<TrackedPeers<C>, AllocError>
+        ensures peers { IfOk result (AreAllOf C.cmp self.now) }
+        ensures err { OnErr result (Somebody (is_named_of C.cmp self.now)) }
+    {
+        self.records.all(self.alloc)
+    }
+}
+
+// The peers of a set, by role.
+fn peers_in<C: PublicKey>(set: &PeerSet<C>) -> Result<TrackedPeers<C>, AllocError>
+    ensures peers { IfOk result (λ peers. peers ≡ peers_of (plain_set set.now)) }
+    ensures err { OnErr result (has_peers (plain_set set.now) ≡ true) }
+{
+    Ok(TrackedPeers {
+        primary: set.primary().ordered().clone()?,
+        secondary: set.secondary().clone()?,
+    })
+}
