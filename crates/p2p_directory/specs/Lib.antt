@@ -23,8 +23,10 @@ pub mod Pairs
 pub mod Held
 -- The step of one accepted call: the main law and other laws alone speak of it.
 pub use Rattle.p2p_tracker.specs.Step
+-- When an answer of `dialable` stands: what `run` says of dials rests on it.
 pub use Rattle.p2p_tracker.specs.Dials
 -- Laws of whole runs. What `run` says of its replies together rests on those whose names end in
--- `Runs`.
+-- `Runs`, and on `Bounds`, `Grants`, `Isolation` and `Order`; what networks promise, on `Network`,
+-- `Gossip`, `LateFrames`, `Isolation`, `Order` and `OrderRuns`, and for two nodes on `TwoNodes`.
 pub mod Laws
 pub mod Private

@@ -32,7 +32,6 @@ mod endpoint;
 mod exchanged;
 mod network;
 mod pair;
-mod room;
 
 /// What a node is made from.
 #[derive(Drop)]
@@ -139,6 +138,10 @@ impl<C: PublicKey> Node<C> {
     /// Room for a reservation is taken before a `Dial` or a `Listen`, so both may be replied
     /// `OutOfMemory` where that is refused.
     ///
+    /// # Examples
+    ///
+    /// `admit`, which the test `a_peer_is_admitted_and_answered` of `p2p_directory_tests` runs.
+    ///
     /// # Cost
     ///
     /// That of the call, and for a `Dial`, a `Listen` and a `Release` one pass over what is held.
@@ -198,6 +201,10 @@ impl<C: PublicKey> Node<C> {
     /// unless memory is refused. Afterwards the info of each of their peers that has a record is at
     /// least as new; where all were so before, nothing changes, and nothing by a copy that follows
     /// at once.
+    ///
+    /// # Examples
+    ///
+    /// `answer`, which the test `a_peer_is_admitted_and_answered` of `p2p_directory_tests` runs.
     ///
     /// # Cost
     ///

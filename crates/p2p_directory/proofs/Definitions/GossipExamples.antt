@@ -91,7 +91,9 @@ row16 :
     × (x asker asker_calls replier replier_calls 0 (sec 70) (sec 100) ≡ Applied (signed 1 100000 ∷ []))
     × (bits_at asker.directory (at asker (asker_calls ++ Update (signed 1 100000 ∷ []) ∷ [])) 0 ≡ Some (0, true ∷ false ∷ []))
     × (x asker (asker_calls ++ Update (signed 1 100000 ∷ []) ∷ []) replier replier_calls 0 (sec 70) (sec 100) ≡ Applied [])
-    × (x asker asker_calls replier (track 0 (1 ∷ 9 ∷ []) ∷ Update (signed 9 1000 ∷ []) ∷ listen 9 50 ∷ Connect 9 false ∷ []) 0 (sec 100) (sec 100) ≡ Invalid ReceivedSelf)
+    × (x asker asker_calls replier
+    (track 0 (1 ∷ 9 ∷ []) ∷ Update (signed 9 1000 ∷ []) ∷ listen 9 50 ∷ Connect 9 false ∷ []) 0 (sec 100)
+    (sec 100) ≡ Invalid ReceivedSelf)
     × (x asker asker_calls replier (track 0 (1 ∷ []) ∷ []) 0 (sec 100) (sec 100) ≡ Malformed)
     × (x asker asker_calls (made own_of_8 1 8 8) asker_calls 0 (sec 100) (sec 100) ≡ AskRefused (InvalidLength 2))
     × (x asker [] replier [] 0 (sec 100) (sec 100) ≡ NoSet)
@@ -114,17 +116,29 @@ exchange_corners :
     -- own keys in the list: the asker's is never asked for, the replier's is told without a connection
     × (x asker (track 0 (8 ∷ 9 ∷ []) ∷ []) replier (track 0 (8 ∷ 9 ∷ []) ∷ []) 0 0 0 ≡ Applied (own_of_8 ∷ []))
     -- one millisecond of the future is not told; then the bound to the nanosecond
-    × (x asker asker_calls replier (track 0 (1 ∷ 2 ∷ []) ∷ Update (signed 1 100001 ∷ []) ∷ listen 1 50 ∷ Connect 1 false ∷ []) 0 (sec 100) 100_000_999_999 ≡ Applied [])
-    × (x asker asker_calls replier (track 0 (1 ∷ 2 ∷ []) ∷ Update (signed 1 100001 ∷ []) ∷ listen 1 50 ∷ Connect 1 false ∷ []) 0 70_000_999_999 100_001_000_000 ≡ Invalid SynchronyBound)
-    × (x asker asker_calls replier (track 0 (1 ∷ 2 ∷ []) ∷ Update (signed 1 100001 ∷ []) ∷ listen 1 50 ∷ Connect 1 false ∷ []) 0 70_001_000_000 100_001_000_000 ≡ Applied (signed 1 100001 ∷ []))
+    × (x asker asker_calls replier
+    (track 0 (1 ∷ 2 ∷ []) ∷ Update (signed 1 100001 ∷ []) ∷ listen 1 50 ∷ Connect 1 false ∷ []) 0 (sec 100)
+    100_000_999_999 ≡ Applied [])
+    × (x asker asker_calls replier
+    (track 0 (1 ∷ 2 ∷ []) ∷ Update (signed 1 100001 ∷ []) ∷ listen 1 50 ∷ Connect 1 false ∷ []) 0
+    70_000_999_999 100_001_000_000 ≡ Invalid SynchronyBound)
+    × (x asker asker_calls replier
+    (track 0 (1 ∷ 2 ∷ []) ∷ Update (signed 1 100001 ∷ []) ∷ listen 1 50 ∷ Connect 1 false ∷ []) 0
+    70_001_000_000 100_001_000_000 ≡ Applied (signed 1 100001 ∷ []))
     -- a reserved peer is not told, nor one that was released
     × (x asker asker_calls replier (track 0 (1 ∷ 2 ∷ []) ∷ Update (signed 1 100000 ∷ []) ∷ listen 1 50 ∷ []) 0 (sec 100) (sec 100) ≡ Applied [])
     × (x asker asker_calls replier (replier_calls ++ Release 1 ∷ []) 0 (sec 100) (sec 100) ≡ Applied [])
     -- the first refusal in list order; the own key before the bound and the signature
-    × (x asker asker_calls replier (track 0 (1 ∷ 2 ∷ []) ∷ Update (signed_elsewhere 1 7 ∷ signed 2 100000 ∷ []) ∷ listen 1 50 ∷ Connect 1 false ∷ listen 2 50 ∷ Connect 2 false ∷ []) 0 0 (sec 100) ≡ Invalid InvalidSignature)
-    × (x asker asker_calls replier (track 0 (1 ∷ 2 ∷ []) ∷ Update (signed 1 100000 ∷ signed_elsewhere 2 7 ∷ []) ∷ listen 1 50 ∷ Connect 1 false ∷ listen 2 50 ∷ Connect 2 false ∷ []) 0 0 (sec 100) ≡ Invalid SynchronyBound)
+    × (x asker asker_calls replier
+    (track 0 (1 ∷ 2 ∷ []) ∷ Update (signed_elsewhere 1 7 ∷ signed 2 100000 ∷ []) ∷ listen 1 50 ∷ Connect 1
+    false ∷ listen 2 50 ∷ Connect 2 false ∷ []) 0 0 (sec 100) ≡ Invalid InvalidSignature)
+    × (x asker asker_calls replier
+    (track 0 (1 ∷ 2 ∷ []) ∷ Update (signed 1 100000 ∷ signed_elsewhere 2 7 ∷ []) ∷ listen 1 50 ∷ Connect 1
+    false ∷ listen 2 50 ∷ Connect 2 false ∷ []) 0 0 (sec 100) ≡ Invalid SynchronyBound)
     -- the same with secondary peers: they are no part of bits
-    × (x asker (Track 0 (1 ∷ []) (2 ∷ []) ∷ []) replier (Track 0 (1 ∷ []) (7 ∷ []) ∷ Update (signed 1 5 ∷ []) ∷ listen 1 50 ∷ Connect 1 false ∷ []) 0 (sec 100) (sec 100) ≡ Applied (signed 1 5 ∷ []))
+    × (x asker (Track 0 (1 ∷ []) (2 ∷ []) ∷ []) replier
+    (Track 0 (1 ∷ []) (7 ∷ []) ∷ Update (signed 1 5 ∷ []) ∷ listen 1 50 ∷ Connect 1 false ∷ []) 0 (sec 100)
+    (sec 100) ≡ Applied (signed 1 5 ∷ []))
 unfolding History.life
 exchange_corners = (refl, refl, refl, refl, refl, refl, refl, refl, refl, refl, refl, refl, refl, refl, refl, refl)
 
@@ -135,8 +149,11 @@ wants_less :
     × (wanted_infos asker (at asker (asker_calls ++ Update (signed 1 5 ∷ []) ∷ [])) replier (at replier replier_calls) (sec 100) (1 ∷ 2 ∷ []) ≡ [])
     × (wanted_infos asker (at asker asker_calls) replier (at replier replier_calls) 99_999_999_999 (1 ∷ 2 ∷ []) ≡ [])
     -- an old info that failed too often is wanted again, unless its peer is active
-    × (wanted_infos asker (at asker (asker_calls ++ Update (signed 1 5 ∷ []) ∷ dial 1 1 ∷ Release 1 ∷ [])) replier (at replier replier_calls) (sec 100) (1 ∷ 2 ∷ []) ≡ signed 1 100000 ∷ [])
-    × (wanted_infos asker (at asker (asker_calls ++ Update (signed 1 5 ∷ []) ∷ dial 1 1 ∷ Release 1 ∷ listen 1 11 ∷ Connect 1 false ∷ [])) replier (at replier replier_calls) (sec 100) (1 ∷ 2 ∷ []) ≡ [])
+    × (wanted_infos asker (at asker (asker_calls ++ Update (signed 1 5 ∷ []) ∷ dial 1 1 ∷ Release 1 ∷ [])) replier
+    (at replier replier_calls) (sec 100) (1 ∷ 2 ∷ []) ≡ signed 1 100000 ∷ [])
+    × (wanted_infos asker
+    (at asker (asker_calls ++ Update (signed 1 5 ∷ []) ∷ dial 1 1 ∷ Release 1 ∷ listen 1 11 ∷ Connect 1 false
+    ∷ [])) replier (at replier replier_calls) (sec 100) (1 ∷ 2 ∷ []) ≡ [])
 unfolding History.life is_valid
 wants_less = (refl, refl, refl, refl, refl)
 
@@ -161,7 +178,9 @@ failure_corners :
     × (fails (with_boot 8001) (dial 1 100 ∷ Update (info_at 1 5 8002 ∷ []) ∷ Release 1 ∷ []) 1 ≡ 0)
     × (fails (with_boot 8001) (dial 1 100 ∷ Release 1 ∷ Update (info_at 1 5 8001 ∷ []) ∷ []) 1 ≡ 0)
     -- the address goes and comes back while the dial is held
-    × (fails setup (track 0 (1 ∷ []) ∷ Update (info_at 1 1 8001 ∷ []) ∷ dial 1 100 ∷ Update (info_at 1 2 8002 ∷ []) ∷ Update (info_at 1 3 8001 ∷ []) ∷ Release 1 ∷ []) 1 ≡ 1)
+    × (fails setup
+    (track 0 (1 ∷ []) ∷ Update (info_at 1 1 8001 ∷ []) ∷ dial 1 100 ∷ Update (info_at 1 2 8002 ∷ []) ∷ Update
+    (info_at 1 3 8001 ∷ []) ∷ Release 1 ∷ []) 1 ≡ 1)
     -- an older info with that address in one update with the newest counts for nothing
     × (fails setup (track 0 (1 ∷ []) ∷ Update (info_at 1 1 8001 ∷ []) ∷ dial 1 100 ∷ Release 1 ∷ Update (info_at 1 0 8001 ∷ info_at 1 1 8003 ∷ []) ∷ []) 1 ≡ 1)
     -- a connect as its dialer without an info, then an info, then a release of another dial
@@ -181,11 +200,16 @@ moment_corners :
     (granted no_cooldown (track 0 (1 ∷ []) ∷ Listen 1 100 7 ∷ Release 1 ∷ []) (Listen 1 100 0) ≡ true)
     × (granted no_cooldown (track 0 (1 ∷ []) ∷ Listen 1 100 7 ∷ Release 1 ∷ []) (Listen 1 99 0) ≡ false)
     -- a listener's grant moves the dial moment too, and a secondary peer keeps it when it becomes primary
-    × (query_moment setup (world_after_calls setup (Track 0 [] (1 ∷ []) ∷ Update (info 1 5 ∷ []) ∷ Listen 1 (sec 100) (sec 4) ∷ Release 1 ∷ track 1 (1 ∷ []) ∷ [])) (sec 111) 1 ≡ Some (sec 114))
+    × (query_moment setup
+    (world_after_calls setup
+    (Track 0 [] (1 ∷ []) ∷ Update (info 1 5 ∷ []) ∷ Listen 1 (sec 100) (sec 4) ∷ Release 1 ∷ track 1 (1 ∷ [])
+    ∷ [])) (sec 111) 1 ≡ Some (sec 114))
     -- a bootstrapper that is blocked and is active is asked for at its block's end, too
     × (query_moment (with_boot 1) (world_after_calls (with_boot 1) (listen 1 100 ∷ Connect 1 false ∷ Block 1 (sec 101) ∷ [])) (sec 102) 1 ≡ Some (sec 161))
     -- a block beats the later dial moment of a target
-    × (query_moment (with_boot 1) (world_after_calls (with_boot 1) (Listen 1 (sec 100) (sec 10) ∷ Release 1 ∷ Block 1 (sec 101) ∷ [])) (sec 102) 1 ≡ Some (sec 161))
+    × (query_moment (with_boot 1)
+    (world_after_calls (with_boot 1) (Listen 1 (sec 100) (sec 10) ∷ Release 1 ∷ Block 1 (sec 101) ∷ []))
+    (sec 102) 1 ≡ Some (sec 161))
     × (query_moment (with_boot 1) (world_after_calls (with_boot 1) (Listen 1 (sec 100) (sec 10) ∷ Release 1 ∷ Block 1 (sec 101) ∷ [])) (sec 161) 1 ≡ None)
     × (is_dialable (with_boot 1) (world_after_calls (with_boot 1) (Listen 1 (sec 100) (sec 10) ∷ Release 1 ∷ Block 1 (sec 101) ∷ [])) (sec 161) 1 ≡ true)
     -- moments that go back: a block that holds later is not renewed by one of an earlier moment
@@ -194,16 +218,23 @@ moment_corners :
     -- the greatest index with one set, and none after it
     × (latest_index_in setup (world_after_calls setup (track 0 (1 ∷ []) ∷ track (2 ^ 64 - 1) (2 ∷ []) ∷ track 5 (3 ∷ []) ∷ [])) ≡ Some (2 ^ 64 - 1))
     -- the own key as a bootstrapper is no other peer
-    × (is_tracked (record setup { bootstrappers = (9, Socket (record { ip = V4 (1 ∷ 1 ∷ 1 ∷ 1 ∷ []); port = 1 })) ∷ [] }) (world_after_calls setup []) 9 ≡ false)
+    × (is_tracked
+    (record setup { bootstrappers = (9, Socket (record { ip = V4 (1 ∷ 1 ∷ 1 ∷ 1 ∷ []); port = 1 })) ∷ [] })
+    (world_after_calls setup []) 9 ≡ false)
     -- first of greatest across updates: a tie with an earlier update keeps the earlier
-    × (sharable_info setup (world_after_calls setup (track 0 (1 ∷ []) ∷ listen 1 1 ∷ Connect 1 false ∷ Update (info_at 1 7 8001 ∷ []) ∷ Update (info_at 1 6 8002 ∷ info_at 1 7 8003 ∷ []) ∷ [])) 1 ≡ Some (info_at 1 7 8001))
+    × (sharable_info setup
+    (world_after_calls setup
+    (track 0 (1 ∷ []) ∷ listen 1 1 ∷ Connect 1 false ∷ Update (info_at 1 7 8001 ∷ []) ∷ Update
+    (info_at 1 6 8002 ∷ info_at 1 7 8003 ∷ []) ∷ [])) 1 ≡ Some (info_at 1 7 8001))
     × (epoch_millis max_nanos ≡ 2 ^ 64 - 1)
 unfolding History.life is_valid
 moment_corners = (refl, refl, refl, refl, refl, refl, refl, refl, refl, refl, refl, refl, refl)
 
 -- ---- isolation: what is left for 1
 left_out :
-    (left_for setup 1 (Dial 2 0 0 ∷ Dial 1 0 0 ∷ Update (info 2 5 ∷ info 1 6 ∷ []) ∷ UnblockExpired 7 ∷ Block 2 0 ∷ track 0 (2 ∷ []) ∷ []) ≡ Dial 1 0 0 ∷ Update (info 1 6 ∷ []) ∷ UnblockExpired 7 ∷ track 0 (2 ∷ []) ∷ [])
+    (left_for setup 1
+    (Dial 2 0 0 ∷ Dial 1 0 0 ∷ Update (info 2 5 ∷ info 1 6 ∷ []) ∷ UnblockExpired 7 ∷ Block 2 0 ∷ track 0
+    (2 ∷ []) ∷ []) ≡ Dial 1 0 0 ∷ Update (info 1 6 ∷ []) ∷ UnblockExpired 7 ∷ track 0 (2 ∷ []) ∷ [])
     -- a call on a single other peer that only asks: the spec leaves it out
     × (left_for setup 1 (Ask (StatusOf 2) ∷ Ask (StatusOf 1) ∷ []) ≡ Ask (StatusOf 1) ∷ [])
 left_out = (refl, refl)

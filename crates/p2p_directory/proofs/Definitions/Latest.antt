@@ -17,7 +17,8 @@ and_true : (b : Bool) → (b && true) ≡ b
 and_true true = refl
 and_true false = refl
 
-last_alone : {C : Type 0} (index : ℕ) (x : SetAt C) (xs : List (SetAt C)) → list_all (below index) (drop (length xs) (x ∷ xs)) ≡ is_above index (last_or (Some x) xs)
+last_alone : {C : Type 0} (index : ℕ) (x : SetAt C) (xs : List (SetAt C)) →
+    list_all (below index) (drop (length xs) (x ∷ xs)) ≡ is_above index (last_or (Some x) xs)
 last_alone index x [] = and_true (nat_lt x.index index)
 last_alone index x (y ∷ ys) =
     let size : length (y ∷ ys) ≡ suc (length ys) = omega arith in
@@ -35,5 +36,8 @@ decided_drop j xs d = λ index k lt.
 module _ {C S : Type 0} (s : Setup C S) where
   -- what is above the latest retained set is above each retained set
   pub latest_decides : (cs : List (Call C S)) (index : ℕ) →
-      list_all (λ x. nat_lt x.index index) (History.retained_sets s (World.past s cs)) ≡ is_above index (last_or None (History.retained_sets s (World.past s cs)))
-  latest_decides cs index = latest_of_decided index (History.retained_sets s (World.past s cs)) (decided_drop _ (History.taken_sets s (World.past s cs)) (decided_past s cs))
+      list_all (λ x. nat_lt x.index index) (History.retained_sets s (World.past s cs))
+      ≡ is_above index (last_or None (History.retained_sets s (World.past s cs)))
+  latest_decides cs index =
+      latest_of_decided index (History.retained_sets s (World.past s cs))
+      (decided_drop _ (History.taken_sets s (World.past s cs)) (decided_past s cs))

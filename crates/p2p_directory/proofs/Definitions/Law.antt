@@ -1,5 +1,7 @@
 -- The kept state is what the past says.
-use Rattle.std.proofs.Common.{◌≡◌, ℕ, zero, suc, ◌-◌, ◌<◌, ◌≤◌, Bool, true, false, not, ◌&&◌, List, [], ◌∷◌, ◌++◌, length, drop, Option, Some, None, refl, sym, ◌∙◌, ap, subst, arith}
+use Rattle.std.proofs.Common.{◌≡◌, ℕ, zero, suc, ◌-◌, ◌<◌, ◌≤◌, Bool, true, false, not, ◌&&◌, List}
+use Rattle.std.proofs.Common.{[], ◌∷◌, ◌++◌, length, drop, Option, Some, None, refl, sym, ◌∙◌, ap}
+use Rattle.std.proofs.Common.{subst, arith}
 use Rattle.std.specs.Prelude.{if◌then◌else◌, nat_lt, filter}
 use Rattle.std.specs.List.{list_all}
 use Rattle.std.proofs.lemmas.List.{append-nil, drop-append-le, length_push}
@@ -36,7 +38,8 @@ below_more i j lt (x ∷ xs) e =
     and_from (nat_lt x.index j) (list_all (below j) xs) (lt-ltb x.index j (omega (arith, ltb-true x.index i parts.0))) (below_more i j lt xs parts.1)
 
 -- a set above all others decides
-top_decides : {C : Type 0} (xs : List (SetAt C)) (top : SetAt C) (index : ℕ) → list_all (below top.index) xs ≡ true → list_all (below index) (xs ++ top ∷ []) ≡ nat_lt top.index index
+top_decides : {C : Type 0} (xs : List (SetAt C)) (top : SetAt C) (index : ℕ) →
+    list_all (below top.index) xs ≡ true → list_all (below index) (xs ++ top ∷ []) ≡ nat_lt top.index index
 top_decides xs top index e = list_all-append (below index) xs (top ∷ []) ∙ go (nat_lt top.index index) refl
   where
     go : (b : Bool) → nat_lt top.index index ≡ b → (list_all (below index) xs && (b && true)) ≡ b
@@ -113,9 +116,17 @@ module _ {C S : Type 0} (s : Setup C S) where
 
   -- a track may be held against the retained sets alone
   pub does_same : (cs : List (Call C S)) (c : Call C S) → 1 ≤ s.max_sets →
-      World.event_in s (History.taken_sets s (World.past s cs)) (World.world_at s (World.past s cs)) c ≡ World.event_in s (History.retained_sets s (World.past s cs)) (World.world_at s (World.past s cs)) c
+      World.event_in s (History.taken_sets s (World.past s cs)) (World.world_at s (World.past s cs)) c
+      ≡ World.event_in s (History.retained_sets s (World.past s cs)) (World.world_at s (World.past s cs)) c
   does_same cs (Track index primary secondary) some =
-      ap (λ b. if b then Tracked (record { index = index; primary = primary; secondary = filter (λ q. not (History.is_in s q primary)) secondary }) else Nothing)
+      ap (λ b. if b
+      then Tracked
+      (record {
+        index = index;
+        primary = primary;
+        secondary =
+            filter (λ q. not (History.is_in s q primary)) secondary;
+      }) else Nothing)
       (last_decides (History.taken_sets s (World.past s cs)) s.max_sets index some (decided_past cs))
   does_same cs (Dial p t draw) some = refl
   does_same cs (Listen p t draw) some = refl
@@ -134,8 +145,11 @@ module _ {C S : Type 0} (s : Setup C S) where
   peer_step p e h = λ i. record {
     status = Steps.status_step s p e h i;
     known = (Knowledge.known_life s p e h
-        ∙ ap (λ sets. if History.is_present_with s p sets (History.status_at s p (e ∷ h)) then Step.known_after s p e (World.known_in s p (History.life s p h)) else Step.new_known s p) (Steps.retained_step s e h)
-        ∙ ap (λ st. if History.is_present_with s p (Step.sets_after s e (History.retained_sets s h)) st then Step.known_after s p e (World.known_in s p (History.life s p h)) else Step.new_known s p) (Steps.status_step s p e h)) i;
+        ∙ ap (λ sets. if History.is_present_with s p sets (History.status_at s p (e ∷ h)) then Step.known_after s p
+        e (World.known_in s p (History.life s p h)) else Step.new_known s p) (Steps.retained_step s e h)
+        ∙ ap (λ st. if History.is_present_with s p (Step.sets_after s e (History.retained_sets s h)) st
+        then Step.known_after s p e (World.known_in s p (History.life s p h)) else Step.new_known s p)
+        (Steps.status_step s p e h)) i;
   }
 
   pub world_step : (e : Event C S) (h : List (Event C S)) → World.world_at s (e ∷ h) ≡ Step.world_with s e (World.world_at s h)
@@ -151,7 +165,8 @@ module _ {C S : Type 0} (s : Setup C S) where
 
   -- THE LAW
 
-  pub recomputed_is_one_step : 1 ≤ s.max_sets → (cs : List (Call C S)) (c : Call C S) → World.world_at s (World.past s (c ∷ cs)) ≡ Step.step s (World.world_at s (World.past s cs)) c
+  pub recomputed_is_one_step : 1 ≤ s.max_sets → (cs : List (Call C S)) (c : Call C S) →
+      World.world_at s (World.past s (c ∷ cs)) ≡ Step.step s (World.world_at s (World.past s cs)) c
   recomputed_is_one_step some cs c =
       world_step (World.event_in s (History.taken_sets s (World.past s cs)) (World.world_at s (World.past s cs)) c) (World.past s cs)
       ∙ ap (λ e. Step.world_with s e (World.world_at s (World.past s cs))) (does_same cs c some)

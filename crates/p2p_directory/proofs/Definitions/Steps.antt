@@ -17,8 +17,10 @@ last_of-push : {A : Type 0} (n : ℕ) (xs : List A) (y : A) → last_of n (xs ++
 last_of-push {A} n xs y =
     let k : ℕ = length xs - n in
     let inner : drop k xs ++ y ∷ [] ≡ drop k (xs ++ y ∷ []) = sym (drop-append-le k xs (y ∷ []) (omega arith)) in
-    let size : k + (length (drop k xs ++ y ∷ []) - n) ≡ length (xs ++ y ∷ []) - n = omega (arith, length-append (drop k xs) (y ∷ []), length-drop k xs, length-append xs (y ∷ [])) in
-    sym (ap (λ ys. drop (length (drop k xs ++ y ∷ []) - n) ys) inner ∙ drop-drop (length (drop k xs ++ y ∷ []) - n) k (xs ++ y ∷ []) ∙ ap (λ m. drop m (xs ++ y ∷ [])) size)
+    let size : k + (length (drop k xs ++ y ∷ []) - n) ≡ length (xs ++ y ∷ []) - n =
+    omega (arith, length-append (drop k xs) (y ∷ []), length-drop k xs, length-append xs (y ∷ [])) in
+    sym (ap (λ ys. drop (length (drop k xs ++ y ∷ []) - n) ys) inner ∙ drop-drop (length (drop k xs ++ y ∷ []) - n)
+    k (xs ++ y ∷ []) ∙ ap (λ m. drop m (xs ++ y ∷ [])) size)
 
 -- WHAT LASTS, after one more event
 
@@ -35,7 +37,8 @@ pub lasting_step : {E A : Type 0} (gives : E → Option A) (ends : A → E → B
     last_unless_ended gives ends (e ∷ h) ≡ lasted (gives e) (λ a. ends a e) (last_unless_ended gives ends h)
 lasting_step {E} {A} gives ends e h = go (gives e) (last_with gives h)
   where
-    go : (given : Option A) (found : Option (A × List E)) → unless_ended ends (found_with given e found) ≡ lasted given (λ a. ends a e) (unless_ended ends found)
+    go : (given : Option A) (found : Option (A × List E)) →
+        unless_ended ends (found_with given e found) ≡ lasted given (λ a. ends a e) (unless_ended ends found)
     go (Some a) found = refl
     go None None = refl
     go None (Some found) = ended found.0 (list_any (ends found.0) found.1)
@@ -61,17 +64,22 @@ module _ {C S : Type 0} (s : Setup C S) where
   -- an event that is no grant
   other_status : (p : C) (e : Event C S) (found : Option (Grant × List (Event C S))) →
       History.status_since s p (found_with None e found)
-      ≡ (if History.is_release s p e then Inert else if History.is_connect s p e then Step.status_connected s (History.status_since s p found) else History.status_since s p found)
+      ≡ (if History.is_release s p e then Inert else if History.is_connect s p e then Step.status_connected s
+      (History.status_since s p found) else History.status_since s p found)
   other_status p e None = none (History.is_release s p e) (History.is_connect s p e)
     where
       none : (r c : Bool) → Inert ≡ (if r then Inert else if c then Inert else Inert)
       none true c = refl
       none false true = refl
       none false false = refl
-  other_status p e (Some found) = some (History.is_release s p e) (History.is_connect s p e) (list_any (History.is_release s p) found.1) (list_any (History.is_connect s p) found.1)
+  other_status p e (Some found) =
+      some (History.is_release s p e) (History.is_connect s p e) (list_any (History.is_release s p) found.1)
+      (list_any (History.is_connect s p) found.1)
     where
       some : (r c rs cs : Bool) → (if r || rs then Inert else if c || cs then Active else Reserved)
-          ≡ (if r then Inert else if c then Step.status_connected s (if rs then Inert else if cs then Active else Reserved) else if rs then Inert else if cs then Active else Reserved)
+          ≡ (if r then Inert else if c then Step.status_connected s
+          (if rs then Inert else if cs then Active else Reserved) else if rs then Inert else if cs then Active
+          else Reserved)
       some true c rs cs = refl
       some false true true cs = refl
       some false true false true = refl
@@ -81,7 +89,10 @@ module _ {C S : Type 0} (s : Setup C S) where
   pub status_step : (p : C) (e : Event C S) (h : List (Event C S)) → History.status_at s p (e ∷ h) ≡ Step.status_after s p e (History.status_at s p h)
   status_step p (Granted q grant) h = go (History.same s q p)
     where
-      go : (b : Bool) → History.status_since s p (found_with (if b then Some grant else None) (Granted q grant) (last_with (History.grant_by s p) h)) ≡ (if b then Reserved else History.status_at s p h)
+      go : (b : Bool) →
+          History.status_since s p
+          (found_with (if b then Some grant else None) (Granted q grant) (last_with (History.grant_by s p) h))
+          ≡ (if b then Reserved else History.status_at s p h)
       go true = refl
       go false = other_status p (Granted q grant) (last_with (History.grant_by s p) h)
   status_step p Nothing h = other_status p Nothing (last_with (History.grant_by s p) h)
@@ -126,7 +137,9 @@ module _ {C S : Type 0} (s : Setup C S) where
   pub unblock_step : (p : C) (e : Event C S) (h : List (Event C S)) → History.unblock_at s p (e ∷ h) ≡ Step.unblock_after s p e (History.unblock_at s p h)
   unblock_step p (Blocked q t) h = unblock_step_of p (Blocked q t) h ∙ go (History.same s q p) (History.unblock_at s p h)
     where
-      go : (b : Bool) (moment : Option ℕ) → lasted (if b then Some (cap (t + s.block_duration)) else None) (λ m. false) moment ≡ (if b then Some (cap (t + s.block_duration)) else moment)
+      go : (b : Bool) (moment : Option ℕ) →
+          lasted (if b then Some (cap (t + s.block_duration)) else None) (λ m. false) moment
+          ≡ (if b then Some (cap (t + s.block_duration)) else moment)
       go true moment = refl
       go false moment = lasted_none moment
   unblock_step p (Expired t) h = unblock_step_of p (Expired t) h ∙ go (History.unblock_at s p h)
@@ -144,7 +157,9 @@ module _ {C S : Type 0} (s : Setup C S) where
 
   -- what is kept of the last grant
   kept_step : (p : C) (e : Event C S) (h : List (Event C S)) →
-      History.cooldown_at s p (e ∷ h) ≡ option_map (History.cooldown_of s) (lasted (History.grant_by s p e) (λ grant. History.is_forgetting s grant e) (last_unless_ended (History.grant_by s p) (History.is_forgetting s) h))
+      History.cooldown_at s p (e ∷ h) ≡ option_map (History.cooldown_of s)
+      (lasted (History.grant_by s p e) (λ grant. History.is_forgetting s grant e)
+      (last_unless_ended (History.grant_by s p) (History.is_forgetting s) h))
   kept_step p e h = ap (option_map (History.cooldown_of s)) (lasting_step (History.grant_by s p) (History.is_forgetting s) e h)
 
   -- an event that is neither a grant of p nor forgets
@@ -152,7 +167,9 @@ module _ {C S : Type 0} (s : Setup C S) where
   kept_same kept = ap (option_map (History.cooldown_of s)) (lasted_none kept)
 
   pub cooldown_step : (p : C) (e : Event C S) (h : List (Event C S)) → History.cooldown_at s p (e ∷ h) ≡ Step.cooldown_after s p e (History.cooldown_at s p h)
-  cooldown_step p (Granted q grant) h = kept_step p (Granted q grant) h ∙ go (History.same s q p) (last_unless_ended (History.grant_by s p) (History.is_forgetting s) h)
+  cooldown_step p (Granted q grant) h =
+      kept_step p (Granted q grant) h
+      ∙ go (History.same s q p) (last_unless_ended (History.grant_by s p) (History.is_forgetting s) h)
     where
       go : (b : Bool) (kept : Option Grant) → option_map (History.cooldown_of s) (lasted (if b then Some grant else None) (λ g. false) kept)
           ≡ (if b then Some (History.cooldown_of s grant) else option_map (History.cooldown_of s) kept)
@@ -163,11 +180,16 @@ module _ {C S : Type 0} (s : Setup C S) where
       go : (kept : Option Grant) → option_map (History.cooldown_of s) (lasted None (λ g. nat_le (History.cooldown_of s g).dial_at t) kept)
           ≡ Step.cooldown_after s p (Forgot t) (option_map (History.cooldown_of s) kept)
       go None = refl
-      go (Some g) = elim (nat_le (History.cooldown_of s g).dial_at t) as (λ b. option_map (History.cooldown_of s) (if b then None else Some g) ≡ (if b then None else Some (History.cooldown_of s g))) [ true ↦ refl | false ↦ refl ]
+      go (Some g) =
+          elim (nat_le (History.cooldown_of s g).dial_at t) as
+          (λ b. option_map (History.cooldown_of s) (if b then None else Some g)
+          ≡ (if b then None else Some (History.cooldown_of s g))) [ true ↦ refl | false ↦ refl ]
   cooldown_step p Nothing h = kept_step p Nothing h ∙ kept_same (last_unless_ended (History.grant_by s p) (History.is_forgetting s) h)
   cooldown_step p (Tracked taken) h = kept_step p (Tracked taken) h ∙ kept_same (last_unless_ended (History.grant_by s p) (History.is_forgetting s) h)
   cooldown_step p (Connected q dialer) h = kept_step p (Connected q dialer) h ∙ kept_same (last_unless_ended (History.grant_by s p) (History.is_forgetting s) h)
-  cooldown_step p (Released q direction) h = kept_step p (Released q direction) h ∙ kept_same (last_unless_ended (History.grant_by s p) (History.is_forgetting s) h)
+  cooldown_step p (Released q direction) h =
+      kept_step p (Released q direction) h
+      ∙ kept_same (last_unless_ended (History.grant_by s p) (History.is_forgetting s) h)
   cooldown_step p (Updated infos) h = kept_step p (Updated infos) h ∙ kept_same (last_unless_ended (History.grant_by s p) (History.is_forgetting s) h)
   cooldown_step p (Blocked q t) h = kept_step p (Blocked q t) h ∙ kept_same (last_unless_ended (History.grant_by s p) (History.is_forgetting s) h)
   cooldown_step p (Expired t) h = kept_step p (Expired t) h ∙ kept_same (last_unless_ended (History.grant_by s p) (History.is_forgetting s) h)

@@ -4,7 +4,6 @@ use Rattle.std.proofs.Common.{Ok, inl, inr, refl, ◌∙◌, ap, subst}
 use Rattle.std.specs.Prelude.{◌⊎◌}
 use Rattle.std.proofs.lemmas.List.{append-nil}
 use Rattle.p2p_discovery.specs.declared.discovery.Payload.{Payload}
-use Rattle.p2p_discovery.specs.declared.discovery.Payload.TheVariants as said
 use Rattle.p2p_discovery.specs.declared.discovery.PayloadConfig.{PayloadConfig}
 use Rattle.p2p_discovery.specs.Fixed.{IsFixed}
 use Rattle.p2p_discovery.specs.Payload.{IsPayload, IsAdmitted, payload_spelling, payload_at}

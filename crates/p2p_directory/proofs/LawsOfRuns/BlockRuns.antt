@@ -40,7 +40,15 @@ module _ {C S : Type 0} (s : Setup C S) where
   expiry_in : (sets : List (SetAt C)) (w : World C S) (c : Call C S) → expiry_of (World.event_in s sets w c) ≡ expires_until c
   expiry_in sets w (Track index primary secondary) = go (list_all (λ x. nat_lt x.index index) sets)
     where
-      go : (b : Bool) → expiry_of (if b then Tracked (record { index = index; primary = primary; secondary = filter (λ q. not (History.is_in s q primary)) secondary }) else Nothing) ≡ None
+      go : (b : Bool) →
+          expiry_of (if b
+          then Tracked
+          (record {
+            index = index;
+            primary = primary;
+            secondary =
+                filter (λ q. not (History.is_in s q primary)) secondary;
+          }) else Nothing) ≡ None
       go true = refl
       go false = refl
   expiry_in sets w (Dial q t draw) = go (World.may_dial s q t w.sets (w.peer q) (w.unblock q) (w.cooldown q)) (World.address_with s q (w.peer q).known.info)
@@ -81,7 +89,10 @@ module _ {C S : Type 0} (s : Setup C S) where
   end_of (Some t) = Some (cap (t + s.block_duration))
 
   end_is : (p : C) (c : Call C S) (r : Reply C S) → end_of (block_taken_by s p c r) ≡ blocked_by s p c r
-  end_is p (Block q t) (reply.Block true) = elim (History.same s q p) as (λ b. end_of (if b then Some t else None) ≡ (if b then Some (cap (t + s.block_duration)) else None)) [ true ↦ refl | false ↦ refl ]
+  end_is p (Block q t) (reply.Block true) =
+      elim (History.same s q p) as
+      (λ b. end_of (if b then Some t else None) ≡ (if b then Some (cap (t + s.block_duration)) else None))
+      [ true ↦ refl | false ↦ refl ]
   end_is p c r = refl
 
   -- an event's block, else what it leaves of the one before
@@ -171,8 +182,11 @@ module _ {C S : Type 0} (s : Setup C S) where
       let sets = History.taken_sets s (World.past s before) in
       let w = Run.world_after s before in (
         subst (λ (o : Option (ℕ × ℕ)). IsNotBefore (option_map (λ grant. grant.0) o) end) (sym (told_after s p before c r answers.0).granted)
-            (subst (λ o. IsNotBefore (option_map (λ grant. grant.0) (if_accepted s (Run.is_accepted s r) (moment_by s p (Run.event_of s before c)))) o) (sym kept)
-            (grant_free p w (moment_or s 0 c) (Run.is_accepted s r) (History.grant_by s p (Run.event_of s before c)) (Spacing.event_fits s exact p c before 0))),
+            (subst (λ o. IsNotBefore
+            (option_map (λ grant. grant.0)
+            (if_accepted s (Run.is_accepted s r) (moment_by s p (Run.event_of s before c)))) o) (sym kept)
+            (grant_free p w (moment_or s 0 c) (Run.is_accepted s r)
+            (History.grant_by s p (Run.event_of s before c)) (Spacing.event_fits s exact p c before 0))),
         subst (IsNotBefore (block_taken_by s p c r)) (sym kept) (taken_free exact p sets w (Run.world_after s (c ∷ before)) c r answers.0),
         keep_from exact p (block_left s p c r end) (Run.next s before c r) cs rs
             (ap (block_left s p c r) kept ∙ kept_next p before c r answers.0) answers.1,
@@ -195,12 +209,20 @@ module _ {C S : Type 0} (s : Setup C S) where
 
   -- a grant comes at the moment of its command
   granted_then : (p : C) (now : ℕ) (c : Call C S) (r : Reply C S) → IfSome (granted_by s p c r) (λ grant. grant.0 ≡ moment_or s now c)
-  granted_then p now (Dial q t draw) (reply.Dial true) = elim (History.same s q p) as (λ b. IfSome {T = ℕ × ℕ} (if b then Some (t, draw) else None) (λ grant. grant.0 ≡ t)) [ true ↦ refl | false ↦ tt ]
-  granted_then p now (Listen q t draw) (reply.Listen true) = elim (History.same s q p) as (λ b. IfSome {T = ℕ × ℕ} (if b then Some (t, draw) else None) (λ grant. grant.0 ≡ t)) [ true ↦ refl | false ↦ tt ]
+  granted_then p now (Dial q t draw) (reply.Dial true) =
+      elim (History.same s q p) as
+      (λ b. IfSome {T = ℕ × ℕ} (if b then Some (t, draw) else None) (λ grant. grant.0 ≡ t))
+      [ true ↦ refl | false ↦ tt ]
+  granted_then p now (Listen q t draw) (reply.Listen true) =
+      elim (History.same s q p) as
+      (λ b. IfSome {T = ℕ × ℕ} (if b then Some (t, draw) else None) (λ grant. grant.0 ≡ t))
+      [ true ↦ refl | false ↦ tt ]
   granted_then p now c r = tt
 
   taken_then : (p : C) (now : ℕ) (c : Call C S) (r : Reply C S) → IfSome (block_taken_by s p c r) (λ t. t ≡ moment_or s now c)
-  taken_then p now (Block q t) (reply.Block true) = elim (History.same s q p) as (λ b. IfSome (if b then Some t else None) (λ u. u ≡ t)) [ true ↦ refl | false ↦ tt ]
+  taken_then p now (Block q t) (reply.Block true) =
+      elim (History.same s q p) as (λ b. IfSome (if b then Some t else None) (λ u. u ≡ t))
+      [ true ↦ refl | false ↦ tt ]
   taken_then p now c r = tt
 
   expired_then : (now : ℕ) (c : Call C S) (r : Reply C S) → IfSome (expired_by c r) (λ t. t ≡ moment_or s now c)
@@ -218,7 +240,8 @@ module _ {C S : Type 0} (s : Setup C S) where
   over_at now u (Some grant) None ms le on_time free over = over_later ms now grant.0 (omega (arith, on_time)) over
   over_at now u (Some grant) (Some end) ms le on_time free over = over_later ms (max now end) grant.0 (omega (arith, on_time, free)) over
 
-  over_next : (now u : ℕ) (taken expiry end : Option ℕ) (ms : List ℕ) → now ≤ u → IfSome taken (λ t. t ≡ u) → IfSome expiry (λ t. t ≡ u) → IsNotBefore taken end →
+  over_next : (now u : ℕ) (taken expiry end : Option ℕ) (ms : List ℕ) → now ≤ u → IfSome taken (λ t. t ≡ u) →
+      IfSome expiry (λ t. t ≡ u) → IsNotBefore taken end →
       AreOver s (limit now end) ms → AreOver s (limit u (kept_by (end_of taken) expiry end)) (option_to_list (end_of taken) ++ ms)
   over_next now u (Some t) expiry None ms le on_time until free over = (omega arith, over_later ms now (max u (cap (t + s.block_duration))) (omega arith) over)
   over_next now u (Some t) expiry (Some end) ms le on_time until free over =
@@ -242,7 +265,8 @@ module _ {C S : Type 0} (s : Setup C S) where
         over_at now u (granted_by s p c r) end ms forward (granted_then p now c r) kept.0 over,
         forward_from p u (block_left s p c r end) (option_to_list (blocked_by s p c r) ++ ms) cs rs
             (subst (λ o. AreOver s (limit u (block_left s p c r end)) (option_to_list o ++ ms)) (end_is p c r)
-            (subst (λ o. AreOver s (limit u o) (option_to_list (end_of (block_taken_by s p c r)) ++ ms)) (sym (left_is (block_taken_by s p c r) (expired_by c r) end))
+            (subst (λ o. AreOver s (limit u o) (option_to_list (end_of (block_taken_by s p c r)) ++ ms))
+            (sym (left_is (block_taken_by s p c r) (expired_by c r) end))
             (over_next now u (block_taken_by s p c r) (expired_by c r) end ms forward (taken_then p now c r) (expired_then now c r) kept.1 over)))
             kept.2,
       )

@@ -1,21 +1,24 @@
 -- How many peers a directory holds, by the replies to a run.
-use Rattle.std.proofs.Common.{◌≡◌, ℕ, Bool, true, false, List, [], ◌∷◌, sym, ◌∙◌, arith}
+use Rattle.std.proofs.Common.{◌≡◌, ℕ, Bool, true, false, List, [], ◌∷◌, sym, ◌∙◌, subst, arith}
 use Rattle.std.specs.Prelude.{if◌then◌else◌}
 use Rattle.std.specs.Cmp.{IsTotalOrder}
 use Rattle.std.proofs.lemmas.Bool.{and_parts}
 use Rattle.p2p_tracker.specs.Calls.{Setup, Call}
-use Rattle.p2p_tracker.specs.Calls.Question.{StatusOf, NumberTracked, NextUnblock, BlockedAt, PeerSet, LatestIndex, AllPeers, LatestUpdate, InfoOf, InfosFor, BitsAt, IsEligible, IsAcceptable, DialableAt}
+use Rattle.p2p_tracker.specs.Calls.Question.{StatusOf, NumberTracked, NextUnblock, BlockedAt}
+use Rattle.p2p_tracker.specs.Calls.Question.{PeerSet, LatestIndex, AllPeers, LatestUpdate, InfoOf}
+use Rattle.p2p_tracker.specs.Calls.Question.{InfosFor, BitsAt, IsEligible, IsAcceptable, DialableAt}
 use Rattle.p2p_tracker.specs.Calls.Call.{Track, Dial, Listen, Connect, Release, Update, Block, UnblockExpired, ForgetCooled, Ask}
 use Rattle.p2p_tracker.specs.Answers.{IsNumberTracked, is_present_in, may_connect, may_release}
 use Rattle.p2p_directory.specs.Run
 use Rattle.p2p_directory.specs.declared.run.commands.Reply.{Reply}
 use Rattle.p2p_directory.specs.declared.run.commands.Reply.TheVariants as reply
-use Rattle.p2p_directory.specs.Laws.BoundRuns.{IsFew, NameAtMost, KeepBound}
+use Rattle.p2p_directory.specs.Laws.BoundRuns.{IsFew, TellsFew, NameAtMost, KeepBound}
 use Rattle.p2p_directory.proofs.LawsOfRuns.Bounded
 
 module _ {C S : Type 0} (s : Setup C S) (n : ℕ) (total : IsTotalOrder s.cmp) where
   -- the number that is tracked
-  tracked_few : (before : List (Call C S)) (count : ℕ) → NameAtMost s n before → IsNumberTracked s (Run.world_after s before) count → IsFew s n before (reply.Tracked count)
+  tracked_few : (before : List (Call C S)) (count : ℕ) → NameAtMost s n before →
+      IsNumberTracked s (Run.world_after s before) count → IsFew s n before count
   tracked_few before count h number = λ qs rs persistent left_over.
       let w = Run.world_after s before in
       let few = Bounded.retained_few s n total before h in
@@ -24,7 +27,8 @@ module _ {C S : Type 0} (s : Setup C S) (n : ℕ) (total : IsTotalOrder s.cmp) w
       omega (arith, most, number.2)
 
   -- only a question for the number is replied it
-  count_few : (before : List (Call C S)) (c : Call C S) (count : ℕ) → NameAtMost s n before → Run.IsAnswer s before c (reply.Tracked count) → IsFew s n before (reply.Tracked count)
+  count_few : (before : List (Call C S)) (c : Call C S) (count : ℕ) → NameAtMost s n before →
+      Run.IsAnswer s before c (reply.Tracked count) → IsFew s n before count
   count_few before (Ask NumberTracked) count h a = tracked_few before count h a
   count_few before (Dial q t draw) count h a = absurd (cc)
   count_few before (Listen q t draw) count h a = absurd (cc)
@@ -48,42 +52,18 @@ module _ {C S : Type 0} (s : Setup C S) (n : ℕ) (total : IsTotalOrder s.cmp) w
   count_few before (Ask (DialableAt t)) count h a = absurd a
   count_few before (Connect q dialer) count h a = go (may_connect s (Run.world_after s before) q) a
     where
-      go : (b : Bool) → ◌≡◌ {A = Reply C S} (reply.Tracked count) (if b then reply.Connect else reply.NotReserved) → IsFew s n before (reply.Tracked count)
+      go : (b : Bool) → ◌≡◌ {A = Reply C S} (reply.Tracked count) (if b then reply.Connect else reply.NotReserved) → IsFew s n before count
       go true e = absurd (cc)
       go false e = absurd (cc)
   count_few before (Release q) count h a = go (may_release s (Run.world_after s before) q) a
     where
-      go : (b : Bool) → ◌≡◌ {A = Reply C S} (reply.Tracked count) (if b then reply.Release else reply.NotHeld) → IsFew s n before (reply.Tracked count)
+      go : (b : Bool) → ◌≡◌ {A = Reply C S} (reply.Tracked count) (if b then reply.Release else reply.NotHeld) → IsFew s n before count
       go true e = absurd (cc)
       go false e = absurd (cc)
 
-  few : (before : List (Call C S)) (c : Call C S) (r : Reply C S) → NameAtMost s n before → Run.IsAnswer s before c r → IsFew s n before r
-  few before c (reply.Tracked count) h a = count_few before c count h a
-  few before c (reply.Track torn) h a = tt
-  few before c (reply.Dial granted) h a = tt
-  few before c (reply.Listen granted) h a = tt
-  few before c reply.Connect h a = tt
-  few before c reply.Release h a = tt
-  few before c reply.UpdatePeers h a = tt
-  few before c (reply.Block taken) h a = tt
-  few before c (reply.UnblockExpired any) h a = tt
-  few before c (reply.ForgetCooled count) h a = tt
-  few before c (reply.NextUnblock moment) h a = tt
-  few before c (reply.BlockedPeers peers) h a = tt
-  few before c (reply.Status status) h a = tt
-  few before c (reply.GetPeerSet peers) h a = tt
-  few before c (reply.LatestSetIndex index) h a = tt
-  few before c (reply.LatestUpdate update) h a = tt
-  few before c (reply.All all) h a = tt
-  few before c (reply.Info info) h a = tt
-  few before c (reply.Infos infos) h a = tt
-  few before c (reply.GetRandomBitVec bits) h a = tt
-  few before c (reply.Eligible eligible) h a = tt
-  few before c (reply.Acceptable acceptable) h a = tt
-  few before c (reply.Dialable answer) h a = tt
-  few before c reply.NotReserved h a = tt
-  few before c reply.NotHeld h a = tt
-  few before c reply.OutOfMemory h a = tt
+  few : (before : List (Call C S)) (c : Call C S) (r : Reply C S) → NameAtMost s n before →
+      Run.IsAnswer s before c r → TellsFew s n before r
+  few before c r h a = λ count is. count_few before c count h (subst (Run.IsAnswer s before c) is a)
 
   keep_bound_from : (before cs : List (Call C S)) (rs : List (Reply C S)) → Run.AreAnswers s before cs rs → KeepBound s n before cs rs
   keep_bound_from before [] [] answers = λ h. Bounded.bounded s n total before h

@@ -2,8 +2,9 @@
 use Rattle.std.proofs.Common.{◌≡◌, ℕ, ◌≤◌, Bool, true, false, cond, not, ◌||◌, List, [], ◌∷◌, Option, ◌⊎◌, inl, inr, refl, sym, ◌∙◌, ap, subst}
 use Rattle.std.specs.Cmp.{IsTotalOrder}
 use Rattle.p2p_tracker.specs.Calls.{Setup, Question, Call}
-use Rattle.p2p_tracker.specs.Calls.Question.{StatusOf, NumberTracked, NextUnblock, BlockedAt, PeerSet, LatestIndex, AllPeers, LatestUpdate, InfoOf, InfosFor, BitsAt, IsEligible, IsAcceptable, DialableAt}
+use Rattle.p2p_tracker.specs.Calls.Question.{DialableAt}
 use Rattle.p2p_tracker.specs.Calls.Call.{Track, Dial, Listen, Connect, Release, Update, Block, UnblockExpired, ForgetCooled, Ask}
+use Rattle.p2p_tracker.specs.declared.record.Dialable.{Dialable}
 use Rattle.p2p_tracker.specs.History
 use Rattle.p2p_tracker.specs.History.{last_with}
 use Rattle.p2p_tracker.specs.World
@@ -28,7 +29,8 @@ module _ {C S : Type 0} (s : Setup C S) where
   or_right true b e = refl
   or_right false b e = e
 
-  without_in : History.IsExact s → (p q : C) (ps : List C) → History.is_in s p (without s q ps) ≡ true → (History.is_in s p ps ≡ true) × (History.same s q p ≡ false)
+  without_in : History.IsExact s → (p q : C) (ps : List C) → History.is_in s p (without s q ps) ≡ true →
+      (History.is_in s p ps ≡ true) × (History.same s q p ≡ false)
   without_in exact p q [] e = absurd (cc)
   without_in exact p q (x ∷ ps) e = go (History.same s q x) (History.same s x p) refl refl (without_in exact p q ps) e
     where
@@ -46,7 +48,8 @@ module _ {C S : Type 0} (s : Setup C S) where
   -- the reply to a dial of a dialable peer, and what holds of those after it
   one_granted : {X : Type 0} (p : C) (t draw : ℕ) (before cs : List (Call C S)) (r : Reply C S) (rs : List (Reply C S)) →
       IsDialled s p t draw (Run.event_of s before (Dial p t draw)) →
-      (r ≡ reply.OutOfMemory) ⊎ Run.Replies s (Run.event_of s before (Dial p t draw)) (Run.world_after s before) (Run.world_after s (Dial p t draw ∷ before)) (Dial p t draw) r →
+      (r ≡ reply.OutOfMemory) ⊎ Run.Replies s (Run.event_of s before (Dial p t draw)) (Run.world_after s before)
+      (Run.world_after s (Dial p t draw ∷ before)) (Dial p t draw) r →
       (Run.AreAnswers s before cs rs → X) → (Run.AreAnswers s (Dial p t draw ∷ before) cs rs → X) →
       Run.AreAnswers s (Run.next s before (Dial p t draw) r) cs rs → IsGrantedOrOutOfMemory r × X
   one_granted {X} p t draw before cs r rs granted (inl e) refused more =
@@ -64,7 +67,9 @@ module _ {C S : Type 0} (s : Setup C S) where
       (replied s (Run.event_of s before (Dial q u draw)) (Run.world_after s before) (Run.world_after s (Dial q u draw ∷ before)) (Dial q u draw) r answers.0)
       (λ a. all_granted some exact t (without s q ps) before cs rs (λ p other. ready p (without_in exact p q ps other).0) a)
       (λ a. all_granted some exact t (without s q ps) (Dial q u draw ∷ before) cs rs
-      (λ p other. Dialled.dialable_alike s p t _ _ (Isolation.another_alike s some p (Dial q u draw) before (ap not (without_in exact p q ps other).1)) ∙ ready p (without_in exact p q ps other).0) a)
+      (λ p other. Dialled.dialable_alike s p t _ _
+      (Isolation.another_alike s some p (Dial q u draw) before (ap not (without_in exact p q ps other).1))
+      ∙ ready p (without_in exact p q ps other).0) a)
       answers.1
   all_granted some exact t ps before (Dial q u draw ∷ cs) [] ready answers = tt
   all_granted some exact t ps before [] rs ready answers = tt
@@ -81,9 +86,18 @@ module _ {C S : Type 0} (s : Setup C S) where
   -- QUIET
 
   turned : (p : C) (w v : World C S) → SameFor p w v → SameFor p v w
-  turned p w v alike = record { sets = sym alike.sets; peer = sym alike.peer; unblock = sym alike.unblock; cooldown = sym alike.cooldown; held = sym alike.held }
+  turned p w v alike =
+      record {
+        sets = sym alike.sets;
+        peer = sym alike.peer;
+        unblock = sym alike.unblock;
+        cooldown =
+            sym alike.cooldown;
+        held = sym alike.held;
+      }
 
-  same_answer : History.IsExact s → (w v : World C S) → ((p : C) → SameFor p w v) → (t : ℕ) (ps : List C) (next : Option ℕ) → IsDialable s w t ps next → IsDialable s v t ps next
+  same_answer : History.IsExact s → (w v : World C S) → ((p : C) → SameFor p w v) →
+      (t : ℕ) (ps : List C) (next : Option ℕ) → IsDialable s w t ps next → IsDialable s v t ps next
   same_answer exact w v alike t ps next answer = (
     record { sorted = answer.0.sorted; members = λ p. answer.0.members p ∙ (Isolation.answers_alike s exact p w v (alike p)).dialable t },
     Listed.least_alike (query_moment s w t) (query_moment s v t) next (λ p. sym ((Isolation.answers_alike s exact p w v (alike p)).query t)) answer.1,
@@ -93,52 +107,20 @@ module _ {C S : Type 0} (s : Setup C S) where
   asked_answer : History.IsExact s → (question : Question C) (before : List (Call C S)) (accepted : Bool) (t : ℕ) (ps : List C) (next : Option ℕ) →
       IsDialable s (Run.world_after s before) t ps next → IsDialable s (Run.world_after s (cond accepted (Ask question ∷ before) before)) t ps next
   asked_answer exact question before true t ps next answer =
-      same_answer exact (Run.world_after s before) (Run.world_after s (Ask question ∷ before)) (λ p. turned p _ _ (Isolation.asked_alike s p question before)) t ps next answer
+      same_answer exact (Run.world_after s before) (Run.world_after s (Ask question ∷ before))
+      (λ p. turned p _ _ (Isolation.asked_alike s p question before)) t ps next answer
   asked_answer exact question before false t ps next answer = answer
 
   module _ (total : IsTotalOrder s.cmp) (exact : History.IsExact s) where
-    repeated : (t : ℕ) (ps : List C) (next : Option ℕ) (before : List (Call C S)) (question : Question C) (r : Reply C S) →
-        IsDialable s (Run.world_after s before) t ps next → Run.IsAnswer s before (Ask question) r → IsRepeated s t ps next question r
-    repeated t ps next before (DialableAt u) (reply.Dialable answer) first again = λ le soon.
-        Quiet.only_dialable s total exact (Run.world_after s before) u answer.peers.items ps (next_query answer) next again (Quiet.stays_dialable s (Run.world_after s before) t u ps next first le soon)
-    repeated t ps next before (DialableAt u) (reply.Track torn) first again = tt
-    repeated t ps next before (DialableAt u) (reply.Dial granted) first again = tt
-    repeated t ps next before (DialableAt u) (reply.Listen granted) first again = tt
-    repeated t ps next before (DialableAt u) reply.Connect first again = tt
-    repeated t ps next before (DialableAt u) reply.Release first again = tt
-    repeated t ps next before (DialableAt u) reply.UpdatePeers first again = tt
-    repeated t ps next before (DialableAt u) (reply.Block taken) first again = tt
-    repeated t ps next before (DialableAt u) (reply.UnblockExpired any) first again = tt
-    repeated t ps next before (DialableAt u) (reply.ForgetCooled count) first again = tt
-    repeated t ps next before (DialableAt u) (reply.NextUnblock moment) first again = tt
-    repeated t ps next before (DialableAt u) (reply.BlockedPeers peers) first again = tt
-    repeated t ps next before (DialableAt u) (reply.Status status) first again = tt
-    repeated t ps next before (DialableAt u) (reply.GetPeerSet peers) first again = tt
-    repeated t ps next before (DialableAt u) (reply.LatestSetIndex index) first again = tt
-    repeated t ps next before (DialableAt u) (reply.LatestUpdate update) first again = tt
-    repeated t ps next before (DialableAt u) (reply.All all) first again = tt
-    repeated t ps next before (DialableAt u) (reply.Info info) first again = tt
-    repeated t ps next before (DialableAt u) (reply.Infos infos) first again = tt
-    repeated t ps next before (DialableAt u) (reply.GetRandomBitVec bits) first again = tt
-    repeated t ps next before (DialableAt u) (reply.Eligible eligible) first again = tt
-    repeated t ps next before (DialableAt u) (reply.Acceptable acceptable) first again = tt
-    repeated t ps next before (DialableAt u) (reply.Tracked count) first again = tt
-    repeated t ps next before (DialableAt u) reply.NotReserved first again = tt
-    repeated t ps next before (DialableAt u) reply.NotHeld first again = tt
-    repeated t ps next before (DialableAt u) reply.OutOfMemory first again = tt
-    repeated t ps next before (StatusOf p) r first again = tt
-    repeated t ps next before NumberTracked r first again = tt
-    repeated t ps next before NextUnblock r first again = tt
-    repeated t ps next before (BlockedAt u) r first again = tt
-    repeated t ps next before (PeerSet index) r first again = tt
-    repeated t ps next before LatestIndex r first again = tt
-    repeated t ps next before AllPeers r first again = tt
-    repeated t ps next before LatestUpdate r first again = tt
-    repeated t ps next before (InfoOf p) r first again = tt
-    repeated t ps next before (InfosFor index bits u) r first again = tt
-    repeated t ps next before (BitsAt place) r first again = tt
-    repeated t ps next before (IsEligible p u) r first again = tt
-    repeated t ps next before (IsAcceptable p u) r first again = tt
+    repeated : (t : ℕ) (ps : List C) (next : Option ℕ) (before : List (Call C S)) (question : Question C)
+        (r : Reply C S) → IsDialable s (Run.world_after s before) t ps next →
+        Run.IsAnswer s before (Ask question) r → IsRepeated s t ps next question r
+    repeated t ps next before question r first again = λ u answer asked told le soon.
+        Quiet.only_dialable s total exact (Run.world_after s before) u answer.peers.items ps (next_query answer)
+        next
+        (subst (λ q. Run.IsAnswer s before (Ask q) (reply.Dialable answer)) asked
+        (subst (Run.IsAnswer s before (Ask question)) told again))
+        (Quiet.stays_dialable s (Run.world_after s before) t u ps next first le soon)
 
     all_quiet : (t : ℕ) (ps : List C) (next : Option ℕ) (before cs : List (Call C S)) (rs : List (Reply C S)) →
         IsDialable s (Run.world_after s before) t ps next → Run.AreAnswers s before cs rs → IsQuiet s t ps next cs rs
@@ -160,63 +142,35 @@ module _ {C S : Type 0} (s : Setup C S) where
 
     -- THE RUN
 
-    kept_after : 1 ≤ s.max_sets → (before : List (Call C S)) (c : Call C S) (r : Reply C S) (cs : List (Call C S)) (rs : List (Reply C S)) →
-        Run.IsAnswer s before c r → Run.AreAnswers s (Run.next s before c r) cs rs → IsDialableKept s c r cs rs
-    kept_after least before (Ask (DialableAt t)) (reply.Dialable given) cs rs answer answers =
+    dialable_kept : 1 ≤ s.max_sets → (before : List (Call C S)) (t : ℕ) (given : Dialable C S)
+        (cs : List (Call C S)) (rs : List (Reply C S)) →
+        Run.IsAnswer s before (Ask (DialableAt t)) (reply.Dialable given) →
+        Run.AreAnswers s (Ask (DialableAt t) ∷ before) cs rs →
+        AreGrantedAt s t given.peers.items cs rs × IsQuiet s t given.peers.items (next_query given) cs rs
+    dialable_kept least before t given cs rs answer answers =
         let ps = given.peers.items in
         let next = next_query given in
-        let still = asked_answer exact (DialableAt t) before true t ps next answer in
-        (all_granted least exact t ps (Ask (DialableAt t) ∷ before) cs rs (λ p listed. sym (still.0.members p) ∙ listed) answers, all_quiet t ps next (Ask (DialableAt t) ∷ before) cs rs still answers)
-    kept_after least before (Ask (DialableAt t)) (reply.Track torn) cs rs answer answers = tt
-    kept_after least before (Ask (DialableAt t)) (reply.Dial granted) cs rs answer answers = tt
-    kept_after least before (Ask (DialableAt t)) (reply.Listen granted) cs rs answer answers = tt
-    kept_after least before (Ask (DialableAt t)) reply.Connect cs rs answer answers = tt
-    kept_after least before (Ask (DialableAt t)) reply.Release cs rs answer answers = tt
-    kept_after least before (Ask (DialableAt t)) reply.UpdatePeers cs rs answer answers = tt
-    kept_after least before (Ask (DialableAt t)) (reply.Block taken) cs rs answer answers = tt
-    kept_after least before (Ask (DialableAt t)) (reply.UnblockExpired any) cs rs answer answers = tt
-    kept_after least before (Ask (DialableAt t)) (reply.ForgetCooled count) cs rs answer answers = tt
-    kept_after least before (Ask (DialableAt t)) (reply.NextUnblock moment) cs rs answer answers = tt
-    kept_after least before (Ask (DialableAt t)) (reply.BlockedPeers peers) cs rs answer answers = tt
-    kept_after least before (Ask (DialableAt t)) (reply.Status status) cs rs answer answers = tt
-    kept_after least before (Ask (DialableAt t)) (reply.GetPeerSet peers) cs rs answer answers = tt
-    kept_after least before (Ask (DialableAt t)) (reply.LatestSetIndex index) cs rs answer answers = tt
-    kept_after least before (Ask (DialableAt t)) (reply.LatestUpdate update) cs rs answer answers = tt
-    kept_after least before (Ask (DialableAt t)) (reply.All all) cs rs answer answers = tt
-    kept_after least before (Ask (DialableAt t)) (reply.Info info) cs rs answer answers = tt
-    kept_after least before (Ask (DialableAt t)) (reply.Infos infos) cs rs answer answers = tt
-    kept_after least before (Ask (DialableAt t)) (reply.GetRandomBitVec bits) cs rs answer answers = tt
-    kept_after least before (Ask (DialableAt t)) (reply.Eligible eligible) cs rs answer answers = tt
-    kept_after least before (Ask (DialableAt t)) (reply.Acceptable acceptable) cs rs answer answers = tt
-    kept_after least before (Ask (DialableAt t)) (reply.Tracked count) cs rs answer answers = tt
-    kept_after least before (Ask (DialableAt t)) reply.NotReserved cs rs answer answers = tt
-    kept_after least before (Ask (DialableAt t)) reply.NotHeld cs rs answer answers = tt
-    kept_after least before (Ask (DialableAt t)) reply.OutOfMemory cs rs answer answers = tt
-    kept_after least before (Ask (StatusOf p)) r cs rs answer answers = tt
-    kept_after least before (Ask NumberTracked) r cs rs answer answers = tt
-    kept_after least before (Ask NextUnblock) r cs rs answer answers = tt
-    kept_after least before (Ask (BlockedAt u)) r cs rs answer answers = tt
-    kept_after least before (Ask (PeerSet index)) r cs rs answer answers = tt
-    kept_after least before (Ask LatestIndex) r cs rs answer answers = tt
-    kept_after least before (Ask AllPeers) r cs rs answer answers = tt
-    kept_after least before (Ask LatestUpdate) r cs rs answer answers = tt
-    kept_after least before (Ask (InfoOf p)) r cs rs answer answers = tt
-    kept_after least before (Ask (InfosFor index bits u)) r cs rs answer answers = tt
-    kept_after least before (Ask (BitsAt place)) r cs rs answer answers = tt
-    kept_after least before (Ask (IsEligible p u)) r cs rs answer answers = tt
-    kept_after least before (Ask (IsAcceptable p u)) r cs rs answer answers = tt
-    kept_after least before (Track index primary secondary) r cs rs answer answers = tt
-    kept_after least before (Dial q u draw) r cs rs answer answers = tt
-    kept_after least before (Listen q u draw) r cs rs answer answers = tt
-    kept_after least before (Connect q dialer) r cs rs answer answers = tt
-    kept_after least before (Release q) r cs rs answer answers = tt
-    kept_after least before (Update infos) r cs rs answer answers = tt
-    kept_after least before (Block q u) r cs rs answer answers = tt
-    kept_after least before (UnblockExpired u) r cs rs answer answers = tt
-    kept_after least before (ForgetCooled u) r cs rs answer answers = tt
+        let still = asked_answer exact (DialableAt t) before true t ps next answer in (
+          all_granted least exact t ps (Ask (DialableAt t) ∷ before) cs rs
+              (λ p listed. sym (still.0.members p) ∙ listed) answers,
+          all_quiet t ps next (Ask (DialableAt t) ∷ before) cs rs still answers,
+        )
+
+    kept_after : 1 ≤ s.max_sets → (before : List (Call C S)) (c : Call C S) (r : Reply C S)
+        (cs : List (Call C S)) (rs : List (Reply C S)) → Run.IsAnswer s before c r →
+        Run.AreAnswers s (Run.next s before c r) cs rs → IsDialableKept s c r cs rs
+    kept_after least before c r cs rs answer answers = λ t given asked told.
+        dialable_kept least before t given cs rs
+        (subst (λ c. Run.IsAnswer s before c (reply.Dialable given)) asked
+        (subst (Run.IsAnswer s before c) told answer))
+        (subst (λ c. Run.AreAnswers s (c ∷ before) cs rs) asked
+        (subst (λ r. Run.AreAnswers s (Run.next s before c r) cs rs) told answers))
 
     -- each reply of `dialable` in a run says this of those after it
     pub keep_dialable : 1 ≤ s.max_sets → (before cs : List (Call C S)) (rs : List (Reply C S)) → Run.AreAnswers s before cs rs → KeepDialable s cs rs
     keep_dialable least before [] rs answers = tt
     keep_dialable least before (c ∷ cs) [] answers = tt
-    keep_dialable least before (c ∷ cs) (r ∷ rs) answers = (kept_after least before c r cs rs answers.0 answers.1, keep_dialable least (Run.next s before c r) cs rs answers.1)
+    keep_dialable least before (c ∷ cs) (r ∷ rs) answers = (
+      kept_after least before c r cs rs answers.0 answers.1,
+      keep_dialable least (Run.next s before c r) cs rs answers.1,
+    )

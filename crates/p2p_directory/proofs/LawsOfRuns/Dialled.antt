@@ -52,7 +52,9 @@ itself cmp total x = go (cmp x x) refl
 
 module _ {C S : Type 0} (s : Setup C S) where
   -- the dial moment isn't before the reservable one
-  reservable_first : (kept : Option Grant) → World.reservable_from (option_map (History.cooldown_of s) kept) ≤ World.dialable_from (option_map (History.cooldown_of s) kept)
+  reservable_first : (kept : Option Grant) →
+      World.reservable_from (option_map (History.cooldown_of s) kept) ≤ World.dialable_from
+      (option_map (History.cooldown_of s) kept)
   reservable_first None = omega arith
   reservable_first (Some grant) = omega arith
 
@@ -60,18 +62,30 @@ module _ {C S : Type 0} (s : Setup C S) where
   cooled_first p h = reservable_first (last_unless_ended (History.grant_by s p) (History.is_forgetting s) h)
 
   pub granted : (p : C) (t draw : ℕ) (w : World C S) → World.reservable_from (w.cooldown p) ≤ World.dialable_from (w.cooldown p) → is_dialable s w t p ≡ true →
-      IsDialled s p t draw (World.dial_event s p t draw (World.may_dial s p t w.sets (w.peer p) (w.unblock p) (w.cooldown p)) (World.address_with s p (w.peer p).known.info))
+      IsDialled s p t draw
+      (World.dial_event s p t draw (World.may_dial s p t w.sets (w.peer p) (w.unblock p) (w.cooldown p))
+      (World.address_with s p (w.peer p).known.info))
   granted p t draw w first dialable =
       go (World.address_with s p (w.peer p).known.info) parts.valid (World.may_dial s p t w.sets (w.peer p) (w.unblock p) (w.cooldown p))
       (and_from _ _ (and_from _ _
-      (all_of (History.is_entitled s p w.sets) (History.is_inert (w.peer p).status) (not (World.is_blocked (w.unblock p) t)) (nat_le (World.reservable_from (w.cooldown p)) t)
-      parts.entitled parts.inert parts.free (le-leb (World.reservable_from (w.cooldown p)) t (omega (arith, leb-true (World.dialable_from (w.cooldown p)) t parts.cool, first))))
+      (all_of (History.is_entitled s p w.sets) (History.is_inert (w.peer p).status)
+      (not (World.is_blocked (w.unblock p) t)) (nat_le (World.reservable_from (w.cooldown p)) t)
+      parts.entitled parts.inert parts.free
+      (le-leb (World.reservable_from (w.cooldown p)) t
+      (omega (arith, leb-true (World.dialable_from (w.cooldown p)) t parts.cool, first))))
       parts.target) parts.valid)
     where
-      parts : Parts (History.is_entitled s p w.sets) (History.is_inert (w.peer p).status) (World.is_valid_address s (World.address_with s p (w.peer p).known.info)) (World.is_dial_target s p w.sets) (not (World.is_blocked (w.unblock p) t)) (nat_le (World.dialable_from (w.cooldown p)) t)
-      parts = parts_of (History.is_entitled s p w.sets) (History.is_inert (w.peer p).status) (World.is_valid_address s (World.address_with s p (w.peer p).known.info)) (World.is_dial_target s p w.sets) (not (World.is_blocked (w.unblock p) t)) (nat_le (World.dialable_from (w.cooldown p)) t) dialable
+      parts : Parts (History.is_entitled s p w.sets) (History.is_inert (w.peer p).status)
+          (World.is_valid_address s (World.address_with s p (w.peer p).known.info))
+          (World.is_dial_target s p w.sets) (not (World.is_blocked (w.unblock p) t))
+          (nat_le (World.dialable_from (w.cooldown p)) t)
+      parts = parts_of (History.is_entitled s p w.sets) (History.is_inert (w.peer p).status)
+          (World.is_valid_address s (World.address_with s p (w.peer p).known.info))
+          (World.is_dial_target s p w.sets) (not (World.is_blocked (w.unblock p) t))
+          (nat_le (World.dialable_from (w.cooldown p)) t) dialable
 
-      go : (address : Option Ingress) → World.is_valid_address s address ≡ true → (may : Bool) → may ≡ true → IsDialled s p t draw (World.dial_event s p t draw may address)
+      go : (address : Option Ingress) → World.is_valid_address s address ≡ true → (may : Bool) → may ≡ true →
+          IsDialled s p t draw (World.dial_event s p t draw may address)
       go None valid may e = absurd (cc)
       go (Some a) valid true e = (a, refl)
       go (Some a) valid false e = absurd (cc)
@@ -94,7 +108,8 @@ module _ {C S : Type 0} (s : Setup C S) where
     still_dialable some p t draw xs cs apart.1 dialable.2,
   )
 
-  all_dialled : 1 ≤ s.max_sets → (t : ℕ) (xs : List (C × ℕ)) (cs : List (Call C S)) → AreDialable (World.world_at s (World.past s cs)) t xs → AreDialled s t xs cs
+  all_dialled : 1 ≤ s.max_sets → (t : ℕ) (xs : List (C × ℕ)) (cs : List (Call C S)) →
+      AreDialable (World.world_at s (World.past s cs)) t xs → AreDialled s t xs cs
   all_dialled some t [] cs dialable = tt
   all_dialled some t (x ∷ xs) cs dialable = (
     granted x.0 t x.1 (World.world_at s (World.past s cs)) (cooled_first x.0 (World.past s cs)) dialable.0,

@@ -9,7 +9,8 @@ use Rattle.p2p_tracker.specs.Answers.{is_present_in}
 use Rattle.p2p_directory.proofs.LawsOfRuns.Isolation
 
 module _ {C S : Type 0} (s : Setup C S) where
-  pub absent : (cs : List (Call C S)) (p : C) → is_present_in s (World.world_at s (World.past s cs)) p ≡ false → ((World.world_at s (World.past s cs)).peer p).known ≡ Step.new_known s p
+  pub absent : (cs : List (Call C S)) (p : C) → is_present_in s (World.world_at s (World.past s cs)) p ≡ false →
+      ((World.world_at s (World.past s cs)).peer p).known ≡ Step.new_known s p
   absent cs p gone =
       sym (Isolation.forgotten s p (World.past s cs))
       ∙ ap (λ b. if b then World.known_in s p (History.life s p (World.past s cs)) else Step.new_known s p) gone

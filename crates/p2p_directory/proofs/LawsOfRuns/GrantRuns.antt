@@ -17,7 +17,9 @@ use Rattle.p2p_directory.specs.Laws.Grants.{IsSpaced, IsSpacedUnlessForgotten, o
 use Rattle.p2p_directory.specs.Run
 use Rattle.p2p_directory.specs.declared.run.commands.Reply.{Reply}
 use Rattle.p2p_directory.specs.declared.run.commands.Reply.TheVariants as reply
-use Rattle.p2p_directory.specs.Laws.GrantRuns.{granted_by, forgets_by, blocked_by, IsCooledAfter, last_after, kept_after, KeepCooldownUnlessForgotten, KeepCooldown}
+use Rattle.p2p_directory.specs.Laws.GrantRuns.{granted_by, forgets_by, blocked_by, IsCooledAfter}
+use Rattle.p2p_directory.specs.Laws.GrantRuns.{last_after, kept_after, KeepCooldownUnlessForgotten}
+use Rattle.p2p_directory.specs.Laws.GrantRuns.{KeepCooldown}
 use Rattle.p2p_directory.proofs.Definitions.Steps
 use Rattle.p2p_directory.proofs.LawsOfRuns.Spacing
 
@@ -73,29 +75,60 @@ module _ {C S : Type 0} (s : Setup C S) where
     pub granted : granted_by s p c r ≡ if_accepted (Run.is_accepted s r) (moment_by p e)
     pub blocked : blocked_by s p c r ≡ if_accepted (Run.is_accepted s r) (History.block_by s p e)
 
-  told : (p : C) (sets : List (SetAt C)) (w v : World C S) (c : Call C S) (r : Reply C S) → Run.MayReply s (World.event_in s sets w c) w v c r → IsTold p c r (World.event_in s sets w c)
+  told : (p : C) (sets : List (SetAt C)) (w v : World C S) (c : Call C S) (r : Reply C S) →
+      Run.MayReply s (World.event_in s sets w c) w v c r → IsTold p c r (World.event_in s sets w c)
   told p sets w v (Track index primary secondary) r a = go (list_all (λ x. nat_lt x.index index) sets)
     where
-      go : (b : Bool) → IsTold p (Track index primary secondary) r (if b then Tracked (record { index = index; primary = primary; secondary = filter (λ q. not (History.is_in s q primary)) secondary }) else Nothing)
+      go : (b : Bool) →
+          IsTold p (Track index primary secondary) r
+          (if b then Tracked
+          (record {
+            index = index;
+            primary = primary;
+            secondary =
+                filter (λ q. not (History.is_in s q primary)) secondary;
+          }) else Nothing)
       go true = record { granted = nothing (Run.is_accepted s r); blocked = nothing (Run.is_accepted s r) }
       go false = record { granted = nothing (Run.is_accepted s r); blocked = nothing (Run.is_accepted s r) }
-  told p sets w v (Dial q t draw) r a = go (World.may_dial s q t w.sets (w.peer q) (w.unblock q) (w.cooldown q)) (World.address_with s q (w.peer q).known.info) (replied (World.event_in s sets w (Dial q t draw)) w v (Dial q t draw) r a)
+  told p sets w v (Dial q t draw) r a = go (World.may_dial s q t w.sets (w.peer q) (w.unblock q) (w.cooldown q))
+      (World.address_with s q (w.peer q).known.info)
+      (replied (World.event_in s sets w (Dial q t draw)) w v (Dial q t draw) r a)
     where
-      go : (b : Bool) (address : Option Ingress) → (r ≡ reply.OutOfMemory) ⊎ Run.Replies s (World.dial_event s q t draw b address) w v (Dial q t draw) r → IsTold p (Dial q t draw) r (World.dial_event s q t draw b address)
+      go : (b : Bool) (address : Option Ingress) →
+          (r ≡ reply.OutOfMemory) ⊎ Run.Replies s (World.dial_event s q t draw b address) w v (Dial q t draw) r →
+          IsTold p (Dial q t draw) r (World.dial_event s q t draw b address)
       go b address (inl e) = subst (λ x. IsTold p (Dial q t draw) x (World.dial_event s q t draw b address)) (sym e) (record { granted = refl; blocked = refl })
       go b None (inr e) = subst (λ x. IsTold p (Dial q t draw) x Nothing) (sym e) (record { granted = refl; blocked = refl })
       go false (Some x) (inr e) = subst (λ y. IsTold p (Dial q t draw) y Nothing) (sym e) (record { granted = refl; blocked = refl })
       go true (Some x) (inr e) =
           subst (λ y. IsTold p (Dial q t draw) y (World.dial_event s q t draw true (Some x))) (sym e)
-          (record { granted = elim (History.same s q p) as (λ b. (if b then Some (t, draw) else None) ≡ option_map made (if b then Some (record { t = t; draw = draw; direction = Dialer x }) else None)) [ true ↦ refl | false ↦ refl ]; blocked = refl })
-  told p sets w v (Listen q t draw) r a = go (World.may_listen s q t w.sets (w.peer q) (w.unblock q) (w.cooldown q)) (replied (World.event_in s sets w (Listen q t draw)) w v (Listen q t draw) r a)
+          (record {
+            granted =
+                elim (History.same s q p) as
+                (λ b. (if b then Some (t, draw) else None)
+                ≡ option_map made (if b then Some (record { t = t; draw = draw; direction = Dialer x }) else None))
+                [ true ↦ refl | false ↦ refl ];
+            blocked = refl;
+          })
+  told p sets w v (Listen q t draw) r a =
+      go (World.may_listen s q t w.sets (w.peer q) (w.unblock q) (w.cooldown q))
+      (replied (World.event_in s sets w (Listen q t draw)) w v (Listen q t draw) r a)
     where
-      go : (b : Bool) → (r ≡ reply.OutOfMemory) ⊎ Run.Replies s (World.listen_event s q t draw b) w v (Listen q t draw) r → IsTold p (Listen q t draw) r (World.listen_event s q t draw b)
+      go : (b : Bool) →
+          (r ≡ reply.OutOfMemory) ⊎ Run.Replies s (World.listen_event s q t draw b) w v (Listen q t draw) r →
+          IsTold p (Listen q t draw) r (World.listen_event s q t draw b)
       go b (inl e) = subst (λ x. IsTold p (Listen q t draw) x (World.listen_event s q t draw b)) (sym e) (record { granted = refl; blocked = refl })
       go false (inr e) = subst (λ y. IsTold p (Listen q t draw) y Nothing) (sym e) (record { granted = refl; blocked = refl })
       go true (inr e) =
           subst (λ y. IsTold p (Listen q t draw) y (World.listen_event s q t draw true)) (sym e)
-          (record { granted = elim (History.same s q p) as (λ b. (if b then Some (t, draw) else None) ≡ option_map made (if b then Some (record { t = t; draw = draw; direction = Listener }) else None)) [ true ↦ refl | false ↦ refl ]; blocked = refl })
+          (record {
+            granted =
+                elim (History.same s q p) as
+                (λ b. (if b then Some (t, draw) else None)
+                ≡ option_map made (if b then Some (record { t = t; draw = draw; direction = Listener }) else None))
+                [ true ↦ refl | false ↦ refl ];
+            blocked = refl;
+          })
   told p sets w v (Connect q dialer) r a = go (w.peer q).status
     where
       go : (status : Status) → IsTold p (Connect q dialer) r (World.connect_event s q dialer status)
@@ -108,9 +141,12 @@ module _ {C S : Type 0} (s : Setup C S) where
       go None = record { granted = nothing (Run.is_accepted s r); blocked = nothing (Run.is_accepted s r) }
       go (Some grant) = record { granted = nothing (Run.is_accepted s r); blocked = nothing (Run.is_accepted s r) }
   told p sets w v (Update infos) r a = record { granted = nothing (Run.is_accepted s r); blocked = nothing (Run.is_accepted s r) }
-  told p sets w v (Block q t) r a = go (not (History.is_own s q) && not (World.is_blocked (w.unblock q) t)) (replied (World.event_in s sets w (Block q t)) w v (Block q t) r a)
+  told p sets w v (Block q t) r a = go (not (History.is_own s q) && not (World.is_blocked (w.unblock q) t))
+      (replied (World.event_in s sets w (Block q t)) w v (Block q t) r a)
     where
-      go : (b : Bool) → (r ≡ reply.OutOfMemory) ⊎ Run.Replies s (if b then Blocked q t else Nothing) w v (Block q t) r → IsTold p (Block q t) r (if b then Blocked q t else Nothing)
+      go : (b : Bool) →
+          (r ≡ reply.OutOfMemory) ⊎ Run.Replies s (if b then Blocked q t else Nothing) w v (Block q t) r →
+          IsTold p (Block q t) r (if b then Blocked q t else Nothing)
       go b (inl e) = subst (λ x. IsTold p (Block q t) x (if b then Blocked q t else Nothing)) (sym e) (record { granted = refl; blocked = refl })
       go false (inr e) = subst (λ y. IsTold p (Block q t) y Nothing) (sym e) (record { granted = refl; blocked = refl })
       go true (inr e) = subst (λ y. IsTold p (Block q t) y (Blocked q t)) (sym e) (record { granted = refl; blocked = refl })
@@ -128,7 +164,9 @@ module _ {C S : Type 0} (s : Setup C S) where
   later_back [] now later le on = tt
   later_back (c ∷ cs) now later le on = go (moment_of s c) (λ x. later_back cs now later le x) on
     where
-      go : (o : Option ℕ) → (NeverGoBack s now cs → NeverGoBack s later cs) → (or_now now o ≤ now) × NeverGoBack s (or_now now o) cs → (or_now later o ≤ later) × NeverGoBack s (or_now later o) cs
+      go : (o : Option ℕ) → (NeverGoBack s now cs → NeverGoBack s later cs) →
+          (or_now now o ≤ now) × NeverGoBack s (or_now now o) cs →
+          (or_now later o ≤ later) × NeverGoBack s (or_now later o) cs
       go None more on = (omega arith, more on.1)
       go (Some t) more on = (omega (arith, on.0), on.1)
 
@@ -140,7 +178,8 @@ module _ {C S : Type 0} (s : Setup C S) where
       go None le = (omega arith, on)
       go (Some t) le = (omega arith, later_back cs now t le on)
 
-  next_forward : (c : Call C S) (cs : List (Call C S)) (now : ℕ) (accepted : Bool) → now ≤ moment_or s now c → NeverGoBack s now cs → NeverGoBack s (moment_or s now c) (if accepted then c ∷ cs else cs)
+  next_forward : (c : Call C S) (cs : List (Call C S)) (now : ℕ) (accepted : Bool) → now ≤ moment_or s now c →
+      NeverGoBack s now cs → NeverGoBack s (moment_or s now c) (if accepted then c ∷ cs else cs)
   next_forward c cs now true le on = one_forward c cs now le on
   next_forward c cs now false le on = later_back cs now (moment_or s now c) le on
 
@@ -150,12 +189,15 @@ module _ {C S : Type 0} (s : Setup C S) where
   abbrev ForgetsAlike : Bool → Call C S → Event C S → Type 0
   ForgetsAlike accepted c e = (grant : Grant) → forgets_by s (made grant) c ≡ (if accepted then History.is_forgetting s grant e else false)
 
-  none_forgotten : (accepted : Bool) (c : Call C S) (e : Event C S) → ((grant : Grant) → forgets_by s (made grant) c ≡ false) → ((grant : Grant) → History.is_forgetting s grant e ≡ false) → ForgetsAlike accepted c e
+  none_forgotten : (accepted : Bool) (c : Call C S) (e : Event C S) →
+      ((grant : Grant) → forgets_by s (made grant) c ≡ false) →
+      ((grant : Grant) → History.is_forgetting s grant e ≡ false) → ForgetsAlike accepted c e
   none_forgotten true c e left right = λ grant. left grant ∙ sym (right grant)
   none_forgotten false c e left right = left
 
   -- the reply to a call to forget
-  forgets_told : (u : ℕ) (w v : World C S) (r : Reply C S) → Run.MayReply s (Forgot u) w v (ForgetCooled u) r → ForgetsAlike (Run.is_accepted s r) (ForgetCooled u) (Forgot u)
+  forgets_told : (u : ℕ) (w v : World C S) (r : Reply C S) → Run.MayReply s (Forgot u) w v (ForgetCooled u) r →
+      ForgetsAlike (Run.is_accepted s r) (ForgetCooled u) (Forgot u)
   forgets_told u w v (reply.ForgetCooled count) a = λ grant. refl
   forgets_told u w v reply.OutOfMemory a = absurd a
   forgets_told u w v (reply.Track torn) a = absurd a
@@ -183,11 +225,21 @@ module _ {C S : Type 0} (s : Setup C S) where
   forgets_told u w v reply.NotReserved a = absurd a
   forgets_told u w v reply.NotHeld a = absurd a
 
-  forgets_after : (sets : List (SetAt C)) (w v : World C S) (c : Call C S) (r : Reply C S) → Run.MayReply s (World.event_in s sets w c) w v c r → ForgetsAlike (Run.is_accepted s r) c (World.event_in s sets w c)
+  forgets_after : (sets : List (SetAt C)) (w v : World C S) (c : Call C S) (r : Reply C S) →
+      Run.MayReply s (World.event_in s sets w c) w v c r →
+      ForgetsAlike (Run.is_accepted s r) c (World.event_in s sets w c)
   forgets_after sets w v (ForgetCooled u) r a = forgets_told u w v r a
   forgets_after sets w v (Track index primary secondary) r a = none_forgotten (Run.is_accepted s r) (Track index primary secondary) _ (λ grant. refl) (go _)
     where
-      go : (b : Bool) (grant : Grant) → History.is_forgetting s grant (if b then Tracked (record { index = index; primary = primary; secondary = filter (λ q. not (History.is_in s q primary)) secondary }) else Nothing) ≡ false
+      go : (b : Bool) (grant : Grant) →
+          History.is_forgetting s grant
+          (if b then Tracked
+          (record {
+            index = index;
+            primary = primary;
+            secondary =
+                filter (λ q. not (History.is_in s q primary)) secondary;
+          }) else Nothing) ≡ false
       go true grant = refl
       go false grant = refl
   forgets_after sets w v (Dial q t draw) r a = none_forgotten (Run.is_accepted s r) (Dial q t draw) _ (λ grant. refl) (go _ _)
@@ -230,18 +282,21 @@ module _ {C S : Type 0} (s : Setup C S) where
 
   -- after one more reply
   last_more : (p : C) (before : List (Call C S)) (c : Call C S) (accepted : Bool) →
-      last_after s (if_accepted accepted (moment_by p (Run.event_of s before c))) (last_in p (World.past s before)) ≡ last_in p (World.past s (if accepted then c ∷ before else before))
+      last_after s (if_accepted accepted (moment_by p (Run.event_of s before c))) (last_in p (World.past s before))
+      ≡ last_in p (World.past s (if accepted then c ∷ before else before))
   last_more p before c false = refl
   last_more p before c true = go (History.grant_by s p (Run.event_of s before c)) (last_with (History.grant_by s p) (World.past s before))
     where
       go : (given : Option Grant) (found : Option (Grant × List (Event C S))) →
-          last_after s (option_map made given) (option_map (λ found. made found.0) found) ≡ option_map (λ found. made found.0) (found_with given (Run.event_of s before c) found)
+          last_after s (option_map made given) (option_map (λ found. made found.0) found)
+          ≡ option_map (λ found. made found.0) (found_with given (Run.event_of s before c) found)
       go (Some grant) found = refl
       go None None = refl
       go None (Some found) = refl
 
   kept_more : (p : C) (before : List (Call C S)) (c : Call C S) (accepted : Bool) → ForgetsAlike accepted c (Run.event_of s before c) →
-      kept_after s c (if_accepted accepted (moment_by p (Run.event_of s before c))) (kept_in p (World.past s before)) ≡ kept_in p (World.past s (if accepted then c ∷ before else before))
+      kept_after s c (if_accepted accepted (moment_by p (Run.event_of s before c)))
+      (kept_in p (World.past s before)) ≡ kept_in p (World.past s (if accepted then c ∷ before else before))
   kept_more p before c false alike = go (last_unless_ended (History.grant_by s p) (History.is_forgetting s) (World.past s before))
     where
       go : (kept : Option Grant) → kept_after s c None (option_map made kept) ≡ option_map made kept
@@ -251,12 +306,16 @@ module _ {C S : Type 0} (s : Setup C S) where
       go (History.grant_by s p (Run.event_of s before c)) (last_unless_ended (History.grant_by s p) (History.is_forgetting s) (World.past s before))
       ∙ sym (ap (option_map made) (Steps.lasting_step (History.grant_by s p) (History.is_forgetting s) (Run.event_of s before c) (World.past s before)))
     where
-      go : (given kept : Option Grant) → kept_after s c (option_map made given) (option_map made kept) ≡ option_map made (Steps.lasted given (λ grant. History.is_forgetting s grant (Run.event_of s before c)) kept)
+      go : (given kept : Option Grant) → kept_after s c (option_map made given) (option_map made kept)
+          ≡ option_map made
+          (Steps.lasted given (λ grant. History.is_forgetting s grant (Run.event_of s before c)) kept)
       go (Some grant) kept = refl
       go None None = refl
       go None (Some grant) =
           ap (λ b. if b then None else Some (made grant)) (alike grant)
-          ∙ elim (History.is_forgetting s grant (Run.event_of s before c)) as (λ b. (if b then None else Some (made grant)) ≡ option_map made (if b then None else Some grant)) [ true ↦ refl | false ↦ refl ]
+          ∙ elim (History.is_forgetting s grant (Run.event_of s before c)) as
+          (λ b. (if b then None else Some (made grant)) ≡ option_map made (if b then None else Some grant))
+          [ true ↦ refl | false ↦ refl ]
 
   -- what the laws of the past say, on these
   spaced_kept : (accepted : Bool) (given : Option Grant) (found : Option (Grant × List (Event C S))) → IsSpacedUnlessForgotten s given found →
@@ -266,7 +325,8 @@ module _ {C S : Type 0} (s : Setup C S) where
   spaced_kept true (Some grant) None spaced = tt
   spaced_kept true (Some grant) (Some found) spaced = go (list_any (History.is_forgetting s found.0) found.1) refl
     where
-      go : (b : Bool) → list_any (History.is_forgetting s found.0) found.1 ≡ b → IsCooledAfter s (Some (made grant)) (option_map made (if b then None else Some found.0))
+      go : (b : Bool) → list_any (History.is_forgetting s found.0) found.1 ≡ b →
+          IsCooledAfter s (Some (made grant)) (option_map made (if b then None else Some found.0))
       go true e = tt
       go false e = spaced e
 
@@ -287,14 +347,16 @@ module _ {C S : Type 0} (s : Setup C S) where
       let f = forgets_after (History.taken_sets s (World.past s before)) (Run.world_after s before) (Run.world_after s (c ∷ before)) c r answers.0 in (
         subst (λ o. IsCooledAfter s o kept) (sym t.granted)
             (subst (λ o. IsCooledAfter s (if_accepted (Run.is_accepted s r) (moment_by p (Run.event_of s before c))) o) (sym e)
-            (spaced_kept (Run.is_accepted s r) (History.grant_by s p (Run.event_of s before c)) (last_with (History.grant_by s p) (World.past s before)) (Spacing.next_spaced s exact p c before))),
+            (spaced_kept (Run.is_accepted s r) (History.grant_by s p (Run.event_of s before c))
+            (last_with (History.grant_by s p) (World.past s before)) (Spacing.next_spaced s exact p c before))),
         keep_unless_forgotten_from exact p (kept_after s c (granted_by s p c r) kept) (Run.next s before c r) cs rs
             ((λ i. kept_after s c (t.granted i) (e i)) ∙ kept_more p before c (Run.is_accepted s r) f)
             answers.1,
       )
 
   -- by the replies to a whole run, the grants of p keep the cooldown, unless forgotten
-  pub keep_unless_forgotten : History.IsExact s → (p : C) (cs : List (Call C S)) (rs : List (Reply C S)) → Run.AreAnswers s [] cs rs → KeepCooldownUnlessForgotten s p None cs rs
+  pub keep_unless_forgotten : History.IsExact s → (p : C) (cs : List (Call C S)) (rs : List (Reply C S)) →
+      Run.AreAnswers s [] cs rs → KeepCooldownUnlessForgotten s p None cs rs
   keep_unless_forgotten exact p cs rs answers = keep_unless_forgotten_from exact p None [] cs rs refl answers
 
   keep_cooldown_from : History.IsExact s → (p : C) (last : Option (ℕ × ℕ)) (now : ℕ) (before cs : List (Call C S)) (rs : List (Reply C S)) →

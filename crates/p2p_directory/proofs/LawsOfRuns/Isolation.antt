@@ -22,18 +22,26 @@ filter_again : {A : Type 0} (test : A → Bool) (xs : List A) → filter test (f
 filter_again test [] = refl
 filter_again test (x ∷ xs) = go (filter_again test xs) (test x) refl
   where
-    go : filter test (filter test xs) ≡ filter test xs → (b : Bool) → test x ≡ b → filter test (cond b (x ∷ filter test xs) (filter test xs)) ≡ cond b (x ∷ filter test xs) (filter test xs)
+    go : filter test (filter test xs) ≡ filter test xs → (b : Bool) → test x ≡ b →
+        filter test (cond b (x ∷ filter test xs) (filter test xs)) ≡ cond b (x ∷ filter test xs) (filter test xs)
     go again true e = ap (λ b. cond b (x ∷ filter test (filter test xs)) (filter test (filter test xs))) e ∙ ap (λ ys. x ∷ ys) again
     go again false e = again
 
 module _ {C S : Type 0} (s : Setup C S) where
   -- where p is absent, all is forgotten
-  pub forgotten : (p : C) (h : List (Event C S)) → (if History.is_present s p h then World.known_in s p (History.life s p h) else Step.new_known s p) ≡ World.known_in s p (History.life s p h)
+  pub forgotten : (p : C) (h : List (Event C S)) →
+      (if History.is_present s p h then World.known_in s p (History.life s p h) else Step.new_known s p)
+      ≡ World.known_in s p (History.life s p h)
   unfolding History.life
-  forgotten p [] = elim (History.is_present s p []) as (λ b. (if b then World.known_in s p [] else Step.new_known s p) ≡ World.known_in s p []) [ true ↦ refl | false ↦ sym (Knowledge.known_nothing s p) ]
+  forgotten p [] =
+      elim (History.is_present s p []) as
+      (λ b. (if b then World.known_in s p [] else Step.new_known s p) ≡ World.known_in s p [])
+      [ true ↦ refl | false ↦ sym (Knowledge.known_nothing s p) ]
   forgotten p (e ∷ h) = go (History.is_present s p (e ∷ h))
     where
-      go : (b : Bool) → (if b then World.known_in s p (if b then e ∷ History.life s p h else []) else Step.new_known s p) ≡ World.known_in s p (if b then e ∷ History.life s p h else [])
+      go : (b : Bool) →
+          (if b then World.known_in s p (if b then e ∷ History.life s p h else []) else Step.new_known s p)
+          ≡ World.known_in s p (if b then e ∷ History.life s p h else [])
       go true = refl
       go false = sym (Knowledge.known_nothing s p)
 
@@ -86,7 +94,9 @@ module _ {C S : Type 0} (s : Setup C S) where
   known_quiet : (p : C) (e : Event C S) (k : Known C S) → is_quiet p e ≡ true → Step.known_after s p e k ≡ k
   known_quiet p (Granted q grant) k quiet = refl
   known_quiet p (Connected q dialer) k quiet = ap (λ b. if b && dialer then record k { fails = 0 } else k) (not-true (History.same s q p) quiet)
-  known_quiet p (Released q direction) k quiet = ap (λ b. if b && Step.is_failed_dial s k.info direction then record k { fails = suc k.fails } else k) (not-true (History.same s q p) quiet)
+  known_quiet p (Released q direction) k quiet =
+      ap (λ b. if b && Step.is_failed_dial s k.info direction then record k { fails = suc k.fails } else k)
+      (not-true (History.same s q p) quiet)
   known_quiet p (Updated infos) k quiet = absurd (cc)
   known_quiet p Nothing k quiet = refl
   known_quiet p (Tracked taken) k quiet = refl
@@ -130,8 +140,11 @@ module _ {C S : Type 0} (s : Setup C S) where
   }
 
   -- a question leaves each peer as it was
-  pub asked_alike : (p : C) (question : Question C) (cs : List (Call C S)) → SameFor p (World.world_at s (World.past s (Ask question ∷ cs))) (World.world_at s (World.past s cs))
-  asked_alike p question cs = subst (λ u. SameFor p u (World.world_at s (World.past s cs))) (sym (Law.world_step s Nothing (World.past s cs))) (quiet_world p Nothing (World.past s cs) refl)
+  pub asked_alike : (p : C) (question : Question C) (cs : List (Call C S)) →
+      SameFor p (World.world_at s (World.past s (Ask question ∷ cs))) (World.world_at s (World.past s cs))
+  asked_alike p question cs =
+      subst (λ u. SameFor p u (World.world_at s (World.past s cs)))
+      (sym (Law.world_step s Nothing (World.past s cs))) (quiet_world p Nothing (World.past s cs) refl)
 
   another_quiet : (p : C) (sets : List (SetAt C)) (w : World C S) (c : Call C S) → is_on_another s p c ≡ true → is_quiet p (World.event_in s sets w c) ≡ true
   another_quiet p sets w (Dial q t draw) other = go _ _
@@ -181,7 +194,8 @@ module _ {C S : Type 0} (s : Setup C S) where
   at_key : (p q : C) (w v : World C S) → History.IsExact s → not (History.same s q p) ≡ false → SameFor p w v → SameFor q w v
   at_key p q w v exact e alike = subst (λ x. SameFor x w v) (sym (exact q p (not-false (History.same s q p) e))) alike
 
-  pub does_alike : (p : C) (w v : World C S) (c : Call C S) → History.IsExact s → SameFor p w v → is_on_another s p c ≡ false → World.event_in s w.sets w c ≡ World.event_in s v.sets v c
+  pub does_alike : (p : C) (w v : World C S) (c : Call C S) → History.IsExact s → SameFor p w v →
+      is_on_another s p c ≡ false → World.event_in s w.sets w c ≡ World.event_in s v.sets v c
   does_alike p w v (Track index primary secondary) exact alike mine = ap (λ sets. World.track_event s sets index primary secondary) alike.sets
   does_alike p w v (Dial q t draw) exact alike mine =
       let a = at_key p q w v exact mine alike in
@@ -205,7 +219,9 @@ module _ {C S : Type 0} (s : Setup C S) where
   narrowed_alike p w (Update infos) = record {
     sets = refl;
     peer = ap (λ is. record (Step.peer_after s p (Updated infos) w.sets (w.peer p)) {
-      known = if History.is_present_with s p w.sets (w.peer p).status then (if History.is_own s p then (w.peer p).known else Step.known_with_infos s (w.peer p).known is) else Step.new_known s p;
+      known = if History.is_present_with s p w.sets (w.peer p).status
+          then (if History.is_own s p then (w.peer p).known else Step.known_with_infos s (w.peer p).known is)
+          else Step.new_known s p;
     })
         (sym (filter_again (λ i. History.same s i.public_key p) infos));
     unblock = refl;
@@ -223,13 +239,23 @@ module _ {C S : Type 0} (s : Setup C S) where
   narrowed_alike p w (Ask question) = record { sets = refl; peer = refl; unblock = refl; cooldown = refl; held = refl }
 
   pub joined : (p : C) (u v w : World C S) → SameFor p u v → SameFor p v w → SameFor p u w
-  joined p u v w a b = record { sets = a.sets ∙ b.sets; peer = a.peer ∙ b.peer; unblock = a.unblock ∙ b.unblock; cooldown = a.cooldown ∙ b.cooldown; held = a.held ∙ b.held }
+  joined p u v w a b =
+      record {
+        sets = a.sets ∙ b.sets;
+        peer = a.peer ∙ b.peer;
+        unblock = a.unblock ∙ b.unblock;
+        cooldown =
+            a.cooldown ∙ b.cooldown;
+        held = a.held ∙ b.held;
+      }
 
   -- a call that isn't on another peer, with other infos left out
-  step_alike : (p : C) (w v : World C S) (c : Call C S) → History.IsExact s → SameFor p w v → is_on_another s p c ≡ false → SameFor p (Step.step s w c) (Step.step s v (narrowed s p c))
+  step_alike : (p : C) (w v : World C S) (c : Call C S) → History.IsExact s → SameFor p w v →
+      is_on_another s p c ≡ false → SameFor p (Step.step s w c) (Step.step s v (narrowed s p c))
   step_alike p w v c exact alike mine =
       joined p (Step.step s w c) (Step.step s v c) (Step.step s v (narrowed s p c))
-      (subst (λ e. SameFor p (Step.step s w c) (Step.world_with s e v)) (does_alike p w v c exact alike mine) (after_alike p (World.event_in s w.sets w c) w v alike))
+      (subst (λ e. SameFor p (Step.step s w c) (Step.world_with s e v)) (does_alike p w v c exact alike mine)
+      (after_alike p (World.event_in s w.sets w c) w v alike))
       (narrowed_alike p v c)
 
   -- a call on another peer leaves p as it was
@@ -240,8 +266,11 @@ module _ {C S : Type 0} (s : Setup C S) where
       subst (λ u. SameFor p u w) (sym (Law.recomputed_is_one_step s some cs c))
       (quiet_world p (World.event_in s w.sets w c) (World.past s cs) (another_quiet p w.sets w c e))
 
-  isolated_step : 1 ≤ s.max_sets → History.IsExact s → (p : C) (c : Call C S) (cs ds : List (Call C S)) → SameFor p (World.world_at s (World.past s cs)) (World.world_at s (World.past s ds)) →
-      (b : Bool) → is_on_another s p c ≡ b → SameFor p (World.world_at s (World.past s (c ∷ cs))) (World.world_at s (World.past s (if b then ds else narrowed s p c ∷ ds)))
+  isolated_step : 1 ≤ s.max_sets → History.IsExact s → (p : C) (c : Call C S) (cs ds : List (Call C S)) →
+      SameFor p (World.world_at s (World.past s cs)) (World.world_at s (World.past s ds)) →
+      (b : Bool) → is_on_another s p c ≡ b →
+      SameFor p (World.world_at s (World.past s (c ∷ cs)))
+      (World.world_at s (World.past s (if b then ds else narrowed s p c ∷ ds)))
   isolated_step some exact p c cs ds alike true e =
       joined p (World.world_at s (World.past s (c ∷ cs))) (World.world_at s (World.past s cs)) (World.world_at s (World.past s ds))
       (another_alike some p c cs e) alike
@@ -250,7 +279,8 @@ module _ {C S : Type 0} (s : Setup C S) where
       (subst (λ v. SameFor p (Step.step s (World.world_at s (World.past s cs)) c) v) (sym (Law.recomputed_is_one_step s some ds (narrowed s p c)))
       (step_alike p (World.world_at s (World.past s cs)) (World.world_at s (World.past s ds)) c exact alike e))
 
-  pub isolated : 1 ≤ s.max_sets → History.IsExact s → (p : C) (cs : List (Call C S)) → SameFor p (World.world_at s (World.past s cs)) (World.world_at s (World.past s (left_for s p cs)))
+  pub isolated : 1 ≤ s.max_sets → History.IsExact s → (p : C) (cs : List (Call C S)) →
+      SameFor p (World.world_at s (World.past s cs)) (World.world_at s (World.past s (left_for s p cs)))
   isolated some exact p [] = record { sets = refl; peer = refl; unblock = refl; cooldown = refl; held = refl }
   isolated some exact p (c ∷ cs) = isolated_step some exact p c cs (left_for s p cs) (isolated some exact p cs) (is_on_another s p c) refl
 
@@ -272,4 +302,5 @@ module _ {C S : Type 0} (s : Setup C S) where
   }
 
   pub torn_down_alike : (p : C) (w v w2 v2 : World C S) → SameFor p w w2 → SameFor p v v2 → Answers.is_torn_down s w v p ≡ Answers.is_torn_down s w2 v2 p
-  torn_down_alike p w v w2 v2 a b = λ i. not (History.is_inert (a.peer i).status) && History.is_entitled s p (a.sets i) && not (History.is_entitled s p (b.sets i))
+  torn_down_alike p w v w2 v2 a b = λ i. not (History.is_inert (a.peer i).status) && History.is_entitled s p
+      (a.sets i) && not (History.is_entitled s p (b.sets i))

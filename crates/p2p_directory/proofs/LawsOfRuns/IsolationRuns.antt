@@ -4,11 +4,14 @@ use Rattle.std.specs.Prelude.{if◌then◌else◌}
 use Rattle.std.specs.Option.{option_map, IsSomeAnd}
 use Rattle.p2p_discovery.specs.Ingress.{takes_none}
 use Rattle.p2p_tracker.specs.Calls.{Setup, Question, Call, Event}
-use Rattle.p2p_tracker.specs.Calls.Question.{StatusOf, NumberTracked, NextUnblock, BlockedAt, PeerSet, LatestIndex, AllPeers, LatestUpdate, InfoOf, InfosFor, BitsAt, IsEligible, IsAcceptable, DialableAt}
+use Rattle.p2p_tracker.specs.Calls.Question.{StatusOf, NumberTracked, NextUnblock, BlockedAt}
+use Rattle.p2p_tracker.specs.Calls.Question.{PeerSet, LatestIndex, AllPeers, LatestUpdate, InfoOf}
+use Rattle.p2p_tracker.specs.Calls.Question.{InfosFor, BitsAt, IsEligible, IsAcceptable, DialableAt}
 use Rattle.p2p_tracker.specs.Calls.Call.{Track, Dial, Listen, Connect, Release, Update, Block, UnblockExpired, ForgetCooled, Ask}
 use Rattle.p2p_tracker.specs.History
 use Rattle.p2p_tracker.specs.World.{World}
-use Rattle.p2p_tracker.specs.Answers.{was_granted, was_blocked, was_taken, is_torn_down}
+use Rattle.p2p_tracker.specs.declared.record.Dialable.{Dialable}
+use Rattle.p2p_tracker.specs.Answers.{was_granted, was_blocked, was_taken, is_torn_down, is_dialable}
 use Rattle.p2p_directory.specs.Run
 use Rattle.p2p_directory.specs.declared.run.commands.Reply.{Reply}
 use Rattle.p2p_directory.specs.declared.run.commands.Reply.TheVariants as reply
@@ -19,7 +22,9 @@ use Rattle.p2p_directory.proofs.LawsOfRuns.Isolation
 
 module _ {C S : Type 0} (s : Setup C S) where
   -- a reply is an answer elsewhere, too, where want of memory and the reply are
-  moved : (e f : Event C S) (w v w2 v2 : World C S) (c : Call C S) (r : Reply C S) → (Run.MayWantMemory s e w c → Run.MayWantMemory s f w2 c) → (Run.Replies s e w v c r → Run.Replies s f w2 v2 c r) →
+  moved : (e f : Event C S) (w v w2 v2 : World C S) (c : Call C S) (r : Reply C S) →
+      (Run.MayWantMemory s e w c → Run.MayWantMemory s f w2 c) →
+      (Run.Replies s e w v c r → Run.Replies s f w2 v2 c r) →
       Run.MayReply s e w v c r → Run.MayReply s f w2 v2 c r
   moved e f w v w2 v2 c reply.OutOfMemory want more a = want a
   moved e f w v w2 v2 c (reply.Track torn) want more a = more a
@@ -49,7 +54,8 @@ module _ {C S : Type 0} (s : Setup C S) where
   moved e f w v w2 v2 c reply.NotHeld want more a = more a
 
   -- a question about a peer that stands alike
-  asked_alike : (e : Event C S) (q : C) (w v w2 v2 : World C S) (question : Question C) (r : Reply C S) → SameFor q w v → asks_of s q question ≡ true → History.IsExact s →
+  asked_alike : (e : Event C S) (q : C) (w v w2 v2 : World C S) (question : Question C) (r : Reply C S) →
+      SameFor q w v → asks_of s q question ≡ true → History.IsExact s →
       Run.MayReply s e w w2 (Ask question) r → Run.MayReply s e v v2 (Ask question) r
   asked_alike e q w v w2 v2 (StatusOf p) r alike mine exact a =
       let b = subst (λ x. SameFor x w v) (sym (exact p q mine)) alike in
@@ -84,7 +90,9 @@ module _ {C S : Type 0} (s : Setup C S) where
       moved e f w w2 v v2 (Listen q t draw) r (λ x. ap was_granted (sym same) ∙ x) (λ x. x ∙ ap (λ y. reply.Listen (was_granted y)) same) a
   on_alike e f p w v w2 v2 (Connect q dialer) r alike mine exact same a =
       let b = subst (λ x. SameFor x w v) (sym (exact q p mine)) alike in
-      moved e f w w2 v v2 (Connect q dialer) r (λ x. x) (λ x. x ∙ ap (λ peer. if History.is_reserved peer.status then reply.Connect else reply.NotReserved) b.peer) a
+      moved e f w w2 v v2 (Connect q dialer) r (λ x. x)
+      (λ x. x ∙ ap (λ peer. if History.is_reserved peer.status then reply.Connect else reply.NotReserved)
+      b.peer) a
   on_alike e f p w v w2 v2 (Release q) r alike mine exact same a =
       let b = subst (λ x. SameFor x w v) (sym (exact q p mine)) alike in
       moved e f w w2 v v2 (Release q) r (λ x. x) (λ x. x ∙ ap (λ peer. if not (History.is_inert peer.status) then reply.Release else reply.NotHeld) b.peer) a
@@ -127,13 +135,16 @@ module _ {C S : Type 0} (s : Setup C S) where
   on_it p (ForgetCooled t) mine = absurd (cc)
 
   module _ (least : 1 ≤ s.max_sets) (exact : History.IsExact s) where
-    does_alone : (p : C) (before : List (Call C S)) (c : Call C S) → is_on_another s p c ≡ false → Run.event_of s before c ≡ Run.event_of s (left_for s p before) c
+    does_alone : (p : C) (before : List (Call C S)) (c : Call C S) → is_on_another s p c ≡ false →
+        Run.event_of s before c ≡ Run.event_of s (left_for s p before) c
     does_alone p before c mine =
         let w = Run.world_after s before in
         let v = Run.world_after s (left_for s p before) in
-        Law.does_same s before c least ∙ Isolation.does_alike s p w v c exact (Isolation.isolated s least exact p before) mine ∙ sym (Law.does_same s (left_for s p before) c least)
+        Law.does_same s before c least ∙ Isolation.does_alike s p w v c exact
+        (Isolation.isolated s least exact p before) mine ∙ sym (Law.does_same s (left_for s p before) c least)
 
-    answer_alone : (p : C) (before : List (Call C S)) (c : Call C S) (r : Reply C S) → is_on s p c ≡ true → Run.IsAnswer s before c r → Run.IsAnswer s (left_for s p before) c r
+    answer_alone : (p : C) (before : List (Call C S)) (c : Call C S) (r : Reply C S) → is_on s p c ≡ true →
+        Run.IsAnswer s before c r → Run.IsAnswer s (left_for s p before) c r
     answer_alone p before c r mine a =
         on_alike (Run.event_of s before c) (Run.event_of s (left_for s p before) c) p (Run.world_after s before) (Run.world_after s (left_for s p before))
         (Run.world_after s (c ∷ before)) (Run.world_after s (c ∷ left_for s p before)) c r (Isolation.isolated s least exact p before) mine exact
@@ -149,86 +160,41 @@ module _ {C S : Type 0} (s : Setup C S) where
         torn_after s p before (Track index primary secondary) ≡ torn_after s p (left_for s p before) (Track index primary secondary)
     track_alone p before index primary secondary = λ i.
         if was_taken (does_alone p before (Track index primary secondary) refl i)
-        then Some (Isolation.torn_down_alike s p _ _ _ _ (Isolation.isolated s least exact p before) (Isolation.isolated s least exact p (Track index primary secondary ∷ before)) i)
+        then Some (Isolation.torn_down_alike s p _ _ _ _ (Isolation.isolated s least exact p before)
+        (Isolation.isolated s least exact p (Track index primary secondary ∷ before)) i)
         else None
 
-    listed_alone : (p : C) (before : List (Call C S)) (c : Call C S) (r : Reply C S) → Run.IsAnswer s before c r → IsListedAfter s p (left_for s p before) c r
-    listed_alone p before (Track index primary secondary) (reply.Track torn) a =
-        torn_by p (Run.event_of s before (Track index primary secondary)) (Run.world_after s before) (Run.world_after s (Track index primary secondary ∷ before)) torn a
+    torn_alone : (p : C) (before : List (Call C S)) (index : ℕ) (primary secondary : List C)
+        (torn : Option (List C)) →
+        Run.IsAnswer s before (Track index primary secondary) (reply.Track torn) →
+        option_map (λ peers. History.is_in s p peers) torn
+        ≡ torn_after s p (left_for s p before) (Track index primary secondary)
+    torn_alone p before index primary secondary torn a =
+        torn_by p (Run.event_of s before (Track index primary secondary)) (Run.world_after s before)
+        (Run.world_after s (Track index primary secondary ∷ before)) torn a
         ∙ track_alone p before index primary secondary
-    listed_alone p before (Track index primary secondary) (reply.Dial granted) a = tt
-    listed_alone p before (Track index primary secondary) (reply.Listen granted) a = tt
-    listed_alone p before (Track index primary secondary) reply.Connect a = tt
-    listed_alone p before (Track index primary secondary) reply.Release a = tt
-    listed_alone p before (Track index primary secondary) reply.UpdatePeers a = tt
-    listed_alone p before (Track index primary secondary) (reply.Block taken) a = tt
-    listed_alone p before (Track index primary secondary) (reply.UnblockExpired any) a = tt
-    listed_alone p before (Track index primary secondary) (reply.ForgetCooled count) a = tt
-    listed_alone p before (Track index primary secondary) (reply.NextUnblock moment) a = tt
-    listed_alone p before (Track index primary secondary) (reply.BlockedPeers peers) a = tt
-    listed_alone p before (Track index primary secondary) (reply.Status status) a = tt
-    listed_alone p before (Track index primary secondary) (reply.GetPeerSet peers) a = tt
-    listed_alone p before (Track index primary secondary) (reply.LatestSetIndex latest) a = tt
-    listed_alone p before (Track index primary secondary) (reply.LatestUpdate update) a = tt
-    listed_alone p before (Track index primary secondary) (reply.All all) a = tt
-    listed_alone p before (Track index primary secondary) (reply.Info info) a = tt
-    listed_alone p before (Track index primary secondary) (reply.Infos infos) a = tt
-    listed_alone p before (Track index primary secondary) (reply.GetRandomBitVec bits) a = tt
-    listed_alone p before (Track index primary secondary) (reply.Eligible eligible) a = tt
-    listed_alone p before (Track index primary secondary) (reply.Acceptable acceptable) a = tt
-    listed_alone p before (Track index primary secondary) (reply.Dialable answer) a = tt
-    listed_alone p before (Track index primary secondary) (reply.Tracked count) a = tt
-    listed_alone p before (Track index primary secondary) reply.NotReserved a = tt
-    listed_alone p before (Track index primary secondary) reply.NotHeld a = tt
-    listed_alone p before (Track index primary secondary) reply.OutOfMemory a = tt
-    listed_alone p before (Ask (DialableAt t)) (reply.Dialable answer) a =
-        a.0.members p ∙ (Isolation.answers_alike s exact p _ _ (Isolation.isolated s least exact p before)).dialable t
-    listed_alone p before (Ask (DialableAt t)) (reply.Track torn) a = tt
-    listed_alone p before (Ask (DialableAt t)) (reply.Dial granted) a = tt
-    listed_alone p before (Ask (DialableAt t)) (reply.Listen granted) a = tt
-    listed_alone p before (Ask (DialableAt t)) reply.Connect a = tt
-    listed_alone p before (Ask (DialableAt t)) reply.Release a = tt
-    listed_alone p before (Ask (DialableAt t)) reply.UpdatePeers a = tt
-    listed_alone p before (Ask (DialableAt t)) (reply.Block taken) a = tt
-    listed_alone p before (Ask (DialableAt t)) (reply.UnblockExpired any) a = tt
-    listed_alone p before (Ask (DialableAt t)) (reply.ForgetCooled count) a = tt
-    listed_alone p before (Ask (DialableAt t)) (reply.NextUnblock moment) a = tt
-    listed_alone p before (Ask (DialableAt t)) (reply.BlockedPeers peers) a = tt
-    listed_alone p before (Ask (DialableAt t)) (reply.Status status) a = tt
-    listed_alone p before (Ask (DialableAt t)) (reply.GetPeerSet peers) a = tt
-    listed_alone p before (Ask (DialableAt t)) (reply.LatestSetIndex index) a = tt
-    listed_alone p before (Ask (DialableAt t)) (reply.LatestUpdate update) a = tt
-    listed_alone p before (Ask (DialableAt t)) (reply.All all) a = tt
-    listed_alone p before (Ask (DialableAt t)) (reply.Info info) a = tt
-    listed_alone p before (Ask (DialableAt t)) (reply.Infos infos) a = tt
-    listed_alone p before (Ask (DialableAt t)) (reply.GetRandomBitVec bits) a = tt
-    listed_alone p before (Ask (DialableAt t)) (reply.Eligible eligible) a = tt
-    listed_alone p before (Ask (DialableAt t)) (reply.Acceptable acceptable) a = tt
-    listed_alone p before (Ask (DialableAt t)) (reply.Tracked count) a = tt
-    listed_alone p before (Ask (DialableAt t)) reply.NotReserved a = tt
-    listed_alone p before (Ask (DialableAt t)) reply.NotHeld a = tt
-    listed_alone p before (Ask (DialableAt t)) reply.OutOfMemory a = tt
-    listed_alone p before (Ask (StatusOf q)) r a = tt
-    listed_alone p before (Ask NumberTracked) r a = tt
-    listed_alone p before (Ask NextUnblock) r a = tt
-    listed_alone p before (Ask (BlockedAt t)) r a = tt
-    listed_alone p before (Ask (PeerSet index)) r a = tt
-    listed_alone p before (Ask LatestIndex) r a = tt
-    listed_alone p before (Ask AllPeers) r a = tt
-    listed_alone p before (Ask LatestUpdate) r a = tt
-    listed_alone p before (Ask (InfoOf q)) r a = tt
-    listed_alone p before (Ask (InfosFor index bits t)) r a = tt
-    listed_alone p before (Ask (BitsAt place)) r a = tt
-    listed_alone p before (Ask (IsEligible q t)) r a = tt
-    listed_alone p before (Ask (IsAcceptable q t)) r a = tt
-    listed_alone p before (Dial q t draw) r a = tt
-    listed_alone p before (Listen q t draw) r a = tt
-    listed_alone p before (Connect q dialer) r a = tt
-    listed_alone p before (Release q) r a = tt
-    listed_alone p before (Update infos) r a = tt
-    listed_alone p before (Block q t) r a = tt
-    listed_alone p before (UnblockExpired t) r a = tt
-    listed_alone p before (ForgetCooled t) r a = tt
+
+    dialable_alone : (p : C) (before : List (Call C S)) (t : ℕ) (answer : Dialable C S) →
+        Run.IsAnswer s before (Ask (DialableAt t)) (reply.Dialable answer) →
+        History.is_in s p answer.peers.items
+        ≡ is_dialable s (Run.world_after s (left_for s p before)) t p
+    dialable_alone p before t answer a =
+        a.0.members p
+        ∙ (Isolation.answers_alike s exact p _ _ (Isolation.isolated s least exact p before)).dialable t
+
+    listed_alone : (p : C) (before : List (Call C S)) (c : Call C S) (r : Reply C S) →
+        Run.IsAnswer s before c r → IsListedAfter s p (left_for s p before) c r
+    listed_alone p before c r a = record {
+      torn = λ index primary secondary torn called told.
+          torn_alone p before index primary secondary torn
+          (subst (λ c. Run.IsAnswer s before c (reply.Track torn)) called
+          (subst (Run.IsAnswer s before c) told a))
+          ∙ ap (torn_after s p (left_for s p before)) (sym called);
+      dialable = λ t answer called told.
+          dialable_alone p before t answer
+          (subst (λ c. Run.IsAnswer s before c (reply.Dialable answer)) called
+          (subst (Run.IsAnswer s before c) told a));
+    }
 
     keep_alone_from : (p : C) (before cs : List (Call C S)) (rs : List (Reply C S)) → Run.AreAnswers s before cs rs → KeepAlone s p before cs rs
     keep_alone_from p before [] [] answers = Isolation.isolated s least exact p before

@@ -40,12 +40,17 @@ module _ {C S : Type 0} (s : Setup C S) (least : 1 ≤ s.max_sets) where
       (subst (λ w. Run.MayReply s (Run.event_of s before c) w (Run.world_after s (c ∷ other)) c r) alike
       (subst (λ w. Run.MayReply s (Run.event_of s before c) (Run.world_after s before) w c r) later a))
 
-  same_after : (before other cs : List (Call C S)) (rs : List (Reply C S)) → Alike before other → Run.AreAnswers s before cs rs → IsSameAfter s before other cs rs
+  same_after : (before other cs : List (Call C S)) (rs : List (Reply C S)) → Alike before other →
+      Run.AreAnswers s before cs rs → IsSameAfter s before other cs rs
   same_after before other [] [] alike answers = alike
   same_after before other [] (r ∷ rs) alike answers = alike
   same_after before other (c ∷ cs) [] alike answers = alike
-  same_after before other (c ∷ cs) (r ∷ rs) alike answers =
-      (alike, answer_alike before other c r alike answers.0, same_after (Run.next s before c r) (Run.next s other c r) cs rs (next_alike before other c r alike) answers.1)
+  same_after before other (c ∷ cs) (r ∷ rs) alike answers = (
+    alike,
+    answer_alike before other c r alike answers.0,
+    same_after (Run.next s before c r) (Run.next s other c r) cs rs (next_alike before other c r alike)
+        answers.1,
+  )
 
   -- updates one after the other are one
   one_update : (first before : List (Call C S)) (infos given : List (Info C S)) →
@@ -88,7 +93,9 @@ module _ {C S : Type 0} (s : Setup C S) (least : 1 ≤ s.max_sets) where
 
   -- an update is replied that it was done
   updated : (before : List (Call C S)) (given : List (Info C S)) (r : Reply C S) → Run.IsAnswer s before (Update given) r → r ≡ reply.UpdatePeers
-  updated before given r a = go (replied s (Run.event_of s before (Update given)) (Run.world_after s before) (Run.world_after s (Update given ∷ before)) (Update given) r a)
+  updated before given r a =
+      go (replied s (Run.event_of s before (Update given)) (Run.world_after s before)
+      (Run.world_after s (Update given ∷ before)) (Update given) r a)
     where
       go : (r ≡ reply.OutOfMemory) ⊎ (r ≡ reply.UpdatePeers) → r ≡ reply.UpdatePeers
       go (inl e) = absurd (subst (λ x. Run.IsAnswer s before (Update given) x) e a)
@@ -96,17 +103,22 @@ module _ {C S : Type 0} (s : Setup C S) (least : 1 ≤ s.max_sets) where
 
   -- what holds before an update, if infos were given by updates directly after `first`
   abbrev IsFrom : List (Call C S) → List (Info C S) → List (Call C S) → Type 0
-  IsFrom first infos before = (given : List (Info C S)) → Run.world_after s (Update given ∷ before) ≡ Step.step s (Run.world_after s first) (Update (infos ++ given))
+  IsFrom first infos before = (given : List (Info C S)) →
+      Run.world_after s (Update given ∷ before) ≡ Step.step s (Run.world_after s first) (Update (infos ++ given))
 
-  free_from : (first : List (Call C S)) (infos : List (Info C S)) (before cs : List (Call C S)) (rs : List (Reply C S)) → IsFrom first infos before → Run.AreAnswers s before cs rs →
+  free_from : (first : List (Call C S)) (infos : List (Info C S)) (before cs : List (Call C S))
+      (rs : List (Reply C S)) → IsFrom first infos before → Run.AreAnswers s before cs rs →
       AreFreeFrom s first infos before cs rs
   free_from first infos before (Update given ∷ cs) (r ∷ rs) from answers =
       subst (λ x. Run.AreAnswers s (Run.next s before (Update given) x) cs rs →
-      IsFreeAfter s first (infos ++ given) (Run.next s before (Update given) x) cs rs × AreFreeFrom s first (infos ++ given) (Run.next s before (Update given) x) cs rs)
+      IsFreeAfter s first (infos ++ given) (Run.next s before (Update given) x) cs rs
+      × AreFreeFrom s first (infos ++ given) (Run.next s before (Update given) x) cs rs)
       (sym (updated before given r answers.0))
       (λ more. (
-        λ one some others have. same_after (Update given ∷ before) (with_updates s (some ∷ others) first) cs rs (rearranged first (Update given ∷ before) (infos ++ given) some others (from given) one have) more,
-        free_from first (infos ++ given) (Update given ∷ before) cs rs (λ next. one_update first (Update given ∷ before) (infos ++ given) next (from given)) more,
+        λ one some others have. same_after (Update given ∷ before) (with_updates s (some ∷ others) first) cs rs
+            (rearranged first (Update given ∷ before) (infos ++ given) some others (from given) one have) more,
+        free_from first (infos ++ given) (Update given ∷ before) cs rs
+            (λ next. one_update first (Update given ∷ before) (infos ++ given) next (from given)) more,
       ))
       answers.1
   free_from first infos before (Update given ∷ cs) [] from answers = tt

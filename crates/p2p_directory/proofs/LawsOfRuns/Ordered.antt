@@ -25,7 +25,14 @@ greatest {C} {S} (x ∷ xs) = go (first_greatest xs) (greatest xs)
   where
     pick : (b : Bool) (i : Info C S) → nat_lt x.timestamp i.timestamp ≡ b → IsGreatest xs (Some i) → IsGreatest (x ∷ xs) (if b then Some i else Some x)
     pick true i e h = (inr h.0, λ j. elim [ inl same ↦ omega (arith, ltb-true x.timestamp i.timestamp e, ap (λ k. k.timestamp) same) | inr m ↦ h.1 j m ])
-    pick false i e h = (inl refl, λ j. elim [ inl same ↦ omega (arith, ap (λ k. k.timestamp) same) | inr m ↦ omega (arith, ltb-false x.timestamp i.timestamp e, h.1 j m) ])
+    pick false i e h = (
+      inl refl,
+      λ j. elim [
+        | inl same ↦ omega (arith, ap (λ k. k.timestamp) same)
+        | inr m ↦ omega
+            (arith, ltb-false x.timestamp i.timestamp e, h.1 j m)
+      ],
+    )
 
     go : (o : Option (Info C S)) → IsGreatest xs o → IsGreatest (x ∷ xs) (earlier_best x o)
     go None h = (inl refl, λ j. elim [ inl same ↦ omega (arith, ap (λ k. k.timestamp) same) | inr m ↦ absurd (h j m) ])
@@ -35,7 +42,8 @@ member_filter : {A : Type 0} (test : A → Bool) (xs : List A) (x : A) → Membe
 member_filter test [] x m = absurd m
 member_filter {A} test (y ∷ xs) x m = go (member_filter test xs x) (test y) refl m
   where
-    go : (Member (filter test xs) x → Member xs x × (test x ≡ true)) → (b : Bool) → test y ≡ b → Member (cond b (y ∷ filter test xs) (filter test xs)) x → Member (y ∷ xs) x × (test x ≡ true)
+    go : (Member (filter test xs) x → Member xs x × (test x ≡ true)) → (b : Bool) → test y ≡ b →
+        Member (cond b (y ∷ filter test xs) (filter test xs)) x → Member (y ∷ xs) x × (test x ≡ true)
     go more true e = elim [ inl same ↦ (inl same, ap test same ∙ e) | inr m ↦ (inr (more m).0, (more m).1) ]
     go more false e = λ m. (inr (more m).0, (more m).1)
 
@@ -43,7 +51,8 @@ filter_member : {A : Type 0} (test : A → Bool) (xs : List A) (x : A) → Membe
 filter_member test [] x m t = m
 filter_member {A} test (y ∷ xs) x m t = go (filter_member test xs x) (test y) refl m
   where
-    go : (Member xs x → test x ≡ true → Member (filter test xs) x) → (b : Bool) → test y ≡ b → Member (y ∷ xs) x → Member (cond b (y ∷ filter test xs) (filter test xs)) x
+    go : (Member xs x → test x ≡ true → Member (filter test xs) x) → (b : Bool) → test y ≡ b → Member (y ∷ xs) x →
+        Member (cond b (y ∷ filter test xs) (filter test xs)) x
     go more true e = elim [ inl same ↦ inl same | inr m ↦ inr (more m t) ]
     go more false e = elim [ inl same ↦ absurd (let f = sym e ∙ ap test (sym same) ∙ t in cc) | inr m ↦ more m t ]
 
@@ -66,12 +75,15 @@ module _ {C S : Type 0} (s : Setup C S) where
       fy = filter (λ i. History.same s i.public_key p) ys
 
       over : (i : Info C S) → Member (filter (λ i. History.same s i.public_key p) xs) i → Member (filter (λ i. History.same s i.public_key p) ys) i
-      over i m = let parts = member_filter (λ i. History.same s i.public_key p) xs i m in filter_member (λ i. History.same s i.public_key p) ys i ((have i).0 parts.0) parts.1
+      over i m = let parts = member_filter (λ i. History.same s i.public_key p) xs i m in
+          filter_member (λ i. History.same s i.public_key p) ys i ((have i).0 parts.0) parts.1
 
       back : (i : Info C S) → Member (filter (λ i. History.same s i.public_key p) ys) i → Member (filter (λ i. History.same s i.public_key p) xs) i
-      back i m = let parts = member_filter (λ i. History.same s i.public_key p) ys i m in filter_member (λ i. History.same s i.public_key p) xs i ((have i).1 parts.0) parts.1
+      back i m = let parts = member_filter (λ i. History.same s i.public_key p) ys i m in
+          filter_member (λ i. History.same s i.public_key p) xs i ((have i).1 parts.0) parts.1
 
-      go : (a b : Option (Info C S)) → IsGreatest (filter (λ i. History.same s i.public_key p) xs) a → IsGreatest (filter (λ i. History.same s i.public_key p) ys) b → a ≡ b
+      go : (a b : Option (Info C S)) → IsGreatest (filter (λ i. History.same s i.public_key p) xs) a →
+          IsGreatest (filter (λ i. History.same s i.public_key p) ys) b → a ≡ b
       go None None g h = refl
       go None (Some j) g h = absurd (g j (back j h.0))
       go (Some i) None g h = absurd (h i (over i g.0))
@@ -87,7 +99,8 @@ module _ {C S : Type 0} (s : Setup C S) where
       sets = w.sets;
       peer = λ p. record {
         status = (w.peer p).status;
-        known = if History.is_present_with s p w.sets (w.peer p).status then (if History.is_own s p then (w.peer p).known else taught p i) else Step.new_known s p;
+        known = if History.is_present_with s p w.sets (w.peer p).status
+            then (if History.is_own s p then (w.peer p).known else taught p i) else Step.new_known s p;
       };
       unblock = w.unblock;
       cooldown = w.cooldown;
@@ -95,7 +108,8 @@ module _ {C S : Type 0} (s : Setup C S) where
     held = w.held;
   }
     where
-      taught : (p : C) → Step.known_with_infos s (w.peer p).known (filter (λ i. History.same s i.public_key p) xs) ≡ Step.known_with_infos s (w.peer p).known (filter (λ i. History.same s i.public_key p) ys)
+      taught : (p : C) → Step.known_with_infos s (w.peer p).known (filter (λ i. History.same s i.public_key p) xs)
+          ≡ Step.known_with_infos s (w.peer p).known (filter (λ i. History.same s i.public_key p) ys)
       taught p =
           Knowledge.updated_all_with_best s (w.peer p).known (filter (λ i. History.same s i.public_key p) xs)
           ∙ ap (Knowledge.with_best s (w.peer p).known) (same_greatest p xs ys have one)
@@ -109,7 +123,8 @@ module _ {C S : Type 0} (s : Setup C S) where
   filter-append test [] ys = refl
   filter-append test (x ∷ xs) ys = ap (λ zs. cond (test x) (x ∷ zs) zs) (filter-append test xs ys) ∙ go (test x)
     where
-      go : (b : Bool) → cond b (x ∷ (filter test xs ++ filter test ys)) (filter test xs ++ filter test ys) ≡ cond b (x ∷ filter test xs) (filter test xs) ++ filter test ys
+      go : (b : Bool) → cond b (x ∷ (filter test xs ++ filter test ys)) (filter test xs ++ filter test ys)
+          ≡ cond b (x ∷ filter test xs) (filter test xs) ++ filter test ys
       go true = refl
       go false = refl
 
@@ -126,9 +141,15 @@ module _ {C S : Type 0} (s : Setup C S) where
   }
     where
       go : (p : C) (b own : Bool) →
-          (if b then (if own then (if b then (if own then (w.peer p).known else Step.known_with_infos s (w.peer p).known (filter (λ i. History.same s i.public_key p) xs)) else Step.new_known s p)
-          else Step.known_with_infos s (if b then (if own then (w.peer p).known else Step.known_with_infos s (w.peer p).known (filter (λ i. History.same s i.public_key p) xs)) else Step.new_known s p) (filter (λ i. History.same s i.public_key p) ys)) else Step.new_known s p)
-          ≡ (if b then (if own then (w.peer p).known else Step.known_with_infos s (w.peer p).known (filter (λ i. History.same s i.public_key p) (xs ++ ys))) else Step.new_known s p)
+          (if b then (if own
+          then (if b then (if own then (w.peer p).known else Step.known_with_infos s (w.peer p).known
+          (filter (λ i. History.same s i.public_key p) xs)) else Step.new_known s p)
+          else Step.known_with_infos s
+          (if b then (if own then (w.peer p).known else Step.known_with_infos s (w.peer p).known
+          (filter (λ i. History.same s i.public_key p) xs)) else Step.new_known s p)
+          (filter (λ i. History.same s i.public_key p) ys)) else Step.new_known s p)
+          ≡ (if b then (if own then (w.peer p).known else Step.known_with_infos s (w.peer p).known
+          (filter (λ i. History.same s i.public_key p) (xs ++ ys))) else Step.new_known s p)
       go p false own = refl
       go p true true = refl
       go p true false =
@@ -140,4 +161,5 @@ module _ {C S : Type 0} (s : Setup C S) where
       World.world_at s (World.past s (es ++ cs)) ≡ World.world_at s (World.past s (es ++ ds))
   later_alike some [] cs ds h = h
   later_alike some (e ∷ es) cs ds h =
-      Law.recomputed_is_one_step s some (es ++ cs) e ∙ ap (λ w. Step.step s w e) (later_alike some es cs ds h) ∙ sym (Law.recomputed_is_one_step s some (es ++ ds) e)
+      Law.recomputed_is_one_step s some (es ++ cs) e ∙ ap (λ w. Step.step s w e) (later_alike some es cs ds h)
+      ∙ sym (Law.recomputed_is_one_step s some (es ++ ds) e)

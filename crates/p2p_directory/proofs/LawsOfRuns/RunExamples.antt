@@ -52,7 +52,8 @@ two_named = record {
 four_are_too_many : KeepBound setup 2 [] counted (reply.Track (Some []) ∷ reply.Tracked 4 ∷ []) → ⊥
 unfolding life IsStrictlySortedBy
 four_are_too_many kept =
-    let few = (kept.1.0 (two_named, tt)).1 (9 ∷ []) [] (record { sorted = (tt, tt); members = λ p. refl }) (record { sorted = tt; members = λ p. refl }) in
+    let few = (kept.1.0 (two_named, tt)).1 4 refl (9 ∷ []) [] (record { sorted = (tt, tt); members = λ p. refl })
+    (record { sorted = tt; members = λ p. refl }) in
     absurd (omega (arith, few))
 
 -- ORDER: an older info after a newer one changes nothing

@@ -15,7 +15,10 @@ use Rattle.p2p_tracker.specs.History.{last_with, found_with, unless_ended}
 use Rattle.p2p_tracker.specs.World
 use Rattle.p2p_tracker.specs.Step
 use Rattle.p2p_tracker.specs.World.{Known, Peer, World}
-use Rattle.p2p_directory.specs.Laws.Grants.{IsCooledAfter, IsCooledUnlessForgotten, IsSpaced, IsSpacedUnlessForgotten, KeepsCooldown, KeepsCooldownUnlessForgotten, moment_or, NeverGoBack, blocks_in, AreOver, IsOverAt, KeepsBlocks}
+use Rattle.p2p_directory.specs.Laws.Grants.{IsCooledAfter, IsCooledUnlessForgotten, IsSpaced}
+use Rattle.p2p_directory.specs.Laws.Grants.{IsSpacedUnlessForgotten, KeepsCooldown}
+use Rattle.p2p_directory.specs.Laws.Grants.{KeepsCooldownUnlessForgotten, moment_or, NeverGoBack}
+use Rattle.p2p_directory.specs.Laws.Grants.{blocks_in, AreOver, IsOverAt, KeepsBlocks}
 use Rattle.p2p_directory.proofs.Definitions.Steps
 
 module _ {C S : Type 0} (s : Setup C S) where
@@ -43,12 +46,22 @@ module _ {C S : Type 0} (s : Setup C S) where
   fits : (sets : List (SetAt C)) (w : World C S) (c : Call C S) (now : ℕ) → Fits w (moment_or s now c) (World.event_in s sets w c)
   fits sets w (Track index primary secondary) now = go (list_all (λ x. nat_lt x.index index) sets)
     where
-      go : (b : Bool) → Fits w now (if b then Tracked (record { index = index; primary = primary; secondary = filter (λ q. not (History.is_in s q primary)) secondary }) else Nothing)
+      go : (b : Bool) →
+          Fits w now (if b
+          then Tracked
+          (record {
+            index = index;
+            primary = primary;
+            secondary =
+                filter (λ q. not (History.is_in s q primary)) secondary;
+          }) else Nothing)
       go true = tt
       go false = tt
   fits sets w (Dial q t draw) now = go (World.may_dial s q t w.sets (w.peer q) (w.unblock q) (w.cooldown q)) (World.address_with s q (w.peer q).known.info) refl
     where
-      go : (granted : Bool) (address : Option Ingress) → World.may_dial s q t w.sets (w.peer q) (w.unblock q) (w.cooldown q) ≡ granted → Fits w t (World.dial_event s q t draw granted address)
+      go : (granted : Bool) (address : Option Ingress) →
+          World.may_dial s q t w.sets (w.peer q) (w.unblock q) (w.cooldown q) ≡ granted →
+          Fits w t (World.dial_event s q t draw granted address)
       go granted None e = tt
       go false (Some a) e = tt
       go true (Some a) e = (refl, is_free q w t (and_parts _ _ (and_parts _ _ e).0).0)
@@ -108,7 +121,8 @@ module _ {C S : Type 0} (s : Setup C S) where
   call_fits : (c : Call C S) (cs : List (Call C S)) (now : ℕ) → Fits (world_before cs) (moment_or s now c) (event_of c cs)
   call_fits c cs now = fits (History.taken_sets s (World.past s cs)) (world_before cs) c now
 
-  pub event_fits : History.IsExact s → (p : C) (c : Call C S) (cs : List (Call C S)) (now : ℕ) → GrantFits p (world_before cs) (moment_or s now c) (History.grant_by s p (event_of c cs))
+  pub event_fits : History.IsExact s → (p : C) (c : Call C S) (cs : List (Call C S)) (now : ℕ) →
+      GrantFits p (world_before cs) (moment_or s now c) (History.grant_by s p (event_of c cs))
   event_fits exact p c cs now = grant_fits exact p (world_before cs) (moment_or s now c) (event_of c cs) (call_fits c cs now)
 
   -- COOLDOWN
@@ -158,18 +172,22 @@ module _ {C S : Type 0} (s : Setup C S) where
   forgotten_step e w t now le f None None over = tt
   forgotten_step e w t now le f None (Some found) over = go (History.is_forgetting s found.0 e) refl
     where
-      go : (b : Bool) → History.is_forgetting s found.0 e ≡ b → (b || list_any (History.is_forgetting s found.0) found.1) ≡ true → cap (found.0.t + s.cooldown) ≤ now
+      go : (b : Bool) → History.is_forgetting s found.0 e ≡ b →
+          (b || list_any (History.is_forgetting s found.0) found.1) ≡ true → cap (found.0.t + s.cooldown) ≤ now
       go true e2 forgotten = omega (arith, le, over_by e w t f found.0 e2)
       go false e2 forgotten = omega (arith, le, over forgotten)
 
-  over_where_forgotten : (p : C) (cs : List (Call C S)) (now : ℕ) → NeverGoBack s now cs → IsOverWhereForgotten now (last_with (History.grant_by s p) (World.past s cs))
+  over_where_forgotten : (p : C) (cs : List (Call C S)) (now : ℕ) → NeverGoBack s now cs →
+      IsOverWhereForgotten now (last_with (History.grant_by s p) (World.past s cs))
   over_where_forgotten p [] now on = tt
   over_where_forgotten p (c ∷ cs) now on =
-      forgotten_step (event_of c cs) (world_before cs) (moment_or s now c) now on.0 (call_fits c cs now) (History.grant_by s p (event_of c cs)) (last_with (History.grant_by s p) (World.past s cs))
+      forgotten_step (event_of c cs) (world_before cs) (moment_or s now c) now on.0 (call_fits c cs now)
+      (History.grant_by s p (event_of c cs)) (last_with (History.grant_by s p) (World.past s cs))
       (over_where_forgotten p cs (moment_or s now c) on.1)
 
   -- forgotten or not
-  cooled_either : (found : Option (Grant × List (Event C S))) (t u : ℕ) → t ≡ u → IsCooledUnlessForgotten s u found → IsOverWhereForgotten t found → IsCooledAfter s u found
+  cooled_either : (found : Option (Grant × List (Event C S))) (t u : ℕ) → t ≡ u →
+      IsCooledUnlessForgotten s u found → IsOverWhereForgotten t found → IsCooledAfter s u found
   cooled_either None t u e kept over = tt
   cooled_either (Some found) t u e kept over = go (list_any (History.is_forgetting s found.0) found.1) refl
     where
@@ -187,7 +205,8 @@ module _ {C S : Type 0} (s : Setup C S) where
   pub next_spaced_forward : History.IsExact s → (p : C) (c : Call C S) (cs : List (Call C S)) (now : ℕ) → NeverGoBack s now (c ∷ cs) →
       IsSpaced s (History.grant_by s p (event_of c cs)) (last_with (History.grant_by s p) (World.past s cs))
   next_spaced_forward exact p c cs now on =
-      spaced_where p (World.past s cs) (moment_or s now c) (History.grant_by s p (event_of c cs)) (event_fits exact p c cs now) (over_where_forgotten p cs (moment_or s now c) on.1)
+      spaced_where p (World.past s cs) (moment_or s now c) (History.grant_by s p (event_of c cs))
+      (event_fits exact p c cs now) (over_where_forgotten p cs (moment_or s now c) on.1)
 
   -- where moments never go back, grants keep the cooldown, over all lives
   pub keeps_cooldown_forward : History.IsExact s → (p : C) (cs : List (Call C S)) (now : ℕ) → NeverGoBack s now cs → KeepsCooldown s p (World.past s cs)
@@ -218,7 +237,9 @@ module _ {C S : Type 0} (s : Setup C S) where
   AreKnown p h t = AreOver s (limit t (History.unblock_at s p h)) (blocks_in s p h)
 
   known_later : (p : C) (h : List (Event C S)) (t now : ℕ) → t ≤ now → AreKnown p h t → AreKnown p h now
-  known_later p h t now le over = over_more (blocks_in s p h) (limit t (History.unblock_at s p h)) (limit now (History.unblock_at s p h)) (limit_up t now (History.unblock_at s p h) le) over
+  known_later p h t now le over =
+      over_more (blocks_in s p h) (limit t (History.unblock_at s p h)) (limit now (History.unblock_at s p h))
+      (limit_up t now (History.unblock_at s p h) le) over
 
   over_step : History.IsExact s → (p : C) (e : Event C S) (h : List (Event C S)) (t now : ℕ) → t ≤ now → Fits (World.world_at s h) t e → AreKnown p h t →
       AreOver s (limit now (Step.unblock_after s p e (History.unblock_at s p h))) (blocks_in s p (e ∷ h))
@@ -228,9 +249,11 @@ module _ {C S : Type 0} (s : Setup C S) where
           AreOver s (limit now (if b then Some (cap (u + s.block_duration)) else History.unblock_at s p h))
           (option_to_list (if b then Some (cap (u + s.block_duration)) else None) ++ blocks_in s p h)
       go true e =
-          let free : World.is_blocked (History.unblock_at s p h) t ≡ false = subst (λ x. World.is_blocked (History.unblock_at s x h) t ≡ false) (exact q p e) f.1 in (
+          let free : World.is_blocked (History.unblock_at s p h) t ≡ false =
+          subst (λ x. World.is_blocked (History.unblock_at s x h) t ≡ false) (exact q p e) f.1 in (
             omega arith,
-            over_more (blocks_in s p h) (limit t (History.unblock_at s p h)) (max now (cap (u + s.block_duration))) (omega (arith, limit_free t (History.unblock_at s p h) free)) over,
+            over_more (blocks_in s p h) (limit t (History.unblock_at s p h)) (max now (cap (u + s.block_duration)))
+                (omega (arith, limit_free t (History.unblock_at s p h) free)) over,
           )
       go false e = known_later p h t now le over
   over_step exact p (Expired u) h t now le f over = go (History.unblock_at s p h) over
@@ -256,15 +279,19 @@ module _ {C S : Type 0} (s : Setup C S) where
       subst (λ o. AreOver s (limit now o) (blocks_in s p (World.past s (c ∷ cs)))) (sym (Steps.unblock_step s p (event_of c cs) (World.past s cs)))
       (over_step exact p (event_of c cs) (World.past s cs) (moment_or s now c) now on.0 (call_fits c cs now) (over exact p cs (moment_or s now c) on.1))
 
-  over_where : (p : C) (h : List (Event C S)) (found : Option Grant) (t : ℕ) → GrantFits p (World.world_at s h) t found → AreKnown p h t → IsOverAt s found (blocks_in s p h)
+  over_where : (p : C) (h : List (Event C S)) (found : Option Grant) (t : ℕ) →
+      GrantFits p (World.world_at s h) t found → AreKnown p h t → IsOverAt s found (blocks_in s p h)
   over_where p h None t f over = tt
   over_where p h (Some grant) t f over =
       over_more (blocks_in s p h) (limit t (History.unblock_at s p h)) grant.t (omega (arith, limit_free t (History.unblock_at s p h) f.1.unblocked, f.0)) over
 
   -- a further call grants p only where its blocks are over
-  pub next_over : History.IsExact s → (p : C) (c : Call C S) (cs : List (Call C S)) (now : ℕ) → NeverGoBack s now (c ∷ cs) → IsOverAt s (History.grant_by s p (event_of c cs)) (blocks_in s p (World.past s cs))
+  pub next_over : History.IsExact s → (p : C) (c : Call C S) (cs : List (Call C S)) (now : ℕ) →
+      NeverGoBack s now (c ∷ cs) →
+      IsOverAt s (History.grant_by s p (event_of c cs)) (blocks_in s p (World.past s cs))
   next_over exact p c cs now on =
-      over_where p (World.past s cs) (History.grant_by s p (event_of c cs)) (moment_or s now c) (event_fits exact p c cs now) (over exact p cs (moment_or s now c) on.1)
+      over_where p (World.past s cs) (History.grant_by s p (event_of c cs)) (moment_or s now c)
+      (event_fits exact p c cs now) (over exact p cs (moment_or s now c) on.1)
 
   -- where moments never go back, a block holds until its end, over all lives
   pub keeps_blocks : History.IsExact s → (p : C) (cs : List (Call C S)) (now : ℕ) → NeverGoBack s now cs → KeepsBlocks s p (World.past s cs)

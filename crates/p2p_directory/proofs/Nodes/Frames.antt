@@ -63,6 +63,7 @@ module _ {C S : Type 0} (wire : Wire C S) (node : Standing C S) (now : ℕ) wher
       go (received.Invalid error) h = is false (ap applies (sym h))
 
   pub calls_after_frame : (calls : List (Call C S)) (frame : List ℕ) (may : Bool) (r : Received) → frames.IsAnswer may (received_at wire node frame now) r →
-      calls_with (applied_with (received_at wire node frame now) r) calls ≡ (if applies r then Update (infos_of_frame wire node.limits frame) ∷ calls else calls)
+      calls_with (applied_with (received_at wire node frame now) r) calls
+      ≡ (if applies r then Update (infos_of_frame wire node.limits frame) ∷ calls else calls)
   calls_after_frame calls frame may r h =
       let x = (whole (wire.reading node.limits) frame).outcome in after calls may (read_at wire node now x) (infos_of_reading x) r (of_reading x) h

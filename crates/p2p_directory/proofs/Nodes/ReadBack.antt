@@ -1,5 +1,7 @@
 -- Bits and infos that were spelled are read as they are, or refused for their number.
-use Rattle.std.proofs.Common.{◌≡◌, ◌≢◌, ℕ, ◌+◌, ◌<◌, ◌^◌, Bool, true, false, List, [], ◌++◌, length, Option, Result, Ok, Err, refl, ap, ◌∙◌, cond, lit<, ◌⊎◌, inl, inr, arith}
+use Rattle.std.proofs.Common.{◌≡◌, ◌≢◌, ℕ, ◌+◌, ◌<◌, ◌^◌, Bool, true, false, List, [], ◌++◌, length}
+use Rattle.std.proofs.Common.{Option, Result, Ok, Err, refl, ap, ◌∙◌, cond, lit<, ◌⊎◌, inl, inr}
+use Rattle.std.proofs.Common.{arith}
 use Rattle.std.proofs.lemmas.Bool.Decides.{nat_tests}
 use Rattle.std.specs.Prelude.{nat_lt, nat_le}
 use Rattle.p2p_discovery.specs.declared.codec.error.CodecError.{CodecError}
@@ -41,7 +43,8 @@ is_refused : (limit n : ℕ) → nat_le n limit ≡ false → is_within (up_to l
 is_refused limit n h = grind (arith, nat_tests)
 
 -- what a function read, by what reading gives where the count is above the limit, and where it is not
-pub read_back : {A : Type 0} (above : Bool) (count : ℕ) (x : A) (r : Result A CodecError) (reading : Reading A) → (above ≡ false → Leaves r [] x []) → (above ≡ true → reading.outcome ≡ Err (InvalidLength count)) →
+pub read_back : {A : Type 0} (above : Bool) (count : ℕ) (x : A) (r : Result A CodecError) (reading : Reading A) →
+    (above ≡ false → Leaves r [] x []) → (above ≡ true → reading.outcome ≡ Err (InvalidLength count)) →
     Gives r [] reading → IsReadBack above count x r
 read_back false count x (Ok y) reading below too_many gives = (refl, (below refl).0)
 read_back false count x (Err e) reading below too_many gives = inl (below refl)
@@ -56,38 +59,58 @@ then_refused : {A B : Type 0} (o : Result (A × List ℕ) CodecError) (e : Codec
 then_refused o e f h = rw h refl
 
 -- a number that its test refuses, behind nothing
-number_refused : (r : List ℕ → Reading ℕ) (test : ℕ → Bool) (bytes : List ℕ) (n : ℕ) (rest : List ℕ) → (r bytes).outcome ≡ Ok (n, rest) → test n ≡ false → ((r >>= checked false test InvalidLength) bytes).outcome ≡ Err (InvalidLength n)
+number_refused : (r : List ℕ → Reading ℕ) (test : ℕ → Bool) (bytes : List ℕ) (n : ℕ) (rest : List ℕ) →
+    (r bytes).outcome ≡ Ok (n, rest) → test n ≡ false → ((r >>= checked false test InvalidLength) bytes).outcome
+    ≡ Err (InvalidLength n)
 number_refused r test bytes n rest read refused =
-    ap (λ o. outcome_then o (checked false test InvalidLength)) read ∙ ap (λ (b : Bool). (cond b (takes_memory false n rest) (refuses (InvalidLength n) rest)).outcome) refused
+    ap (λ o. outcome_then o (checked false test InvalidLength)) read
+    ∙ ap (λ (b : Bool). (cond b (takes_memory false n rest) (refuses (InvalidLength n) rest)).outcome) refused
 
 bits_refused : (limit : ℕ) (n : ℕ) (rest : List ℕ) → n < 2 ^ 64 → nat_le n limit ≡ false → (bits_at limit (varint64 n ++ rest)).outcome ≡ Err (InvalidLength n)
 unfolding bits_at
 bits_refused limit n rest small more =
     let bytes = varint64 n ++ rest in
-    then_refused ((varint64_at >>= checked false (λ n. nat_le n limit) InvalidLength) bytes).outcome (InvalidLength n) (λ n. counted_at (byte_count n) >>= unpacked n)
+    then_refused ((varint64_at >>= checked false (λ n. nat_le n limit) InvalidLength) bytes).outcome
+    (InvalidLength n) (λ n. counted_at (byte_count n) >>= unpacked n)
     (number_refused varint64_at (λ n. nat_le n limit) bytes n rest ((groups_lawful 10 1 9 (lit< tt)).again n rest small) more)
 
-bit_vec_refused : (limit index n : ℕ) (rest : List ℕ) → index < 2 ^ 64 → n < 2 ^ 64 → nat_le n limit ≡ false → (bit_vec_at limit (varint64 index ++ (varint64 n ++ rest))).outcome ≡ Err (InvalidLength n)
+bit_vec_refused : (limit index n : ℕ) (rest : List ℕ) → index < 2 ^ 64 → n < 2 ^ 64 → nat_le n limit ≡ false →
+    (bit_vec_at limit (varint64 index ++ (varint64 n ++ rest))).outcome ≡ Err (InvalidLength n)
 unfolding bit_vec_at
-bit_vec_refused limit index n rest fits small more = rw ((groups_lawful 10 1 9 (lit< tt)).again index (varint64 n ++ rest) fits, bits_refused limit n rest small more) refl
+bit_vec_refused limit index n rest fits small more =
+    rw (
+      (groups_lawful 10 1 9 (lit< tt)).again index (varint64 n ++ rest) fits,
+      bits_refused limit n rest small more,
+    ) refl
 
-list_refused : {A : Type 0} (limit : RangeCfg) (least : ℕ) (r : List ℕ → Reading A) (n : ℕ) (rest : List ℕ) → n < 2 ^ 32 → is_within limit n ≡ false → (list_at limit least r (varint32 n ++ rest)).outcome ≡ Err (InvalidLength n)
+list_refused : {A : Type 0} (limit : RangeCfg) (least : ℕ) (r : List ℕ → Reading A) (n : ℕ) (rest : List ℕ) →
+    n < 2 ^ 32 → is_within limit n ≡ false → (list_at limit least r (varint32 n ++ rest)).outcome
+    ≡ Err (InvalidLength n)
 unfolding list_at length_at
 list_refused limit least r n rest small more =
     let bytes = varint32 n ++ rest in
     then_refused ((varint32_at >>= checked false (is_within limit) InvalidLength) bytes).outcome (InvalidLength n) (items_at least r)
     (number_refused varint32_at (is_within limit) bytes n rest ((groups_lawful 5 15 4 (lit< tt)).again n rest small) more)
 
-module _ {C S : Type 0} (key_size : ℕ) (key : List ℕ → Option C) (signature_size : ℕ) (signature : List ℕ → Option S) (spell_key : C → List ℕ) (spell_signature : S → List ℕ) (limits : PayloadConfig) where
+module _ {C S : Type 0} (key_size : ℕ) (key : List ℕ → Option C) (signature_size : ℕ)
+    (signature : List ℕ → Option S) (spell_key : C → List ℕ) (spell_signature : S → List ℕ)
+    (limits : PayloadConfig) where
   -- more bits than the limit
   pub too_many_bits : (v : BitVec) → v.index < 2 ^ 64 → length v.bits < 2 ^ 64 → nat_le (length v.bits) limits.max_bit_vec ≡ false →
-      (whole (payload_at key_size key signature_size signature limits) (payload_spelling spell_key spell_signature (said.BitVec v))).outcome ≡ Err (InvalidLength (length v.bits))
+      (whole (payload_at key_size key signature_size signature limits)
+      (payload_spelling spell_key spell_signature (said.BitVec v))).outcome
+      ≡ Err (InvalidLength (length v.bits))
   unfolding payload_at body_at
   too_many_bits v index count more = rw (bit_vec_refused limits.max_bit_vec v.index (length v.bits) (packed v.bits) index count more) refl
 
   -- more infos than the limit
   pub too_many_infos : (infos : List (Info C S)) → length infos < 2 ^ 32 → nat_le (length infos) limits.max_peers ≡ false →
-      (whole (payload_at key_size key signature_size signature limits) (payload_spelling spell_key spell_signature (said.Peers infos))).outcome ≡ Err (InvalidLength (length infos))
+      (whole (payload_at key_size key signature_size signature limits)
+      (payload_spelling spell_key spell_signature (said.Peers infos))).outcome
+      ≡ Err (InvalidLength (length infos))
   unfolding payload_at body_at
   too_many_infos infos count more =
-      rw (list_refused (up_to limits.max_peers) (6 + key_size + signature_size) (info_at key_size key signature_size signature) (length infos) (spellings (info_spelling spell_key spell_signature) infos) count (is_refused limits.max_peers (length infos) more)) refl
+      rw (list_refused (up_to limits.max_peers) (6 + key_size + signature_size)
+      (info_at key_size key signature_size signature) (length infos)
+      (spellings (info_spelling spell_key spell_signature) infos) count
+      (is_refused limits.max_peers (length infos) more)) refl

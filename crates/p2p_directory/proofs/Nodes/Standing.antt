@@ -23,7 +23,8 @@ module _ {C S : Type 0} (m : Made C S) (calls : List (Call C S)) (n : NodeView C
   of_node at = record {
     limit_fits = at.limit_fits;
     refines = subst (Refines m.directory (world_after m.directory calls)) directory at.refines;
-    holds = holds_alike m.directory (world_after m.directory calls) (held_of m.directory.cmp n.held) (held_in m.directory.cmp v.slots) (λ q. sym (held q)) at.holds;
+    holds = holds_alike m.directory (world_after m.directory calls) (held_of m.directory.cmp n.held)
+        (held_in m.directory.cmp v.slots) (λ q. sym (held q)) at.holds;
   }
 
   pub of_server : n.limits ≡ m.limits → n.verifier ≡ m.verifier → StandsAt m.directory calls v → NodeStandsAt m calls n
@@ -40,11 +41,18 @@ module _ {C S : Type 0} (m : Made C S) (calls : List (Call C S)) (n : NodeView C
 -- a command that was served: v is the server before it, v2 after it
 pub served : {C S : Type 0} (m : Made C S) (calls : List (Call C S)) (n n2 : NodeView C S) (v v2 : ServerView C S) (c : Call C S) (r : Reply C S) →
     n.directory ≡ v.directory → ((q : C) → held_of m.directory.cmp n.held q ≡ held_in m.directory.cmp v.slots q) →
-    n2.directory ≡ v2.directory → ((q : C) → held_of m.directory.cmp n2.held q ≡ held_in m.directory.cmp v2.slots q) → n2.limits ≡ n.limits → n2.verifier ≡ n.verifier →
+    n2.directory ≡ v2.directory →
+    ((q : C) → held_of m.directory.cmp n2.held q ≡ held_in m.directory.cmp v2.slots q) → n2.limits ≡ n.limits →
+    n2.verifier ≡ n.verifier →
     (StandsAt m.directory calls v → serving.IsServedAt m.directory calls c r v2) → NodeStandsAt m calls n → IsServedAt m calls c r n2
 served m calls n n2 v v2 c r directory held directory2 held2 limits verifier serves at =
     let answers = serves (of_node m calls n v directory held at) in
-    record { answer = answers.answer; left = of_server m (next m.directory calls c r) n2 v2 directory2 held2 (limits ∙ at.limits) (verifier ∙ at.verifier) answers.left }
+    record {
+      answer = answers.answer;
+      left =
+          of_server m (next m.directory calls c r) n2 v2 directory2 held2 (limits ∙ at.limits)
+          (verifier ∙ at.verifier) answers.left;
+    }
 
 -- a step: n2 has room for the command, n3 has served it, and n4 has no more room than it needs
 pub stepped : {C S : Type 0} (m : Made C S) (calls : List (Call C S)) (n n2 n3 n4 : NodeView C S) (c : Call C S) (r : Reply C S) → n2 ≡ n → n4 ≡ n3 →
@@ -54,5 +62,6 @@ stepped m calls n n2 n3 n4 c r room less serves at =
     record { answer = inl answers.answer; left = subst (NodeStandsAt m (next m.directory calls c r)) (sym less) answers.left }
 
 -- room for what a command may be granted was refused
-pub no_room : {C S : Type 0} (m : Made C S) (calls : List (Call C S)) (n n2 : NodeView C S) (c : Call C S) → n2 ≡ n → may_reserve c ≡ true → NodeStandsAt m calls n → IsSteppedAt m calls c reply.OutOfMemory n2
+pub no_room : {C S : Type 0} (m : Made C S) (calls : List (Call C S)) (n n2 : NodeView C S) (c : Call C S) →
+    n2 ≡ n → may_reserve c ≡ true → NodeStandsAt m calls n → IsSteppedAt m calls c reply.OutOfMemory n2
 no_room m calls n n2 c same reserves at = record { answer = inr (reserves, refl); left = subst (NodeStandsAt m calls) (sym same) at }

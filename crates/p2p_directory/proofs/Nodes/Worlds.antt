@@ -19,7 +19,9 @@ use Rattle.p2p_directory.specs.Received.{Wire, Standing, received_at, may_want_m
 use Rattle.p2p_directory.specs.declared.node.exchanged.Exchanged.{Exchanged}
 use Rattle.p2p_directory.specs.Exchange as exchange
 use Rattle.p2p_directory.specs.Exchange.{exchanged_at, infos_applied, IsExchangedAt}
-use Rattle.p2p_directory.specs.Nodes.{Made, NodeView, NodeStandsAt, IsReceivedAt, IsAskedAt, standing_of, standing_in, calls_with, IsLeft, Answers, AsksWith, AreValues}
+use Rattle.p2p_directory.specs.Nodes.{Made, NodeView, NodeStandsAt, IsReceivedAt, IsAskedAt}
+use Rattle.p2p_directory.specs.Nodes.{standing_of, standing_in, calls_with, IsLeft, Answers}
+use Rattle.p2p_directory.specs.Nodes.{AsksWith, AreValues}
 use Rattle.p2p_directory.specs.Private.Frames.{HasSpelling}
 use Rattle.p2p_directory.proofs.Definitions.Law
 use Rattle.p2p_directory.proofs.LawsOfRuns.Forgotten
@@ -45,7 +47,8 @@ module _ {C S : Type 0} (m : Made C S) (wire : Wire C S) (calls : List (Call C S
   }
 
   -- once infos were applied it stands after one more call
-  updated : 1 ≤ m.directory.max_sets → (infos : List (Info C S)) (v2 : NodeView C S) → Updates m.directory.cmp v.directory v2.directory infos → v2 ≡ record v { directory = v2.directory } →
+  updated : 1 ≤ m.directory.max_sets → (infos : List (Info C S)) (v2 : NodeView C S) →
+      Updates m.directory.cmp v.directory v2.directory infos → v2 ≡ record v { directory = v2.directory } →
       NodeStandsAt m (Update infos ∷ calls) v2
   updated some infos v2 change same =
       let s = m.directory in
@@ -54,12 +57,14 @@ module _ {C S : Type 0} (m : Made C S) (wire : Wire C S) (calls : List (Call C S
       record {
         limit_fits = at.limit_fits;
         refines = subst (λ w. Refines s w v2.directory) back (KnowledgeRefines.tie_update s w v.directory v2.directory infos at.refines change);
-        holds = subst (λ held. Holds s (world_after s (Update infos ∷ calls)) (held_of s.cmp held)) (sym (ap (λ v. v.held) same)) (subst (λ w. Holds s w (held_of s.cmp v.held)) back holds);
+        holds = subst (λ held. Holds s (world_after s (Update infos ∷ calls)) (held_of s.cmp held))
+            (sym (ap (λ v. v.held) same)) (subst (λ w. Holds s w (held_of s.cmp v.held)) back holds);
         limits = ap (λ v. v.limits) same ∙ at.limits;
         verifier = ap (λ v. v.verifier) same ∙ at.verifier;
       }
 
-  left_at : 1 ≤ m.directory.max_sets → (o : Option (List (Info C S))) (v2 : NodeView C S) → IsLeft m.directory.cmp v o v2 → NodeStandsAt m (calls_with o calls) v2
+  left_at : 1 ≤ m.directory.max_sets → (o : Option (List (Info C S))) (v2 : NodeView C S) →
+      IsLeft m.directory.cmp v o v2 → NodeStandsAt m (calls_with o calls) v2
   left_at some None v2 same = subst (NodeStandsAt m calls) (sym same) at
   left_at some (Some infos) v2 change = updated some infos v2 change.0 change.1
 
@@ -67,7 +72,8 @@ module _ {C S : Type 0} (m : Made C S) (wire : Wire C S) (calls : List (Call C S
       Answers m.directory.cmp (may_want_memory wire seen frame now) (received_at wire seen frame now) r v v2 → IsReceivedAt m wire calls frame now r v2
   received_in some frame now r v2 answers = record {
     answer = subst (λ node. frames.IsAnswer (may_want_memory wire node frame now) (received_at wire node frame now) r) stands_alike answers.answer;
-    left = subst (λ node. NodeStandsAt m (calls_with (applied_with (received_at wire node frame now) r) calls) v2) stands_alike (left_at some (applied_with (received_at wire seen frame now) r) v2 answers.left);
+    left = subst (λ node. NodeStandsAt m (calls_with (applied_with (received_at wire node frame now) r) calls) v2)
+        stands_alike (left_at some (applied_with (received_at wire seen frame now) r) v2 answers.left);
   }
 
   pub asked_in : {E : Type 0} (place : ℕ) (r : Result (Option (List ℕ)) E) → AsksWith m.directory.cmp wire place r v → IsAskedAt m wire calls place r
@@ -77,14 +83,17 @@ module _ {C S : Type 0} (m : Made C S) (wire : Wire C S) (calls : List (Call C S
   }
 
   -- what is told has a spelling
-  pub told_in : (IsKey : C → Type 0) (IsSignature : S → Type 0) (frame : List ℕ) (now : ℕ) (r : Received) → AreValues IsKey IsSignature (told_with (received_at wire seen frame now) r) →
+  pub told_in : (IsKey : C → Type 0) (IsSignature : S → Type 0) (frame : List ℕ) (now : ℕ) (r : Received) →
+      AreValues IsKey IsSignature (told_with (received_at wire seen frame now) r) →
       AreValues IsKey IsSignature (told_with (received_at wire made frame now) r)
   told_in IsKey IsSignature frame now r values = subst (λ node. AreValues IsKey IsSignature (told_with (received_at wire node frame now) r)) stands_alike values
 
   pub bits_in : {E A : Type 0} (place : ℕ) (r : Result A E) → IfOk r (λ _. IfSome (bit_vec_at m.directory.cmp v.directory place) HasSpelling) →
       IfOk r (λ _. IfSome (made.bits place) (λ bits. (bits.index < 2 ^ 64) × (length bits.bits < 2 ^ 64)))
   bits_in place (Err e) spelled = tt
-  bits_in place (Ok x) spelled = subst (λ node. IfSome (node.bits place) (λ bits. (bits.index < 2 ^ 64) × (length bits.bits < 2 ^ 64))) stands_alike (sized (bit_vec_at m.directory.cmp v.directory place) spelled)
+  bits_in place (Ok x) spelled =
+      subst (λ node. IfSome (node.bits place) (λ bits. (bits.index < 2 ^ 64) × (length bits.bits < 2 ^ 64)))
+      stands_alike (sized (bit_vec_at m.directory.cmp v.directory place) spelled)
     where
       sized : (o : Option BitVec) → IfSome o HasSpelling → IfSome o (λ bits. (bits.index < 2 ^ 64) × (length bits.bits < 2 ^ 64))
       sized None h = tt
@@ -92,14 +101,19 @@ module _ {C S : Type 0} (m : Made C S) (wire : Wire C S) (calls : List (Call C S
 
 -- AN EXCHANGE OF TWO NODES
 
-module _ {C S : Type 0} (m n : Made C S) (wire : Wire C S) (cs ds : List (Call C S)) (a b : NodeView C S) (at : NodeStandsAt m cs a) (there : NodeStandsAt n ds b) where
+module _ {C S : Type 0} (m n : Made C S) (wire : Wire C S) (cs ds : List (Call C S)) (a b : NodeView C S)
+    (at : NodeStandsAt m cs a) (there : NodeStandsAt n ds b) where
   pub exchanged_in : 1 ≤ m.directory.max_sets → (place s t : ℕ) (r : Exchanged C S) (a2 : NodeView C S) →
-      (let asker = standing_of m.directory.cmp wire a in exchange.IsAnswer (exchange.may_want_memory asker place) (exchanged_at asker (standing_of n.directory.cmp wire b) place s t) r) →
+      (let asker = standing_of m.directory.cmp wire a in
+      exchange.IsAnswer (exchange.may_want_memory asker place)
+      (exchanged_at asker (standing_of n.directory.cmp wire b) place s t) r) →
       IsLeft m.directory.cmp a (infos_applied r) a2 → IsExchangedAt m n wire cs ds place s t r a2
   exchanged_in some place s t r a2 answer left = record {
     answer =
         let asker = standing_in m wire (world_after m.directory cs) in
         subst (λ replier. exchange.IsAnswer (exchange.may_want_memory asker place) (exchanged_at asker replier place s t) r) (stands_alike n wire ds b there)
-        (subst (λ asker. exchange.IsAnswer (exchange.may_want_memory asker place) (exchanged_at asker (standing_of n.directory.cmp wire b) place s t) r) (stands_alike m wire cs a at) answer);
+        (subst (λ asker. exchange.IsAnswer (exchange.may_want_memory asker place)
+        (exchanged_at asker (standing_of n.directory.cmp wire b) place s t) r) (stands_alike m wire cs a at)
+        answer);
     left = left_at m wire cs a at some (infos_applied r) a2 left;
   }

@@ -13,11 +13,15 @@ use Rattle.p2p_tracker.specs.History.{same, is_own, is_inert, is_persistent, is_
 use Rattle.p2p_tracker.specs.World
 use Rattle.p2p_tracker.specs.World.{World, Peer}
 use Rattle.p2p_tracker.specs.Step.{unblock_after, world_with}
-use Rattle.p2p_tracker.specs.Answers.{is_present_in, AreAll, IsLatestUpdate, is_blocked_at, AreBlocked, IsNextUnblock, IsAnyExpired, is_eligible_at, is_acceptable_at}
+use Rattle.p2p_tracker.specs.Answers.{is_present_in, AreAll, IsLatestUpdate, is_blocked_at}
+use Rattle.p2p_tracker.specs.Answers.{AreBlocked, IsNextUnblock, IsAnyExpired, is_eligible_at}
+use Rattle.p2p_tracker.specs.Answers.{is_acceptable_at}
 use Rattle.p2p_tracker.specs.Lists.{Lists, IsLeastOf, Somebody}
 use Rattle.p2p_tracker.specs.Blocks.{IsAnyUntil}
 use Rattle.p2p_tracker.specs.Record.{is_myself, is_eligible, is_acceptable}
-use Rattle.p2p_tracker.specs.Directory.{DirectoryView, record_of, unblock_of, is_blocked_in, may_block, if_later, is_free_and, is_named_of, AreAllOf, IsUpdateOf, BlocksUntil, EndsBlocks}
+use Rattle.p2p_tracker.specs.Directory.{DirectoryView, record_of, unblock_of, is_blocked_in}
+use Rattle.p2p_tracker.specs.Directory.{may_block, if_later, is_free_and, is_named_of, AreAllOf}
+use Rattle.p2p_tracker.specs.Directory.{IsUpdateOf, BlocksUntil, EndsBlocks}
 use Rattle.p2p_directory.specs.Refinement.{Refines}
 use Rattle.p2p_directory.specs.Run.{update_in}
 use Rattle.p2p_tracker.proofs.Definitions.Listed
@@ -43,40 +47,53 @@ module _ {C S : Type 0} (s : Setup C S) where
   blocked_alike : (w : World C S) (d : DirectoryView C S) (t : ℕ) → Refines s w d → (q : C) → is_blocked_in s.cmp d t q ≡ is_blocked_at s w t q
   blocked_alike w d t stands q = ap (λ o. World.is_blocked o t) (stands.blocks q)
 
-  pub tie_blocked : (w : World C S) (d : DirectoryView C S) (t : ℕ) (ps : List C) → Refines s w d → Lists s.cmp (is_blocked_in s.cmp d t) ps → AreBlocked s w t ps
+  pub tie_blocked : (w : World C S) (d : DirectoryView C S) (t : ℕ) (ps : List C) → Refines s w d →
+      Lists s.cmp (is_blocked_in s.cmp d t) ps → AreBlocked s w t ps
   tie_blocked w d t ps stands listed = lists_alike s.cmp (is_blocked_in s.cmp d t) (is_blocked_at s w t) ps (blocked_alike w d t stands) listed
 
-  pub tie_somebody_blocked : (w : World C S) (d : DirectoryView C S) (t : ℕ) → Refines s w d → Somebody (is_blocked_in s.cmp d t) → Somebody (is_blocked_at s w t)
+  pub tie_somebody_blocked : (w : World C S) (d : DirectoryView C S) (t : ℕ) → Refines s w d →
+      Somebody (is_blocked_in s.cmp d t) → Somebody (is_blocked_at s w t)
   tie_somebody_blocked w d t stands some = somebody_alike (is_blocked_in s.cmp d t) (is_blocked_at s w t) (blocked_alike w d t stands) some
 
-  pub tie_next_unblock : (w : World C S) (d : DirectoryView C S) (moment : Option ℕ) → Refines s w d → IsLeastOf (unblock_of s.cmp d) moment → IsNextUnblock s w moment
+  pub tie_next_unblock : (w : World C S) (d : DirectoryView C S) (moment : Option ℕ) → Refines s w d →
+      IsLeastOf (unblock_of s.cmp d) moment → IsNextUnblock s w moment
   tie_next_unblock w d moment stands least = Listed.least_alike (unblock_of s.cmp d) w.unblock moment (λ q. sym (stands.blocks q)) least
 
-  pub tie_any_expired : (w : World C S) (d : DirectoryView C S) (t : ℕ) (any : Bool) → Refines s w d → IsAnyUntil (unblock_of s.cmp d) t any → IsAnyExpired s w t any
+  pub tie_any_expired : (w : World C S) (d : DirectoryView C S) (t : ℕ) (any : Bool) → Refines s w d →
+      IsAnyUntil (unblock_of s.cmp d) t any → IsAnyExpired s w t any
   tie_any_expired w d t any stands told = (
     (λ h. let found = told.0 h in (found.0, found.1, sym (stands.blocks found.0) ∙ found.2, found.3)),
     (λ found. told.1 (found.0, found.1, stands.blocks found.0 ∙ found.2, found.3)),
   )
 
   -- whether a block of p may be taken
-  pub tie_may_block : (w : World C S) (d : DirectoryView C S) (p : C) (t : ℕ) → Refines s w d → may_block s.cmp d t p ≡ (not (is_own s p) && not (World.is_blocked (w.unblock p) t))
+  pub tie_may_block : (w : World C S) (d : DirectoryView C S) (p : C) (t : ℕ) → Refines s w d →
+      may_block s.cmp d t p ≡ (not (is_own s p) && not (World.is_blocked (w.unblock p) t))
   tie_may_block w d p t stands =
       (λ i. not (option_map_or (λ r. is_myself r.address) (stands.records p i) false) && not (World.is_blocked (stands.blocks p i) t))
       ∙ ap (λ b. not b && not (World.is_blocked (w.unblock p) t)) (go (is_own s p) (is_present_in s w p) refl (myself_is_own s p (w.peer p).known))
     where
-      go : (own b : Bool) → is_present_in s w p ≡ b → is_myself (record_with s p w.sets (w.cooldown p) (w.peer p)).address ≡ own → option_map_or (λ r. is_myself r.address) (if b then Some (record_with s p w.sets (w.cooldown p) (w.peer p)) else None) false ≡ own
+      go : (own b : Bool) → is_present_in s w p ≡ b →
+          is_myself (record_with s p w.sets (w.cooldown p) (w.peer p)).address ≡ own →
+          option_map_or (λ r. is_myself r.address)
+          (if b then Some (record_with s p w.sets (w.cooldown p) (w.peer p)) else None) false ≡ own
       go own true e is = is
       go false false e is = refl
       go true false e is = absurd (own_absent e (sym (myself_is_own s p (w.peer p).known) ∙ is))
         where
           own_absent : is_present_in s w p ≡ false → is_own s p ≡ true → ⊥
-          own_absent e own = let f = sym e ∙ ap (λ b. ((b || list_any (λ b. same s b.0 p) s.bootstrappers) || is_named s p w.sets) || not (is_inert (w.peer p).status)) own in cc
+          own_absent e own = let f =
+              sym e ∙ ap (λ b.
+              ((b || list_any (λ b. same s b.0 p) s.bootstrappers) || is_named s p w.sets)
+              || not (is_inert (w.peer p).status)) own in cc
 
-  pub tie_block : (w : World C S) (d d' : DirectoryView C S) (p : C) (t : ℕ) → Refines s w d → BlocksUntil s.cmp d d' p (cap (t + d.config.block_duration)) → Refines s (world_with s (Blocked p t) w) d'
+  pub tie_block : (w : World C S) (d d' : DirectoryView C S) (p : C) (t : ℕ) → Refines s w d →
+      BlocksUntil s.cmp d d' p (cap (t + d.config.block_duration)) → Refines s (world_with s (Blocked p t) w) d'
   tie_block w d d' p t stands change = record {
     config = change.config ∙ stands.config;
     sets = change.sets ∙ stands.sets;
-    records = λ q. ap (λ records. record_of s.cmp (record d { records = records }) q) change.records ∙ stands.records q ∙ unchanged s q w.sets (w.cooldown q) (w.peer q);
+    records = λ q. ap (λ records. record_of s.cmp (record d { records = records }) q) change.records
+        ∙ stands.records q ∙ unchanged s q w.sets (w.cooldown q) (w.peer q);
     cooldowns = same_cooldowns s w d d' stands change.cooldowns;
     blocks = λ q. change.blocks q ∙ (λ i. if is_at (s.cmp p) q then Some (cap (t + (stands.config i).block_duration)) else stands.blocks q i);
   }
@@ -85,7 +102,8 @@ module _ {C S : Type 0} (s : Setup C S) where
   tie_ended w d d' t stands change = record {
     config = change.config ∙ stands.config;
     sets = change.sets ∙ stands.sets;
-    records = λ q. ap (λ records. record_of s.cmp (record d { records = records }) q) change.records ∙ stands.records q ∙ unchanged s q w.sets (w.cooldown q) (w.peer q);
+    records = λ q. ap (λ records. record_of s.cmp (record d { records = records }) q) change.records
+        ∙ stands.records q ∙ unchanged s q w.sets (w.cooldown q) (w.peer q);
     cooldowns = same_cooldowns s w d d' stands change.cooldowns;
     blocks = λ q. change.blocks q ∙ ap (if_later t) (stands.blocks q) ∙ left q (w.unblock q);
   }
@@ -106,15 +124,21 @@ module _ {C S : Type 0} (s : Setup C S) where
       ∙ ap (λ b. not (World.is_blocked (w.unblock p) t) && b) (shown_entitled s p w.sets (w.cooldown p) (w.peer p))
       ∙ swap (not (World.is_blocked (w.unblock p) t)) (is_entitled s p w.sets)
 
-  pub tie_acceptable : (w : World C S) (d : DirectoryView C S) (p : C) (t : ℕ) → Refines s w d → is_free_and s.cmp is_acceptable d t p ≡ is_acceptable_at s w p t
+  pub tie_acceptable : (w : World C S) (d : DirectoryView C S) (p : C) (t : ℕ) → Refines s w d →
+      is_free_and s.cmp is_acceptable d t p ≡ is_acceptable_at s w p t
   tie_acceptable w d p t stands =
       (λ i. not (World.is_blocked (stands.blocks p i) t) && option_map_or is_acceptable (stands.records p i) false)
       ∙ ap (λ b. not (World.is_blocked (w.unblock p) t) && b) (shown_acceptable (is_present_in s w p) refl)
       ∙ swapped (not (World.is_blocked (w.unblock p) t)) (is_entitled s p w.sets) (is_inert (w.peer p).status)
     where
-      shown_acceptable : (b : Bool) → is_present_in s w p ≡ b → option_map_or is_acceptable (if b then Some (record_with s p w.sets (w.cooldown p) (w.peer p)) else None) false ≡ (is_entitled s p w.sets && is_inert (w.peer p).status)
+      shown_acceptable : (b : Bool) → is_present_in s w p ≡ b →
+          option_map_or is_acceptable (if b then Some (record_with s p w.sets (w.cooldown p) (w.peer p)) else None)
+          false ≡ (is_entitled s p w.sets && is_inert (w.peer p).status)
       shown_acceptable true e = ap (λ b. b && is_inert (w.peer p).status) (eligible_is_entitled s p w.sets (w.cooldown p) (w.peer p))
-      shown_acceptable false e = ap (λ b. b && is_inert (w.peer p).status) (sym (absent_not_entitled s (is_own s p) (is_named s p w.sets) (is_persistent s p) (is_inert (w.peer p).status) e))
+      shown_acceptable false e =
+          ap (λ b. b && is_inert (w.peer p).status)
+          (sym (absent_not_entitled s (is_own s p) (is_named s p w.sets) (is_persistent s p)
+          (is_inert (w.peer p).status) e))
 
   -- ALL PEERS
 
@@ -124,6 +148,7 @@ module _ {C S : Type 0} (s : Setup C S) where
   pub tie_named : (w : World C S) (d : DirectoryView C S) → Refines s w d → Somebody (is_named_of s.cmp d) → Somebody (λ p. is_named s p w.sets)
   tie_named w d stands some = subst (λ sets. Somebody (is_named_of s.cmp (record d { sets = sets }))) stands.sets some
 
-  pub tie_update : (w : World C S) (d : DirectoryView C S) (update : Option (PeerSetUpdate C S)) → Refines s w d → IsUpdateOf s.cmp d update → IsLatestUpdate s w (option_map update_in update)
+  pub tie_update : (w : World C S) (d : DirectoryView C S) (update : Option (PeerSetUpdate C S)) → Refines s w d →
+      IsUpdateOf s.cmp d update → IsLatestUpdate s w (option_map update_in update)
   tie_update w d None stands told = sym (ap (last_or None) stands.sets) ∙ told
   tie_update w d (Some update) stands told = (sym (ap (last_or None) stands.sets) ∙ told.0, tie_all w d update.all stands told.1)

@@ -22,9 +22,14 @@ use Rattle.p2p_tracker.specs.Record.{RecordView, new_record, with_cooldown, mome
 use Rattle.p2p_tracker.specs.PeerSets.{latest_index, is_above}
 use Rattle.p2p_tracker.specs.Blocks.{unblock_in}
 use Rattle.p2p_tracker.specs.Cooldowns.{cooldown_in, unless_cooled}
-use Rattle.p2p_tracker.specs.Directory.{DirectoryView, unblock_of, cooldown_of, is_cooled_in, IsNumberCooledIn, ForgetsCooled, record_of, first_record, kept_after_release, record_with_sets, is_connectable, ChangesRecord, Reserves, TakesSet, AreTornDown}
+use Rattle.p2p_tracker.specs.Directory.{DirectoryView, unblock_of, cooldown_of, is_cooled_in}
+use Rattle.p2p_tracker.specs.Directory.{IsNumberCooledIn, ForgetsCooled, record_of, first_record}
+use Rattle.p2p_tracker.specs.Directory.{kept_after_release, record_with_sets, is_connectable}
+use Rattle.p2p_tracker.specs.Directory.{ChangesRecord, Reserves, TakesSet, AreTornDown}
 use Rattle.p2p_directory.specs.Refinement.{Refines, config_of, metadata_of, address_known}
-use Rattle.p2p_directory.proofs.Refinement.RecordOfPeer.{record_with, shown, shown_entitled, shown_busy, shown_with_sets, some_given, release_of_record, settled, failed_once}
+use Rattle.p2p_directory.proofs.Refinement.RecordOfPeer.{record_with, shown, shown_entitled}
+use Rattle.p2p_directory.proofs.Refinement.RecordOfPeer.{shown_busy, shown_with_sets, some_given}
+use Rattle.p2p_directory.proofs.Refinement.RecordOfPeer.{release_of_record, settled, failed_once}
 use Rattle.p2p_tracker.proofs.Definitions.Listed.{lists_alike}
 use Rattle.p2p_directory.proofs.Definitions.Start.{new_world, new_at_start}
 use Rattle.p2p_directory.proofs.Definitions.Latest
@@ -40,7 +45,9 @@ module _ {C S : Type 0} (s : Setup C S) where
   pub tie_status : (w : World C S) (d : DirectoryView C S) (p : C) → Refines s w d → option_map (λ r. r.status) (record_of s.cmp d p) ≡ status_in s w p
   tie_status w d p stands = ap (option_map (λ r. r.status)) (stands.records p) ∙ go (is_present_in s w p)
     where
-      go : (b : Bool) → option_map (λ r. r.status) (if b then Some (record_with s p w.sets (w.cooldown p) (w.peer p)) else None) ≡ (if b then Some (w.peer p).status else None)
+      go : (b : Bool) →
+          option_map (λ r. r.status) (if b then Some (record_with s p w.sets (w.cooldown p) (w.peer p)) else None)
+          ≡ (if b then Some (w.peer p).status else None)
       go true = refl
       go false = refl
 
@@ -51,7 +58,8 @@ module _ {C S : Type 0} (s : Setup C S) where
       ∙ above_latest index (last_or None (World.world_at s (World.past s cs)).sets)
       ∙ sym (latest_decides s cs index)
 
-  pub tie_torn : (w v : World C S) (d d' : DirectoryView C S) (torn : List C) → Refines s w d → Refines s v d' → AreTornDown s.cmp d d' torn → IsTeardown s w v torn
+  pub tie_torn : (w v : World C S) (d d' : DirectoryView C S) (torn : List C) → Refines s w d → Refines s v d' →
+      AreTornDown s.cmp d d' torn → IsTeardown s w v torn
   tie_torn w v d d' torn stands stands' down = record {
     sorted = down.sorted;
     members = λ q.
@@ -85,7 +93,9 @@ module _ {C S : Type 0} (s : Setup C S) where
       go false None any e = ap (shown_by false None) e
       go false (Some a) any e = ap (shown_by false (Some a)) e
 
-  pub tie_start : (d : DirectoryView C S) → d.config ≡ config_of s → d.sets ≡ [] → d.blocks ≡ [] → d.cooldowns ≡ [] → ((q : C) → record_of s.cmp d q ≡ first_record s.cmp s.bootstrappers s.own q) → Refines s (World.world_at s []) d
+  pub tie_start : (d : DirectoryView C S) → d.config ≡ config_of s → d.sets ≡ [] → d.blocks ≡ [] →
+      d.cooldowns ≡ [] → ((q : C) → record_of s.cmp d q ≡ first_record s.cmp s.bootstrappers s.own q) →
+      Refines s (World.world_at s []) d
   tie_start d config sets blocks cooldowns records =
       let start : Refines s (new_world s) d = record {
         config = config;
@@ -107,7 +117,13 @@ module _ {C S : Type 0} (s : Setup C S) where
 
   -- a peer that an event does not change
   pub unchanged : (p : C) (sets : List (SetAt C)) (cooldown : Option Cooldown) (peer : Peer C S) →
-      shown s p sets cooldown peer ≡ shown s p sets cooldown (record { status = peer.status; known = if is_present_with s p sets peer.status then peer.known else new_known s p })
+      shown s p sets cooldown peer
+      ≡ shown s p sets cooldown
+      (record {
+        status = peer.status;
+        known =
+            if is_present_with s p sets peer.status then peer.known else new_known s p;
+      })
   unchanged p sets cooldown peer = go (is_present_with s p sets peer.status)
     where
       go : (b : Bool) → (if b then Some (record_with s p sets cooldown peer) else None)
@@ -117,13 +133,17 @@ module _ {C S : Type 0} (s : Setup C S) where
 
   -- a peer that is present after an event
   pub remains : (p : C) (sets : List (SetAt C)) (cooldown : Option Cooldown) (status : Status) (known : Known C S) → is_present_with s p sets status ≡ true →
-      Some (record_with s p sets cooldown (record { status = status; known = known })) ≡ shown s p sets cooldown (record { status = status; known = if is_present_with s p sets status then known else new_known s p })
+      Some (record_with s p sets cooldown (record { status = status; known = known }))
+      ≡ shown s p sets cooldown
+      (record { status = status; known = if is_present_with s p sets status then known else new_known s p })
   remains p sets cooldown status known e =
       λ i. if sym e i then Some (record_with s p sets cooldown (record { status = status; known = if sym e i then known else new_known s p })) else None
 
   -- the same where it may be absent then
   settles : (p : C) (sets : List (SetAt C)) (cooldown : Option Cooldown) (status : Status) (known : Known C S) →
-      shown s p sets cooldown (record { status = status; known = known }) ≡ shown s p sets cooldown (record { status = status; known = if is_present_with s p sets status then known else new_known s p })
+      shown s p sets cooldown (record { status = status; known = known })
+      ≡ shown s p sets cooldown
+      (record { status = status; known = if is_present_with s p sets status then known else new_known s p })
   settles p sets cooldown status known = unchanged p sets cooldown (record { status = status; known = known })
 
   pub or_true : (b : Bool) → (b || true) ≡ true
@@ -135,14 +155,18 @@ module _ {C S : Type 0} (s : Setup C S) where
     one_key p q e = tells_apart exact p q e
 
     -- a peer that may be listened for is present
-    listened_present : (own named persistent inert free late : Bool) → ((((not own && (named || persistent)) && inert) && free) && late) ≡ true → (((persistent || named) || not inert)) ≡ true
+    listened_present : (own named persistent inert free late : Bool) →
+        ((((not own && (named || persistent)) && inert) && free) && late) ≡ true →
+        (((persistent || named) || not inert)) ≡ true
     listened_present true named persistent inert free late e = absurd (cc)
     listened_present false true true inert free late e = refl
     listened_present false true false inert free late e = refl
     listened_present false false true inert free late e = refl
     listened_present false false false inert free late e = absurd (cc)
 
-    pub tie_grant : (w : World C S) (d d' : DirectoryView C S) (p : C) (t draw : ℕ) (direction : Direction) → Refines s w d → may_listen s p t w.sets (w.peer p) (w.unblock p) (w.cooldown p) ≡ true → Reserves s.cmp d d' p t draw →
+    pub tie_grant : (w : World C S) (d d' : DirectoryView C S) (p : C) (t draw : ℕ) (direction : Direction) →
+        Refines s w d → may_listen s p t w.sets (w.peer p) (w.unblock p) (w.cooldown p) ≡ true →
+        Reserves s.cmp d d' p t draw →
         Refines s (world_with s (Granted p (record { t = t; draw = draw; direction = direction })) w) d'
     tie_grant w d d' p t draw direction stands may change = record {
       config = change.config ∙ stands.config;
@@ -153,7 +177,9 @@ module _ {C S : Type 0} (s : Setup C S) where
     }
       where
         present : is_present_with s p w.sets (w.peer p).status ≡ true
-        present = listened_present (is_own s p) (is_named s p w.sets) (is_persistent s p) (is_inert (w.peer p).status) (not (World.is_blocked (w.unblock p) t)) (nat_le (reservable_from (w.cooldown p)) t) may
+        present = listened_present (is_own s p) (is_named s p w.sets) (is_persistent s p)
+            (is_inert (w.peer p).status) (not (World.is_blocked (w.unblock p) t))
+            (nat_le (reservable_from (w.cooldown p)) t) may
 
         grant : Grant
         grant = record { t = t; draw = draw; direction = direction }
@@ -184,12 +210,16 @@ module _ {C S : Type 0} (s : Setup C S) where
             go : (same : Bool) → is_at (s.cmp p) q ≡ same → changed same ≡ left same
             go true e =
                 let here : is_present_with s q w.sets st ≡ true = subst (λ x. is_present_with s x w.sets (w.peer x).status ≡ true) (one_key p q e) present in
-                ap (option_map (reserved_record t draw d.config.cooldown)) (stands.records q ∙ (λ i. if here i then Some (record_with s q w.sets (w.cooldown q) (w.peer q)) else None))
+                ap (option_map (reserved_record t draw d.config.cooldown))
+                (stands.records q
+                ∙ (λ i. if here i then Some (record_with s q w.sets (w.cooldown q) (w.peer q)) else None))
                 ∙ (λ i. Some (reserved_record t draw (stands.config i).cooldown (record_with s q w.sets (w.cooldown q) (w.peer q))))
                 ∙ remains q w.sets (Some granted) Reserved k (or_true (is_persistent s q || is_named s q w.sets))
             go false e = stands.records q ∙ unchanged q w.sets (w.cooldown q) (w.peer q)
 
-    pub tie_release : (w : World C S) (d d' : DirectoryView C S) (p : C) (direction : Direction) → Refines s w d → is_inert (w.peer p).status ≡ false → ChangesRecord s.cmp d d' p (kept_after_release (metadata_of p direction)) →
+    pub tie_release : (w : World C S) (d d' : DirectoryView C S) (p : C) (direction : Direction) → Refines s w d →
+        is_inert (w.peer p).status ≡ false →
+        ChangesRecord s.cmp d d' p (kept_after_release (metadata_of p direction)) →
         Refines s (world_with s (Released p direction) w) d'
     tie_release w d d' p direction stands busy change = record {
       config = change.config ∙ stands.config;
@@ -222,7 +252,9 @@ module _ {C S : Type 0} (s : Setup C S) where
             left : Bool → Option (RecordView C S)
             left same = shown s q w.sets (w.cooldown q) (record {
               status = if same then Inert else st;
-              known = if is_present_with s q w.sets (if same then Inert else st) then (if same && Step.is_failed_dial s k.info direction then record k { fails = suc k.fails } else k) else new_known s q;
+              known = if is_present_with s q w.sets (if same then Inert else st)
+                  then (if same && Step.is_failed_dial s k.info direction then record k { fails = suc k.fails }
+                  else k) else new_known s q;
             })
 
             go : (same : Bool) → is_at (s.cmp p) q ≡ same → changed same ≡ left same
@@ -235,7 +267,8 @@ module _ {C S : Type 0} (s : Setup C S) where
             go false e = stands.records q ∙ unchanged q w.sets (w.cooldown q) (w.peer q)
 
   -- a set that is taken
-  pub tie_track : (w : World C S) (d d' : DirectoryView C S) (set : SetAt C) → Refines s w d → ((p : C) → is_present_in s w p ≡ false → (w.peer p).known ≡ new_known s p) → TakesSet s.cmp d d' set →
+  pub tie_track : (w : World C S) (d d' : DirectoryView C S) (set : SetAt C) → Refines s w d →
+      ((p : C) → is_present_in s w p ≡ false → (w.peer p).known ≡ new_known s p) → TakesSet s.cmp d d' set →
       Refines s (world_with s (Tracked set) w) d'
   tie_track w d d' set stands forgotten change = record {
     config = change.config ∙ stands.config;
@@ -274,15 +307,24 @@ module _ {C S : Type 0} (s : Setup C S) where
       left q None = refl
       left q (Some c) = refl
 
-      at : (q : C) (o : Option Cooldown) (b : Bool) → (if is_cooled_by t o then option_map (with_cooldown None) (kept w q o b) else kept w q o b) ≡ kept w q (Step.cooldown_after s q (Forgot t) o) b
+      at : (q : C) (o : Option Cooldown) (b : Bool) →
+          (if is_cooled_by t o then option_map (with_cooldown None) (kept w q o b) else kept w q o b)
+          ≡ kept w q (Step.cooldown_after s q (Forgot t) o) b
       at q None b = refl
       at q (Some c) b = go (nat_le c.dial_at t) b
         where
-          go : (cooled b : Bool) → (if cooled then option_map (with_cooldown None) (kept w q (Some c) b) else kept w q (Some c) b) ≡ kept w q (if cooled then None else Some c) b
+          go : (cooled b : Bool) →
+              (if cooled then option_map (with_cooldown None) (kept w q (Some c) b) else kept w q (Some c) b)
+              ≡ kept w q (if cooled then None else Some c) b
           go true true = refl
           go true false = refl
           go false b = refl
 
   -- how many are
   pub tie_number_cooled : (w : World C S) (d : DirectoryView C S) (t n : ℕ) → Refines s w d → IsNumberCooledIn s.cmp d t n → IsNumberCooled s w t n
-  tie_number_cooled w d t n stands (ps, lists, count) = (ps, lists_alike s.cmp (is_cooled_in s.cmp d t) (is_cooled_at s w t) ps (λ q. ap (is_cooled_by t) (stands.cooldowns q)) lists, count)
+  tie_number_cooled w d t n stands (ps, lists, count) = (
+    ps,
+    lists_alike s.cmp (is_cooled_in s.cmp d t) (is_cooled_at s w t) ps
+        (λ q. ap (is_cooled_by t) (stands.cooldowns q)) lists,
+    count,
+  )

@@ -13,7 +13,10 @@ use Rattle.p2p_tracker.specs.World
 use Rattle.p2p_tracker.specs.World.{World, Known, Peer, last_ingress, reservable_from, dialable_from}
 use Rattle.p2p_tracker.specs.Answers
 use Rattle.p2p_tracker.specs.Answers.{is_present_in, AreAll, IsLatestUpdate, is_eligible_at, is_acceptable_at, is_target, is_dialable, query_moment, IsDialable}
-use Rattle.p2p_tracker.specs.Record.{RecordView, DialView, is_eligible, is_grant, may_come, has_valid_ingress, ingress_of, is_dial_candidate, may_be_dialled, reserve_answer, dial_status, is_now, later_moment}
+use Rattle.p2p_tracker.specs.Record.{RecordView, DialView, is_eligible, is_grant, may_come}
+use Rattle.p2p_tracker.specs.Record.{has_valid_ingress, ingress_of, is_dial_candidate}
+use Rattle.p2p_tracker.specs.Record.{may_be_dialled, reserve_answer, dial_status, is_now}
+use Rattle.p2p_tracker.specs.Record.{later_moment}
 use Rattle.p2p_tracker.specs.Directory.{DirectoryView, may_listen_in, may_dial_in, ingress_in, is_dialable_in, query_moment_in, AreDialableIn}
 use Rattle.p2p_directory.specs.Refinement.{Refines, address_given, address_known, address_of}
 use Rattle.p2p_tracker.proofs.Definitions.Listed
@@ -29,18 +32,25 @@ module _ {C S : Type 0} (s : Setup C S) where
   -- ONE PEER
 
   -- an address is valid where the peer isn't the local node, and its ingress is known and valid
-  valid_shown : (p : C) (known : Known C S) → has_valid_ingress s.allow_private_ips s.allow_dns (address_of s p known) ≡ (not (is_own s p) && World.is_valid_address s (World.address_with s p known.info))
+  valid_shown : (p : C) (known : Known C S) →
+      has_valid_ingress s.allow_private_ips s.allow_dns (address_of s p known)
+      ≡ (not (is_own s p) && World.is_valid_address s (World.address_with s p known.info))
   valid_shown p known = go (is_own s p)
     where
       given : (o : Option Ingress) → has_valid_ingress {C = C} {S = S} s.allow_private_ips s.allow_dns (address_given o) ≡ World.is_valid_address s o
       given None = refl
       given (Some a) = refl
 
-      known_by : (info : Option (Info C S)) → has_valid_ingress s.allow_private_ips s.allow_dns (address_known (last_ingress s p s.bootstrappers) known.fails info) ≡ World.is_valid_address s (World.address_with s p info)
+      known_by : (info : Option (Info C S)) →
+          has_valid_ingress s.allow_private_ips s.allow_dns
+          (address_known (last_ingress s p s.bootstrappers) known.fails info)
+          ≡ World.is_valid_address s (World.address_with s p info)
       known_by None = given (last_ingress s p s.bootstrappers)
       known_by (Some i) = refl
 
-      go : (own : Bool) → has_valid_ingress s.allow_private_ips s.allow_dns (if own then Myself s.own else address_known (last_ingress s p s.bootstrappers) known.fails known.info)
+      go : (own : Bool) →
+          has_valid_ingress s.allow_private_ips s.allow_dns
+          (if own then Myself s.own else address_known (last_ingress s p s.bootstrappers) known.fails known.info)
           ≡ (not own && World.is_valid_address s (World.address_with s p known.info))
       go true = refl
       go false = known_by known.info
@@ -86,7 +96,8 @@ module _ {C S : Type 0} (s : Setup C S) where
       to h =
           let parts = parts_of i t (is_own s p) v h in
           and_from _ t (and_from _ v (and_from (is_entitled s p sets) i (and_from (not (is_own s p)) _ parts.is_other
-          (target_wanted (nat_lt 0 (primary_count s p sets)) (nat_lt 0 (secondary_count s p sets)) (is_persistent s p) parts.is_target)) parts.is_inert) parts.is_valid) parts.is_target
+          (target_wanted (nat_lt 0 (primary_count s p sets)) (nat_lt 0 (secondary_count s p sets))
+          (is_persistent s p) parts.is_target)) parts.is_inert) parts.is_valid) parts.is_target
 
       from : is_target s p sets peer ≡ true → candidate p sets peer ≡ true
       from h =
@@ -96,8 +107,12 @@ module _ {C S : Type 0} (s : Setup C S) where
           let h0 = and_parts (not (is_own s p)) _ h1.0 in
           and_from (i && t) _ (and_from i t h1.1 h3.1) (and_from (not (is_own s p)) v h0.0 h2.1)
 
-  shown_candidate : (p : C) (sets : List (SetAt C)) (cooldown : Option Cooldown) (peer : Peer C S) → is_dial_candidate s.allow_private_ips s.allow_dns (record_with s p sets cooldown peer) ≡ is_target s p sets peer
-  shown_candidate p sets cooldown peer = ap (λ b. (is_inert peer.status && World.is_dial_target s p sets) && b) (valid_shown p peer.known) ∙ candidate_target p sets peer
+  shown_candidate : (p : C) (sets : List (SetAt C)) (cooldown : Option Cooldown) (peer : Peer C S) →
+      is_dial_candidate s.allow_private_ips s.allow_dns (record_with s p sets cooldown peer)
+      ≡ is_target s p sets peer
+  shown_candidate p sets cooldown peer =
+      ap (λ b. (is_inert peer.status && World.is_dial_target s p sets) && b) (valid_shown p peer.known)
+      ∙ candidate_target p sets peer
 
   -- who is absent is no target
   absent_no_target : (p : C) (sets : List (SetAt C)) (peer : Peer C S) → is_present_with s p sets peer.status ≡ false → is_target s p sets peer ≡ false
@@ -141,7 +156,8 @@ module _ {C S : Type 0} (s : Setup C S) where
           and_from _ l (and_from _ tgt (and_from (e && i) v h4.0 h1.1) h2.1) h2.0
 
   shown_may_dial : (p : C) (sets : List (SetAt C)) (cooldown : Option Cooldown) (peer : Peer C S) (unblock : Option ℕ) (t : ℕ) →
-      (not (World.is_blocked unblock t) && option_map_or (may_be_dialled t s.allow_private_ips s.allow_dns) (shown s p sets cooldown peer) false) ≡ World.may_dial s p t sets peer unblock cooldown
+      (not (World.is_blocked unblock t) && option_map_or (may_be_dialled t s.allow_private_ips s.allow_dns)
+      (shown s p sets cooldown peer) false) ≡ World.may_dial s p t sets peer unblock cooldown
   shown_may_dial p sets cooldown peer unblock t = go (is_present_with s p sets peer.status) refl ∙ dial_parts p t sets peer unblock cooldown
     where
       free : Bool
@@ -164,7 +180,9 @@ module _ {C S : Type 0} (s : Setup C S) where
 
       entitled : is_target s p sets peer ≡ true → is_eligible (record_with s p sets cooldown peer) ≡ true
       entitled h =
-          let h3 = and_parts ((is_entitled s p sets && is_inert peer.status) && World.is_valid_address s (World.address_with s p peer.known.info)) (World.is_dial_target s p sets) h in
+          let h3 = and_parts
+          ((is_entitled s p sets && is_inert peer.status) && World.is_valid_address s
+          (World.address_with s p peer.known.info)) (World.is_dial_target s p sets) h in
           let h2 = and_parts (is_entitled s p sets && is_inert peer.status) (World.is_valid_address s (World.address_with s p peer.known.info)) h3.0 in
           eligible_is_entitled s p sets cooldown peer ∙ (and_parts (is_entitled s p sets) (is_inert peer.status) h2.0).0
 
@@ -173,24 +191,35 @@ module _ {C S : Type 0} (s : Setup C S) where
           ≡ (is_target s p sets peer && World.may_listen s p t sets peer unblock cooldown)
       go true h =
           (λ i. free && (shown_candidate p sets cooldown peer i && is_grant (reserve_answer t (record_with s p sets cooldown peer))))
-          ∙ ap (λ b. free && b) (grants (is_target s p sets peer) (is_eligible (record_with s p sets cooldown peer)) (is_grant (reserve_answer t (record_with s p sets cooldown peer))) entitled)
+          ∙ ap (λ b. free && b)
+          (grants (is_target s p sets peer) (is_eligible (record_with s p sets cooldown peer))
+          (is_grant (reserve_answer t (record_with s p sets cooldown peer))) entitled)
           ∙ swap free (is_target s p sets peer) (may_come t (record_with s p sets cooldown peer))
-          ∙ ap (λ b. is_target s p sets peer && b) ((λ i. free && option_map_or come (if sym h i then Some (record_with s p sets cooldown peer) else None) false) ∙ shown_may_come s p sets cooldown peer unblock t)
+          ∙ ap (λ b. is_target s p sets peer && b)
+          ((λ i. free && option_map_or come
+          (if sym h i then Some (record_with s p sets cooldown peer) else None) false)
+          ∙ shown_may_come s p sets cooldown peer unblock t)
       go false h = neither free ∙ sym (ap (λ b. b && World.may_listen s p t sets peer unblock cooldown) (absent_no_target p sets peer h))
 
   -- DIALS
 
-  pub tie_may_listen : (w : World C S) (d : DirectoryView C S) (p : C) (t : ℕ) → Refines s w d → may_listen_in s.cmp d t p ≡ World.may_listen s p t w.sets (w.peer p) (w.unblock p) (w.cooldown p)
+  pub tie_may_listen : (w : World C S) (d : DirectoryView C S) (p : C) (t : ℕ) → Refines s w d →
+      may_listen_in s.cmp d t p ≡ World.may_listen s p t w.sets (w.peer p) (w.unblock p) (w.cooldown p)
   tie_may_listen w d p t stands =
-      (λ i. not (World.is_blocked (stands.blocks p i) t) && option_map_or (may_come t) (stands.records p i) false) ∙ shown_may_come s p w.sets (w.cooldown p) (w.peer p) (w.unblock p) t
+      (λ i. not (World.is_blocked (stands.blocks p i) t) && option_map_or (may_come t) (stands.records p i) false)
+      ∙ shown_may_come s p w.sets (w.cooldown p) (w.peer p) (w.unblock p) t
 
-  pub tie_may_dial : (w : World C S) (d : DirectoryView C S) (p : C) (t : ℕ) → Refines s w d → may_dial_in s.cmp d t p ≡ World.may_dial s p t w.sets (w.peer p) (w.unblock p) (w.cooldown p)
+  pub tie_may_dial : (w : World C S) (d : DirectoryView C S) (p : C) (t : ℕ) → Refines s w d →
+      may_dial_in s.cmp d t p ≡ World.may_dial s p t w.sets (w.peer p) (w.unblock p) (w.cooldown p)
   tie_may_dial w d p t stands =
-      (λ i. not (World.is_blocked (stands.blocks p i) t) && option_map_or (may_be_dialled t (stands.config i).allow_private_ips (stands.config i).allow_dns) (stands.records p i) false)
+      (λ i. not (World.is_blocked (stands.blocks p i) t) && option_map_or
+      (may_be_dialled t (stands.config i).allow_private_ips (stands.config i).allow_dns) (stands.records p i)
+      false)
       ∙ shown_may_dial p w.sets (w.cooldown p) (w.peer p) (w.unblock p) t
 
   -- the ingress that is kept of a peer that may be dialled
-  pub tie_ingress : (w : World C S) (d : DirectoryView C S) (p : C) (t : ℕ) → Refines s w d → World.may_dial s p t w.sets (w.peer p) (w.unblock p) (w.cooldown p) ≡ true →
+  pub tie_ingress : (w : World C S) (d : DirectoryView C S) (p : C) (t : ℕ) → Refines s w d →
+      World.may_dial s p t w.sets (w.peer p) (w.unblock p) (w.cooldown p) ≡ true →
       ingress_in s.cmp d p ≡ World.address_with s p (w.peer p).known.info
   tie_ingress w d p t stands may = ap (option_and_then (λ r. ingress_of r.address)) (stands.records p) ∙ go (is_present_in s w p) refl (is_own s p) refl
     where
@@ -209,37 +238,51 @@ module _ {C S : Type 0} (s : Setup C S) where
       given None = refl
       given (Some a) = refl
 
-      known_by : (info : Option (Info C S)) → ingress_of (address_known (last_ingress s p s.bootstrappers) (w.peer p).known.fails info) ≡ World.address_with s p info
+      known_by : (info : Option (Info C S)) →
+          ingress_of (address_known (last_ingress s p s.bootstrappers) (w.peer p).known.fails info)
+          ≡ World.address_with s p info
       known_by None = given (last_ingress s p s.bootstrappers)
       known_by (Some i) = refl
 
       go : (b : Bool) → is_present_in s w p ≡ b → (own : Bool) → is_own s p ≡ own →
-          option_and_then (λ r. ingress_of r.address) (if b then Some (record_with s p w.sets (w.cooldown p) (w.peer p)) else None) ≡ World.address_with s p (w.peer p).known.info
+          option_and_then (λ r. ingress_of r.address)
+          (if b then Some (record_with s p w.sets (w.cooldown p) (w.peer p)) else None)
+          ≡ World.address_with s p (w.peer p).known.info
       go true h true o = absurd (let f = sym (ap (λ b. not b && (is_named s p w.sets || is_persistent s p)) o) ∙ entitled in cc)
       go true h false o =
           (λ i. ingress_of (if o i then Myself s.own else address_known (last_ingress s p s.bootstrappers) (w.peer p).known.fails (w.peer p).known.info))
           ∙ known_by (w.peer p).known.info
-      go false h own o = absurd (let f = sym (absent_not_entitled s (is_own s p) (is_named s p w.sets) (is_persistent s p) (is_inert (w.peer p).status) h) ∙ entitled in cc)
+      go false h own o =
+          absurd (let f =
+          sym (absent_not_entitled s (is_own s p) (is_named s p w.sets) (is_persistent s p)
+          (is_inert (w.peer p).status) h) ∙ entitled in cc)
 
   -- DIALABLE
 
   shown_dialable : (p : C) (sets : List (SetAt C)) (cooldown : Option Cooldown) (peer : Peer C S) (unblock : Option ℕ) (t : ℕ) →
       (not (World.is_blocked unblock t) && option_map_or (λ r. is_now (dial_status t s.allow_private_ips s.allow_dns r)) (shown s p sets cooldown peer) false)
       ≡ Answers.is_dialable_with s p t sets peer unblock cooldown
-  shown_dialable p sets cooldown peer unblock t = go (is_present_with s p sets peer.status) refl ∙ shuffle (is_target s p sets peer) free (nat_le (dialable_from cooldown) t)
+  shown_dialable p sets cooldown peer unblock t = go (is_present_with s p sets peer.status) refl
+      ∙ shuffle (is_target s p sets peer) free (nat_le (dialable_from cooldown) t)
     where
       free : Bool
       free = not (World.is_blocked unblock t)
 
       go : (b : Bool) → is_present_with s p sets peer.status ≡ b →
-          (free && option_map_or (λ r. is_now (dial_status t s.allow_private_ips s.allow_dns r)) (if b then Some (record_with s p sets cooldown peer) else None) false) ≡ (free && (is_target s p sets peer && nat_le (dialable_from cooldown) t))
+          (free && option_map_or (λ r. is_now (dial_status t s.allow_private_ips s.allow_dns r))
+          (if b then Some (record_with s p sets cooldown peer) else None) false)
+          ≡ (free && (is_target s p sets peer && nat_le (dialable_from cooldown) t))
       go true h =
-          (λ i. free && is_now (if not (shown_candidate p sets cooldown peer i) then DialView.Unavailable else if nat_lt t (dialable_from cooldown) then DialView.After (dialable_from cooldown) else DialView.Now))
+          (λ i. free && is_now
+          (if not (shown_candidate p sets cooldown peer i) then DialView.Unavailable else if nat_lt t
+          (dialable_from cooldown) then DialView.After (dialable_from cooldown) else DialView.Now))
           ∙ ap (λ b. free && b) (later_parts (is_target s p sets peer) (dialable_from cooldown) t)
       go false h = ap (λ b. free && (b && nat_le (dialable_from cooldown) t)) (sym (absent_no_target p sets peer h))
 
   shown_query : (p : C) (sets : List (SetAt C)) (cooldown : Option Cooldown) (peer : Peer C S) (unblock : Option ℕ) (t : ℕ) →
-      option_and_then (λ r. if World.is_blocked unblock t then unblock else later_moment (dial_status t s.allow_private_ips s.allow_dns r)) (shown s p sets cooldown peer)
+      option_and_then
+      (λ r. if World.is_blocked unblock t then unblock else later_moment
+      (dial_status t s.allow_private_ips s.allow_dns r)) (shown s p sets cooldown peer)
       ≡ (if World.is_blocked unblock t then (if is_present_with s p sets peer.status then unblock else None)
       else if is_target s p sets peer && nat_lt t (dialable_from cooldown) then Some (dialable_from cooldown) else None)
   shown_query p sets cooldown peer unblock t = go (is_present_with s p sets peer.status) refl
@@ -252,27 +295,39 @@ module _ {C S : Type 0} (s : Setup C S) where
       none false = refl
 
       go : (b : Bool) → is_present_with s p sets peer.status ≡ b →
-          option_and_then (λ r. if World.is_blocked unblock t then unblock else later_moment (dial_status t s.allow_private_ips s.allow_dns r)) (if b then Some (record_with s p sets cooldown peer) else None)
-          ≡ (if World.is_blocked unblock t then (if b then unblock else None) else if is_target s p sets peer && nat_lt t (dialable_from cooldown) then Some (dialable_from cooldown) else None)
+          option_and_then
+          (λ r. if World.is_blocked unblock t then unblock else later_moment
+          (dial_status t s.allow_private_ips s.allow_dns r))
+          (if b then Some (record_with s p sets cooldown peer) else None)
+          ≡ (if World.is_blocked unblock t then (if b then unblock else None) else if is_target s p sets peer &&
+          nat_lt t (dialable_from cooldown) then Some (dialable_from cooldown) else None)
       go true h =
           (λ i. if World.is_blocked unblock t then unblock
-          else later_moment (if not (shown_candidate p sets cooldown peer i) then DialView.Unavailable else if nat_lt t (dialable_from cooldown) then DialView.After (dialable_from cooldown) else DialView.Now))
+          else later_moment
+          (if not (shown_candidate p sets cooldown peer i) then DialView.Unavailable else if nat_lt t
+          (dialable_from cooldown) then DialView.After (dialable_from cooldown) else DialView.Now))
           ∙ ap (λ o. if World.is_blocked unblock t then unblock else o) (later_moments (is_target s p sets peer) (dialable_from cooldown) t)
       go false h =
           none (World.is_blocked unblock t)
-          ∙ ap (λ b. if World.is_blocked unblock t then None else if b && nat_lt t (dialable_from cooldown) then Some (dialable_from cooldown) else None) (sym (absent_no_target p sets peer h))
+          ∙ ap (λ b. if World.is_blocked unblock t then None else if b && nat_lt t (dialable_from cooldown)
+          then Some (dialable_from cooldown) else None) (sym (absent_no_target p sets peer h))
 
   pub tie_is_dialable : (w : World C S) (d : DirectoryView C S) (t : ℕ) → Refines s w d → (p : C) → is_dialable_in s.cmp d t p ≡ is_dialable s w t p
   tie_is_dialable w d t stands p =
-      (λ i. not (World.is_blocked (stands.blocks p i) t) && option_map_or (λ r. is_now (dial_status t (stands.config i).allow_private_ips (stands.config i).allow_dns r)) (stands.records p i) false)
+      (λ i. not (World.is_blocked (stands.blocks p i) t) && option_map_or
+      (λ r. is_now (dial_status t (stands.config i).allow_private_ips (stands.config i).allow_dns r))
+      (stands.records p i) false)
       ∙ shown_dialable p w.sets (w.cooldown p) (w.peer p) (w.unblock p) t
 
   tie_query : (w : World C S) (d : DirectoryView C S) (t : ℕ) → Refines s w d → (p : C) → query_moment_in s.cmp d t p ≡ query_moment s w t p
   tie_query w d t stands p =
-      (λ i. option_and_then (λ r. if World.is_blocked (stands.blocks p i) t then stands.blocks p i else later_moment (dial_status t (stands.config i).allow_private_ips (stands.config i).allow_dns r)) (stands.records p i))
+      (λ i. option_and_then
+      (λ r. if World.is_blocked (stands.blocks p i) t then stands.blocks p i else later_moment
+      (dial_status t (stands.config i).allow_private_ips (stands.config i).allow_dns r)) (stands.records p i))
       ∙ shown_query p w.sets (w.cooldown p) (w.peer p) (w.unblock p) t
 
-  pub tie_dialable : (w : World C S) (d : DirectoryView C S) (t : ℕ) (ps : List C) (next : Option ℕ) → Refines s w d → AreDialableIn s.cmp d t ps next → IsDialable s w t ps next
+  pub tie_dialable : (w : World C S) (d : DirectoryView C S) (t : ℕ) (ps : List C) (next : Option ℕ) →
+      Refines s w d → AreDialableIn s.cmp d t ps next → IsDialable s w t ps next
   tie_dialable w d t ps next stands told = (
     lists_alike s.cmp (is_dialable_in s.cmp d t) (is_dialable s w t) ps (tie_is_dialable w d t stands) told.0,
     Listed.least_alike (query_moment_in s.cmp d t) (query_moment s w t) next (λ p. sym (tie_query w d t stands p)) told.1,

@@ -60,7 +60,8 @@ module _ {C S : Type 0} (s : Setup C S) where
   -- TESTS
 
   -- a present peer's record is eligible where the peer is entitled
-  pub eligible_is_entitled : (p : C) (sets : List (SetAt C)) (cooldown : Option Cooldown) (peer : Peer C S) → is_eligible (record_with p sets cooldown peer) ≡ is_entitled s p sets
+  pub eligible_is_entitled : (p : C) (sets : List (SetAt C)) (cooldown : Option Cooldown) (peer : Peer C S) →
+      is_eligible (record_with p sets cooldown peer) ≡ is_entitled s p sets
   eligible_is_entitled p sets cooldown peer = ap (λ b. not b && (is_named s p sets || is_persistent s p)) (myself_is_own p peer.known)
 
   pub absent_not_entitled : (own named persistent inert : Bool) → ((persistent || named) || not inert) ≡ false → (not own && (named || persistent)) ≡ false
@@ -71,15 +72,19 @@ module _ {C S : Type 0} (s : Setup C S) where
   absent_not_entitled false false false inert e = refl
 
   -- what is kept of it is eligible where the peer is entitled
-  pub shown_entitled : (p : C) (sets : List (SetAt C)) (cooldown : Option Cooldown) (peer : Peer C S) → option_map_or is_eligible (shown p sets cooldown peer) false ≡ is_entitled s p sets
+  pub shown_entitled : (p : C) (sets : List (SetAt C)) (cooldown : Option Cooldown) (peer : Peer C S) →
+      option_map_or is_eligible (shown p sets cooldown peer) false ≡ is_entitled s p sets
   shown_entitled p sets cooldown peer = go (is_present_with s p sets peer.status) refl
     where
-      go : (b : Bool) → is_present_with s p sets peer.status ≡ b → option_map_or is_eligible (if b then Some (record_with p sets cooldown peer) else None) false ≡ is_entitled s p sets
+      go : (b : Bool) → is_present_with s p sets peer.status ≡ b →
+          option_map_or is_eligible (if b then Some (record_with p sets cooldown peer) else None) false
+          ≡ is_entitled s p sets
       go true e = eligible_is_entitled p sets cooldown peer
       go false e = sym (absent_not_entitled (is_own s p) (is_named s p sets) (is_persistent s p) (is_inert peer.status) e)
 
   -- reserved or connected, and eligible
-  pub shown_busy : (p : C) (sets : List (SetAt C)) (cooldown : Option Cooldown) (peer : Peer C S) → is_connectable s.cmp (shown p sets cooldown peer) ≡ (not (is_inert peer.status) && is_entitled s p sets)
+  pub shown_busy : (p : C) (sets : List (SetAt C)) (cooldown : Option Cooldown) (peer : Peer C S) →
+      is_connectable s.cmp (shown p sets cooldown peer) ≡ (not (is_inert peer.status) && is_entitled s p sets)
   shown_busy p sets cooldown peer = go (is_present_with s p sets peer.status) refl
     where
       and_false : (b : Bool) → false ≡ (b && false)
@@ -97,7 +102,9 @@ module _ {C S : Type 0} (s : Setup C S) where
   pub le_not_lt : (m n : ℕ) → nat_le m n ≡ not (nat_lt n m)
   le_not_lt m n = grind (arith, nat_tests)
 
-  pub is_granted : (m i late : Bool) → is_grant (if m || not i then reserve.Unavailable else if late then reserve.RateLimited else reserve.Reserved) ≡ (not m && i && not late)
+  pub is_granted : (m i late : Bool) →
+      is_grant (if m || not i then reserve.Unavailable else if late then reserve.RateLimited else reserve.Reserved)
+      ≡ (not m && i && not late)
   is_granted true i late = refl
   is_granted false true true = refl
   is_granted false true false = refl
@@ -107,7 +114,9 @@ module _ {C S : Type 0} (s : Setup C S) where
       (not (World.is_blocked unblock t) && option_map_or (may_come t) (shown p sets cooldown peer) false) ≡ World.may_listen s p t sets peer unblock cooldown
   shown_may_come p sets cooldown peer unblock t = go (is_present_with s p sets peer.status) refl
     where
-      bools : (free own wanted inert late : Bool) → (free && ((not own && wanted) && (not own && inert && not late))) ≡ ((((not own && wanted) && inert) && free) && not late)
+      bools : (free own wanted inert late : Bool) →
+          (free && ((not own && wanted) && (not own && inert && not late)))
+          ≡ ((((not own && wanted) && inert) && free) && not late)
       bools true true wanted inert late = refl
       bools true false true true late = refl
       bools true false true false late = refl
@@ -125,8 +134,11 @@ module _ {C S : Type 0} (s : Setup C S) where
           (not (World.is_blocked unblock t) && option_map_or (may_come t) (if b then Some (record_with p sets cooldown peer) else None) false)
           ≡ (((is_entitled s p sets && is_inert peer.status) && not (World.is_blocked unblock t)) && nat_le (reservable_from cooldown) t)
       go true e =
-          (λ i. not (World.is_blocked unblock t) && (eligible_is_entitled p sets cooldown peer i && is_granted (myself_is_own p peer.known i) (is_inert peer.status) (nat_lt t (reservable_from cooldown)) i))
-          ∙ bools (not (World.is_blocked unblock t)) (is_own s p) (is_named s p sets || is_persistent s p) (is_inert peer.status) (nat_lt t (reservable_from cooldown))
+          (λ i. not (World.is_blocked unblock t) &&
+          (eligible_is_entitled p sets cooldown peer i && is_granted (myself_is_own p peer.known i)
+          (is_inert peer.status) (nat_lt t (reservable_from cooldown)) i))
+          ∙ bools (not (World.is_blocked unblock t)) (is_own s p) (is_named s p sets || is_persistent s p)
+          (is_inert peer.status) (nat_lt t (reservable_from cooldown))
           ∙ (λ i. ((is_entitled s p sets && is_inert peer.status) && not (World.is_blocked unblock t)) && sym (le_not_lt (reservable_from cooldown) t) i)
       go false e =
           neither (not (World.is_blocked unblock t))
@@ -180,7 +192,8 @@ module _ {C S : Type 0} (s : Setup C S) where
 
   -- the record that a release leaves, if it isn't deletable
   pub release_of_record : (key p : C) (sets : List (SetAt C)) (cooldown : Option Cooldown) (peer : Peer C S) (direction : Direction) →
-      released_record (metadata_of key direction) (record_with p sets cooldown peer) ≡ record_with p sets cooldown (record { status = Inert; known = failed_once peer.known direction })
+      released_record (metadata_of key direction) (record_with p sets cooldown peer)
+      ≡ record_with p sets cooldown (record { status = Inert; known = failed_once peer.known direction })
   release_of_record key p sets cooldown peer direction =
       λ i. record {
         address = address_released key p peer.known direction i;
@@ -196,13 +209,15 @@ module _ {C S : Type 0} (s : Setup C S) where
 
   -- a record goes where its peer is absent
   pub settled : (p : C) (sets : List (SetAt C)) (cooldown : Option Cooldown) (status : Status) (known : Known C S) →
-      unless_deletable (record_with p sets cooldown (record { status = status; known = known })) ≡ shown p sets cooldown (record { status = status; known = known })
+      unless_deletable (record_with p sets cooldown (record { status = status; known = known }))
+      ≡ shown p sets cooldown (record { status = status; known = known })
   settled p sets cooldown status known = go (is_persistent s p) (is_named s p sets) (is_inert status)
     where
       r : RecordView C S
       r = record_with p sets cooldown (record { status = status; known = known })
 
-      go : (persistent named inert : Bool) → (if not (named || persistent) && inert then None else Some r) ≡ (if (persistent || named) || not inert then Some r else None)
+      go : (persistent named inert : Bool) → (if not (named || persistent) && inert then None else Some r)
+          ≡ (if (persistent || named) || not inert then Some r else None)
       go true true inert = refl
       go true false inert = refl
       go false true inert = refl
@@ -213,7 +228,8 @@ module _ {C S : Type 0} (s : Setup C S) where
   some_given q [] = refl
   some_given q (b ∷ bs) = go (same s b.0 q) (last_ingress_by s.cmp q bs) (list_any (λ x. same s x.0 q) bs) (some_given q bs)
     where
-      go : (t : Bool) (o : Option Ingress) (any : Bool) → is_some o ≡ any → is_some (elim o [ None ↦ (if t then Some b.1 else None) | Some a ↦ Some a ]) ≡ (t || any)
+      go : (t : Bool) (o : Option Ingress) (any : Bool) → is_some o ≡ any →
+          is_some (elim o [ None ↦ (if t then Some b.1 else None) | Some a ↦ Some a ]) ≡ (t || any)
       go true None any e = refl
       go true (Some a) any e = refl
       go false None any e = e
@@ -236,13 +252,17 @@ module _ {C S : Type 0} (s : Setup C S) where
   no_ingress (Some a) e = absurd (cc)
 
   -- of an absent peer nothing is known but its moments
-  absent_blank : (q : C) (sets : List (SetAt C)) (cooldown : Option Cooldown) (peer : Peer C S) (m n : ℕ) → is_present_with s q sets peer.status ≡ false → peer.known ≡ new_known s q →
+  absent_blank : (q : C) (sets : List (SetAt C)) (cooldown : Option Cooldown) (peer : Peer C S) (m n : ℕ) →
+      is_present_with s q sets peer.status ≡ false → peer.known ≡ new_known s q →
       with_counts m n (fresh cooldown) ≡ with_counts m n (record_with q sets cooldown peer)
   absent_blank q sets cooldown peer m n absent known =
       let parts = absent_parts (is_own s q) (list_any (λ b. same s b.0 q) s.bootstrappers) (is_named s q sets) (is_inert peer.status) absent in
-      let given : address_given (last_ingress s q s.bootstrappers) ≡ Unknown = no_ingress (last_ingress s q s.bootstrappers) (some_given q s.bootstrappers ∙ parts.1) in
+      let given : address_given (last_ingress s q s.bootstrappers) ≡ Unknown =
+      no_ingress (last_ingress s q s.bootstrappers) (some_given q s.bootstrappers ∙ parts.1) in
       let address : address_of s q peer.known ≡ Unknown =
-      ap (address_of s q) known ∙ (λ i. if parts.0 i then Myself s.own else address_known (last_ingress s q s.bootstrappers) 0 (if parts.0 i then Some s.own else None)) ∙ given in
+      ap (address_of s q) known
+      ∙ (λ i. if parts.0 i then Myself s.own else address_known (last_ingress s q s.bootstrappers) 0
+      (if parts.0 i then Some s.own else None)) ∙ given in
       let inert : peer.status ≡ Inert = inert_only peer.status parts.2 in
       let persistent : is_persistent s q ≡ false = (λ i. parts.0 i || parts.1 i) in
       sym (λ i. record {
@@ -256,11 +276,13 @@ module _ {C S : Type 0} (s : Setup C S) where
       })
 
   -- with other sets it is the record that the world has with them
-  pub shown_with_sets : (q : C) (sets sets2 : List (SetAt C)) (cooldown : Option Cooldown) (peer : Peer C S) → (is_present_with s q sets peer.status ≡ false → peer.known ≡ new_known s q) →
+  pub shown_with_sets : (q : C) (sets sets2 : List (SetAt C)) (cooldown : Option Cooldown) (peer : Peer C S) →
+      (is_present_with s q sets peer.status ≡ false → peer.known ≡ new_known s q) →
       record_with_sets s.cmp sets2 cooldown q (shown q sets cooldown peer) ≡ shown q sets2 cooldown peer
   shown_with_sets q sets sets2 cooldown peer forgotten = go (is_present_with s q sets peer.status) refl ∙ settled q sets2 cooldown peer.status peer.known
     where
       go : (b : Bool) → is_present_with s q sets peer.status ≡ b →
-          record_with_sets s.cmp sets2 cooldown q (if b then Some (record_with q sets cooldown peer) else None) ≡ unless_deletable (record_with q sets2 cooldown peer)
+          record_with_sets s.cmp sets2 cooldown q (if b then Some (record_with q sets cooldown peer) else None)
+          ≡ unless_deletable (record_with q sets2 cooldown peer)
       go true e = refl
       go false e = ap unless_deletable (absent_blank q sets cooldown peer (primary_count s q sets2) (secondary_count s q sets2) e (forgotten e))

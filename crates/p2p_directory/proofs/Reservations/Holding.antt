@@ -12,7 +12,10 @@ use Rattle.p2p_tracker.specs.declared.record.Status.TheVariants.{Inert, Reserved
 use Rattle.p2p_tracker.specs.Calls.{SetAt}
 use Rattle.p2p_tracker.specs.History.{is_inert, is_reserved}
 use Rattle.p2p_tracker.specs.Record.{RecordView, with_cooldown}
-use Rattle.p2p_tracker.specs.Directory.{DirectoryView, is_busy, record_of, key_of, released_record, kept_after_release, connected_record, IsBusy, IsReserved, ChangesRecord, Connects, TakesSet, ForgetsCooled, ChangesAt, cooldown_of, is_cooled_in, record_at}
+use Rattle.p2p_tracker.specs.Directory.{DirectoryView, is_busy, record_of, key_of, released_record}
+use Rattle.p2p_tracker.specs.Directory.{kept_after_release, connected_record, IsBusy, IsReserved}
+use Rattle.p2p_tracker.specs.Directory.{ChangesRecord, Connects, TakesSet, ForgetsCooled, ChangesAt}
+use Rattle.p2p_tracker.specs.Directory.{cooldown_of, is_cooled_in, record_at}
 use Rattle.p2p_directory.specs.Held.{AreHeld, after_release}
 use Rattle.p2p_tracker.proofs.SetsAndRecords.Consistent.{status_unless, status_with_sets}
 
@@ -28,7 +31,9 @@ module _ {C S : Type 0} where
   told_reserved (Some r) e = let f : r.status ≡ Reserved = cc in ap is_reserved f
 
   -- who is connected was reserved, and stays busy
-  stays_busy : (dialer : Bool) (o : Option (RecordView C S)) → option_map_or (λ r. is_reserved r.status) o false ≡ true → is_busy o ≡ is_busy (option_map (connected_record dialer) o)
+  stays_busy : (dialer : Bool) (o : Option (RecordView C S)) →
+      option_map_or (λ r. is_reserved r.status) o false ≡ true →
+      is_busy o ≡ is_busy (option_map (connected_record dialer) o)
   stays_busy dialer None e = absurd cc
   stays_busy dialer (Some r) e = go r.status e
     where
@@ -39,11 +44,15 @@ module _ {C S : Type 0} where
 
 module _ {C S : Type 0} (cmp : C → C → Ordering) where
   -- .. and so does a connect
-  pub held_by_connect : CmpEqualImpliesEq cmp → (d d2 : DirectoryView C S) (p : C) (dialer : Bool) (held : C → Option (Metadata C S)) → AreHeld cmp d held → IsReserved cmp d p
+  pub held_by_connect : CmpEqualImpliesEq cmp →
+      (d d2 : DirectoryView C S) (p : C) (dialer : Bool) (held : C → Option (Metadata C S)) → AreHeld cmp d held →
+      IsReserved cmp d p
       → Connects cmp d d2 p dialer → AreHeld cmp d2 held
   held_by_connect exact d d2 p dialer held agree reserved change q = agree q ∙ go (is_at (cmp p) q) refl ∙ sym (ap is_busy (change.records q))
     where
-      go : (b : Bool) → is_at (cmp p) q ≡ b → is_busy (record_of cmp d q) ≡ is_busy (if b then option_map (connected_record dialer) (record_of cmp d q) else record_of cmp d q)
+      go : (b : Bool) → is_at (cmp p) q ≡ b →
+          is_busy (record_of cmp d q)
+          ≡ is_busy (if b then option_map (connected_record dialer) (record_of cmp d q) else record_of cmp d q)
       go true e = stays_busy dialer (record_of cmp d q) (subst (IsReserved cmp d) (tells_apart exact p q e) reserved)
       go false e = refl
 
@@ -52,12 +61,16 @@ module _ {C S : Type 0} (cmp : C → C → Ordering) where
   held_by_records d d2 held same agree q = agree q ∙ sym (ap (λ records. is_busy (record_at cmp records q)) same)
 
   -- a set leaves all that is held as it was
-  pub held_by_track : (d d2 : DirectoryView C S) (set : SetAt C) (held : C → Option (Metadata C S)) → AreHeld cmp d held → TakesSet cmp d d2 set → AreHeld cmp d2 held
+  pub held_by_track : (d d2 : DirectoryView C S) (set : SetAt C) (held : C → Option (Metadata C S)) →
+      AreHeld cmp d held → TakesSet cmp d d2 set → AreHeld cmp d2 held
   held_by_track d d2 set held agree change q =
-      agree q ∙ sym (ap is_busy (change.records q) ∙ status_with_sets cmp (λ status. not (is_inert status)) refl d2.sets (cooldown_of cmp d q) q (record_of cmp d q))
+      agree q ∙ sym
+      (ap is_busy (change.records q) ∙ status_with_sets cmp (λ status. not (is_inert status)) refl d2.sets
+      (cooldown_of cmp d q) q (record_of cmp d q))
 
   -- moments that are forgotten leave all that is held as it was
-  pub held_by_forgetting : (d d2 : DirectoryView C S) (t : ℕ) (held : C → Option (Metadata C S)) → AreHeld cmp d held → ForgetsCooled cmp d d2 t → AreHeld cmp d2 held
+  pub held_by_forgetting : (d d2 : DirectoryView C S) (t : ℕ) (held : C → Option (Metadata C S)) →
+      AreHeld cmp d held → ForgetsCooled cmp d d2 t → AreHeld cmp d2 held
   held_by_forgetting d d2 t held agree change q = agree q ∙ sym (ap is_busy (change.records q) ∙ go (is_cooled_in cmp d t q) (record_of cmp d q))
     where
       go : (b : Bool) (o : Option (RecordView C S)) → is_busy (if b then option_map (with_cooldown None) o else o) ≡ is_busy o
@@ -66,7 +79,9 @@ module _ {C S : Type 0} (cmp : C → C → Ordering) where
       go false o = refl
 
   -- one is held more
-  pub held_by_grant : CmpEqualImpliesEq cmp → (d d2 : DirectoryView C S) (p : C) (m : Metadata C S) (f : Option (RecordView C S) → Option (RecordView C S)) (held held2 : C → Option (Metadata C S)) → AreHeld cmp d held
+  pub held_by_grant : CmpEqualImpliesEq cmp →
+      (d d2 : DirectoryView C S) (p : C) (m : Metadata C S) (f : Option (RecordView C S) → Option (RecordView C S))
+      (held held2 : C → Option (Metadata C S)) → AreHeld cmp d held
       → ChangesAt cmp d.records d2.records p f → IsBusy cmp d2 p → ((q : C) → held2 q ≡ (if is_at (cmp p) q then Some m else held q)) → AreHeld cmp d2 held2
   held_by_grant exact d d2 p m f held held2 agree change busy holds q = ap is_some (holds q) ∙ go (is_at (cmp p) q) refl
     where
@@ -91,11 +106,14 @@ module _ {C S : Type 0} (cmp : C → C → Ordering) where
       → (q : C) → after_release (held2 q) (record_of cmp d2 q) ≡ after_release (held q) (record_of cmp d q)
   given_back exact d d2 p m held held2 is change holds q = (λ i. after_release (holds q i) (change.records q i)) ∙ go (is_at (cmp p) q) refl
     where
-      go : (b : Bool) → is_at (cmp p) q ≡ b → after_release (if b then None else held q) (if b then after_release (Some m) (record_of cmp d q) else record_of cmp d q)
+      go : (b : Bool) → is_at (cmp p) q ≡ b →
+          after_release (if b then None else held q)
+          (if b then after_release (Some m) (record_of cmp d q) else record_of cmp d q)
           ≡ after_release (held q) (record_of cmp d q)
       go true e = ap (λ o. after_release o (record_of cmp d q)) (sym is ∙ ap held (tells_apart exact p q e))
       go false e = refl
 
   -- who is held has a record that is not inert
-  pub held_record : (d : DirectoryView C S) (held : C → Option (Metadata C S)) (q : C) (m : Metadata C S) → AreHeld cmp d held → held q ≡ Some m → key_of m ≡ q → IsBusy cmp d (key_of m)
+  pub held_record : (d : DirectoryView C S) (held : C → Option (Metadata C S)) (q : C) (m : Metadata C S) →
+      AreHeld cmp d held → held q ≡ Some m → key_of m ≡ q → IsBusy cmp d (key_of m)
   held_record d held q m agree e key = subst (IsBusy cmp d) (sym key) (sym (agree q) ∙ ap is_some e)

@@ -1,7 +1,6 @@
 -- One more reply.
-use Rattle.std.proofs.Common.{◌≡◌, ◌<◌, true, Option, List, [], ◌∷◌, ◌++◌, length, get_or, refl, sym, ◌∙◌, ap, subst, arith, append_assoc}
-use Rattle.std.proofs.lemmas.List.{append-nil, map-append, length-append}
-use Rattle.std.specs.List.{All}
+use Rattle.std.proofs.Common.{◌≡◌, true, Option, List, [], ◌∷◌, ◌++◌, refl, sym, ◌∙◌, ap, subst}
+use Rattle.std.proofs.lemmas.List.{map-append}
 use Rattle.std.specs.declared.cmp.Ordering.{Ordering}
 use Rattle.p2p_tracker.specs.declared.directory.Metadata.{Metadata}
 use Rattle.p2p_directory.specs.declared.run.commands.Command.{Command}
@@ -13,7 +12,8 @@ use Rattle.p2p_directory.specs.Private.Slots.{has_slot}
 use Rattle.p2p_directory.specs.Run.{call_of, calls_of, next, IsAnswer, accepted, AreAnswers}
 
 -- there are slots for more peers
-pub room_grows : {C S : Type 0} (cmp : C → C → Ordering) (slots slots2 : List (C × Option (Metadata C S))) (x : Command C S) → ((q : C) → has_slot cmp slots q ≡ true → has_slot cmp slots2 q ≡ true)
+pub room_grows : {C S : Type 0} (cmp : C → C → Ordering) (slots slots2 : List (C × Option (Metadata C S)))
+    (x : Command C S) → ((q : C) → has_slot cmp slots q ≡ true → has_slot cmp slots2 q ≡ true)
     → has_room cmp slots x ≡ true → has_room cmp slots2 x ≡ true
 room_grows cmp slots slots2 (command.Dial peer now draw) more h = more peer h
 room_grows cmp slots slots2 (command.Listen peer now draw) more h = more peer h
@@ -40,7 +40,8 @@ room_grows cmp slots slots2 (command.Acceptable peer now) more h = refl
 room_grows cmp slots slots2 (command.Dialable now) more h = refl
 
 -- the slots are for the same peers
-pub room_stays : {C S : Type 0} (cmp : C → C → Ordering) (slots slots2 : List (C × Option (Metadata C S))) (x : Command C S) → ((q : C) → has_slot cmp slots2 q ≡ has_slot cmp slots q)
+pub room_stays : {C S : Type 0} (cmp : C → C → Ordering) (slots slots2 : List (C × Option (Metadata C S)))
+    (x : Command C S) → ((q : C) → has_slot cmp slots2 q ≡ has_slot cmp slots q)
     → has_room cmp slots x ≡ true → has_room cmp slots2 x ≡ true
 room_stays cmp slots slots2 x same h = room_grows cmp slots slots2 x (λ q is. same q ∙ is) h
 

@@ -1,5 +1,7 @@
 -- A list of slots in strict order of their peers: what is found in it, and what a removal leaves.
-use Rattle.std.proofs.Common.{◌≡◌, ◌+◌, Bool, true, false, not, ◌&&◌, ◌||◌, T, List, [], ◌∷◌, length, map, Option, Some, None, refl, sym, ◌∙◌, ap, subst, cond, arith}
+use Rattle.std.proofs.Common.{◌≡◌, ◌+◌, Bool, true, false, not, ◌&&◌, ◌||◌, T, List, [], ◌∷◌}
+use Rattle.std.proofs.Common.{length, map, Option, Some, None, refl, sym, ◌∙◌, ap, subst, cond}
+use Rattle.std.proofs.Common.{arith}
 use Rattle.std.specs.Prelude.{is_some, IfSome, slice_get, if◌then◌else◌}
 use Rattle.std.specs.Ordering.{is_eq, is_lt}
 use Rattle.std.specs.FinMap.Entries.{find, below_all, is_sorted, same_entries}
@@ -31,7 +33,9 @@ module _ {C S : Type 0} {cmp : C → C → Ordering} (total : IsTotalOrder cmp) 
   IsFilled slot = IsSomeAnd slot.1 (λ m. key_of m ≡ slot.0)
 
   -- no later slot is that of the first peer
-  none_later : (slot : C × Option (Metadata C S)) (slots : List (C × Option (Metadata C S))) (q : C) → IsStrictlySortedBy cmp (keys_of (slot ∷ slots)) → is_at (cmp q) slot.0 ≡ true → NonePasses (is_at (cmp q)) slots
+  none_later : (slot : C × Option (Metadata C S)) (slots : List (C × Option (Metadata C S))) (q : C) →
+      IsStrictlySortedBy cmp (keys_of (slot ∷ slots)) → is_at (cmp q) slot.0 ≡ true →
+      NonePasses (is_at (cmp q)) slots
   none_later slot slots q up e = none_past_head (eq_by_cmp_equiv total) q slot slots (IsDistinct-from_sorted cmp (keys_of (slot ∷ slots)) up) e
 
   -- what is true of each slot that is found is true of each slot
@@ -57,14 +61,18 @@ module _ {C S : Type 0} {cmp : C → C → Ordering} (total : IsTotalOrder cmp) 
       go true e = ap option_flatten (lookup-none (is_at (cmp q)) slots (none_later (k, None) slots q up e))
       go false e = refl
   found ((k, Some m) ∷ slots) up keyed q =
-      ap (λ key. cond (is_at (cmp q) key) (Some m) (held_of cmp (contents slots) q)) keyed.0 ∙ go (is_at (cmp q) k) (found slots (sorted_tail cmp k (keys_of slots) up) keyed.1 q)
+      ap (λ key. cond (is_at (cmp q) key) (Some m) (held_of cmp (contents slots) q)) keyed.0
+      ∙ go (is_at (cmp q) k) (found slots (sorted_tail cmp k (keys_of slots) up) keyed.1 q)
     where
-      go : (b : Bool) → held_of cmp (contents slots) q ≡ held_in cmp slots q → cond b (Some m) (held_of cmp (contents slots) q) ≡ option_flatten (cond b (Some (Some m)) (slot_of cmp slots q))
+      go : (b : Bool) → held_of cmp (contents slots) q ≡ held_in cmp slots q →
+          cond b (Some m) (held_of cmp (contents slots) q)
+          ≡ option_flatten (cond b (Some (Some m)) (slot_of cmp slots q))
       go true h = refl
       go false h = h
 
   -- where q has no slot nothing of it is held
-  missed : (slots : List (C × Option (Metadata C S))) (q : C) → NonePasses (is_at (cmp q)) slots → AllByRecursion IsKeyed slots → all_but cmp q (contents slots) ≡ contents slots
+  missed : (slots : List (C × Option (Metadata C S))) (q : C) → NonePasses (is_at (cmp q)) slots →
+      AllByRecursion IsKeyed slots → all_but cmp q (contents slots) ≡ contents slots
   missed [] q none keyed = refl
   missed ((k, None) ∷ slots) q none keyed = missed slots q none.1 keyed.1
   missed ((k, Some m) ∷ slots) q none keyed =
@@ -103,14 +111,16 @@ module _ {C S : Type 0} {cmp : C → C → Ordering} (total : IsTotalOrder cmp) 
   pub are_slots : (slots : List (C × Option (Metadata C S))) → AreFull cmp slots → AreSlots cmp slots
   are_slots slots full = record { ordered = full.ordered; keyed = λ q. go q (slot_of cmp slots q) (full.filled q) }
     where
-      go : (q : C) (o : Option (Option (Metadata C S))) → IfSome o (λ slot. IsSomeAnd slot (λ m. key_of m ≡ q)) → IfSome o (λ slot. IfSome slot (λ m. key_of m ≡ q))
+      go : (q : C) (o : Option (Option (Metadata C S))) → IfSome o (λ slot. IsSomeAnd slot (λ m. key_of m ≡ q)) →
+          IfSome o (λ slot. IfSome slot (λ m. key_of m ≡ q))
       go q None h = tt
       go q (Some slot) h = if_some slot q h
 
   pub held_is : (slots : List (C × Option (Metadata C S))) → AreSlots cmp slots → (q : C) → held_of cmp (contents slots) q ≡ held_in cmp slots q
   held_is slots are = found slots are.ordered (each (λ q slot. IfSome slot (λ m. key_of m ≡ q)) slots are.ordered are.keyed)
 
-  pub rest_is : (slots : List (C × Option (Metadata C S))) (q : C) → AreSlots cmp slots → contents (remove_entry (is_at (cmp q)) slots) ≡ all_but cmp q (contents slots)
+  pub rest_is : (slots : List (C × Option (Metadata C S))) (q : C) → AreSlots cmp slots →
+      contents (remove_entry (is_at (cmp q)) slots) ≡ all_but cmp q (contents slots)
   rest_is slots q are = removed slots q are.ordered (each (λ q slot. IfSome slot (λ m. key_of m ≡ q)) slots are.ordered are.keyed)
 
   pub peers_are : (slots : List (C × Option (Metadata C S))) → AreFull cmp slots → map key_of (contents slots) ≡ keys_of slots
@@ -157,14 +167,17 @@ module _ {C S : Type 0} {cmp : C → C → Ordering} (total : IsTotalOrder cmp) 
       → Some k ≡ option_map key_of (slice_get (contents slots) 0)
   least_is slots k o full e = sym (ap (option_map (λ slot. slot.0)) e) ∙ go slots (contents slots) (peers_are slots full)
     where
-      go : (slots : List (C × Option (Metadata C S))) (ms : List (Metadata C S)) → map key_of ms ≡ keys_of slots → option_map (λ slot. slot.0) (slice_get slots 0) ≡ option_map key_of (slice_get ms 0)
+      go : (slots : List (C × Option (Metadata C S))) (ms : List (Metadata C S)) → map key_of ms ≡ keys_of slots →
+          option_map (λ slot. slot.0) (slice_get slots 0) ≡ option_map key_of (slice_get ms 0)
       go [] [] e = refl
       go [] (m ∷ ms) e = absurd cc
       go (slot ∷ slots) [] e = absurd cc
       go (slot ∷ slots) (m ∷ ms) e = cc
 
-  pub has_one : (slots : List (C × Option (Metadata C S))) (k : C) (o : Option (Metadata C S)) → AreFull cmp slots → slot_of cmp slots k ≡ Some o → is_some (held_of cmp (contents slots) k) ≡ true
-  has_one slots k o full e = ap is_some (held_is slots (are_slots slots full) k ∙ ap option_flatten e) ∙ go o (subst (λ o. IfSome o (λ slot. IsSomeAnd slot (λ m. key_of m ≡ k))) e (full.filled k))
+  pub has_one : (slots : List (C × Option (Metadata C S))) (k : C) (o : Option (Metadata C S)) →
+      AreFull cmp slots → slot_of cmp slots k ≡ Some o → is_some (held_of cmp (contents slots) k) ≡ true
+  has_one slots k o full e = ap is_some (held_is slots (are_slots slots full) k ∙ ap option_flatten e)
+      ∙ go o (subst (λ o. IfSome o (λ slot. IsSomeAnd slot (λ m. key_of m ≡ k))) e (full.filled k))
     where
       go : (o : Option (Metadata C S)) → IsSomeAnd o (λ m. key_of m ≡ k) → is_some o ≡ true
       go None h = absurd h
@@ -174,7 +187,8 @@ module _ {C S : Type 0} {cmp : C → C → Ordering} (total : IsTotalOrder cmp) 
   pub are_full : (slots : List (C × Option (Metadata C S))) → AreSlots cmp slots → ((q : C) → slot_of cmp slots q ≡ Some None → ⊥) → AreFull cmp slots
   are_full slots are none = record { ordered = are.ordered; filled = λ q. go q (slot_of cmp slots q) refl (are.keyed q) }
     where
-      go : (q : C) (o : Option (Option (Metadata C S))) → slot_of cmp slots q ≡ o → IfSome o (λ slot. IfSome slot (λ m. key_of m ≡ q)) → IfSome o (λ slot. IsSomeAnd slot (λ m. key_of m ≡ q))
+      go : (q : C) (o : Option (Option (Metadata C S))) → slot_of cmp slots q ≡ o →
+          IfSome o (λ slot. IfSome slot (λ m. key_of m ≡ q)) → IfSome o (λ slot. IsSomeAnd slot (λ m. key_of m ≡ q))
       go q None e h = tt
       go q (Some None) e h = none q e
       go q (Some (Some m)) e h = h

@@ -38,9 +38,9 @@ module _ {C S : Type 0} (s : Setup C S) where
   -- `dialable`, asked again at t or later and before the next query, is replied the same list and
   -- next query
   abbrev pub IsRepeated : ℕ → List C → Option ℕ → Question C → Reply C S → Type 0
-  IsRepeated t ps next (DialableAt u) (reply.Dialable answer) =
+  IsRepeated t ps next question r = (u : ℕ) (answer : Dialable C S) →
+      question ≡ DialableAt u → r ≡ reply.Dialable answer →
       t ≤ u → IsBefore u next → (answer.peers.items ≡ ps) × (next_query answer ≡ next)
-  IsRepeated t ps next _ _ = Unit {0}
 
   -- .. as long as the commands are questions, which change nothing
   abbrev pub IsQuiet : ℕ → List C → Option ℕ → List (Call C S) → List (Reply C S) → Type 0
@@ -51,10 +51,10 @@ module _ {C S : Type 0} (s : Setup C S) where
   -- if the command is `dialable`, and was answered: the peers that it lists are granted directly
   -- after it, and the answer is quiet until its next query
   abbrev pub IsDialableKept : Call C S → Reply C S → List (Call C S) → List (Reply C S) → Type 0
-  IsDialableKept (Ask (DialableAt t)) (reply.Dialable answer) cs rs =
+  IsDialableKept c r cs rs = (t : ℕ) (answer : Dialable C S) →
+      c ≡ Ask (DialableAt t) → r ≡ reply.Dialable answer →
       AreGrantedAt t answer.peers.items cs rs
       × IsQuiet t answer.peers.items (next_query answer) cs rs
-  IsDialableKept _ _ cs rs = Unit {0}
 
   -- .. so for each command of a run and its reply, with those after them
   abbrev pub KeepDialable : List (Call C S) → List (Reply C S) → Type 0

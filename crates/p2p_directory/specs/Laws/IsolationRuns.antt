@@ -1,7 +1,8 @@
 -- What the calls on other single peers leave as it was, by the replies to a run: commands and
 -- replies are in order, the oldest first.
-use Rattle.std.specs.Prelude.{◌≡◌, Bool, true, false, if◌then◌else◌, List, ◌∷◌, Option, Some, None}
+use Rattle.std.specs.Prelude.{ℕ, ◌≡◌, Bool, true, false, if◌then◌else◌, List, ◌∷◌, Option, Some, None}
 use Rattle.std.specs.Option.{option_map}
+use Rattle.p2p_tracker.specs.declared.record.Dialable.{Dialable}
 use Rattle.p2p_tracker.specs.Calls.{Setup, Question, Call}
 use Rattle.p2p_tracker.specs.Calls.Question.{StatusOf, InfoOf, IsEligible, IsAcceptable}
 use Rattle.p2p_tracker.specs.Calls.Question.{DialableAt}
@@ -40,13 +41,14 @@ module _ {C S : Type 0} (s : Setup C S) where
       else None
 
   -- the reply to a track or to `dialable` lists p just where it is listed after these calls
-  abbrev pub IsListedAfter : C → List (Call C S) → Call C S → Reply C S → Type 0
-  IsListedAfter p before (Track index primary secondary) (reply.Track torn) =
-      option_map (λ peers. is_in s p peers) torn
-      ≡ torn_after p before (Track index primary secondary)
-  IsListedAfter p before (Ask (DialableAt t)) (reply.Dialable answer) =
-      is_in s p answer.peers.items ≡ is_dialable s (world_after s before) t p
-  IsListedAfter p before _ _ = Unit {0}
+  pub record IsListedAfter (p : C) (before : List (Call C S)) (c : Call C S)
+      (r : Reply C S) : Type 0 where
+    pub torn : (index : ℕ) (primary secondary : List C) (torn : Option (List C)) →
+        c ≡ Track index primary secondary → r ≡ reply.Track torn →
+        option_map (λ peers. is_in s p peers) torn ≡ torn_after p before c
+    pub dialable : (t : ℕ) (answer : Dialable C S) →
+        c ≡ Ask (DialableAt t) → r ≡ reply.Dialable answer →
+        is_in s p answer.peers.items ≡ is_dialable s (world_after s before) t p
 
   -- p stands after these accepted calls as after those of them that are left for p
   abbrev pub StandsAlone : C → List (Call C S) → Type 0

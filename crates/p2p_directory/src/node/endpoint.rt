@@ -19,7 +19,7 @@ ghost use Rattle.p2p_directory.specs.Private.Serving.{has_room};
 ghost use Rattle.p2p_directory.specs.Private.Slots.{contents, has_slot, held_in};
 ghost use Rattle.p2p_directory.specs.Private.Endpoints.{node_of, IsServedBy};
 
-use crate::node::{Received, room};
+use crate::node::Received;
 use crate::run::server::Server;
 use crate::run::{Command, Held, Reply};
 use bytes::Bytes;
@@ -128,7 +128,7 @@ impl<C: PublicKey> Endpoint<C> {
         ensures limits { self.new.limits ≡ self.old.limits }
         ensures verifier { self.new.verifier ≡ self.old.verifier }
     {
-        let peer = room::peer_of(&command);
+        let peer = peer_of(&command);
         if let Err(AllocError) = self.make_room(&command) {
             return Reply::OutOfMemory;
         }
@@ -312,5 +312,14 @@ fn refused(fault: CodecError) -> Received
     match fault {
         CodecError::Memory => Received::Memory,
         _ => Received::Codec(fault),
+    }
+}
+
+// The peer whose slot the command may leave empty, if there is one.
+fn peer_of<C: PublicKey>(command: &Command<C>) -> Option<C> {
+    match command {
+        Command::Dial { peer, .. } | Command::Listen { peer, .. } => Some(*peer),
+        Command::Release(peer) => Some(*peer),
+        _ => None,
     }
 }

@@ -8,6 +8,7 @@ ghost use Rattle.p2p_directory.specs.Exchange.{Exchanges, IsExchanged, infos_app
 use crate::node::Node;
 use p2p_discovery::codec::{CodecError, PublicKey};
 use p2p_discovery::discovery::{Error, Info};
+use std::fmt;
 use std::time::Duration;
 
 /// What an exchange comes to.
@@ -27,6 +28,21 @@ pub enum Exchanged<C: PublicKey> {
     Memory,
     /// All infos of the reply were applied: these, in their order.
     Applied(Vec<Info<C>>),
+}
+
+impl<C: PublicKey> fmt::Debug for Exchanged<C> {
+    /// Writes the name of the variant alone.
+    fn fmt<W: fmt::Write>(&self, f: &mut fmt::Formatter<W>) -> fmt::Result {
+        f.write_str(match self {
+            Exchanged::NoSet => "NoSet",
+            Exchanged::AskRefused(_) => "AskRefused",
+            Exchanged::Malformed => "Malformed",
+            Exchanged::ReplyRefused(_) => "ReplyRefused",
+            Exchanged::Invalid(_) => "Invalid",
+            Exchanged::Memory => "Memory",
+            Exchanged::Applied(_) => "Applied",
+        })
+    }
 }
 
 /// The asker asks the replier for what is wanted of the asker's retained set at a place, counted

@@ -24,6 +24,7 @@ use bytes::Bytes;
 use p2p_discovery::codec::PublicKey;
 use p2p_tracker::directory::Directory;
 use std::alloc::{AllocError, Global};
+use std::fmt;
 use std::marker::Model;
 use std::time::Duration;
 
@@ -68,6 +69,20 @@ pub enum NetworkReply<C: PublicKey> {
     OutOfMemory,
     /// There is no such node, or a node was to exchange with itself. Nothing has changed.
     NoNode,
+}
+
+impl<C: PublicKey> fmt::Debug for NetworkReply<C> {
+    /// Writes the name of the variant alone.
+    fn fmt<W: fmt::Write>(&self, f: &mut fmt::Formatter<W>) -> fmt::Result {
+        f.write_str(match self {
+            NetworkReply::Call(_) => "Call",
+            NetworkReply::Ask(_) => "Ask",
+            NetworkReply::Frame(_) => "Frame",
+            NetworkReply::Exchange(_) => "Exchange",
+            NetworkReply::OutOfMemory => "OutOfMemory",
+            NetworkReply::NoNode => "NoNode",
+        })
+    }
 }
 
 /// Any number of nodes, which are counted from 0. A contract sees each of them. It must be spent,

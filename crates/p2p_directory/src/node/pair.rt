@@ -21,6 +21,7 @@ use crate::run::{Command, Reply};
 use bytes::Bytes;
 use p2p_discovery::codec::PublicKey;
 use std::alloc::{AllocError, Global};
+use std::fmt;
 use std::time::Duration;
 
 /// One of two nodes.
@@ -68,6 +69,19 @@ pub enum PairReply<C: PublicKey> {
     Exchange(Exchanged<C>),
     /// Memory for the frame of an `Ask` was refused. Nothing has changed.
     OutOfMemory,
+}
+
+impl<C: PublicKey> fmt::Debug for PairReply<C> {
+    /// Writes the name of the variant alone.
+    fn fmt<W: fmt::Write>(&self, f: &mut fmt::Formatter<W>) -> fmt::Result {
+        f.write_str(match self {
+            PairReply::Call(_) => "Call",
+            PairReply::Ask(_) => "Ask",
+            PairReply::Frame(_) => "Frame",
+            PairReply::Exchange(_) => "Exchange",
+            PairReply::OutOfMemory => "OutOfMemory",
+        })
+    }
 }
 
 /// What a run of two nodes leaves. Both must be spent, by [`Node::finish`] or [`Node::parts`].

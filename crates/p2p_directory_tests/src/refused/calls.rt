@@ -157,12 +157,12 @@ static CALLS: [Call; 31] = [
         said: Said::Call(Told::Block(true)),
         blocks: 0,
     },
-    // A list of two infos (9) and a name (2).
+    // A list of up to four infos (19) and a name (2).
     Call {
         prepared: KNOWN,
         deed: Deed::Left(Given::Infos(0, &[false; 4], (100, 0))),
         said: Said::Call(Told::Infos(Some(&[(1, 1000), (2, 1000)]))),
-        blocks: 12,
+        blocks: 22,
     },
     // A list of up to four keys (3).
     Call {
@@ -245,12 +245,12 @@ static CALLS: [Call; 31] = [
         said: Said::Greeted,
         blocks: 6,
     },
-    // The bits (2), a list of one info (5), the frame (3) and what shares it (3).
+    // The bits (2), a list of up to four infos (19), the frame (3) and what shares it (3).
     Call {
         prepared: KNOWN,
         deed: Deed::Frame(Side::Left, b"\x02\0\x04\x02", 100),
         said: Said::Reply(1, &[(1, 1000)]),
-        blocks: 12,
+        blocks: 26,
     },
     // The bits (2).
     Call {
@@ -294,7 +294,7 @@ static CALLS: [Call; 31] = [
         said: Said::Applied(&[]),
         blocks: 9,
     },
-    // As to ask (7), to reply (10), to read an info (5) and to copy it (5), not all at a time.
+    // As to ask (7), to reply (25), to read an info (5) and to copy it (5), not all at a time.
     Call {
         prepared: &[
             Deed::Left(Given::Track(0, &[1, 2], &[])),
@@ -305,7 +305,7 @@ static CALLS: [Call; 31] = [
         ],
         deed: Deed::Exchange(Side::Left, 0, 100, 100),
         said: Said::Applied(&[(1, 100_000)]),
-        blocks: 22,
+        blocks: 36,
     },
     // There is no such place.
     Call {

@@ -266,7 +266,7 @@ static ROWS_OF_TWO: [PairRow; 1] = [
             Deed::Left(Given::Bits(0)),
             Deed::Exchange(Side::Left, 0, 70, 100),
         ],
-        blocks: 924,
+        blocks: 938,
     },
 ];
 

@@ -7,7 +7,9 @@ use Rattle.p2p_directory.proofs.LawsOfRuns.BoundRuns
 use Rattle.p2p_directory.proofs.laws.isolation_of_a_run.Goals as goal
 
 pub returns-clause-isolation : goal.returns-clause-isolation
-returns-clause-isolation g c = λ s order least p cs rs answers. IsolationRuns.keep_alone s least (exact_from s g.C.Ord.cmp order g.met.C.PublicKey.exact) p cs rs answers
+returns-clause-isolation g c =
+    λ s order least p cs rs answers. IsolationRuns.keep_alone s least
+    (exact_from s g.C.Ord.cmp order g.met.C.PublicKey.exact) p cs rs answers
 
 pub returns-clause-order : goal.returns-clause-order
 returns-clause-order g c = λ s least cs rs answers. OrderRuns.keep_order s least cs rs answers

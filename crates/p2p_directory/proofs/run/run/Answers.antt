@@ -1,4 +1,4 @@
-use Rattle.std.proofs.Common.{◌≡◌, ◌<◌, ◌^◌, [], true, length, sym, ap, subst, ◌∙◌, refl, arith, rules}
+use Rattle.std.proofs.Common.{◌≡◌, ◌<◌, ◌^◌, [], true, length, sym, ap, subst, ◌∙◌, refl, arith}
 use Rattle.std.specs.Prelude.{is_some}
 use Rattle.std.proofs.lemmas.List.{length_push}
 use Rattle.p2p_directory.specs.Refinement.{Refines}
@@ -23,7 +23,9 @@ use Rattle.p2p_directory.proofs.run.run.Goals as goal
 pub new-server-requires : goal.new-server-requires
 new-server-requires g c =
     let s = setup_of g.C.Ord.cmp c.args.bootstrappers.items c.args.myself c.args.cfg in
-    let at = stands_at_start s (record { directory = c.in-Ok.directory; slots = c.in_ok-slots.slots }) (search rules) c.in-Ok.ensures.config c.in-Ok.ensures.sets c.in-Ok.ensures.blocks c.in-Ok.ensures.cooldowns c.in-Ok.ensures.records c.in_ok-slots.ensures.empty in
+    let at = stands_at_start s (record { directory = c.in-Ok.directory; slots = c.in_ok-slots.slots })
+    (omega (arith, c.well_formed)) c.in-Ok.ensures.config c.in-Ok.ensures.sets c.in-Ok.ensures.blocks
+    c.in-Ok.ensures.cooldowns c.in-Ok.ensures.records c.in_ok-slots.ensures.empty in
     are_held s (world_after s []) c.in-Ok.directory (held_in g.C.Ord.cmp c.in_ok-slots.slots) at.refines at.holds
 
 -- the limit is a `usize`
@@ -38,7 +40,9 @@ loop-command-init g c =
       answers = rw c.in_ok-replies.ensures.items tt;
       left =
           rw c.new-server.ensures
-          (stands_at_start s (record { directory = c.in-Ok.directory; slots = c.in_ok-slots.slots }) (fits g c) c.in-Ok.ensures.config c.in-Ok.ensures.sets c.in-Ok.ensures.blocks c.in-Ok.ensures.cooldowns c.in-Ok.ensures.records c.in_ok-slots.ensures.empty);
+          (stands_at_start s (record { directory = c.in-Ok.directory; slots = c.in_ok-slots.slots }) (fits g c)
+          c.in-Ok.ensures.config c.in-Ok.ensures.sets c.in-Ok.ensures.blocks c.in-Ok.ensures.cooldowns
+          c.in-Ok.ensures.records c.in_ok-slots.ensures.empty);
       replies = rw c.in_ok-replies.ensures.items refl;
       room_for_replies = omega (arith, c.in_ok-replies.ensures.exact, c.len.ensures);
       slots = rw (c.new-server.ensures, ← c.deref.ensures.value) c.in_ok-slots.ensures.room;
@@ -47,13 +51,17 @@ loop-command-init g c =
 pub serve-requires : goal.serve-requires
 serve-requires g c = record {
   room =
-      item_has (λ x. has_room g.C.Ord.cmp c.loop-command.server.slots x ≡ true) c.loop-command.yielded c.loop-command.command-iterator.rest.items c.next.new.self.rest.items c.args.commands.items c.in-Some.command
+      item_has (λ x. has_room g.C.Ord.cmp c.loop-command.server.slots x ≡ true) c.loop-command.yielded
+      c.loop-command.command-iterator.rest.items c.next.new.self.rest.items c.args.commands.items
+      c.in-Some.command
       c.loop-command.invariant.rest c.in-Some.ensures.steps.0 c.loop-command.invariant.slots;
 }
 
 pub push_reserved-requires : goal.push_reserved-requires
 push_reserved-requires g c =
-    let more = item_left c.loop-command.yielded c.loop-command.command-iterator.rest.items c.next.new.self.rest.items c.args.commands.items c.in-Some.command c.loop-command.invariant.rest c.in-Some.ensures.steps.0 in
+    let more = item_left c.loop-command.yielded c.loop-command.command-iterator.rest.items
+    c.next.new.self.rest.items c.args.commands.items c.in-Some.command c.loop-command.invariant.rest
+    c.in-Some.ensures.steps.0 in
     omega (arith, more, c.loop-command.replies.ok, c.loop-command.invariant.replies, c.loop-command.invariant.room_for_replies)
 
 pub loop-command-preserved : goal.loop-command-preserved
@@ -101,7 +109,8 @@ returns-clause-bits g c = λ place.
     let at = accepted s [] (calls_of c.loop-command.yielded) c.loop-command.replies.items in
     let same = tie_bits s kept.left.limit_fits (world_after s at) c.loop-command.server.directory place (Forgotten.absent s at) kept.left.refines in
     rw (c.into_run.ensures.replies, c.into_run.ensures.directory)
-    (subst (λ xs. bit_vec_at s.cmp c.loop-command.server.directory place ≡ bit_vec_in s (world_after s (accepted s [] (calls_of xs) c.loop-command.replies.items)) place) all same)
+    (subst (λ xs. bit_vec_at s.cmp c.loop-command.server.directory place
+    ≡ bit_vec_in s (world_after s (accepted s [] (calls_of xs) c.loop-command.replies.items)) place) all same)
 
 pub returns-clause-held : goal.returns-clause-held
 returns-clause-held g c =
@@ -109,7 +118,9 @@ returns-clause-held g c =
     let kept = c.loop-command.invariant in
     let rest = c.loop-command.command-iterator.rest in
     let all = all_moved c.loop-command.yielded rest.items c.args.commands.items kept.rest (sym rest.ok.0 ∙ c.in-None.ensures.steps.0) in
-    let holds = subst (λ xs. Holds s (world_after s (accepted s [] (calls_of xs) c.loop-command.replies.items)) (held_in g.C.Ord.cmp c.loop-command.server.slots)) all kept.left.holds in
+    let holds = subst
+    (λ xs. Holds s (world_after s (accepted s [] (calls_of xs) c.loop-command.replies.items))
+    (held_in g.C.Ord.cmp c.loop-command.server.slots)) all kept.left.holds in
     let held = c.into_run.ensures.held in
     rw c.into_run.ensures.replies (record { peers = λ q. ap is_some (held q) ∙ holds.peers q; metadata = λ q. held q ∙ holds.metadata q })
 
@@ -118,17 +129,20 @@ returns-clause-held g c =
 pub returns-clause-spaced : goal.returns-clause-spaced
 returns-clause-spaced g c = λ p.
     let s = setup_of g.C.Ord.cmp c.args.bootstrappers.items c.args.myself c.args.cfg in
-    keep_unless_forgotten s (exact_from s g.C.Ord.cmp refl g.met.C.PublicKey.exact) p (calls_of c.args.commands.items) c.into_run.result.replies.items (returns-clause-answers g c)
+    keep_unless_forgotten s (exact_from s g.C.Ord.cmp refl g.met.C.PublicKey.exact) p
+    (calls_of c.args.commands.items) c.into_run.result.replies.items (returns-clause-answers g c)
 
 pub returns-clause-lasting : goal.returns-clause-lasting
 returns-clause-lasting g c = λ p.
     let s = setup_of g.C.Ord.cmp c.args.bootstrappers.items c.args.myself c.args.cfg in
-    keep_cooldown s (exact_from s g.C.Ord.cmp refl g.met.C.PublicKey.exact) p (calls_of c.args.commands.items) c.into_run.result.replies.items (returns-clause-answers g c)
+    keep_cooldown s (exact_from s g.C.Ord.cmp refl g.met.C.PublicKey.exact) p (calls_of c.args.commands.items)
+    c.into_run.result.replies.items (returns-clause-answers g c)
 
 pub returns-clause-last_block : goal.returns-clause-last_block
 returns-clause-last_block g c = λ p.
     let s = setup_of g.C.Ord.cmp c.args.bootstrappers.items c.args.myself c.args.cfg in
-    keep_last_block s (exact_from s g.C.Ord.cmp refl g.met.C.PublicKey.exact) p (calls_of c.args.commands.items) c.into_run.result.replies.items (returns-clause-answers g c)
+    keep_last_block s (exact_from s g.C.Ord.cmp refl g.met.C.PublicKey.exact) p (calls_of c.args.commands.items)
+    c.into_run.result.replies.items (returns-clause-answers g c)
 
 pub returns-clause-blocks : goal.returns-clause-blocks
 returns-clause-blocks g c = λ p.
@@ -138,12 +152,15 @@ returns-clause-blocks g c = λ p.
 pub returns-clause-dials : goal.returns-clause-dials
 returns-clause-dials g c =
     let s = setup_of g.C.Ord.cmp c.args.bootstrappers.items c.args.myself c.args.cfg in
-    keep_dialable s g.met.C.Ord.total (exact_from s g.C.Ord.cmp refl g.met.C.PublicKey.exact) c.args.cfg.max_sets.ok [] (calls_of c.args.commands.items) c.into_run.result.replies.items (returns-clause-answers g c)
+    keep_dialable s g.met.C.Ord.total (exact_from s g.C.Ord.cmp refl g.met.C.PublicKey.exact)
+    c.args.cfg.max_sets.ok [] (calls_of c.args.commands.items) c.into_run.result.replies.items
+    (returns-clause-answers g c)
 
 pub returns-clause-isolation : goal.returns-clause-isolation
 returns-clause-isolation g c = λ p.
     let s = setup_of g.C.Ord.cmp c.args.bootstrappers.items c.args.myself c.args.cfg in
-    keep_alone s c.args.cfg.max_sets.ok (exact_from s g.C.Ord.cmp refl g.met.C.PublicKey.exact) p (calls_of c.args.commands.items) c.into_run.result.replies.items (returns-clause-answers g c)
+    keep_alone s c.args.cfg.max_sets.ok (exact_from s g.C.Ord.cmp refl g.met.C.PublicKey.exact) p
+    (calls_of c.args.commands.items) c.into_run.result.replies.items (returns-clause-answers g c)
 
 pub returns-clause-order : goal.returns-clause-order
 returns-clause-order g c =

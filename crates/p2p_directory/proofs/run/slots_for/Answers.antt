@@ -17,8 +17,11 @@ loop-command-preserved g c =
     let no_error = sym c.is_err.ensures.value ∙ c.if-is_err.false in
     record {
       room = λ k d lt. below_more (λ k. has_room g.C.Ord.cmp new (get_or c.args.commands.now k d) ≡ true) c.loop-command.command-index
-          (λ k lt. room_grows g.C.Ord.cmp old new (get_or c.args.commands.now k d) (made c.make_slot.result no_error c.make_slot.ensures.slots) (c.loop-command.invariant.room k d lt))
-          (subst (λ x. has_room g.C.Ord.cmp new x ≡ true) (c.command-item.is ∙ get_or_default c.args.commands.now c.loop-command.command-index c.command-item.result d c.loop-command-test.true)
+          (λ k lt. room_grows g.C.Ord.cmp old new (get_or c.args.commands.now k d)
+          (made c.make_slot.result no_error c.make_slot.ensures.slots) (c.loop-command.invariant.room k d lt))
+          (subst (λ x. has_room g.C.Ord.cmp new x ≡ true)
+          (c.command-item.is ∙ get_or_default c.args.commands.now c.loop-command.command-index
+          c.command-item.result d c.loop-command-test.true)
           (made c.make_slot.result no_error c.make_slot.ensures.room)) k lt;
       empty = λ q. c.make_slot.ensures.held q ∙ c.loop-command.invariant.empty q;
     }

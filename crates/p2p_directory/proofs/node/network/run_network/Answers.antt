@@ -35,7 +35,9 @@ went_well (Result.Err v) e h = absurd (cc)
 
 pub loop-command-init : goal.loop-command-init
 loop-command-init g c =
-    let wire = wire_of g.C.FixedBytes.SIZE g.C.FixedBytes.spelled g.C.FixedBytes.value g.C.Signature.FixedBytes.SIZE g.C.Signature.FixedBytes.spelled g.C.Signature.FixedBytes.value g.C.PublicKey.verifies in
+    let wire = wire_of g.C.FixedBytes.SIZE g.C.FixedBytes.spelled g.C.FixedBytes.value
+    g.C.Signature.FixedBytes.SIZE g.C.Signature.FixedBytes.spelled g.C.Signature.FixedBytes.value
+    g.C.PublicKey.verifies in
     let same = with_items_is c.ends.inside.ends c.make_room.new.ends
     (omega (arith, c.make_room.auto.ends, c.deref_mut.ensures.len)) in
     record {
@@ -75,7 +77,9 @@ push_reserved-requires g c =
 
 pub loop-command-preserved : goal.loop-command-preserved
 loop-command-preserved g c =
-    let wire = wire_of g.C.FixedBytes.SIZE g.C.FixedBytes.spelled g.C.FixedBytes.value g.C.Signature.FixedBytes.SIZE g.C.Signature.FixedBytes.spelled g.C.Signature.FixedBytes.value g.C.PublicKey.verifies in
+    let wire = wire_of g.C.FixedBytes.SIZE g.C.FixedBytes.spelled g.C.FixedBytes.value
+    g.C.Signature.FixedBytes.SIZE g.C.Signature.FixedBytes.spelled g.C.Signature.FixedBytes.value
+    g.C.PublicKey.verifies in
     let kept = c.loop-command.invariant in
     let xs = c.loop-command.yielded in
     let x = c.in-Some.command in
@@ -148,14 +152,18 @@ all_taken g c =
 
 pub returns-clause-answers : goal.returns-clause-answers
 returns-clause-answers g c = λ other.
-    let wire = wire_of g.C.FixedBytes.SIZE g.C.FixedBytes.spelled g.C.FixedBytes.value g.C.Signature.FixedBytes.SIZE g.C.Signature.FixedBytes.spelled g.C.Signature.FixedBytes.value g.C.PublicKey.verifies in
+    let wire = wire_of g.C.FixedBytes.SIZE g.C.FixedBytes.spelled g.C.FixedBytes.value
+    g.C.Signature.FixedBytes.SIZE g.C.Signature.FixedBytes.spelled g.C.Signature.FixedBytes.value
+    g.C.PublicKey.verifies in
     subst (λ xs. AreNetworkAnswers wire (length c.args.setups.items)
     (node_made g.C.Ord.cmp other c.args.setups.items) [] xs c.loop-command.replies.items)
     (all_taken g c) (c.loop-command.invariant.answers other)
 
 pub returns-clause-stand : goal.returns-clause-stand
 returns-clause-stand g c = λ other.
-    let wire = wire_of g.C.FixedBytes.SIZE g.C.FixedBytes.spelled g.C.FixedBytes.value g.C.Signature.FixedBytes.SIZE g.C.Signature.FixedBytes.spelled g.C.Signature.FixedBytes.value g.C.PublicKey.verifies in
+    let wire = wire_of g.C.FixedBytes.SIZE g.C.FixedBytes.spelled g.C.FixedBytes.value
+    g.C.Signature.FixedBytes.SIZE g.C.Signature.FixedBytes.spelled g.C.Signature.FixedBytes.value
+    g.C.PublicKey.verifies in
     let size = length c.args.setups.items in
     let node = node_made g.C.Ord.cmp other c.args.setups.items in
     subst (λ xs. StandAfter wire size node
@@ -175,7 +183,9 @@ are_made wire cmp other setups = λ i is. record {
 
 pub returns-clause-exchanges : goal.returns-clause-exchanges
 returns-clause-exchanges g c = λ other.
-    let wire = wire_of g.C.FixedBytes.SIZE g.C.FixedBytes.spelled g.C.FixedBytes.value g.C.Signature.FixedBytes.SIZE g.C.Signature.FixedBytes.spelled g.C.Signature.FixedBytes.value g.C.PublicKey.verifies in
+    let wire = wire_of g.C.FixedBytes.SIZE g.C.FixedBytes.spelled g.C.FixedBytes.value
+    g.C.Signature.FixedBytes.SIZE g.C.Signature.FixedBytes.spelled g.C.Signature.FixedBytes.value
+    g.C.PublicKey.verifies in
     let setups = c.args.setups.items in
     let size = length setups in
     let node = node_made g.C.Ord.cmp other setups in
@@ -188,7 +198,9 @@ returns-clause-exchanges g c = λ other.
 
 pub returns-clause-provenance : goal.returns-clause-provenance
 returns-clause-provenance g c = λ other.
-    let wire = wire_of g.C.FixedBytes.SIZE g.C.FixedBytes.spelled g.C.FixedBytes.value g.C.Signature.FixedBytes.SIZE g.C.Signature.FixedBytes.spelled g.C.Signature.FixedBytes.value g.C.PublicKey.verifies in
+    let wire = wire_of g.C.FixedBytes.SIZE g.C.FixedBytes.spelled g.C.FixedBytes.value
+    g.C.Signature.FixedBytes.SIZE g.C.Signature.FixedBytes.spelled g.C.Signature.FixedBytes.value
+    g.C.PublicKey.verifies in
     let setups = c.args.setups.items in
     let size = length setups in
     let node = node_made g.C.Ord.cmp other setups in
@@ -201,7 +213,9 @@ returns-clause-provenance g c = λ other.
 
 pub returns-clause-infos : goal.returns-clause-infos
 returns-clause-infos g c = λ other.
-    let wire = wire_of g.C.FixedBytes.SIZE g.C.FixedBytes.spelled g.C.FixedBytes.value g.C.Signature.FixedBytes.SIZE g.C.Signature.FixedBytes.spelled g.C.Signature.FixedBytes.value g.C.PublicKey.verifies in
+    let wire = wire_of g.C.FixedBytes.SIZE g.C.FixedBytes.spelled g.C.FixedBytes.value
+    g.C.Signature.FixedBytes.SIZE g.C.Signature.FixedBytes.spelled g.C.Signature.FixedBytes.value
+    g.C.PublicKey.verifies in
     let setups = c.args.setups.items in
     let size = length setups in
     let node = node_made g.C.Ord.cmp other setups in
@@ -214,7 +228,9 @@ returns-clause-infos g c = λ other.
 
 pub returns-clause-newer : goal.returns-clause-newer
 returns-clause-newer g c = λ other.
-    let wire = wire_of g.C.FixedBytes.SIZE g.C.FixedBytes.spelled g.C.FixedBytes.value g.C.Signature.FixedBytes.SIZE g.C.Signature.FixedBytes.spelled g.C.Signature.FixedBytes.value g.C.PublicKey.verifies in
+    let wire = wire_of g.C.FixedBytes.SIZE g.C.FixedBytes.spelled g.C.FixedBytes.value
+    g.C.Signature.FixedBytes.SIZE g.C.Signature.FixedBytes.spelled g.C.Signature.FixedBytes.value
+    g.C.PublicKey.verifies in
     let setups = c.args.setups.items in
     let size = length setups in
     let node = node_made g.C.Ord.cmp other setups in
@@ -228,7 +244,9 @@ returns-clause-newer g c = λ other.
 
 pub returns-clause-reach : goal.returns-clause-reach
 returns-clause-reach g c = λ other.
-    let wire = wire_of g.C.FixedBytes.SIZE g.C.FixedBytes.spelled g.C.FixedBytes.value g.C.Signature.FixedBytes.SIZE g.C.Signature.FixedBytes.spelled g.C.Signature.FixedBytes.value g.C.PublicKey.verifies in
+    let wire = wire_of g.C.FixedBytes.SIZE g.C.FixedBytes.spelled g.C.FixedBytes.value
+    g.C.Signature.FixedBytes.SIZE g.C.Signature.FixedBytes.spelled g.C.Signature.FixedBytes.value
+    g.C.PublicKey.verifies in
     let setups = c.args.setups.items in
     let size = length setups in
     let node = node_made g.C.Ord.cmp other setups in
@@ -242,7 +260,9 @@ returns-clause-reach g c = λ other.
 
 pub returns-clause-acquaintance : goal.returns-clause-acquaintance
 returns-clause-acquaintance g c = λ other.
-    let wire = wire_of g.C.FixedBytes.SIZE g.C.FixedBytes.spelled g.C.FixedBytes.value g.C.Signature.FixedBytes.SIZE g.C.Signature.FixedBytes.spelled g.C.Signature.FixedBytes.value g.C.PublicKey.verifies in
+    let wire = wire_of g.C.FixedBytes.SIZE g.C.FixedBytes.spelled g.C.FixedBytes.value
+    g.C.Signature.FixedBytes.SIZE g.C.Signature.FixedBytes.spelled g.C.Signature.FixedBytes.value
+    g.C.PublicKey.verifies in
     let setups = c.args.setups.items in
     let size = length setups in
     let node = node_made g.C.Ord.cmp other setups in
@@ -256,7 +276,9 @@ returns-clause-acquaintance g c = λ other.
 
 pub returns-clause-greetings : goal.returns-clause-greetings
 returns-clause-greetings g c = λ other.
-    let wire = wire_of g.C.FixedBytes.SIZE g.C.FixedBytes.spelled g.C.FixedBytes.value g.C.Signature.FixedBytes.SIZE g.C.Signature.FixedBytes.spelled g.C.Signature.FixedBytes.value g.C.PublicKey.verifies in
+    let wire = wire_of g.C.FixedBytes.SIZE g.C.FixedBytes.spelled g.C.FixedBytes.value
+    g.C.Signature.FixedBytes.SIZE g.C.Signature.FixedBytes.spelled g.C.Signature.FixedBytes.value
+    g.C.PublicKey.verifies in
     let setups = c.args.setups.items in
     let size = length setups in
     let node = node_made g.C.Ord.cmp other setups in
@@ -273,7 +295,9 @@ returns-clause-greetings g c = λ other.
 
 pub returns-clause-infos_replied : goal.returns-clause-infos_replied
 returns-clause-infos_replied g c = λ other.
-    let wire = wire_of g.C.FixedBytes.SIZE g.C.FixedBytes.spelled g.C.FixedBytes.value g.C.Signature.FixedBytes.SIZE g.C.Signature.FixedBytes.spelled g.C.Signature.FixedBytes.value g.C.PublicKey.verifies in
+    let wire = wire_of g.C.FixedBytes.SIZE g.C.FixedBytes.spelled g.C.FixedBytes.value
+    g.C.Signature.FixedBytes.SIZE g.C.Signature.FixedBytes.spelled g.C.Signature.FixedBytes.value
+    g.C.PublicKey.verifies in
     let setups = c.args.setups.items in
     let size = length setups in
     let node = node_made g.C.Ord.cmp other setups in
@@ -291,7 +315,9 @@ returns-clause-infos_replied g c = λ other.
 
 pub returns-clause-late : goal.returns-clause-late
 returns-clause-late g c = λ other.
-    let wire = wire_of g.C.FixedBytes.SIZE g.C.FixedBytes.spelled g.C.FixedBytes.value g.C.Signature.FixedBytes.SIZE g.C.Signature.FixedBytes.spelled g.C.Signature.FixedBytes.value g.C.PublicKey.verifies in
+    let wire = wire_of g.C.FixedBytes.SIZE g.C.FixedBytes.spelled g.C.FixedBytes.value
+    g.C.Signature.FixedBytes.SIZE g.C.Signature.FixedBytes.spelled g.C.Signature.FixedBytes.value
+    g.C.PublicKey.verifies in
     let setups = c.args.setups.items in
     let size = length setups in
     let node = node_made g.C.Ord.cmp other setups in
@@ -308,7 +334,9 @@ returns-clause-late g c = λ other.
 
 pub returns-clause-others : goal.returns-clause-others
 returns-clause-others g c = λ other.
-    let wire = wire_of g.C.FixedBytes.SIZE g.C.FixedBytes.spelled g.C.FixedBytes.value g.C.Signature.FixedBytes.SIZE g.C.Signature.FixedBytes.spelled g.C.Signature.FixedBytes.value g.C.PublicKey.verifies in
+    let wire = wire_of g.C.FixedBytes.SIZE g.C.FixedBytes.spelled g.C.FixedBytes.value
+    g.C.Signature.FixedBytes.SIZE g.C.Signature.FixedBytes.spelled g.C.Signature.FixedBytes.value
+    g.C.PublicKey.verifies in
     let setups = c.args.setups.items in
     let size = length setups in
     let node = node_made g.C.Ord.cmp other setups in
@@ -322,7 +350,9 @@ returns-clause-others g c = λ other.
 
 pub returns-clause-isolation : goal.returns-clause-isolation
 returns-clause-isolation g c = λ other.
-    let wire = wire_of g.C.FixedBytes.SIZE g.C.FixedBytes.spelled g.C.FixedBytes.value g.C.Signature.FixedBytes.SIZE g.C.Signature.FixedBytes.spelled g.C.Signature.FixedBytes.value g.C.PublicKey.verifies in
+    let wire = wire_of g.C.FixedBytes.SIZE g.C.FixedBytes.spelled g.C.FixedBytes.value
+    g.C.Signature.FixedBytes.SIZE g.C.Signature.FixedBytes.spelled g.C.Signature.FixedBytes.value
+    g.C.PublicKey.verifies in
     let setups = c.args.setups.items in
     let size = length setups in
     let node = node_made g.C.Ord.cmp other setups in
@@ -338,7 +368,9 @@ returns-clause-isolation g c = λ other.
 
 pub returns-clause-order : goal.returns-clause-order
 returns-clause-order g c = λ other.
-    let wire = wire_of g.C.FixedBytes.SIZE g.C.FixedBytes.spelled g.C.FixedBytes.value g.C.Signature.FixedBytes.SIZE g.C.Signature.FixedBytes.spelled g.C.Signature.FixedBytes.value g.C.PublicKey.verifies in
+    let wire = wire_of g.C.FixedBytes.SIZE g.C.FixedBytes.spelled g.C.FixedBytes.value
+    g.C.Signature.FixedBytes.SIZE g.C.Signature.FixedBytes.spelled g.C.Signature.FixedBytes.value
+    g.C.PublicKey.verifies in
     let setups = c.args.setups.items in
     let size = length setups in
     let node = node_made g.C.Ord.cmp other setups in

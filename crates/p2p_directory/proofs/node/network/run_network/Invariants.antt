@@ -10,7 +10,9 @@ use Rattle.p2p_directory.proofs.node.network.run_network.Given as goal
 -- these lead, and there is room for all
 abbrev pub invariant-loop-command : goal.invariant-loop-command
 invariant-loop-command g l =
-    let wire = wire_of g.C.FixedBytes.SIZE g.C.FixedBytes.spelled g.C.FixedBytes.value g.C.Signature.FixedBytes.SIZE g.C.Signature.FixedBytes.spelled g.C.Signature.FixedBytes.value g.C.PublicKey.verifies in
+    let wire = wire_of g.C.FixedBytes.SIZE g.C.FixedBytes.spelled g.C.FixedBytes.value
+    g.C.Signature.FixedBytes.SIZE g.C.Signature.FixedBytes.spelled g.C.Signature.FixedBytes.value
+    g.C.PublicKey.verifies in
     record {
       rest : l.yielded ++ l.command-iterator.rest.items ≡ l.fn.commands.items;
       answers : OfNetwork g.C.Ord.cmp l.fn.setups.items (λ size node.

@@ -27,11 +27,15 @@ run_network-requires-clause-bits g c =
 
 -- the replies answer the commands to both
 answers : (g : _) (c : goal.In_ok-nodes g) →
-    AreNetworkAnswers (wire_of g.C.FixedBytes.SIZE g.C.FixedBytes.spelled g.C.FixedBytes.value g.C.Signature.FixedBytes.SIZE g.C.Signature.FixedBytes.spelled g.C.Signature.FixedBytes.value g.C.PublicKey.verifies) 2
+    AreNetworkAnswers
+    (wire_of g.C.FixedBytes.SIZE g.C.FixedBytes.spelled g.C.FixedBytes.value g.C.Signature.FixedBytes.SIZE
+    g.C.Signature.FixedBytes.spelled g.C.Signature.FixedBytes.value g.C.PublicKey.verifies) 2
     (two (made_of g.C.Ord.cmp c.args.left) (made_of g.C.Ord.cmp c.args.right)) []
     (commands_in c.args.commands.items) c.in_ok-nodes.field-0.replies.items
 answers g c =
-    let wire = wire_of g.C.FixedBytes.SIZE g.C.FixedBytes.spelled g.C.FixedBytes.value g.C.Signature.FixedBytes.SIZE g.C.Signature.FixedBytes.spelled g.C.Signature.FixedBytes.value g.C.PublicKey.verifies in
+    let wire = wire_of g.C.FixedBytes.SIZE g.C.FixedBytes.spelled g.C.FixedBytes.value
+    g.C.Signature.FixedBytes.SIZE g.C.Signature.FixedBytes.spelled g.C.Signature.FixedBytes.value
+    g.C.PublicKey.verifies in
     let told = c.in_ok-nodes.field-0.replies.items in
     as_two g.C.Ord.cmp c.args.left c.args.right c.in_ok-setups.setups.items
     c.in_ok-commands.commands.items (commands_in c.args.commands.items) told told
@@ -40,12 +44,17 @@ answers g c =
 
 pub pair_replies-replies-requires-clause-nodes : goal.pair_replies-replies-requires-clause-nodes
 pair_replies-replies-requires-clause-nodes g c =
-    are_of_nodes (wire_of g.C.FixedBytes.SIZE g.C.FixedBytes.spelled g.C.FixedBytes.value g.C.Signature.FixedBytes.SIZE g.C.Signature.FixedBytes.spelled g.C.Signature.FixedBytes.value g.C.PublicKey.verifies) (made_of g.C.Ord.cmp c.args.left) (made_of g.C.Ord.cmp c.args.right) []
+    are_of_nodes
+    (wire_of g.C.FixedBytes.SIZE g.C.FixedBytes.spelled g.C.FixedBytes.value g.C.Signature.FixedBytes.SIZE
+    g.C.Signature.FixedBytes.spelled g.C.Signature.FixedBytes.value g.C.PublicKey.verifies)
+    (made_of g.C.Ord.cmp c.args.left) (made_of g.C.Ord.cmp c.args.right) []
     c.args.commands.items c.in_ok-nodes.field-0.replies.items (answers g c)
 
 pub pair_replies-replies-requires-clause-room : goal.pair_replies-replies-requires-clause-room
 pair_replies-replies-requires-clause-room g c =
-    let same = answers_count (wire_of g.C.FixedBytes.SIZE g.C.FixedBytes.spelled g.C.FixedBytes.value g.C.Signature.FixedBytes.SIZE g.C.Signature.FixedBytes.spelled g.C.Signature.FixedBytes.value g.C.PublicKey.verifies) 2
+    let same = answers_count
+    (wire_of g.C.FixedBytes.SIZE g.C.FixedBytes.spelled g.C.FixedBytes.value g.C.Signature.FixedBytes.SIZE
+    g.C.Signature.FixedBytes.spelled g.C.Signature.FixedBytes.value g.C.PublicKey.verifies) 2
     (two (made_of g.C.Ord.cmp c.args.left) (made_of g.C.Ord.cmp c.args.right)) []
     (commands_in c.args.commands.items) c.in_ok-nodes.field-0.replies.items (answers g c) in
     omega (
@@ -76,18 +85,24 @@ told_of_two g c P h = as_two g.C.Ord.cmp c.args.left c.args.right c.in_ok-setups
 
 pub returns-clause-answers : goal.returns-clause-answers
 returns-clause-answers g c =
-    let wire = wire_of g.C.FixedBytes.SIZE g.C.FixedBytes.spelled g.C.FixedBytes.value g.C.Signature.FixedBytes.SIZE g.C.Signature.FixedBytes.spelled g.C.Signature.FixedBytes.value g.C.PublicKey.verifies in
+    let wire = wire_of g.C.FixedBytes.SIZE g.C.FixedBytes.spelled g.C.FixedBytes.value
+    g.C.Signature.FixedBytes.SIZE g.C.Signature.FixedBytes.spelled g.C.Signature.FixedBytes.value
+    g.C.PublicKey.verifies in
     told_of_two g c (λ size node cs rs. AreNetworkAnswers wire size node [] cs rs)
     c.in_ok-nodes.ensures.answers
 
 stand : (g : _) (c : goal.After-into_both-left g) →
-    let wire = wire_of g.C.FixedBytes.SIZE g.C.FixedBytes.spelled g.C.FixedBytes.value g.C.Signature.FixedBytes.SIZE g.C.Signature.FixedBytes.spelled g.C.Signature.FixedBytes.value g.C.PublicKey.verifies in
+    let wire = wire_of g.C.FixedBytes.SIZE g.C.FixedBytes.spelled g.C.FixedBytes.value
+    g.C.Signature.FixedBytes.SIZE g.C.Signature.FixedBytes.spelled g.C.Signature.FixedBytes.value
+    g.C.PublicKey.verifies in
     let node = two (made_of g.C.Ord.cmp c.args.left) (made_of g.C.Ord.cmp c.args.right) in
     StandAfter wire 2 node (done_after wire 2 node [] (commands_in c.args.commands.items)
     (replies_in c.pair_replies-replies.result.items))
     (c.into_both-left.result.0 ∷ c.into_both-left.result.1 ∷ [])
 stand g c =
-    let wire = wire_of g.C.FixedBytes.SIZE g.C.FixedBytes.spelled g.C.FixedBytes.value g.C.Signature.FixedBytes.SIZE g.C.Signature.FixedBytes.spelled g.C.Signature.FixedBytes.value g.C.PublicKey.verifies in
+    let wire = wire_of g.C.FixedBytes.SIZE g.C.FixedBytes.spelled g.C.FixedBytes.value
+    g.C.Signature.FixedBytes.SIZE g.C.Signature.FixedBytes.spelled g.C.Signature.FixedBytes.value
+    g.C.PublicKey.verifies in
     let node = two (made_of g.C.Ord.cmp c.args.left) (made_of g.C.Ord.cmp c.args.right) in
     subst (StandAfter wire 2 node (done_after wire 2 node [] (commands_in c.args.commands.items)
     (replies_in c.pair_replies-replies.result.items))) c.into_both-left.ensures
@@ -102,32 +117,42 @@ returns-clause-right g c = (stand g c).each 1 c.into_both-left.result.0 (omega a
 
 pub returns-clause-exchanges : goal.returns-clause-exchanges
 returns-clause-exchanges g c =
-    let wire = wire_of g.C.FixedBytes.SIZE g.C.FixedBytes.spelled g.C.FixedBytes.value g.C.Signature.FixedBytes.SIZE g.C.Signature.FixedBytes.spelled g.C.Signature.FixedBytes.value g.C.PublicKey.verifies in
+    let wire = wire_of g.C.FixedBytes.SIZE g.C.FixedBytes.spelled g.C.FixedBytes.value
+    g.C.Signature.FixedBytes.SIZE g.C.Signature.FixedBytes.spelled g.C.Signature.FixedBytes.value
+    g.C.PublicKey.verifies in
     told_of_two g c (λ size node cs rs. networks.KeepExchanges wire size node [] cs rs)
     c.in_ok-nodes.ensures.exchanges
 
 pub returns-clause-infos : goal.returns-clause-infos
 returns-clause-infos g c =
-    let wire = wire_of g.C.FixedBytes.SIZE g.C.FixedBytes.spelled g.C.FixedBytes.value g.C.Signature.FixedBytes.SIZE g.C.Signature.FixedBytes.spelled g.C.Signature.FixedBytes.value g.C.PublicKey.verifies in
+    let wire = wire_of g.C.FixedBytes.SIZE g.C.FixedBytes.spelled g.C.FixedBytes.value
+    g.C.Signature.FixedBytes.SIZE g.C.Signature.FixedBytes.spelled g.C.Signature.FixedBytes.value
+    g.C.PublicKey.verifies in
     told_of_two g c (λ size node cs rs. networks.AtEachPoint wire size node
     (networks.HoldSigned wire size node) [] cs rs) c.in_ok-nodes.ensures.infos
 
 pub returns-clause-greetings : goal.returns-clause-greetings
 returns-clause-greetings g c =
-    let wire = wire_of g.C.FixedBytes.SIZE g.C.FixedBytes.spelled g.C.FixedBytes.value g.C.Signature.FixedBytes.SIZE g.C.Signature.FixedBytes.spelled g.C.Signature.FixedBytes.value g.C.PublicKey.verifies in
+    let wire = wire_of g.C.FixedBytes.SIZE g.C.FixedBytes.spelled g.C.FixedBytes.value
+    g.C.Signature.FixedBytes.SIZE g.C.Signature.FixedBytes.spelled g.C.Signature.FixedBytes.value
+    g.C.PublicKey.verifies in
     told_of_two g c (λ size node cs rs. networks.OfEachReply wire size node
     (networks.TakesGreeting wire size node) [] cs rs) c.in_ok-nodes.ensures.greetings
 
 pub returns-clause-infos_replied : goal.returns-clause-infos_replied
 returns-clause-infos_replied g c =
-    let wire = wire_of g.C.FixedBytes.SIZE g.C.FixedBytes.spelled g.C.FixedBytes.value g.C.Signature.FixedBytes.SIZE g.C.Signature.FixedBytes.spelled g.C.Signature.FixedBytes.value g.C.PublicKey.verifies in
+    let wire = wire_of g.C.FixedBytes.SIZE g.C.FixedBytes.spelled g.C.FixedBytes.value
+    g.C.Signature.FixedBytes.SIZE g.C.Signature.FixedBytes.spelled g.C.Signature.FixedBytes.value
+    g.C.PublicKey.verifies in
     told_of_two g c (λ size node cs rs. networks.OfEachReply wire size node
     (networks.RepliesInfos wire size node g.C.FixedBytes.IsValue g.C.Signature.FixedBytes.IsValue)
     [] cs rs) c.in_ok-nodes.ensures.infos_replied
 
 pub returns-clause-late : goal.returns-clause-late
 returns-clause-late g c =
-    let wire = wire_of g.C.FixedBytes.SIZE g.C.FixedBytes.spelled g.C.FixedBytes.value g.C.Signature.FixedBytes.SIZE g.C.Signature.FixedBytes.spelled g.C.Signature.FixedBytes.value g.C.PublicKey.verifies in
+    let wire = wire_of g.C.FixedBytes.SIZE g.C.FixedBytes.spelled g.C.FixedBytes.value
+    g.C.Signature.FixedBytes.SIZE g.C.Signature.FixedBytes.spelled g.C.Signature.FixedBytes.value
+    g.C.PublicKey.verifies in
     told_of_two g c (λ size node cs rs. networks.OfEachReply wire size node
     (networks.TakesFrame wire size node g.C.FixedBytes.IsValue g.C.Signature.FixedBytes.IsValue)
     [] cs rs) c.in_ok-nodes.ensures.late

@@ -7,7 +7,8 @@ invariant_of-self g c = (c.self.invariant.0, held_is g.met.C.Ord.total g.met.C.P
 pub returns-clause-same : goal.returns-clause-same
 returns-clause-same g c = rw (← c.self.view_is) (λ i. record {
   directory = c.drop_room.ensures.directory i;
-  held = same_contents g.met.C.Ord.total g.met.C.PublicKey.exact c.self.inside.server.slots c.drop_room.new.self.slots c.in_order.ensures c.in_order-2.ensures c.drop_room.ensures.held i;
+  held = same_contents g.met.C.Ord.total g.met.C.PublicKey.exact c.self.inside.server.slots
+      c.drop_room.new.self.slots c.in_order.ensures c.in_order-2.ensures c.drop_room.ensures.held i;
   limits = c.self.inside.payload;
   verifier = c.self.inside.verifier;
 })

@@ -9,9 +9,15 @@ use Rattle.p2p_directory.proofs.node.endpoint.Endpoint.exchange_with.Goals as go
 
 pub returns-in-Ok-Some-clause-seen : goal.returns-in-Ok-Some-clause-seen
 returns-in-Ok-Some-clause-seen g c =
-    let wire = wire_of g.C.FixedBytes.SIZE g.C.FixedBytes.spelled g.C.FixedBytes.value g.C.Signature.FixedBytes.SIZE g.C.Signature.FixedBytes.spelled g.C.Signature.FixedBytes.value g.C.PublicKey.verifies in
+    let wire = wire_of g.C.FixedBytes.SIZE g.C.FixedBytes.spelled g.C.FixedBytes.value
+    g.C.Signature.FixedBytes.SIZE g.C.Signature.FixedBytes.spelled g.C.Signature.FixedBytes.value
+    g.C.PublicKey.verifies in
     record {
-      answer = handed (payload_spelling g.C.FixedBytes.spelled g.C.Signature.FixedBytes.spelled) (standing_of g.C.Ord.cmp wire (node_of c.args.self.now)) (standing_of g.C.Ord.cmp wire (node_of c.args.replier.now))
-          c.args.place (as_nanos c.args.asker_now) (as_nanos c.args.replier_now) c.in-Ok-Some.frame c.hand_to.result _ refl (sym c.in-Ok-Some.field-0-is ∙ c.in-Ok-Some.ensures.seen.frame) c.in-Ok-Some.ensures.spelled c.hand_to.ensures.answer;
+      answer = handed (payload_spelling g.C.FixedBytes.spelled g.C.Signature.FixedBytes.spelled)
+          (standing_of g.C.Ord.cmp wire (node_of c.args.self.now))
+          (standing_of g.C.Ord.cmp wire (node_of c.args.replier.now))
+          c.args.place (as_nanos c.args.asker_now) (as_nanos c.args.replier_now) c.in-Ok-Some.frame
+          c.hand_to.result _ refl (sym c.in-Ok-Some.field-0-is ∙ c.in-Ok-Some.ensures.seen.frame)
+          c.in-Ok-Some.ensures.spelled c.hand_to.ensures.answer;
       left = c.hand_to.ensures.left;
     }

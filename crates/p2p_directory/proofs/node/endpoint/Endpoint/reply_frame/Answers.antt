@@ -21,7 +21,12 @@ returns-in_ok-frame-in-Some-clause-spelled g c =
     let infos_are = sym (ap (option_map (λ v. v.items)) c.in-Some.is) ∙ c.in_ok-infos.ensures.infos in
     let told = few_told g.C.Ord.cmp c.directory-directory.result.now bits.index bits.bits (as_nanos c.args.now) c.in-Some.infos.items infos_are in
     let spelled : HaveSpelling g.C.FixedBytes.IsValue g.C.Signature.FixedBytes.IsValue c.from_vec-infos.result =
-    record { count = omega (arith, told, ap length c.from_vec-infos.ensures, c.requires); values = (c.in_ok-frame-in-Some.ensures.value, c.in_ok-frame-in-Some.ensures.keyed) } in
-    subst (λ d. IfSome (infos_in g.C.Ord.cmp d bits.index bits.bits (as_nanos c.args.now)) (HaveSpelling g.C.FixedBytes.IsValue g.C.Signature.FixedBytes.IsValue))
+    record {
+      count = omega (arith, told, ap length c.from_vec-infos.ensures, c.requires);
+      values =
+          (c.in_ok-frame-in-Some.ensures.value, c.in_ok-frame-in-Some.ensures.keyed);
+    } in
+    subst (λ d. IfSome (infos_in g.C.Ord.cmp d bits.index bits.bits (as_nanos c.args.now))
+    (HaveSpelling g.C.FixedBytes.IsValue g.C.Signature.FixedBytes.IsValue))
     (c.directory-directory.ensures ∙ ap (λ v. v.directory) c.self.view_is)
     (subst (λ o. IfSome o (HaveSpelling g.C.FixedBytes.IsValue g.C.Signature.FixedBytes.IsValue)) (ap Some c.from_vec-infos.ensures ∙ infos_are) spelled)

@@ -11,15 +11,20 @@ use Rattle.p2p_directory.proofs.node.endpoint.Endpoint.reply_to.Goals as goal
 
 pub reply_with-requires : goal.reply_with-requires
 reply_with-requires g c =
-    let allowed = subst (IsAdmitted g.C.FixedBytes.IsValue g.C.Signature.FixedBytes.IsValue c.args.self.now.limits) c.in-Ok-BitVec.field-0-is c.in-Ok-BitVec.ensures.admitted in
+    let allowed = subst (IsAdmitted g.C.FixedBytes.IsValue g.C.Signature.FixedBytes.IsValue c.args.self.now.limits)
+    c.in-Ok-BitVec.field-0-is c.in-Ok-BitVec.ensures.admitted in
     omega (arith, allowed.within, c.read.ensures.limit)
 
 pub returns-in-Ok-BitVec : goal.returns-in-Ok-BitVec
 returns-in-Ok-BitVec g c = λ v fits spelled.
     let bits = c.in-Ok-BitVec.bits in
     let node = node_of c.args.self.now in
-    let replier = standing_of g.C.Ord.cmp (wire_of g.C.FixedBytes.SIZE g.C.FixedBytes.spelled g.C.FixedBytes.value g.C.Signature.FixedBytes.SIZE g.C.Signature.FixedBytes.spelled g.C.Signature.FixedBytes.value g.C.PublicKey.verifies) node in
+    let replier =
+    standing_of g.C.Ord.cmp
+    (wire_of g.C.FixedBytes.SIZE g.C.FixedBytes.spelled g.C.FixedBytes.value g.C.Signature.FixedBytes.SIZE
+    g.C.Signature.FixedBytes.spelled g.C.Signature.FixedBytes.value g.C.PublicKey.verifies) node in
     let read = c.in-Ok-BitVec.ensures.bits v fits spelled in
     replies_alike g.C.FixedBytes.IsValue g.C.Signature.FixedBytes.IsValue (payload_spelling g.C.FixedBytes.spelled g.C.Signature.FixedBytes.spelled)
     (λ asker asker_now. replied_at asker asker_now (infos_in g.C.Ord.cmp c.args.self.now.directory bits.index bits.bits (as_nanos c.args.now))) _
-    (λ asker asker_now. asked_read asker replier asker_now (as_nanos c.args.now) v bits read.0 (bits_are bits v (sym c.in-Ok-BitVec.field-0-is ∙ read.1))) c.reply_with.result c.reply_with.ensures
+    (λ asker asker_now. asked_read asker replier asker_now (as_nanos c.args.now) v bits read.0
+    (bits_are bits v (sym c.in-Ok-BitVec.field-0-is ∙ read.1))) c.reply_with.result c.reply_with.ensures

@@ -10,6 +10,7 @@ invariant_of-self g c = (c.self.invariant.0, held_is g.met.C.Ord.total g.met.C.P
 
 pub returns-clause-served : goal.returns-clause-served
 returns-clause-served g c = rw (← c.self.view_is) (λ given calls at.
-    served (made_of g.C.Ord.cmp given) calls _ _ c.self.inside.server c.serve-reply.new.self (call_of c.args.command) c.serve-reply.result refl c.self.invariant.1 refl
+    served (made_of g.C.Ord.cmp given) calls _ _ c.self.inside.server c.serve-reply.new.self
+    (call_of c.args.command) c.serve-reply.result refl c.self.invariant.1 refl
     (held_is g.met.C.Ord.total g.met.C.PublicKey.exact c.serve-reply.new.self.slots c.in_order.ensures) refl refl
     (c.serve-reply.ensures.served given.bootstrappers.items given.myself given.cfg calls) at)

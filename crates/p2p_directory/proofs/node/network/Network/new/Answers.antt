@@ -1,4 +1,4 @@
-use Rattle.std.proofs.Common.{◌≡◌, ◌-◌, length, sym, ◌∙◌, ap, subst, arith}
+use Rattle.std.proofs.Common.{◌≡◌, length, sym, ◌∙◌, ap, subst, arith}
 use Rattle.std.proofs.lemmas.List.{length_push, length-append}
 use Rattle.std.specs.List.{All}
 use Rattle.p2p_discovery.specs.Info.{IsInfo, IsKeyed}
@@ -83,7 +83,9 @@ pub returns-clause-stand : goal.returns-clause-stand
 returns-clause-stand g c = λ other.
     let kept = c.loop-setup.invariant in
     let es = c.loop-setup.ends.items in
-    stand_at_start g.C.Ord.cmp (wire_of g.C.FixedBytes.SIZE g.C.FixedBytes.spelled g.C.FixedBytes.value g.C.Signature.FixedBytes.SIZE g.C.Signature.FixedBytes.spelled g.C.Signature.FixedBytes.value g.C.PublicKey.verifies)
+    stand_at_start g.C.Ord.cmp
+    (wire_of g.C.FixedBytes.SIZE g.C.FixedBytes.spelled g.C.FixedBytes.value g.C.Signature.FixedBytes.SIZE
+    g.C.Signature.FixedBytes.spelled g.C.Signature.FixedBytes.value g.C.PublicKey.verifies)
     c.args.setups.items es other (kept.count ∙ ap length (all_taken g c))
     (subst (λ xs. OfBoth (IsNew g.C.Ord.cmp) xs es) (all_taken g c) kept.stand)
 

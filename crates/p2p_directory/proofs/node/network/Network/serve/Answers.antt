@@ -11,7 +11,9 @@ use Rattle.p2p_directory.proofs.node.network.Network.serve.Goals as goal
 
 pub returns-in-Call : goal.returns-in-Call
 returns-in-Call g c = rw (← c.self.view_is, c.in-Call.is) (λ setups done other at.
-    let wire = wire_of g.C.FixedBytes.SIZE g.C.FixedBytes.spelled g.C.FixedBytes.value g.C.Signature.FixedBytes.SIZE g.C.Signature.FixedBytes.spelled g.C.Signature.FixedBytes.value g.C.PublicKey.verifies in
+    let wire = wire_of g.C.FixedBytes.SIZE g.C.FixedBytes.spelled g.C.FixedBytes.value
+    g.C.Signature.FixedBytes.SIZE g.C.Signature.FixedBytes.spelled g.C.Signature.FixedBytes.value
+    g.C.PublicKey.verifies in
     let size = length setups in
     let node = node_made g.C.Ord.cmp other setups in
     let x : NetworkCommand g.row.C.Denot g.row.C-Signature.Denot =
@@ -24,7 +26,9 @@ returns-in-Call g c = rw (← c.self.view_is, c.in-Call.is) (λ setups done othe
 
 pub returns-in-Ask : goal.returns-in-Ask
 returns-in-Ask g c = rw (← c.self.view_is, c.in-Ask.is) (λ setups done other at.
-    let wire = wire_of g.C.FixedBytes.SIZE g.C.FixedBytes.spelled g.C.FixedBytes.value g.C.Signature.FixedBytes.SIZE g.C.Signature.FixedBytes.spelled g.C.Signature.FixedBytes.value g.C.PublicKey.verifies in
+    let wire = wire_of g.C.FixedBytes.SIZE g.C.FixedBytes.spelled g.C.FixedBytes.value
+    g.C.Signature.FixedBytes.SIZE g.C.Signature.FixedBytes.spelled g.C.Signature.FixedBytes.value
+    g.C.PublicKey.verifies in
     let size = length setups in
     let node = node_made g.C.Ord.cmp other setups in
     let x : NetworkCommand g.row.C.Denot g.row.C-Signature.Denot =
@@ -35,7 +39,9 @@ returns-in-Ask g c = rw (← c.self.view_is, c.in-Ask.is) (λ setups done other 
 
 pub returns-in-Frame : goal.returns-in-Frame
 returns-in-Frame g c = rw (← c.self.view_is, c.in-Frame.is) (λ setups done other at.
-    let wire = wire_of g.C.FixedBytes.SIZE g.C.FixedBytes.spelled g.C.FixedBytes.value g.C.Signature.FixedBytes.SIZE g.C.Signature.FixedBytes.spelled g.C.Signature.FixedBytes.value g.C.PublicKey.verifies in
+    let wire = wire_of g.C.FixedBytes.SIZE g.C.FixedBytes.spelled g.C.FixedBytes.value
+    g.C.Signature.FixedBytes.SIZE g.C.Signature.FixedBytes.spelled g.C.Signature.FixedBytes.value
+    g.C.PublicKey.verifies in
     let size = length setups in
     let node = node_made g.C.Ord.cmp other setups in
     let x : NetworkCommand g.row.C.Denot g.row.C-Signature.Denot =
@@ -49,7 +55,9 @@ returns-in-Frame g c = rw (← c.self.view_is, c.in-Frame.is) (λ setups done ot
 
 pub returns-in-Exchange : goal.returns-in-Exchange
 returns-in-Exchange g c = rw (← c.self.view_is, c.in-Exchange.is) (λ setups done other at.
-    let wire = wire_of g.C.FixedBytes.SIZE g.C.FixedBytes.spelled g.C.FixedBytes.value g.C.Signature.FixedBytes.SIZE g.C.Signature.FixedBytes.spelled g.C.Signature.FixedBytes.value g.C.PublicKey.verifies in
+    let wire = wire_of g.C.FixedBytes.SIZE g.C.FixedBytes.spelled g.C.FixedBytes.value
+    g.C.Signature.FixedBytes.SIZE g.C.Signature.FixedBytes.spelled g.C.Signature.FixedBytes.value
+    g.C.PublicKey.verifies in
     let size = length setups in
     let node = node_made g.C.Ord.cmp other setups in
     let x : NetworkCommand g.row.C.Denot g.row.C-Signature.Denot =

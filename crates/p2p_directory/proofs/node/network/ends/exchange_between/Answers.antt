@@ -9,7 +9,9 @@ use Rattle.p2p_directory.proofs.node.network.ends.exchange_between.Goals as goal
 
 pub returns-then-asker-replier : goal.returns-then-asker-replier
 returns-then-asker-replier g c =
-    let wire = wire_of g.C.FixedBytes.SIZE g.C.FixedBytes.spelled g.C.FixedBytes.value g.C.Signature.FixedBytes.SIZE g.C.Signature.FixedBytes.spelled g.C.Signature.FixedBytes.value g.C.PublicKey.verifies in
+    let wire = wire_of g.C.FixedBytes.SIZE g.C.FixedBytes.spelled g.C.FixedBytes.value
+    g.C.Signature.FixedBytes.SIZE g.C.Signature.FixedBytes.spelled g.C.Signature.FixedBytes.value
+    g.C.PublicKey.verifies in
     let parts = c.split_at_mut-front.ensures in
     let all = c.args.ends.now in
     let front = c.split_at_mut-front.result.0.now in
@@ -29,7 +31,9 @@ returns-then-asker-replier g c =
 
 pub returns-else-asker-replier : goal.returns-else-asker-replier
 returns-else-asker-replier g c =
-    let wire = wire_of g.C.FixedBytes.SIZE g.C.FixedBytes.spelled g.C.FixedBytes.value g.C.Signature.FixedBytes.SIZE g.C.Signature.FixedBytes.spelled g.C.Signature.FixedBytes.value g.C.PublicKey.verifies in
+    let wire = wire_of g.C.FixedBytes.SIZE g.C.FixedBytes.spelled g.C.FixedBytes.value
+    g.C.Signature.FixedBytes.SIZE g.C.Signature.FixedBytes.spelled g.C.Signature.FixedBytes.value
+    g.C.PublicKey.verifies in
     let parts = c.split_at_mut-front-else-asker-replier.ensures in
     let all = c.args.ends.now in
     let front = c.split_at_mut-front-else-asker-replier.result.0.now in

@@ -13,7 +13,9 @@ use Rattle.p2p_directory.proofs.node.network.ends.receive.Goals as goal
 
 pub returns-then-node-ends-clause-answered : goal.returns-then-node-ends-clause-answered
 returns-then-node-ends-clause-answered g c = λ setups done other at.
-    let wire = wire_of g.C.FixedBytes.SIZE g.C.FixedBytes.spelled g.C.FixedBytes.value g.C.Signature.FixedBytes.SIZE g.C.Signature.FixedBytes.spelled g.C.Signature.FixedBytes.value g.C.PublicKey.verifies in
+    let wire = wire_of g.C.FixedBytes.SIZE g.C.FixedBytes.spelled g.C.FixedBytes.value
+    g.C.Signature.FixedBytes.SIZE g.C.Signature.FixedBytes.spelled g.C.Signature.FixedBytes.value
+    g.C.PublicKey.verifies in
     let size = length setups in
     let node = node_made g.C.Ord.cmp other setups in
     let es = c.args.ends.now in
@@ -22,7 +24,9 @@ returns-then-node-ends-clause-answered g c = λ setups done other at.
 
 pub returns-clause-answered : goal.returns-clause-answered
 returns-clause-answered g c = λ setups done other at.
-    let wire = wire_of g.C.FixedBytes.SIZE g.C.FixedBytes.spelled g.C.FixedBytes.value g.C.Signature.FixedBytes.SIZE g.C.Signature.FixedBytes.spelled g.C.Signature.FixedBytes.value g.C.PublicKey.verifies in
+    let wire = wire_of g.C.FixedBytes.SIZE g.C.FixedBytes.spelled g.C.FixedBytes.value
+    g.C.Signature.FixedBytes.SIZE g.C.Signature.FixedBytes.spelled g.C.Signature.FixedBytes.value
+    g.C.PublicKey.verifies in
     let size = length setups in
     let node = node_made g.C.Ord.cmp other setups in
     let es = c.args.ends.now in
@@ -36,7 +40,9 @@ returns-clause-answered g c = λ setups done other at.
 
 pub returns-clause-written : goal.returns-clause-written
 returns-clause-written g c = λ setups done other at.
-    let wire = wire_of g.C.FixedBytes.SIZE g.C.FixedBytes.spelled g.C.FixedBytes.value g.C.Signature.FixedBytes.SIZE g.C.Signature.FixedBytes.spelled g.C.Signature.FixedBytes.value g.C.PublicKey.verifies in
+    let wire = wire_of g.C.FixedBytes.SIZE g.C.FixedBytes.spelled g.C.FixedBytes.value
+    g.C.Signature.FixedBytes.SIZE g.C.Signature.FixedBytes.spelled g.C.Signature.FixedBytes.value
+    g.C.PublicKey.verifies in
     let size = length setups in
     let node = node_made g.C.Ord.cmp other setups in
     let es = c.args.ends.now in

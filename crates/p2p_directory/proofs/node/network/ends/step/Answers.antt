@@ -8,7 +8,9 @@ use Rattle.p2p_directory.proofs.node.network.ends.step.Goals as goal
 
 pub returns-then-node-ends : goal.returns-then-node-ends
 returns-then-node-ends g c = λ setups done other at.
-    let wire = wire_of g.C.FixedBytes.SIZE g.C.FixedBytes.spelled g.C.FixedBytes.value g.C.Signature.FixedBytes.SIZE g.C.Signature.FixedBytes.spelled g.C.Signature.FixedBytes.value g.C.PublicKey.verifies in
+    let wire = wire_of g.C.FixedBytes.SIZE g.C.FixedBytes.spelled g.C.FixedBytes.value
+    g.C.Signature.FixedBytes.SIZE g.C.Signature.FixedBytes.spelled g.C.Signature.FixedBytes.value
+    g.C.PublicKey.verifies in
     let size = length setups in
     let node = node_made g.C.Ord.cmp other setups in
     let es = c.args.ends.now in
@@ -18,7 +20,9 @@ returns-then-node-ends g c = λ setups done other at.
 
 pub returns : goal.returns
 returns g c = λ setups done other at.
-    let wire = wire_of g.C.FixedBytes.SIZE g.C.FixedBytes.spelled g.C.FixedBytes.value g.C.Signature.FixedBytes.SIZE g.C.Signature.FixedBytes.spelled g.C.Signature.FixedBytes.value g.C.PublicKey.verifies in
+    let wire = wire_of g.C.FixedBytes.SIZE g.C.FixedBytes.spelled g.C.FixedBytes.value
+    g.C.Signature.FixedBytes.SIZE g.C.Signature.FixedBytes.spelled g.C.Signature.FixedBytes.value
+    g.C.PublicKey.verifies in
     let size = length setups in
     let node = node_made g.C.Ord.cmp other setups in
     let es = c.args.ends.now in

@@ -5,12 +5,19 @@ use Rattle.p2p_directory.proofs.run.held.Held.first.Goals as goal
 
 pub returns-in-Some-clause-least : goal.returns-in-Some-clause-least
 returns-in-Some-clause-least g c =
-    rw (← c.self.view_is) (least_is g.met.C.Ord.total g.met.C.PublicKey.exact c.self.inside.reservations.entries c.in-Some.peer.now c.in-Some.field-0-1.now c.self.invariant c.in-Some.ensures.first)
+    rw (← c.self.view_is)
+    (least_is g.met.C.Ord.total g.met.C.PublicKey.exact c.self.inside.reservations.entries c.in-Some.peer.now
+    c.in-Some.field-0-1.now c.self.invariant c.in-Some.ensures.first)
 
 pub returns-in-Some-clause-ascending : goal.returns-in-Some-clause-ascending
 returns-in-Some-clause-ascending g c =
-    rw (← c.self.view_is) (subst (IsStrictlySortedBy g.C.Ord.cmp) (sym (peers_are g.met.C.Ord.total g.met.C.PublicKey.exact c.self.inside.reservations.entries c.self.invariant)) c.self.invariant.ordered)
+    rw (← c.self.view_is)
+    (subst (IsStrictlySortedBy g.C.Ord.cmp)
+    (sym (peers_are g.met.C.Ord.total g.met.C.PublicKey.exact c.self.inside.reservations.entries
+    c.self.invariant)) c.self.invariant.ordered)
 
 pub returns-in-Some-clause-held : goal.returns-in-Some-clause-held
 returns-in-Some-clause-held g c =
-    rw (← c.self.view_is) (has_one g.met.C.Ord.total g.met.C.PublicKey.exact c.self.inside.reservations.entries c.in-Some.peer.now c.in-Some.field-0-1.now c.self.invariant c.in-Some.ensures.value)
+    rw (← c.self.view_is)
+    (has_one g.met.C.Ord.total g.met.C.PublicKey.exact c.self.inside.reservations.entries c.in-Some.peer.now
+    c.in-Some.field-0-1.now c.self.invariant c.in-Some.ensures.value)

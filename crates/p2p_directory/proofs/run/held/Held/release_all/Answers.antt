@@ -12,18 +12,23 @@ loop-peer-preserved-in-Some-take g c =
     let key = c.in-Some-take.ensures.peer in
     let change = rw key at c.release.ensures.released in
     record {
-      agree = held_by_release cmp d d2 c.in-Some.peer c.in-Some-take.reservation (held_of cmp c.loop-peer.held) (held_of cmp c.take.new.self) c.loop-peer.invariant.agree change c.in-Some-take.ensures.left;
+      agree = held_by_release cmp d d2 c.in-Some.peer c.in-Some-take.reservation (held_of cmp c.loop-peer.held)
+          (held_of cmp c.take.new.self) c.loop-peer.invariant.agree change c.in-Some-take.ensures.left;
       config = change.config ∙ c.loop-peer.invariant.config;
       sets = change.sets ∙ c.loop-peer.invariant.sets;
       blocks = change.blocks ∙ c.loop-peer.invariant.blocks;
       cooldowns = change.cooldowns ∙ c.loop-peer.invariant.cooldowns;
-      records = λ q. given_back cmp g.met.C.PublicKey.exact d d2 c.in-Some.peer c.in-Some-take.reservation (held_of cmp c.loop-peer.held) (held_of cmp c.take.new.self) (sym c.in-Some-take.ensures.taken) change c.in-Some-take.ensures.left q
+      records = λ q. given_back cmp g.met.C.PublicKey.exact d d2 c.in-Some.peer c.in-Some-take.reservation
+          (held_of cmp c.loop-peer.held) (held_of cmp c.take.new.self) (sym c.in-Some-take.ensures.taken) change
+          c.in-Some-take.ensures.left q
           ∙ c.loop-peer.invariant.records q;
     }
 
 pub release-requires : goal.release-requires
 release-requires g c =
-    held_record g.C.Ord.cmp c.loop-peer.directory (held_of g.C.Ord.cmp c.loop-peer.held) c.in-Some.peer c.in-Some-take.reservation c.loop-peer.invariant.agree (sym c.in-Some-take.ensures.taken) c.in-Some-take.ensures.peer
+    held_record g.C.Ord.cmp c.loop-peer.directory (held_of g.C.Ord.cmp c.loop-peer.held) c.in-Some.peer
+    c.in-Some-take.reservation c.loop-peer.invariant.agree (sym c.in-Some-take.ensures.taken)
+    c.in-Some-take.ensures.peer
 
 pub returns : goal.returns
 returns g c = record {

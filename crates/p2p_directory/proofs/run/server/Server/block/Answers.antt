@@ -11,7 +11,10 @@ use Rattle.p2p_tracker.specs.Directory.{DirectoryView}
 -- the records stay
 records_same : (g : _) (c : goal.Joined-block g) → c.block.new.self.records ≡ c.self.inside.directory.records
 records_same g c = elim c.match-block.branch [
-  | in-Ok w ↦ answered w.in-Ok.taken (λ h. ap (λ (d : DirectoryView g.row.C.Denot g.row.C-Signature.Denot). d.records) (c.block.ensures.refused (w.in-Ok.is ∙ ap Ok h))) (λ h. (c.block.ensures.taken (w.in-Ok.is ∙ ap Ok h)).records)
+  | in-Ok w ↦ answered w.in-Ok.taken
+      (λ h. ap (λ (d : DirectoryView g.row.C.Denot g.row.C-Signature.Denot). d.records)
+      (c.block.ensures.refused (w.in-Ok.is ∙ ap Ok h)))
+      (λ h. (c.block.ensures.taken (w.in-Ok.is ∙ ap Ok h)).records)
   | in-Err w ↦ ap (λ (d : DirectoryView g.row.C.Denot g.row.C-Signature.Denot). d.records) w.in-Err.ensures.err
 ]
   where
@@ -20,14 +23,18 @@ records_same g c = elim c.match-block.branch [
     answered true untaken taken = taken refl
 
 pub invariant_of-self : goal.invariant_of-self
-invariant_of-self g c = held_by_records g.C.Ord.cmp c.self.inside.directory c.block.new.self (held_in g.C.Ord.cmp c.self.inside.slots) (records_same g c) c.self.invariant
+invariant_of-self g c =
+    held_by_records g.C.Ord.cmp c.self.inside.directory c.block.new.self (held_in g.C.Ord.cmp c.self.inside.slots)
+    (records_same g c) c.self.invariant
 
 pub returns-clause-served : goal.returns-clause-served
 returns-clause-served g c = rw (← c.self.view_is) (λ bootstrappers myself cfg calls at.
     let s = setup_of g.C.Ord.cmp bootstrappers myself cfg in
     elim c.match-block.branch [
       | in-Ok w ↦
-          rw w.result-is (Served.served_block s cfg.max_sets.ok g.met.C.PublicKey.exact calls _ _ at c.args.peer.now (as_nanos c.args.now) w.in-Ok.taken w.in-Ok.ensures.answer
+          rw w.result-is
+          (Served.served_block s cfg.max_sets.ok g.met.C.PublicKey.exact calls _ _ at c.args.peer.now
+          (as_nanos c.args.now) w.in-Ok.taken w.in-Ok.ensures.answer
           (λ h. c.block.ensures.refused (w.in-Ok.is ∙ ap Ok h)) (λ h. c.block.ensures.taken (w.in-Ok.is ∙ ap Ok h)) refl)
       | in-Err w ↦
           rw w.result-is (Served.served_no_block s cfg.max_sets.ok g.met.C.PublicKey.exact calls _ _ at c.args.peer.now (as_nanos c.args.now)

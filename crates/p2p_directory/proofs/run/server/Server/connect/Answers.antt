@@ -11,7 +11,8 @@ connect-requires g c = told_reserved _ (rw c.in-Some-Reserved.field-0-is at c.in
 pub invariant_of-self : goal.invariant_of-self
 invariant_of-self g c =
     let told = rw c.in-Some-Reserved.field-0-is at c.in-Some-Reserved.ensures in
-    held_by_connect g.C.Ord.cmp g.met.C.PublicKey.exact c.self.inside.directory c.connect.new.self c.args.peer.now c.args.dialer (held_in g.C.Ord.cmp c.self.inside.slots) c.self.invariant
+    held_by_connect g.C.Ord.cmp g.met.C.PublicKey.exact c.self.inside.directory c.connect.new.self c.args.peer.now
+    c.args.dialer (held_in g.C.Ord.cmp c.self.inside.slots) c.self.invariant
     (told_reserved _ told) c.connect.ensures.connected
 
 pub returns-in-Some-Reserved-clause-served : goal.returns-in-Some-Reserved-clause-served

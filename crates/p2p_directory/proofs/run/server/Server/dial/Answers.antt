@@ -25,7 +25,9 @@ of_peer g c =
     key c.args.peer.now (ingress_in g.C.Ord.cmp c.self.inside.directory c.args.peer.now) c.in-Ok-Some.reservation facts.reservation
 
 held : (g : _) (c : goal.After-put g) (q : g.row.C.Denot) →
-    held_in g.C.Ord.cmp c.put.new.self q ≡ (if is_at (g.C.Ord.cmp c.args.peer.now) q then Some c.in-Ok-Some.reservation else held_in g.C.Ord.cmp c.self.inside.slots q)
+    held_in g.C.Ord.cmp c.put.new.self q
+    ≡ (if is_at (g.C.Ord.cmp c.args.peer.now) q then Some c.in-Ok-Some.reservation else held_in g.C.Ord.cmp
+    c.self.inside.slots q)
 held g c q =
     c.put.ensures.held q ∙ ap (λ p. if is_at (g.C.Ord.cmp p) q then Some c.in-Ok-Some.reservation else held_in g.C.Ord.cmp c.self.inside.slots q) (of_peer g c)
 
@@ -33,19 +35,25 @@ pub invariant_of-self : goal.invariant_of-self
 invariant_of-self g c =
     let cmp = g.C.Ord.cmp in
     let facts = rw c.in-Ok-Some.field-0-is at c.in-Ok-Some.ensures in
-    held_by_grant cmp g.met.C.PublicKey.exact c.self.inside.directory c.dial.new.self c.args.peer.now c.in-Ok-Some.reservation (option_map (reserved_record (as_nanos c.args.now) (as_nanos c.args.draw) c.self.inside.directory.config.cooldown)) (held_in cmp c.self.inside.slots) (held_in cmp c.put.new.self) c.self.invariant
+    held_by_grant cmp g.met.C.PublicKey.exact c.self.inside.directory c.dial.new.self c.args.peer.now
+    c.in-Ok-Some.reservation
+    (option_map (reserved_record (as_nanos c.args.now) (as_nanos c.args.draw)
+    c.self.inside.directory.config.cooldown)) (held_in cmp c.self.inside.slots) (held_in cmp c.put.new.self)
+    c.self.invariant
     facts.granted.records (subst (IsBusy cmp c.dial.new.self) (of_peer g c) facts.is_busy) (held g c)
 
 pub returns-in-Ok-Some-clause-served : goal.returns-in-Ok-Some-clause-served
 returns-in-Ok-Some-clause-served g c = rw (← c.self.view_is) (λ bootstrappers myself cfg calls at.
     let facts = rw c.in-Ok-Some.field-0-is at c.in-Ok-Some.ensures in
-    Served.served_dialled (setup_of g.C.Ord.cmp bootstrappers myself cfg) cfg.max_sets.ok g.met.C.PublicKey.exact calls _ _ at c.args.peer.now (as_nanos c.args.now) (as_nanos c.args.draw) c.in-Ok-Some.reservation
+    Served.served_dialled (setup_of g.C.Ord.cmp bootstrappers myself cfg) cfg.max_sets.ok g.met.C.PublicKey.exact
+    calls _ _ at c.args.peer.now (as_nanos c.args.now) (as_nanos c.args.draw) c.in-Ok-Some.reservation
     (sym facts.answer) facts.reservation facts.granted (held g c))
 
 pub returns-in-Ok-None-clause-served : goal.returns-in-Ok-None-clause-served
 returns-in-Ok-None-clause-served g c = rw (← c.self.view_is) (λ bootstrappers myself cfg calls at.
     let facts = rw c.in-Ok-None.field-0-is at c.in-Ok-None.ensures in
-    Served.served_not_dialled (setup_of g.C.Ord.cmp bootstrappers myself cfg) cfg.max_sets.ok g.met.C.PublicKey.exact calls _ _ at c.args.peer.now (as_nanos c.args.now) (as_nanos c.args.draw)
+    Served.served_not_dialled (setup_of g.C.Ord.cmp bootstrappers myself cfg) cfg.max_sets.ok
+    g.met.C.PublicKey.exact calls _ _ at c.args.peer.now (as_nanos c.args.now) (as_nanos c.args.draw)
     (sym facts.answer) facts.refused refl)
 
 true_unless : (b : Bool) → (b ≡ false → ⊥) → b ≡ true
@@ -54,5 +62,6 @@ true_unless false h = absurd (h refl)
 
 pub returns-in-Err-clause-served : goal.returns-in-Err-clause-served
 returns-in-Err-clause-served g c = rw (← c.self.view_is) (λ bootstrappers myself cfg calls at.
-    Served.served_no_dial (setup_of g.C.Ord.cmp bootstrappers myself cfg) cfg.max_sets.ok g.met.C.PublicKey.exact calls _ _ at c.args.peer.now (as_nanos c.args.now) (as_nanos c.args.draw)
+    Served.served_no_dial (setup_of g.C.Ord.cmp bootstrappers myself cfg) cfg.max_sets.ok g.met.C.PublicKey.exact
+    calls _ _ at c.args.peer.now (as_nanos c.args.now) (as_nanos c.args.draw)
     (true_unless _ (λ no. let f = sym c.in-Err.is ∙ c.dial.ensures.none no in cc)) c.in-Err.ensures.err refl)

@@ -6,4 +6,5 @@ use Rattle.p2p_directory.proofs.run.server.Server.eligible.Goals as goal
 
 pub returns : goal.returns
 returns g c = rw (← c.self.view_is) (λ bootstrappers myself cfg calls at.
-    Told.served_eligible (setup_of g.C.Ord.cmp bootstrappers myself cfg) cfg.max_sets.ok g.met.C.PublicKey.exact calls _ _ at c.args.peer.now (as_nanos c.args.now) c.eligible.result c.eligible.ensures refl refl)
+    Told.served_eligible (setup_of g.C.Ord.cmp bootstrappers myself cfg) cfg.max_sets.ok g.met.C.PublicKey.exact
+    calls _ _ at c.args.peer.now (as_nanos c.args.now) c.eligible.result c.eligible.ensures refl refl)

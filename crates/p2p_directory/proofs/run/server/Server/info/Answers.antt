@@ -11,18 +11,24 @@ use Rattle.p2p_directory.proofs.run.server.Server.info.Goals as goal
 named : (g : _) (c : goal.In-Err g) → IsSomeAnd (sharable_in g.C.Ord.cmp c.self.inside.directory c.args.peer.now) (λ i. takes_none i.ingress ≡ false)
 named g c = go (sharable_in g.C.Ord.cmp c.self.inside.directory c.args.peer.now) refl
   where
-    pick : (i : Info g.row.C.Denot g.row.C-Signature.Denot) → sharable_in g.C.Ord.cmp c.self.inside.directory c.args.peer.now ≡ Some i → (b : Bool) → takes_none i.ingress ≡ b → b ≡ false
+    pick : (i : Info g.row.C.Denot g.row.C-Signature.Denot) →
+        sharable_in g.C.Ord.cmp c.self.inside.directory c.args.peer.now ≡ Some i → (b : Bool) →
+        takes_none i.ingress ≡ b → b ≡ false
     pick i e false t = refl
     pick i e true t = absurd (let ok = (rw e at c.in-Err.ensures.socket) t in cc)
 
-    go : (o : Option (Info g.row.C.Denot g.row.C-Signature.Denot)) → sharable_in g.C.Ord.cmp c.self.inside.directory c.args.peer.now ≡ o → IsSomeAnd o (λ i. takes_none i.ingress ≡ false)
+    go : (o : Option (Info g.row.C.Denot g.row.C-Signature.Denot)) →
+        sharable_in g.C.Ord.cmp c.self.inside.directory c.args.peer.now ≡ o →
+        IsSomeAnd o (λ i. takes_none i.ingress ≡ false)
     go None e = absurd (let f = c.in-Err.ensures.none e in cc)
     go (Some i) e = pick i e (takes_none i.ingress) refl
 
 pub returns-in-Ok : goal.returns-in-Ok
 returns-in-Ok g c = rw (← c.self.view_is) (λ bootstrappers myself cfg calls at.
-    Told.served_info (setup_of g.C.Ord.cmp bootstrappers myself cfg) cfg.max_sets.ok g.met.C.PublicKey.exact calls _ _ at c.args.peer.now c.in-Ok.info c.in-Ok.ensures.info refl refl)
+    Told.served_info (setup_of g.C.Ord.cmp bootstrappers myself cfg) cfg.max_sets.ok g.met.C.PublicKey.exact calls
+    _ _ at c.args.peer.now c.in-Ok.info c.in-Ok.ensures.info refl refl)
 
 pub returns-in-Err : goal.returns-in-Err
 returns-in-Err g c = rw (← c.self.view_is) (λ bootstrappers myself cfg calls at.
-    Told.served_no_info (setup_of g.C.Ord.cmp bootstrappers myself cfg) cfg.max_sets.ok g.met.C.PublicKey.exact calls _ _ at c.args.peer.now (named g c) refl refl)
+    Told.served_no_info (setup_of g.C.Ord.cmp bootstrappers myself cfg) cfg.max_sets.ok g.met.C.PublicKey.exact
+    calls _ _ at c.args.peer.now (named g c) refl refl)

@@ -5,4 +5,5 @@ use Rattle.p2p_directory.proofs.run.server.Server.latest_set_index.Goals as goal
 
 pub returns : goal.returns
 returns g c = rw (← c.self.view_is) (λ bootstrappers myself cfg calls at.
-    Told.served_latest (setup_of g.C.Ord.cmp bootstrappers myself cfg) cfg.max_sets.ok g.met.C.PublicKey.exact calls _ _ at c.latest_set_index.result c.latest_set_index.ensures refl refl)
+    Told.served_latest (setup_of g.C.Ord.cmp bootstrappers myself cfg) cfg.max_sets.ok g.met.C.PublicKey.exact
+    calls _ _ at c.latest_set_index.result c.latest_set_index.ensures refl refl)

@@ -5,4 +5,5 @@ use Rattle.p2p_directory.proofs.run.server.Server.status.Goals as goal
 
 pub returns : goal.returns
 returns g c = rw (← c.self.view_is) (λ bootstrappers myself cfg calls at.
-    Told.served_status (setup_of g.C.Ord.cmp bootstrappers myself cfg) cfg.max_sets.ok g.met.C.PublicKey.exact calls _ _ at c.args.peer.now c.status.result c.status.ensures refl refl)
+    Told.served_status (setup_of g.C.Ord.cmp bootstrappers myself cfg) cfg.max_sets.ok g.met.C.PublicKey.exact
+    calls _ _ at c.args.peer.now c.status.result c.status.ensures refl refl)

@@ -26,7 +26,8 @@ invariant_of-self g c =
     let held = held_in cmp c.self.inside.slots in
     elim c.match-track.branch [
       | in-Ok w ↦
-          held_after cmp d c.track.new.self (set_of cmp c.args.index c.args.peers.primary c.args.peers.secondary) held w.in-Ok.torn c.self.invariant w.in-Ok.ensures.taken w.in-Ok.ensures.refused
+          held_after cmp d c.track.new.self (set_of cmp c.args.index c.args.peers.primary c.args.peers.secondary)
+          held w.in-Ok.torn c.self.invariant w.in-Ok.ensures.taken w.in-Ok.ensures.refused
       | in-Err w ↦ subst (λ d. AreHeld cmp d held) (sym w.in-Err.ensures.err) c.self.invariant
     ]
 
@@ -39,9 +40,13 @@ returns-clause-served g c = rw (← c.self.view_is) (λ bootstrappers myself cfg
     let s = setup_of g.C.Ord.cmp bootstrappers myself cfg in
     elim c.match-track.branch [
       | in-Ok w ↦
-          rw w.result-is (Served.served_track s cfg.max_sets.ok g.met.C.PublicKey.exact calls _ _ at c.args.index c.args.peers.primary c.args.peers.secondary w.in-Ok.torn
+          rw w.result-is
+          (Served.served_track s cfg.max_sets.ok g.met.C.PublicKey.exact calls _ _ at c.args.index
+          c.args.peers.primary c.args.peers.secondary w.in-Ok.torn
           w.in-Ok.ensures.answer w.in-Ok.ensures.refused w.in-Ok.ensures.taken w.in-Ok.ensures.torn refl)
       | in-Err w ↦
-          rw w.result-is (Served.served_no_memory s cfg.max_sets.ok g.met.C.PublicKey.exact calls _ _ at c.args.index c.args.peers.primary c.args.peers.secondary
+          rw w.result-is
+          (Served.served_no_memory s cfg.max_sets.ok g.met.C.PublicKey.exact calls _ _ at c.args.index
+          c.args.peers.primary c.args.peers.secondary
           (true_unless _ (λ old. let f = sym w.in-Err.is ∙ c.track.ensures.untaken old in cc)) w.in-Err.ensures.err refl)
     ])

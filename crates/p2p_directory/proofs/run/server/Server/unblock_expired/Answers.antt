@@ -6,4 +6,6 @@ use Rattle.p2p_directory.proofs.run.server.Server.unblock_expired.Goals as goal
 
 pub returns-clause-served : goal.returns-clause-served
 returns-clause-served g c = rw (← c.self.view_is) (λ bootstrappers myself cfg calls at.
-    Served.served_expired (setup_of g.C.Ord.cmp bootstrappers myself cfg) cfg.max_sets.ok g.met.C.PublicKey.exact calls _ _ at (as_nanos c.args.now) c.unblock_expired.result c.unblock_expired.ensures.answer c.unblock_expired.ensures.ended refl)
+    Served.served_expired (setup_of g.C.Ord.cmp bootstrappers myself cfg) cfg.max_sets.ok g.met.C.PublicKey.exact
+    calls _ _ at (as_nanos c.args.now) c.unblock_expired.result c.unblock_expired.ensures.answer
+    c.unblock_expired.ensures.ended refl)

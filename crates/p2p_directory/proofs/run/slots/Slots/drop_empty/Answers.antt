@@ -24,6 +24,8 @@ invariant_of-self g c =
           let f = sym here ∙ gone in
           cc) in
           ap (list_any (is_at (cmp q))) kept
-          ∙ any-filter_same (is_at (cmp q)) (λ (k : g.row.C.Denot). not (is_eq (cmp k p))) true (λ k e. ap (λ x. not (is_eq (cmp x p))) (sym (tells_apart g.met.C.PublicKey.exact q k e)) ∙ other) c.self.inside.peers.items
+          ∙ any-filter_same (is_at (cmp q)) (λ (k : g.row.C.Denot). not (is_eq (cmp k p))) true
+          (λ k e. ap (λ x. not (is_eq (cmp x p))) (sym (tells_apart g.met.C.PublicKey.exact q k e)) ∙ other)
+          c.self.inside.peers.items
           ∙ c.self.invariant.1 q (c.remove_empty.ensures.fewer q has),
     )

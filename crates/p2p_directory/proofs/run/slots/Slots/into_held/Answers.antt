@@ -27,7 +27,8 @@ loop-peer-preserved g c =
           let split = drop-cons items i c.peer-item.result within in
           rw add-one
           (none_passed (is_at (g.C.Ord.cmp q)) (get_or items i c.peer-item.result) (drop (suc i) items)
-          (subst (λ ys. list_any (is_at (g.C.Ord.cmp q)) ys ≡ true) split (kept.empty q old.0)) (subst (λ x. is_at (g.C.Ord.cmp q) x ≡ false) c.peer-item.is old.1));
+          (subst (λ ys. list_any (is_at (g.C.Ord.cmp q)) ys ≡ true) split (kept.empty q old.0))
+          (subst (λ x. is_at (g.C.Ord.cmp q) x ≡ false) c.peer-item.is old.1));
     }
 
 pub new-requires : goal.new-requires

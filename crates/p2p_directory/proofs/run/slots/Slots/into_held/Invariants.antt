@@ -9,5 +9,6 @@ abbrev pub invariant-loop-peer : goal.invariant-loop-peer
 invariant-loop-peer g l = record {
   slots : AreSlots g.C.Ord.cmp l.reservations.entries;
   held : (q : g.row.C.Denot) → held_in g.C.Ord.cmp l.reservations.entries q ≡ held_in g.C.Ord.cmp l.initial.reservations.entries q;
-  empty : (q : g.row.C.Denot) → slot_of g.C.Ord.cmp l.reservations.entries q ≡ Some None → list_any (is_at (g.C.Ord.cmp q)) (drop l.peer-index l.peer-items) ≡ true;
+  empty : (q : g.row.C.Denot) → slot_of g.C.Ord.cmp l.reservations.entries q ≡ Some None →
+      list_any (is_at (g.C.Ord.cmp q)) (drop l.peer-index l.peer-items) ≡ true;
 }

@@ -1,0 +1,53 @@
+//! What the documents of the most used calls of a node point to as their examples.
+
+use crate::node::{greeting, node, track};
+use bytes::Bytes;
+use p2p_directory::node::{Node, Received};
+use p2p_directory::record::Status;
+use p2p_directory::run::{Command, Reply};
+use p2p_discovery::codec::TestKey;
+use std::test::Fail;
+use std::time::Duration;
+
+// What to send back for a frame.
+fn answer(node: &mut Node<TestKey>, frame: Bytes, now: Duration) -> Option<Bytes> {
+    match node.receive(frame, now) {
+        Received::Reply(infos) => Some(infos),
+        // Close the connection: the peer doesn't keep to the protocol.
+        Received::Codec(_) | Received::Malformed | Received::Invalid(_) => None,
+        // Nothing has changed: hand the frame in again later.
+        Received::Memory => None,
+        Received::Data(_) | Received::Greeted | Received::Applied(_) => None,
+    }
+}
+
+// Whether a peer that comes may come in.
+fn admit(node: &mut Node<TestKey>, peer: TestKey, now: Duration, draw: Duration) -> bool {
+    match node.step(Command::Listen { peer, now, draw }) {
+        Reply::Listen(true) => true,
+        // It is refused, or want of memory was: nothing has changed.
+        _ => false,
+    }
+}
+
+#[test]
+fn a_peer_is_admitted_and_answered(rt: HostRuntime) -> Result<(), Fail> {
+    let alloc = rt.alloc();
+    let set = track(alloc, 0)?;
+    let greets = greeting(alloc, 1, 5)?;
+    let asks = Bytes::from_vec([2, 0, 2, 0].as_slice().to_vec(alloc)?)?;
+    let now = Duration::from_secs(100);
+    let mut node = node(alloc, 32)?;
+    let is_taken = matches!(node.step(set), Reply::Track(Some(_)));
+    let is_in = admit(&mut node, TestKey(1), now, Duration::ZERO);
+    let is_out = !admit(&mut node, TestKey(3), now, Duration::ZERO);
+    let greeted = answer(&mut node, greets, now).is_none();
+    let told = answer(&mut node, asks, now);
+    let status = node.directory().status(&TestKey(1));
+    node.finish();
+    assert!(rt; is_taken && is_in && is_out && greeted);
+    assert_eq!(rt; status, Some(Status::Reserved));
+    // Nobody is connected, so no info is told.
+    assert!(rt; told.is_some_and(|frame| frame.as_slice() == b"\x03\x00".as_slice()));
+    Ok(())
+}
