@@ -49,7 +49,10 @@ past_end (x ∷ xs) (c ∷ bs) (suc i) b h = ap (λ es. (x, c) ∷ es) (past_end
 
 module _ {P : Type 0} (test : P → Bool) where
   -- a key that passes, and none before it
-  pub set_at : (key : P) → test key ≡ true → (xs : List P) (bs : List Bool) (i : ℕ) (b : Bool) → length bs ≡ length xs → i < length xs → get_or xs i key ≡ key → ((j : ℕ) → j < i → test (get_or xs j key) ≡ false) → (zip xs (set bs i b) ≡ set_value test (zip xs bs) b) × (is_some (lookup test (zip xs bs)) ≡ true)
+  pub set_at : (key : P) → test key ≡ true → (xs : List P) (bs : List Bool) (i : ℕ) (b : Bool) →
+      length bs ≡ length xs → i < length xs → get_or xs i key ≡ key →
+      ((j : ℕ) → j < i → test (get_or xs j key) ≡ false) → (zip xs (set bs i b) ≡ set_value test (zip xs bs) b)
+      × (is_some (lookup test (zip xs bs)) ≡ true)
   set_at key t [] bs i b same low at before = absurd (omega (arith, low))
   set_at key t (x ∷ xs) [] i b same low at before = absurd (omega (arith, same))
   set_at key t (x ∷ xs) (c ∷ bs) zero b same low at before = let here : test x ≡ true = ap test at ∙ t in rw (here) (refl, refl)
@@ -59,7 +62,9 @@ module _ {P : Type 0} (test : P → Bool) where
       rw (apart) (ap (λ es. (x, c) ∷ es) rest.0, rest.1)
 
   -- no key passes
-  pub set_nowhere : (key : P) (xs : List P) (bs : List Bool) (b : Bool) → ((j : ℕ) → j < length xs → test (get_or xs j key) ≡ false) → (zip xs bs ≡ set_value test (zip xs bs) b) × (is_some (lookup test (zip xs bs)) ≡ false)
+  pub set_nowhere : (key : P) (xs : List P) (bs : List Bool) (b : Bool) →
+      ((j : ℕ) → j < length xs → test (get_or xs j key) ≡ false) →
+      (zip xs bs ≡ set_value test (zip xs bs) b) × (is_some (lookup test (zip xs bs)) ≡ false)
   set_nowhere key [] bs b h = (refl, refl)
   set_nowhere key (x ∷ xs) [] b h = (refl, refl)
   set_nowhere key (x ∷ xs) (c ∷ bs) b h =
@@ -74,10 +79,13 @@ module _ {P : Type 0} {cmp : P → P → Ordering} (o : IsTotalOrder cmp) (exact
 
   -- a key that stands nowhere is not found
   pub no_place : (key : P) (xs : List P) → ((k : ℕ) → IsPlaceOf key xs k → ⊥) → (j : ℕ) → j < length xs → is_at (cmp key) (get_or xs j key) ≡ false
-  no_place key xs h j low = either (is_at (cmp key) (get_or xs j key)) (λ e. h j (record { in_range = low; at_place = sym (tells_apart exact key (get_or xs j key) e) }))
+  no_place key xs h j low =
+      either (is_at (cmp key) (get_or xs j key))
+      (λ e. h j (record { in_range = low; at_place = sym (tells_apart exact key (get_or xs j key) e) }))
 
   -- a key in order is found first at its place
-  pub first_there : (key : P) (xs : List P) (i : ℕ) → IsStrictlySortedBy cmp xs → i < length xs → get_or xs i key ≡ key → (j : ℕ) → j < i → is_at (cmp key) (get_or xs j key) ≡ false
+  pub first_there : (key : P) (xs : List P) (i : ℕ) → IsStrictlySortedBy cmp xs → i < length xs →
+      get_or xs i key ≡ key → (j : ℕ) → j < i → is_at (cmp key) (get_or xs j key) ≡ false
   first_there key xs i up low at j below =
       let less : cmp (get_or xs j key) key ≡ Less = ap (cmp (get_or xs j key)) (sym at) ∙ Less-from_sorted cmp xs j i key up below low in
       ap is_eq (o.antisymm key (get_or xs j key) ∙ ap ordering_reverse less)

@@ -1,5 +1,8 @@
 -- What bytes hold after a bit, or each bit, was written.
-use Rattle.std.proofs.Common.{◌≡◌, ◌≢◌, ℕ, zero, suc, ◌+◌, ◌-◌, ◌*◌, ◌/◌, ◌%◌, ◌^◌, ◌≤◌, ◌<◌, Bool, true, false, cond, eqb, List, [], ◌∷◌, ◌++◌, length, take, get_or, set, replicate, Some, refl, sym, ap, ◌∙◌, arith, inl, inr, bit_and, bit_or, append_assoc}
+use Rattle.std.proofs.Common.{◌≡◌, ◌≢◌, ℕ, zero, suc, ◌+◌, ◌-◌, ◌*◌, ◌/◌, ◌%◌, ◌^◌, ◌≤◌, ◌<◌, Bool}
+use Rattle.std.proofs.Common.{true, false, cond, eqb, List, [], ◌∷◌, ◌++◌, length, take, get_or}
+use Rattle.std.proofs.Common.{set, replicate, Some, refl, sym, ap, ◌∙◌, arith, inl, inr, bit_and}
+use Rattle.std.proofs.Common.{bit_or, append_assoc}
 use Rattle.std.specs.Int.{w8, bit_at, bit_not}
 use Rattle.std.specs.List.{slice_get}
 use Rattle.std.specs.Bool.{beq, Decides, one_answer}
@@ -7,8 +10,12 @@ use Rattle.std.specs.Cmp.{booleans_Decides}
 use Rattle.std.specs.Cmp.Lexicographic.{pointwise, pointwise_decides, bytes_decides}
 use Rattle.std.proofs.Math.Seq.{set-append_seam}
 use Rattle.std.proofs.lemmas.Bool.{cases_lt, cases_eq, eq-eqb, ne_eqb}
-use Rattle.std.proofs.lemmas.List.{length-replicate, get_or-set_same, get_or-set_other, get_or-replicate, get_or_past, length-set, length-append, length-take, take_all, take_more, append-nil}
-use Rattle.std.proofs.lemmas.Nat.Bits.{shr_and_one, bit_at-zero, bit_at_ones, bit_at_ones_above, bit_at_set_same, bit_at_set_other, bit_at_clear_same, bit_at_clear_other}
+use Rattle.std.proofs.lemmas.List.{length-replicate, get_or-set_same, get_or-set_other}
+use Rattle.std.proofs.lemmas.List.{get_or-replicate, get_or_past, length-set, length-append}
+use Rattle.std.proofs.lemmas.List.{length-take, take_all, take_more, append-nil}
+use Rattle.std.proofs.lemmas.Nat.Bits.{shr_and_one, bit_at-zero, bit_at_ones, bit_at_ones_above}
+use Rattle.std.proofs.lemmas.Nat.Bits.{bit_at_set_same, bit_at_set_other, bit_at_clear_same}
+use Rattle.std.proofs.lemmas.Nat.Bits.{bit_at_clear_other}
 use Rattle.std.proofs.lemmas.Option.{slice_get-get_or}
 use Rattle.p2p_discovery.specs.Reading.{IsBytes}
 use Rattle.p2p_discovery.specs.Bits.{bit_in, bits_in, byte_count, IsPacked, packed}
@@ -45,7 +52,9 @@ bit_cleared old k h = record { here = bit_at_clear_same w8 old k h; others = λ 
 same_place : (i q : ℕ) → q / 8 ≡ i / 8 → q % 8 ≡ i % 8 → q ≡ i
 same_place i q e f = omega (arith, e, f)
 
-bit_in-set : (bytes : List ℕ) (i new : ℕ) (b : Bool) → i / 8 < length bytes → IsWritten (get_or bytes (i / 8) 0) new (i % 8) b → (q : ℕ) → bit_in (set bytes (i / 8) new) q ≡ cond (eqb q i) b (bit_in bytes q)
+bit_in-set : (bytes : List ℕ) (i new : ℕ) (b : Bool) → i / 8 < length bytes →
+    IsWritten (get_or bytes (i / 8) 0) new (i % 8) b → (q : ℕ) →
+    bit_in (set bytes (i / 8) new) q ≡ cond (eqb q i) b (bit_in bytes q)
 unfolding digit
 bit_in-set bytes i new b low w q =
     elim (cases_eq (q / 8) (i / 8)) [
@@ -53,14 +62,17 @@ bit_in-set bytes i new b low w q =
           let apart : q ≢ i = λ e. other (ap (λ n. n / 8) e) in
           ap (λ x. eqb (bit_at x (q % 8)) 1) (get_or-set_other bytes (i / 8) (q / 8) new 0 other) ∙ rw (ne_eqb q i apart) refl
       | inl byte ↦
-          let now : get_or (set bytes (i / 8) new) (q / 8) 0 ≡ new = ap (λ j. get_or (set bytes (i / 8) new) j 0) byte ∙ get_or-set_same bytes (i / 8) new 0 low in
+          let now : get_or (set bytes (i / 8) new) (q / 8) 0 ≡ new =
+          ap (λ j. get_or (set bytes (i / 8) new) j 0) byte ∙ get_or-set_same bytes (i / 8) new 0 low in
           elim (cases_eq (q % 8) (i % 8)) [
             | inl place ↦
                 let same : q ≡ i = same_place i q byte place in
-                ap (λ x. eqb (bit_at x (q % 8)) 1) now ∙ ap (λ k. eqb (bit_at new k) 1) place ∙ ap (λ x. eqb x 1) w.here ∙ digit_is b ∙ rw (eq-eqb q i same) refl
+                ap (λ x. eqb (bit_at x (q % 8)) 1) now ∙ ap (λ k. eqb (bit_at new k) 1) place
+                ∙ ap (λ x. eqb x 1) w.here ∙ digit_is b ∙ rw (eq-eqb q i same) refl
             | inr other ↦
                 let apart : q ≢ i = λ e. other (ap (λ n. n % 8) e) in
-                ap (λ x. eqb (bit_at x (q % 8)) 1) now ∙ ap (λ x. eqb x 1) (w.others (q % 8) (omega arith) other) ∙ ap (λ j. eqb (bit_at (get_or bytes j 0) (q % 8)) 1) (sym byte) ∙ rw (ne_eqb q i apart) refl
+                ap (λ x. eqb (bit_at x (q % 8)) 1) now ∙ ap (λ x. eqb x 1) (w.others (q % 8) (omega arith) other)
+                ∙ ap (λ j. eqb (bit_at (get_or bytes j 0) (q % 8)) 1) (sym byte) ∙ rw (ne_eqb q i apart) refl
           ]
     ]
 
@@ -68,7 +80,8 @@ pub record Wrote (bytes new : List ℕ) (n i : ℕ) (b : Bool) : Type 0 where
   pub bits : bits_in new n ≡ set (bits_in bytes n) i b
   pub packed : IsPacked n new
 
-pub wrote : (bytes : List ℕ) (n i new : ℕ) (b : Bool) → IsPacked n bytes → i < n → IsWritten (get_or bytes (i / 8) 0) new (i % 8) b → Wrote bytes (set bytes (i / 8) new) n i b
+pub wrote : (bytes : List ℕ) (n i new : ℕ) (b : Bool) → IsPacked n bytes → i < n →
+    IsWritten (get_or bytes (i / 8) 0) new (i % 8) b → Wrote bytes (set bytes (i / 8) new) n i b
 wrote bytes n i new b p low w =
     let byte : i / 8 < length bytes = omega (arith, p.len) in
     record {
@@ -84,11 +97,17 @@ wrote bytes n i new b p low w =
       };
     }
 
-pub wrote_true : (bytes : List ℕ) (n i now : ℕ) → now ≡ get_or bytes (i / 8) 0 → IsPacked n bytes → i < n → Wrote bytes (set bytes (i / 8) (bit_or now (1 * 2 ^ (i % 8) % 256))) n i true
-wrote_true bytes n i now e p low = rw e (wrote bytes n i (bit_or (get_or bytes (i / 8) 0) (1 * 2 ^ (i % 8) % 256)) true p low (bit_set (get_or bytes (i / 8) 0) (i % 8) (omega arith)))
+pub wrote_true : (bytes : List ℕ) (n i now : ℕ) → now ≡ get_or bytes (i / 8) 0 → IsPacked n bytes → i < n →
+    Wrote bytes (set bytes (i / 8) (bit_or now (1 * 2 ^ (i % 8) % 256))) n i true
+wrote_true bytes n i now e p low =
+    rw e (wrote bytes n i (bit_or (get_or bytes (i / 8) 0) (1 * 2 ^ (i % 8) % 256)) true p low
+    (bit_set (get_or bytes (i / 8) 0) (i % 8) (omega arith)))
 
-pub wrote_false : (bytes : List ℕ) (n i now : ℕ) → now ≡ get_or bytes (i / 8) 0 → IsPacked n bytes → i < n → Wrote bytes (set bytes (i / 8) (bit_and now (255 - 1 * 2 ^ (i % 8) % 256))) n i false
-wrote_false bytes n i now e p low = rw e (wrote bytes n i (bit_and (get_or bytes (i / 8) 0) (255 - 1 * 2 ^ (i % 8) % 256)) false p low (bit_cleared (get_or bytes (i / 8) 0) (i % 8) (omega arith)))
+pub wrote_false : (bytes : List ℕ) (n i now : ℕ) → now ≡ get_or bytes (i / 8) 0 → IsPacked n bytes → i < n →
+    Wrote bytes (set bytes (i / 8) (bit_and now (255 - 1 * 2 ^ (i % 8) % 256))) n i false
+wrote_false bytes n i now e p low =
+    rw e (wrote bytes n i (bit_and (get_or bytes (i / 8) 0) (255 - 1 * 2 ^ (i % 8) % 256)) false p low
+    (bit_cleared (get_or bytes (i / 8) 0) (i % 8) (omega arith)))
 
 -- ---- all bits are written
 
@@ -124,23 +143,29 @@ full_bit count i h = ap (λ x. eqb (bit_at x (i % 8)) 1) (get_or-replicate count
 -- whole bytes of ones
 pub whole_ones : (bytes : List ℕ) (count n : ℕ) → bytes ≡ replicate count 255 → count ≡ byte_count n → n % 8 ≡ 0 → Holds (replicate n true) n bytes
 whole_ones bytes count n e c z = rw e (record {
-  bits = bits_are (replicate count 255) n (replicate n true) (length-replicate n true) (λ i h. full_bit count i (omega (arith, c)) ∙ sym (get_or-replicate n i true false h));
+  bits = bits_are (replicate count 255) n (replicate n true) (length-replicate n true)
+      (λ i h. full_bit count i (omega (arith, c)) ∙ sym (get_or-replicate n i true false h));
   packed = record {
     len = length-replicate {A = ℕ} count 255 ∙ c;
-    rest = λ i h. ap (λ x. eqb (bit_at x (i % 8)) 1) (get_or_past (replicate count 255) (i / 8) 0 (omega (arith, length-replicate {A = ℕ} count 255, c))) ∙ ap (λ x. eqb x 1) (bit_at-zero (i % 8));
+    rest = λ i h. ap (λ x. eqb (bit_at x (i % 8)) 1)
+        (get_or_past (replicate count 255) (i / 8) 0 (omega (arith, length-replicate {A = ℕ} count 255, c)))
+        ∙ ap (λ x. eqb x 1) (bit_at-zero (i % 8));
   };
 })
 
-last_bit : (count n last i : ℕ) → count ≡ byte_count n → (n % 8 ≡ 0 → ⊥) → i / 8 ≡ n / 8 → bit_in (set (replicate count 255) (n / 8) last) i ≡ eqb (bit_at last (i % 8)) 1
+last_bit : (count n last i : ℕ) → count ≡ byte_count n → (n % 8 ≡ 0 → ⊥) → i / 8 ≡ n / 8 →
+    bit_in (set (replicate count 255) (n / 8) last) i ≡ eqb (bit_at last (i % 8)) 1
 last_bit count n last i c some e =
     let low : n / 8 < length (replicate count 255) = omega (arith, length-replicate {A = ℕ} count 255, above_zero (n % 8) some, c) in
-    ap (λ j. eqb (bit_at (get_or (set (replicate count 255) (n / 8) last) j 0) (i % 8)) 1) e ∙ ap (λ x. eqb (bit_at x (i % 8)) 1) (get_or-set_same (replicate count 255) (n / 8) last 0 low)
+    ap (λ j. eqb (bit_at (get_or (set (replicate count 255) (n / 8) last) j 0) (i % 8)) 1) e
+    ∙ ap (λ x. eqb (bit_at x (i % 8)) 1) (get_or-set_same (replicate count 255) (n / 8) last 0 low)
 
 other_bit : (count n last i : ℕ) → (i / 8 ≡ n / 8 → ⊥) → bit_in (set (replicate count 255) (n / 8) last) i ≡ bit_in (replicate count 255) i
 other_bit count n last i ne = ap (λ x. eqb (bit_at x (i % 8)) 1) (get_or-set_other (replicate count 255) (n / 8) (i / 8) last 0 ne)
 
 -- bytes of ones, of which the last has fewer
-few_ones : (bytes : List ℕ) (count n : ℕ) → bytes ≡ replicate count 255 → count ≡ byte_count n → (n % 8 ≡ 0 → ⊥) → Holds (replicate n true) n (set bytes (n / 8) (2 ^ (n % 8) - 1))
+few_ones : (bytes : List ℕ) (count n : ℕ) → bytes ≡ replicate count 255 → count ≡ byte_count n → (n % 8 ≡ 0 → ⊥) →
+    Holds (replicate n true) n (set bytes (n / 8) (2 ^ (n % 8) - 1))
 few_ones bytes count n e c some = rw e (record {
   bits =
       bits_are (set (replicate count 255) (n / 8) (2 ^ (n % 8) - 1)) n (replicate n true) (length-replicate n true)
@@ -156,13 +181,17 @@ few_ones bytes count n e c some = rw e (record {
           last_bit count n (2 ^ (n % 8) - 1) i c some same ∙ ap (λ x. eqb x 1) (bit_at_ones_above (n % 8) (i % 8) (omega (arith, same)))
       | inr ne ↦
           other_bit count n (2 ^ (n % 8) - 1) i ne
-          ∙ ap (λ x. eqb (bit_at x (i % 8)) 1) (get_or_past (replicate count 255) (i / 8) 0 (omega (arith, length-replicate {A = ℕ} count 255, c, differ i n h ne))) ∙ ap (λ x. eqb x 1) (bit_at-zero (i % 8))
+          ∙ ap (λ x. eqb (bit_at x (i % 8)) 1)
+          (get_or_past (replicate count 255) (i / 8) 0
+          (omega (arith, length-replicate {A = ℕ} count 255, c, differ i n h ne)))
+          ∙ ap (λ x. eqb x 1) (bit_at-zero (i % 8))
     ];
   };
 })
 
 -- the same, as a shift makes them
-pub cut_ones : (bytes : List ℕ) (count n : ℕ) → bytes ≡ replicate count 255 → count ≡ byte_count n → (n % 8 ≡ 0 → ⊥) → Holds (replicate n true) n (set bytes (n / 8) (1 * 2 ^ (n % 8) % 256 - 1))
+pub cut_ones : (bytes : List ℕ) (count n : ℕ) → bytes ≡ replicate count 255 → count ≡ byte_count n →
+    (n % 8 ≡ 0 → ⊥) → Holds (replicate n true) n (set bytes (n / 8) (1 * 2 ^ (n % 8) % 256 - 1))
 cut_ones bytes count n e c some =
     let low : 2 ^ (n % 8) ≤ 2 ^ 7 = power_more (n % 8) 7 (omega arith) in
     let last : 1 * 2 ^ (n % 8) % 256 - 1 ≡ 2 ^ (n % 8) - 1 = omega arith in
@@ -178,12 +207,19 @@ filled_whole xs i h =
     let none : length xs - i ≡ 0 = omega arith in
     rw (take_all i xs h, none) (append-nil xs)
 
-pub next_value : (xs : List Bool) (i : ℕ) (x : Bool) → i < length xs → x ≡ get_or xs i false → set (take i xs ++ replicate (length xs - i) false) i x ≡ take (i + 1) xs ++ replicate (length xs - (i + 1)) false
+pub next_value : (xs : List Bool) (i : ℕ) (x : Bool) → i < length xs → x ≡ get_or xs i false →
+    set (take i xs ++ replicate (length xs - i) false) i x ≡ take (i + 1) xs ++ replicate (length xs - (i + 1))
+    false
 next_value xs i x h e =
     let k : length (take i xs) ≡ i = omega (arith, length-take i xs) in
     let some : length xs - i ≡ suc (length xs - (i + 1)) = omega arith in
-    let seam : set (take i xs ++ false ∷ replicate (length xs - (i + 1)) false) (length (take i xs)) x ≡ take i xs ++ x ∷ replicate (length xs - (i + 1)) false = set-append_seam (take i xs) false (replicate (length xs - (i + 1)) false) x in
-    rw (some) ((rw k at seam) ∙ sym (ap (λ w. w ++ replicate (length xs - (i + 1)) false) (take_more xs i false h ∙ ap (λ y. take i xs ++ y ∷ []) (sym e)) ∙ append_assoc (take i xs) (x ∷ []) (replicate (length xs - (i + 1)) false)))
+    let seam : set (take i xs ++ false ∷ replicate (length xs - (i + 1)) false) (length (take i xs)) x ≡ take i xs
+    ++ x ∷ replicate (length xs - (i + 1)) false =
+    set-append_seam (take i xs) false (replicate (length xs - (i + 1)) false) x in
+    rw (some) ((rw k at seam)
+    ∙ sym (ap (λ w. w ++ replicate (length xs - (i + 1)) false)
+    (take_more xs i false h ∙ ap (λ y. take i xs ++ y ∷ []) (sym e)) ∙ append_assoc (take i xs) (x ∷ [])
+    (replicate (length xs - (i + 1)) false)))
 
 -- ---- two bit maps
 
@@ -202,7 +238,8 @@ pub record Tells (r : Bool) (xs ys : List Bool) : Type 0 where
 tells : (r : Bool) (xs ys : List Bool) → Decides r (xs ≡ ys) → Tells r xs ys
 tells r xs ys d = record { same = one_answer r (pointwise beq xs ys) d (pointwise_decides booleans_Decides xs ys); exact = d }
 
-pub bytes_tell : (a b : List ℕ) (n m : ℕ) (xs ys : List Bool) (r : Bool) → IsBytes a → IsBytes b → IsPacked n a → IsPacked m b → bits_in a n ≡ xs → bits_in b m ≡ ys → n ≡ m → r ≡ pointwise eqb a b → Tells r xs ys
+pub bytes_tell : (a b : List ℕ) (n m : ℕ) (xs ys : List Bool) (r : Bool) → IsBytes a → IsBytes b → IsPacked n a →
+    IsPacked m b → bits_in a n ≡ xs → bits_in b m ≡ ys → n ≡ m → r ≡ pointwise eqb a b → Tells r xs ys
 bytes_tell a b n m xs ys r f g p q v w e t = tells r xs ys (
   λ h. sym v ∙ (λ i. bits_in ((bytes_decides a b).0 (sym t ∙ h) i) (e i)) ∙ w,
   λ h. t ∙ (bytes_decides a b).1 (same_bytes a b n m f g p q (v ∙ h ∙ sym w)),

@@ -1,5 +1,7 @@
 -- A name is its first label, and a name behind the first dot.
-use Rattle.std.proofs.Common.{◌≡◌, ℕ, zero, suc, ◌+◌, ◌-◌, ◌<◌, Bool, true, false, cond, not, ◌&&◌, List, [], ◌∷◌, length, take, drop, get_or, Some, None, refl, ap, ◌∙◌, arith, eqb, ltb}
+use Rattle.std.proofs.Common.{◌≡◌, ℕ, zero, suc, ◌+◌, ◌-◌, ◌<◌, Bool, true, false, cond, not, ◌&&◌}
+use Rattle.std.proofs.Common.{List, [], ◌∷◌, length, take, drop, get_or, Some, None, refl, ap, ◌∙◌}
+use Rattle.std.proofs.Common.{arith, eqb, ltb}
 use Rattle.std.specs.List.{slice_split, onto_first, position, position_or_len}
 use Rattle.std.specs.Str.{IsAscii}
 use Rattle.std.proofs.lemmas.Bool.Decides.{nat_tests}
@@ -60,7 +62,8 @@ labels_named (l ∷ ls) e = let a = and_true (is_label l) (are_labels ls) e in (
 byte_ascii : (b : ℕ) → is_name_byte b ≡ true → b < 128
 byte_ascii b e = grind (arith, nat_tests)
 
-cons_named : (t : Bool) (b : ℕ) (parts : List (List ℕ)) → AreNamed (cond t ([] ∷ parts) (onto_first b parts)) → (t ≡ true → b < 128) → (b < 128) × AreNamed parts
+cons_named : (t : Bool) (b : ℕ) (parts : List (List ℕ)) → AreNamed (cond t ([] ∷ parts) (onto_first b parts)) →
+    (t ≡ true → b < 128) → (b < 128) × AreNamed parts
 cons_named true b parts h dot = (dot refl, h.1)
 cons_named false b [] h dot = let a = and_true (is_name_byte b) true h.0 in (byte_ascii b a.0, tt)
 cons_named false b (p ∷ ps) h dot = let a = and_true (is_name_byte b) (are_name_bytes p) h.0 in (byte_ascii b a.0, (a.1, h.1))

@@ -34,7 +34,8 @@ rest_is old front new e =
     let k : length front ≡ length old - length new = omega (arith, ap length e, length-append front new) in
     subst (λ (s : List ℕ). drop (length old - length new) s ≡ new) (sym e) (drop_at front new (length old - length new) k)
 
-module _ {A : Type 0} {r : List ℕ → Reading A} {sp : A → List ℕ} {Admits : A → Type 0} (law : Lawful r sp Admits) (bytes old : List ℕ) (same : bytes ≡ old) where
+module _ {A : Type 0} {r : List ℕ → Reading A} {sp : A → List ℕ} {Admits : A → Type 0} (law : Lawful r sp Admits)
+    (bytes old : List ℕ) (same : bytes ≡ old) where
   pub again_at : (v : A) (rest : List ℕ) → Admits v → old ≡ sp v ++ rest → (r bytes).outcome ≡ Ok (v, rest)
   again_at v rest a e = rw (same, e) (law.again v rest a)
 
@@ -56,15 +57,18 @@ module _ {A : Type 0} {r : List ℕ → Reading A} {sp : A → List ℕ} {Admits
   pub left_is : (x : A) (new : List ℕ) → IsBytes old → (r bytes).outcome ≡ Ok (x, new) → drop (length old - length new) old ≡ new
   left_is x new fits o = rest_is old (sp x) new (found_at x new fits o).1
 
-pub ends_ok : {A : Type 0} (r : List ℕ → Reading A) (bytes : List ℕ) (x : A) (new : List ℕ) → (r bytes).outcome ≡ Ok (x, new) → new ≡ [] → (whole r bytes).outcome ≡ Ok (x, [])
+pub ends_ok : {A : Type 0} (r : List ℕ → Reading A) (bytes : List ℕ) (x : A) (new : List ℕ) →
+    (r bytes).outcome ≡ Ok (x, new) → new ≡ [] → (whole r bytes).outcome ≡ Ok (x, [])
 ends_ok r bytes x new o e = rw (o, e) refl
 
 some_left : (n : ℕ) → 0 < n → eqb n 0 ≡ false
 some_left n p = grind (arith, nat_tests)
 
-pub ends_extra : {A : Type 0} (r : List ℕ → Reading A) (bytes : List ℕ) (x : A) (new : List ℕ) (n : ℕ) → (r bytes).outcome ≡ Ok (x, new) → n ≡ length new → 0 < n → Fails (ExtraData n) (whole r bytes)
+pub ends_extra : {A : Type 0} (r : List ℕ → Reading A) (bytes : List ℕ) (x : A) (new : List ℕ) (n : ℕ) →
+    (r bytes).outcome ≡ Ok (x, new) → n ≡ length new → 0 < n → Fails (ExtraData n) (whole r bytes)
 ends_extra r bytes x new n o e p = (λ _. rw (o, ← e, some_left n p) refl, λ m. absurd cc)
 
 -- What begins with two spellings was spelled from one value.
-pub one_value : {A : Type 0} {r : List ℕ → Reading A} {sp : A → List ℕ} {Admits : A → Type 0} → Lawful r sp Admits → (v w : A) (x y : List ℕ) → Admits v → Admits w → sp v ++ x ≡ sp w ++ y → (v ≡ w) × (x ≡ y)
+pub one_value : {A : Type 0} {r : List ℕ → Reading A} {sp : A → List ℕ} {Admits : A → Type 0} →
+    Lawful r sp Admits → (v w : A) (x y : List ℕ) → Admits v → Admits w → sp v ++ x ≡ sp w ++ y → (v ≡ w) × (x ≡ y)
 one_value {sp = sp} law v w x y a b e = only_ok law (sp v ++ x) (sp w ++ y) e v x w y (law.again v x a) b refl

@@ -27,7 +27,9 @@ sorted_nil R = tt
 module _ {P : Type 0} {R : P → P → Ordering} (o : IsTotalOrder R) where
   -- keys that rise strictly do not fall
   pub not_falling : (xs : List P) → IsStrictlySortedBy R xs → IsSortedBy (λ a b. is_lt (R a b)) xs
-  not_falling xs up k d low high = ap is_lt (o.antisymm (get_or xs (k + 1) d) (get_or xs k d) ∙ ap ordering_reverse (Less-from_sorted R xs k (k + 1) d up (omega arith) high))
+  not_falling xs up k d low high =
+      ap is_lt (o.antisymm (get_or xs (k + 1) d) (get_or xs k d)
+      ∙ ap ordering_reverse (Less-from_sorted R xs k (k + 1) d up (omega arith) high))
 
   -- what a binary search has its premise from
   pub searchable : (xs : List P) (x : P) → IsStrictlySortedBy R xs → IsNonDecreasingBy (λ y. ordering_index (R y x)) xs
@@ -53,14 +55,20 @@ module _ {P : Type 0} {R : P → P → Ordering} (o : IsTotalOrder R) where
   rising x y p q = rising_by (R x y) (R y x) (o.antisymm y x) p q
 
   -- two neighbours that are equal stand in the list from the start
-  pub repeated : {E : P → P → Bool} → ((x y : P) → E x y ≡ eq_by_cmp R x y) → (xs ys : List P) → IsPermutation xs ys → (k : ℕ) (x y : P) → k + 1 < length ys → get_or ys k x ≡ x → get_or ys (k + 1) y ≡ y → E x y ≡ true → IsDistinct (eq_by_cmp R) xs → ⊥
+  pub repeated : {E : P → P → Bool} → ((x y : P) → E x y ≡ eq_by_cmp R x y) → (xs ys : List P) →
+      IsPermutation xs ys → (k : ℕ) (x y : P) → k + 1 < length ys → get_or ys k x ≡ x → get_or ys (k + 1) y ≡ y →
+      E x y ≡ true → IsDistinct (eq_by_cmp R) xs → ⊥
   repeated {E} ties xs ys moved k x y high at_x at_y same distinct =
-      let apart = apart_from_distinct (eq_by_cmp R) ys k (k + 1) x (IsDistinct-IsPermutation (eq_by_cmp R) (eq_by_cmp_equiv o).symm xs ys moved distinct) (omega arith) high in
+      let apart = apart_from_distinct (eq_by_cmp R) ys k (k + 1) x
+      (IsDistinct-IsPermutation (eq_by_cmp R) (eq_by_cmp_equiv o).symm xs ys moved distinct) (omega arith)
+      high in
       let next : get_or ys (k + 1) x ≡ y = get_or_default ys (k + 1) x y high ∙ at_y in
       true≢false (sym same ∙ ties x y ∙ (rw (at_x, next) at apart))
 
   -- a sorted list whose neighbours differ rises
-  pub below_next : {E : P → P → Bool} → ((x y : P) → E x y ≡ eq_by_cmp R x y) → (ys : List P) → IsSorted R ys → (k : ℕ) (d x y : P) → k + 1 < length ys → get_or ys k x ≡ x → get_or ys (k + 1) y ≡ y → E x y ≡ false → R (get_or ys k d) (get_or ys (k + 1) d) ≡ Less
+  pub below_next : {E : P → P → Bool} → ((x y : P) → E x y ≡ eq_by_cmp R x y) → (ys : List P) → IsSorted R ys →
+      (k : ℕ) (d x y : P) → k + 1 < length ys → get_or ys k x ≡ x → get_or ys (k + 1) y ≡ y → E x y ≡ false →
+      R (get_or ys k d) (get_or ys (k + 1) d) ≡ Less
   below_next {E} ties ys up k d x y high at_x at_y differ =
       let here : get_or ys k d ≡ x = get_or_default ys k d x (omega arith) ∙ at_x in
       let next : get_or ys (k + 1) d ≡ y = get_or_default ys (k + 1) d y high ∙ at_y in
@@ -72,5 +80,9 @@ module _ {P : Type 0} {R : P → P → Ordering} (o : IsTotalOrder R) where
   sorted_neighbours (x ∷ xs) k h up = sorted_from_all_adjacent o (x ∷ xs) x (λ i low. up i x (omega arith))
 
   -- one more pair of neighbours
-  pub grown : (xs : List P) (k : ℕ) → 0 < k → AllAdjacentBelow (λ x y. R x y ≡ Less) xs k → ((d : P) → R (get_or xs (k - 1) d) (get_or xs (k - 1 + 1) d) ≡ Less) → AllAdjacentBelow (λ x y. R x y ≡ Less) xs (k + 1)
-  grown xs k h up more = all_adjacent_more xs (λ x y. R x y ≡ Less) k h up (λ d. subst (λ n. R (get_or xs (k - 1) d) (get_or xs n d) ≡ Less) {x = k - 1 + 1} (omega arith) (more d))
+  pub grown : (xs : List P) (k : ℕ) → 0 < k → AllAdjacentBelow (λ x y. R x y ≡ Less) xs k →
+      ((d : P) → R (get_or xs (k - 1) d) (get_or xs (k - 1 + 1) d) ≡ Less) →
+      AllAdjacentBelow (λ x y. R x y ≡ Less) xs (k + 1)
+  grown xs k h up more =
+      all_adjacent_more xs (λ x y. R x y ≡ Less) k h up
+      (λ d. subst (λ n. R (get_or xs (k - 1) d) (get_or xs n d) ≡ Less) {x = k - 1 + 1} (omega arith) (more d))

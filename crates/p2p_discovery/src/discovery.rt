@@ -56,7 +56,7 @@ impl<C: PublicKey> Info<C> {
 }
 
 /// Which infos a peer knows: a bit for each primary peer of the set with this index.
-#[derive(Debug, Drop)]
+#[derive(Debug, PartialEq, Eq, Drop)]
 pub struct BitVec {
     /// The index of the set.
     pub index: u64,

@@ -303,7 +303,12 @@ fn spells_seventy_one_bits(rt: &impl Abort, alloc: Global) -> Result<(), Fail> {
     assert_eq!(rt; bits.encode_size(), 12);
     let read = BitVec::decode_cfg(alloc, bytes, &71)?;
     assert_eq!(rt; read.index, 1234);
-    assert!(rt; read.bits == bits.bits);
+    assert!(rt; read == bits);
+    let other = BitVec {
+        index: 1235,
+        bits: bits.bits.clone()?,
+    };
+    assert!(rt; read != other && other.bits == bits.bits);
     Ok(())
 }
 

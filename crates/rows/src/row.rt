@@ -12,7 +12,6 @@ mod addresses;
 mod directory;
 mod frames;
 mod judged;
-mod lines;
 mod pair;
 mod setting;
 mod sizes;

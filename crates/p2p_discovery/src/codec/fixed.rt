@@ -15,7 +15,7 @@ use bytes::BytesMut;
 /// Laws: `SIZE` is at most 65535; equal values are one value; what was written reads back to that
 /// value; bytes that are read are those that the value writes. For a newtype over an array of bytes
 /// all of them stand in `specs/ArraysLaws`, beside [`write_array`] and [`read_array`]; a key of 32
-/// bytes with a signature of 64 is worked out in `src/codec/tests/array_keys.rt`.
+/// bytes with a signature of 64 is worked out in `array_keys.rt` of `p2p_discovery_tests`.
 pub trait FixedBytes: Copy + Eq {
     ghost SIZE: { ℕ };
 
@@ -58,8 +58,8 @@ pub trait FixedBytes: Copy + Eq {
 /// The public key of a peer.
 ///
 /// Laws: the order is total and agrees with equality; keys that compare as equal are one key;
-/// `verify` answers a fixed predicate. `src/codec/tests/array_keys.rt` has a worked example of what
-/// a user brings.
+/// `verify` answers a fixed predicate. `array_keys.rt` of `p2p_discovery_tests` has a worked example
+/// of what a user brings.
 pub trait PublicKey: FixedBytes + Ord {
     /// What [`PublicKey::verify`] judges.
     type Signature: FixedBytes;

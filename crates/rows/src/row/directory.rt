@@ -3,9 +3,9 @@
 ghost use Rattle.std.specs.Prelude.{◌<◌, ◌-◌, ◌^◌};
 ghost use Rattle.std.specs.Int.NonZero.{non_zero_usize_get};
 
-use crate::row::lines::Line;
 use crate::row::setting::{At, Step, config, own_info};
 use crate::row::{Stop, print};
+use lines::Line;
 use p2p_directory::directory::Config;
 use p2p_directory::run::{Reply, run};
 use p2p_discovery::codec::TestKey;

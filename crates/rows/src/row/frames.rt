@@ -3,9 +3,9 @@
 ghost use Rattle.std.specs.Prelude.{◌<◌, ◌^◌, length};
 ghost use Rattle.std.specs.List.{concat};
 
-use crate::row::lines::{Hex, Line};
 use crate::row::{Stop, print};
 use bytes::Bytes;
+use lines::{Hex, Line};
 use p2p_discovery::codec::{CodecError, EncodeSize, RangeCfg, Read, TestKey, Write as _};
 use p2p_discovery::data::{Data, EncodedData};
 use p2p_discovery::discovery::{Payload, PayloadConfig};

@@ -3,9 +3,9 @@
 ghost use Rattle.std.specs.Prelude.{◌≡◌, ◌<◌, ◌^◌, IfOk};
 ghost use Rattle.std.specs.Int.NonZero.{non_zero_usize_get};
 
-use crate::row::lines::Line;
 use crate::row::setting::{At, NAMESPACE, Step, config, own_info, own_info_of};
 use crate::row::{Stop, print};
+use lines::Line;
 use p2p_directory::node::{
     Exchanged, Node, PairCommand, PairReply, PairRun, Received, Setup, Side, run_pair,
 };

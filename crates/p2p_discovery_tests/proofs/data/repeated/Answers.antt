@@ -5,6 +5,12 @@ use Rattle.p2p_discovery_tests.proofs.data.repeated.Goals as goal
 
 pub loop-part-preserved : goal.loop-part-preserved
 loop-part-preserved c = record {
-  total = omega (arith, ap (λ w. length (concat w)) c.in_ok-push_back.ensures.items, joined_push c.loop-part.buffers.items c.from_static.result, ap length c.from_static.ensures, c.loop-part.invariant.total);
+  total = omega (
+    arith,
+    ap (λ w. length (concat w)) c.in_ok-push_back.ensures.items,
+    joined_push c.loop-part.buffers.items c.from_static.result,
+    ap length c.from_static.ensures,
+    c.loop-part.invariant.total,
+  );
   bound = omega arith;
 }

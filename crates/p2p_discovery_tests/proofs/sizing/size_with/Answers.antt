@@ -16,4 +16,9 @@ peer_set_size-requires-clause-secondary c = ((refl, tt), (tt, tt))
 pub peer_set_size-requires-clause-fits : goal.peer_set_size-requires-clause-fits
 unfolding IsStrictlySortedBy
 peer_set_size-requires-clause-fits c = λ all u.
-    omega (arith, union_short key_total exact_key (record { 0 = 1 } ∷ record { 0 = 3 } ∷ []) (record { 0 = 2 } ∷ record { 0 = 3 } ∷ []) (option_copied c.args.extension) all ((refl, tt), (tt, tt)) ((refl, tt), (tt, tt)) u)
+    omega (
+      arith,
+      union_short key_total exact_key (record { 0 = 1 } ∷ record { 0 = 3 } ∷ [])
+          (record { 0 = 2 } ∷ record { 0 = 3 } ∷ []) (option_copied c.args.extension) all ((refl, tt), (tt, tt))
+          ((refl, tt), (tt, tt)) u,
+    )

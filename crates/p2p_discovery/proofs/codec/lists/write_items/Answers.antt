@@ -13,9 +13,14 @@ pub loop-item-preserved : goal.loop-item-preserved
 loop-item-preserved g c =
     let n = next_is g.T.EncodeSize.spelling c.args.items.now c.loop-item.item-index c.item-item.result c.loop-item-test.true c.item-item.is in
     record {
-      items = rw c.write.ensures.items (append_assoc c.loop-item.buf.items (g.T.EncodeSize.spelling c.item-item.result) (spellings g.T.EncodeSize.spelling (drop (c.loop-item.item-index + 1) c.args.items.now)) ∙ (rw n at c.loop-item.invariant.items));
+      items = rw c.write.ensures.items
+          (append_assoc c.loop-item.buf.items (g.T.EncodeSize.spelling c.item-item.result)
+          (spellings g.T.EncodeSize.spelling (drop (c.loop-item.item-index + 1) c.args.items.now))
+          ∙ (rw n at c.loop-item.invariant.items));
       spare = omega (arith, simp length-append at (ap length n), c.loop-item.invariant.spare, c.write.ensures.spare);
-      holds = λ h. c.loop-item.invariant.holds (each_next g.T.Write.HoldsValues c.args.items.now c.loop-item.item-index c.item-item.result c.loop-item-test.true c.item-item.is c.write.ensures.holds h);
+      holds = λ h. c.loop-item.invariant.holds
+          (each_next g.T.Write.HoldsValues c.args.items.now c.loop-item.item-index c.item-item.result
+          c.loop-item-test.true c.item-item.is c.write.ensures.holds h);
     }
 
 pub returns-clause-items : goal.returns-clause-items

@@ -26,4 +26,8 @@ pub returns-else-n-lt128 : goal.returns-else-n-lt128
 returns-else-n-lt128 t c = λ most p h.
     let m = groups_more most _ h c.if-n-lt128.false in
     let r = c.write_groups.ensures m.less m.some m.fits in
-    rw m.is (r.0 ∙ rw c.extend_reserved-else-n-lt128.ensures.items (append_assoc c.args.buf.now.items ((c.args.n % 128 + 128) ∷ []) (groups m.less (c.args.n / 128))), omega (arith, r.1))
+    rw m.is (
+      r.0 ∙ rw c.extend_reserved-else-n-lt128.ensures.items
+          (append_assoc c.args.buf.now.items ((c.args.n % 128 + 128) ∷ []) (groups m.less (c.args.n / 128))),
+      omega (arith, r.1),
+    )

@@ -4,10 +4,14 @@ use Rattle.std.proofs.lemmas.List.Sorted.{Contains-permutation, IsPermutation-sy
 use Rattle.p2p_discovery.proofs.sets.OrderedSet.from_iter_dedup.Goals as goal
 
 pub invariant_of-result : goal.invariant_of-result
-invariant_of-result g c = rw (dedup_is _ _ _ c.dedup.ensures.filtered) (IsStrictlySortedBy-dedup g.met.P.Ord.total g.met.P.Ord.matches_eq _ c.sort_unstable.ensures.sorted)
+invariant_of-result g c =
+    rw (dedup_is _ _ _ c.dedup.ensures.filtered)
+    (IsStrictlySortedBy-dedup g.met.P.Ord.total g.met.P.Ord.matches_eq _ c.sort_unstable.ensures.sorted)
 
 pub returns-clause-sorted : goal.returns-clause-sorted
-returns-clause-sorted g c = rw (dedup_is _ _ _ c.dedup.ensures.filtered) (IsStrictlySortedBy-dedup g.met.P.Ord.total g.met.P.Ord.matches_eq _ c.sort_unstable.ensures.sorted)
+returns-clause-sorted g c =
+    rw (dedup_is _ _ _ c.dedup.ensures.filtered)
+    (IsStrictlySortedBy-dedup g.met.P.Ord.total g.met.P.Ord.matches_eq _ c.sort_unstable.ensures.sorted)
 
 pub returns-clause-same : goal.returns-clause-same
 returns-clause-same g c =

@@ -12,8 +12,12 @@ returns-then-eq-clause-ok g c =
     let k = c.loop-k.k in
     let e : k - 1 + 1 ≡ k = omega arith in
     let ys = c.sort_unstable.new.self.items in
-    let next : get_or ys (k - 1 + 1) c.index-in-loop-k.result.now ≡ c.index-in-loop-k.result.now = rw e (sym c.index-in-loop-k.ensures) in
-    (λ h. absurd (false≢true h), λ distinct. absurd (repeated g.met.P.Ord.total g.met.P.Ord.matches_eq _ ys c.sort_unstable.ensures.permutation (k - 1) _ _ (omega arith) (sym c.index.ensures) next (sym (c.if-eq.ensures)) distinct))
+    let next : get_or ys (k - 1 + 1) c.index-in-loop-k.result.now ≡ c.index-in-loop-k.result.now = rw e (sym c.index-in-loop-k.ensures) in (
+      λ h. absurd (false≢true h),
+      λ distinct. absurd
+          (repeated g.met.P.Ord.total g.met.P.Ord.matches_eq _ ys c.sort_unstable.ensures.permutation (k - 1) _ _
+          (omega arith) (sym c.index.ensures) next (sym (c.if-eq.ensures)) distinct),
+    )
 
 -- the next neighbours differ
 pub loop-k-preserved : goal.loop-k-preserved
@@ -22,7 +26,9 @@ loop-k-preserved g c =
     let e : k - 1 + 1 ≡ k = omega arith in
     let ys = c.sort_unstable.new.self.items in
     let next : get_or ys (k - 1 + 1) c.index-in-loop-k.result.now ≡ c.index-in-loop-k.result.now = rw e (sym c.index-in-loop-k.ensures) in
-    grown g.met.P.Ord.total ys k (omega arith) c.loop-k.invariant (λ d. below_next g.met.P.Ord.total g.met.P.Ord.matches_eq ys c.sort_unstable.ensures.sorted (k - 1) d _ _ (omega arith) (sym c.index.ensures) next (sym c.eq.ensures ∙ c.if-eq.false))
+    grown g.met.P.Ord.total ys k (omega arith) c.loop-k.invariant
+    (λ d. below_next g.met.P.Ord.total g.met.P.Ord.matches_eq ys c.sort_unstable.ensures.sorted (k - 1) d _ _
+    (omega arith) (sym c.index.ensures) next (sym c.eq.ensures ∙ c.if-eq.false))
 
 pub invariant_of-result : goal.invariant_of-result
 invariant_of-result g c = sorted_neighbours g.met.P.Ord.total _ _ (omega arith) c.loop-k.invariant
@@ -32,5 +38,8 @@ returns-clause-sorted g c = sorted_neighbours g.met.P.Ord.total _ _ (omega arith
 
 pub returns-clause-ok : goal.returns-clause-ok
 returns-clause-ok g c =
-    let up = sorted_neighbours g.met.P.Ord.total c.sort_unstable.new.self.items c.loop-k.k (omega arith) c.loop-k.invariant in
-    (λ _. IsDistinct-IsPermutation _ (eq_by_cmp_equiv g.met.P.Ord.total).symm _ _ (IsPermutation-sym _ _ c.sort_unstable.ensures.permutation) (IsDistinct-from_sorted _ _ up), λ _. refl)
+    let up = sorted_neighbours g.met.P.Ord.total c.sort_unstable.new.self.items c.loop-k.k (omega arith) c.loop-k.invariant in (
+      λ _. IsDistinct-IsPermutation _ (eq_by_cmp_equiv g.met.P.Ord.total).symm _ _
+          (IsPermutation-sym _ _ c.sort_unstable.ensures.permutation) (IsDistinct-from_sorted _ _ up),
+      λ _. refl,
+    )

@@ -6,4 +6,6 @@ pub returns-then-count-lt128-clause-items : goal.returns-then-count-lt128-clause
 returns-then-count-lt128-clause-items c = c.push.ensures ∙ ap (λ w. c.args.self.now ++ w) (sym (groups_small 5 c.args.count (omega arith) (omega arith)))
 
 pub returns-else-count-lt128-clause-items : goal.returns-else-count-lt128-clause-items
-returns-else-count-lt128-clause-items c = c.push-else-count-lt128.ensures ∙ ap (λ w. c.args.self.now ++ w) (sym (groups_two 3 c.args.count c.if-count-lt128.false (omega arith)))
+returns-else-count-lt128-clause-items c =
+    c.push-else-count-lt128.ensures
+    ∙ ap (λ w. c.args.self.now ++ w) (sym (groups_two 3 c.args.count c.if-count-lt128.false (omega arith)))

@@ -14,6 +14,7 @@ pub returns : goal.returns
 returns c =
     let n = sym (length-bits_in c.self.inside.bytes.items c.self.inside.len) ∙ ap length c.self.view_is in
     let low : c.args.place / 8 < length c.self.inside.bytes.items = omega (arith, c.self.invariant.len, n) in
-    let byte : c.index.result.now ≡ get_or c.self.inside.bytes.items (c.args.place / 8) 0 = c.index.ensures ∙ get_or_default c.self.inside.bytes.items (c.args.place / 8) _ 0 low in
+    let byte : c.index.result.now ≡ get_or c.self.inside.bytes.items (c.args.place / 8) 0 =
+    c.index.ensures ∙ get_or_default c.self.inside.bytes.items (c.args.place / 8) _ 0 low in
     ap (λ xs. slice_get xs c.args.place) (sym c.self.view_is) ∙ bit_read c.self.inside.bytes.items c.self.inside.len c.args.place (omega (arith, n))
     ∙ ap (λ x. Some (eqb (bit_and (x / 2 ^ (c.args.place % 8)) 1) 1)) (sym byte)

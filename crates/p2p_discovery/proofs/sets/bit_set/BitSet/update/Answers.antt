@@ -12,12 +12,22 @@ pub returns-in-Some : goal.returns-in-Some
 returns-in-Some g c =
     let test = λ (k : g.row.P.Denot). is_at (g.P.Ord.cmp c.args.peer.now) k in
     let found = c.in-Some.ensures.found in
-    let both = set_at test c.args.peer.now (ap is_eq (tied_itself g.met.P.Ord.total c.args.peer.now)) c.self.inside.ordered c.self.inside.knowledge c.in-Some.place c.args.known c.self.invariant found.in_range found.at_place
-    (first_there g.met.P.Ord.total g.met.P.PublicKey.exact c.args.peer.now c.self.inside.ordered c.in-Some.place c.in-Some.ensures.sorted found.in_range found.at_place) in
-    record { answer = sym both.1 ∙ ap (λ es. is_some (lookup test es)) c.self.view_is; after = ap (λ bits. zip c.self.inside.ordered bits) c.set.ensures ∙ both.0 ∙ ap (λ es. set_value test es c.args.known) c.self.view_is }
+    let both = set_at test c.args.peer.now (ap is_eq (tied_itself g.met.P.Ord.total c.args.peer.now))
+    c.self.inside.ordered c.self.inside.knowledge c.in-Some.place c.args.known c.self.invariant
+    found.in_range found.at_place
+    (first_there g.met.P.Ord.total g.met.P.PublicKey.exact c.args.peer.now c.self.inside.ordered c.in-Some.place
+    c.in-Some.ensures.sorted found.in_range found.at_place) in
+    record {
+      answer = sym both.1 ∙ ap (λ es. is_some (lookup test es)) c.self.view_is;
+      after =
+          ap (λ bits. zip c.self.inside.ordered bits) c.set.ensures ∙ both.0
+          ∙ ap (λ es. set_value test es c.args.known) c.self.view_is;
+    }
 
 pub returns-in-None : goal.returns-in-None
 returns-in-None g c =
     let test = λ (k : g.row.P.Denot). is_at (g.P.Ord.cmp c.args.peer.now) k in
-    let both = set_nowhere test c.args.peer.now c.self.inside.ordered c.self.inside.knowledge c.args.known (no_place g.met.P.Ord.total g.met.P.PublicKey.exact c.args.peer.now c.self.inside.ordered c.in-None.ensures.absent) in
+    let both = set_nowhere test c.args.peer.now c.self.inside.ordered c.self.inside.knowledge c.args.known
+    (no_place g.met.P.Ord.total g.met.P.PublicKey.exact c.args.peer.now c.self.inside.ordered
+    c.in-None.ensures.absent) in
     record { answer = sym both.1 ∙ ap (λ es. is_some (lookup test es)) c.self.view_is; after = rw (← c.self.view_is) both.0 }

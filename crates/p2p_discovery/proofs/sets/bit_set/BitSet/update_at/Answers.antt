@@ -9,7 +9,9 @@ pub returns-then-place-len-clause-answer : goal.returns-then-place-len-clause-an
 returns-then-place-len-clause-answer g c = let l = sym (ap length c.self.view_is) ∙ length_zip _ _ c.self.invariant in grind (arith, nat_tests, l)
 
 pub returns-then-place-len-clause-after : goal.returns-then-place-len-clause-after
-returns-then-place-len-clause-after g c = ap (λ bits. zip c.self.inside.ordered bits) c.set.ensures ∙ zip_set c.self.inside.ordered c.self.inside.knowledge c.args.place c.args.known ∙ ap (λ es. with_bit es c.args.place c.args.known) c.self.view_is
+returns-then-place-len-clause-after g c = ap (λ bits. zip c.self.inside.ordered bits) c.set.ensures
+    ∙ zip_set c.self.inside.ordered c.self.inside.knowledge c.args.place c.args.known
+    ∙ ap (λ es. with_bit es c.args.place c.args.known) c.self.view_is
 
 pub returns-else-place-len-clause-answer : goal.returns-else-place-len-clause-answer
 returns-else-place-len-clause-answer g c = let l = sym (ap length c.self.view_is) ∙ length_zip _ _ c.self.invariant in grind (arith, nat_tests, l)

@@ -1,16 +1,21 @@
-//! The printed forms of values.
+//! The printed forms of values, and commands as one types them.
+#![tactic(auto)]
 
 use p2p_directory::directory::{PeerSetUpdate, TrackedPeers};
-use p2p_directory::node::{Exchanged, PairReply, Received};
+use p2p_directory::node::{Exchanged, NetworkReply, PairReply, Received};
 use p2p_directory::record::Dialable;
 use p2p_directory::run::Reply;
 use p2p_discovery::codec::TestKey;
 use p2p_discovery::data::Data;
-use p2p_discovery::discovery::{BitVec, Info};
+use p2p_discovery::discovery::{BitVec, Info, Infos, Payload};
 use p2p_discovery::sets::{BitMap, OrderedSet};
-use p2p_discovery::types::{Ingress, IpAddr};
+use p2p_discovery::types::{Address, Ingress, IpAddr, SocketAddr};
 use std::fmt;
+use std::net::Ipv6Addr;
 use std::time::Duration;
+pub use typed::Typed;
+
+mod typed;
 
 /// A value in its printed form.
 #[derive(Drop)]
@@ -38,7 +43,7 @@ struct Keys<'a>(&'a [TestKey]);
 
 /// Truth values as a digit each, and no values as a hyphen.
 #[derive(Drop)]
-struct Bits<'a>(&'a BitMap);
+pub(crate) struct Bits<'a>(pub(crate) &'a BitMap);
 
 impl fmt::Display for Bits<'_> {
     fn fmt<W: fmt::Write>(&self, f: &mut fmt::Formatter<W>) -> fmt::Result {
@@ -64,16 +69,33 @@ impl fmt::Display for Line<'_, IpAddr> {
     fn fmt<W: fmt::Write>(&self, f: &mut fmt::Formatter<W>) -> fmt::Result {
         match self.0 {
             IpAddr::V4([a, b, c, d]) => write!(f, "{a}.{b}.{c}.{d}"),
-            IpAddr::V6(bytes) => write!(f, "[{}]", Hex(bytes)),
+            IpAddr::V6(octets) => write!(f, "[{}]", Ipv6Addr::from_octets(*octets)),
         }
+    }
+}
+
+impl fmt::Display for Line<'_, SocketAddr> {
+    fn fmt<W: fmt::Write>(&self, f: &mut fmt::Formatter<W>) -> fmt::Result {
+        write!(f, "{}:{}", Line(&self.0.ip()), self.0.port())
     }
 }
 
 impl fmt::Display for Line<'_, Ingress> {
     fn fmt<W: fmt::Write>(&self, f: &mut fmt::Formatter<W>) -> fmt::Result {
         match self.0 {
-            Ingress::Socket(socket) => write!(f, "{}:{}", Line(&socket.ip()), socket.port()),
-            Ingress::Dns { host, port } => write!(f, "{}:{port}", host.as_str()),
+            Ingress::Socket(socket) => write!(f, "{}", Line(socket)),
+            Ingress::Dns { host, port } => write!(f, "~{}:{port}", host.as_str()),
+        }
+    }
+}
+
+impl fmt::Display for Line<'_, Address> {
+    fn fmt<W: fmt::Write>(&self, f: &mut fmt::Formatter<W>) -> fmt::Result {
+        match self.0 {
+            Address::Symmetric(socket) => write!(f, "Symmetric({})", Line(socket)),
+            Address::Asymmetric { ingress, egress } => {
+                write!(f, "Asymmetric({}, {})", Line(ingress), Line(egress))
+            }
         }
     }
 }
@@ -88,9 +110,9 @@ impl fmt::Display for Line<'_, Info<TestKey>> {
 
 /// Infos in brackets, with commas between.
 #[derive(Drop)]
-struct Infos<'a>(&'a [Info<TestKey>]);
+struct InfoList<'a>(&'a [Info<TestKey>]);
 
-impl fmt::Display for Infos<'_> {
+impl fmt::Display for InfoList<'_> {
     fn fmt<W: fmt::Write>(&self, f: &mut fmt::Formatter<W>) -> fmt::Result {
         f.write_str("[")?;
         for (place, info) in self.0.iter().enumerate() {
@@ -103,11 +125,28 @@ impl fmt::Display for Infos<'_> {
     }
 }
 
+impl fmt::Display for Line<'_, Infos<TestKey>> {
+    fn fmt<W: fmt::Write>(&self, f: &mut fmt::Formatter<W>) -> fmt::Result {
+        write!(f, "{}", InfoList(self.0.as_slice()))
+    }
+}
+
 impl fmt::Display for Line<'_, Data> {
     fn fmt<W: fmt::Write>(&self, f: &mut fmt::Formatter<W>) -> fmt::Result {
         let channel = self.0.channel;
         let message = Hex(self.0.message.as_slice());
         write!(f, "Data({channel}, {message})")
+    }
+}
+
+impl fmt::Display for Line<'_, Payload<TestKey>> {
+    fn fmt<W: fmt::Write>(&self, f: &mut fmt::Formatter<W>) -> fmt::Result {
+        match self.0 {
+            Payload::Data(data) => write!(f, "{}", Line(data)),
+            Payload::Greeting(info) => write!(f, "Greeting({})", Line(info)),
+            Payload::BitVec(bits) => write!(f, "{}", Line(bits)),
+            Payload::Peers(infos) => write!(f, "Peers({})", Line(infos)),
+        }
     }
 }
 
@@ -195,7 +234,7 @@ impl fmt::Display for Line<'_, Reply<TestKey>> {
             Reply::LatestUpdate(Some(update)) => write!(f, "Some({})", Line(update)),
             Reply::All(peers) => write!(f, "{}", Line(peers)),
             Reply::Info(Some(info)) => write!(f, "{}", Line(info)),
-            Reply::Infos(Some(infos)) => write!(f, "Some({})", Infos(infos.as_slice())),
+            Reply::Infos(Some(infos)) => write!(f, "Some({})", InfoList(infos.as_slice())),
             Reply::GetRandomBitVec(Some(bits)) => write!(f, "{}", Line(bits)),
             Reply::Dialable(dialable) => write!(f, "{}", Line(dialable)),
             Reply::ForgetCooled(count) | Reply::Tracked(count) => write!(f, "{count}"),
@@ -230,7 +269,7 @@ impl fmt::Display for Line<'_, Exchanged<TestKey>> {
             Exchanged::ReplyRefused(fault) => write!(f, "ReplyRefused({fault:?})"),
             Exchanged::Invalid(error) => write!(f, "Invalid({error:?})"),
             Exchanged::Memory => f.write_str("Memory"),
-            Exchanged::Applied(infos) => write!(f, "Applied({})", Infos(infos.as_slice())),
+            Exchanged::Applied(infos) => write!(f, "Applied({})", InfoList(infos.as_slice())),
         }
     }
 }
@@ -244,6 +283,20 @@ impl fmt::Display for Line<'_, PairReply<TestKey>> {
             PairReply::Frame(received) => write!(f, "{}", Line(received)),
             PairReply::Exchange(exchanged) => write!(f, "{}", Line(exchanged)),
             PairReply::OutOfMemory => f.write_str("OutOfMemory"),
+        }
+    }
+}
+
+impl fmt::Display for Line<'_, NetworkReply<TestKey>> {
+    fn fmt<W: fmt::Write>(&self, f: &mut fmt::Formatter<W>) -> fmt::Result {
+        match self.0 {
+            NetworkReply::Call(reply) => write!(f, "{}", Line(reply)),
+            NetworkReply::Ask(Some(frame)) => write!(f, "{}", Hex(frame.as_slice())),
+            NetworkReply::Ask(None) => f.write_str("None"),
+            NetworkReply::Frame(received) => write!(f, "{}", Line(received)),
+            NetworkReply::Exchange(exchanged) => write!(f, "{}", Line(exchanged)),
+            NetworkReply::OutOfMemory => f.write_str("OutOfMemory"),
+            NetworkReply::NoNode => f.write_str("NoNode"),
         }
     }
 }

@@ -1,0 +1,57 @@
+use Rattle.std.proofs.Common.{arith}
+use Rattle.std.specs.Prelude.{slice_index_or, length, ◌<◌}
+use Rattle.std.specs.Duration.{as_nanos}
+use Rattle.std.proofs.lemmas.Bool.{eqb-false}
+use Rattle.p2p_directory.specs.Received.{wire_of}
+use Rattle.p2p_directory.proofs.Nodes.Networks.{set_in_front, set_in_back, of_front, first_of_back}
+use Rattle.play.proofs.Nodes.{exchanged_at}
+use Rattle.play.proofs.session.serving.exchange_of_two.Goals as goal
+
+pub returns-then-asker-replier : goal.returns-then-asker-replier
+returns-then-asker-replier g c =
+    let wire = wire_of g.C.FixedBytes.SIZE g.C.FixedBytes.spelled g.C.FixedBytes.value
+    g.C.Signature.FixedBytes.SIZE g.C.Signature.FixedBytes.spelled g.C.Signature.FixedBytes.value
+    g.C.PublicKey.verifies in
+    let parts = c.split_at_mut-front.ensures in
+    let all = c.args.nodes.now in
+    let front = c.split_at_mut-front.result.0.now in
+    let back = c.split_at_mut-front.result.1.now in
+    let a = c.index-front-asker.result in
+    let b = c.index-back-0.result in
+    let left = c.exchange.new.asker in
+    let there : c.args.asker < length front = omega (arith, parts.front_len, c.if-asker-replier.true) in
+    let some : 0 < length back = omega (arith, parts.back_len, c.requires.replies) in
+    exchanged_at g.C.Ord.cmp wire c.args.asker c.args.replier c.args.place
+    (as_nanos c.args.asker_now) (as_nanos c.args.replier_now) c.exchange.result all _
+    (slice_index_or front c.args.asker a) (slice_index_or back 0 b) left
+    c.requires.asks c.requires.replies
+    (set_in_front all front back parts.value c.args.asker left there)
+    (λ e. of_front all front back parts.value c.args.asker a e there)
+    (λ e. first_of_back all front back parts.value c.args.replier b e parts.front_len some)
+    c.exchange.ensures.exchanged
+
+pub returns-else-asker-replier : goal.returns-else-asker-replier
+returns-else-asker-replier g c =
+    let wire = wire_of g.C.FixedBytes.SIZE g.C.FixedBytes.spelled g.C.FixedBytes.value
+    g.C.Signature.FixedBytes.SIZE g.C.Signature.FixedBytes.spelled g.C.Signature.FixedBytes.value
+    g.C.PublicKey.verifies in
+    let parts = c.split_at_mut-front-else-asker-replier.ensures in
+    let all = c.args.nodes.now in
+    let front = c.split_at_mut-front-else-asker-replier.result.0.now in
+    let back = c.split_at_mut-front-else-asker-replier.result.1.now in
+    let a = c.index-back-0-else-asker-replier.result in
+    let b = c.index-front-replier.result in
+    let left = c.exchange-else-asker-replier.new.asker in
+    let apart = eqb-false c.args.asker c.args.replier c.requires.differ in
+    let there : c.args.replier < length front =
+    omega (arith, parts.front_len, c.if-asker-replier.false, apart) in
+    let some : 0 < length back = omega (arith, parts.back_len, c.requires.asks) in
+    exchanged_at g.C.Ord.cmp wire c.args.asker c.args.replier c.args.place
+    (as_nanos c.args.asker_now) (as_nanos c.args.replier_now)
+    c.exchange-else-asker-replier.result all _
+    (slice_index_or back 0 a) (slice_index_or front c.args.replier b) left
+    c.requires.asks c.requires.replies
+    (set_in_back all front back parts.value c.args.asker left parts.front_len)
+    (λ e. first_of_back all front back parts.value c.args.asker a e parts.front_len some)
+    (λ e. of_front all front back parts.value c.args.replier b e there)
+    c.exchange-else-asker-replier.ensures.exchanged

@@ -1,0 +1,13 @@
+use Rattle.std.specs.Duration.{as_nanos}
+use Rattle.p2p_directory.specs.Received.{wire_of}
+use Rattle.play.proofs.Nodes.{received_at}
+use Rattle.play.proofs.session.serving.receive.Goals as goal
+
+pub returns : goal.returns
+returns g c =
+    let wire = wire_of g.C.FixedBytes.SIZE g.C.FixedBytes.spelled g.C.FixedBytes.value
+    g.C.Signature.FixedBytes.SIZE g.C.Signature.FixedBytes.spelled g.C.Signature.FixedBytes.value
+    g.C.PublicKey.verifies in
+    received_at g.C.Ord.cmp wire c.args.node c.args.nodes.now c.index-nodes-node.result
+    c.receive.new.self c.if-node-nodes.false c.args.frame (as_nanos c.args.now)
+    c.receive.result c.receive.ensures.received

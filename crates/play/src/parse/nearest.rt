@@ -1,0 +1,31 @@
+//! The name that was meant.
+
+use crate::usage::{COMMANDS, SETTINGS};
+
+/// The command that begins as the word does the longest, and then is nearest to it in length.
+pub fn nearest_command(word: &str) -> &'static str {
+    COMMANDS
+        .iter()
+        .map(|command| command.0)
+        .max_by_key(|name| likeness(word, name))
+        .unwrap_or("node")
+}
+
+/// The setting that begins as the word does the longest, and then is nearest to it in length.
+pub fn nearest_setting(word: &str) -> &'static str {
+    SETTINGS
+        .iter()
+        .map(|setting| setting.0)
+        .max_by_key(|name| likeness(word, name))
+        .unwrap_or("own")
+}
+
+// How many bytes two words begin with alike, and how near their lengths are.
+fn likeness(left: &str, right: &str) -> (usize, usize) {
+    let alike = left
+        .bytes()
+        .zip(right.bytes())
+        .take_while(|(left, right)| left == right)
+        .count();
+    (alike, usize::MAX - left.len().abs_diff(right.len()))
+}

@@ -1,0 +1,297 @@
+//! Serves lines, and looks whether the replies are those that are expected.
+
+ghost use Rattle.std.specs.Prelude.{◌≡◌, IfOk, OnErr};
+ghost use Rattle.p2p_directory.specs.Received.{wire_of};
+ghost use Rattle.play.specs.Requests.{AnswersSome};
+
+use crate::expected::is_printed_as;
+use crate::fault::Fault;
+use crate::parse;
+use crate::request::{Answer, serve};
+use crate::session::Session;
+use p2p_discovery::codec::{FixedBytes, PublicKey, TestKey, TestSignature};
+use std::alloc::{AllocError, Global};
+use std::fmt::{self, Display};
+use std::io::{self, BufRead, BufReader, ErrorKind, Read, Write};
+
+// How many bytes a line may have.
+const LONGEST: usize = 1 << 20;
+
+/// Why lines are no longer served.
+#[derive(Debug, Drop)]
+pub enum Stop {
+    /// Memory for a first node was refused.
+    Memory,
+    /// The lines could not be read.
+    Read,
+    /// A reply could not be written.
+    Write,
+}
+
+/// What is printed.
+#[derive(Clone, Copy, Debug, PartialEq, Eq)]
+pub enum Mode {
+    /// The replies, and what is not as expected.
+    Replies,
+    /// What is not as expected, alone.
+    Checks,
+}
+
+/// How many lines were replied, and how many replies are as expected.
+#[derive(Clone, Copy, Debug)]
+pub struct Tally {
+    /// Replies, of lines that could not be read, too.
+    pub replies: u64,
+    /// Replies that are as expected.
+    pub expected: u64,
+    /// Replies that are not.
+    pub otherwise: u64,
+    /// Lines that could not be read and were not expected to be.
+    pub unreadable: u64,
+}
+
+impl Tally {
+    /// All was as expected, and each line could be read.
+    pub fn is_good(&self) -> bool {
+        self.otherwise == 0 && self.unreadable == 0
+    }
+}
+
+impl Display for Tally {
+    fn fmt<W: fmt::Write>(&self, f: &mut fmt::Formatter<W>) -> fmt::Result {
+        let Tally {
+            replies,
+            expected,
+            otherwise,
+            unreadable: _,
+        } = self;
+        write!(
+            f,
+            "{replies} replies, {expected} as expected, {otherwise} otherwise"
+        )
+    }
+}
+
+// What a line was answered.
+#[derive(Drop)]
+enum Said {
+    Answer(Answer<TestKey>),
+    // The line of this number could not be read.
+    Fault(u64, Fault),
+}
+
+impl Display for Said {
+    fn fmt<W: fmt::Write>(&self, f: &mut fmt::Formatter<W>) -> fmt::Result {
+        match self {
+            Said::Answer(answer) => write!(f, "{answer}"),
+            Said::Fault(_, Fault::Memory) => f.write_str("OutOfMemory"),
+            Said::Fault(line, fault) => write!(f, "error: line {line}: {fault}"),
+        }
+    }
+}
+
+// What is known of the lines so far.
+#[derive(Drop)]
+struct Record {
+    mode: Mode,
+    tally: Tally,
+    // The reply to the last line that has one.
+    last: Option<Said>,
+    // It is a fault that was not expected so far.
+    is_open: bool,
+}
+
+fn print<W: Write>(out: &mut W, line: &impl Display) -> Result<(), Stop> {
+    writeln!(out, "{line}").map_err(|_error: io::Error| Stop::Write)
+}
+
+/// Serves the lines of the input from a session with one node of no name and no settings, and
+/// writes the replies. A line is replied before the next is waited for. In the end all that is held
+/// is released.
+pub fn play<R: Read + Drop, W: Write>(
+    alloc: Global,
+    input: &mut BufReader<R>,
+    out: &mut W,
+    mode: Mode,
+) -> Result<Tally, Stop> {
+    let mut session = Session::new(alloc);
+    let ended = match begin(alloc, &mut session) {
+        Ok(()) => play_in(alloc, &mut session, input, out, mode),
+        Err(stop) => Err(stop),
+    };
+    session.finish();
+    ended
+}
+
+// Makes the first node.
+fn begin(alloc: Global, session: &mut Session<TestKey>) -> Result<(), Stop> {
+    let made = match parse::default_setup(alloc) {
+        Ok(setup) => session.put(alloc, "", setup),
+        Err(AllocError) => Err(AllocError),
+    };
+    made.map_err(|_error: AllocError| Stop::Memory)
+}
+
+fn play_in<R: Read + Drop, W: Write>(
+    alloc: Global,
+    session: &mut Session<TestKey>,
+    input: &mut BufReader<R>,
+    out: &mut W,
+    mode: Mode,
+) -> Result<Tally, Stop> {
+    let mut record = Record {
+        mode,
+        tally: Tally {
+            replies: 0,
+            expected: 0,
+            otherwise: 0,
+            unreadable: 0,
+        },
+        last: None,
+        is_open: false,
+    };
+    let mut bytes = Vec::new(alloc);
+    for number in 1..u64::MAX {
+        if !input.buffer().contains(&b'\n') {
+            flush(out)?;
+        }
+        match next_line(input, &mut bytes) {
+            Ok(true) => record.take_line(alloc, session, number, bytes.as_slice(), out)?,
+            Ok(false) => break,
+            Err(Unread::Fault(fault)) => record.reply(Said::Fault(number, fault), out)?,
+            Err(Unread::Stop) => return Err(Stop::Read),
+        }
+    }
+    record.settle(out)?;
+    flush(out)?;
+    Ok(record.tally)
+}
+
+fn flush<W: Write>(out: &mut W) -> Result<(), Stop> {
+    out.flush().map_err(|_error: io::Error| Stop::Write)
+}
+
+// Why there is no line.
+#[derive(Drop)]
+enum Unread {
+    // It is not held, and the next can be read.
+    Fault(Fault),
+    Stop,
+}
+
+// Reads the next line into the buffer, without its end; false at the end of the input. A line that
+// is too long is passed over, and so is one that memory is refused for.
+fn next_line<R: BufRead + Drop>(input: &mut R, bytes: &mut Vec<u8>) -> Result<bool, Unread> {
+    bytes.clear();
+    let read = input
+        .by_ref()
+        .take(LONGEST as u64 + 1)
+        .read_until(b'\n', bytes);
+    match read {
+        Ok(0) => Ok(false),
+        Ok(_) if bytes.last() == Some(&b'\n') => {
+            bytes.pop();
+            Ok(true)
+        }
+        Ok(_) if bytes.len() > LONGEST => pass_over(input, Fault::TooLong(LONGEST)),
+        Ok(_) => Ok(true),
+        Err(error) if error.kind() == ErrorKind::OutOfMemory => pass_over(input, Fault::Memory),
+        Err(_) => Err(Unread::Stop),
+    }
+}
+
+// Passes over the rest of a line.
+fn pass_over<R: BufRead + Drop>(input: &mut R, fault: Fault) -> Result<bool, Unread> {
+    match input.skip_until(b'\n') {
+        Ok(_) => Err(Unread::Fault(fault)),
+        Err(_) => Err(Unread::Stop),
+    }
+}
+
+impl Record {
+    // Serves one line, or compares the last reply with what is expected.
+    fn take_line<W: Write>(
+        &mut self,
+        alloc: Global,
+        session: &mut Session<TestKey>,
+        number: u64,
+        bytes: &[u8],
+        out: &mut W,
+    ) -> Result<(), Stop> {
+        let Ok(text) = std::str::from_utf8(bytes) else {
+            return self.reply(Said::Fault(number, Fault::NoText), out);
+        };
+        let text = match text.split_once('#') {
+            Some((before, _)) => before.trim(),
+            None => text.trim(),
+        };
+        if text.is_empty() {
+            return Ok(());
+        }
+        if let Some(expected) = text.strip_prefix('=') {
+            return self.compare(number, expected.trim(), out);
+        }
+        match answer(alloc, session, text) {
+            Ok(answer) => self.reply(Said::Answer(answer), out),
+            Err(fault) => self.reply(Said::Fault(number, fault), out),
+        }
+    }
+
+    // Counts and prints a reply, and keeps it for what is expected of it.
+    fn reply<W: Write>(&mut self, said: Said, out: &mut W) -> Result<(), Stop> {
+        self.settle(out)?;
+        if self.mode == Mode::Replies {
+            print(out, &said)?;
+        }
+        self.tally.replies = self.tally.replies.saturating_add(1);
+        self.is_open = matches!(said, Said::Fault(_, _));
+        self.last = Some(said);
+        Ok(())
+    }
+
+    // Counts the last reply where it is a fault that was not expected.
+    fn settle<W: Write>(&mut self, out: &mut W) -> Result<(), Stop> {
+        if !self.is_open {
+            return Ok(());
+        }
+        self.is_open = false;
+        self.tally.unreadable = self.tally.unreadable.saturating_add(1);
+        match (&self.last, self.mode) {
+            (Some(said), Mode::Checks) => print(out, said),
+            _ => Ok(()),
+        }
+    }
+
+    // Compares the last reply with what is expected of it.
+    fn compare<W: Write>(&mut self, number: u64, expected: &str, out: &mut W) -> Result<(), Stop> {
+        match &self.last {
+            Some(said) if is_printed_as(said, expected) => {
+                self.tally.expected = self.tally.expected.saturating_add(1);
+                self.is_open = false;
+                return Ok(());
+            }
+            Some(said) => { writeln!(out, "line {number}: expected {expected}, was {said}") }
+            None => writeln!(out, "line {number}: expected {expected}, was nothing"),
+        }
+        .map_err(|_error: io::Error| Stop::Write)?;
+        self.tally.otherwise = self.tally.otherwise.saturating_add(1);
+        Ok(())
+    }
+}
+
+// Answers a line. One that can't be read changes nothing.
+fn answer(
+    alloc: Global,
+    session: &mut Session<TestKey>,
+    line: &str,
+) -> Result<Answer<TestKey>, Fault>
+    ensures err { OnErr result (session.new ≡ session.old) }
+    ensures ok { IfOk result (λ answer. AnswersSome ⟦<TestKey as Ord>⟧.cmp
+        (wire_of ⟦<TestKey as FixedBytes>⟧.SIZE ⟦<TestKey as FixedBytes>⟧.spelled
+        ⟦<TestKey as FixedBytes>⟧.value ⟦<TestSignature as FixedBytes>⟧.SIZE
+        ⟦<TestSignature as FixedBytes>⟧.spelled ⟦<TestSignature as FixedBytes>⟧.value
+        ⟦<TestKey as PublicKey>⟧.verifies) answer session.old session.new) }
+{
+    let request = parse::request(alloc, line, session)?;
+    Ok(serve(alloc, session, request))
+}

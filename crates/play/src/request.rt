@@ -1,0 +1,104 @@
+//! What a line asks for, and what it is answered.
+
+ghost use Rattle.std.specs.Prelude.{◌≡◌};
+ghost use Rattle.p2p_directory.specs.Received.{wire_of};
+ghost use Rattle.play.specs.Requests.{CanServe, IsAnswered};
+
+use crate::session::Session;
+use crate::value::{Kind, Value};
+use bytes::Bytes;
+use lines::{Hex, Line};
+use p2p_directory::node::{NetworkCommand, NetworkReply, Setup};
+use p2p_discovery::codec::{CodecError, PublicKey, TestKey};
+use std::alloc::{AllocError, Global};
+use std::fmt;
+
+/// What a line asks for.
+#[derive(Drop)]
+pub enum Request<C: PublicKey> {
+    /// A new node of this name and setup.
+    Node(String, Setup<C>),
+    /// A command to one node or to two.
+    Command(NetworkCommand<C>),
+    /// The value of a kind that these bytes spell.
+    Decode(Kind, Bytes),
+    /// The bytes of that value.
+    Recode(Kind, Bytes),
+    /// The bytes of a value.
+    Encode(Value<C>),
+}
+
+/// What a line is answered.
+#[derive(Drop)]
+pub enum Answer<C: PublicKey> {
+    /// There is a new node.
+    Ready,
+    /// The reply to a command.
+    Reply(NetworkReply<C>),
+    /// A value that was read.
+    Value(Value<C>),
+    /// The bytes of a value.
+    Bytes(Bytes),
+    /// Why bytes are not read, or a value is not written.
+    Refused(CodecError),
+    /// Memory for a new node was refused.
+    OutOfMemory,
+}
+
+impl fmt::Display for Answer<TestKey> {
+    fn fmt<W: fmt::Write>(&self, f: &mut fmt::Formatter<W>) -> fmt::Result {
+        match self {
+            Answer::Ready => f.write_str("ready"),
+            Answer::Reply(reply) => write!(f, "{}", Line(reply)),
+            Answer::Value(value) => write!(f, "{value}"),
+            Answer::Bytes(bytes) => write!(f, "{}", Hex(bytes.as_slice())),
+            Answer::Refused(fault) => write!(f, "{fault:?}"),
+            Answer::OutOfMemory => f.write_str("OutOfMemory"),
+        }
+    }
+}
+
+/// Does what is asked for. A node is made, or a command is given to the nodes that it names; all
+/// else leaves the session as it was.
+///
+/// # Conditions
+///
+/// Those of [`Session::put`].
+pub fn serve<C: PublicKey>(
+    alloc: Global,
+    session: &mut Session<C>,
+    request: Request<C>,
+) -> Answer<C>
+    requires { CanServe request }
+    ensures { IsAnswered C.cmp (wire_of C.SIZE C.spelled C.value
+        C.Signature.SIZE C.Signature.spelled C.Signature.value C.verifies)
+        request result session.old session.new }
+{
+    match request {
+        Request::Node(name, setup) => match session.put(alloc, name.as_str(), setup) {
+            Ok(()) => Answer::Ready,
+            Err(AllocError) => Answer::OutOfMemory,
+        },
+        Request::Command(command) => Answer::Reply(session.serve(command)),
+        Request::Decode(kind, bytes) => value_or_fault(Value::decode(alloc, kind, bytes)),
+        Request::Recode(kind, bytes) => match Value::<C>::decode(alloc, kind, bytes) {
+            Ok(value) => bytes_or_fault(value.encode(alloc)),
+            Err(fault) => Answer::Refused(fault),
+        },
+        Request::Encode(value) => bytes_or_fault(value.encode(alloc)),
+    }
+}
+
+fn value_or_fault<C: PublicKey>(value: Result<Value<C>, CodecError>) -> Answer<C> {
+    match value {
+        Ok(value) => Answer::Value(value),
+        Err(fault) => Answer::Refused(fault),
+    }
+}
+
+fn bytes_or_fault<C: PublicKey>(bytes: Result<Bytes, CodecError>) -> Answer<C> {
+    match bytes {
+        Ok(bytes) => Answer::Bytes(bytes),
+        Err(fault) => Answer::Refused(fault),
+    }
+}

@@ -1,0 +1,184 @@
+//! Nodes that are called by names.
+
+ghost use Rattle.std.specs.Prelude.{◌≡◌, ◌<◌, ◌-◌, ◌^◌, [], ◌++◌, ◌∷◌, IfSome, IfNone, OnOk, OnErr};
+ghost use Rattle.std.specs.Prelude.{IfOk, length, slice_index_or, slice_set, string_bytes};
+ghost use Rattle.std.specs.List.{All};
+ghost use Rattle.std.specs.Int.NonZero.{non_zero_usize_get};
+ghost use Rattle.p2p_directory.specs.Nodes.{NodeStandsAt, made_of};
+ghost use Rattle.p2p_directory.specs.Received.{wire_of};
+ghost use Rattle.play.specs.Session.{IsServed, IsPut, IsCalled};
+
+use crate::session::serving::{ask, exchange_between, receive, replace_node, step};
+pub use label::Label;
+use p2p_directory::node::{NetworkCommand, NetworkReply, Node, Setup};
+use p2p_discovery::codec::PublicKey;
+use std::alloc::{AllocError, Global};
+use std::marker::Model;
+
+mod label;
+mod serving;
+
+/// Nodes that are called by names, which are all different. A contract sees the names and the
+/// nodes. It must be spent, by [`Session::finish`].
+pub struct Session<C: PublicKey> {
+    labels: Vec<Label>,
+    nodes: Vec<Node<C>>,
+    // The node that was made or named last.
+    latest: usize,
+}
+
+impl<C: PublicKey> Model for Session<C> {
+    ghost use Rattle.std.specs.Prelude.{◌≡◌, length};
+    ghost use Rattle.play.specs.Session.{SessionView};
+
+    ghost Value = { SessionView C C.Signature };
+
+    ghost view = { λ s. record { labels = s.labels.items; nodes = s.nodes.items } };
+
+    ghost invariant = { λ s. length s.labels.items ≡ length s.nodes.items };
+}
+
+impl<C: PublicKey> Session<C> {
+    /// A session of no node.
+    pub fn new(alloc: Global) -> Session<C>
+        ensures { result ≡ record { labels = []; nodes = [] } }
+    {
+        Session {
+            labels: Vec::new(alloc),
+            nodes: Vec::new(alloc),
+            latest: 0,
+        }
+    }
+
+    /// The number of the node of this name, or `None` where no node has it.
+    pub fn place_of(&self, name: &str) -> Option<usize>
+        ensures found { IfSome result (λ i. i < length self.now.labels) }
+        ensures called { IfSome result (λ i. (l : Label) →
+            string_bytes (slice_index_or self.now.labels i l).name ≡ name.now) }
+        ensures none { IfNone result
+            (All (λ l. ¬ (string_bytes l.name ≡ name.now)) self.now.labels) }
+    {
+        place_in(&self.labels, name)
+    }
+
+    /// The number of the node that was made or named last; 0 where there is none.
+    pub fn latest(&self) -> usize {
+        self.latest
+    }
+
+    /// What a node is called, or `None` where there is no such node.
+    pub fn label(&self, node: usize) -> Option<&Label> {
+        self.labels.get(node)
+    }
+
+    /// A new node of this name and setup, in place of the one of that name, of which all that was
+    /// held is released.
+    ///
+    /// # Conditions
+    ///
+    /// Those of [`Node::new`].
+    ///
+    /// # Errors
+    ///
+    /// `AllocError` where memory is refused. Nothing has changed.
+    pub fn put(&mut self, alloc: Global, name: &str, setup: Setup<C>) -> Result<(), AllocError>
+        requires sets { non_zero_usize_get setup.cfg.max_sets < 2 ^ 64 - 1 }
+        requires bits { setup.payload.max_bit_vec < 2 ^ 32 }
+        ensures ok { OnOk result (IsPut C.cmp name.now setup self.old self.new) }
+        ensures err { OnErr result (self.new ≡ self.old) }
+    {
+        let label = label_of(alloc, name, &setup)?;
+        match self.place_of(name) {
+            Some(place) => {
+                let node = Node::new(alloc, setup)?;
+                self.labels[place] = label;
+                self.latest = place;
+                replace_node(&mut self.nodes, place, node).finish();
+                Ok(())
+            }
+            None => {
+                self.labels.reserve(1)?;
+                self.nodes.reserve(1)?;
+                let node = Node::new(alloc, setup)?;
+                self.latest = self.nodes.len();
+                self.labels.push_reserved(label);
+                self.nodes.push_reserved(node);
+                Ok(())
+            }
+        }
+    }
+
+    /// Gives the command to the node or the nodes that it names by their numbers. A command to a
+    /// node that there isn't, and an exchange of a node with itself, is replied `NoNode`.
+    pub fn serve(&mut self, command: NetworkCommand<C>) -> NetworkReply<C>
+        ensures labels { self.new.labels ≡ self.old.labels }
+        ensures served { IsServed C.cmp (wire_of C.SIZE C.spelled C.value
+            C.Signature.SIZE C.Signature.spelled C.Signature.value C.verifies)
+            command result self.old.nodes self.new.nodes }
+    {
+        self.latest = named_by(&command);
+        match command {
+            NetworkCommand::Call(node, command) => step(&mut self.nodes, node, command),
+            NetworkCommand::Ask(node, place) => ask(&self.nodes, node, place),
+            NetworkCommand::Frame(node, frame, now) => receive(&mut self.nodes, node, frame, now),
+            NetworkCommand::Exchange {
+                asker,
+                replier,
+                place,
+                asker_now,
+                replier_now,
+            } => exchange_between(
+                &mut self.nodes,
+                asker,
+                replier,
+                place,
+                asker_now,
+                replier_now,
+            ),
+        }
+    }
+
+    /// Releases all that is held.
+    pub fn finish(self) {
+        let Session {
+            labels: _,
+            nodes,
+            latest: _,
+        } = self;
+        let mut left = nodes.into_iter();
+        while let Some(node) = left.next() {
+            node.finish();
+        }
+        left.destroy_empty();
+    }
+}
+
+// The node that the command names first.
+fn named_by<C: PublicKey>(command: &NetworkCommand<C>) -> usize {
+    match command {
+        NetworkCommand::Call(node, _)
+        | NetworkCommand::Ask(node, _)
+        | NetworkCommand::Frame(node, _, _)
+        | NetworkCommand::Exchange { asker: node, .. } => *node,
+    }
+}
+
+// The place of the label with this name.
+fn place_in(labels: &[Label], name: &str) -> Option<usize>
+    ensures found { IfSome result (λ i. i < length labels.now) }
+    ensures called { IfSome result (λ i. (l : Label) →
+        string_bytes (slice_index_or labels.now i l).name ≡ name.now) }
+    ensures none { IfNone result (All (λ l. ¬ (string_bytes l.name ≡ name.now)) labels.now) }
+{
+    labels.iter().position(|label| label.name.as_str() == name)
+}
+
+// The label of this name and of the namespace of the setup.
+fn label_of<C: PublicKey>(alloc: Global, name: &str, setup: &Setup<C>) -> Result<Label, AllocError>
+    ensures { IfOk result (IsCalled name.now setup.now) }
+{
+    Ok(Label {
+        name: String::from_str(alloc, name)?,
+        namespace: setup.namespace.clone()?,
+    })
+}
