@@ -1,6 +1,9 @@
 //! The printed forms of values, and commands as one types them.
 #![tactic(auto)]
 
+ghost use Rattle.std.specs.Prelude.{Some};
+ghost use Rattle.lines.specs.Printed.{hex_text, ip_text, socket_text, ingress_text};
+
 use p2p_directory::directory::{PeerSetUpdate, TrackedPeers};
 use p2p_directory::node::{Exchanged, NetworkReply, PairReply, Received};
 use p2p_directory::record::Dialable;
@@ -11,7 +14,7 @@ use p2p_discovery::discovery::{BitVec, Info, Infos, Payload};
 use p2p_discovery::sets::{BitMap, OrderedSet};
 use p2p_discovery::types::{Address, Ingress, IpAddr, SocketAddr};
 use std::fmt;
-use std::net::Ipv6Addr;
+use std::net::{Ipv4Addr, Ipv6Addr};
 use std::time::Duration;
 pub use typed::Typed;
 
@@ -26,12 +29,14 @@ pub struct Line<'a, T>(pub &'a T);
 pub struct Hex<'a>(pub &'a [u8]);
 
 impl fmt::Display for Hex<'_> {
+    ghost output = { λ h. Some (hex_text h.0.now) };
+
     fn fmt<W: fmt::Write>(&self, f: &mut fmt::Formatter<W>) -> fmt::Result {
         if self.0.is_empty() {
             return f.write_str("-");
         }
         for byte in self.0 {
-            write!(f, "{byte:02x}")?;
+            write!(f, "{:x}{:x}", *byte / 16, *byte % 16)?;
         }
         Ok(())
     }
@@ -66,21 +71,27 @@ impl fmt::Display for Line<'_, BitVec> {
 }
 
 impl fmt::Display for Line<'_, IpAddr> {
+    ghost output = { λ l. Some (ip_text l.0.now) };
+
     fn fmt<W: fmt::Write>(&self, f: &mut fmt::Formatter<W>) -> fmt::Result {
         match self.0 {
-            IpAddr::V4([a, b, c, d]) => write!(f, "{a}.{b}.{c}.{d}"),
+            IpAddr::V4(octets) => write!(f, "{}", Ipv4Addr::from_octets(*octets)),
             IpAddr::V6(octets) => write!(f, "[{}]", Ipv6Addr::from_octets(*octets)),
         }
     }
 }
 
 impl fmt::Display for Line<'_, SocketAddr> {
+    ghost output = { λ l. Some (socket_text l.0.now) };
+
     fn fmt<W: fmt::Write>(&self, f: &mut fmt::Formatter<W>) -> fmt::Result {
         write!(f, "{}:{}", Line(&self.0.ip()), self.0.port())
     }
 }
 
 impl fmt::Display for Line<'_, Ingress> {
+    ghost output = { λ l. Some (ingress_text l.0.now) };
+
     fn fmt<W: fmt::Write>(&self, f: &mut fmt::Formatter<W>) -> fmt::Result {
         match self.0 {
             Ingress::Socket(socket) => write!(f, "{}", Line(socket)),

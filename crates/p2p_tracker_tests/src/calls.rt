@@ -1,14 +1,12 @@
 //! Each public call of directories once, by its answers.
 
-ghost use Rattle.std.specs.Prelude.{◌≡◌, ◌<◌};
+ghost use Rattle.std.specs.Prelude.{◌<◌};
 ghost use Rattle.std.specs.Int.NonZero.{non_zero_usize_get};
 
-use crate::fixtures::{config, directory_from, info, ingress, peers, tracked};
-use p2p_discovery::codec::{TestKey, TestSignature};
-use p2p_discovery::discovery::Info;
+use crate::fixtures::{config, directory_from, info, tracked};
+use p2p_discovery::codec::TestKey;
 use p2p_discovery::sets::OrderedSet;
-use p2p_discovery::types::{Ingress, IpAddr, SocketAddr};
-use p2p_tracker::directory::{Config, Directory, Metadata, TrackedPeers};
+use p2p_tracker::directory::{Directory, Metadata, TrackedPeers};
 use p2p_tracker::record::Status;
 use std::alloc::{AllocError, Global};
 use std::num::NonZeroUsize;
@@ -153,76 +151,6 @@ fn test_track_kills_connected_peer_removed_from_sets(rt: HostRuntime) -> Result<
     Ok(())
 }
 
-// Whether the peer may be connected with at 100 s.
-fn assert_eligible(rt: &impl Abort, directory: &Directory<TestKey>, key: u64, wanted: bool) {
-    let eligible = directory.eligible(&TestKey(key), seconds(100));
-    assert_eq!(rt; eligible, wanted, "peer {key}");
-}
-
-fn keeps_secondary_sets(
-    rt: &impl Abort,
-    alloc: Global,
-    directory: &mut Directory<TestKey>,
-) -> Result<(), AllocError> {
-    assert_torn(rt, alloc, directory, 0, (&[1], &[4]), &[])?;
-    assert_eligible(rt, directory, 4, true);
-    assert_torn(rt, alloc, directory, 1, (&[2], &[5]), &[])?;
-    assert_eligible(rt, directory, 4, true);
-    assert_eligible(rt, directory, 5, true);
-    assert_status(rt, directory, 4, Some(Status::Inert));
-    assert_status(rt, directory, 5, Some(Status::Inert));
-    assert_torn(rt, alloc, directory, 2, (&[3], &[]), &[])?;
-    assert_eligible(rt, directory, 4, false);
-    assert_eligible(rt, directory, 5, true);
-    assert_status(rt, directory, 1, None);
-    assert_status(rt, directory, 4, None);
-    assert_status(rt, directory, 5, Some(Status::Inert));
-    assert_eq!(rt; directory.latest_set_index(), Some(2));
-    Ok(())
-}
-
-#[test]
-fn test_secondary_sets_remain_until_eviction(rt: HostRuntime) -> Result<(), Fail> {
-    let alloc = rt.alloc();
-    let mut directory = directory_of(alloc, NonZeroUsize::MIN.saturating_add(1))?;
-    keeps_secondary_sets(&rt, alloc, &mut directory)?;
-    Ok(())
-}
-
-fn demotes_who_is_reserved(
-    rt: &impl Abort,
-    alloc: Global,
-    directory: &mut Directory<TestKey>,
-) -> Result<(), AllocError> {
-    assert_torn(rt, alloc, directory, 0, (&[1, 2], &[2]), &[])?;
-    let demotes = tracked(alloc, &[2], &[1])?;
-    let keeps = tracked(alloc, &[2], &[])?;
-    let drops = tracked(alloc, &[], &[])?;
-    match directory.listen(&TestKey(1), seconds(100), Duration::ZERO)? {
-        Some(reservation) => {
-            let first = directory.track(1, demotes);
-            let second = directory.track(2, keeps);
-            let third = directory.track(3, drops);
-            directory.release(reservation);
-            assert!(rt; are_peers(first?, &[]));
-            assert!(rt; are_peers(second?, &[]));
-            assert!(rt; are_peers(third?, &[1]));
-            Ok(())
-        }
-        None => panic!(rt; "a tracked peer is granted a reservation"),
-    }
-}
-
-#[test]
-fn a_demoted_peer_stays_until_its_last_set_goes(rt: HostRuntime) -> Result<(), Fail> {
-    let alloc = rt.alloc();
-    let mut directory = directory_of(alloc, NonZeroUsize::MIN.saturating_add(1))?;
-    demotes_who_is_reserved(&rt, alloc, &mut directory)?;
-    assert_status(&rt, &directory, 1, None);
-    assert_status(&rt, &directory, 2, Some(Status::Inert));
-    Ok(())
-}
-
 // What a caller writes first: it needs no proof of its own.
 #[test]
 fn a_reservation_is_kept(rt: HostRuntime) -> Result<(), Fail> {
@@ -281,31 +209,5 @@ fn tracks_sets_of_thousands_of_peers(rt: HostRuntime) -> Result<(), Fail> {
     assert_status(&rt, &directory, 3_000, Some(Status::Inert));
     assert_status(&rt, &directory, 8_999, Some(Status::Inert));
     assert_status(&rt, &directory, 9_000, None);
-    Ok(())
-}
-
-fn keeps_each_bootstrapper(
-    rt: &impl Abort,
-    alloc: Global,
-    directory: &mut Directory<TestKey>,
-) -> Result<(), AllocError> {
-    assert_torn(rt, alloc, directory, 0, (&[1], &[]), &[])?;
-    assert_torn(rt, alloc, directory, 1, (&[], &[]), &[])?;
-    assert_status(rt, directory, 1, Some(Status::Inert));
-    assert_status(rt, directory, 2, Some(Status::Inert));
-    match directory.listen(&TestKey(1), seconds(100), Duration::ZERO)? {
-        Some(reservation) => {
-            directory.release(reservation);
-            Ok(())
-        }
-        None => panic!(rt; "a bootstrapper is granted a reservation"),
-    }
-}
-
-#[test]
-fn the_last_bootstrapper_of_a_key_stays(rt: HostRuntime) -> Result<(), Fail> {
-    let alloc = rt.alloc();
-    let mut directory = directory_from(alloc, &[(1, 8001), (2, 8002), (1, 8003)])?;
-    keeps_each_bootstrapper(&rt, alloc, &mut directory)?;
     Ok(())
 }

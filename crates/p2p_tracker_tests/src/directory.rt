@@ -3,7 +3,7 @@
 ghost use Rattle.std.specs.Prelude.{◌<◌};
 ghost use Rattle.std.specs.Int.NonZero.{non_zero_usize_get};
 
-use crate::fixtures::{config, directory_from, info, infos_of, tracked};
+use crate::fixtures::{config, info, tracked};
 use p2p_discovery::codec::{TestKey, TestSignature};
 use p2p_discovery::discovery::Info;
 use p2p_discovery::sets::BitMap;
@@ -118,46 +118,6 @@ fn assert_bits(
     Ok(())
 }
 
-fn sets_bits_in_every_set(
-    rt: &impl Abort,
-    alloc: Global,
-    directory: &mut Directory<TestKey>,
-) -> Result<(), AllocError> {
-    track(alloc, directory, 0, &[1, 2], &[])?;
-    track(alloc, directory, 1, &[1, 3], &[2])?;
-    assert_bits(rt, alloc, directory, &[(0, 0, &[false, false])])?;
-    learn(alloc, directory, 1, 1000, 8001)?;
-    assert_bits(
-        rt,
-        alloc,
-        directory,
-        &[(0, 0, &[true, false]), (1, 1, &[true, false])],
-    )?;
-    assert!(rt; directory.get_random_bit_vec(2)?.is_none());
-    learn(alloc, directory, 2, 1000, 8002)?;
-    assert_bits(
-        rt,
-        alloc,
-        directory,
-        &[(0, 0, &[true, true]), (1, 1, &[true, false])],
-    )?;
-    track(alloc, directory, 2, &[2, 3, 4], &[1])?;
-    assert_bits(
-        rt,
-        alloc,
-        directory,
-        &[(0, 1, &[true, false]), (1, 2, &[true, false, false])],
-    )
-}
-
-#[test]
-fn a_bit_is_set_in_every_set(rt: HostRuntime) -> Result<(), Fail> {
-    let alloc = rt.alloc();
-    let mut directory = directory_with(alloc, NonZeroUsize::MIN.saturating_add(1), 1)?;
-    sets_bits_in_every_set(&rt, alloc, &mut directory)?;
-    Ok(())
-}
-
 // What is told of peer 1 where both sets have it, and it is connected.
 fn asks_not_for_the_connected(
     rt: &impl Abort,
@@ -226,143 +186,6 @@ fn a_connected_peer_is_not_asked_for(rt: HostRuntime) -> Result<(), Fail> {
     let alloc = rt.alloc();
     let mut directory = directory_with(alloc, NonZeroUsize::MIN.saturating_add(1), 0)?;
     connects_and_releases(&rt, alloc, &mut directory)?;
-    Ok(())
-}
-
-// Tracks the next set while peer 1 is reserved, and tells of it.
-fn tracks_meanwhile(
-    rt: &impl Abort,
-    alloc: Global,
-    directory: &mut Directory<TestKey>,
-) -> Result<(), AllocError> {
-    track(alloc, directory, 0, &[1], &[])?;
-    let next = tracked(alloc, &[1, 2], &[])?;
-    let infos = infos_of(alloc, &[(1, 1000, 8001)])?;
-    if let Some(reservation) = directory.listen(&TestKey(1), now(), Duration::ZERO)? {
-        let torn = directory.track(1, next);
-        directory.update_peers(infos);
-        directory.connect(&TestKey(1), true);
-        let told = told_of(directory, 1);
-        directory.release(reservation);
-        assert_eq!(rt; torn?.map(|torn| torn.len()), Some(0));
-        assert_eq!(rt; told?, Some((1000, 8001)));
-    } else {
-        panic!(rt; "a tracked peer is granted a reservation");
-    }
-    assert_bits(rt, alloc, directory, &[(0, 1, &[true, false])])
-}
-
-#[test]
-fn a_set_changes_nothing_of_who_is_reserved(rt: HostRuntime) -> Result<(), Fail> {
-    let alloc = rt.alloc();
-    let mut directory = directory_with(alloc, NonZeroUsize::MIN, 1)?;
-    tracks_meanwhile(&rt, alloc, &mut directory)?;
-    Ok(())
-}
-
-// What is told of peer 1 while it is connected, after each of three lists of infos.
-fn told_after_each(
-    rt: &impl Abort,
-    alloc: Global,
-    directory: &mut Directory<TestKey>,
-) -> Result<(), AllocError> {
-    track(alloc, directory, 0, &[1], &[])?;
-    let both = infos_of(alloc, &[(1, 1000, 8001), (1, 1000, 8002)])?;
-    let older = infos_of(alloc, &[(1, 999, 8003)])?;
-    let newer = infos_of(alloc, &[(1, 1002, 8005), (1, 1001, 8004)])?;
-    if let Some(reservation) = directory.listen(&TestKey(1), now(), Duration::ZERO)? {
-        directory.connect(&TestKey(1), false);
-        directory.update_peers(both);
-        let first = told_of(directory, 1);
-        directory.update_peers(older);
-        let second = told_of(directory, 1);
-        directory.update_peers(newer);
-        let third = told_of(directory, 1);
-        directory.release(reservation);
-        assert_eq!(rt; first?, Some((1000, 8001)));
-        assert_eq!(rt; second?, Some((1000, 8001)));
-        assert_eq!(rt; third?, Some((1002, 8005)));
-        Ok(())
-    } else {
-        panic!(rt; "a tracked peer is granted a reservation");
-    }
-}
-
-#[test]
-fn the_first_info_of_greatest_timestamp_is_kept(rt: HostRuntime) -> Result<(), Fail> {
-    let alloc = rt.alloc();
-    let mut directory = directory_with(alloc, NonZeroUsize::MIN, 1)?;
-    told_after_each(&rt, alloc, &mut directory)?;
-    Ok(())
-}
-
-fn drops_infos_of_others(
-    rt: &impl Abort,
-    alloc: Global,
-    directory: &mut Directory<TestKey>,
-) -> Result<(), AllocError> {
-    track(alloc, directory, 0, &[1, 9], &[])?;
-    assert_eq!(rt; told_of(directory, 9)?, Some((0, 8000)));
-    assert_bits(rt, alloc, directory, &[(0, 0, &[false, true])])?;
-    directory.update_peers(infos_of(alloc, &[(9, 5000, 8009), (7, 1000, 8007)])?);
-    assert_eq!(rt; told_of(directory, 9)?, Some((0, 8000)));
-    assert_eq!(rt; directory.status(&TestKey(7)), None);
-    assert!(rt; directory.info(&TestKey(7))?.is_none());
-    track(alloc, directory, 1, &[7], &[])?;
-    assert_bits(rt, alloc, directory, &[(0, 1, &[false])])
-}
-
-#[test]
-fn infos_of_others_are_dropped(rt: HostRuntime) -> Result<(), Fail> {
-    let alloc = rt.alloc();
-    let mut directory = directory_with(alloc, NonZeroUsize::MIN, 1)?;
-    drops_infos_of_others(&rt, alloc, &mut directory)?;
-    Ok(())
-}
-
-fn forgets_an_info_with_its_record(
-    rt: &impl Abort,
-    alloc: Global,
-    directory: &mut Directory<TestKey>,
-) -> Result<(), AllocError> {
-    track(alloc, directory, 0, &[1], &[])?;
-    learn(alloc, directory, 1, 1000, 8001)?;
-    track(alloc, directory, 1, &[1, 2], &[])?;
-    assert_bits(rt, alloc, directory, &[(0, 1, &[true, false])])?;
-    assert_eq!(rt; directory.tracked(), 2);
-    track(alloc, directory, 2, &[2], &[])?;
-    track(alloc, directory, 3, &[1], &[])?;
-    assert_bits(rt, alloc, directory, &[(0, 3, &[false])])?;
-    assert_eq!(rt; directory.tracked(), 1);
-    Ok(())
-}
-
-#[test]
-fn an_info_goes_with_its_record(rt: HostRuntime) -> Result<(), Fail> {
-    let alloc = rt.alloc();
-    let mut directory = directory_with(alloc, NonZeroUsize::MIN, 1)?;
-    forgets_an_info_with_its_record(&rt, alloc, &mut directory)?;
-    Ok(())
-}
-
-fn counts_all_but_the_local_node(
-    rt: &impl Abort,
-    alloc: Global,
-    directory: &mut Directory<TestKey>,
-) -> Result<(), AllocError> {
-    assert_eq!(rt; directory.tracked(), 1);
-    track(alloc, directory, 0, &[2, 9], &[3])?;
-    assert_eq!(rt; directory.tracked(), 3);
-    track(alloc, directory, 1, &[], &[])?;
-    assert_eq!(rt; directory.tracked(), 1);
-    Ok(())
-}
-
-#[test]
-fn all_but_the_local_node_are_counted(rt: HostRuntime) -> Result<(), Fail> {
-    let alloc = rt.alloc();
-    let mut directory = directory_from(alloc, &[(1, 8001), (9, 8009)])?;
-    counts_all_but_the_local_node(&rt, alloc, &mut directory)?;
     Ok(())
 }
 

@@ -1,8 +1,7 @@
-//! Runs of which the laws of whole runs speak: bounds, orders of infos, and peers left alone.
+//! Ten thousand blocks and infos of nobody, which make no record.
 
-use crate::run::given::{Given, served};
+use crate::run::given::Given;
 use crate::run::told::Told;
-use crate::run::window;
 use p2p_directory::record::Status;
 use p2p_directory::run::{Command, Reply, run};
 use p2p_discovery::codec::{TestKey, TestSignature};
@@ -12,135 +11,6 @@ use std::alloc::{AllocError, Global};
 use std::test::Fail;
 
 const MANY: u64 = 10_000;
-
-static PRESENCE: [(Given, Told); 9] = [
-    (Given::Track(0, &[1, 2], &[]), Told::Track(Some(&[]))),
-    (Given::Track(1, &[3, 4], &[]), Told::Track(Some(&[]))),
-    (Given::Track(2, &[5, 6], &[]), Told::Track(Some(&[]))),
-    (Given::Tracked, Told::Tracked(7)),
-    (Given::Listen(1, 100), Told::Listen(true)),
-    (Given::Track(3, &[8, 10], &[]), Told::Track(Some(&[1]))),
-    (Given::Tracked, Told::Tracked(8)),
-    (Given::Release(1), Told::Release),
-    (Given::Tracked, Told::Tracked(7)),
-];
-
-#[test]
-fn as_many_are_present_as_are_named_persistent_or_busy(rt: HostRuntime) -> Result<(), Fail> {
-    let left = served(&rt, rt.alloc(), &[(7, 8007)], window(2), &PRESENCE)?;
-    left.finish();
-    Ok(())
-}
-
-// The six orders of three infos, two of them of one peer.
-static ORDERS: [[(u64, u64, u16); 3]; 6] = [
-    [(1, 1_000, 8001), (1, 1_001, 8002), (2, 500, 8002)],
-    [(1, 1_000, 8001), (2, 500, 8002), (1, 1_001, 8002)],
-    [(1, 1_001, 8002), (1, 1_000, 8001), (2, 500, 8002)],
-    [(1, 1_001, 8002), (2, 500, 8002), (1, 1_000, 8001)],
-    [(2, 500, 8002), (1, 1_000, 8001), (1, 1_001, 8002)],
-    [(2, 500, 8002), (1, 1_001, 8002), (1, 1_000, 8001)],
-];
-
-// Both peers are connected, and then told of in this order.
-fn script_of(infos: &'static [(u64, u64, u16); 3]) -> [(Given, Told); 9] {
-    [
-        (Given::Track(0, &[1, 2], &[]), Told::Track(Some(&[]))),
-        (Given::Listen(1, 100), Told::Listen(true)),
-        (Given::Listen(2, 100), Told::Listen(true)),
-        (Given::Connect(1, false), Told::Connect),
-        (Given::Connect(2, false), Told::Connect),
-        (Given::Update(infos), Told::UpdatePeers),
-        (Given::Info(1), Told::Info(Some((1, 1_001, 8002)))),
-        (Given::Info(2), Told::Info(Some((2, 500, 8002)))),
-        (Given::Bits(0), Told::Bits(Some((0, &[true, true])))),
-    ]
-}
-
-#[test]
-fn the_order_of_infos_is_free(rt: HostRuntime) -> Result<(), Fail> {
-    let alloc = rt.alloc();
-    for infos in &ORDERS {
-        let left = served(&rt, alloc, &[], config(), &script_of(infos))?;
-        left.finish();
-    }
-    Ok(())
-}
-
-static PEERS: [(u64, u16); 2] = [(3, 8003), (4, 8004)];
-
-static COOLDOWN_BESIDE_OTHERS: [(Given, Told); 20] = [
-    (Given::Track(0, &[1], &[]), Told::Track(Some(&[]))),
-    (Given::Listen(3, 100), Told::Listen(true)),
-    (Given::Listen(1, 100), Told::Listen(true)),
-    (Given::Block(4, 100), Told::Block(true)),
-    (Given::Release(1), Told::Release),
-    (Given::Release(3), Told::Release),
-    (Given::Listen(1, 109), Told::Listen(false)),
-    (
-        Given::Update(&[(3, 1_000, 8103), (4, 1_000, 8104)]),
-        Told::UpdatePeers,
-    ),
-    (Given::Listen(1, 110), Told::Listen(true)),
-    (Given::Dial(3, 110), Told::Dial(true)),
-    (Given::Release(1), Told::Release),
-    (Given::Track(1, &[2], &[]), Told::Track(Some(&[]))),
-    (Given::Block(3, 111), Told::Block(true)),
-    (Given::Release(3), Told::Release),
-    (Given::Track(2, &[1], &[]), Told::Track(Some(&[]))),
-    (Given::UnblockExpired(160), Told::UnblockExpired(true)),
-    (Given::ForgetCooled(119), Told::ForgetCooled(0)),
-    (Given::Listen(1, 120), Told::Listen(true)),
-    (Given::Listen(4, 160), Told::Listen(true)),
-    (Given::Status(1), Told::Status(Some(Status::Reserved))),
-];
-
-static KNOWLEDGE_BESIDE_OTHERS: [(Given, Told); 22] = [
-    (Given::Track(0, &[1], &[]), Told::Track(Some(&[]))),
-    (Given::Listen(1, 100), Told::Listen(true)),
-    (Given::Listen(3, 100), Told::Listen(true)),
-    (Given::Connect(1, false), Told::Connect),
-    (
-        Given::Update(&[
-            (3, 9_000, 8103),
-            (1, 1_000, 8001),
-            (4, 1, 8104),
-            (1, 1_000, 8002),
-        ]),
-        Told::UpdatePeers,
-    ),
-    (Given::Info(1), Told::Info(Some((1, 1_000, 8001)))),
-    (
-        Given::Update(&[(1, 999, 8003), (4, 2, 8104)]),
-        Told::UpdatePeers,
-    ),
-    (Given::Info(1), Told::Info(Some((1, 1_000, 8001)))),
-    (Given::Block(4, 100), Told::Block(true)),
-    (
-        Given::Update(&[(4, 3, 8104), (1, 1_001, 8004)]),
-        Told::UpdatePeers,
-    ),
-    (Given::Info(1), Told::Info(Some((1, 1_001, 8004)))),
-    (Given::Release(3), Told::Release),
-    (Given::Release(1), Told::Release),
-    (Given::Dial(1, 110), Told::Dial(true)),
-    (Given::Dial(3, 110), Told::Dial(true)),
-    (Given::Release(1), Told::Release),
-    (Given::Bits(0), Told::Bits(Some((0, &[false])))),
-    (Given::Block(3, 110), Told::Block(true)),
-    (Given::Update(&[(1, 1_002, 8004)]), Told::UpdatePeers),
-    (Given::Bits(0), Told::Bits(Some((0, &[true])))),
-    (Given::Connect(3, true), Told::Connect),
-    (Given::Info(3), Told::Info(Some((3, 9_000, 8103)))),
-];
-
-#[test]
-fn others_change_nothing_for_a_peer(rt: HostRuntime) -> Result<(), Fail> {
-    let alloc = rt.alloc();
-    served(&rt, alloc, &PEERS, config(), &COOLDOWN_BESIDE_OTHERS)?.finish();
-    served(&rt, alloc, &PEERS, config(), &KNOWLEDGE_BESIDE_OTHERS)?.finish();
-    Ok(())
-}
 
 // Blocks of so many keys that have no record, and then the questions.
 fn blocks(alloc: Global) -> Result<Vec<Command<TestKey>>, AllocError> {

@@ -38,16 +38,6 @@ fn assert_set(
     Ok(())
 }
 
-// The set at an index is not retained.
-fn assert_no_set(
-    rt: &impl Abort,
-    directory: &Directory<TestKey>,
-    index: u64,
-) -> Result<(), AllocError> {
-    assert!(rt; directory.get_peer_set(index)?.is_none(), "set {index}");
-    Ok(())
-}
-
 // The latest update is of this index, and its set and all peers have these roles.
 fn assert_latest(
     rt: &impl Abort,
@@ -86,90 +76,6 @@ fn test_track_primary_secondary_overlap_deduplicates(rt: HostRuntime) -> Result<
     let alloc = rt.alloc();
     let mut directory = directory_with(alloc, NonZeroUsize::MIN.saturating_add(2), 1)?;
     deduplicates(&rt, alloc, &mut directory)?;
-    Ok(())
-}
-
-fn demotes(
-    rt: &impl Abort,
-    alloc: Global,
-    directory: &mut Directory<TestKey>,
-) -> Result<(), AllocError> {
-    track(alloc, directory, 0, &[1], &[2])?;
-    assert_all(rt, directory, &[1], &[2])?;
-    track(alloc, directory, 1, &[2], &[1])?;
-    assert_all(rt, directory, &[1, 2], &[])?;
-    track(alloc, directory, 2, &[2], &[1])?;
-    assert_all(rt, directory, &[2], &[1])
-}
-
-#[test]
-fn test_demotion_from_primary_to_secondary(rt: HostRuntime) -> Result<(), Fail> {
-    let alloc = rt.alloc();
-    let mut directory = directory_with(alloc, NonZeroUsize::MIN.saturating_add(1), 1)?;
-    demotes(&rt, alloc, &mut directory)?;
-    Ok(())
-}
-
-fn is_primary_in_any(
-    rt: &impl Abort,
-    alloc: Global,
-    directory: &mut Directory<TestKey>,
-) -> Result<(), AllocError> {
-    track(alloc, directory, 0, &[31, 33], &[])?;
-    track(alloc, directory, 1, &[32], &[33, 34])?;
-    assert_all(rt, directory, &[31, 32, 33], &[34])?;
-    assert_latest(rt, directory, 1, (&[32], &[33, 34]), (&[31, 32, 33], &[34]))
-}
-
-#[test]
-fn test_all_cross_index_primary_wins_for_overlap_peer(rt: HostRuntime) -> Result<(), Fail> {
-    let alloc = rt.alloc();
-    let mut directory = directory_with(alloc, NonZeroUsize::MIN.saturating_add(2), 1)?;
-    is_primary_in_any(&rt, alloc, &mut directory)?;
-    Ok(())
-}
-
-fn tells_of_retained_sets(
-    rt: &impl Abort,
-    alloc: Global,
-    directory: &mut Directory<TestKey>,
-) -> Result<(), AllocError> {
-    assert_no_set(rt, directory, 0)?;
-    assert!(rt; directory.latest_update()?.is_none());
-    assert_all(rt, directory, &[], &[])?;
-    track(alloc, directory, 3, &[1], &[])?;
-    track(alloc, directory, 5, &[], &[])?;
-    assert_set(rt, directory, 3, &[1], &[])?;
-    assert_no_set(rt, directory, 4)?;
-    assert_set(rt, directory, 5, &[], &[])?;
-    track(alloc, directory, 8, &[9], &[2])?;
-    assert_no_set(rt, directory, 3)?;
-    assert_all(rt, directory, &[9], &[2])
-}
-
-#[test]
-fn a_set_is_told_of_while_it_is_retained(rt: HostRuntime) -> Result<(), Fail> {
-    let alloc = rt.alloc();
-    let mut directory = directory_with(alloc, NonZeroUsize::MIN.saturating_add(1), 1)?;
-    tells_of_retained_sets(&rt, alloc, &mut directory)?;
-    Ok(())
-}
-
-fn has_bootstrappers_in_no_set(
-    rt: &impl Abort,
-    alloc: Global,
-    directory: &mut Directory<TestKey>,
-) -> Result<(), AllocError> {
-    assert_all(rt, directory, &[], &[])?;
-    track(alloc, directory, 0, &[], &[1])?;
-    assert_all(rt, directory, &[], &[1])
-}
-
-#[test]
-fn bootstrappers_are_in_no_set(rt: HostRuntime) -> Result<(), Fail> {
-    let alloc = rt.alloc();
-    let mut directory = directory_from(alloc, &[(1, 8001)])?;
-    has_bootstrappers_in_no_set(&rt, alloc, &mut directory)?;
     Ok(())
 }
 
