@@ -4,6 +4,7 @@
 ghost use Rattle.std.specs.Prelude.{Some};
 ghost use Rattle.lines.specs.Printed.{hex_text, ip_text, socket_text, ingress_text};
 
+pub use expected::is_printed_as;
 use p2p_directory::directory::{PeerSetUpdate, TrackedPeers};
 use p2p_directory::node::{Exchanged, NetworkReply, PairReply, Received};
 use p2p_directory::record::Dialable;
@@ -18,6 +19,7 @@ use std::net::{Ipv4Addr, Ipv6Addr};
 use std::time::Duration;
 pub use typed::Typed;
 
+mod expected;
 mod typed;
 
 /// A value in its printed form.

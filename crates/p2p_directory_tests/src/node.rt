@@ -1,54 +1,25 @@
 //! Nodes, by their answers to commands and frames.
 
+use crate::pair::{ROWS, setup, signed};
 use bytes::Bytes;
-use p2p_directory::node::{Node, Received, Setup};
+use lines::{Line, is_printed_as};
+use p2p_directory::node::{Node, Received};
 use p2p_directory::record::Status;
 use p2p_directory::run::{Command, Reply};
-use p2p_discovery::codec::{CodecError, TestKey, Write};
-use p2p_discovery::data::Data;
-use p2p_discovery::discovery::{Error, Info, PayloadConfig};
-use p2p_discovery::types::{Ingress, IpAddr, SocketAddr};
-use p2p_tracker_tests::fixtures::{config, tracked};
+use p2p_discovery::codec::{TestKey, Write};
+use p2p_tracker_tests::fixtures::tracked;
 use std::alloc::{AllocError, Global};
 use std::process::Abort;
 use std::test::Fail;
 use std::time::Duration;
 
-const ROWS: &[u8] = b"rows";
-
 const MEBIBYTE: usize = 1 << 20;
-
-// The info of a key at 1.2.3.4, port 8000 and the key, signed by the key.
-fn info(key: u16, timestamp: u64) -> Info<TestKey> {
-    let public_key = TestKey(key as u64);
-    let address = SocketAddr::new(IpAddr::V4([1, 2, 3, 4]), key.saturating_add(8000));
-    Info::sign(
-        public_key,
-        ROWS,
-        Ingress::Socket(address),
-        timestamp,
-        |namespace, message| public_key.sign(namespace, message),
-    )
-}
 
 // A node with own key 9, which takes 8 bits, 8 infos and messages of so many bytes.
 pub(crate) fn node(alloc: Global, max_data_length: usize) -> Result<Node<TestKey>, AllocError> {
-    Node::new(
-        alloc,
-        Setup {
-            bootstrappers: Vec::new(alloc),
-            myself: info(9, 0),
-            cfg: config(),
-            payload: PayloadConfig {
-                max_bit_vec: 8,
-                max_peers: 8,
-                max_data_length,
-            },
-            peer_gossip_max_count: 8,
-            synchrony_bound: Duration::from_secs(30),
-            namespace: ROWS.to_vec(alloc)?,
-        },
-    )
+    let mut setup = setup(alloc, 9, ROWS, 8)?;
+    setup.payload.max_data_length = max_data_length;
+    Node::new(alloc, setup)
 }
 
 // The set of 1 and 2, at an index.
@@ -60,7 +31,7 @@ pub(crate) fn track(alloc: Global, index: u64) -> Result<Command<TestKey>, Alloc
 // The frame of a greeting.
 pub(crate) fn greeting(alloc: Global, key: u16, timestamp: u64) -> Result<Bytes, Fail> {
     let mut bytes = [1].as_slice().to_vec(alloc)?;
-    bytes.extend_from_slice(info(key, timestamp).encode(alloc)?.as_slice())?;
+    bytes.extend_from_slice(signed(ROWS, key, timestamp).encode(alloc)?.as_slice())?;
     Ok(Bytes::from_vec(bytes)?)
 }
 
@@ -68,42 +39,9 @@ pub(crate) fn greeting(alloc: Global, key: u16, timestamp: u64) -> Result<Bytes,
 pub(crate) fn infos(alloc: Global, count: u8, told: &[(u16, u64)]) -> Result<Bytes, Fail> {
     let mut bytes = [3, count].as_slice().to_vec(alloc)?;
     for (key, timestamp) in told {
-        bytes.extend_from_slice(info(*key, *timestamp).encode(alloc)?.as_slice())?;
+        bytes.extend_from_slice(signed(ROWS, *key, *timestamp).encode(alloc)?.as_slice())?;
     }
     Ok(Bytes::from_vec(bytes)?)
-}
-
-// What is answered to a frame, with bytes as slices.
-#[derive(Clone, Copy, Debug, PartialEq, Eq)]
-pub(crate) enum Told {
-    Data(u64, &'static [u8]),
-    Greeted,
-    Reply(&'static [u8]),
-    Applied(usize),
-    Codec(CodecError),
-    Malformed,
-    Invalid(Error),
-}
-
-impl Told {
-    pub(crate) fn is(self, received: &Received) -> bool {
-        match received {
-            Received::Data(Data { channel, message }) => match self {
-                Told::Data(told, bytes) => *channel == told && message.as_slice() == bytes,
-                _ => false,
-            },
-            Received::Greeted => self == Told::Greeted,
-            Received::Reply(frame) => match self {
-                Told::Reply(bytes) => frame.as_slice() == bytes,
-                _ => false,
-            },
-            Received::Applied(count) => self == Told::Applied(*count),
-            Received::Codec(fault) => self == Told::Codec(*fault),
-            Received::Malformed => self == Told::Malformed,
-            Received::Invalid(error) => self == Told::Invalid(*error),
-            Received::Memory => false,
-        }
-    }
 }
 
 // What the node asks for of the set at place 0.
@@ -124,11 +62,11 @@ fn assert_received(
     rt: &impl Abort,
     node: &mut Node<TestKey>,
     bytes: Bytes,
-    told: Told,
+    told: &str,
     asked: &[u8],
 ) -> Result<(), Fail> {
     let received = node.receive(bytes, Duration::from_secs(100));
-    assert!(rt; told.is(&received), "not {told:?}");
+    assert!(rt; is_printed_as(&Line(&received), told), "not {told}");
     assert_asked(rt, node, asked)
 }
 
@@ -138,7 +76,7 @@ fn assert_frame(
     alloc: Global,
     node: &mut Node<TestKey>,
     bytes: &[u8],
-    told: Told,
+    told: &str,
     asked: &[u8],
 ) -> Result<(), Fail> {
     assert_received(rt, node, Bytes::copy_from_slice(alloc, bytes)?, told, asked)
@@ -150,7 +88,7 @@ fn assert_greeting(
     alloc: Global,
     node: &mut Node<TestKey>,
     key: u16,
-    told: Told,
+    told: &str,
     asked: &[u8],
 ) -> Result<(), Fail> {
     assert_received(rt, node, greeting(alloc, key, 1000)?, told, asked)
@@ -162,7 +100,7 @@ fn assert_infos(
     alloc: Global,
     node: &mut Node<TestKey>,
     two: [(u16, u64); 2],
-    told: Told,
+    told: &str,
     asked: &[u8],
 ) -> Result<(), Fail> {
     assert_received(rt, node, infos(alloc, 2, &two)?, told, asked)
@@ -218,21 +156,14 @@ fn answers_before_it_knows(
     alloc: Global,
     node: &mut Node<TestKey>,
 ) -> Result<(), Fail> {
-    let told = Told::Invalid(Error::ReceivedSelf);
+    let told = "Invalid(ReceivedSelf)";
     assert_infos(rt, alloc, node, [(1, 1000), (9, 1000)], told, NOBODY)?;
-    assert_frame(rt, alloc, node, NOBODY, Told::Reply(b"\x03\0"), NOBODY)?;
-    assert_frame(
-        rt,
-        alloc,
-        node,
-        b"\x02\x07\0",
-        Told::Reply(b"\x03\0"),
-        NOBODY,
-    )?;
-    assert_frame(rt, alloc, node, b"\x02\0\x01\0", Told::Malformed, NOBODY)?;
-    let told = Told::Codec(CodecError::InvalidLength(9));
+    assert_frame(rt, alloc, node, NOBODY, "Reply(0300)", NOBODY)?;
+    assert_frame(rt, alloc, node, b"\x02\x07\0", "Reply(0300)", NOBODY)?;
+    assert_frame(rt, alloc, node, b"\x02\0\x01\0", "Malformed", NOBODY)?;
+    let told = "Codec(InvalidLength(9))";
     assert_frame(rt, alloc, node, b"\x02\0\x09\0\0", told, NOBODY)?;
-    let told = Told::Invalid(Error::ReceivedSelf);
+    let told = "Invalid(ReceivedSelf)";
     assert_greeting(rt, alloc, node, 9, told, NOBODY)
 }
 
@@ -240,23 +171,16 @@ fn answers_frames(rt: &impl Abort, alloc: Global, node: &mut Node<TestKey>) -> R
     tracks(rt, alloc, node)?;
     assert!(rt; node.ask(1)?.is_none());
     answers_before_it_knows(rt, alloc, node)?;
-    assert_greeting(rt, alloc, node, 1, Told::Greeted, ONE)?;
-    let told = Told::Invalid(Error::SynchronyBound);
+    assert_greeting(rt, alloc, node, 1, "Greeted", ONE)?;
+    let told = "Invalid(SynchronyBound)";
     assert_infos(rt, alloc, node, [(2, 1000), (3, 130_001)], told, ONE)?;
-    assert_infos(
-        rt,
-        alloc,
-        node,
-        [(2, 1000), (3, 1000)],
-        Told::Applied(2),
-        BOTH,
-    )?;
+    assert_infos(rt, alloc, node, [(2, 1000), (3, 1000)], "Applied(2)", BOTH)?;
     assert_frame(
         rt,
         alloc,
         node,
         b"\0\x01\x05hello",
-        Told::Data(1, b"hello"),
+        "Data(1, 68656c6c6f)",
         BOTH,
     )
 }
@@ -303,7 +227,7 @@ fn tells_of_the_connected(
     is_not_held(rt, node);
     listens_and_connects(rt, node);
     is_active(rt, node);
-    assert_greeting(rt, alloc, node, 1, Told::Greeted, ONE)?;
+    assert_greeting(rt, alloc, node, 1, "Greeted", ONE)?;
     let known = infos(alloc, 1, &[(1, 1000)])?;
     tells_of_one(rt, node, Bytes::copy_from_slice(alloc, NOBODY)?, &known);
     Ok(())

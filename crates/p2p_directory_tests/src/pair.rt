@@ -5,14 +5,12 @@ ghost use Rattle.std.specs.Int.NonZero.{non_zero_usize_get};
 
 use crate::node::{greeting, infos};
 use crate::run::given::Given;
-use crate::run::told::Told;
 use bytes::Bytes;
-use p2p_directory::node::{
-    Exchanged, PairCommand, PairReply, PairRun, Received, Setup, Side, run_pair,
-};
+use lines::{Line, is_printed_as};
+use p2p_directory::node::{PairCommand, PairReply, PairRun, Setup, Side, run_pair};
 use p2p_directory::run::Command;
-use p2p_discovery::codec::{CodecError, TestKey};
-use p2p_discovery::discovery::{Error, Info, PayloadConfig};
+use p2p_discovery::codec::TestKey;
+use p2p_discovery::discovery::{Info, PayloadConfig};
 use p2p_discovery::types::{Ingress, IpAddr, SocketAddr};
 use p2p_tracker_tests::fixtures::config;
 use std::alloc::{AllocError, Global};
@@ -127,89 +125,10 @@ impl Deed {
     }
 }
 
-// What is replied.
-#[derive(Clone, Copy, Debug)]
-pub(crate) enum Said {
-    Call(Told),
-    Ask(Option<&'static [u8]>),
-    Greeted,
-    // A reply with so many infos, by keys and timestamps, signed in `rows`.
-    Reply(u8, &'static [(u16, u64)]),
-    Taken(usize),
-    Refused(Error),
-    Data(u64, &'static [u8]),
-    Codec(CodecError),
-    // To bits of another number than the primary peers.
-    Malformed,
-    // What an exchange came to.
-    NoSet,
-    Invalid(Error),
-    // The keys and timestamps of the infos that were applied.
-    Applied(&'static [(u64, u64)]),
-}
-
-impl Said {
-    pub(crate) fn is(self, alloc: Global, reply: &PairReply<TestKey>) -> Result<bool, Fail> {
-        match reply {
-            PairReply::Call(reply) => match self {
-                Said::Call(told) => Ok(told.is(reply)),
-                _ => Ok(false),
-            },
-            PairReply::Ask(frame) => Ok(self.is_asked(frame.as_ref())),
-            PairReply::Frame(received) => self.is_received(alloc, received),
-            PairReply::Exchange(exchanged) => Ok(self.is_exchanged(exchanged)),
-            PairReply::OutOfMemory => Ok(false),
-        }
-    }
-
-    fn is_asked(self, frame: Option<&Bytes>) -> bool {
-        match self {
-            Said::Ask(told) => match frame {
-                Some(frame) => told.is_some_and(|told| frame.as_slice() == told),
-                None => told.is_none(),
-            },
-            _ => false,
-        }
-    }
-
-    fn is_received(self, alloc: Global, received: &Received) -> Result<bool, Fail> {
-        match self {
-            Said::Greeted => Ok(matches!(received, Received::Greeted)),
-            Said::Taken(count) => Ok(matches!(received, Received::Applied(n) if *n == count)),
-            Said::Refused(error) => Ok(matches!(received, Received::Invalid(e) if *e == error)),
-            Said::Malformed => Ok(matches!(received, Received::Malformed)),
-            Said::Codec(fault) => Ok(matches!(received, Received::Codec(f) if *f == fault)),
-            Said::Data(channel, bytes) => Ok(matches!(received, Received::Data(data)
-                if data.channel == channel && data.message.as_slice() == bytes)),
-            Said::Reply(count, told) => {
-                let wanted = infos(alloc, count, told)?;
-                Ok(matches!(received, Received::Reply(frame) if *frame == wanted))
-            }
-            _ => Ok(false),
-        }
-    }
-
-    fn is_exchanged(self, exchanged: &Exchanged<TestKey>) -> bool {
-        match exchanged {
-            Exchanged::NoSet => matches!(self, Said::NoSet),
-            Exchanged::Invalid(error) => matches!(self, Said::Invalid(e) if e == *error),
-            Exchanged::Applied(infos) => match self {
-                Said::Applied(told) => are_infos(infos.as_slice(), told),
-                _ => false,
-            },
-            _ => false,
-        }
-    }
-}
-
-fn are_infos(infos: &[Info<TestKey>], told: &[(u64, u64)]) -> bool {
-    infos.len() == told.len()
-        && infos.iter().zip(told).all(|(info, (key, timestamp))| {
-            info.public_key.0 == *key && info.timestamp == *timestamp
-        })
-}
-
-fn commands_of(alloc: Global, script: &[(Deed, Said)]) -> Result<Vec<PairCommand<TestKey>>, Fail> {
+fn commands_of(
+    alloc: Global,
+    script: &[(Deed, &'static str)],
+) -> Result<Vec<PairCommand<TestKey>>, Fail> {
     let mut commands = Vec::new(alloc);
     for (deed, _) in script {
         commands.push(deed.command(alloc)?)?;
@@ -220,7 +139,7 @@ fn commands_of(alloc: Global, script: &[(Deed, Said)]) -> Result<Vec<PairCommand
 // Both nodes are released, and the replies are left.
 fn replies_to(
     alloc: Global,
-    script: &[(Deed, Said)],
+    script: &[(Deed, &'static str)],
 ) -> Result<Vec<PairReply<TestKey>>, Fail> {
     let commands = commands_of(alloc, script)?;
     let left = setup(alloc, 9, ROWS, 8)?;
@@ -235,61 +154,41 @@ fn replies_to(
     Ok(replies)
 }
 
-const TAKEN: Said = Said::Call(Told::Track(Some(&[])));
-
-const UPDATED: Said = Said::Call(Told::UpdatePeers);
-
-const GRANTED: Said = Said::Call(Told::Listen(true));
-
-const CONNECTED: Said = Said::Call(Told::Connect);
-
-static AN_EXCHANGE_BRINGS_WHAT_IS_WANTED: [(Deed, Said); 19] = [
-    (Deed::Exchange(Side::Left, 0, 100, 100), Said::NoSet),
-    (Deed::Left(Given::Track(3, &[1, 2, 8, 9], &[])), TAKEN),
-    (Deed::Exchange(Side::Left, 0, 100, 100), Said::Applied(&[])),
-    (Deed::Right(Given::Track(3, &[1, 2, 8, 9], &[])), TAKEN),
+static AN_EXCHANGE_BRINGS_WHAT_IS_WANTED: [(Deed, &'static str); 19] = [
+    (Deed::Exchange(Side::Left, 0, 100, 100), "NoSet"),
+    (Deed::Left(Given::Track(3, &[1, 2, 8, 9], &[])), "Some([])"),
+    (Deed::Exchange(Side::Left, 0, 100, 100), "Applied([])"),
+    (Deed::Right(Given::Track(3, &[1, 2, 8, 9], &[])), "Some([])"),
     (
         Deed::Update(Side::Right, &[(1, 100_000), (2, 100_001)]),
-        UPDATED,
+        "done",
     ),
-    (Deed::Right(Given::Listen(1, 50)), GRANTED),
-    (Deed::Right(Given::Listen(2, 50)), GRANTED),
-    (Deed::Right(Given::Connect(1, false)), CONNECTED),
-    (Deed::Right(Given::Connect(2, false)), CONNECTED),
-    (Deed::Exchange(Side::Left, 1, 100, 100), Said::NoSet),
-    (
-        Deed::Exchange(Side::Left, usize::MAX, 100, 100),
-        Said::NoSet,
-    ),
+    (Deed::Right(Given::Listen(1, 50)), "granted"),
+    (Deed::Right(Given::Listen(2, 50)), "granted"),
+    (Deed::Right(Given::Connect(1, false)), "done"),
+    (Deed::Right(Given::Connect(2, false)), "done"),
+    (Deed::Exchange(Side::Left, 1, 100, 100), "NoSet"),
+    (Deed::Exchange(Side::Left, usize::MAX, 100, 100), "NoSet"),
     (
         Deed::Exchange(Side::Left, 0, 69, 100),
-        Said::Invalid(Error::SynchronyBound),
+        "Invalid(SynchronyBound)",
     ),
-    (
-        Deed::Left(Given::Bits(0)),
-        Said::Call(Told::Bits(Some((3, &[false, false, false, true])))),
-    ),
+    (Deed::Left(Given::Bits(0)), "BitVec(3, 0001)"),
     (
         Deed::Exchange(Side::Left, 0, 70, 100),
-        Said::Applied(&[(1, 100_000), (8, 0)]),
+        "Applied([Info(1, 100000, 1.2.3.4:8001), Info(8, 0, 1.2.3.4:8008)])",
     ),
     (
         Deed::Exchange(Side::Left, 0, 100, 101),
-        Said::Applied(&[(2, 100_001)]),
+        "Applied([Info(2, 100001, 1.2.3.4:8002)])",
     ),
-    (Deed::Exchange(Side::Left, 0, 100, 101), Said::Applied(&[])),
+    (Deed::Exchange(Side::Left, 0, 100, 101), "Applied([])"),
     (
         Deed::Exchange(Side::Right, 0, 100, 100),
-        Said::Applied(&[(9, 0)]),
+        "Applied([Info(9, 0, 1.2.3.4:8009)])",
     ),
-    (
-        Deed::Left(Given::Bits(0)),
-        Said::Call(Told::Bits(Some((3, &[true; 4])))),
-    ),
-    (
-        Deed::Right(Given::Bits(0)),
-        Said::Call(Told::Bits(Some((3, &[true; 4])))),
-    ),
+    (Deed::Left(Given::Bits(0)), "BitVec(3, 1111)"),
+    (Deed::Right(Given::Bits(0)), "BitVec(3, 1111)"),
 ];
 
 #[test]
@@ -300,8 +199,8 @@ fn an_exchange_brings_what_is_wanted(rt: HostRuntime) -> Result<(), Fail> {
     assert_eq!(rt; replies.len(), script.len());
     for (place, (reply, (deed, said))) in replies.iter().zip(script).enumerate() {
         assert!(rt;
-            said.is(alloc, reply)?,
-            "reply {place} to {deed:?} is not {said:?}"
+            is_printed_as(&Line(reply), said),
+            "reply {place} to {deed:?} is not {said}"
         );
     }
     Ok(())

@@ -4,10 +4,10 @@ ghost use Rattle.std.specs.Prelude.{◌≡◌, ◌+◌};
 ghost use Rattle.std.specs.Int.NonZero.{non_zero_usize_get};
 
 use crate::run::given::{Given, served};
-use crate::run::told::Told;
+use lines::{Line, is_printed_as};
 use p2p_directory::directory::Config;
 use p2p_directory::record::Status;
-use p2p_directory::run::{Command, Run, run};
+use p2p_directory::run::{Command, Reply, Run, run};
 use p2p_discovery::codec::TestKey;
 use p2p_tracker_tests::fixtures::{config, info, tracked};
 use std::alloc::{AllocError, Global};
@@ -17,7 +17,6 @@ use std::test::Fail;
 mod dialling;
 pub(crate) mod given;
 mod laws;
-pub(crate) mod told;
 
 fn track(alloc: Global, index: u64, primary: &[u64]) -> Result<Command<TestKey>, AllocError> {
     let peers = tracked(alloc, primary, &[])?;
@@ -65,17 +64,15 @@ fn replies_to_ten_thousand_commands(rt: HostRuntime) -> Result<(), Fail> {
     )?;
     assert_eq!(rt; left.replies.len(), 10_000);
     for (place, reply) in left.replies.iter().enumerate() {
-        let told = match place % 5 {
-            0 => Told::Track(Some(&[])),
-            1 => Told::Listen(true),
-            2 => Told::Status(Some(Status::Reserved)),
-            3 => Told::Release,
-            _ => Told::LatestSetIndex(Some((place / 5) as u64)),
+        let index = (place / 5) as u64;
+        let is_told = match place % 5 {
+            0 => is_printed_as(&Line(reply), "Some([])"),
+            1 => is_printed_as(&Line(reply), "granted"),
+            2 => is_printed_as(&Line(reply), "Reserved"),
+            3 => is_printed_as(&Line(reply), "done"),
+            _ => matches!(reply, Reply::LatestSetIndex(Some(latest)) if *latest == index),
         };
-        assert!(rt;
-            told.is(reply),
-            "reply {place} is {reply:?} in place of {told:?}"
-        );
+        assert!(rt; is_told, "reply {place} is {}", Line(reply));
     }
     assert_eq!(rt; left.held.first(), None);
     left.finish();
@@ -102,12 +99,12 @@ fn finish_gives_all_back(rt: HostRuntime) -> Result<(), Fail> {
     let left = run_and_hold(alloc, 12_000)?;
     assert_eq!(rt; left.replies.len(), 12_001);
     for (place, reply) in left.replies.iter().enumerate() {
-        let told = if place == 0 {
-            Told::Track(Some(&[]))
-        } else {
-            Told::Listen(true)
-        };
-        assert!(rt; told.is(reply), "reply {place} is {reply:?}");
+        let told = if place == 0 { "Some([])" } else { "granted" };
+        assert!(rt;
+            is_printed_as(&Line(reply), told),
+            "reply {place} is {}",
+            Line(reply)
+        );
     }
     assert_eq!(rt; left.held.first(), Some(TestKey(10)));
     for key in 10..12_010 {
@@ -123,10 +120,10 @@ fn finish_gives_all_back(rt: HostRuntime) -> Result<(), Fail> {
     Ok(())
 }
 
-static TAKES_ONLY_WHAT_IS_HELD: [(Given, Told); 3] = [
-    (Given::Track(0, &[1, 2, 3], &[]), Told::Track(Some(&[]))),
-    (Given::Listen(3, 100), Told::Listen(true)),
-    (Given::Listen(1, 100), Told::Listen(true)),
+static TAKES_ONLY_WHAT_IS_HELD: [(Given, &'static str); 3] = [
+    (Given::Track(0, &[1, 2, 3], &[]), "Some([])"),
+    (Given::Listen(3, 100), "granted"),
+    (Given::Listen(1, 100), "granted"),
 ];
 
 #[test]
@@ -142,9 +139,9 @@ fn takes_only_what_is_held(rt: HostRuntime) -> Result<(), Fail> {
     Ok(())
 }
 
-static CLOSES_WHAT_IS_EMPTY: [(Given, Told); 2] = [
-    (Given::Status(1), Told::Status(None)),
-    (Given::Release(1), Told::NotHeld),
+static CLOSES_WHAT_IS_EMPTY: [(Given, &'static str); 2] = [
+    (Given::Status(1), "None"),
+    (Given::Release(1), "NotHeld"),
 ];
 
 #[test]

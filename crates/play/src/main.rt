@@ -1,7 +1,6 @@
 //! Serves lines that are typed to nodes: `echo 'track 0 1,2' | play`.
 #![tactic(auto)]
 
-mod expected;
 mod fault;
 mod parse;
 mod play;

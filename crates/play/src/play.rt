@@ -4,11 +4,11 @@ ghost use Rattle.std.specs.Prelude.{◌≡◌, IfOk, OnErr};
 ghost use Rattle.p2p_directory.specs.Received.{wire_of};
 ghost use Rattle.play.specs.Requests.{AnswersSome};
 
-use crate::expected::is_printed_as;
 use crate::fault::Fault;
 use crate::parse;
 use crate::request::{Answer, serve};
 use crate::session::Session;
+use lines::is_printed_as;
 use p2p_discovery::codec::{FixedBytes, PublicKey, TestKey, TestSignature};
 use std::alloc::{AllocError, Global};
 use std::fmt::{self, Display};

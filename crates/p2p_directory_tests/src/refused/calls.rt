@@ -1,15 +1,13 @@
 //! Calls of directories and nodes, one at a time.
 
-use crate::pair::{Deed, Said};
+use crate::pair::Deed;
 use crate::refused::pair::{Pair, commands_of, is_out_of_memory};
-use crate::refused::words::Words;
 use crate::refused::{Scenario, blocks_of};
 use crate::run::given::Given;
-use crate::run::told::Told;
+use lines::{Line, is_printed_as};
 use low_memory::LowMemory;
 use p2p_directory::node::{PairReply, Side};
-use p2p_discovery::codec::{CodecError, TestKey};
-use p2p_discovery::discovery::Error;
+use p2p_discovery::codec::TestKey;
 use std::alloc::{AllocError, Global};
 use std::fmt::Write;
 use std::process::Abort;
@@ -19,7 +17,7 @@ use std::test::Fail;
 struct Call {
     prepared: &'static [Deed],
     deed: Deed,
-    said: Said,
+    said: &'static str,
     blocks: usize,
 }
 
@@ -54,14 +52,12 @@ const KNOWN: &[Deed] = &[
     Deed::Right(Given::Connect(1, false)),
 ];
 
-const LISTENED: Said = Said::Call(Told::Listen(true));
-
 static CALLS: [Call; 31] = [
     // Lists of a secondary peer (3) and of five torn down (3), bits (2), a second place (5).
     Call {
         prepared: KNOWN,
         deed: Deed::Left(Given::Track(1, &[1, 7], &[11])),
-        said: Said::Call(Told::Track(Some(&[2, 3]))),
+        said: "Some([2, 3])",
         blocks: 13,
     },
     // Of records two nodes (144 each) and one with edges (152), of places the same (61, 61 and 69),
@@ -75,21 +71,21 @@ static CALLS: [Call; 31] = [
             ],
             &[30, 31, 32, 33],
         )),
-        said: Said::Call(Told::Track(Some(&[]))),
+        said: "Some([])",
         blocks: 596,
     },
     // A node each of the slots (72), of the moments of grants (39) and of their order (32).
     Call {
         prepared: NEW,
         deed: Deed::Left(Given::Listen(1, 100)),
-        said: LISTENED,
+        said: "granted",
         blocks: 145,
     },
     // Each node has room.
     Call {
         prepared: KNOWN,
         deed: Deed::Left(Given::Listen(5, 100)),
-        said: LISTENED,
+        said: "granted",
         blocks: 0,
     },
     // As to listen.
@@ -99,7 +95,7 @@ static CALLS: [Call; 31] = [
             Deed::Update(Side::Left, &[(1, 1000)]),
         ],
         deed: Deed::Left(Given::Dial(1, 100)),
-        said: Said::Call(Told::Dial(true)),
+        said: "granted",
         blocks: 145,
     },
     // And a name (2).
@@ -109,21 +105,21 @@ static CALLS: [Call; 31] = [
             Deed::Frame(Side::Left, NAMED, 100),
         ],
         deed: Deed::Left(Given::Dial(2, 100)),
-        said: Said::Call(Told::Dial(true)),
+        said: "granted",
         blocks: 148,
     },
     // Each node has room.
     Call {
         prepared: KNOWN,
         deed: Deed::Left(Given::Dial(5, 100)),
-        said: Said::Call(Told::Dial(true)),
+        said: "granted",
         blocks: 0,
     },
     // A node each of the blocks (24) and of their order (32).
     Call {
         prepared: NEW,
         deed: Deed::Left(Given::Block(1, 100)),
-        said: Said::Call(Told::Block(true)),
+        said: "true",
         blocks: 57,
     },
     // Of both a second node (24 and 32) and one with edges (32 and 40).
@@ -147,151 +143,147 @@ static CALLS: [Call; 31] = [
             Deed::Left(Given::Block(24, 100)),
         ],
         deed: Deed::Left(Given::Block(25, 100)),
-        said: Said::Call(Told::Block(true)),
+        said: "true",
         blocks: 130,
     },
     // Another moment of the same peer.
     Call {
         prepared: KNOWN,
         deed: Deed::Left(Given::Block(4, 100)),
-        said: Said::Call(Told::Block(true)),
+        said: "true",
         blocks: 0,
     },
     // A list of up to four infos (19) and a name (2).
     Call {
         prepared: KNOWN,
         deed: Deed::Left(Given::Infos(0, &[false; 4], (100, 0))),
-        said: Said::Call(Told::Infos(Some(&[(1, 1000), (2, 1000)]))),
+        said: "Some([Info(1, 1000, 1.2.3.4:8001), Info(2, 1000, ~a.b:8002)])",
         blocks: 22,
     },
     // A list of up to four keys (3).
     Call {
         prepared: KNOWN,
         deed: Deed::Left(Given::Dialable(100)),
-        said: Said::Call(Told::Dialable(&[5], None)),
+        said: "[5] None",
         blocks: 4,
     },
     // A list of up to four keys (3).
     Call {
         prepared: KNOWN,
         deed: Deed::Left(Given::BlockedPeers(99)),
-        said: Said::Call(Told::BlockedPeers(&[4, 6])),
+        said: "[4, 6]",
         blocks: 4,
     },
     // It is at a socket.
     Call {
         prepared: KNOWN,
         deed: Deed::Left(Given::Info(1)),
-        said: Said::Call(Told::Info(Some((1, 1000, 8001)))),
+        said: "Info(1, 1000, 1.2.3.4:8001)",
         blocks: 0,
     },
     // Its name (2).
     Call {
         prepared: KNOWN,
         deed: Deed::Left(Given::Info(2)),
-        said: Said::Call(Told::Named(2, 1000)),
+        said: "Info(2, 1000, ~a.b:8002)",
         blocks: 3,
     },
     // Two lists of up to four keys (3 each).
     Call {
         prepared: KNOWN,
         deed: Deed::Left(Given::PeerSet(0)),
-        said: Said::Call(Told::PeerSet(Some((&[1, 2, 3, 5], &[4])))),
+        said: "Some([1, 2, 3, 5] / [4])",
         blocks: 7,
     },
     // Two lists of up to four keys (3 each).
     Call {
         prepared: KNOWN,
         deed: Deed::Left(Given::All),
-        said: Said::Call(Told::All((&[1, 2, 3, 5], &[4]))),
+        said: "[1, 2, 3, 5] / [4]",
         blocks: 7,
     },
     // Four such lists.
     Call {
         prepared: KNOWN,
         deed: Deed::Left(Given::LatestUpdate),
-        said: Said::Call(Told::LatestUpdate(Some((
-            0,
-            (&[1, 2, 3, 5], &[4]),
-            (&[1, 2, 3, 5], &[4]),
-        )))),
+        said: "Some(0, [1, 2, 3, 5] / [4], [1, 2, 3, 5] / [4])",
         blocks: 13,
     },
     // The bits (2).
     Call {
         prepared: KNOWN,
         deed: Deed::Left(Given::Bits(0)),
-        said: Said::Call(Told::Bits(Some((0, &[true, true, false, true])))),
+        said: "BitVec(0, 1101)",
         blocks: 3,
     },
     // The bits (2), the frame (2) and what shares it (3).
     Call {
         prepared: KNOWN,
         deed: Deed::Ask(Side::Left, 0),
-        said: Said::Ask(Some(b"\x02\0\x04\x0b")),
+        said: "0200040b",
         blocks: 8,
     },
     // A name (2) and a list of one info (5).
     Call {
         prepared: NEW,
         deed: Deed::Frame(Side::Left, NAMED, 100),
-        said: Said::Greeted,
+        said: "Greeted",
         blocks: 8,
     },
     // A list of one info (5).
     Call {
         prepared: NEW,
         deed: Deed::Greeting(Side::Left, 1, 1000, 100),
-        said: Said::Greeted,
+        said: "Greeted",
         blocks: 6,
     },
     // The bits (2), a list of up to four infos (19), the frame (3) and what shares it (3).
     Call {
         prepared: KNOWN,
         deed: Deed::Frame(Side::Left, b"\x02\0\x04\x02", 100),
-        said: Said::Reply(1, &[(1, 1000)]),
+        said: "Reply(03010004010203041f41e8070000000000000001759b133a2c01f839)",
         blocks: 26,
     },
     // The bits (2).
     Call {
         prepared: KNOWN,
         deed: Deed::Frame(Side::Left, b"\x02\0\x03\0", 100),
-        said: Said::Malformed,
+        said: "Malformed",
         blocks: 3,
     },
     // A list of two infos (9).
     Call {
         prepared: KNOWN,
         deed: Deed::Infos(Side::Left, 2, &[(1, 2000), (3, 2000)], 100_000),
-        said: Said::Taken(2),
+        said: "Applied(2)",
         blocks: 10,
     },
     // A list of two infos (9).
     Call {
         prepared: KNOWN,
         deed: Deed::Infos(Side::Left, 2, &[(1, 2000), (9, 2000)], 100_000),
-        said: Said::Refused(Error::ReceivedSelf),
+        said: "Invalid(ReceivedSelf)",
         blocks: 10,
     },
     // The message is a cut of the frame.
     Call {
         prepared: KNOWN,
         deed: Deed::Frame(Side::Left, b"\0\x01\x05hello", 100),
-        said: Said::Data(1, b"hello"),
+        said: "Data(1, 68656c6c6f)",
         blocks: 0,
     },
     // It is refused by its first byte.
     Call {
         prepared: KNOWN,
         deed: Deed::Frame(Side::Left, b"\x04\0\x01", 100),
-        said: Said::Codec(CodecError::InvalidEnum(4)),
+        said: "Codec(InvalidEnum(4))",
         blocks: 0,
     },
     // As to ask, and a reply of no infos.
     Call {
         prepared: KNOWN,
         deed: Deed::Exchange(Side::Right, 0, 100, 100),
-        said: Said::Applied(&[]),
+        said: "Applied([])",
         blocks: 9,
     },
     // As to ask (7), to reply (25), to read an info (5) and to copy it (5), not all at a time.
@@ -304,14 +296,14 @@ static CALLS: [Call; 31] = [
             Deed::Right(Given::Connect(1, false)),
         ],
         deed: Deed::Exchange(Side::Left, 0, 100, 100),
-        said: Said::Applied(&[(1, 100_000)]),
+        said: "Applied([Info(1, 100000, 1.2.3.4:8001)])",
         blocks: 36,
     },
     // There is no such place.
     Call {
         prepared: KNOWN,
         deed: Deed::Exchange(Side::Left, 1, 100, 100),
-        said: Said::NoSet,
+        said: "NoSet",
         blocks: 0,
     },
 ];
@@ -369,7 +361,7 @@ fn words_of(
 ) -> Result<String, AllocError> {
     let mut text = String::new(alloc);
     for reply in replies {
-        write!(text, "{}\n", Words(reply))?;
+        write!(text, "{}\n", Line(reply))?;
     }
     pair.tells_all(alloc, &mut text)?;
     Ok(text)
@@ -386,7 +378,7 @@ impl Watched<'_> {
         budget: usize,
     ) -> Result<(), Fail> {
         assert!(rt;
-            self.call.said.is(alloc, &reply)?,
+            is_printed_as(&Line(&reply), self.call.said),
             "{:?} within {budget}",
             self.call.deed
         );

@@ -1,7 +1,8 @@
 //! Two nodes to which one thing after the other is done.
 
 use crate::pair::{Deed, ROWS, setup};
-use crate::refused::words::{Words, tells, tells_all};
+use crate::refused::words::{tells, tells_all};
+use lines::Line;
 use p2p_directory::node::{Exchanged, Node, PairCommand, PairReply, Received, Side, exchange};
 use p2p_directory::run::Reply;
 use p2p_discovery::codec::TestKey;
@@ -129,7 +130,7 @@ impl Pair {
         let mut text = String::new(alloc);
         for deed in deeds {
             let reply = self.perform(deed.command(alloc)?);
-            write!(text, "{}\n", Words(&reply))?;
+            write!(text, "{}\n", Line(&reply))?;
         }
         self.tells_all(alloc, &mut text)?;
         Ok(text)

@@ -2,10 +2,11 @@
 
 use crate::pair::{Deed, ROWS, setup};
 use crate::refused::pair::{commands_of, is_out_of_memory};
-use crate::refused::words::{Words, tells};
+use crate::refused::words::tells;
 use crate::refused::{Scenario, blocks_of};
 use crate::run::given::Given;
 use crate::run::window;
+use lines::Line;
 use low_memory::LowMemory;
 use p2p_directory::node::{PairReply, PairRun, Side, run_pair};
 use p2p_directory::run::{Command, Reply, Run, run};
@@ -125,7 +126,7 @@ fn words_of(alloc: Global, left: &Run<TestKey>) -> Result<String, AllocError> {
     let mut text = String::new(alloc);
     for reply in &left.replies {
         if !matches!(reply, Reply::OutOfMemory) {
-            write!(text, "{}\n", Words(reply))?;
+            write!(text, "{}\n", Line(reply))?;
         }
     }
     tells(&mut text, alloc, &left.directory)?;
@@ -282,7 +283,7 @@ fn words_of_two(alloc: Global, ended: &PairRun<TestKey>) -> Result<String, Alloc
     let mut text = String::new(alloc);
     for reply in &ended.replies {
         if !is_out_of_memory(reply) {
-            write!(text, "{}\n", Words(reply))?;
+            write!(text, "{}\n", Line(reply))?;
         }
     }
     tells(&mut text, alloc, ended.left.directory())?;

@@ -1,79 +1,15 @@
-//! What is replied and what a directory answers, as text that is to be compared.
+//! What a directory answers, as text that is to be compared.
 
+use lines::Line;
 use p2p_directory::directory::Directory;
-use p2p_directory::node::{Exchanged, Node, PairReply};
-use p2p_directory::run::{Command, Reply};
+use p2p_directory::node::Node;
+use p2p_directory::run::Command;
 use p2p_discovery::codec::TestKey;
 use p2p_discovery::discovery::BitVec;
 use p2p_discovery::sets::BitMap;
 use std::alloc::{AllocError, Global};
-use std::fmt;
 use std::fmt::Write;
 use std::time::Duration;
-
-// A reply as text, with all that it tells.
-#[derive(Drop)]
-pub(crate) struct Words<'a, T>(pub(crate) &'a T);
-
-impl fmt::Display for Words<'_, Reply<TestKey>> {
-    fn fmt<W: fmt::Write>(&self, f: &mut fmt::Formatter<W>) -> fmt::Result {
-        let reply = self.0;
-        write!(f, "{reply:?} ")?;
-        match reply {
-            Reply::Track(torn) => write!(f, "{torn:?}"),
-            Reply::Dial(answer)
-            | Reply::Listen(answer)
-            | Reply::Block(answer)
-            | Reply::UnblockExpired(answer)
-            | Reply::Eligible(answer)
-            | Reply::Acceptable(answer) => write!(f, "{answer:?}"),
-            Reply::ForgetCooled(count) | Reply::Tracked(count) => write!(f, "{count:?}"),
-            Reply::NextUnblock(moment) => write!(f, "{moment:?}"),
-            Reply::BlockedPeers(peers) => write!(f, "{peers:?}"),
-            Reply::Status(status) => write!(f, "{status:?}"),
-            Reply::GetPeerSet(peers) => write!(f, "{peers:?}"),
-            Reply::LatestSetIndex(index) => write!(f, "{index:?}"),
-            Reply::LatestUpdate(update) => write!(f, "{update:?}"),
-            Reply::All(peers) => write!(f, "{peers:?}"),
-            Reply::Info(info) => write!(f, "{info:?}"),
-            Reply::Infos(infos) => write!(f, "{infos:?}"),
-            Reply::GetRandomBitVec(bits) => write!(f, "{bits:?}"),
-            Reply::Dialable(dialable) => write!(f, "{dialable:?}"),
-            Reply::Connect
-            | Reply::Release
-            | Reply::UpdatePeers
-            | Reply::NotReserved
-            | Reply::NotHeld
-            | Reply::OutOfMemory => Ok(()),
-        }
-    }
-}
-
-impl fmt::Display for Words<'_, Exchanged<TestKey>> {
-    fn fmt<W: fmt::Write>(&self, f: &mut fmt::Formatter<W>) -> fmt::Result {
-        match self.0 {
-            Exchanged::NoSet => f.write_str("NoSet"),
-            Exchanged::AskRefused(fault) => write!(f, "AskRefused({fault:?})"),
-            Exchanged::Malformed => f.write_str("Malformed"),
-            Exchanged::ReplyRefused(fault) => write!(f, "ReplyRefused({fault:?})"),
-            Exchanged::Invalid(error) => write!(f, "Invalid({error:?})"),
-            Exchanged::Memory => f.write_str("Memory"),
-            Exchanged::Applied(infos) => write!(f, "Applied({infos:?})"),
-        }
-    }
-}
-
-impl fmt::Display for Words<'_, PairReply<TestKey>> {
-    fn fmt<W: fmt::Write>(&self, f: &mut fmt::Formatter<W>) -> fmt::Result {
-        match self.0 {
-            PairReply::Call(reply) => write!(f, "{}", Words(reply)),
-            PairReply::Ask(frame) => write!(f, "{frame:?}"),
-            PairReply::Frame(received) => write!(f, "{received:?}"),
-            PairReply::Exchange(exchanged) => write!(f, "{}", Words(exchanged)),
-            PairReply::OutOfMemory => f.write_str("OutOfMemory"),
-        }
-    }
-}
 
 // The peers with keys below this are asked for.
 const KEYS: u64 = 48;
@@ -166,11 +102,11 @@ pub(crate) fn tells_all(
     tells(text, alloc, node.directory())?;
     for key in 0..KEYS {
         let released = node.step(Command::Release(TestKey(key)));
-        write!(text, "{}\n", Words(&released))?;
+        write!(text, "{}\n", Line(&released))?;
     }
     for moment in MOMENTS {
         let forgotten = node.step(Command::ForgetCooled(seconds(moment)));
-        write!(text, "{}\n", Words(&forgotten))?;
+        write!(text, "{}\n", Line(&forgotten))?;
     }
     tells(text, alloc, node.directory())
 }

@@ -3,7 +3,7 @@
 ghost use Rattle.p2p_directory.specs.Held.{held_of, AreHeld};
 
 use crate::run::given::{Given, served_from};
-use crate::run::told::Told;
+use lines::{Line, is_printed_as};
 use p2p_directory::directory::{Directory, Metadata, TrackedPeers};
 use p2p_directory::run::{Command, Held, Reply, Run, run};
 use p2p_discovery::codec::{PublicKey, TestKey, TestSignature};
@@ -14,6 +14,7 @@ use p2p_tracker_tests::fixtures::{config, info, ingress};
 use std::alloc::{AllocError, Global};
 use std::process::Abort;
 use std::test::Fail;
+use std::time::Duration;
 
 fn name(alloc: Global, port: u16) -> Result<Ingress, Fail> {
     Ok(Ingress::Dns {
@@ -59,16 +60,13 @@ fn with_a_name(alloc: Global) -> Result<Vec<(TestKey, Ingress)>, Fail> {
     Ok(bootstrappers)
 }
 
-static THE_VERY_ADDRESS_THAT_WAS_DIALLED_IS_HELD: [(Given, Told); 6] = [
-    (Given::Dialable(100), Told::Dialable(&[1, 2, 3], None)),
-    (Given::Dial(1, 100), Told::Dial(true)),
-    (
-        Given::Update(&[(1, 1_000, 8101), (3, 1_000, 8103)]),
-        Told::UpdatePeers,
-    ),
-    (Given::Dial(2, 100), Told::Dial(true)),
-    (Given::Dial(3, 100), Told::Dial(true)),
-    (Given::Update(&[(3, 1_001, 8203)]), Told::UpdatePeers),
+static THE_VERY_ADDRESS_THAT_WAS_DIALLED_IS_HELD: [(Given, &'static str); 6] = [
+    (Given::Dialable(100), "[1, 2, 3] None"),
+    (Given::Dial(1, 100), "granted"),
+    (Given::Update(&[(1, 1_000, 8101), (3, 1_000, 8103)]), "done"),
+    (Given::Dial(2, 100), "granted"),
+    (Given::Dial(3, 100), "granted"),
+    (Given::Update(&[(3, 1_001, 8203)]), "done"),
 ];
 
 #[test]
@@ -150,10 +148,11 @@ fn all_that_are_dialable_are_dialled(rt: HostRuntime) -> Result<(), Fail> {
                 assert_eq!(rt; listed.peers.last().copied(), Some(TestKey(3_009)));
                 assert_eq!(rt; listed.next_query_at, None);
             }
-            (3_003, reply) => assert!(rt; Told::Dialable(&[], None).is(reply)),
+            (3_003, reply) => assert!(rt; is_printed_as(&Line(reply), "[] None")),
             (2, reply) => panic!(rt; "reply 2 is {reply:?}"),
             (_, reply) => {
-                granted = granted.saturating_add(usize::from(Told::Dial(true).is(reply)));
+                let is_granted = matches!(reply, Reply::Dial(true));
+                granted = granted.saturating_add(usize::from(is_granted));
             }
         }
     }
@@ -189,18 +188,16 @@ fn blocks_and_dials_ten_thousand_times(rt: HostRuntime) -> Result<(), Fail> {
     let left = run(alloc, Vec::new(alloc), info(9), config(), commands)?;
     assert_eq!(rt; left.replies.len(), 10_002);
     for (place, reply) in left.replies.iter().skip(2).enumerate() {
-        let end = 100 * (place / 5) as u64 + 160;
-        let told = match place % 5 {
-            0 => Told::Block(true),
-            1 => Told::Dialable(&[], Some((end, 0))),
-            2 => Told::Dial(false),
-            3 => Told::Dial(true),
-            _ => Told::Release,
+        let end = Duration::from_secs(100 * (place / 5) as u64 + 160);
+        let is_told = match place % 5 {
+            0 => is_printed_as(&Line(reply), "true"),
+            1 => matches!(reply, Reply::Dialable(listed)
+                if listed.peers.is_empty() && listed.next_query_at == Some(end)),
+            2 => is_printed_as(&Line(reply), "refused"),
+            3 => is_printed_as(&Line(reply), "granted"),
+            _ => is_printed_as(&Line(reply), "done"),
         };
-        assert!(rt;
-            told.is(reply),
-            "reply {place} is {reply:?} in place of {told:?}"
-        );
+        assert!(rt; is_told, "reply {place} is {}", Line(reply));
     }
     assert_eq!(rt; left.held.first(), None);
     left.finish();

@@ -3,7 +3,7 @@
 ghost use Rattle.std.specs.Prelude.{◌<◌};
 ghost use Rattle.std.specs.Int.NonZero.{non_zero_usize_get};
 
-use crate::run::told::{Moment, Told};
+use lines::{Line, is_printed_as};
 use p2p_directory::directory::Config;
 use p2p_directory::run::{Command, Run, run};
 use p2p_discovery::codec::TestKey;
@@ -14,6 +14,9 @@ use p2p_tracker_tests::fixtures::{bootstrappers_of, info, infos_of, ingress, tra
 use std::alloc::{AllocError, Global};
 use std::process::Abort;
 use std::time::Duration;
+
+/// A moment: seconds and nanoseconds since the epoch.
+pub type Moment = (u64, u32);
 
 /// A command, with keys as numbers and moments in seconds since the epoch.
 #[derive(Clone, Copy, Debug)]
@@ -130,7 +133,7 @@ impl Given {
 
 fn commands_of(
     alloc: Global,
-    script: &[(Given, Told)],
+    script: &[(Given, &'static str)],
 ) -> Result<Vec<Command<TestKey>>, AllocError> {
     let mut commands = Vec::new(alloc);
     for (given, _) in script {
@@ -139,7 +142,6 @@ fn commands_of(
     Ok(commands)
 }
 
-/// Peers at 1.2.3.4 and a port.
 /// What a run of node 9 leaves, whose commands were each replied what stands beside it. The
 /// bootstrappers are keys with ports.
 pub fn served(
@@ -147,7 +149,7 @@ pub fn served(
     alloc: Global,
     bootstrappers: &[(u64, u16)],
     cfg: Config,
-    script: &[(Given, Told)],
+    script: &[(Given, &'static str)],
 ) -> Result<Run<TestKey>, AllocError>
     requires { non_zero_usize_get cfg.max_sets < 1000 }
 {
@@ -166,7 +168,7 @@ pub fn served_from(
     alloc: Global,
     bootstrappers: Vec<(TestKey, Ingress)>,
     cfg: Config,
-    script: &[(Given, Told)],
+    script: &[(Given, &'static str)],
 ) -> Result<Run<TestKey>, AllocError>
     requires { non_zero_usize_get cfg.max_sets < 1000 }
 {
@@ -175,8 +177,8 @@ pub fn served_from(
     assert_eq!(rt; left.replies.len(), script.len());
     for (place, (reply, (given, told))) in left.replies.iter().zip(script).enumerate() {
         assert!(rt;
-            told.is(reply),
-            "reply {place} to {given:?} is {reply:?} in place of {told:?}"
+            is_printed_as(&Line(reply), told),
+            "reply {place} to {given:?} is not {told}"
         );
     }
     Ok(left)

@@ -1,8 +1,7 @@
 //! Ten thousand blocks and infos of nobody, which make no record.
 
 use crate::run::given::Given;
-use crate::run::told::Told;
-use p2p_directory::record::Status;
+use lines::{Line, is_printed_as};
 use p2p_directory::run::{Command, Reply, run};
 use p2p_discovery::codec::{TestKey, TestSignature};
 use p2p_discovery::discovery::Info;
@@ -31,15 +30,15 @@ fn blocks(alloc: Global) -> Result<Vec<Command<TestKey>>, AllocError> {
     Ok(commands)
 }
 
-fn of_blocks(place: u64) -> Told {
+fn of_blocks(place: u64) -> &'static str {
     match place.saturating_sub(MANY) {
-        0 if place < MANY => Told::Block(true),
-        0 => Told::Tracked(0),
-        1 => Told::UnblockExpired(false),
-        2 => Told::UnblockExpired(true),
-        3 => Told::UnblockExpired(false),
-        4 => Told::NextUnblock(None),
-        _ => Told::BlockedPeers(&[]),
+        0 if place < MANY => "true",
+        0 => "0",
+        1 => "false",
+        2 => "true",
+        3 => "false",
+        4 => "None",
+        _ => "[]",
     }
 }
 
@@ -60,8 +59,9 @@ fn ten_thousand_blocks_make_no_record(rt: HostRuntime) -> Result<(), Fail> {
     assert_eq!(rt; replies.len(), 10_006);
     for (place, reply) in replies.iter().enumerate() {
         assert!(rt;
-            of_blocks(place as u64).is(reply),
-            "reply {place} is {reply:?}"
+            is_printed_as(&Line(reply), of_blocks(place as u64)),
+            "reply {place} is {}",
+            Line(reply)
         );
     }
     Ok(())
@@ -81,12 +81,12 @@ fn infos(alloc: Global) -> Result<Vec<Info<TestKey>>, AllocError> {
     Ok(infos)
 }
 
-static OF_INFOS: [(Given, Told); 5] = [
-    (Given::Tracked, Told::Tracked(1)),
-    (Given::Bits(0), Told::Bits(Some((0, &[false])))),
-    (Given::Status(10), Told::Status(None)),
-    (Given::Track(1, &[10], &[]), Told::Track(Some(&[]))),
-    (Given::Bits(0), Told::Bits(Some((1, &[false])))),
+static OF_INFOS: [(Given, &'static str); 5] = [
+    (Given::Tracked, "1"),
+    (Given::Bits(0), "BitVec(0, 0)"),
+    (Given::Status(10), "None"),
+    (Given::Track(1, &[10], &[]), "Some([])"),
+    (Given::Bits(0), "BitVec(1, 0)"),
 ];
 
 fn updates(alloc: Global) -> Result<Vec<Command<TestKey>>, AllocError> {
@@ -105,7 +105,11 @@ fn ten_thousand_infos_of_nobody_change_nothing(rt: HostRuntime) -> Result<(), Fa
     let replies = replies_to(alloc, updates(alloc)?)?;
     assert_eq!(rt; replies.len(), 7);
     for (reply, (given, told)) in replies.iter().skip(2).zip(&OF_INFOS) {
-        assert!(rt; told.is(reply), "the reply to {given:?} is {reply:?}");
+        assert!(rt;
+            is_printed_as(&Line(reply), told),
+            "the reply to {given:?} is {}",
+            Line(reply)
+        );
     }
     Ok(())
 }

@@ -7,4 +7,4 @@ abbrev pub invariant-loop-byte : goal.invariant-loop-byte
 invariant-loop-byte g l =
     IsPlainFormatter l.initial.f →
     HasWritten g.W.Write.write_str_gives l.initial.f
-        (flat_map hex_byte (take l.byte-index l.byte-items)) l.f
+    (flat_map hex_byte (take l.byte-index l.byte-items)) l.f
