@@ -242,7 +242,7 @@ static CALLS: [Call; 31] = [
         prepared: KNOWN,
         deed: Deed::Frame(Side::Left, b"\x02\0\x04\x02", 100),
         said: "Reply(03010004010203041f41e8070000000000000001759b133a2c01f839)",
-        blocks: 26,
+        blocks: 27,
     },
     // The bits (2).
     Call {
@@ -286,7 +286,8 @@ static CALLS: [Call; 31] = [
         said: "Applied([])",
         blocks: 9,
     },
-    // As to ask (7), to reply (25), to read an info (5) and to copy it (5), not all at a time.
+    // As to ask (7), to reply (25), to read an info (5) and to copy it (5), not all at a time; of a
+    // list that grows the old room beside the new.
     Call {
         prepared: &[
             Deed::Left(Given::Track(0, &[1, 2], &[])),
@@ -297,7 +298,7 @@ static CALLS: [Call; 31] = [
         ],
         deed: Deed::Exchange(Side::Left, 0, 100, 100),
         said: "Applied([Info(1, 100000, 1.2.3.4:8001)])",
-        blocks: 36,
+        blocks: 38,
     },
     // There is no such place.
     Call {
