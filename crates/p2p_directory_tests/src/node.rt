@@ -2,7 +2,6 @@
 
 use crate::pair::{ROWS, setup, signed};
 use bytes::Bytes;
-use lines::{Line, is_printed_as};
 use p2p_directory::node::{Node, Received};
 use p2p_directory::record::Status;
 use p2p_directory::run::{Command, Reply};
@@ -45,11 +44,7 @@ pub(crate) fn infos(alloc: Global, count: u8, told: &[(u16, u64)]) -> Result<Byt
 }
 
 // What the node asks for of the set at place 0.
-pub(crate) fn assert_asked(
-    rt: &impl Abort,
-    node: &Node<TestKey>,
-    asked: &[u8],
-) -> Result<(), Fail> {
+fn assert_asked(rt: &impl Abort, node: &Node<TestKey>, asked: &[u8]) -> Result<(), Fail> {
     match node.ask(0)? {
         Some(frame) => assert_eq!(rt; frame.as_slice(), asked),
         None => panic!(rt; "the set is retained"),
@@ -57,53 +52,11 @@ pub(crate) fn assert_asked(
     Ok(())
 }
 
-// What is answered at 100 to a frame, and what is asked for afterwards.
-fn assert_received(
-    rt: &impl Abort,
-    node: &mut Node<TestKey>,
-    bytes: Bytes,
-    told: &str,
-    asked: &[u8],
-) -> Result<(), Fail> {
-    let received = node.receive(bytes, Duration::from_secs(100));
-    assert!(rt; is_printed_as(&Line(&received), told), "not {told}");
-    assert_asked(rt, node, asked)
-}
-
-// .. to these bytes.
-fn assert_frame(
-    rt: &impl Abort,
-    alloc: Global,
-    node: &mut Node<TestKey>,
-    bytes: &[u8],
-    told: &str,
-    asked: &[u8],
-) -> Result<(), Fail> {
-    assert_received(rt, node, Bytes::copy_from_slice(alloc, bytes)?, told, asked)
-}
-
-// .. to a greeting of a key.
-fn assert_greeting(
-    rt: &impl Abort,
-    alloc: Global,
-    node: &mut Node<TestKey>,
-    key: u16,
-    told: &str,
-    asked: &[u8],
-) -> Result<(), Fail> {
-    assert_received(rt, node, greeting(alloc, key, 1000)?, told, asked)
-}
-
-// .. to the infos of two keys.
-fn assert_infos(
-    rt: &impl Abort,
-    alloc: Global,
-    node: &mut Node<TestKey>,
-    two: [(u16, u64); 2],
-    told: &str,
-    asked: &[u8],
-) -> Result<(), Fail> {
-    assert_received(rt, node, infos(alloc, 2, &two)?, told, asked)
+// The greeting of peer 1 is taken at 100, and the other one is asked for from then on.
+fn takes_a_greeting(rt: &impl Abort, alloc: Global, node: &mut Node<TestKey>) -> Result<(), Fail> {
+    let received = node.receive(greeting(alloc, 1, 1000)?, Duration::from_secs(100));
+    assert!(rt; matches!(received, Received::Greeted));
+    assert_asked(rt, node, ONE)
 }
 
 // The set of 1 and 2 is taken at index 0.
@@ -148,52 +101,6 @@ pub(crate) const NOBODY: &[u8] = b"\x02\0\x02\0";
 
 pub(crate) const ONE: &[u8] = b"\x02\0\x02\x01";
 
-const BOTH: &[u8] = b"\x02\0\x02\x03";
-
-// What is answered by a node that knows nobody's info yet.
-fn answers_before_it_knows(
-    rt: &impl Abort,
-    alloc: Global,
-    node: &mut Node<TestKey>,
-) -> Result<(), Fail> {
-    let told = "Invalid(ReceivedSelf)";
-    assert_infos(rt, alloc, node, [(1, 1000), (9, 1000)], told, NOBODY)?;
-    assert_frame(rt, alloc, node, NOBODY, "Reply(0300)", NOBODY)?;
-    assert_frame(rt, alloc, node, b"\x02\x07\0", "Reply(0300)", NOBODY)?;
-    assert_frame(rt, alloc, node, b"\x02\0\x01\0", "Malformed", NOBODY)?;
-    let told = "Codec(InvalidLength(9))";
-    assert_frame(rt, alloc, node, b"\x02\0\x09\0\0", told, NOBODY)?;
-    let told = "Invalid(ReceivedSelf)";
-    assert_greeting(rt, alloc, node, 9, told, NOBODY)
-}
-
-fn answers_frames(rt: &impl Abort, alloc: Global, node: &mut Node<TestKey>) -> Result<(), Fail> {
-    tracks(rt, alloc, node)?;
-    assert!(rt; node.ask(1)?.is_none());
-    answers_before_it_knows(rt, alloc, node)?;
-    assert_greeting(rt, alloc, node, 1, "Greeted", ONE)?;
-    let told = "Invalid(SynchronyBound)";
-    assert_infos(rt, alloc, node, [(2, 1000), (3, 130_001)], told, ONE)?;
-    assert_infos(rt, alloc, node, [(2, 1000), (3, 1000)], "Applied(2)", BOTH)?;
-    assert_frame(
-        rt,
-        alloc,
-        node,
-        b"\0\x01\x05hello",
-        "Data(1, 68656c6c6f)",
-        BOTH,
-    )
-}
-
-#[test]
-fn a_node_answers_frames(rt: HostRuntime) -> Result<(), Fail> {
-    let alloc = rt.alloc();
-    let mut node = node(alloc, 32)?;
-    let outcome = answers_frames(&rt, alloc, &mut node);
-    node.finish();
-    outcome
-}
-
 // Who knows nobody is told of peer 1 alone, by this frame.
 pub(crate) fn tells_of_one(
     rt: &impl Abort,
@@ -227,7 +134,7 @@ fn tells_of_the_connected(
     is_not_held(rt, node);
     listens_and_connects(rt, node);
     is_active(rt, node);
-    assert_greeting(rt, alloc, node, 1, "Greeted", ONE)?;
+    takes_a_greeting(rt, alloc, node)?;
     let known = infos(alloc, 1, &[(1, 1000)])?;
     tells_of_one(rt, node, Bytes::copy_from_slice(alloc, NOBODY)?, &known);
     Ok(())
