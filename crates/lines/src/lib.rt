@@ -3,6 +3,8 @@
 
 ghost use Rattle.std.specs.Prelude.{Some};
 ghost use Rattle.lines.specs.Printed.{hex_text, ip_text, socket_text, ingress_text};
+ghost use Rattle.lines.specs.Printed.{address_text, info_text, data_text, bits_text};
+ghost use Rattle.lines.specs.Printed.{bit_vec_text};
 
 pub use expected::is_printed_as;
 use p2p_directory::directory::{PeerSetUpdate, TrackedPeers};
@@ -53,6 +55,8 @@ struct Keys<'a>(&'a [TestKey]);
 pub(crate) struct Bits<'a>(pub(crate) &'a BitMap);
 
 impl fmt::Display for Bits<'_> {
+    ghost output = { λ b. Some (bits_text b.0.now) };
+
     fn fmt<W: fmt::Write>(&self, f: &mut fmt::Formatter<W>) -> fmt::Result {
         if self.0.len() == 0 {
             return f.write_str("-");
@@ -65,6 +69,8 @@ impl fmt::Display for Bits<'_> {
 }
 
 impl fmt::Display for Line<'_, BitVec> {
+    ghost output = { λ l. Some (bit_vec_text l.0.now) };
+
     fn fmt<W: fmt::Write>(&self, f: &mut fmt::Formatter<W>) -> fmt::Result {
         let index = self.0.index;
         let bits = Bits(&self.0.bits);
@@ -103,6 +109,8 @@ impl fmt::Display for Line<'_, Ingress> {
 }
 
 impl fmt::Display for Line<'_, Address> {
+    ghost output = { λ l. Some (address_text l.0.now) };
+
     fn fmt<W: fmt::Write>(&self, f: &mut fmt::Formatter<W>) -> fmt::Result {
         match self.0 {
             Address::Symmetric(socket) => write!(f, "Symmetric({})", Line(socket)),
@@ -114,6 +122,8 @@ impl fmt::Display for Line<'_, Address> {
 }
 
 impl fmt::Display for Line<'_, Info<TestKey>> {
+    ghost output = { λ l. Some (info_text l.0.now) };
+
     fn fmt<W: fmt::Write>(&self, f: &mut fmt::Formatter<W>) -> fmt::Result {
         let TestKey(number) = self.0.public_key;
         let timestamp = self.0.timestamp;
@@ -145,6 +155,8 @@ impl fmt::Display for Line<'_, Infos<TestKey>> {
 }
 
 impl fmt::Display for Line<'_, Data> {
+    ghost output = { λ l. Some (data_text l.0.now) };
+
     fn fmt<W: fmt::Write>(&self, f: &mut fmt::Formatter<W>) -> fmt::Result {
         let channel = self.0.channel;
         let message = Hex(self.0.message.as_slice());
