@@ -4,6 +4,7 @@ pub mod Law
 pub mod Latest
 pub mod Start
 pub mod Keys
+pub mod Targets
 pub mod Setting
 pub mod GossipExamples
 mod FrameExamples

@@ -1,5 +1,5 @@
 -- The replies to a run of commands, by the calls accepted before each, and what the run leaves.
-use Rattle.std.specs.Prelude.{ℕ, ◌≡◌, Bool, true, false, not, if◌then◌else◌}
+use Rattle.std.specs.Prelude.{ℕ, ◌≡◌, ◌⊎◌, Bool, true, false, not, if◌then◌else◌}
 use Rattle.std.specs.Prelude.{List, [], ◌∷◌, map, Option, is_some, length, ◌<◌}
 use Rattle.std.specs.Option.{option_map, IsSomeAnd}
 use Rattle.std.specs.Duration.{as_nanos}
@@ -93,7 +93,7 @@ bit_vec_of (index, bits) = record { index = index; bits = bits }
 abbrev pub update_in : {C S : Type 0} → PeerSetUpdate C S → SetAt C × List C × List C
 update_in update = (set_in update, update.all.primary, update.all.secondary)
 
--- a reply counts its command as made
+-- whether a command was an accepted call, by its reply
 abbrev pub was_made : {C S : Type 0} → Reply C S → Bool
 was_made reply.OutOfMemory = false
 was_made reply.NotReserved = false
@@ -171,10 +171,9 @@ module _ {C S : Type 0} (s : Setup C S) where
   MayWantMemory e w (Ask question) = MayWantToTell w question
   MayWantMemory e w _ = ⊥
 
-  -- want of memory where it is allowed, else the reply
+  -- want of memory where it is allowed, or the reply
   abbrev pub MayReply : Event C S → World C S → World C S → Call C S → Reply C S → Type 0
-  MayReply e w v c reply.OutOfMemory = MayWantMemory e w c
-  MayReply e w v c r = Replies e w v c r
+  MayReply e w v c r = ((r ≡ reply.OutOfMemory) × MayWantMemory e w c) ⊎ Replies e w v c r
 
   -- the world that these calls make
   abbrev pub world_after : List (Call C S) → World C S
@@ -191,13 +190,9 @@ module _ {C S : Type 0} (s : Setup C S) where
 
   -- ALL REPLIES
 
-  -- whether a command was an accepted call, by its reply
-  abbrev pub is_accepted : Reply C S → Bool
-  is_accepted = was_made
-
   -- the accepted calls after one more, by its reply
   abbrev pub next : List (Call C S) → Call C S → Reply C S → List (Call C S)
-  next before c r = if is_accepted r then c ∷ before else before
+  next before c r = if was_made r then c ∷ before else before
 
   -- the accepted calls, the newest first, after those before
   abbrev pub accepted : List (Call C S) → List (Call C S) → List (Reply C S) → List (Call C S)

@@ -13,18 +13,20 @@ use Rattle.p2p_discovery.specs.Ordered.{IsPlaceOf}
 use Rattle.std.specs.List.{zip}
 use Rattle.std.specs.Map.{lookup, set_value}
 use Rattle.std.specs.Option.{is_some}
-use Rattle.p2p_discovery.specs.BitSets.{peers_of, bits_of, with_bit, unset}
+use Rattle.p2p_discovery.specs.BitSets.{with_bit, unset}
+use Rattle.std.specs.Map.{values_of}
+use Rattle.std.specs.Map.{keys_of}
 
 pub zip_unset : {P : Type 0} (xs : List P) → zip xs (replicate (length xs) false) ≡ unset xs
 zip_unset [] = refl
 zip_unset (x ∷ xs) = ap (λ es. (x, false) ∷ es) (zip_unset xs)
 
-pub peers_zip : {P : Type 0} (xs : List P) (bs : List Bool) → length bs ≡ length xs → peers_of (zip xs bs) ≡ xs
+pub peers_zip : {P : Type 0} (xs : List P) (bs : List Bool) → length bs ≡ length xs → keys_of (zip xs bs) ≡ xs
 peers_zip [] bs h = refl
 peers_zip (x ∷ xs) [] h = absurd (omega (arith, h))
 peers_zip (x ∷ xs) (c ∷ bs) h = ap (λ ys. x ∷ ys) (peers_zip xs bs (omega (arith, h)))
 
-pub bits_zip : {P : Type 0} (xs : List P) (bs : List Bool) → length bs ≡ length xs → bits_of (zip xs bs) ≡ bs
+pub bits_zip : {P : Type 0} (xs : List P) (bs : List Bool) → length bs ≡ length xs → values_of (zip xs bs) ≡ bs
 bits_zip [] [] h = refl
 bits_zip [] (c ∷ bs) h = absurd (omega (arith, h))
 bits_zip (x ∷ xs) [] h = absurd (omega (arith, h))

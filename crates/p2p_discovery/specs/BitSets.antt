@@ -1,13 +1,5 @@
 -- Bits beside peers: a list of pairs.
-use Rattle.std.specs.Prelude.{ℕ, zero, suc, Bool, false, List, [], ◌∷◌, map}
-
--- the peers, without their bits
-abbrev pub peers_of : {P : Type 0} → List (P × Bool) → List P
-peers_of es = map (λ e. e.0) es
-
--- the bits, without their peers
-abbrev pub bits_of : {P : Type 0} → List (P × Bool) → List Bool
-bits_of es = map (λ e. e.1) es
+use Rattle.std.specs.Prelude.{ℕ, zero, suc, Bool, false, List, [], ◌∷◌}
 
 -- no bit is set
 abbrev pub unset : {P : Type 0} → List P → List (P × Bool)

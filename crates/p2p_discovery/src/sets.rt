@@ -1,14 +1,14 @@
 //! Sorted sets of peers.
 
 ghost use Rattle.std.specs.Prelude.{◌≡◌, ℕ, ◌<◌, ◌↔◌, [], length, IfOk, IsOk, IsTrue, IfSome};
-ghost use Rattle.std.specs.Prelude.{IfNone, slice_get, Some};
+ghost use Rattle.std.specs.Prelude.{IfNone, slice_get, Some, not, filter};
 ghost use Rattle.std.specs.List.{Contains, IsDistinct};
 ghost use Rattle.std.specs.List.Sorted.{IsStrictlySortedBy, IsPermutation};
 ghost use Rattle.std.specs.Ordering.{eq_by_cmp};
 ghost use Rattle.std.specs.Iterator.{IsFinite};
 ghost use Rattle.std.specs.Iterator.Runs.{WholeRun};
 ghost use Rattle.std.specs.Slice.Iter.{iter_rest};
-ghost use Rattle.p2p_discovery.specs.Ordered.{IsPlaceOf};
+ghost use Rattle.p2p_discovery.specs.Ordered.{IsPlaceOf, has_key};
 
 mod bit_map;
 mod bit_set;
@@ -148,6 +148,23 @@ impl<P: PublicKey> OrderedSet<P> {
         &self.items
     }
 
+    /// The peers that are not in the other set.
+    ///
+    /// # Errors
+    ///
+    /// `AllocError` where memory is refused.
+    ///
+    /// # Cost
+    ///
+    /// One search of the other set for each peer. Nothing is sorted.
+    pub fn difference(&self, other: &OrderedSet<P>) -> Result<Self, AllocError>
+        ensures { IfOk result (λ rest.
+            rest ≡ filter (λ q. not (has_key P.cmp other.now q)) self.now) }
+    {
+        let items = peers_outside(*self.items.allocator(), &self.items, other)?;
+        Ok(OrderedSet { items })
+    }
+
     /// An equal set. It takes no memory where the set is empty.
     ///
     /// # Errors
@@ -165,6 +182,34 @@ impl<P: PublicKey> OrderedSet<P> {
         items.extend_from_slice(&self.items)?;
         Ok(OrderedSet { items })
     }
+}
+
+// Whether the peer is in the set.
+fn contains<P: PublicKey>(set: &OrderedSet<P>, peer: &P) -> bool
+    ensures { result ≡ has_key P.cmp set.now peer.now }
+{
+    match set.position(peer) {
+        Some(_) => true,
+        None => false,
+    }
+}
+
+// Those of the peers that are not in the set.
+fn peers_outside<P: PublicKey>(
+    alloc: Global,
+    peers: &[P],
+    set: &OrderedSet<P>,
+) -> Result<Vec<P>, AllocError>
+    ensures { IfOk result (λ rest. rest.items ≡
+        filter (λ q. not (has_key P.cmp set.now q)) peers.now) }
+{
+    let mut rest = Vec::new(alloc);
+    for peer in peers {
+        if !contains(set, peer) {
+            rest.push(*peer)?;
+        }
+    }
+    Ok(rest)
 }
 
 impl<P: PublicKey> Index<usize> for OrderedSet<P> {

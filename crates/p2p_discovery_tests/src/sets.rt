@@ -69,6 +69,20 @@ fn a_list_with_a_repeat_is_no_set(rt: HostRuntime) -> Result<(), Fail> {
 }
 
 #[test]
+fn the_difference_leaves_out_the_peers_of_another_set(rt: HostRuntime) -> Result<(), Fail> {
+    let alloc = rt.alloc();
+    let set = OrderedSet::from_iter_dedup(alloc, [4, 1, 3, 2].into_iter().map(TestKey))?;
+    let other = OrderedSet::from_iter_dedup(alloc, [3, 5, 1].into_iter().map(TestKey))?;
+    assert_eq!(rt;
+        set.difference(&other)?.as_slice(),
+        [TestKey(2), TestKey(4)].as_slice()
+    );
+    assert_eq!(rt; other.difference(&set)?.as_slice(), [TestKey(5)].as_slice());
+    assert!(rt; set.difference(&set)?.is_empty());
+    Ok(())
+}
+
+#[test]
 fn a_set_is_whole_or_refused_for_memory(rt: HostRuntime) -> Result<(), Fail> {
     let alloc = rt.alloc();
     let whole = OrderedSet::from_iter_dedup(alloc, (0..150).map(TestKey))?;

@@ -10,11 +10,10 @@ use Rattle.p2p_tracker.specs.declared.record.Status.TheVariants.{Active}
 use Rattle.p2p_tracker.specs.Calls.Event.{Tracked, Granted, Blocked}
 use Rattle.p2p_tracker.specs.History.{is_own, is_entitled, is_inert, is_reserved}
 use Rattle.p2p_tracker.specs.History.{is_present_with, primary_count, secondary_count}
-use Rattle.p2p_tracker.specs.PeerSets.{set_with}
+use Rattle.p2p_tracker.specs.PeerSets.{set_with, latest_index}
 use Rattle.p2p_tracker.specs.Blocks.{IsAnyUntil}
 use Rattle.p2p_tracker.specs.Lists.{Lists, IsLeastOf}
-use Rattle.p2p_tracker.specs.World.{World, Peer, is_blocked, dialable_from, address_with}
-use Rattle.p2p_tracker.specs.World.{is_valid_address, is_dial_target}
+use Rattle.p2p_tracker.specs.World.{World, Peer, is_blocked, dialable_from, is_target}
 
 -- the whole milliseconds of a moment, rounded down, at most the greatest `u64`
 abbrev pub epoch_millis : ℕ → ℕ
@@ -90,7 +89,7 @@ module _ {C S : Type 0} (s : Setup C S) where
 
   -- `latest_set_index`
   abbrev pub latest_index_in : World C S → Option ℕ
-  latest_index_in w = option_map (λ x. x.index) (latest_set w)
+  latest_index_in w = latest_index w.sets
 
   -- p has a primary membership
   abbrev pub is_primary_in : World C S → C → Bool
@@ -223,17 +222,11 @@ module _ {C S : Type 0} (s : Setup C S) where
 
   -- DIALABLE
 
-  -- p is entitled, inert, of valid address, and an outbound target
-  abbrev pub is_target : C → List (SetAt C) → Peer C S → Bool
-  is_target p sets peer =
-      is_entitled s p sets && is_inert peer.status &&
-      is_valid_address s (address_with s p peer.known.info) && is_dial_target s p sets
-
   -- a target that isn't blocked, whose dial moment has come
   abbrev pub is_dialable_with : C → ℕ → List (SetAt C) → Peer C S → Option ℕ → Option Cooldown →
       Bool
   is_dialable_with p t sets peer unblock cooldown =
-      is_target p sets peer && not (is_blocked unblock t) && nat_le (dialable_from cooldown) t
+      is_target s p sets peer && not (is_blocked unblock t) && nat_le (dialable_from cooldown) t
 
   -- .. in the world at t
   abbrev pub is_dialable : World C S → ℕ → C → Bool
@@ -244,7 +237,7 @@ module _ {C S : Type 0} (s : Setup C S) where
   abbrev pub query_moment : World C S → ℕ → C → Option ℕ
   query_moment w t p =
       if is_blocked (w.unblock p) t then (if is_present_in w p then w.unblock p else None)
-      else if is_target p w.sets (w.peer p) && nat_lt t (dialable_from (w.cooldown p))
+      else if is_target s p w.sets (w.peer p) && nat_lt t (dialable_from (w.cooldown p))
       then Some (dialable_from (w.cooldown p))
       else None
 

@@ -32,7 +32,8 @@ use Rattle.p2p_tracker.specs.Record.{after_failure, after_success, reserved_reco
 use Rattle.p2p_tracker.specs.Record.{unless_deletable, address_after_infos, wants_info}
 use Rattle.p2p_tracker.specs.Record.{sharable_by, may_come, may_be_dialled, ingress_of}
 use Rattle.p2p_tracker.specs.Record.{DialView, dial_status, is_now, later_moment}
-use Rattle.p2p_tracker.specs.Record.{with_cooldown, moments_after}
+use Rattle.p2p_tracker.specs.Record.{with_cooldown}
+use Rattle.p2p_tracker.specs.Moments.{moments_after}
 use Rattle.p2p_tracker.specs.PeerSets.{set_count, set_with}
 use Rattle.p2p_tracker.specs.Lists.{Lists, IsLeastOf}
 use Rattle.p2p_tracker.specs.Blocks.{unblock_in}

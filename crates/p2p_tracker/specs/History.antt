@@ -4,17 +4,20 @@ use Rattle.std.specs.Prelude.{ℕ, ◌≡◌, ◌+◌, ◌-◌, Bool, true, fals
 use Rattle.std.specs.Prelude.{List, [], ◌∷◌, ◌++◌, length, drop, Option, Some, None, nat_lt, nat_le}
 use Rattle.std.specs.Prelude.{filter, count_by, option_map}
 use Rattle.std.specs.List.{list_any}
-use Rattle.std.specs.Ordering.{is_eq}
+use Rattle.std.specs.BTreeMap.{is_at}
 use Rattle.p2p_discovery.specs.declared.discovery.Info.{Info}
 use Rattle.p2p_discovery.specs.declared.types.ingress.Ingress.{Ingress}
 use Rattle.p2p_discovery.specs.Ingress.{same_ingress}
-use Rattle.p2p_tracker.specs.Moments.{cap, jitter}
+use Rattle.p2p_tracker.specs.Moments.{cap, moments_after}
 use Rattle.p2p_tracker.specs.declared.record.Status.{Status}
 use Rattle.p2p_tracker.specs.Calls.{Setup, SetAt, Direction, Grant, Cooldown, Event}
 use Rattle.p2p_tracker.specs.declared.record.Status.TheVariants.{Inert, Reserved, Active}
 use Rattle.p2p_tracker.specs.Calls.Direction.{Listener, Dialer}
 use Rattle.p2p_tracker.specs.Calls.Event.{Tracked, Granted, Connected, Released, Updated, Blocked}
 use Rattle.p2p_tracker.specs.Calls.Event.{Expired, Forgot}
+use Rattle.p2p_tracker.specs.PeerSets.{set_count}
+use Rattle.p2p_discovery.specs.Ordered.{has_key}
+use Rattle.p2p_tracker.specs.declared.record.Role.TheVariants.{Primary, Secondary}
 
 -- LOOKING BACK
 
@@ -82,7 +85,7 @@ module _ {C S : Type 0} (s : Setup C S) where
 
   -- the keys compare as equal
   abbrev pub same : C → C → Bool
-  same q p = is_eq (s.cmp q p)
+  same q p = is_at (s.cmp q) p
 
   -- p is the own key
   abbrev pub is_own : C → Bool
@@ -90,7 +93,7 @@ module _ {C S : Type 0} (s : Setup C S) where
 
   -- p is one of these keys
   abbrev pub is_in : C → List C → Bool
-  is_in p ps = list_any (λ q. same q p) ps
+  is_in p ps = has_key s.cmp ps p
 
   -- keys that compare as equal are one key
   abbrev pub IsExact : Type 0
@@ -114,11 +117,11 @@ module _ {C S : Type 0} (s : Setup C S) where
 
   -- how many of these sets have p in primary
   abbrev pub primary_count : C → List (SetAt C) → ℕ
-  primary_count p sets = count_by (λ x. is_in p x.primary) sets
+  primary_count p sets = set_count s.cmp Primary p sets
 
   -- how many of these sets have p in secondary
   abbrev pub secondary_count : C → List (SetAt C) → ℕ
-  secondary_count p sets = count_by (λ x. is_in p x.secondary) sets
+  secondary_count p sets = set_count s.cmp Secondary p sets
 
   -- one of these sets has p
   abbrev pub is_named : C → List (SetAt C) → Bool
@@ -230,20 +233,17 @@ module _ {C S : Type 0} (s : Setup C S) where
   -- COOLDOWNS, which know no life
 
   -- the moments of a grant
-  abbrev pub cooldown_of : Grant → Cooldown
-  cooldown_of grant = record {
-    reservable_at = cap (grant.t + s.cooldown);
-    dial_at = cap (cap (grant.t + s.cooldown) + jitter grant.draw s.cooldown);
-  }
+  abbrev pub moments_of : Grant → Cooldown
+  moments_of grant = moments_after grant.t grant.draw s.cooldown
 
   -- the event forgets the grant: its dial moment has come
   abbrev pub is_forgetting : Grant → Event C S → Bool
-  is_forgetting grant (Forgot t) = nat_le (cooldown_of grant).dial_at t
+  is_forgetting grant (Forgot t) = nat_le (moments_of grant).dial_at t
   is_forgetting grant _ = false
 
   -- the moments of the last grant of p, unless it was forgotten
   abbrev pub cooldown_at : C → List (Event C S) → Option Cooldown
-  cooldown_at p h = option_map cooldown_of (last_unless_ended (grant_by p) is_forgetting h)
+  cooldown_at p h = option_map moments_of (last_unless_ended (grant_by p) is_forgetting h)
 
   -- BLOCKS, which know no life
 

@@ -1,10 +1,10 @@
 -- Retained sets, the oldest first, and what they say of a key.
 use Rattle.std.specs.Prelude.{ℕ, ◌≡◌, ◌==◌, Bool, true, false, not, ◌||◌, ◌+◌, List, length, nat_lt}
 use Rattle.std.specs.Prelude.{Option, Some, None, find}
-use Rattle.std.specs.List.{list_any, count_by, last_or, filter}
+use Rattle.std.specs.List.{count_by, last_or, filter}
 use Rattle.std.specs.Option.{option_map}
 use Rattle.std.specs.declared.cmp.Ordering.{Ordering}
-use Rattle.std.specs.BTreeMap.{is_at}
+use Rattle.p2p_discovery.specs.Ordered.{has_key}
 use Rattle.p2p_tracker.specs.declared.record.Role.{Role}
 use Rattle.p2p_tracker.specs.declared.record.Role.TheVariants.{Primary, Secondary}
 use Rattle.p2p_tracker.specs.Calls.{SetAt}
@@ -32,26 +32,23 @@ is_above index None = true
 is_above index (Some latest) = nat_lt latest index
 
 module _ {C : Type 0} (cmp : C → C → Ordering) where
-  -- one of the keys is this one
-  abbrev pub has_key : List C → C → Bool
-  has_key keys q = list_any (λ key. is_at (cmp key) q) keys
-
   -- the set has the peer
   abbrev pub is_member : SetAt C → C → Bool
-  is_member set q = has_key set.primary q || has_key set.secondary q
+  is_member set q = has_key cmp set.primary q || has_key cmp set.secondary q
 
   -- no peer has both roles
   abbrev pub AreRolesDisjoint : SetAt C → Type 0
-  AreRolesDisjoint set = (q : C) → has_key set.primary q ≡ true → has_key set.secondary q ≡ false
+  AreRolesDisjoint set =
+      (q : C) → has_key cmp set.primary q ≡ true → has_key cmp set.secondary q ≡ false
 
   -- the set of these peers at an index: a peer in both roles is primary only
   abbrev pub set_of : ℕ → List C → List C → SetAt C
   set_of index primary secondary = record {
     index = index;
     primary = primary;
-    secondary = filter (λ q. not (has_key primary q)) secondary;
+    secondary = filter (λ q. not (has_key cmp primary q)) secondary;
   }
 
   -- how many of the sets have the peer in the role
   abbrev pub set_count : Role → C → List (SetAt C) → ℕ
-  set_count role q sets = count_by (λ set. has_key (members role set) q) sets
+  set_count role q sets = count_by (λ set. has_key cmp (members role set) q) sets

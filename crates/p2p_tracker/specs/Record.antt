@@ -62,13 +62,6 @@ abbrev pub later_moment : DialView → Option ℕ
 later_moment (DialView.After moment) = Some moment
 later_moment _ = None
 
--- the moments that a grant at a moment leaves, with a draw and a cooldown
-abbrev pub moments_after : ℕ → ℕ → ℕ → Cooldown
-moments_after now draw cooldown = record {
-  reservable_at = cap (now + cooldown);
-  dial_at = cap (cap (now + cooldown) + jitter draw cooldown);
-}
-
 module _ {C S : Type 0} where
   -- A NEW RECORD
 

@@ -10,7 +10,7 @@ use Rattle.p2p_tracker.specs.declared.record.Status.TheVariants.{Inert, Reserved
 use Rattle.p2p_tracker.specs.Calls.Event.{Tracked, Granted, Connected, Released, Updated, Blocked}
 use Rattle.p2p_tracker.specs.Calls.Event.{Expired, Forgot}
 use Rattle.p2p_tracker.specs.History.{last_of, same, is_own, is_present_with, is_dial_at}
-use Rattle.p2p_tracker.specs.History.{cooldown_of}
+use Rattle.p2p_tracker.specs.History.{moments_of}
 use Rattle.p2p_tracker.specs.World.{Known, Peer, State, World, event_in}
 
 module _ {C S : Type 0} (s : Setup C S) where
@@ -89,7 +89,7 @@ module _ {C S : Type 0} (s : Setup C S) where
   -- what an event makes of the moments that are kept of p
   abbrev pub cooldown_after : C → Event C S → Option Cooldown → Option Cooldown
   cooldown_after p (Granted q grant) cooldown =
-      if same s q p then Some (cooldown_of s grant) else cooldown
+      if same s q p then Some (moments_of s grant) else cooldown
   cooldown_after p (Forgot t) None = None
   cooldown_after p (Forgot t) (Some cooldown) =
       if nat_le cooldown.dial_at t then None else Some cooldown

@@ -1,6 +1,6 @@
 -- The world that a past makes, what a call does in it, and the step of one accepted call.
 use Rattle.std.specs.Prelude.{ℕ, Bool, false, not, ◌&&◌, ◌||◌, if◌then◌else◌, List, [], ◌∷◌, Option}
-use Rattle.std.specs.Prelude.{Some, None, nat_lt, nat_le, filter}
+use Rattle.std.specs.Prelude.{Some, None, nat_lt, nat_le}
 use Rattle.std.specs.List.{list_all}
 use Rattle.std.specs.Ordering.{is_eq}
 use Rattle.std.specs.declared.cmp.Ordering.{Ordering}
@@ -15,7 +15,8 @@ use Rattle.p2p_tracker.specs.declared.record.Status.TheVariants.{Inert, Reserved
 use Rattle.p2p_tracker.specs.Calls.Direction.{Listener, Dialer}
 use Rattle.p2p_tracker.specs.Calls.Event.{Nothing, Tracked, Granted, Connected, Released, Updated}
 use Rattle.p2p_tracker.specs.Calls.Event.{Blocked, Expired, Forgot}
-use Rattle.p2p_tracker.specs.History.{is_own, is_in, taken_sets, retained_sets, primary_count}
+use Rattle.p2p_tracker.specs.PeerSets.{set_of}
+use Rattle.p2p_tracker.specs.History.{is_own, taken_sets, retained_sets, primary_count}
 use Rattle.p2p_tracker.specs.History.{is_persistent, is_entitled, is_inert, status_at, held_at}
 use Rattle.p2p_tracker.specs.History.{life, info_in, fails_in, cooldown_at, unblock_at}
 
@@ -111,17 +112,22 @@ module _ {C S : Type 0} (s : Setup C S) where
   abbrev pub is_dial_target : C → List (SetAt C) → Bool
   is_dial_target p sets = nat_lt 0 (primary_count s p sets) || is_persistent s p
 
+  -- p is entitled, inert, of valid address, and an outbound target
+  abbrev pub is_target : C → List (SetAt C) → Peer C S → Bool
+  is_target p sets peer =
+      is_entitled s p sets && is_inert peer.status &&
+      is_valid_address (address_with p peer.known.info) && is_dial_target p sets
+
   -- a listen of p at t is granted
   abbrev pub may_listen : C → ℕ → List (SetAt C) → Peer C S → Option ℕ → Option Cooldown → Bool
   may_listen p t sets peer unblock cooldown =
       is_entitled s p sets && is_inert peer.status && not (is_blocked unblock t) &&
       nat_le (reservable_from cooldown) t
 
-  -- a dial of p at t is granted
+  -- a dial of p at t is granted: of a target that isn't blocked, whose reservable moment has come
   abbrev pub may_dial : C → ℕ → List (SetAt C) → Peer C S → Option ℕ → Option Cooldown → Bool
   may_dial p t sets peer unblock cooldown =
-      may_listen p t sets peer unblock cooldown && is_dial_target p sets &&
-      is_valid_address (address_with p peer.known.info)
+      is_target p sets peer && not (is_blocked unblock t) && nat_le (reservable_from cooldown) t
 
   -- WHAT A CALL DOES, in a world
 
@@ -152,11 +158,7 @@ module _ {C S : Type 0} (s : Setup C S) where
   abbrev pub track_event : List (SetAt C) → ℕ → List C → List C → Event C S
   track_event sets index primary secondary =
       if list_all (λ x. nat_lt x.index index) sets
-      then Tracked (record {
-        index = index;
-        primary = primary;
-        secondary = filter (λ q. not (is_in s q primary)) secondary;
-      })
+      then Tracked (set_of s.cmp index primary secondary)
       else Nothing
 
   -- a block is taken where p isn't the own key and isn't blocked at t

@@ -8,7 +8,8 @@ ghost use Rattle.std.specs.BTreeMap.{is_at, get};
 ghost use Rattle.std.specs.List.{filter, count_by, last_or};
 ghost use Rattle.std.specs.Option.{option_copied};
 ghost use Rattle.p2p_discovery.specs.BitSets.{with_bit};
-ghost use Rattle.p2p_tracker.specs.PeerSets.{has_key, set_of, latest_index, is_above};
+ghost use Rattle.p2p_tracker.specs.PeerSets.{set_of, latest_index, is_above};
+ghost use Rattle.p2p_discovery.specs.Ordered.{has_key};
 ghost use Rattle.p2p_tracker.specs.PeerSets.{AreRolesDisjoint};
 ghost use Rattle.p2p_tracker.specs.Private.Counts.{leaving_count};
 ghost use Rattle.p2p_tracker.specs.Private.Window.{SetWithBits, plain_set, plain_sets};
@@ -102,7 +103,7 @@ impl<C: PublicKey> PeerSet<C> {
         ensures { IfOk result (λ set.
             set ≡ set_with_bits (λ q. false) (set_of C.cmp index primary secondary)) }
     {
-        let secondary = without(alloc, &secondary, &primary)?;
+        let secondary = secondary.difference(&primary)?;
         let primary = BitSet::new(alloc, primary)?;
         Ok(PeerSet {
             index,
@@ -139,49 +140,6 @@ impl<C: PublicKey> PeerSet<C> {
             record self.old { primary = with_bit self.old.primary place known } }
     {
         self.primary.update_at(place, known);
-    }
-}
-
-// Whether the peer is in the set.
-fn contains<C: PublicKey>(set: &OrderedSet<C>, peer: &C) -> bool
-    ensures { result ≡ has_key C.cmp set.now peer.now }
-{
-    match set.position(peer) {
-        Some(_) => true,
-        None => false,
-    }
-}
-
-// Those of the peers that are not in the set.
-fn peers_outside<C: PublicKey>(
-    alloc: Global,
-    peers: &[C],
-    set: &OrderedSet<C>,
-) -> Result<Vec<C>, AllocError>
-    ensures { IfOk result (λ rest. rest.items ≡
-        filter (λ q. not (has_key C.cmp set.now q)) peers.now) }
-{
-    let mut rest = Vec::new(alloc);
-    for peer in peers {
-        if !contains(set, peer) {
-            rest.push(*peer)?;
-        }
-    }
-    Ok(rest)
-}
-
-// The peers of one set that are not in another.
-fn without<C: PublicKey>(
-    alloc: Global,
-    set: &OrderedSet<C>,
-    other: &OrderedSet<C>,
-) -> Result<OrderedSet<C>, AllocError>
-    ensures { IfOk result (λ rest. rest ≡ filter (λ q. not (has_key C.cmp other.now q)) set.now) }
-{
-    let rest = peers_outside(alloc, set.as_slice(), other)?;
-    match OrderedSet::try_from(rest) {
-        Ok(rest) => Ok(rest),
-        Err(SetError::Duplicate) => unreachable!(),
     }
 }
 

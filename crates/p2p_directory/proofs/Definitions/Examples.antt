@@ -319,7 +319,7 @@ row19 :
     × (latest_set setup19 (world_at setup19 row19_d) ≡ Some (record { index = 1; primary = 2 ∷ []; secondary = [] }))
     × (torn setup19 row19_d (track 2 []) ≡ [])
     × (torn setup19 row19_e (track 3 []) ≡ 2 ∷ [])
-unfolding History.life
+unfolding History.life is_valid
 row19 = (refl, refl, refl, refl, refl, refl, refl, refl, refl, refl)
 
 -- ROW 20: the next query comes from a blocked peer

@@ -157,33 +157,33 @@ module _ {C S : Type 0} (s : Setup C S) where
 
   -- what is kept of the last grant
   kept_step : (p : C) (e : Event C S) (h : List (Event C S)) →
-      History.cooldown_at s p (e ∷ h) ≡ option_map (History.cooldown_of s)
+      History.cooldown_at s p (e ∷ h) ≡ option_map (History.moments_of s)
       (lasted (History.grant_by s p e) (λ grant. History.is_forgetting s grant e)
       (last_unless_ended (History.grant_by s p) (History.is_forgetting s) h))
-  kept_step p e h = ap (option_map (History.cooldown_of s)) (lasting_step (History.grant_by s p) (History.is_forgetting s) e h)
+  kept_step p e h = ap (option_map (History.moments_of s)) (lasting_step (History.grant_by s p) (History.is_forgetting s) e h)
 
   -- an event that is neither a grant of p nor forgets
-  kept_same : (kept : Option Grant) → option_map (History.cooldown_of s) (lasted None (λ g. false) kept) ≡ option_map (History.cooldown_of s) kept
-  kept_same kept = ap (option_map (History.cooldown_of s)) (lasted_none kept)
+  kept_same : (kept : Option Grant) → option_map (History.moments_of s) (lasted None (λ g. false) kept) ≡ option_map (History.moments_of s) kept
+  kept_same kept = ap (option_map (History.moments_of s)) (lasted_none kept)
 
   pub cooldown_step : (p : C) (e : Event C S) (h : List (Event C S)) → History.cooldown_at s p (e ∷ h) ≡ Step.cooldown_after s p e (History.cooldown_at s p h)
   cooldown_step p (Granted q grant) h =
       kept_step p (Granted q grant) h
       ∙ go (History.same s q p) (last_unless_ended (History.grant_by s p) (History.is_forgetting s) h)
     where
-      go : (b : Bool) (kept : Option Grant) → option_map (History.cooldown_of s) (lasted (if b then Some grant else None) (λ g. false) kept)
-          ≡ (if b then Some (History.cooldown_of s grant) else option_map (History.cooldown_of s) kept)
+      go : (b : Bool) (kept : Option Grant) → option_map (History.moments_of s) (lasted (if b then Some grant else None) (λ g. false) kept)
+          ≡ (if b then Some (History.moments_of s grant) else option_map (History.moments_of s) kept)
       go true kept = refl
       go false kept = kept_same kept
   cooldown_step p (Forgot t) h = kept_step p (Forgot t) h ∙ go (last_unless_ended (History.grant_by s p) (History.is_forgetting s) h)
     where
-      go : (kept : Option Grant) → option_map (History.cooldown_of s) (lasted None (λ g. nat_le (History.cooldown_of s g).dial_at t) kept)
-          ≡ Step.cooldown_after s p (Forgot t) (option_map (History.cooldown_of s) kept)
+      go : (kept : Option Grant) → option_map (History.moments_of s) (lasted None (λ g. nat_le (History.moments_of s g).dial_at t) kept)
+          ≡ Step.cooldown_after s p (Forgot t) (option_map (History.moments_of s) kept)
       go None = refl
       go (Some g) =
-          elim (nat_le (History.cooldown_of s g).dial_at t) as
-          (λ b. option_map (History.cooldown_of s) (if b then None else Some g)
-          ≡ (if b then None else Some (History.cooldown_of s g))) [ true ↦ refl | false ↦ refl ]
+          elim (nat_le (History.moments_of s g).dial_at t) as
+          (λ b. option_map (History.moments_of s) (if b then None else Some g)
+          ≡ (if b then None else Some (History.moments_of s g))) [ true ↦ refl | false ↦ refl ]
   cooldown_step p Nothing h = kept_step p Nothing h ∙ kept_same (last_unless_ended (History.grant_by s p) (History.is_forgetting s) h)
   cooldown_step p (Tracked taken) h = kept_step p (Tracked taken) h ∙ kept_same (last_unless_ended (History.grant_by s p) (History.is_forgetting s) h)
   cooldown_step p (Connected q dialer) h = kept_step p (Connected q dialer) h ∙ kept_same (last_unless_ended (History.grant_by s p) (History.is_forgetting s) h)

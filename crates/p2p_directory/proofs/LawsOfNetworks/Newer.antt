@@ -17,7 +17,7 @@ use Rattle.p2p_tracker.specs.World
 use Rattle.p2p_tracker.specs.World.{World, Known}
 use Rattle.p2p_tracker.specs.Step
 use Rattle.p2p_tracker.specs.Answers.{is_present_in}
-use Rattle.p2p_directory.specs.Run.{call_of, is_accepted, world_after}
+use Rattle.p2p_directory.specs.Run.{call_of, was_made, world_after}
 use Rattle.p2p_directory.specs.Received.{Wire, applies}
 use Rattle.p2p_directory.specs.Nodes.{Made, calls_with}
 use Rattle.p2p_directory.specs.Exchange.{infos_applied}
@@ -106,7 +106,7 @@ module _ {C S : Type 0} where
   one_then : (wire : Wire C S) (m : Made C S) (c : NetworkCommand C S) (r : NetworkReply C S)
       (calls : List (Call C S)) → IsOneMore calls (calls_then wire m c r calls)
   one_then wire m (command.Call i x) (reply.Call r) calls =
-      one_if (is_accepted m.directory r) (call_of x) calls
+      one_if (was_made r) (call_of x) calls
   one_then wire m (command.Call i x) (reply.Ask r) calls = inl refl
   one_then wire m (command.Call i x) (reply.Frame r) calls = inl refl
   one_then wire m (command.Call i x) (reply.Exchange r) calls = inl refl

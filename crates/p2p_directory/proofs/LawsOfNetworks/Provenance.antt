@@ -13,7 +13,7 @@ use Rattle.p2p_directory.specs.declared.node.network.NetworkReply.TheVariants as
 use Rattle.p2p_tracker.specs.Calls.{Call}
 use Rattle.p2p_tracker.specs.Calls.Call.{Track, Dial, Listen, Connect, Release, Update, Block}
 use Rattle.p2p_tracker.specs.Calls.Call.{UnblockExpired, ForgetCooled, Ask}
-use Rattle.p2p_directory.specs.Run.{call_of, is_accepted, world_after}
+use Rattle.p2p_directory.specs.Run.{call_of, was_made, world_after}
 use Rattle.p2p_directory.specs.Received.{Wire, applies}
 use Rattle.p2p_directory.specs.Exchange
 use Rattle.p2p_directory.specs.Nodes.{Made}
@@ -102,7 +102,7 @@ module _ {C S : Type 0} (wire : Wire C S) (size : ℕ) (node : ℕ → Made C S)
         GivesAll (calls_then wire (node (changed_by c)) c r
         (calls_at wire size node done (changed_by c)))
     gives_then done (command.Call i x) (reply.Call r) is h before =
-        gives_if P (is_accepted (node i).directory r) (call_of x) (calls_at wire size node done i)
+        gives_if P (was_made r) (call_of x) (calls_at wire size node done i)
         (λ e. h) (before i)
     gives_then done (command.Call i x) (reply.Ask frame) is h before = absurd is.1
     gives_then done (command.Call i x) (reply.Frame r) is h before = absurd is.1

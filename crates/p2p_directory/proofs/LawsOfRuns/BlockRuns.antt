@@ -1,5 +1,5 @@
 -- Blocks by the replies to a run: of any moments, and where these never go back.
-use Rattle.std.proofs.Common.{◌≡◌, ℕ, ◌+◌, ◌≤◌, max, Bool, true, false, not, ◌&&◌, List, [], ◌∷◌, ◌++◌, Option, Some, None, refl, sym, ◌∙◌, ap, subst, arith}
+use Rattle.std.proofs.Common.{◌≡◌, ℕ, ◌+◌, ◌≤◌, max, Bool, true, false, not, ◌&&◌, List, [], ◌∷◌, ◌++◌, Option, Some, None, inl, inr, refl, sym, ◌∙◌, ap, subst, arith}
 use Rattle.std.specs.Prelude.{if◌then◌else◌, nat_le, nat_lt, option_to_list, filter, IfSome}
 use Rattle.std.specs.List.{list_all}
 use Rattle.std.specs.Option.{option_map}
@@ -127,7 +127,7 @@ module _ {C S : Type 0} (s : Setup C S) where
   kept_next p before c r a =
       left_is (block_taken_by s p c r) (expired_by c r) end
       ∙ ap (λ o. kept_by o (expired_by c r) end) (end_is p c r ∙ (told_after s p before c r a).blocked)
-      ∙ go (Run.is_accepted s r)
+      ∙ go (Run.was_made r)
     where
       end : Option ℕ
       end = History.unblock_at s p (World.past s before)
@@ -160,7 +160,7 @@ module _ {C S : Type 0} (s : Setup C S) where
 
   taken_free : History.IsExact s → (p : C) (sets : List (SetAt C)) (w v : World C S) (c : Call C S) (r : Reply C S) →
       Run.MayReply s (World.event_in s sets w c) w v c r → IsNotBefore (block_taken_by s p c r) (w.unblock p)
-  taken_free exact p sets w v (Block q t) (reply.Block true) a = go (not (History.is_own s q) && not (World.is_blocked (w.unblock q) t)) refl a
+  taken_free exact p sets w v (Block q t) (reply.Block true) (inr a) = go (not (History.is_own s q) && not (World.is_blocked (w.unblock q) t)) refl a
     where
       go : (b : Bool) → (not (History.is_own s q) && not (World.is_blocked (w.unblock q) t)) ≡ b →
           SaysTaken (if b then Blocked q t else Nothing) →
@@ -171,6 +171,7 @@ module _ {C S : Type 0} (s : Setup C S) where
           peer : (b : Bool) → History.same s q p ≡ b → IsNotBefore (if b then Some t else None) (w.unblock p)
           peer true same = free t (w.unblock p) (subst (λ x. World.is_blocked (w.unblock x) t ≡ false) (exact q p same) (not-true _ (and_parts _ _ e).1))
           peer false same = tt
+  taken_free exact p sets w v (Block q t) (reply.Block true) (inl (refused, may)) = absurd (cc)
   taken_free exact p sets w v c r a = tt
 
   keep_from : History.IsExact s → (p : C) (end : Option ℕ) (before cs : List (Call C S)) (rs : List (Reply C S)) →
@@ -184,8 +185,8 @@ module _ {C S : Type 0} (s : Setup C S) where
         subst (λ (o : Option (ℕ × ℕ)). IsNotBefore (option_map (λ grant. grant.0) o) end) (sym (told_after s p before c r answers.0).granted)
             (subst (λ o. IsNotBefore
             (option_map (λ grant. grant.0)
-            (if_accepted s (Run.is_accepted s r) (moment_by s p (Run.event_of s before c)))) o) (sym kept)
-            (grant_free p w (moment_or s 0 c) (Run.is_accepted s r)
+            (if_accepted s (Run.was_made r) (moment_by s p (Run.event_of s before c)))) o) (sym kept)
+            (grant_free p w (moment_or s 0 c) (Run.was_made r)
             (History.grant_by s p (Run.event_of s before c)) (Spacing.event_fits s exact p c before 0))),
         subst (IsNotBefore (block_taken_by s p c r)) (sym kept) (taken_free exact p sets w (Run.world_after s (c ∷ before)) c r answers.0),
         keep_from exact p (block_left s p c r end) (Run.next s before c r) cs rs

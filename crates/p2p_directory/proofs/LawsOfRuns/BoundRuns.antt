@@ -1,5 +1,5 @@
 -- How many peers a directory holds, by the replies to a run.
-use Rattle.std.proofs.Common.{◌≡◌, ℕ, Bool, true, false, List, [], ◌∷◌, sym, ◌∙◌, subst, arith}
+use Rattle.std.proofs.Common.{◌≡◌, ℕ, Bool, true, false, List, [], ◌∷◌, refl, sym, ◌∙◌, subst, arith}
 use Rattle.std.specs.Prelude.{if◌then◌else◌}
 use Rattle.std.specs.Cmp.{IsTotalOrder}
 use Rattle.std.proofs.lemmas.Bool.{and_parts}
@@ -14,6 +14,7 @@ use Rattle.p2p_directory.specs.declared.run.commands.Reply.{Reply}
 use Rattle.p2p_directory.specs.declared.run.commands.Reply.TheVariants as reply
 use Rattle.p2p_directory.specs.Laws.BoundRuns.{IsFew, TellsFew, NameAtMost, KeepBound}
 use Rattle.p2p_directory.proofs.LawsOfRuns.Bounded
+use Rattle.p2p_directory.proofs.LawsOfRuns.GrantRuns.{answered}
 
 module _ {C S : Type 0} (s : Setup C S) (n : ℕ) (total : IsTotalOrder s.cmp) where
   -- the number that is tracked
@@ -28,7 +29,8 @@ module _ {C S : Type 0} (s : Setup C S) (n : ℕ) (total : IsTotalOrder s.cmp) w
 
   -- only a question for the number is replied it
   count_few : (before : List (Call C S)) (c : Call C S) (count : ℕ) → NameAtMost s n before →
-      Run.IsAnswer s before c (reply.Tracked count) → IsFew s n before count
+      Run.Replies s (Run.event_of s before c) (Run.world_after s before)
+      (Run.world_after s (c ∷ before)) c (reply.Tracked count) → IsFew s n before count
   count_few before (Ask NumberTracked) count h a = tracked_few before count h a
   count_few before (Dial q t draw) count h a = absurd (cc)
   count_few before (Listen q t draw) count h a = absurd (cc)
@@ -63,7 +65,8 @@ module _ {C S : Type 0} (s : Setup C S) (n : ℕ) (total : IsTotalOrder s.cmp) w
 
   few : (before : List (Call C S)) (c : Call C S) (r : Reply C S) → NameAtMost s n before →
       Run.IsAnswer s before c r → TellsFew s n before r
-  few before c r h a = λ count is. count_few before c count h (subst (Run.IsAnswer s before c) is a)
+  few before c r h a = λ count is. count_few before c count h
+      (answered s before c (reply.Tracked count) refl (subst (Run.IsAnswer s before c) is a))
 
   keep_bound_from : (before cs : List (Call C S)) (rs : List (Reply C S)) → Run.AreAnswers s before cs rs → KeepBound s n before cs rs
   keep_bound_from before [] [] answers = λ h. Bounded.bounded s n total before h

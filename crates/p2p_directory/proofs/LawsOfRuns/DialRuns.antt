@@ -20,7 +20,7 @@ use Rattle.p2p_directory.proofs.LawsOfRuns.Isolation
 use Rattle.p2p_directory.proofs.LawsOfRuns.Dialled
 use Rattle.p2p_tracker.proofs.Definitions.Listed
 use Rattle.p2p_tracker.proofs.Definitions.Quiet
-use Rattle.p2p_directory.proofs.LawsOfRuns.GrantRuns.{replied}
+use Rattle.p2p_directory.proofs.LawsOfRuns.GrantRuns.{answered}
 
 module _ {C S : Type 0} (s : Setup C S) where
   -- DIALS
@@ -48,11 +48,10 @@ module _ {C S : Type 0} (s : Setup C S) where
   -- the reply to a dial of a dialable peer, and what holds of those after it
   one_granted : {X : Type 0} (p : C) (t draw : ℕ) (before cs : List (Call C S)) (r : Reply C S) (rs : List (Reply C S)) →
       IsDialled s p t draw (Run.event_of s before (Dial p t draw)) →
-      (r ≡ reply.OutOfMemory) ⊎ Run.Replies s (Run.event_of s before (Dial p t draw)) (Run.world_after s before)
-      (Run.world_after s (Dial p t draw ∷ before)) (Dial p t draw) r →
+      Run.IsAnswer s before (Dial p t draw) r →
       (Run.AreAnswers s before cs rs → X) → (Run.AreAnswers s (Dial p t draw ∷ before) cs rs → X) →
       Run.AreAnswers s (Run.next s before (Dial p t draw) r) cs rs → IsGrantedOrOutOfMemory r × X
-  one_granted {X} p t draw before cs r rs granted (inl e) refused more =
+  one_granted {X} p t draw before cs r rs granted (inl (e, may)) refused more =
       subst (λ y. Run.AreAnswers s (Run.next s before (Dial p t draw) y) cs rs → IsGrantedOrOutOfMemory y × X) (sym e) (λ answers. (tt, refused answers))
   one_granted {X} p t draw before cs r rs granted (inr e) refused more =
       subst (λ y. Run.AreAnswers s (Run.next s before (Dial p t draw) y) cs rs → IsGrantedOrOutOfMemory y × X)
@@ -64,7 +63,7 @@ module _ {C S : Type 0} (s : Setup C S) where
       one_granted q u draw before cs r rs
       (Dialled.granted s q u draw (Run.world_after s before) (Dialled.cooled_first s q (World.past s before))
       (subst (λ m. is_dialable s (Run.world_after s before) m q ≡ true) (sym e) (ready q listed)))
-      (replied s (Run.event_of s before (Dial q u draw)) (Run.world_after s before) (Run.world_after s (Dial q u draw ∷ before)) (Dial q u draw) r answers.0)
+      answers.0
       (λ a. all_granted some exact t (without s q ps) before cs rs (λ p other. ready p (without_in exact p q ps other).0) a)
       (λ a. all_granted some exact t (without s q ps) (Dial q u draw ∷ before) cs rs
       (λ p other. Dialled.dialable_alike s p t _ _
@@ -118,15 +117,16 @@ module _ {C S : Type 0} (s : Setup C S) where
     repeated t ps next before question r first again = λ u answer asked told le soon.
         Quiet.only_dialable s total exact (Run.world_after s before) u answer.peers.items ps (next_query answer)
         next
+        (answered s before (Ask (DialableAt u)) (reply.Dialable answer) refl
         (subst (λ q. Run.IsAnswer s before (Ask q) (reply.Dialable answer)) asked
-        (subst (Run.IsAnswer s before (Ask question)) told again))
+        (subst (Run.IsAnswer s before (Ask question)) told again)))
         (Quiet.stays_dialable s (Run.world_after s before) t u ps next first le soon)
 
     all_quiet : (t : ℕ) (ps : List C) (next : Option ℕ) (before cs : List (Call C S)) (rs : List (Reply C S)) →
         IsDialable s (Run.world_after s before) t ps next → Run.AreAnswers s before cs rs → IsQuiet s t ps next cs rs
     all_quiet t ps next before (Ask question ∷ cs) (r ∷ rs) first answers = (
       repeated t ps next before question r first answers.0,
-      all_quiet t ps next (Run.next s before (Ask question) r) cs rs (asked_answer exact question before (Run.is_accepted s r) t ps next first) answers.1,
+      all_quiet t ps next (Run.next s before (Ask question) r) cs rs (asked_answer exact question before (Run.was_made r) t ps next first) answers.1,
     )
     all_quiet t ps next before (Ask question ∷ cs) [] first answers = tt
     all_quiet t ps next before [] rs first answers = tt
@@ -150,7 +150,8 @@ module _ {C S : Type 0} (s : Setup C S) where
     dialable_kept least before t given cs rs answer answers =
         let ps = given.peers.items in
         let next = next_query given in
-        let still = asked_answer exact (DialableAt t) before true t ps next answer in (
+        let listed = answered s before (Ask (DialableAt t)) (reply.Dialable given) refl answer in
+        let still = asked_answer exact (DialableAt t) before true t ps next listed in (
           all_granted least exact t ps (Ask (DialableAt t) ∷ before) cs rs
               (λ p listed. sym (still.0.members p) ∙ listed) answers,
           all_quiet t ps next (Ask (DialableAt t) ∷ before) cs rs still answers,

@@ -19,28 +19,8 @@ use Rattle.p2p_tracker.specs.Answers.{is_dialable, is_dialable_with}
 use Rattle.p2p_tracker.specs.Lists.{Lists}
 use Rattle.p2p_directory.specs.Laws.Isolation.{SameFor}
 use Rattle.p2p_tracker.specs.Dials.{IsApart, AreChosen, IsDialled, AreDialled}
+use Rattle.p2p_directory.proofs.Definitions.Targets.{IsTarget, parts_of_target}
 use Rattle.p2p_directory.proofs.LawsOfRuns.Isolation
-
--- the parts of a test
-record Parts (e i v g b d : Bool) : Type 0 where
-  entitled : e ≡ true
-  inert : i ≡ true
-  valid : v ≡ true
-  target : g ≡ true
-  free : b ≡ true
-  cool : d ≡ true
-
-parts_of : (e i v g b d : Bool) → (e && i && v && g && b && d) ≡ true → Parts e i v g b d
-parts_of e i v g b d h =
-    let h5 = and_parts (e && i && v && g && b) d h in
-    let h4 = and_parts (e && i && v && g) b h5.0 in
-    let h3 = and_parts (e && i && v) g h4.0 in
-    let h2 = and_parts (e && i) v h3.0 in
-    let h1 = and_parts e i h2.0 in
-    record { entitled = h1.0; inert = h1.1; valid = h2.1; target = h3.1; free = h4.1; cool = h5.1 }
-
-all_of : (e i b d : Bool) → e ≡ true → i ≡ true → b ≡ true → d ≡ true → (e && i && b && d) ≡ true
-all_of e i b d he hi hb hd = and_from (e && i && b) d (and_from (e && i) b (and_from e i he hi) hb) hd
 
 itself : {C : Type 0} (cmp : C → C → Ordering) → IsTotalOrder cmp → (x : C) → is_eq (cmp x x) ≡ true
 itself cmp total x = go (cmp x x) refl
@@ -53,8 +33,8 @@ itself cmp total x = go (cmp x x) refl
 module _ {C S : Type 0} (s : Setup C S) where
   -- the dial moment isn't before the reservable one
   reservable_first : (kept : Option Grant) →
-      World.reservable_from (option_map (History.cooldown_of s) kept) ≤ World.dialable_from
-      (option_map (History.cooldown_of s) kept)
+      World.reservable_from (option_map (History.moments_of s) kept) ≤ World.dialable_from
+      (option_map (History.moments_of s) kept)
   reservable_first None = omega arith
   reservable_first (Some grant) = omega arith
 
@@ -66,23 +46,19 @@ module _ {C S : Type 0} (s : Setup C S) where
       (World.dial_event s p t draw (World.may_dial s p t w.sets (w.peer p) (w.unblock p) (w.cooldown p))
       (World.address_with s p (w.peer p).known.info))
   granted p t draw w first dialable =
-      go (World.address_with s p (w.peer p).known.info) parts.valid (World.may_dial s p t w.sets (w.peer p) (w.unblock p) (w.cooldown p))
-      (and_from _ _ (and_from _ _
-      (all_of (History.is_entitled s p w.sets) (History.is_inert (w.peer p).status)
-      (not (World.is_blocked (w.unblock p) t)) (nat_le (World.reservable_from (w.cooldown p)) t)
-      parts.entitled parts.inert parts.free
+      go (World.address_with s p (w.peer p).known.info) target.valid_is
+      (World.may_dial s p t w.sets (w.peer p) (w.unblock p) (w.cooldown p))
+      (and_from _ _ parts.0
       (le-leb (World.reservable_from (w.cooldown p)) t
-      (omega (arith, leb-true (World.dialable_from (w.cooldown p)) t parts.cool, first))))
-      parts.target) parts.valid)
+      (omega (arith, leb-true (World.dialable_from (w.cooldown p)) t parts.1, first))))
     where
-      parts : Parts (History.is_entitled s p w.sets) (History.is_inert (w.peer p).status)
-          (World.is_valid_address s (World.address_with s p (w.peer p).known.info))
-          (World.is_dial_target s p w.sets) (not (World.is_blocked (w.unblock p) t))
-          (nat_le (World.dialable_from (w.cooldown p)) t)
-      parts = parts_of (History.is_entitled s p w.sets) (History.is_inert (w.peer p).status)
-          (World.is_valid_address s (World.address_with s p (w.peer p).known.info))
-          (World.is_dial_target s p w.sets) (not (World.is_blocked (w.unblock p) t))
-          (nat_le (World.dialable_from (w.cooldown p)) t) dialable
+      parts : ((World.is_target s p w.sets (w.peer p) && not (World.is_blocked (w.unblock p) t)) ≡ true)
+          × (nat_le (World.dialable_from (w.cooldown p)) t ≡ true)
+      parts = and_parts _ _ dialable
+
+      target : IsTarget s p w.sets (w.peer p)
+      target = parts_of_target s p w.sets (w.peer p)
+          (and_parts (World.is_target s p w.sets (w.peer p)) _ parts.0).0
 
       go : (address : Option Ingress) → World.is_valid_address s address ≡ true → (may : Bool) → may ≡ true →
           IsDialled s p t draw (World.dial_event s p t draw may address)

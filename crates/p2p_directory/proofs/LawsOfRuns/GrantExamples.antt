@@ -1,5 +1,5 @@
 -- Worked runs: replies that the laws of grants, blocks and dials allow, and replies that they refuse.
-use Rattle.std.proofs.Common.{◌≡◌, ℕ, true, false, Bool, List, [], ◌∷◌, Some, None, refl, sym, ◌∙◌, ap, subst, arith}
+use Rattle.std.proofs.Common.{◌≡◌, ℕ, true, false, Bool, List, [], ◌∷◌, Some, None, inr, refl, sym, ◌∙◌, ap, subst, arith}
 use Rattle.std.specs.List.Sorted.{IsStrictlySortedBy}
 use Rattle.p2p_tracker.specs.Calls.{Call, Question}
 use Rattle.p2p_tracker.specs.Calls.Call.{Listen, Block, UnblockExpired, ForgetCooled, Release, Ask}
@@ -25,7 +25,10 @@ listen_replies granted = reply.Track (Some []) ∷ reply.Listen true ∷ reply.R
 
 refused_is_answer : AreAnswers setup [] (listened 109) (listen_replies false)
 unfolding life IsStrictlySortedBy
-refused_is_answer = ((refl, record { sorted = tt; members = λ p. refl }), (refl, (refl, (refl, tt))))
+refused_is_answer = (
+  inr (refl, record { sorted = tt; members = λ p. refl }),
+  (inr refl, (inr refl, (inr refl, tt))),
+)
 
 -- .. over two lives
 

@@ -26,34 +26,12 @@ use Rattle.p2p_directory.proofs.LawsOfRuns.Spacing
 module _ {C S : Type 0} (s : Setup C S) where
   -- WHAT A REPLY TELLS OF THE EVENT
 
-  -- a reply is want of memory, or answers the call
-  pub replied : (e : Event C S) (w v : World C S) (c : Call C S) (r : Reply C S) → Run.MayReply s e w v c r → (r ≡ reply.OutOfMemory) ⊎ Run.Replies s e w v c r
-  replied e w v c reply.OutOfMemory a = inl refl
-  replied e w v c (reply.Track torn) a = inr a
-  replied e w v c (reply.Dial granted) a = inr a
-  replied e w v c (reply.Listen granted) a = inr a
-  replied e w v c reply.Connect a = inr a
-  replied e w v c reply.Release a = inr a
-  replied e w v c reply.UpdatePeers a = inr a
-  replied e w v c (reply.Block taken) a = inr a
-  replied e w v c (reply.UnblockExpired any) a = inr a
-  replied e w v c (reply.ForgetCooled count) a = inr a
-  replied e w v c (reply.NextUnblock moment) a = inr a
-  replied e w v c (reply.BlockedPeers peers) a = inr a
-  replied e w v c (reply.Status status) a = inr a
-  replied e w v c (reply.GetPeerSet peers) a = inr a
-  replied e w v c (reply.LatestSetIndex index) a = inr a
-  replied e w v c (reply.LatestUpdate update) a = inr a
-  replied e w v c (reply.All all) a = inr a
-  replied e w v c (reply.Info info) a = inr a
-  replied e w v c (reply.Infos infos) a = inr a
-  replied e w v c (reply.GetRandomBitVec bits) a = inr a
-  replied e w v c (reply.Eligible eligible) a = inr a
-  replied e w v c (reply.Acceptable acceptable) a = inr a
-  replied e w v c (reply.Dialable answer) a = inr a
-  replied e w v c (reply.Tracked count) a = inr a
-  replied e w v c reply.NotReserved a = inr a
-  replied e w v c reply.NotHeld a = inr a
+  -- a reply to a call that was accepted answers it
+  pub answered : (before : List (Call C S)) (c : Call C S) (r : Reply C S) → Run.was_made r ≡ true →
+      Run.IsAnswer s before c r → Run.Replies s (Run.event_of s before c) (Run.world_after s before)
+      (Run.world_after s (c ∷ before)) c r
+  answered before c r made (inl (refused, may)) = absurd (let b = sym made ∙ ap Run.was_made refused in cc)
+  answered before c r made (inr a) = a
 
   -- when the grant was made, and with which draw
   abbrev pub made : Grant → ℕ × ℕ
@@ -72,8 +50,8 @@ module _ {C S : Type 0} (s : Setup C S) where
 
   -- the reply says whether p was granted, and when; and until when it was blocked
   pub record IsTold (p : C) (c : Call C S) (r : Reply C S) (e : Event C S) : Type 0 where
-    pub granted : granted_by s p c r ≡ if_accepted (Run.is_accepted s r) (moment_by p e)
-    pub blocked : blocked_by s p c r ≡ if_accepted (Run.is_accepted s r) (History.block_by s p e)
+    pub granted : granted_by s p c r ≡ if_accepted (Run.was_made r) (moment_by p e)
+    pub blocked : blocked_by s p c r ≡ if_accepted (Run.was_made r) (History.block_by s p e)
 
   told : (p : C) (sets : List (SetAt C)) (w v : World C S) (c : Call C S) (r : Reply C S) →
       Run.MayReply s (World.event_in s sets w c) w v c r → IsTold p c r (World.event_in s sets w c)
@@ -88,16 +66,16 @@ module _ {C S : Type 0} (s : Setup C S) where
             secondary =
                 filter (λ q. not (History.is_in s q primary)) secondary;
           }) else Nothing)
-      go true = record { granted = nothing (Run.is_accepted s r); blocked = nothing (Run.is_accepted s r) }
-      go false = record { granted = nothing (Run.is_accepted s r); blocked = nothing (Run.is_accepted s r) }
+      go true = record { granted = nothing (Run.was_made r); blocked = nothing (Run.was_made r) }
+      go false = record { granted = nothing (Run.was_made r); blocked = nothing (Run.was_made r) }
   told p sets w v (Dial q t draw) r a = go (World.may_dial s q t w.sets (w.peer q) (w.unblock q) (w.cooldown q))
       (World.address_with s q (w.peer q).known.info)
-      (replied (World.event_in s sets w (Dial q t draw)) w v (Dial q t draw) r a)
+      a
     where
       go : (b : Bool) (address : Option Ingress) →
-          (r ≡ reply.OutOfMemory) ⊎ Run.Replies s (World.dial_event s q t draw b address) w v (Dial q t draw) r →
+          Run.MayReply s (World.dial_event s q t draw b address) w v (Dial q t draw) r →
           IsTold p (Dial q t draw) r (World.dial_event s q t draw b address)
-      go b address (inl e) = subst (λ x. IsTold p (Dial q t draw) x (World.dial_event s q t draw b address)) (sym e) (record { granted = refl; blocked = refl })
+      go b address (inl (e, may)) = subst (λ x. IsTold p (Dial q t draw) x (World.dial_event s q t draw b address)) (sym e) (record { granted = refl; blocked = refl })
       go b None (inr e) = subst (λ x. IsTold p (Dial q t draw) x Nothing) (sym e) (record { granted = refl; blocked = refl })
       go false (Some x) (inr e) = subst (λ y. IsTold p (Dial q t draw) y Nothing) (sym e) (record { granted = refl; blocked = refl })
       go true (Some x) (inr e) =
@@ -112,12 +90,12 @@ module _ {C S : Type 0} (s : Setup C S) where
           })
   told p sets w v (Listen q t draw) r a =
       go (World.may_listen s q t w.sets (w.peer q) (w.unblock q) (w.cooldown q))
-      (replied (World.event_in s sets w (Listen q t draw)) w v (Listen q t draw) r a)
+      a
     where
       go : (b : Bool) →
-          (r ≡ reply.OutOfMemory) ⊎ Run.Replies s (World.listen_event s q t draw b) w v (Listen q t draw) r →
+          Run.MayReply s (World.listen_event s q t draw b) w v (Listen q t draw) r →
           IsTold p (Listen q t draw) r (World.listen_event s q t draw b)
-      go b (inl e) = subst (λ x. IsTold p (Listen q t draw) x (World.listen_event s q t draw b)) (sym e) (record { granted = refl; blocked = refl })
+      go b (inl (e, may)) = subst (λ x. IsTold p (Listen q t draw) x (World.listen_event s q t draw b)) (sym e) (record { granted = refl; blocked = refl })
       go false (inr e) = subst (λ y. IsTold p (Listen q t draw) y Nothing) (sym e) (record { granted = refl; blocked = refl })
       go true (inr e) =
           subst (λ y. IsTold p (Listen q t draw) y (World.listen_event s q t draw true)) (sym e)
@@ -132,27 +110,27 @@ module _ {C S : Type 0} (s : Setup C S) where
   told p sets w v (Connect q dialer) r a = go (w.peer q).status
     where
       go : (status : Status) → IsTold p (Connect q dialer) r (World.connect_event s q dialer status)
-      go Status.Inert = record { granted = nothing (Run.is_accepted s r); blocked = nothing (Run.is_accepted s r) }
-      go Status.Reserved = record { granted = nothing (Run.is_accepted s r); blocked = nothing (Run.is_accepted s r) }
-      go Status.Active = record { granted = nothing (Run.is_accepted s r); blocked = nothing (Run.is_accepted s r) }
+      go Status.Inert = record { granted = nothing (Run.was_made r); blocked = nothing (Run.was_made r) }
+      go Status.Reserved = record { granted = nothing (Run.was_made r); blocked = nothing (Run.was_made r) }
+      go Status.Active = record { granted = nothing (Run.was_made r); blocked = nothing (Run.was_made r) }
   told p sets w v (Release q) r a = go (w.held q)
     where
       go : (held : Option Grant) → IsTold p (Release q) r (World.release_event s q held)
-      go None = record { granted = nothing (Run.is_accepted s r); blocked = nothing (Run.is_accepted s r) }
-      go (Some grant) = record { granted = nothing (Run.is_accepted s r); blocked = nothing (Run.is_accepted s r) }
-  told p sets w v (Update infos) r a = record { granted = nothing (Run.is_accepted s r); blocked = nothing (Run.is_accepted s r) }
+      go None = record { granted = nothing (Run.was_made r); blocked = nothing (Run.was_made r) }
+      go (Some grant) = record { granted = nothing (Run.was_made r); blocked = nothing (Run.was_made r) }
+  told p sets w v (Update infos) r a = record { granted = nothing (Run.was_made r); blocked = nothing (Run.was_made r) }
   told p sets w v (Block q t) r a = go (not (History.is_own s q) && not (World.is_blocked (w.unblock q) t))
-      (replied (World.event_in s sets w (Block q t)) w v (Block q t) r a)
+      a
     where
       go : (b : Bool) →
-          (r ≡ reply.OutOfMemory) ⊎ Run.Replies s (if b then Blocked q t else Nothing) w v (Block q t) r →
+          Run.MayReply s (if b then Blocked q t else Nothing) w v (Block q t) r →
           IsTold p (Block q t) r (if b then Blocked q t else Nothing)
-      go b (inl e) = subst (λ x. IsTold p (Block q t) x (if b then Blocked q t else Nothing)) (sym e) (record { granted = refl; blocked = refl })
+      go b (inl (e, may)) = subst (λ x. IsTold p (Block q t) x (if b then Blocked q t else Nothing)) (sym e) (record { granted = refl; blocked = refl })
       go false (inr e) = subst (λ y. IsTold p (Block q t) y Nothing) (sym e) (record { granted = refl; blocked = refl })
       go true (inr e) = subst (λ y. IsTold p (Block q t) y (Blocked q t)) (sym e) (record { granted = refl; blocked = refl })
-  told p sets w v (UnblockExpired t) r a = record { granted = nothing (Run.is_accepted s r); blocked = nothing (Run.is_accepted s r) }
-  told p sets w v (ForgetCooled t) r a = record { granted = nothing (Run.is_accepted s r); blocked = nothing (Run.is_accepted s r) }
-  told p sets w v (Ask question) r a = record { granted = nothing (Run.is_accepted s r); blocked = nothing (Run.is_accepted s r) }
+  told p sets w v (UnblockExpired t) r a = record { granted = nothing (Run.was_made r); blocked = nothing (Run.was_made r) }
+  told p sets w v (ForgetCooled t) r a = record { granted = nothing (Run.was_made r); blocked = nothing (Run.was_made r) }
+  told p sets w v (Ask question) r a = record { granted = nothing (Run.was_made r); blocked = nothing (Run.was_made r) }
 
   pub told_after : (p : C) (before : List (Call C S)) (c : Call C S) (r : Reply C S) → Run.IsAnswer s before c r → IsTold p c r (Run.event_of s before c)
   told_after p before c r a = told p (History.taken_sets s (World.past s before)) (Run.world_after s before) (Run.world_after s (c ∷ before)) c r a
@@ -197,39 +175,16 @@ module _ {C S : Type 0} (s : Setup C S) where
 
   -- the reply to a call to forget
   forgets_told : (u : ℕ) (w v : World C S) (r : Reply C S) → Run.MayReply s (Forgot u) w v (ForgetCooled u) r →
-      ForgetsAlike (Run.is_accepted s r) (ForgetCooled u) (Forgot u)
+      ForgetsAlike (Run.was_made r) (ForgetCooled u) (Forgot u)
   forgets_told u w v (reply.ForgetCooled count) a = λ grant. refl
-  forgets_told u w v reply.OutOfMemory a = absurd a
-  forgets_told u w v (reply.Track torn) a = absurd a
-  forgets_told u w v (reply.Dial granted) a = absurd a
-  forgets_told u w v (reply.Listen granted) a = absurd a
-  forgets_told u w v reply.Connect a = absurd a
-  forgets_told u w v reply.Release a = absurd a
-  forgets_told u w v reply.UpdatePeers a = absurd a
-  forgets_told u w v (reply.Block taken) a = absurd a
-  forgets_told u w v (reply.UnblockExpired any) a = absurd a
-  forgets_told u w v (reply.NextUnblock moment) a = absurd a
-  forgets_told u w v (reply.BlockedPeers peers) a = absurd a
-  forgets_told u w v (reply.Status status) a = absurd a
-  forgets_told u w v (reply.GetPeerSet peers) a = absurd a
-  forgets_told u w v (reply.LatestSetIndex index) a = absurd a
-  forgets_told u w v (reply.LatestUpdate update) a = absurd a
-  forgets_told u w v (reply.All all) a = absurd a
-  forgets_told u w v (reply.Info info) a = absurd a
-  forgets_told u w v (reply.Infos infos) a = absurd a
-  forgets_told u w v (reply.GetRandomBitVec bits) a = absurd a
-  forgets_told u w v (reply.Eligible eligible) a = absurd a
-  forgets_told u w v (reply.Acceptable acceptable) a = absurd a
-  forgets_told u w v (reply.Dialable answer) a = absurd a
-  forgets_told u w v (reply.Tracked count) a = absurd a
-  forgets_told u w v reply.NotReserved a = absurd a
-  forgets_told u w v reply.NotHeld a = absurd a
+  forgets_told u w v r (inl (refused, may)) = absurd may
+  forgets_told u w v r (inr a) = absurd a
 
   forgets_after : (sets : List (SetAt C)) (w v : World C S) (c : Call C S) (r : Reply C S) →
       Run.MayReply s (World.event_in s sets w c) w v c r →
-      ForgetsAlike (Run.is_accepted s r) c (World.event_in s sets w c)
+      ForgetsAlike (Run.was_made r) c (World.event_in s sets w c)
   forgets_after sets w v (ForgetCooled u) r a = forgets_told u w v r a
-  forgets_after sets w v (Track index primary secondary) r a = none_forgotten (Run.is_accepted s r) (Track index primary secondary) _ (λ grant. refl) (go _)
+  forgets_after sets w v (Track index primary secondary) r a = none_forgotten (Run.was_made r) (Track index primary secondary) _ (λ grant. refl) (go _)
     where
       go : (b : Bool) (grant : Grant) →
           History.is_forgetting s grant
@@ -242,36 +197,36 @@ module _ {C S : Type 0} (s : Setup C S) where
           }) else Nothing) ≡ false
       go true grant = refl
       go false grant = refl
-  forgets_after sets w v (Dial q t draw) r a = none_forgotten (Run.is_accepted s r) (Dial q t draw) _ (λ grant. refl) (go _ _)
+  forgets_after sets w v (Dial q t draw) r a = none_forgotten (Run.was_made r) (Dial q t draw) _ (λ grant. refl) (go _ _)
     where
       go : (b : Bool) (address : Option Ingress) (grant : Grant) → History.is_forgetting s grant (World.dial_event s q t draw b address) ≡ false
       go b None grant = refl
       go true (Some x) grant = refl
       go false (Some x) grant = refl
-  forgets_after sets w v (Listen q t draw) r a = none_forgotten (Run.is_accepted s r) (Listen q t draw) _ (λ grant. refl) (go _)
+  forgets_after sets w v (Listen q t draw) r a = none_forgotten (Run.was_made r) (Listen q t draw) _ (λ grant. refl) (go _)
     where
       go : (b : Bool) (grant : Grant) → History.is_forgetting s grant (World.listen_event s q t draw b) ≡ false
       go true grant = refl
       go false grant = refl
-  forgets_after sets w v (Connect q dialer) r a = none_forgotten (Run.is_accepted s r) (Connect q dialer) _ (λ grant. refl) (go (w.peer q).status)
+  forgets_after sets w v (Connect q dialer) r a = none_forgotten (Run.was_made r) (Connect q dialer) _ (λ grant. refl) (go (w.peer q).status)
     where
       go : (status : Status) (grant : Grant) → History.is_forgetting s grant (World.connect_event s q dialer status) ≡ false
       go Status.Inert grant = refl
       go Status.Reserved grant = refl
       go Status.Active grant = refl
-  forgets_after sets w v (Release q) r a = none_forgotten (Run.is_accepted s r) (Release q) _ (λ grant. refl) (go (w.held q))
+  forgets_after sets w v (Release q) r a = none_forgotten (Run.was_made r) (Release q) _ (λ grant. refl) (go (w.held q))
     where
       go : (held : Option Grant) (grant : Grant) → History.is_forgetting s grant (World.release_event s q held) ≡ false
       go None grant = refl
       go (Some x) grant = refl
-  forgets_after sets w v (Update infos) r a = none_forgotten (Run.is_accepted s r) (Update infos) (Updated infos) (λ grant. refl) (λ grant. refl)
-  forgets_after sets w v (Block q t) r a = none_forgotten (Run.is_accepted s r) (Block q t) _ (λ grant. refl) (go _)
+  forgets_after sets w v (Update infos) r a = none_forgotten (Run.was_made r) (Update infos) (Updated infos) (λ grant. refl) (λ grant. refl)
+  forgets_after sets w v (Block q t) r a = none_forgotten (Run.was_made r) (Block q t) _ (λ grant. refl) (go _)
     where
       go : (b : Bool) (grant : Grant) → History.is_forgetting s grant (if b then Blocked q t else Nothing) ≡ false
       go true grant = refl
       go false grant = refl
-  forgets_after sets w v (UnblockExpired t) r a = none_forgotten (Run.is_accepted s r) (UnblockExpired t) (Expired t) (λ grant. refl) (λ grant. refl)
-  forgets_after sets w v (Ask question) r a = none_forgotten (Run.is_accepted s r) (Ask question) Nothing (λ grant. refl) (λ grant. refl)
+  forgets_after sets w v (UnblockExpired t) r a = none_forgotten (Run.was_made r) (UnblockExpired t) (Expired t) (λ grant. refl) (λ grant. refl)
+  forgets_after sets w v (Ask question) r a = none_forgotten (Run.was_made r) (Ask question) Nothing (λ grant. refl) (λ grant. refl)
 
   -- the last grant of p in a past, and the last unless it was forgotten
   abbrev last_in : C → List (Event C S) → Option (ℕ × ℕ)
@@ -346,11 +301,11 @@ module _ {C S : Type 0} (s : Setup C S) where
       let t = told_after p before c r answers.0 in
       let f = forgets_after (History.taken_sets s (World.past s before)) (Run.world_after s before) (Run.world_after s (c ∷ before)) c r answers.0 in (
         subst (λ o. IsCooledAfter s o kept) (sym t.granted)
-            (subst (λ o. IsCooledAfter s (if_accepted (Run.is_accepted s r) (moment_by p (Run.event_of s before c))) o) (sym e)
-            (spaced_kept (Run.is_accepted s r) (History.grant_by s p (Run.event_of s before c))
+            (subst (λ o. IsCooledAfter s (if_accepted (Run.was_made r) (moment_by p (Run.event_of s before c))) o) (sym e)
+            (spaced_kept (Run.was_made r) (History.grant_by s p (Run.event_of s before c))
             (last_with (History.grant_by s p) (World.past s before)) (Spacing.next_spaced s exact p c before))),
         keep_unless_forgotten_from exact p (kept_after s c (granted_by s p c r) kept) (Run.next s before c r) cs rs
-            ((λ i. kept_after s c (t.granted i) (e i)) ∙ kept_more p before c (Run.is_accepted s r) f)
+            ((λ i. kept_after s c (t.granted i) (e i)) ∙ kept_more p before c (Run.was_made r) f)
             answers.1,
       )
 
@@ -367,12 +322,12 @@ module _ {C S : Type 0} (s : Setup C S) where
   keep_cooldown_from exact p last now before (c ∷ cs) (r ∷ rs) e on answers =
       λ forward. let t = told_after p before c r answers.0 in (
         subst (λ o. IsCooledAfter s o last) (sym t.granted)
-            (subst (λ o. IsCooledAfter s (if_accepted (Run.is_accepted s r) (moment_by p (Run.event_of s before c))) o) (sym e)
-            (spaced_last (Run.is_accepted s r) (History.grant_by s p (Run.event_of s before c)) (last_with (History.grant_by s p) (World.past s before))
+            (subst (λ o. IsCooledAfter s (if_accepted (Run.was_made r) (moment_by p (Run.event_of s before c))) o) (sym e)
+            (spaced_last (Run.was_made r) (History.grant_by s p (Run.event_of s before c)) (last_with (History.grant_by s p) (World.past s before))
             (Spacing.next_spaced_forward s exact p c before (moment_or s now c) (one_forward c before now forward on)))),
         keep_cooldown_from exact p (last_after s (granted_by s p c r) last) (moment_or s now c) (Run.next s before c r) cs rs
-            ((λ i. last_after s (t.granted i) (e i)) ∙ last_more p before c (Run.is_accepted s r))
-            (next_forward c before now (Run.is_accepted s r) forward on) answers.1,
+            ((λ i. last_after s (t.granted i) (e i)) ∙ last_more p before c (Run.was_made r))
+            (next_forward c before now (Run.was_made r) forward on) answers.1,
       )
 
   -- by the replies to a whole run whose moments never go back, the grants of p keep the cooldown

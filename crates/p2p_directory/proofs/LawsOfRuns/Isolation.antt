@@ -116,7 +116,7 @@ module _ {C S : Type 0} (s : Setup C S) where
   unblock_quiet p (Forgot t) moment quiet = refl
 
   cooldown_quiet : (p : C) (e : Event C S) (cooldown : Option Cooldown) → is_quiet p e ≡ true → Step.cooldown_after s p e cooldown ≡ cooldown
-  cooldown_quiet p (Granted q grant) cooldown quiet = ap (λ b. if b then Some (History.cooldown_of s grant) else cooldown) (not-true (History.same s q p) quiet)
+  cooldown_quiet p (Granted q grant) cooldown quiet = ap (λ b. if b then Some (History.moments_of s grant) else cooldown) (not-true (History.same s q p) quiet)
   cooldown_quiet p (Forgot t) cooldown quiet = absurd (cc)
   cooldown_quiet p Nothing cooldown quiet = refl
   cooldown_quiet p (Tracked taken) cooldown quiet = refl
@@ -296,7 +296,7 @@ module _ {C S : Type 0} (s : Setup C S) where
     acceptable = λ t i. History.is_entitled s p (a.sets i) && not (World.is_blocked (a.unblock i) t) && History.is_inert (a.peer i).status;
     dialable = λ t i. Answers.is_dialable_with s p t (a.sets i) (a.peer i) (a.unblock i) (a.cooldown i);
     query = λ t i. if World.is_blocked (a.unblock i) t then (if History.is_present_with s p (a.sets i) (a.peer i).status then a.unblock i else None)
-        else if Answers.is_target s p (a.sets i) (a.peer i) && nat_lt t (World.dialable_from (a.cooldown i)) then Some (World.dialable_from (a.cooldown i))
+        else if World.is_target s p (a.sets i) (a.peer i) && nat_lt t (World.dialable_from (a.cooldown i)) then Some (World.dialable_from (a.cooldown i))
         else None;
     does = λ c mine. does_alike p w v c exact a mine;
   }

@@ -1,7 +1,7 @@
 -- What concerns others leaves p as it was, by the replies to a run.
-use Rattle.std.proofs.Common.{◌≡◌, ℕ, ◌≤◌, true, false, not, List, [], ◌∷◌, Option, Some, None, refl, sym, ◌∙◌, ap, subst}
+use Rattle.std.proofs.Common.{◌≡◌, ℕ, ◌≤◌, true, false, not, List, [], ◌∷◌, Option, Some, None, inl, inr, refl, sym, ◌∙◌, ap, subst}
 use Rattle.std.specs.Prelude.{if◌then◌else◌}
-use Rattle.std.specs.Option.{option_map, IsSomeAnd}
+use Rattle.std.specs.Option.{option_map, option_map_or, IsSomeAnd}
 use Rattle.p2p_discovery.specs.Ingress.{takes_none}
 use Rattle.p2p_tracker.specs.Calls.{Setup, Question, Call, Event}
 use Rattle.p2p_tracker.specs.Calls.Question.{StatusOf, NumberTracked, NextUnblock, BlockedAt}
@@ -15,10 +15,11 @@ use Rattle.p2p_tracker.specs.Answers.{was_granted, was_blocked, was_taken, is_to
 use Rattle.p2p_directory.specs.Run
 use Rattle.p2p_directory.specs.declared.run.commands.Reply.{Reply}
 use Rattle.p2p_directory.specs.declared.run.commands.Reply.TheVariants as reply
-use Rattle.p2p_directory.specs.Laws.Isolation.{SameFor, is_on_another, asks_of_another, left_for}
-use Rattle.p2p_directory.specs.Laws.IsolationRuns.{asks_of, is_on, torn_after, IsListedAfter, KeepAlone}
+use Rattle.p2p_directory.specs.Laws.Isolation.{SameFor, single_peer_of, is_on, is_on_another, left_for}
+use Rattle.p2p_directory.specs.Laws.IsolationRuns.{torn_after, IsListedAfter, KeepAlone}
 use Rattle.p2p_directory.proofs.Definitions.Law
 use Rattle.p2p_directory.proofs.LawsOfRuns.Isolation
+use Rattle.p2p_directory.proofs.LawsOfRuns.GrantRuns.{answered}
 
 module _ {C S : Type 0} (s : Setup C S) where
   -- a reply is an answer elsewhere, too, where want of memory and the reply are
@@ -26,36 +27,12 @@ module _ {C S : Type 0} (s : Setup C S) where
       (Run.MayWantMemory s e w c → Run.MayWantMemory s f w2 c) →
       (Run.Replies s e w v c r → Run.Replies s f w2 v2 c r) →
       Run.MayReply s e w v c r → Run.MayReply s f w2 v2 c r
-  moved e f w v w2 v2 c reply.OutOfMemory want more a = want a
-  moved e f w v w2 v2 c (reply.Track torn) want more a = more a
-  moved e f w v w2 v2 c (reply.Dial granted) want more a = more a
-  moved e f w v w2 v2 c (reply.Listen granted) want more a = more a
-  moved e f w v w2 v2 c reply.Connect want more a = more a
-  moved e f w v w2 v2 c reply.Release want more a = more a
-  moved e f w v w2 v2 c reply.UpdatePeers want more a = more a
-  moved e f w v w2 v2 c (reply.Block taken) want more a = more a
-  moved e f w v w2 v2 c (reply.UnblockExpired any) want more a = more a
-  moved e f w v w2 v2 c (reply.ForgetCooled count) want more a = more a
-  moved e f w v w2 v2 c (reply.NextUnblock moment) want more a = more a
-  moved e f w v w2 v2 c (reply.BlockedPeers peers) want more a = more a
-  moved e f w v w2 v2 c (reply.Status status) want more a = more a
-  moved e f w v w2 v2 c (reply.GetPeerSet peers) want more a = more a
-  moved e f w v w2 v2 c (reply.LatestSetIndex index) want more a = more a
-  moved e f w v w2 v2 c (reply.LatestUpdate update) want more a = more a
-  moved e f w v w2 v2 c (reply.All all) want more a = more a
-  moved e f w v w2 v2 c (reply.Info info) want more a = more a
-  moved e f w v w2 v2 c (reply.Infos infos) want more a = more a
-  moved e f w v w2 v2 c (reply.GetRandomBitVec bits) want more a = more a
-  moved e f w v w2 v2 c (reply.Eligible eligible) want more a = more a
-  moved e f w v w2 v2 c (reply.Acceptable acceptable) want more a = more a
-  moved e f w v w2 v2 c (reply.Dialable answer) want more a = more a
-  moved e f w v w2 v2 c (reply.Tracked count) want more a = more a
-  moved e f w v w2 v2 c reply.NotReserved want more a = more a
-  moved e f w v w2 v2 c reply.NotHeld want more a = more a
+  moved e f w v w2 v2 c r want more (inl (refused, may)) = inl (refused, want may)
+  moved e f w v w2 v2 c r want more (inr a) = inr (more a)
 
   -- a question about a peer that stands alike
   asked_alike : (e : Event C S) (q : C) (w v w2 v2 : World C S) (question : Question C) (r : Reply C S) →
-      SameFor q w v → asks_of s q question ≡ true → History.IsExact s →
+      SameFor q w v → is_on s q (Ask question) ≡ true → History.IsExact s →
       Run.MayReply s e w w2 (Ask question) r → Run.MayReply s e v v2 (Ask question) r
   asked_alike e q w v w2 v2 (StatusOf p) r alike mine exact a =
       let b = subst (λ x. SameFor x w v) (sym (exact p q mine)) alike in
@@ -105,34 +82,14 @@ module _ {C S : Type 0} (s : Setup C S) where
   on_alike e f p w v w2 v2 (UnblockExpired t) r alike mine exact same a = absurd (cc)
   on_alike e f p w v w2 v2 (ForgetCooled t) r alike mine exact same a = absurd (cc)
 
-  asks_it : (p : C) (question : Question C) → asks_of s p question ≡ true → asks_of_another s p question ≡ false
-  asks_it p (StatusOf q) mine = ap not mine
-  asks_it p (InfoOf q) mine = ap not mine
-  asks_it p (IsEligible q t) mine = ap not mine
-  asks_it p (IsAcceptable q t) mine = ap not mine
-  asks_it p NumberTracked mine = refl
-  asks_it p NextUnblock mine = refl
-  asks_it p (BlockedAt t) mine = refl
-  asks_it p (PeerSet index) mine = refl
-  asks_it p LatestIndex mine = refl
-  asks_it p AllPeers mine = refl
-  asks_it p LatestUpdate mine = refl
-  asks_it p (InfosFor index bits t) mine = refl
-  asks_it p (BitsAt place) mine = refl
-  asks_it p (DialableAt t) mine = refl
-
   -- such a call is on no other peer
   on_it : (p : C) (c : Call C S) → is_on s p c ≡ true → is_on_another s p c ≡ false
-  on_it p (Dial q t draw) mine = ap not mine
-  on_it p (Listen q t draw) mine = ap not mine
-  on_it p (Connect q dialer) mine = ap not mine
-  on_it p (Release q) mine = ap not mine
-  on_it p (Block q t) mine = ap not mine
-  on_it p (Ask question) mine = asks_it p question mine
-  on_it p (Track index primary secondary) mine = absurd (cc)
-  on_it p (Update infos) mine = absurd (cc)
-  on_it p (UnblockExpired t) mine = absurd (cc)
-  on_it p (ForgetCooled t) mine = absurd (cc)
+  on_it p c mine = go (single_peer_of c) mine
+    where
+      go : (o : Option C) → option_map_or (λ q. History.same s q p) o false ≡ true →
+          option_map_or (λ q. not (History.same s q p)) o false ≡ false
+      go (Some q) mine = ap not mine
+      go None mine = absurd (cc)
 
   module _ (least : 1 ≤ s.max_sets) (exact : History.IsExact s) where
     does_alone : (p : C) (before : List (Call C S)) (c : Call C S) → is_on_another s p c ≡ false →
@@ -171,7 +128,8 @@ module _ {C S : Type 0} (s : Setup C S) where
         ≡ torn_after s p (left_for s p before) (Track index primary secondary)
     torn_alone p before index primary secondary torn a =
         torn_by p (Run.event_of s before (Track index primary secondary)) (Run.world_after s before)
-        (Run.world_after s (Track index primary secondary ∷ before)) torn a
+        (Run.world_after s (Track index primary secondary ∷ before)) torn
+        (answered s before (Track index primary secondary) (reply.Track torn) refl a)
         ∙ track_alone p before index primary secondary
 
     dialable_alone : (p : C) (before : List (Call C S)) (t : ℕ) (answer : Dialable C S) →
@@ -179,7 +137,7 @@ module _ {C S : Type 0} (s : Setup C S) where
         History.is_in s p answer.peers.items
         ≡ is_dialable s (Run.world_after s (left_for s p before)) t p
     dialable_alone p before t answer a =
-        a.0.members p
+        (answered s before (Ask (DialableAt t)) (reply.Dialable answer) refl a).0.members p
         ∙ (Isolation.answers_alike s exact p _ _ (Isolation.isolated s least exact p before)).dialable t
 
     listed_alone : (p : C) (before : List (Call C S)) (c : Call C S) (r : Reply C S) →

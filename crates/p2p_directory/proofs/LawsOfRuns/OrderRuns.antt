@@ -15,7 +15,6 @@ use Rattle.p2p_directory.specs.Laws.Order.{HaveSame, IsUnambiguous}
 use Rattle.p2p_directory.specs.Laws.OrderRuns.{infos_together, with_updates, IsSameAfter, IsFreeAfter, AreFreeFrom, KeepOrder}
 use Rattle.p2p_directory.proofs.Definitions.Law
 use Rattle.p2p_directory.proofs.LawsOfRuns.Ordered
-use Rattle.p2p_directory.proofs.LawsOfRuns.GrantRuns.{replied}
 
 module _ {C S : Type 0} (s : Setup C S) (least : 1 ≤ s.max_sets) where
   -- after these accepted calls all stands as it does
@@ -27,7 +26,7 @@ module _ {C S : Type 0} (s : Setup C S) (least : 1 ≤ s.max_sets) where
   more_alike before other c alike = Ordered.later_alike s least (c ∷ []) before other alike
 
   next_alike : (before other : List (Call C S)) (c : Call C S) (r : Reply C S) → Alike before other → Alike (Run.next s before c r) (Run.next s other c r)
-  next_alike before other c r alike = elim (Run.is_accepted s r) as (λ b. Alike (if b then c ∷ before else before) (if b then c ∷ other else other)) [
+  next_alike before other c r alike = elim (Run.was_made r) as (λ b. Alike (if b then c ∷ before else before) (if b then c ∷ other else other)) [
     | true ↦ more_alike before other c alike
     | false ↦ alike
   ]
@@ -93,13 +92,8 @@ module _ {C S : Type 0} (s : Setup C S) (least : 1 ≤ s.max_sets) where
 
   -- an update is replied that it was done
   updated : (before : List (Call C S)) (given : List (Info C S)) (r : Reply C S) → Run.IsAnswer s before (Update given) r → r ≡ reply.UpdatePeers
-  updated before given r a =
-      go (replied s (Run.event_of s before (Update given)) (Run.world_after s before)
-      (Run.world_after s (Update given ∷ before)) (Update given) r a)
-    where
-      go : (r ≡ reply.OutOfMemory) ⊎ (r ≡ reply.UpdatePeers) → r ≡ reply.UpdatePeers
-      go (inl e) = absurd (subst (λ x. Run.IsAnswer s before (Update given) x) e a)
-      go (inr e) = e
+  updated before given r (inl (refused, may)) = absurd may
+  updated before given r (inr is) = is
 
   -- what holds before an update, if infos were given by updates directly after `first`
   abbrev IsFrom : List (Call C S) → List (Info C S) → List (Call C S) → Type 0

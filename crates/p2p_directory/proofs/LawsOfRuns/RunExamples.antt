@@ -26,11 +26,17 @@ blocked_replies granted = reply.Track (Some []) ∷ reply.Block true ∷ reply.L
 
 refused_for_another : KeepAlone setup 1 [] (blocked 2) (blocked_replies false) → ⊥
 unfolding life
-refused_for_another kept = let e = kept.1.1.0.answer refl in absurd (cc)
+refused_for_another kept = elim (kept.1.1.0.answer refl) [
+  | inl refused ↦ absurd (let e = refused.0 in cc)
+  | inr e ↦ absurd (cc)
+]
 
 refused_for_itself : KeepAlone setup 1 [] (blocked 1) (blocked_replies true) → ⊥
 unfolding life
-refused_for_itself kept = let e = kept.1.1.0.answer refl in absurd (cc)
+refused_for_itself kept = elim (kept.1.1.0.answer refl) [
+  | inl refused ↦ absurd (let e = refused.0 in cc)
+  | inr e ↦ absurd (cc)
+]
 
 -- BOUNDS: two peers in the one set that is retained, and the own
 
@@ -98,4 +104,7 @@ older_is_refused : KeepOrder setup [] informed (informed_replies older) → ⊥
 unfolding life
 older_is_refused kept =
     let same = kept.1.1.1.0.0 unambiguous (newer ∷ older ∷ []) [] swapped in
-    absurd (omega (arith, ap timestamp_told same.1))
+    elim same.1 [
+      | inl refused ↦ absurd (let e = refused.0 in cc)
+      | inr e ↦ absurd (omega (arith, ap timestamp_told e))
+    ]

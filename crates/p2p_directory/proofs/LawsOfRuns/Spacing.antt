@@ -37,8 +37,10 @@ module _ {C S : Type 0} (s : Setup C S) where
   Fits w t (Forgot u) = u ≡ t
   Fits w t _ = Unit {0}
 
-  is_free : (p : C) (w : World C S) (t : ℕ) → World.may_listen s p t w.sets (w.peer p) (w.unblock p) (w.cooldown p) ≡ true → IsFree p w t
-  is_free p w t e =
+  is_free : (p : C) (w : World C S) (t : ℕ) (may : Bool) →
+      (may && not (World.is_blocked (w.unblock p) t) && nat_le (World.reservable_from (w.cooldown p)) t) ≡ true →
+      IsFree p w t
+  is_free p w t may e =
       let one = and_parts _ _ e in
       let two = and_parts _ _ one.0 in
       record { cool = leb-true (World.reservable_from (w.cooldown p)) t one.1; unblocked = not-true _ two.1 }
@@ -64,11 +66,11 @@ module _ {C S : Type 0} (s : Setup C S) where
           Fits w t (World.dial_event s q t draw granted address)
       go granted None e = tt
       go false (Some a) e = tt
-      go true (Some a) e = (refl, is_free q w t (and_parts _ _ (and_parts _ _ e).0).0)
+      go true (Some a) e = (refl, is_free q w t (World.is_target s q w.sets (w.peer q)) e)
   fits sets w (Listen q t draw) now = go (World.may_listen s q t w.sets (w.peer q) (w.unblock q) (w.cooldown q)) refl
     where
       go : (granted : Bool) → World.may_listen s q t w.sets (w.peer q) (w.unblock q) (w.cooldown q) ≡ granted → Fits w t (World.listen_event s q t draw granted)
-      go true e = (refl, is_free q w t e)
+      go true e = (refl, is_free q w t (History.is_entitled s q w.sets && History.is_inert (w.peer q).status) e)
       go false e = tt
   fits sets w (Connect q dialer) now = go (w.peer q).status
     where
@@ -129,10 +131,10 @@ module _ {C S : Type 0} (s : Setup C S) where
 
   -- a grant that was found, with the events after it, and isn't forgotten by them
   cooled_where_kept : (found : Option (Grant × List (Event C S))) (t : ℕ) →
-      World.reservable_from (option_map (History.cooldown_of s) (unless_ended (History.is_forgetting s) found)) ≤ t → IsCooledUnlessForgotten s t found
+      World.reservable_from (option_map (History.moments_of s) (unless_ended (History.is_forgetting s) found)) ≤ t → IsCooledUnlessForgotten s t found
   cooled_where_kept None t le = tt
   cooled_where_kept (Some found) t le = λ kept.
-      subst (λ b. World.reservable_from (option_map (History.cooldown_of s) (if b then None else Some found.0)) ≤ t) kept le
+      subst (λ b. World.reservable_from (option_map (History.moments_of s) (if b then None else Some found.0)) ≤ t) kept le
 
   spaced_where_kept : (p : C) (h : List (Event C S)) (t : ℕ) (found : Option Grant) → GrantFits p (World.world_at s h) t found →
       IsSpacedUnlessForgotten s found (last_with (History.grant_by s p) h)
@@ -156,7 +158,7 @@ module _ {C S : Type 0} (s : Setup C S) where
 
   -- what an event forgets has come to its dial moment, which isn't before the reservable one
   over_by : (e : Event C S) (w : World C S) (t : ℕ) → Fits w t e → (grant : Grant) → History.is_forgetting s grant e ≡ true → cap (grant.t + s.cooldown) ≤ t
-  over_by (Forgot u) w t f grant e = omega (arith, f, leb-true (History.cooldown_of s grant).dial_at u e)
+  over_by (Forgot u) w t f grant e = omega (arith, f, leb-true (History.moments_of s grant).dial_at u e)
   over_by Nothing w t f grant e = absurd (cc)
   over_by (Tracked taken) w t f grant e = absurd (cc)
   over_by (Granted q other) w t f grant e = absurd (cc)

@@ -18,7 +18,8 @@ use Rattle.p2p_tracker.specs.Step
 use Rattle.p2p_tracker.specs.World.{World, Known, Peer, last_ingress_by, reservable_from, may_listen}
 use Rattle.p2p_tracker.specs.Step.{new_known, world_with}
 use Rattle.p2p_tracker.specs.Answers.{is_present_in, IsTeardown, status_in, is_cooled_by, is_cooled_at, IsNumberCooled}
-use Rattle.p2p_tracker.specs.Record.{RecordView, new_record, with_cooldown, moments_after, is_eligible, reserved_record, unless_deletable}
+use Rattle.p2p_tracker.specs.Record.{RecordView, new_record, with_cooldown, is_eligible, reserved_record, unless_deletable}
+use Rattle.p2p_tracker.specs.Moments.{moments_after}
 use Rattle.p2p_tracker.specs.PeerSets.{latest_index, is_above}
 use Rattle.p2p_tracker.specs.Blocks.{unblock_in}
 use Rattle.p2p_tracker.specs.Cooldowns.{cooldown_in, unless_cooled}

@@ -10,9 +10,9 @@ use Rattle.p2p_tracker.specs.declared.record.Address.TheVariants.{Myself}
 use Rattle.p2p_tracker.specs.Calls.{Setup, SetAt, Cooldown}
 use Rattle.p2p_tracker.specs.History.{is_own, is_inert, is_persistent, is_named, is_present_with, is_entitled, primary_count, secondary_count}
 use Rattle.p2p_tracker.specs.World
-use Rattle.p2p_tracker.specs.World.{World, Known, Peer, last_ingress, reservable_from, dialable_from}
+use Rattle.p2p_tracker.specs.World.{World, Known, Peer, last_ingress, is_target, reservable_from, dialable_from}
 use Rattle.p2p_tracker.specs.Answers
-use Rattle.p2p_tracker.specs.Answers.{is_present_in, AreAll, IsLatestUpdate, is_eligible_at, is_acceptable_at, is_target, is_dialable, query_moment, IsDialable}
+use Rattle.p2p_tracker.specs.Answers.{is_present_in, is_dialable, query_moment, IsDialable}
 use Rattle.p2p_tracker.specs.Record.{RecordView, DialView, is_eligible, is_grant, may_come}
 use Rattle.p2p_tracker.specs.Record.{has_valid_ingress, ingress_of, is_dial_candidate}
 use Rattle.p2p_tracker.specs.Record.{may_be_dialled, reserve_answer, dial_status, is_now}
@@ -22,7 +22,9 @@ use Rattle.p2p_directory.specs.Refinement.{Refines, address_given, address_known
 use Rattle.p2p_tracker.proofs.Definitions.Listed
 use Rattle.p2p_tracker.proofs.Definitions.Listed.{lists_alike, somebody_alike}
 use Rattle.p2p_tracker.proofs.SetsAndRecords.Dialables.{later_parts, later_moments, shuffle}
-use Rattle.p2p_directory.proofs.Refinement.RecordOfPeer.{record_with, shown, shown_may_come, eligible_is_entitled, absent_not_entitled}
+use Rattle.p2p_directory.proofs.Definitions.Targets.{parts_of_target, dialled_is_target}
+use Rattle.p2p_directory.proofs.Refinement.RecordOfPeer.{record_with, shown, shown_may_come, absent_not_entitled}
+use Rattle.p2p_directory.proofs.Refinement.RecordOfPeer.{myself_is_own, is_granted, le_not_lt}
 
 neither : (b : Bool) → (b && false) ≡ false
 neither true = refl
@@ -120,86 +122,43 @@ module _ {C S : Type 0} (s : Setup C S) where
       ap (λ b. ((b && is_inert peer.status) && World.is_valid_address s (World.address_with s p peer.known.info)) && World.is_dial_target s p sets)
       (absent_not_entitled s (is_own s p) (is_named s p sets) (is_persistent s p) (is_inert peer.status) e)
 
-  -- a dial is granted to a target that may come
-  dial_parts : (p : C) (t : ℕ) (sets : List (SetAt C)) (peer : Peer C S) (unblock : Option ℕ) (cooldown : Option Cooldown) →
-      (is_target s p sets peer && World.may_listen s p t sets peer unblock cooldown) ≡ World.may_dial s p t sets peer unblock cooldown
-  dial_parts p t sets peer unblock cooldown = both_ways _ _ to from
-    where
-      tgt : Bool
-      tgt = World.is_dial_target s p sets
+  -- a target is granted a reservation where its reservable moment has come
+  target_reserved : (p : C) (sets : List (SetAt C)) (cooldown : Option Cooldown) (peer : Peer C S) (t : ℕ) →
+      is_target s p sets peer ≡ true →
+      is_grant (reserve_answer t (record_with s p sets cooldown peer)) ≡ nat_le (reservable_from cooldown) t
+  target_reserved p sets cooldown peer t h =
+      let parts = parts_of_target s p sets peer h in
+      let other = (and_parts (not (is_own s p)) _ parts.entitled_is).0 in
+      let late = nat_lt t (reservable_from cooldown) in
+      (λ i. is_granted s (myself_is_own s p peer.known i) (is_inert peer.status) late i)
+      ∙ (λ i. other i && parts.inert_is i && not late)
+      ∙ sym (le_not_lt s (reservable_from cooldown) t)
 
-      v : Bool
-      v = World.is_valid_address s (World.address_with s p peer.known.info)
-
-      l : Bool
-      l = World.may_listen s p t sets peer unblock cooldown
-
-      e : Bool
-      e = is_entitled s p sets
-
-      i : Bool
-      i = is_inert peer.status
-
-      to : (is_target s p sets peer && l) ≡ true → World.may_dial s p t sets peer unblock cooldown ≡ true
-      to h =
-          let h1 = and_parts (is_target s p sets peer) l h in
-          let h2 = and_parts ((e && i) && v) tgt h1.0 in
-          let h3 = and_parts (e && i) v h2.0 in
-          and_from (l && tgt) v (and_from l tgt h1.1 h2.1) h3.1
-
-      from : World.may_dial s p t sets peer unblock cooldown ≡ true → (is_target s p sets peer && l) ≡ true
-      from h =
-          let h1 = and_parts (l && tgt) v h in
-          let h2 = and_parts l tgt h1.0 in
-          let h3 = and_parts _ (nat_le (reservable_from cooldown) t) h2.0 in
-          let h4 = and_parts (e && i) _ h3.0 in
-          and_from _ l (and_from _ tgt (and_from (e && i) v h4.0 h1.1) h2.1) h2.0
+  alike_where : (a b c : Bool) → (a ≡ true → b ≡ c) → (a && b) ≡ (a && c)
+  alike_where true b c h = h refl
+  alike_where false b c h = refl
 
   shown_may_dial : (p : C) (sets : List (SetAt C)) (cooldown : Option Cooldown) (peer : Peer C S) (unblock : Option ℕ) (t : ℕ) →
       (not (World.is_blocked unblock t) && option_map_or (may_be_dialled t s.allow_private_ips s.allow_dns)
       (shown s p sets cooldown peer) false) ≡ World.may_dial s p t sets peer unblock cooldown
-  shown_may_dial p sets cooldown peer unblock t = go (is_present_with s p sets peer.status) refl ∙ dial_parts p t sets peer unblock cooldown
+  shown_may_dial p sets cooldown peer unblock t = go (is_present_with s p sets peer.status) refl
+      ∙ shuffle (is_target s p sets peer) free (nat_le (reservable_from cooldown) t)
     where
       free : Bool
       free = not (World.is_blocked unblock t)
 
-      come : RecordView C S → Bool
-      come r = may_come t r
-
-      -- what may be dialled may come, since a target is entitled
-      grants : (target entitled grant : Bool) → (target ≡ true → entitled ≡ true) → (target && grant) ≡ (target && (entitled && grant))
-      grants true true grant h = refl
-      grants true false grant h = absurd (let f = h refl in cc)
-      grants false entitled grant h = refl
-
-      swap : (a b c : Bool) → (a && (b && c)) ≡ (b && (a && c))
-      swap true true c = refl
-      swap true false c = refl
-      swap false true c = refl
-      swap false false c = refl
-
-      entitled : is_target s p sets peer ≡ true → is_eligible (record_with s p sets cooldown peer) ≡ true
-      entitled h =
-          let h3 = and_parts
-          ((is_entitled s p sets && is_inert peer.status) && World.is_valid_address s
-          (World.address_with s p peer.known.info)) (World.is_dial_target s p sets) h in
-          let h2 = and_parts (is_entitled s p sets && is_inert peer.status) (World.is_valid_address s (World.address_with s p peer.known.info)) h3.0 in
-          eligible_is_entitled s p sets cooldown peer ∙ (and_parts (is_entitled s p sets) (is_inert peer.status) h2.0).0
-
       go : (b : Bool) → is_present_with s p sets peer.status ≡ b →
-          (free && option_map_or (may_be_dialled t s.allow_private_ips s.allow_dns) (if b then Some (record_with s p sets cooldown peer) else None) false)
-          ≡ (is_target s p sets peer && World.may_listen s p t sets peer unblock cooldown)
+          (free && option_map_or (may_be_dialled t s.allow_private_ips s.allow_dns)
+          (if b then Some (record_with s p sets cooldown peer) else None) false)
+          ≡ (free && (is_target s p sets peer && nat_le (reservable_from cooldown) t))
       go true h =
-          (λ i. free && (shown_candidate p sets cooldown peer i && is_grant (reserve_answer t (record_with s p sets cooldown peer))))
-          ∙ ap (λ b. free && b)
-          (grants (is_target s p sets peer) (is_eligible (record_with s p sets cooldown peer))
-          (is_grant (reserve_answer t (record_with s p sets cooldown peer))) entitled)
-          ∙ swap free (is_target s p sets peer) (may_come t (record_with s p sets cooldown peer))
-          ∙ ap (λ b. is_target s p sets peer && b)
-          ((λ i. free && option_map_or come
-          (if sym h i then Some (record_with s p sets cooldown peer) else None) false)
-          ∙ shown_may_come s p sets cooldown peer unblock t)
-      go false h = neither free ∙ sym (ap (λ b. b && World.may_listen s p t sets peer unblock cooldown) (absent_no_target p sets peer h))
+          (λ i. free && (shown_candidate p sets cooldown peer i
+          && is_grant (reserve_answer t (record_with s p sets cooldown peer))))
+          ∙ ap (λ b. free && b) (alike_where (is_target s p sets peer) _ _
+          (target_reserved p sets cooldown peer t))
+      go false h =
+          ap (λ b. free && (b && nat_le (reservable_from cooldown) t))
+          (sym (absent_no_target p sets peer h))
 
   -- DIALS
 
@@ -223,16 +182,8 @@ module _ {C S : Type 0} (s : Setup C S) where
       ingress_in s.cmp d p ≡ World.address_with s p (w.peer p).known.info
   tie_ingress w d p t stands may = ap (option_and_then (λ r. ingress_of r.address)) (stands.records p) ∙ go (is_present_in s w p) refl (is_own s p) refl
     where
-      l : Bool
-      l = World.may_listen s p t w.sets (w.peer p) (w.unblock p) (w.cooldown p)
-
       entitled : is_entitled s p w.sets ≡ true
-      entitled =
-          let h1 = and_parts (l && World.is_dial_target s p w.sets) _ may in
-          let h2 = and_parts l (World.is_dial_target s p w.sets) h1.0 in
-          let h3 = and_parts _ (nat_le (reservable_from (w.cooldown p)) t) h2.0 in
-          let h4 = and_parts (is_entitled s p w.sets && is_inert (w.peer p).status) _ h3.0 in
-          (and_parts (is_entitled s p w.sets) (is_inert (w.peer p).status) h4.0).0
+      entitled = (dialled_is_target s p w.sets (w.peer p) t (w.unblock p) (w.cooldown p) may).entitled_is
 
       given : (o : Option Ingress) → ingress_of {C = C} {S = S} (address_given o) ≡ o
       given None = refl

@@ -1,5 +1,5 @@
 -- Serving one command answers by the calls accepted before, and leads to the world with it.
-use Rattle.std.proofs.Common.{◌≡◌, ℕ, ◌≤◌, ◌<◌, ◌+◌, ◌^◌, Bool, true, false, not, ◌&&◌, ◌||◌, List, [], ◌∷◌, Option, Some, None, refl, sym, ◌∙◌, ap, subst}
+use Rattle.std.proofs.Common.{◌≡◌, ℕ, ◌≤◌, ◌<◌, ◌+◌, ◌^◌, Bool, true, false, not, ◌&&◌, ◌||◌, List, [], ◌∷◌, Option, Some, None, inl, inr, refl, sym, ◌∙◌, ap, subst}
 use Rattle.std.specs.Prelude.{if◌then◌else◌, nat_lt, is_some, IfSome, IfNone}
 use Rattle.std.specs.List.{list_all}
 use Rattle.std.specs.Option.{option_map, option_map_or}
@@ -38,6 +38,7 @@ use Rattle.p2p_directory.specs.Private.Serving.{ServerView, StandsAt, IsServedAt
 use Rattle.p2p_directory.specs.Private.Slots.{held_in}
 use Rattle.p2p_directory.specs.Refinement.{Refines, config_of, record_in, metadata_of}
 use Rattle.p2p_directory.specs.Run.{world_after, event_of, Holds}
+use Rattle.p2p_directory.proofs.Definitions.Targets.{dialled_is_target, dialled_may_listen}
 use Rattle.p2p_directory.proofs.Definitions.Law
 use Rattle.p2p_directory.proofs.LawsOfRuns.Forgotten
 use Rattle.p2p_directory.proofs.Refinement.CallsRefine
@@ -194,9 +195,12 @@ module _ {C S : Type 0} (s : Setup C S) where
           is_above index (latest_index v.directory.sets) ≡ true → v2.directory ≡ v.directory → v2.slots ≡ v.slots
           → IsServedAt s cs (Track index primary secondary) reply.OutOfMemory v2
       served_no_memory index primary secondary next directory slots = record {
-        answer = ap was_taken
-            (event cs (Track index primary secondary) (Tracked (set_of s.cmp index primary secondary))
-            (tracked_is cs index primary secondary true (above index true next)));
+        answer = inl (
+          refl,
+          ap was_taken
+              (event cs (Track index primary secondary) (Tracked (set_of s.cmp index primary secondary))
+              (tracked_is cs index primary secondary true (above index true next))),
+        );
         left = same_views cs v v2 directory (λ q. ap (λ slots. held_in s.cmp slots q) slots) at;
       }
 
@@ -207,7 +211,7 @@ module _ {C S : Type 0} (s : Setup C S) where
       served_untaken index primary secondary old directory slots =
           let c : Call C S = Track index primary secondary in
           let is = tracked_is cs index primary secondary false (above index false old) in
-          record { answer = ap was_taken (event cs c Nothing is); left = idle cs c v v2 is directory slots at }
+          record { answer = inr (ap was_taken (event cs c Nothing is)); left = idle cs c v v2 is directory slots at }
 
       served_taken : (index : ℕ) (primary secondary torn : List C) →
           is_above index (latest_index v.directory.sets) ≡ true →
@@ -226,11 +230,11 @@ module _ {C S : Type 0} (s : Setup C S) where
           (subst (λ slots. Holds s (world_with s (Tracked set) w) (held_in s.cmp slots)) (sym slots) same)
           in
           record {
-            answer = (
+            answer = inr ((
               ap was_taken (event cs c (Tracked set) is),
               CallsRefine.tie_torn s w (world_after s (c ∷ cs)) v.directory v2.directory torn at.refines
                   left.refines down,
-            );
+            ));
             left = left;
           }
 
@@ -270,7 +274,7 @@ module _ {C S : Type 0} (s : Setup C S) where
           let may = sym (DialsRefine.tie_may_listen s (world_after s cs) v.directory p now at.refines) ∙ can in
           let is : event_in s (world_after s cs).sets (world_after s cs) c ≡ Granted p grant = ap (World.listen_event s p now draw) may in
           record {
-            answer = ap (λ e. reply.Listen (was_granted e)) (sym (event cs c (Granted p grant) is));
+            answer = inr (ap (λ e. reply.Listen (was_granted e)) (sym (event cs c (Granted p grant) is)));
             left =
                 granted_left c p now draw Listener may is change held;
           }
@@ -282,7 +286,7 @@ module _ {C S : Type 0} (s : Setup C S) where
           let c : Call C S = Listen p now draw in
           let may = sym (DialsRefine.tie_may_listen s (world_after s cs) v.directory p now at.refines) ∙ can in
           let is : event_in s (world_after s cs).sets (world_after s cs) c ≡ Nothing = ap (World.listen_event s p now draw) may in
-          record { answer = ap (λ e. reply.Listen (was_granted e)) (sym (event cs c Nothing is)); left = idle cs c v v2 is directory slots at }
+          record { answer = inr (ap (λ e. reply.Listen (was_granted e)) (sym (event cs c Nothing is))); left = idle cs c v v2 is directory slots at }
 
       -- .. that is refused memory
       pub served_no_listen : (p : C) (now draw : ℕ) → may_listen_in s.cmp v.directory now p ≡ true →
@@ -293,7 +297,7 @@ module _ {C S : Type 0} (s : Setup C S) where
           let may = sym (DialsRefine.tie_may_listen s (world_after s cs) v.directory p now at.refines) ∙ can in
           let is : event_in s (world_after s cs).sets (world_after s cs) c ≡ Granted p grant = ap (World.listen_event s p now draw) may in
           record {
-            answer = ap was_granted (event cs c (Granted p grant) is);
+            answer = inl (refl, ap was_granted (event cs c (Granted p grant) is));
             left =
                 same_views cs v v2 directory (λ q. ap (λ slots. held_in s.cmp slots q) slots) at;
           }
@@ -310,18 +314,15 @@ module _ {C S : Type 0} (s : Setup C S) where
           may : World.may_dial s p now w.sets (w.peer p) (w.unblock p) (w.cooldown p) ≡ true
           may = sym (DialsRefine.tie_may_dial s w v.directory p now at.refines) ∙ can
 
-          parts : ((World.may_listen s p now w.sets (w.peer p) (w.unblock p) (w.cooldown p) && World.is_dial_target
-              s p w.sets) ≡ true) × (World.is_valid_address s (World.address_with s p (w.peer p).known.info) ≡ true)
-          parts = and_parts _ _ may
-
           go : (o : Option Ingress) → World.address_with s p (w.peer p).known.info ≡ o → (a : Ingress) × (ingress_in s.cmp v.directory p ≡ Some a)
               × (World.may_listen s p now w.sets (w.peer p) (w.unblock p) (w.cooldown p) ≡ true)
               × (event_in s w.sets w (Dial p now draw) ≡ Granted p (record { t = now; draw = draw; direction = Dialer a }))
-          go None e = absurd (let f = sym (ap (World.is_valid_address s) e) ∙ parts.1 in cc)
+          go None e = absurd (let f = sym (ap (World.is_valid_address s) e)
+              ∙ (dialled_is_target s p w.sets (w.peer p) now (w.unblock p) (w.cooldown p) may).valid_is in cc)
           go (Some a) e = (
             a,
             DialsRefine.tie_ingress s w v.directory p now at.refines may ∙ e,
-            (and_parts (World.may_listen s p now w.sets (w.peer p) (w.unblock p) (w.cooldown p)) (World.is_dial_target s p w.sets) parts.0).0,
+            dialled_may_listen s p w.sets (w.peer p) now (w.unblock p) (w.cooldown p) may,
             (λ i. World.dial_event s p now draw (may i) (e i)),
           )
 
@@ -339,7 +340,7 @@ module _ {C S : Type 0} (s : Setup C S) where
           let kept : (q : C) → held_in s.cmp v2.slots q ≡ (if is_at (s.cmp p) q then Some (metadata_of p (Dialer found.0)) else held_in s.cmp v.slots q) =
           λ q. held q ∙ (λ i. if is_at (s.cmp p) q then sym same i else held_in s.cmp v.slots q) in
           record {
-            answer = ap (λ e. reply.Dial (was_granted e)) (sym (event cs c (Granted p grant) found.3));
+            answer = inr (ap (λ e. reply.Dial (was_granted e)) (sym (event cs c (Granted p grant) found.3)));
             left = granted_left c p now draw (Dialer found.0) found.2 found.3 change kept;
           }
 
@@ -365,7 +366,7 @@ module _ {C S : Type 0} (s : Setup C S) where
       served_not_dialled p now draw can directory slots =
           let c : Call C S = Dial p now draw in
           let is = not_dialled p now draw can in
-          record { answer = ap (λ e. reply.Dial (was_granted e)) (sym (event cs c Nothing is)); left = idle cs c v v2 is directory slots at }
+          record { answer = inr (ap (λ e. reply.Dial (was_granted e)) (sym (event cs c Nothing is))); left = idle cs c v v2 is directory slots at }
 
       -- .. refused memory
       pub served_no_dial : (p : C) (now draw : ℕ) → may_dial_in s.cmp v.directory now p ≡ true →
@@ -374,7 +375,7 @@ module _ {C S : Type 0} (s : Setup C S) where
           let found = dialled p now draw can in
           let grant : Grant = record { t = now; draw = draw; direction = Dialer found.0 } in
           record {
-            answer = ap was_granted (event cs (Dial p now draw) (Granted p grant) found.3);
+            answer = inl (refl, ap was_granted (event cs (Dial p now draw) (Granted p grant) found.3));
             left =
                 same_views cs v v2 directory (λ q. ap (λ slots. held_in s.cmp slots q) slots) at;
           }
@@ -398,7 +399,7 @@ module _ {C S : Type 0} (s : Setup C S) where
           let is = block_is p now true can in
           let same : Holds s (world_with s (Blocked p now) w) (held_in s.cmp v.slots) = record { peers = at.holds.peers; metadata = at.holds.metadata } in
           record {
-            answer = ap (λ e. reply.Block (was_blocked e)) (sym (event cs c (Blocked p now) is));
+            answer = inr (ap (λ e. reply.Block (was_blocked e)) (sym (event cs c (Blocked p now) is)));
             left =
                 stands_with cs c (Blocked p now) v2 at.limit_fits is (BlocksRefine.tie_block s w v.directory v2.directory p now at.refines change)
                 (subst (λ slots. Holds s (world_with s (Blocked p now) w) (held_in s.cmp slots)) (sym slots) same);
@@ -409,7 +410,7 @@ module _ {C S : Type 0} (s : Setup C S) where
       served_not_blocked p now can directory slots =
           let c : Call C S = Block p now in
           let is = block_is p now false can in
-          record { answer = ap (λ e. reply.Block (was_blocked e)) (sym (event cs c Nothing is)); left = idle cs c v v2 is directory slots at }
+          record { answer = inr (ap (λ e. reply.Block (was_blocked e)) (sym (event cs c Nothing is))); left = idle cs c v v2 is directory slots at }
 
       -- whether it was taken or not
       pub served_block : (p : C) (now : ℕ) (taken : Bool) → taken ≡ may_block s.cmp v.directory now p → (taken ≡ false → v2.directory ≡ v.directory) →
@@ -424,7 +425,7 @@ module _ {C S : Type 0} (s : Setup C S) where
           v2.directory ≡ v.directory → v2.slots ≡ v.slots → IsServedAt s cs (Block p now) reply.OutOfMemory v2
       served_no_block p now can directory slots =
           record {
-            answer = ap was_blocked (event cs (Block p now) (Blocked p now) (block_is p now true can));
+            answer = inl (refl, ap was_blocked (event cs (Block p now) (Blocked p now) (block_is p now true can)));
             left = same_views cs v v2 directory (λ q. ap (λ slots. held_in s.cmp slots q) slots) at;
           }
 
@@ -435,7 +436,7 @@ module _ {C S : Type 0} (s : Setup C S) where
           let w : World C S = world_after s cs in
           let same : Holds s (world_with s (Expired now) w) (held_in s.cmp v.slots) = record { peers = at.holds.peers; metadata = at.holds.metadata } in
           record {
-            answer = BlocksRefine.tie_any_expired s w v.directory now any at.refines told;
+            answer = inr (BlocksRefine.tie_any_expired s w v.directory now any at.refines told);
             left =
                 stands_with cs (UnblockExpired now) (Expired now) v2 at.limit_fits refl
                 (BlocksRefine.tie_ended s w v.directory v2.directory now at.refines change)
@@ -449,7 +450,7 @@ module _ {C S : Type 0} (s : Setup C S) where
           let w : World C S = world_after s cs in
           let same : Holds s (world_with s (Forgot now) w) (held_in s.cmp v.slots) = record { peers = at.holds.peers; metadata = at.holds.metadata } in
           record {
-            answer = CallsRefine.tie_number_cooled s w v.directory now count at.refines told;
+            answer = inr (CallsRefine.tie_number_cooled s w v.directory now count at.refines told);
             left =
                 stands_with cs (ForgetCooled now) (Forgot now) v2 at.limit_fits refl (CallsRefine.tie_forget s w v.directory v2.directory now at.refines change)
                 (subst (λ slots. Holds s (world_with s (Forgot now) w) (held_in s.cmp slots)) (sym slots) same);
@@ -473,7 +474,7 @@ module _ {C S : Type 0} (s : Setup C S) where
           let is : event_in s w.sets w (Connect p dialer) ≡ Connected p dialer = ap (World.connect_event s p dialer) status in
           let holds = connected_holds w p dialer (held_in s.cmp v.slots) at.holds in
           record {
-            answer = ap (λ b. if b then reply.Connect else reply.NotReserved) (sym may);
+            answer = inr (ap (λ b. if b then reply.Connect else reply.NotReserved) (sym may));
             left =
                 stands_with cs (Connect p dialer) (Connected p dialer) v2 at.limit_fits is
                 (KnowledgeRefines.tie_connect s exact w v.directory v2.directory p dialer at.refines status
@@ -487,7 +488,7 @@ module _ {C S : Type 0} (s : Setup C S) where
           let w : World C S = world_after s cs in
           let same : Holds s (world_with s (Updated infos) w) (held_in s.cmp v.slots) = record { peers = at.holds.peers; metadata = at.holds.metadata } in
           record {
-            answer = refl;
+            answer = inr refl;
             left =
                 stands_with cs (Update infos) (Updated infos) v2 at.limit_fits refl
                 (KnowledgeRefines.tie_update s w v.directory v2.directory infos at.refines change)
@@ -521,7 +522,7 @@ module _ {C S : Type 0} (s : Setup C S) where
           (ap is_some found) in
           let of_grant = subst (λ m. ChangesRecord s.cmp v.directory v2.directory p (kept_after_release m)) (sym spent.2) change in
           record {
-            answer = ap (λ b. if not b then reply.Release else reply.NotHeld) (sym live);
+            answer = inr (ap (λ b. if not b then reply.Release else reply.NotHeld) (sym live));
             left =
                 stands_with cs (Release p) (Released p direction) v2 at.limit_fits is
                 (CallsRefine.tie_release s exact w v.directory v2.directory p direction at.refines live
@@ -532,7 +533,7 @@ module _ {C S : Type 0} (s : Setup C S) where
       pub served_not_held : (p : C) → held_in s.cmp v.slots p ≡ None → v2.directory ≡ v.directory →
           ((q : C) → held_in s.cmp v2.slots q ≡ (if is_at (s.cmp p) q then None else held_in s.cmp v.slots q)) → IsServedAt s cs (Release p) reply.NotHeld v2
       served_not_held p none directory held = record {
-        answer = ap (λ b. if b then reply.Release else reply.NotHeld) (sym (ap is_some none) ∙ at.holds.peers p);
+        answer = inr (ap (λ b. if b then reply.Release else reply.NotHeld) (sym (ap is_some none) ∙ at.holds.peers p));
         left = same_views cs v v2 directory (λ q. held q ∙ go q (is_at (s.cmp p) q) refl) at;
       }
         where

@@ -1,5 +1,5 @@
 -- Serving a question answers by the calls accepted before.
-use Rattle.std.proofs.Common.{false, Vec, Global, ◌≡◌, ℕ, ◌≤◌, ◌<◌, Bool, true, List, Option, Some, None, refl, sym, ◌∙◌, ap, subst, length}
+use Rattle.std.proofs.Common.{false, Vec, Global, ◌≡◌, ℕ, ◌≤◌, ◌<◌, Bool, true, List, Option, Some, None, inl, inr, refl, sym, ◌∙◌, ap, subst, length}
 use Rattle.std.specs.Prelude.{is_some, slice_get}
 use Rattle.std.specs.Option.{option_map}
 use Rattle.std.specs.Cmp.{IsTotalOrder}
@@ -57,7 +57,7 @@ module _ {C S : Type 0} (s : Setup C S) where
           v2.directory ≡ v.directory → v2.slots ≡ v.slots → IsServedAt s cs (Ask question) reply.OutOfMemory v2
       unserved question may directory slots =
           record {
-            answer = may;
+            answer = inl (refl, may);
             left =
                 same_views s some exact cs v v2 directory (λ q. ap (λ slots. held_in s.cmp slots q) slots) at;
           }
@@ -68,7 +68,7 @@ module _ {C S : Type 0} (s : Setup C S) where
       served_status p status is directory slots =
           record {
             answer =
-                ap reply.Status (is ∙ CallsRefine.tie_status s (world_after s cs) v.directory p at.refines);
+                inr (ap reply.Status (is ∙ CallsRefine.tie_status s (world_after s cs) v.directory p at.refines));
             left =
                 idle s some exact cs (Ask (StatusOf p)) v v2 refl directory slots at;
           }
@@ -78,7 +78,7 @@ module _ {C S : Type 0} (s : Setup C S) where
           IsServedAt s cs (Ask LatestIndex) (reply.LatestSetIndex latest) v2
       served_latest latest is directory slots =
           record {
-            answer = ap reply.LatestSetIndex (is ∙ ap latest_index at.refines.sets);
+            answer = inr (ap reply.LatestSetIndex (is ∙ ap latest_index at.refines.sets));
             left =
                 idle s some exact cs (Ask LatestIndex) v v2 refl directory slots at;
           }
@@ -88,7 +88,7 @@ module _ {C S : Type 0} (s : Setup C S) where
       served_info p info is directory slots =
           record {
             answer =
-                ap reply.Info (is ∙ KnowledgeRefines.tie_info s (world_after s cs) v.directory p at.refines);
+                inr (ap reply.Info (is ∙ KnowledgeRefines.tie_info s (world_after s cs) v.directory p at.refines));
             left =
                 idle s some exact cs (Ask (InfoOf p)) v v2 refl directory slots at;
           }
@@ -98,7 +98,7 @@ module _ {C S : Type 0} (s : Setup C S) where
           IsSomeAnd (sharable_in s.cmp v.directory p) (λ i. takes_none i.ingress ≡ false) →
           v2.directory ≡ v.directory → v2.slots ≡ v.slots → IsServedAt s cs (Ask (InfoOf p)) reply.OutOfMemory v2
       served_no_info p named directory slots = record {
-        answer = subst (λ o. IsSomeAnd o (λ i. takes_none i.ingress ≡ false)) (KnowledgeRefines.tie_info s (world_after s cs) v.directory p at.refines) named;
+        answer = inl (refl, subst (λ o. IsSomeAnd o (λ i. takes_none i.ingress ≡ false)) (KnowledgeRefines.tie_info s (world_after s cs) v.directory p at.refines) named);
         left = same_views s some exact cs v v2 directory (λ q. ap (λ slots. held_in s.cmp slots q) slots) at;
       }
 
@@ -106,7 +106,7 @@ module _ {C S : Type 0} (s : Setup C S) where
           option_map (λ v. v.items) infos ≡ infos_in s.cmp v.directory index bits now →
           v2.directory ≡ v.directory → v2.slots ≡ v.slots → IsServedAt s cs (Ask (InfosFor index bits now)) (reply.Infos infos) v2
       served_infos index bits now infos is directory slots = record {
-        answer = is ∙ KnowledgeRefines.tie_infos s (world_after s cs) v.directory index bits now at.refines;
+        answer = inr (is ∙ KnowledgeRefines.tie_infos s (world_after s cs) v.directory index bits now at.refines);
         left = idle s some exact cs (Ask (InfosFor index bits now)) v v2 refl directory slots at;
       }
 
@@ -125,9 +125,9 @@ module _ {C S : Type 0} (s : Setup C S) where
           v2.directory ≡ v.directory → v2.slots ≡ v.slots →
           IsServedAt s cs (Ask (BitsAt place)) (reply.GetRandomBitVec bits) v2
       served_bits place bits is directory slots = record {
-        answer = ap reply.GetRandomBitVec
+        answer = inr (ap reply.GetRandomBitVec
             (is ∙ KnowledgeRefines.tie_bits s at.limit_fits (world_after s cs) v.directory place
-            (Forgotten.absent s cs) at.refines);
+            (Forgotten.absent s cs) at.refines));
         left = idle s some exact cs (Ask (BitsAt place)) v v2 refl directory slots at;
       }
 
@@ -136,7 +136,7 @@ module _ {C S : Type 0} (s : Setup C S) where
           v2.directory ≡ v.directory → v2.slots ≡ v.slots →
           IsServedAt s cs (Ask (BitsAt place)) reply.OutOfMemory v2
       served_no_bits place some_set directory slots = record {
-        answer = sym (ap (λ sets. is_some (slice_get sets place)) at.refines.sets) ∙ some_unless (slice_get v.directory.sets place) some_set;
+        answer = inl (refl, sym (ap (λ sets. is_some (slice_get sets place)) at.refines.sets) ∙ some_unless (slice_get v.directory.sets place) some_set);
         left = same_views s some exact cs v v2 directory (λ q. ap (λ slots. held_in s.cmp slots q) slots) at;
       }
 
@@ -144,7 +144,7 @@ module _ {C S : Type 0} (s : Setup C S) where
           IsStrictlySortedBy s.cmp (keys_of v.directory.records) → v2.directory ≡ v.directory →
           v2.slots ≡ v.slots → IsServedAt s cs (Ask NumberTracked) (reply.Tracked n) v2
       served_tracked total n is up directory slots = record {
-        answer = subst (IsNumberTracked s (world_after s cs)) (sym is) (KnowledgeRefines.tie_tracked s total (world_after s cs) v.directory at.refines up);
+        answer = inr (subst (IsNumberTracked s (world_after s cs)) (sym is) (KnowledgeRefines.tie_tracked s total (world_after s cs) v.directory at.refines up));
         left = idle s some exact cs (Ask NumberTracked) v v2 refl directory slots at;
       }
 
@@ -155,8 +155,8 @@ module _ {C S : Type 0} (s : Setup C S) where
       served_next_unblock moment least directory slots =
           record {
             answer =
-                BlocksRefine.tie_next_unblock s (world_after s cs) v.directory (option_map as_nanos moment)
-                at.refines least;
+                inr (BlocksRefine.tie_next_unblock s (world_after s cs) v.directory (option_map as_nanos moment)
+                at.refines least);
             left = idle s some exact cs (Ask NextUnblock) v v2 refl directory slots at;
           }
 
@@ -166,7 +166,7 @@ module _ {C S : Type 0} (s : Setup C S) where
           IsServedAt s cs (Ask (BlockedAt now)) (reply.BlockedPeers peers) v2
       served_blocked_peers now peers listed directory slots =
           record {
-            answer = BlocksRefine.tie_blocked s (world_after s cs) v.directory now peers at.refines listed;
+            answer = inr (BlocksRefine.tie_blocked s (world_after s cs) v.directory now peers at.refines listed);
             left = idle s some exact cs (Ask (BlockedAt now)) v v2 refl directory slots at;
           }
 
@@ -181,7 +181,7 @@ module _ {C S : Type 0} (s : Setup C S) where
           peers ≡ peer_set_in v.directory index → v2.directory ≡ v.directory → v2.slots ≡ v.slots →
           IsServedAt s cs (Ask (PeerSet index)) (reply.GetPeerSet peers) v2
       served_peer_set index peers is directory slots = record {
-        answer = ap reply.GetPeerSet (is ∙ ap (λ sets. option_map peers_of (set_with index sets)) at.refines.sets);
+        answer = inr (ap reply.GetPeerSet (is ∙ ap (λ sets. option_map peers_of (set_with index sets)) at.refines.sets));
         left = idle s some exact cs (Ask (PeerSet index)) v v2 refl directory slots at;
       }
 
@@ -197,7 +197,7 @@ module _ {C S : Type 0} (s : Setup C S) where
           v2.slots ≡ v.slots → IsServedAt s cs (Ask AllPeers) (reply.All all) v2
       served_all all told directory slots =
           record {
-            answer = BlocksRefine.tie_all s (world_after s cs) v.directory all at.refines told;
+            answer = inr (BlocksRefine.tie_all s (world_after s cs) v.directory all at.refines told);
             left =
                 idle s some exact cs (Ask AllPeers) v v2 refl directory slots at;
           }
@@ -211,7 +211,7 @@ module _ {C S : Type 0} (s : Setup C S) where
           IsServedAt s cs (Ask LatestUpdate) (reply.LatestUpdate update) v2
       served_update update told directory slots =
           record {
-            answer = BlocksRefine.tie_update s (world_after s cs) v.directory update at.refines told;
+            answer = inr (BlocksRefine.tie_update s (world_after s cs) v.directory update at.refines told);
             left =
                 idle s some exact cs (Ask LatestUpdate) v v2 refl directory slots at;
           }
@@ -226,7 +226,7 @@ module _ {C S : Type 0} (s : Setup C S) where
       served_eligible p now b is directory slots =
           record {
             answer =
-                ap reply.Eligible (is ∙ BlocksRefine.tie_eligible s (world_after s cs) v.directory p now at.refines);
+                inr (ap reply.Eligible (is ∙ BlocksRefine.tie_eligible s (world_after s cs) v.directory p now at.refines));
             left = idle s some exact cs (Ask (IsEligible p now)) v v2 refl directory slots at;
           }
 
@@ -236,8 +236,8 @@ module _ {C S : Type 0} (s : Setup C S) where
       served_acceptable p now b is directory slots =
           record {
             answer =
-                ap reply.Acceptable
-                (is ∙ BlocksRefine.tie_acceptable s (world_after s cs) v.directory p now at.refines);
+                inr (ap reply.Acceptable
+                (is ∙ BlocksRefine.tie_acceptable s (world_after s cs) v.directory p now at.refines));
             left =
                 idle s some exact cs (Ask (IsAcceptable p now)) v v2 refl directory slots at;
           }
@@ -247,7 +247,7 @@ module _ {C S : Type 0} (s : Setup C S) where
           v2.directory ≡ v.directory → v2.slots ≡ v.slots →
           IsServedAt s cs (Ask (DialableAt now)) (reply.Dialable answer) v2
       served_dialable now answer told directory slots = record {
-        answer = DialsRefine.tie_dialable s (world_after s cs) v.directory now answer.peers.items (option_map as_nanos answer.next_query_at) at.refines told;
+        answer = inr (DialsRefine.tie_dialable s (world_after s cs) v.directory now answer.peers.items (option_map as_nanos answer.next_query_at) at.refines told);
         left = idle s some exact cs (Ask (DialableAt now)) v v2 refl directory slots at;
       }
 

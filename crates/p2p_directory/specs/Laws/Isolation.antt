@@ -1,5 +1,7 @@
 -- What the calls on other single peers leave as it was.
 use Rattle.std.specs.Prelude.{◌≡◌, ℕ, Bool, false, not, if◌then◌else◌, List, [], ◌∷◌, filter}
+use Rattle.std.specs.Prelude.{Option, Some, None}
+use Rattle.std.specs.Option.{option_map_or}
 use Rattle.p2p_tracker.specs.Calls.{Setup, Question, Call}
 use Rattle.p2p_tracker.specs.Calls.Question.{StatusOf, InfoOf, IsEligible, IsAcceptable}
 use Rattle.p2p_tracker.specs.Calls.Call.{Dial, Listen, Connect, Release, Update, Block, Ask}
@@ -9,24 +11,32 @@ use Rattle.p2p_tracker.specs.Answers.{is_present_in, status_in, sharable_info, w
 use Rattle.p2p_tracker.specs.Answers.{is_blocked_at, is_eligible_at, is_acceptable_at}
 use Rattle.p2p_tracker.specs.Answers.{is_cooled_at, is_dialable, query_moment}
 
+-- the single peer that a question is about, if it is about one
+abbrev pub single_peer_asked : {C : Type 0} → Question C → Option C
+single_peer_asked (StatusOf q) = Some q
+single_peer_asked (InfoOf q) = Some q
+single_peer_asked (IsEligible q t) = Some q
+single_peer_asked (IsAcceptable q t) = Some q
+single_peer_asked _ = None
+
+-- the single peer that a call is on, if it is on one
+abbrev pub single_peer_of : {C S : Type 0} → Call C S → Option C
+single_peer_of (Dial q t draw) = Some q
+single_peer_of (Listen q t draw) = Some q
+single_peer_of (Connect q dialer) = Some q
+single_peer_of (Release q) = Some q
+single_peer_of (Block q t) = Some q
+single_peer_of (Ask question) = single_peer_asked question
+single_peer_of _ = None
+
 module _ {C S : Type 0} (s : Setup C S) where
-  -- a question about a single peer other than p
-  abbrev pub asks_of_another : C → Question C → Bool
-  asks_of_another p (StatusOf q) = not (same s q p)
-  asks_of_another p (InfoOf q) = not (same s q p)
-  asks_of_another p (IsEligible q t) = not (same s q p)
-  asks_of_another p (IsAcceptable q t) = not (same s q p)
-  asks_of_another p _ = false
+  -- a call on the single peer p
+  abbrev pub is_on : C → Call C S → Bool
+  is_on p c = option_map_or (λ q. same s q p) (single_peer_of c) false
 
   -- a call on a single peer other than p
   abbrev pub is_on_another : C → Call C S → Bool
-  is_on_another p (Dial q t draw) = not (same s q p)
-  is_on_another p (Listen q t draw) = not (same s q p)
-  is_on_another p (Connect q dialer) = not (same s q p)
-  is_on_another p (Release q) = not (same s q p)
-  is_on_another p (Block q t) = not (same s q p)
-  is_on_another p (Ask question) = asks_of_another p question
-  is_on_another p _ = false
+  is_on_another p c = option_map_or (λ q. not (same s q p)) (single_peer_of c) false
 
   -- an update with p's infos alone
   abbrev pub narrowed : C → Call C S → Call C S

@@ -1,38 +1,19 @@
 -- What the calls on other single peers leave as it was, by the replies to a run: commands and
 -- replies are in order, the oldest first.
-use Rattle.std.specs.Prelude.{ℕ, ◌≡◌, Bool, true, false, if◌then◌else◌, List, ◌∷◌, Option, Some, None}
+use Rattle.std.specs.Prelude.{ℕ, ◌≡◌, Bool, true, if◌then◌else◌, List, ◌∷◌, Option, Some, None}
 use Rattle.std.specs.Option.{option_map}
 use Rattle.p2p_tracker.specs.declared.record.Dialable.{Dialable}
-use Rattle.p2p_tracker.specs.Calls.{Setup, Question, Call}
-use Rattle.p2p_tracker.specs.Calls.Question.{StatusOf, InfoOf, IsEligible, IsAcceptable}
+use Rattle.p2p_tracker.specs.Calls.{Setup, Call}
 use Rattle.p2p_tracker.specs.Calls.Question.{DialableAt}
-use Rattle.p2p_tracker.specs.Calls.Call.{Track, Dial, Listen, Connect, Release, Block, Ask}
-use Rattle.p2p_tracker.specs.History.{same, is_in}
+use Rattle.p2p_tracker.specs.Calls.Call.{Track, Ask}
+use Rattle.p2p_tracker.specs.History.{is_in}
 use Rattle.p2p_tracker.specs.Answers.{was_taken, is_torn_down, is_dialable}
 use Rattle.p2p_directory.specs.declared.run.commands.Reply.{Reply}
 use Rattle.p2p_directory.specs.declared.run.commands.Reply.TheVariants as reply
 use Rattle.p2p_directory.specs.Run.{world_after, event_of, IsAnswer, next}
-use Rattle.p2p_directory.specs.Laws.Isolation.{SameFor, left_for}
+use Rattle.p2p_directory.specs.Laws.Isolation.{SameFor, is_on, left_for}
 
 module _ {C S : Type 0} (s : Setup C S) where
-  -- a question about p alone
-  abbrev pub asks_of : C → Question C → Bool
-  asks_of p (StatusOf q) = same s q p
-  asks_of p (InfoOf q) = same s q p
-  asks_of p (IsEligible q t) = same s q p
-  asks_of p (IsAcceptable q t) = same s q p
-  asks_of p _ = false
-
-  -- a call on the single peer p
-  abbrev pub is_on : C → Call C S → Bool
-  is_on p (Dial q t draw) = same s q p
-  is_on p (Listen q t draw) = same s q p
-  is_on p (Connect q dialer) = same s q p
-  is_on p (Release q) = same s q p
-  is_on p (Block q t) = same s q p
-  is_on p (Ask question) = asks_of p question
-  is_on p _ = false
-
   -- whether a track after these calls tears p down, where its set is taken
   abbrev pub torn_after : C → List (Call C S) → Call C S → Option Bool
   torn_after p before c =
@@ -59,7 +40,7 @@ module _ {C S : Type 0} (s : Setup C S) where
   pub record IsAlone (p : C) (before : List (Call C S)) (c : Call C S)
       (r : Reply C S) : Type 0 where
     pub stands : StandsAlone p before
-    pub answer : is_on p c ≡ true → IsAnswer s (left_for s p before) c r
+    pub answer : is_on s p c ≡ true → IsAnswer s (left_for s p before) c r
     pub listed : IsListedAfter p (left_for s p before) c r
 
   -- .. at each point of a run, the last one too

@@ -1,11 +1,11 @@
 //! A bit for each peer of a set.
 
 ghost use Rattle.std.specs.Prelude.{◌≡◌, ◌<◌, length, IfOk, is_some, nat_lt, slice_get, Some};
-ghost use Rattle.std.specs.Map.{lookup, set_value};
+ghost use Rattle.std.specs.Map.{keys_of, lookup, set_value, values_of};
 ghost use Rattle.std.specs.BTreeMap.{is_at};
 ghost use Rattle.std.specs.List.Sorted.{IsStrictlySortedBy};
 ghost use Rattle.std.specs.Slice.Iter.{iter_rest};
-ghost use Rattle.p2p_discovery.specs.BitSets.{peers_of, bits_of, with_bit, unset};
+ghost use Rattle.p2p_discovery.specs.BitSets.{with_bit, unset};
 
 use crate::codec::PublicKey;
 use crate::sets::{BitMap, OrderedSet};
@@ -100,14 +100,14 @@ impl<P: PublicKey> BitSet<P> {
     ///
     /// A byte for each eight peers.
     pub fn knowledge(&self) -> Result<BitMap, AllocError>
-        ensures { IfOk result (λ bits. bits ≡ bits_of self.now) }
+        ensures { IfOk result (λ bits. bits ≡ values_of self.now) }
     {
         self.knowledge.clone()
     }
 
     /// The set of the peers.
     pub fn ordered(&self) -> &OrderedSet<P>
-        ensures { result.now ≡ peers_of self.now }
+        ensures { result.now ≡ keys_of self.now }
     {
         &self.ordered
     }
@@ -136,7 +136,7 @@ impl<P: PublicKey> Index<usize> for BitSet<P> {
 
     ghost can_index = { λ set place. place < length set };
 
-    ghost index_gives = { λ set place key. slice_get (peers_of set) place ≡ Some key };
+    ghost index_gives = { λ set place key. slice_get (keys_of set) place ≡ Some key };
 
     fn index(&self, place: usize) -> &P {
         &self.ordered[place]
@@ -148,8 +148,8 @@ impl<'a, P: PublicKey> IntoIterator for &'a BitSet<P> {
 
     type IntoIter = slice::Iter<'a, P>;
 
-    ghost into_iter_gives = { λ set it. (iter_rest it ≡ peers_of set.now)
-        × IsStrictlySortedBy P.cmp (peers_of set.now) };
+    ghost into_iter_gives = { λ set it. (iter_rest it ≡ keys_of set.now)
+        × IsStrictlySortedBy P.cmp (keys_of set.now) };
 
     fn into_iter(self) -> slice::Iter<'a, P> {
         self.ordered.iter()

@@ -7,7 +7,8 @@ use Rattle.p2p_tracker.specs.Calls.{Setup}
 use Rattle.p2p_tracker.specs.History
 use Rattle.p2p_tracker.specs.World
 use Rattle.p2p_tracker.specs.World.{World}
-use Rattle.p2p_tracker.specs.Answers.{IsDialable, is_dialable, is_target, is_present_in, query_moment}
+use Rattle.p2p_tracker.specs.Answers.{IsDialable, is_dialable, is_present_in, query_moment}
+use Rattle.p2p_tracker.specs.World.{is_target}
 use Rattle.p2p_tracker.specs.Dials.{IsBefore}
 use Rattle.p2p_tracker.proofs.Definitions.Listed
 

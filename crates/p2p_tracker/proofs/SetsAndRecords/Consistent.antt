@@ -21,7 +21,8 @@ use Rattle.p2p_tracker.specs.History.{last_of, is_inert}
 use Rattle.p2p_tracker.specs.World.{last_ingress_by}
 use Rattle.p2p_tracker.specs.Record.{RecordView, new_record, fresh, is_myself, is_wanted, is_eligible, is_deletable, with_counts, unless_deletable}
 use Rattle.p2p_tracker.specs.Private.Counts.{one_set_more, one_set_less, record_leaving}
-use Rattle.p2p_tracker.specs.PeerSets.{members, has_key, set_count, AreRolesDisjoint}
+use Rattle.p2p_tracker.specs.PeerSets.{members, set_count, AreRolesDisjoint}
+use Rattle.p2p_discovery.specs.Ordered.{has_key}
 use Rattle.p2p_tracker.specs.Private.Counts.{newest_sets, leaving_count, surplus_count}
 use Rattle.p2p_tracker.specs.Directory.{first_record, has_status, record_with_sets, is_connectable}
 use Rattle.p2p_tracker.specs.Private.Counts.{record_joining, AreCounted, IsConsistent, HasOwn, KeepsAll, DropsFirst, DropsOldest, IsRestored}

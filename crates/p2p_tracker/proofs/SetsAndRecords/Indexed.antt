@@ -23,7 +23,8 @@ use Rattle.std.proofs.lemmas.Map.Entries.{none_past_head}
 use Rattle.std.proofs.lemmas.Map.Keys.{sorted_tail, Less-from_sorted, IsDistinct-from_sorted}
 use Rattle.p2p_discovery.specs.BitSets.{with_bit}
 use Rattle.p2p_tracker.specs.declared.kept.places.Place.{Place}
-use Rattle.p2p_tracker.specs.PeerSets.{has_key, latest_index, is_above}
+use Rattle.p2p_tracker.specs.PeerSets.{latest_index, is_above}
+use Rattle.p2p_discovery.specs.Ordered.{has_key}
 use Rattle.p2p_tracker.specs.Private.Places.{place_of, places_from, places_in, bit_at, bits_at, AreOrdered, IsIndexed}
 use Rattle.p2p_tracker.specs.Private.Places.{first_or, unless_in, walk, met_in, has_index, indices, AreEarlier}
 use Rattle.p2p_tracker.specs.Private.Window.{SetWithBits, plain_sets, bits_with, with_bit_of, IsAscending}

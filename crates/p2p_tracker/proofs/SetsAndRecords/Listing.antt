@@ -20,7 +20,7 @@ use Rattle.std.proofs.lemmas.Map.Entries.{none_past_head}
 use Rattle.std.proofs.lemmas.Map.Keys.{sorted_tail, IsDistinct-from_sorted}
 use Rattle.std.proofs.lemmas.Map.Lookups.{CmpEqualImpliesEq}
 use Rattle.std.proofs.lemmas.Map.Views.{tells_apart}
-use Rattle.p2p_tracker.specs.PeerSets.{has_key}
+use Rattle.p2p_discovery.specs.Ordered.{has_key}
 use Rattle.p2p_tracker.specs.Lists.{Lists, IsLeastOf, Somebody}
 use Rattle.p2p_tracker.specs.Private.Dialling.{earliest, least_by}
 

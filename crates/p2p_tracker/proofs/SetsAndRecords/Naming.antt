@@ -12,12 +12,11 @@ use Rattle.std.specs.List.{filter, AllByRecursion, IsDistinct}
 use Rattle.std.specs.Ordering.{is_eq, eq_by_cmp}
 use Rattle.std.proofs.lemmas.Cmp.{tied_itself, eq_by_cmp_equiv}
 use Rattle.std.proofs.lemmas.List.{length-take, get_or-take, get_or_default, take-append-drop}
-use Rattle.std.proofs.lemmas.List.Folds.{list_any_none, list_any_at, list_any_more, list_any-append}
+use Rattle.std.proofs.lemmas.List.Folds.{list_any_none, list_any_more, list_any-append}
 use Rattle.std.proofs.lemmas.Map.Keys.{Less-from_sorted}
 use Rattle.std.proofs.lemmas.Map.Lookups.{CmpEqualImpliesEq}
 use Rattle.std.proofs.lemmas.Map.Views.{tells_apart, any-filter_same}
-use Rattle.p2p_discovery.specs.Ordered.{IsPlaceOf}
-use Rattle.p2p_tracker.specs.PeerSets.{has_key}
+use Rattle.p2p_discovery.specs.Ordered.{has_key}
 
 step : {X : Type 0} (a b : Bool) → (b ≡ true → a ≡ false) → (f : X → X) (new now old : X) →
     new ≡ cond b (f now) now → now ≡ cond a (f old) old → new ≡ cond (a || b) (f old) old
@@ -51,22 +50,6 @@ module _ {C : Type 0} {cmp : C → C → Ordering} (o : IsTotalOrder cmp) (exact
 or_true_right : (a b : Bool) → b ≡ true → (a || b) ≡ true
 or_true_right true b e = refl
 or_true_right false b e = e
-
--- a key that has a place is one of the keys
-pub at_place : {C : Type 0} {cmp : C → C → Ordering} → IsTotalOrder cmp → (keys : List C) (k : ℕ) (key : C) → IsPlaceOf key keys k → has_key cmp keys key ≡ true
-at_place {cmp = cmp} o keys k key place = list_any_at (λ x. is_at (cmp x) key) keys k key place.in_range (rw place.at_place (ap is_eq (tied_itself o key)))
-
-either : (b : Bool) → (b ≡ true → ⊥) → b ≡ false
-either true h = absurd (h refl)
-either false h = refl
-
--- and one that has no place is none of them
-pub nowhere : {C : Type 0} {cmp : C → C → Ordering} → CmpEqualImpliesEq cmp → (keys : List C) (key : C) →
-    ((k : ℕ) → IsPlaceOf key keys k → ⊥) → has_key cmp keys key ≡ false
-nowhere {cmp = cmp} exact keys key absent = list_any_none (λ x. is_at (cmp x) key) keys (λ j d below.
-    either (is_at (cmp (get_or keys j d)) key) (λ same.
-    let here : get_or keys j key ≡ key = get_or_default keys j key d below ∙ tells_apart exact (get_or keys j d) key same in
-    absent j (record { in_range = below; at_place = here })))
 
 -- those of some keys that pass a test
 pub names-filter : {C : Type 0} {cmp : C → C → Ordering} → CmpEqualImpliesEq cmp →

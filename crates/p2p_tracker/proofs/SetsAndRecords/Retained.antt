@@ -13,7 +13,8 @@ use Rattle.std.proofs.lemmas.Cmp.{tied_itself}
 use Rattle.p2p_tracker.specs.declared.record.Role.{Role}
 use Rattle.p2p_tracker.specs.declared.record.Role.TheVariants.{Primary, Secondary}
 use Rattle.p2p_tracker.specs.Calls.{SetAt}
-use Rattle.p2p_tracker.specs.PeerSets.{has_key, members, has_peers, set_count}
+use Rattle.p2p_tracker.specs.PeerSets.{members, has_peers, set_count}
+use Rattle.p2p_discovery.specs.Ordered.{has_key}
 use Rattle.p2p_tracker.specs.Lists.{Somebody}
 
 -- what stands at the last place is the last

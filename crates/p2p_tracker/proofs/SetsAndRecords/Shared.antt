@@ -1,11 +1,11 @@
 -- What is told of a set: the set with an index, and what is chosen of two lists side by side.
 use Rattle.std.proofs.Common.{◌≡◌, ◌==◌, Bool, true, false, cond, ℕ, zero, suc, ◌+◌, ◌≤◌, List, []}
 use Rattle.std.proofs.Common.{◌∷◌, ◌++◌, length, drop, Option, Some, None, refl, sym, ◌∙◌, ap}
-use Rattle.std.proofs.Common.{subst, arith, zip, filter_map, slice_get}
+use Rattle.std.proofs.Common.{subst, arith, zip, map, filter_map, slice_get}
 use Rattle.std.specs.Prelude.{option_to_list, if◌then◌else◌}
 use Rattle.std.specs.Option.{option_map}
 use Rattle.std.specs.List.{cons_option}
-use Rattle.std.specs.Map.{keys_of}
+use Rattle.std.specs.Map.{keys_of, values_of}
 use Rattle.std.specs.declared.cmp.Ordering.{Ordering}
 use Rattle.p2p_discovery.specs.declared.discovery.Info.{Info}
 use Rattle.p2p_tracker.specs.Calls.{SetAt}
@@ -13,7 +13,10 @@ use Rattle.p2p_tracker.specs.Answers.{epoch_millis}
 use Rattle.p2p_tracker.specs.PeerSets.{set_with}
 use Rattle.p2p_tracker.specs.Record.{RecordView}
 use Rattle.p2p_tracker.specs.Directory.{DirectoryView, shared_at, shared_of, shared_for, infos_in}
+use Rattle.p2p_tracker.specs.Directory.{record_at, is_known, known_bits, bit_vec_at}
 use Rattle.p2p_tracker.specs.Private.Window.{SetWithBits, plain_set, plain_sets, set_at}
+use Rattle.p2p_tracker.specs.Private.Window.{sets_with_bits}
+use Rattle.p2p_tracker.proofs.SetsAndRecords.Windows.{bits_shown, none_shown}
 
 -- the set with an index, without its bits
 plain_found : {C : Type 0} (window : List (SetWithBits C)) (index : ℕ) → set_with index (plain_sets window) ≡ option_map plain_set (set_at window index)
@@ -33,11 +36,45 @@ module _ {C S : Type 0} (cmp : C → C → Ordering) where
     | Some set ↦ shared_for cmp records (epoch_millis now) set.primary bits
   ]
 
-  pub infos_found : (d : DirectoryView C S) (window : List (SetWithBits C)) (index : ℕ) (bits : List Bool)
+  infos_found : (d : DirectoryView C S) (window : List (SetWithBits C)) (index : ℕ) (bits : List Bool)
       (now : ℕ) (x : SetWithBits C) → d.sets ≡ plain_sets window → set_at window index ≡ Some x →
       infos_in cmp d index bits now ≡ shared_for cmp d.records (epoch_millis now) (keys_of x.primary) bits
   infos_found d window index bits now x sets is =
       ap (answered_of d.records bits now) (ap (set_with index) sets ∙ plain_found window index ∙ ap (option_map plain_set) is)
+
+  -- what is told of the peers of the set that was found
+  pub infos_told : (d : DirectoryView C S) (window : List (SetWithBits C)) (records : List (C × RecordView C S))
+      (index : ℕ) (bits : List Bool) (now : ℕ) (x : SetWithBits C) (millis : ℕ) (ps : List C) →
+      d.sets ≡ plain_sets window → d.records ≡ records → set_at window index ≡ Some x →
+      millis ≡ epoch_millis now → ps ≡ keys_of x.primary →
+      shared_for cmp records millis ps bits ≡ infos_in cmp d index bits now
+  infos_told d window records index bits now x millis ps sets recorded is at peers =
+      (λ i. shared_for cmp (sym recorded i) (at i) (peers i) bits)
+      ∙ sym (infos_found d window index bits now x sets is)
+
+  -- what is told of the bits of the set at a place
+  pub bit_vec_told : (d : DirectoryView C S) (window : List (SetWithBits C)) (records : List (C × RecordView C S))
+      (limit place : ℕ) (x : SetWithBits C) → d.sets ≡ plain_sets window → d.records ≡ records →
+      d.config.dial_fail_limit ≡ limit →
+      window ≡ sets_with_bits (λ q. is_known limit (record_at cmp records q)) (plain_sets window) →
+      slice_get window place ≡ Some x →
+      Some (record { index = x.index; bits = values_of x.primary }) ≡ bit_vec_at cmp d place
+  bit_vec_told d window records limit place x sets recorded limited bits is =
+      let known = λ (q : C). is_known limit (record_at cmp records q) in
+      let found = bits_shown known window place x bits is in
+      sym (ap (option_map (λ (set : SetAt C). record { index = set.index; bits = known_bits cmp d set }))
+      (ap (λ sets. slice_get sets place) sets ∙ found.1)
+      ∙ (λ i. Some (record {
+        index = sym found.2 i;
+        bits = ((λ k. map (λ q. is_known (limited k) (record_at cmp (recorded k) q)) found.0.primary)
+            ∙ sym found.3) i;
+      })))
+
+  pub no_bit_vec_told : (d : DirectoryView C S) (window : List (SetWithBits C)) (place : ℕ) →
+      d.sets ≡ plain_sets window → slice_get window place ≡ None → None ≡ bit_vec_at cmp d place
+  no_bit_vec_told d window place sets is =
+      sym (ap (option_map (λ (set : SetAt C). record { index = set.index; bits = known_bits cmp d set }))
+      (ap (λ sets. slice_get sets place) sets ∙ none_shown window place is))
 
   pub infos_not_found : (d : DirectoryView C S) (window : List (SetWithBits C)) (index : ℕ) (bits : List Bool)
       (now : ℕ) → d.sets ≡ plain_sets window → set_at window index ≡ None → infos_in cmp d index bits now ≡ Some []

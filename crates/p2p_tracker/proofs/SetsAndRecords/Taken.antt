@@ -14,7 +14,8 @@ use Rattle.p2p_tracker.specs.declared.record.Role.TheVariants.{Primary, Secondar
 use Rattle.p2p_tracker.specs.Calls.{SetAt, Cooldown}
 use Rattle.p2p_tracker.specs.History.{last_of}
 use Rattle.p2p_tracker.specs.Record.{RecordView, fresh, is_myself, is_eligible, with_counts}
-use Rattle.p2p_tracker.specs.PeerSets.{has_key, set_count, AreRolesDisjoint}
+use Rattle.p2p_tracker.specs.PeerSets.{set_count, AreRolesDisjoint}
+use Rattle.p2p_discovery.specs.Ordered.{has_key}
 use Rattle.p2p_tracker.specs.Directory.{is_known, record_with_sets, is_connectable}
 use Rattle.p2p_tracker.specs.Private.Window.{SetWithBits, plain_set, plain_sets, set_with_bits, sets_with_bits}
 use Rattle.p2p_tracker.specs.Private.Counts.{newest_sets, record_joining, DropsOldest, HasOwn, IsInvariant}

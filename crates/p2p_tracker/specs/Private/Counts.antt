@@ -13,7 +13,8 @@ use Rattle.p2p_tracker.specs.History.{is_inert}
 use Rattle.p2p_tracker.specs.Record.{RecordView, fresh, is_myself, is_eligible, is_deletable}
 use Rattle.p2p_tracker.specs.Record.{with_counts, with_cooldown}
 use Rattle.p2p_tracker.specs.Record.{unless_deletable}
-use Rattle.p2p_tracker.specs.PeerSets.{has_key, set_count, AreRolesDisjoint}
+use Rattle.p2p_tracker.specs.PeerSets.{set_count, AreRolesDisjoint}
+use Rattle.p2p_discovery.specs.Ordered.{has_key}
 use Rattle.p2p_tracker.specs.Directory.{is_known}
 use Rattle.p2p_tracker.specs.Private.Window.{SetWithBits, plain_sets, sets_with_bits}
 

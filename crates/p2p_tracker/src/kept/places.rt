@@ -4,7 +4,7 @@ ghost use Rattle.std.specs.Prelude.{◌≡◌, [], false, None, Some, map, lengt
 ghost use Rattle.std.specs.Prelude.{IfOk, OnErr, OnOk, if◌then◌else◌};
 ghost use Rattle.std.specs.BTreeMap.{is_at};
 ghost use Rattle.std.specs.List.Sorted.{IsStrictlySortedBy};
-ghost use Rattle.p2p_tracker.specs.PeerSets.{has_key};
+ghost use Rattle.p2p_discovery.specs.Ordered.{has_key};
 ghost use Rattle.p2p_tracker.specs.Private.Places.{place_of, places_from, beside};
 ghost use Rattle.p2p_tracker.specs.Private.Places.{first_or, in_place, unless_in};
 

@@ -2,7 +2,8 @@ use Rattle.std.proofs.Common.{Option, Some, cond, sym, ◌∙◌, ap}
 use Rattle.std.specs.Prelude.{option_map}
 use Rattle.std.specs.declared.cmp.Ordering.{Ordering}
 use Rattle.p2p_tracker.specs.Directory.{DirectoryView, ChangesRecord, LeavesOthers, record_at, record_of, unblock_of, cooldown_of, updated_record}
-use Rattle.p2p_tracker.specs.Record.{RecordView, reserved_record, moments_after}
+use Rattle.p2p_tracker.specs.Record.{RecordView, reserved_record}
+use Rattle.p2p_tracker.specs.Moments.{moments_after}
 use Rattle.p2p_tracker.specs.Blocks.{unblock_in}
 use Rattle.p2p_tracker.specs.Cooldowns.{cooldown_in}
 use Rattle.p2p_directory.proofs.laws.effects_keep_others.Goals as goal

@@ -6,7 +6,7 @@ use Rattle.std.specs.List.Sorted.{IsStrictlySortedBy}
 use Rattle.std.specs.Map.{keys_of}
 use Rattle.std.proofs.lemmas.Map.Keys.{IsDistinct-from_sorted}
 use Rattle.p2p_tracker.specs.Blocks.{is_later}
-use Rattle.p2p_tracker.specs.PeerSets.{has_key}
+use Rattle.p2p_discovery.specs.Ordered.{has_key}
 use Rattle.p2p_tracker.proofs.SetsAndRecords.Blocks.{blocked_listed, somebody_blocked}
 use Rattle.p2p_tracker.proofs.directory.blocked.blocked_at.Goals as goal
 

@@ -1,6 +1,6 @@
 use Rattle.std.proofs.Common.{◌≡◌, false, not, ◌&&◌, sym, ◌∙◌, ap}
 use Rattle.std.specs.Map.{keys_of}
-use Rattle.p2p_tracker.specs.PeerSets.{has_key}
+use Rattle.p2p_discovery.specs.Ordered.{has_key}
 use Rattle.p2p_tracker.proofs.SetsAndRecords.Naming.{names-filter}
 use Rattle.p2p_tracker.proofs.SetsAndRecords.Windows.{unset_is, keys_with_bits}
 use Rattle.p2p_tracker.proofs.kept.PeerSet.new.Goals as goal

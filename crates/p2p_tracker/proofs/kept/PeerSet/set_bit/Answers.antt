@@ -1,6 +1,6 @@
 use Rattle.std.proofs.Common.{sym, ◌∙◌, ap}
 use Rattle.std.specs.Map.{keys_of}
-use Rattle.p2p_tracker.specs.PeerSets.{has_key}
+use Rattle.p2p_discovery.specs.Ordered.{has_key}
 use Rattle.p2p_tracker.proofs.SetsAndRecords.Windows.{keys_with_bit}
 use Rattle.p2p_tracker.proofs.kept.PeerSet.set_bit.Goals as goal
 

@@ -1,6 +1,6 @@
 use Rattle.std.proofs.Common.{◌∙◌, sym, ap, length, arith}
 use Rattle.std.specs.List.{slice_get}
-use Rattle.p2p_discovery.specs.BitSets.{peers_of}
+use Rattle.std.specs.Map.{keys_of}
 use Rattle.p2p_discovery.proofs.BitLists.{length_zip, peers_zip}
 use Rattle.p2p_discovery.proofs.sets.bit_set.BitSetIndexUsize.index.Goals as goal
 
@@ -11,5 +11,5 @@ index-requires g c =
 
 pub returns : goal.returns
 returns g c =
-    let peers = sym (peers_zip c.self.inside.ordered c.self.inside.knowledge c.self.invariant) ∙ ap peers_of c.self.view_is in
+    let peers = sym (peers_zip c.self.inside.ordered c.self.inside.knowledge c.self.invariant) ∙ ap keys_of c.self.view_is in
     ap (λ ps. slice_get ps c.args.place) (sym peers) ∙ c.index.ensures

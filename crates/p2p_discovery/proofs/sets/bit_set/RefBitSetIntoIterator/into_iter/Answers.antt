@@ -1,9 +1,9 @@
 use Rattle.std.proofs.Common.{◌∙◌, sym, ap}
-use Rattle.p2p_discovery.specs.BitSets.{peers_of}
+use Rattle.std.specs.Map.{keys_of}
 use Rattle.p2p_discovery.proofs.BitLists.{peers_zip}
 use Rattle.p2p_discovery.proofs.sets.bit_set.RefBitSetIntoIterator.into_iter.Goals as goal
 
 pub returns : goal.returns
 returns g c =
-    let peers = sym (peers_zip c.self.inside.ordered c.self.inside.knowledge c.self.invariant) ∙ ap peers_of c.self.view_is in
+    let peers = sym (peers_zip c.self.inside.ordered c.self.inside.knowledge c.self.invariant) ∙ ap keys_of c.self.view_is in
     rw (← peers) (record { into_iter_gives = (c.iter.ensures.all, c.iter.ensures.sorted) })

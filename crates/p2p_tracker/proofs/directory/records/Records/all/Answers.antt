@@ -3,7 +3,7 @@ use Rattle.std.specs.Result.{OnErr}
 use Rattle.std.specs.List.Sorted.{IsStrictlySortedBy}
 use Rattle.std.specs.declared.cmp.Ordering.{Ordering}
 use Rattle.std.proofs.lemmas.Map.Keys.{IsDistinct-from_sorted}
-use Rattle.p2p_tracker.specs.PeerSets.{has_key}
+use Rattle.p2p_discovery.specs.Ordered.{has_key}
 use Rattle.p2p_tracker.specs.Lists.{Lists}
 use Rattle.p2p_tracker.specs.Private.Dialling.{is_primary_record, is_secondary_record, is_record_in_set}
 use Rattle.p2p_tracker.proofs.SetsAndRecords.Listing.{listed_by_value, somebody_passes}

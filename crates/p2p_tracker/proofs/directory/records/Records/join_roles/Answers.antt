@@ -1,7 +1,7 @@
 use Rattle.std.proofs.Common.{◌≡◌, Bool, true, false, cond, Option, sym, ◌∙◌, ap}
 use Rattle.std.specs.Map.{keys_of}
 use Rattle.p2p_tracker.specs.declared.record.Role.TheVariants.{Primary, Secondary}
-use Rattle.p2p_tracker.specs.PeerSets.{has_key}
+use Rattle.p2p_discovery.specs.Ordered.{has_key}
 use Rattle.p2p_tracker.specs.Directory.{record_at, is_known}
 use Rattle.p2p_tracker.specs.Cooldowns.{cooldown_in}
 use Rattle.p2p_tracker.specs.Private.Counts.{one_set_more, one_set_less}

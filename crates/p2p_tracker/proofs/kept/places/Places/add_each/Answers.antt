@@ -1,6 +1,6 @@
 use Rattle.std.proofs.Common.{◌≡◌, ◌++◌, ◌∷◌, [], take, cond, map, length, get_or, refl, ap, sym, ◌∙◌, arith, List}
 use Rattle.std.proofs.lemmas.List.{take_all, length-map, length-take, map_more}
-use Rattle.p2p_tracker.specs.PeerSets.{has_key}
+use Rattle.p2p_discovery.specs.Ordered.{has_key}
 use Rattle.p2p_tracker.specs.declared.kept.places.Place.{Place}
 use Rattle.p2p_tracker.specs.Private.Places.{place_of, places_from, beside, first_or, in_place}
 use Rattle.p2p_tracker.proofs.SetsAndRecords.Naming.{one_changed, not_yet, sorted_take, of_front, undone}

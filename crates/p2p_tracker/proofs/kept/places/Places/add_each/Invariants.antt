@@ -1,6 +1,6 @@
 use Rattle.std.proofs.Common.{◌≡◌, ◌≤◌, take, cond, map, length}
 use Rattle.std.specs.Vec.{vec_capacity}
-use Rattle.p2p_tracker.specs.PeerSets.{has_key}
+use Rattle.p2p_discovery.specs.Ordered.{has_key}
 use Rattle.p2p_tracker.specs.Private.Places.{place_of, places_from, first_or}
 use Rattle.p2p_tracker.proofs.kept.places.Places.add_each.Given as goal
 

@@ -1,6 +1,6 @@
 use Rattle.std.proofs.Common.{cond, refl, ap, ◌∙◌}
 use Rattle.std.proofs.lemmas.List.{take_all}
-use Rattle.p2p_tracker.specs.PeerSets.{has_key}
+use Rattle.p2p_discovery.specs.Ordered.{has_key}
 use Rattle.p2p_tracker.specs.Private.Places.{place_of, beside, in_place}
 use Rattle.p2p_tracker.proofs.SetsAndRecords.Naming.{one_changed}
 use Rattle.p2p_tracker.proofs.SetsAndRecords.Places.{one_restored}
