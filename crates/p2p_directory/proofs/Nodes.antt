@@ -6,6 +6,7 @@ pub mod ReadBack
 pub mod Exchanging
 -- .. and what one of a network answers is what is replied to a command.
 pub mod Frames
+pub mod Among
 pub mod Networks
 pub mod NetworkRuns
 pub mod TwoNodes

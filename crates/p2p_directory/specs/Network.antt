@@ -2,7 +2,7 @@
 -- them and what these were replied. The nodes are those with a number below their count.
 use Rattle.std.specs.Prelude.{ℕ, ◌≡◌, ◌<◌, Bool, true, false, if◌then◌else◌, not, ◌&&◌, ◌==◌, ◌⊎◌}
 use Rattle.std.specs.Prelude.{Result, Ok, Err, nat_lt, List, [], ◌∷◌, length, slice_index_or}
-use Rattle.std.specs.Prelude.{is_some}
+use Rattle.std.specs.Prelude.{is_some, ◌≤◌, ◌++◌, Option, Some, None, slice_set}
 use Rattle.std.specs.Duration.{as_nanos}
 use Rattle.std.specs.declared.cmp.Ordering.{Ordering}
 use Rattle.p2p_discovery.specs.declared.codec.error.CodecError.{CodecError}
@@ -11,12 +11,15 @@ use Rattle.p2p_discovery.specs.declared.discovery.Payload.{Payload}
 use Rattle.p2p_discovery.specs.declared.discovery.Payload.TheVariants as said
 use Rattle.p2p_discovery.specs.declared.discovery.PayloadConfig.{PayloadConfig}
 use Rattle.p2p_discovery.specs.Reading.{whole}
+use Rattle.p2p_directory.specs.declared.node.Received.{Received}
 use Rattle.p2p_directory.specs.declared.node.Setup.{Setup as Given}
+use Rattle.p2p_directory.specs.declared.node.exchanged.Exchanged.{Exchanged}
 use Rattle.p2p_directory.specs.declared.node.network.NetworkCommand.{NetworkCommand}
 use Rattle.p2p_directory.specs.declared.node.network.NetworkCommand.TheVariants as command
 use Rattle.p2p_directory.specs.declared.node.network.NetworkReply.{NetworkReply}
 use Rattle.p2p_directory.specs.declared.node.network.NetworkReply.TheVariants as reply
 use Rattle.p2p_directory.specs.declared.run.commands.Command.{Command}
+use Rattle.p2p_directory.specs.declared.run.commands.Reply.{Reply}
 use Rattle.p2p_directory.specs.declared.run.commands.Reply.TheVariants as run_reply
 use Rattle.p2p_tracker.specs.Calls.{Call}
 use Rattle.p2p_tracker.specs.World.{World}
@@ -25,12 +28,12 @@ use Rattle.p2p_directory.specs.Run.{call_of, next, world_after}
 use Rattle.p2p_directory.specs.Run as run
 use Rattle.p2p_directory.specs.Received.{Wire, Standing, applies, received_at, ask_frame_at}
 use Rattle.p2p_directory.specs.Received as frames
-use Rattle.p2p_directory.specs.Exchange.{exchanged_at, infos_applied}
+use Rattle.p2p_directory.specs.Exchange.{exchanged_at, infos_applied, IsExchanged}
 use Rattle.p2p_directory.specs.Exchange as exchange
 use Rattle.p2p_tracker.specs.Directory.{DirectoryView}
 use Rattle.p2p_directory.specs.Held.{ReleasesAll}
 use Rattle.p2p_directory.specs.Nodes.{NodeView, Made, NodeStandsAt, made_of, standing_in}
-use Rattle.p2p_directory.specs.Nodes.{calls_with, may_reserve}
+use Rattle.p2p_directory.specs.Nodes.{calls_with, may_reserve, IsStepped, IsReceived, IsAsked}
 
 -- what was done to the nodes: commands with their replies, the newest first
 abbrev pub Done : Type 0 → Type 0 → Type 0
@@ -42,6 +45,14 @@ changed_by (command.Call i x) = i
 changed_by (command.Ask i place) = i
 changed_by (command.Frame i frame now) = i
 changed_by (command.Exchange asker replier place asker_now replier_now) = asker
+
+-- the nodes of a command are among so many, and an exchange is of two
+abbrev pub are_there : {C S : Type 0} → ℕ → NetworkCommand C S → Bool
+are_there size (command.Call i x) = nat_lt i size
+are_there size (command.Ask i place) = nat_lt i size
+are_there size (command.Frame i frame now) = nat_lt i size
+are_there size (command.Exchange asker replier place asker_now replier_now) =
+    nat_lt asker size && (nat_lt replier size && not (asker == replier))
 
 -- the infos of a payload that a node applies where it accepts them
 abbrev pub infos_of_payload : {C S : Type 0} → Payload C S → List (Info C S)
@@ -109,14 +120,6 @@ module _ {C S : Type 0} (wire : Wire C S) where
 
     -- ONE REPLY, by what was done before
 
-    -- a command to a node, or an exchange of two
-    abbrev pub is_served : NetworkCommand C S → Bool
-    is_served (command.Call i x) = is_node i
-    is_served (command.Ask i place) = is_node i
-    is_served (command.Frame i frame now) = is_node i
-    is_served (command.Exchange asker replier place asker_now replier_now) =
-        is_node asker && (is_node replier && not (asker == replier))
-
     abbrev pub IsServedAnswer : Done C S → NetworkCommand C S → NetworkReply C S → Type 0
     IsServedAnswer done (command.Call i x) (reply.Call r) =
         run.IsAnswer (node i).directory (calls_at done i) (call_of x) r
@@ -136,10 +139,10 @@ module _ {C S : Type 0} (wire : Wire C S) where
         (as_nanos replier_now)) r
     IsServedAnswer done c r = ⊥
 
-    -- a command that isn't served is told so, and changes nothing
+    -- a command whose nodes aren't there is told so, and changes nothing
     abbrev pub IsNetworkAnswer : Done C S → NetworkCommand C S → NetworkReply C S → Type 0
-    IsNetworkAnswer done c reply.NoNode = is_served c ≡ false
-    IsNetworkAnswer done c r = (is_served c ≡ true) × IsServedAnswer done c r
+    IsNetworkAnswer done c reply.NoNode = are_there size c ≡ false
+    IsNetworkAnswer done c r = (are_there size c ≡ true) × IsServedAnswer done c r
 
     -- ALL REPLIES
 
@@ -189,6 +192,84 @@ abbrev pub IsNetworkServed : {C S : Type 0} → (C → C → Ordering) → Wire 
 IsNetworkServed {C} {S} cmp wire c r vs vs2 = (setups : List (Given C S)) (done : Done C S) →
     OfNetwork cmp setups (λ size node. StandAfter wire size node done vs →
     IsServedAt wire size node done c r vs2)
+
+-- ONE COMMAND, by what each call of a node says: vs before it, vs2 after it
+
+module _ {C S : Type 0} (cmp : C → C → Ordering) (wire : Wire C S) where
+  -- node i was stepped, and all others stayed
+  pub record StepsAt (i : ℕ) (x : Command C S) (r : Reply C S)
+      (vs vs2 : List (NodeView C S)) : Type 0 where
+    pub there : i < length vs
+    pub node : NodeView C S
+    pub others : vs2 ≡ slice_set vs i node
+    pub stepped : (v : NodeView C S) → IsStepped cmp x r (slice_index_or vs i v) node
+
+  -- .. took a frame at a moment
+  pub record ReceivesAt (i : ℕ) (frame : List ℕ) (now : ℕ) (r : Received)
+      (vs vs2 : List (NodeView C S)) : Type 0 where
+    pub there : i < length vs
+    pub node : NodeView C S
+    pub others : vs2 ≡ slice_set vs i node
+    pub received : (v : NodeView C S) →
+        IsReceived cmp wire frame now r (slice_index_or vs i v) node
+
+  -- node i was asked, and all stayed
+  pub record AsksAt (i place : ℕ) {E : Type 0} (r : Result (Option (List ℕ)) E)
+      (vs vs2 : List (NodeView C S)) : Type 0 where
+    pub there : i < length vs
+    pub same : vs2 ≡ vs
+    pub asked : (v : NodeView C S) → IsAsked cmp wire place r (slice_index_or vs i v)
+
+  -- node i asked node j at their moments s and t, and all but node i stayed
+  pub record ExchangesAt (i j place s t : ℕ) (r : Exchanged C S)
+      (vs vs2 : List (NodeView C S)) : Type 0 where
+    pub there : i < length vs
+    pub other : j < length vs
+    pub node : NodeView C S
+    pub others : vs2 ≡ slice_set vs i node
+    pub exchanged : (v : NodeView C S) → IsExchanged cmp wire place s t r
+        (slice_index_or vs i v) (slice_index_or vs j v) node
+
+  -- the command was given to the nodes that it names, and to no other; where they are not there,
+  -- nothing changed
+  abbrev pub IsServedAmong : NetworkCommand C S → NetworkReply C S → List (NodeView C S) →
+      List (NodeView C S) → Type 0
+  IsServedAmong c reply.NoNode vs vs2 = (are_there (length vs) c ≡ false) × (vs2 ≡ vs)
+  IsServedAmong (command.Call i x) (reply.Call r) vs vs2 = StepsAt i x r vs vs2
+  IsServedAmong (command.Ask i place) (reply.Ask frame) vs vs2 =
+      AsksAt i place {E = Unit {0}} (Ok frame) vs vs2
+  IsServedAmong (command.Ask i place) reply.OutOfMemory vs vs2 =
+      AsksAt i place {E = Unit {0}} (Err tt) vs vs2
+  IsServedAmong (command.Frame i frame now) (reply.Frame r) vs vs2 =
+      ReceivesAt i frame (as_nanos now) r vs vs2
+  IsServedAmong (command.Exchange i j place s t) (reply.Exchange r) vs vs2 =
+      ExchangesAt i j place (as_nanos s) (as_nanos t) r vs vs2
+  IsServedAmong c r vs vs2 = ⊥
+
+-- A NEW NODE of a setup: vs before it, vs2 after it
+
+module _ {C S : Type 0} (cmp : C → C → Ordering) (given : Given C S) where
+  -- it stands behind all others
+  pub record IsAdded (vs vs2 : List (NodeView C S)) : Type 0 where
+    pub node : NodeView C S
+    pub stands : NodeStandsAt (made_of cmp given) [] node
+    pub nodes : vs2 ≡ vs ++ node ∷ []
+
+  -- it stands in place of node i
+  pub record ReplacesAt (i : ℕ) (vs vs2 : List (NodeView C S)) : Type 0 where
+    pub there : i < length vs
+    pub node : NodeView C S
+    pub stands : NodeStandsAt (made_of cmp given) [] node
+    pub nodes : vs2 ≡ slice_set vs i node
+
+  -- .. of which all that was held was released, in the directory that is answered; or there is no
+  -- such node, and nothing changed
+  abbrev pub IsReplaced : ℕ → Option (DirectoryView C S) → List (NodeView C S) →
+      List (NodeView C S) → Type 0
+  IsReplaced i None vs vs2 = (length vs ≤ i) × (vs2 ≡ vs)
+  IsReplaced i (Some directory) vs vs2 = ReplacesAt i vs vs2
+      × ((v : NodeView C S) → let old = slice_index_or vs i v in
+      ReleasesAll cmp old.held old.directory directory)
 
 -- all that is held of each node was released, in the directory of the same number
 pub record AreReleased {C S : Type 0} (cmp : C → C → Ordering) (vs : List (NodeView C S))

@@ -4,13 +4,13 @@ use Rattle.std.proofs.Common.{◌≡◌, ◌<◌, ◌≤◌, ◌^◌, ℕ, lengt
 use Rattle.std.proofs.Common.{inl, inr, ◌++◌, ◌-◌, Result, Ok, Err, refl, sym, ◌∙◌, ap, subst}
 use Rattle.std.proofs.Common.{arith}
 use Rattle.std.specs.Prelude.{if◌then◌else◌, IfOk, IfSome, ◌==◌, not, ◌&&◌, slice_index_or}
-use Rattle.std.specs.Prelude.{slice_set}
+use Rattle.std.specs.Prelude.{slice_set, nat_lt}
 use Rattle.std.specs.Prelude.{OnOk, ◌⊎◌}
 use Rattle.std.specs.Duration.{as_nanos}
 use Rattle.std.specs.declared.cmp.Ordering.{Ordering}
 use Rattle.std.specs.declared.time.Duration.{Duration}
 use Rattle.std.proofs.Math.Seq.{map-set_same}
-use Rattle.std.proofs.lemmas.Bool.{eqb-true, eqb-false, eq-eqb, lt-ltb, le-ltb}
+use Rattle.std.proofs.lemmas.Bool.{eqb-true, eqb-false, lt-ltb, le-ltb}
 use Rattle.std.proofs.lemmas.List.{get_or-map, get_or-set_same, get_or-set_other, length-map}
 use Rattle.std.proofs.lemmas.List.{length-set, get_or_default, get_or_append_left}
 use Rattle.std.proofs.lemmas.List.{get_or-append_right, set-append_left, set-append_right}
@@ -28,7 +28,7 @@ use Rattle.p2p_directory.specs.Received as frames
 use Rattle.p2p_directory.specs.Received.{Wire}
 use Rattle.p2p_directory.specs.Nodes.{Made, NodeView, NodeStandsAt, IsReceivedAt, IsAskedAt}
 use Rattle.p2p_directory.specs.Nodes.{IsSteppedAt, IsStepAnswer}
-use Rattle.p2p_directory.specs.Network.{Done, changed_by, calls_then, is_node, calls_at, is_served}
+use Rattle.p2p_directory.specs.Network.{Done, changed_by, calls_then, is_node, calls_at, are_there}
 use Rattle.p2p_directory.specs.Network.{standing_at, StandAfter, IsNetworkAnswer}
 use Rattle.p2p_directory.specs.Network as network
 use Rattle.p2p_directory.specs.Laws.Network.{IsWritten}
@@ -38,6 +38,7 @@ use Rattle.p2p_directory.specs.Private.Networks.{nodes_of, reply_to_ask, HasRoom
 use Rattle.p2p_directory.specs.Private.Networks.{KeepSlots, IsAnsweredAt, ExchangesAmong}
 use Rattle.p2p_directory.specs.Private.Serving.{has_room}
 use Rattle.p2p_directory.specs.Private.Slots.{has_slot}
+use Rattle.p2p_directory.proofs.Nodes.Among.{not_two}
 use Rattle.p2p_directory.proofs.Nodes.Frames.{calls_after_frame}
 use Rattle.p2p_directory.proofs.Reservations.Replies.{room_grows}
 
@@ -125,7 +126,7 @@ module _ {C S : Type 0} (wire : Wire C S) (size : ℕ) (node : ℕ → Made C S)
   -- WHAT IS REPLIED
 
   -- there is no such node
-  pub none_more : (c : NetworkCommand C S) → is_served wire size node c ≡ false →
+  pub none_more : (c : NetworkCommand C S) → are_there size c ≡ false →
       IsAnsweredAt wire size node done c reply.NoNode (nodes_of es)
   none_more c none = record {
     answer = none;
@@ -219,16 +220,8 @@ module _ {C S : Type 0} (wire : Wire C S) (size : ℕ) (node : ℕ → Made C S)
       ⊎ (asker < length es × replier < length es × asker ≡ replier)) →
       (is_node wire size node asker
       && (is_node wire size node replier && not (asker == replier))) ≡ false
-  not_served asker replier (inl none) = ap (λ b. b && (is_node wire size node replier
-      && not (asker == replier))) (is_absent asker none)
-  not_served asker replier (inr (inl none)) = ap (λ (x : Bool × Bool). x.0 && (x.1
-      && not (asker == replier))) (λ i. (is_there asker none.0 i, is_absent replier none.1 i))
-  not_served asker replier (inr (inr same)) = ap (λ (x : Bool × Bool × Bool).
-      x.0 && (x.1 && not x.2)) (λ i. (
-        is_there asker same.0 i,
-        is_there replier same.1 i,
-        eq-eqb asker replier same.2 i,
-      ))
+  not_served asker replier none = subst (λ n. (nat_lt asker n && (nat_lt replier n
+      && not (asker == replier))) ≡ false) count (not_two (length es) asker replier none)
 
   pub exchange_more : (asker replier place : ℕ) (now now2 : Duration) (r : Exchanged C S)
       (e2 : EndpointView C S) → asker < length es → replier < length es →

@@ -13,7 +13,7 @@ use Rattle.p2p_directory.specs.declared.node.pair.PairCommand.{PairCommand}
 use Rattle.p2p_directory.specs.declared.node.pair.PairCommand.TheVariants as command
 use Rattle.p2p_directory.specs.Received.{Wire}
 use Rattle.p2p_directory.specs.Nodes.{Made, made_of}
-use Rattle.p2p_directory.specs.Network.{Done, is_served, IsNetworkAnswer, AreNetworkAnswers}
+use Rattle.p2p_directory.specs.Network.{Done, are_there, IsNetworkAnswer, AreNetworkAnswers}
 use Rattle.p2p_directory.specs.Network.{node_made, OfNetwork}
 use Rattle.p2p_directory.specs.Pairs.{two, command_in, commands_in}
 use Rattle.p2p_directory.specs.Private.Networks.{is_of_node}
@@ -60,7 +60,7 @@ answers_count wire size node done (c ∷ cs) (r ∷ rs) h =
     ap suc (answers_count wire size node ((c, r) ∷ done) cs rs h.1)
 
 module _ {C S : Type 0} (wire : Wire C S) (left right : Made C S) where
-  served : (c : PairCommand C S) → is_served wire 2 (two left right) (command_in c) ≡ true
+  served : (c : PairCommand C S) → are_there 2 (command_in c) ≡ true
   served (command.Call Left x) = refl
   served (command.Call Right x) = refl
   served (command.Ask Left place) = refl

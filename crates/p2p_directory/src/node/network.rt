@@ -1,14 +1,15 @@
 //! Any number of nodes that are given commands, asked, handed frames, and that exchange infos.
 
 ghost use Rattle.std.specs.Prelude.{◌≡◌, ◌<◌, ◌≤◌, ◌-◌, ◌^◌, [], IfOk, length, slice_index_or};
-ghost use Rattle.std.specs.Prelude.{MatchOption, ◌∷◌};
+ghost use Rattle.std.specs.Prelude.{MatchOption, ◌∷◌, IfSome, OnOk, OnErr};
 ghost use Rattle.std.specs.Int.NonZero.{non_zero_usize_get};
 ghost use Rattle.std.specs.List.{All};
 ghost use Rattle.p2p_discovery.specs.Info.{IsInfo, IsKeyed};
 ghost use Rattle.p2p_directory.specs.Received.{wire_of};
 ghost use Rattle.p2p_directory.specs.Nodes.{NodeView, NodeStandsAt, made_of};
 ghost use Rattle.p2p_directory.specs.Network.{OfNetwork, StandAfter, AreNetworkAnswers, done_after};
-ghost use Rattle.p2p_directory.specs.Network.{IsNetworkServed, AreReleased};
+ghost use Rattle.p2p_directory.specs.Network.{IsNetworkServed, IsServedAmong, AreReleased};
+ghost use Rattle.p2p_directory.specs.Network.{IsAdded, IsReplaced};
 ghost use Rattle.p2p_directory.specs.Laws.Network.{KeepExchanges, AtEachPoint, OfEachReply};
 ghost use Rattle.p2p_directory.specs.Laws.Network.{Provenance, HoldSigned, OnlyGetNewer, Reach};
 ghost use Rattle.p2p_directory.specs.Laws.Network.{Acquaint, TakesGreeting, RepliesInfos};
@@ -17,7 +18,7 @@ ghost use Rattle.p2p_directory.specs.Private.Endpoints.{node_of};
 
 use crate::node::endpoint::Endpoint;
 use crate::node::exchanged::Exchanged;
-use crate::node::network::ends::{ask, exchange, make_room, receive, serve, step};
+use crate::node::network::ends::{ask, exchange, make_room, receive, serve, step, swap_at};
 use crate::node::{Node, Received, Setup};
 use crate::run::{Command, Reply};
 use bytes::Bytes;
@@ -145,6 +146,80 @@ impl<C: PublicKey> Network<C> {
         Ok(Network { ends, room })
     }
 
+    /// A network of no node. Takes no memory.
+    pub fn empty(alloc: Global) -> Self
+        ensures { result ≡ [] }
+    {
+        Network {
+            ends: Vec::new(alloc),
+            room: Vec::new(alloc),
+        }
+    }
+
+    /// A further node of this setup, behind all others, as [`Node::new`] makes it.
+    ///
+    /// # Conditions
+    ///
+    /// Those of [`Node::new`].
+    ///
+    /// # Errors
+    ///
+    /// `AllocError` where memory is refused. Nothing has changed.
+    ///
+    /// # Cost
+    ///
+    /// That of [`Node::new`], and at times a move of all nodes.
+    pub fn add(&mut self, alloc: Global, setup: Setup<C>) -> Result<(), AllocError>
+        requires sets { non_zero_usize_get setup.cfg.max_sets < 2 ^ 64 - 1 }
+        requires bits { setup.payload.max_bit_vec < 2 ^ 32 }
+        ensures ok { OnOk result (IsAdded C.cmp setup self.old self.new) }
+        ensures err { OnErr result (self.new ≡ self.old) }
+        ensures own { OnOk result
+            (IsInfo setup.myself × IsKeyed C.IsValue C.Signature.IsValue setup.myself) }
+    {
+        self.ends.reserve(1)?;
+        self.room.reserve(self.ends.len() + 1)?;
+        let end = end_of(alloc, setup)?;
+        self.ends.push_reserved(end);
+        Ok(())
+    }
+
+    /// A new node of this setup in place of the one there, as [`Node::new`] makes it. All that the
+    /// old one held is released, and its directory is answered. `None` where there is no such node;
+    /// then none is made.
+    ///
+    /// # Conditions
+    ///
+    /// Those of [`Node::new`].
+    ///
+    /// # Errors
+    ///
+    /// `AllocError` where memory is refused. Nothing has changed.
+    ///
+    /// # Cost
+    ///
+    /// That of [`Node::new`], and of [`Node::finish`] of the old one.
+    pub fn replace(
+        &mut self,
+        alloc: Global,
+        node: usize,
+        setup: Setup<C>,
+    ) -> Result<Option<Directory<C>>, AllocError>
+        requires sets { non_zero_usize_get setup.cfg.max_sets < 2 ^ 64 - 1 }
+        requires bits { setup.payload.max_bit_vec < 2 ^ 32 }
+        ensures ok { IfOk result (λ left. IsReplaced C.cmp setup node left self.old self.new) }
+        ensures err { OnErr result (self.new ≡ self.old) }
+        ensures own { IfOk result (λ left. IfSome left (λ _.
+            IsInfo setup.myself × IsKeyed C.IsValue C.Signature.IsValue setup.myself)) }
+    {
+        if node >= self.ends.len() {
+            return Ok(None);
+        }
+        let end = end_of(alloc, setup)?;
+        let old = swap_at(&mut self.ends, node, end);
+        Ok(Some(old.finish()))
+    }
+
     /// Serves one command. A command to a node that there isn't, and an exchange of a node with
     /// itself, is replied `NoNode`. A command that wants memory, or is replied `NoNode`,
     /// `NotReserved` or `NotHeld`, is as not given.
@@ -158,9 +233,13 @@ impl<C: PublicKey> Network<C> {
     ///
     /// That of the same call of one node, or of two.
     pub fn serve(&mut self, command: NetworkCommand<C>) -> NetworkReply<C>
-        ensures { IsNetworkServed C.cmp (wire_of C.SIZE C.spelled C.value
+        ensures served { IsNetworkServed C.cmp (wire_of C.SIZE C.spelled C.value
             C.Signature.SIZE C.Signature.spelled C.Signature.value C.verifies)
             command result self.old self.new }
+        ensures seen { IsServedAmong C.cmp (wire_of C.SIZE C.spelled C.value
+            C.Signature.SIZE C.Signature.spelled C.Signature.value C.verifies)
+            command result self.old self.new }
+        ensures count { length self.new ≡ length self.old }
     {
         match command {
             NetworkCommand::Call(node, command) => step(&mut self.ends, node, command),

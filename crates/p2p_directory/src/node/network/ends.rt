@@ -1,10 +1,11 @@
 //! The endpoints of a network: one command among them.
 
-ghost use Rattle.std.specs.Prelude.{◌≡◌, ◌<◌, false, ◌==◌, OnOk, length};
+ghost use Rattle.std.specs.Prelude.{◌≡◌, ◌<◌, false, ◌==◌, OnOk, length, slice_index_or};
+ghost use Rattle.std.specs.Prelude.{slice_set};
 ghost use Rattle.std.specs.List.{All};
 ghost use Rattle.std.specs.Duration.{as_nanos};
 ghost use Rattle.p2p_directory.specs.Received.{wire_of};
-ghost use Rattle.p2p_directory.specs.Network.{IsNetworkServed};
+ghost use Rattle.p2p_directory.specs.Network.{IsNetworkServed, IsServedAmong};
 ghost use Rattle.p2p_directory.specs.Private.Networks.{nodes_of, HasRoomFor, GrowSlots, KeepSlots};
 ghost use Rattle.p2p_directory.specs.Private.Networks.{IsNetworkAnswered, IsNetworkWritten};
 ghost use Rattle.p2p_directory.specs.Private.Networks.{ExchangesAmong};
@@ -17,6 +18,7 @@ use crate::run::Command;
 use bytes::Bytes;
 use p2p_discovery::codec::PublicKey;
 use std::alloc::AllocError;
+use std::mem::replace;
 use std::time::Duration;
 
 /// Makes slots for what the commands may be granted.
@@ -65,6 +67,15 @@ fn room_at<C: PublicKey>(
     ends[node].make_room(command)
 }
 
+/// Puts an endpoint in the place of another, which is answered.
+pub fn swap_at<C: PublicKey>(ends: &mut [Endpoint<C>], node: usize, end: Endpoint<C>) -> Endpoint<C>
+    requires { node < length ends.old }
+    ensures rest { ends.new ≡ slice_set ends.old node end }
+    ensures old { result ≡ slice_index_or ends.old node result }
+{
+    replace(&mut ends[node], end)
+}
+
 /// Serves one command among the endpoints, where there is room for what it may be granted.
 pub fn serve<C: PublicKey>(ends: &mut [Endpoint<C>], command: NetworkCommand<C>) -> NetworkReply<C>
     requires room { HasRoomFor C.cmp ends.old command }
@@ -110,7 +121,10 @@ pub fn step<C: PublicKey>(
     node: usize,
     command: Command<C>,
 ) -> NetworkReply<C>
-    ensures { IsNetworkServed C.cmp (wire_of C.SIZE C.spelled C.value
+    ensures served { IsNetworkServed C.cmp (wire_of C.SIZE C.spelled C.value
+        C.Signature.SIZE C.Signature.spelled C.Signature.value C.verifies)
+        (NetworkCommand.Call node command) result (nodes_of ends.old) (nodes_of ends.new) }
+    ensures seen { IsServedAmong C.cmp (wire_of C.SIZE C.spelled C.value
         C.Signature.SIZE C.Signature.spelled C.Signature.value C.verifies)
         (NetworkCommand.Call node command) result (nodes_of ends.old) (nodes_of ends.new) }
 {
@@ -129,6 +143,9 @@ pub fn ask<C: PublicKey>(ends: &[Endpoint<C>], node: usize, place: usize) -> Net
         C.Signature.SIZE C.Signature.spelled C.Signature.value C.verifies)
         C.IsValue C.Signature.IsValue (NetworkCommand.Ask node place) result
         (nodes_of ends.now) }
+    ensures seen { IsServedAmong C.cmp (wire_of C.SIZE C.spelled C.value
+        C.Signature.SIZE C.Signature.spelled C.Signature.value C.verifies)
+        (NetworkCommand.Ask node place) result (nodes_of ends.now) (nodes_of ends.now) }
 {
     if node >= ends.len() {
         return NetworkReply::NoNode;
@@ -160,6 +177,9 @@ pub fn receive<C: PublicKey>(
         C.Signature.SIZE C.Signature.spelled C.Signature.value C.verifies)
         C.IsValue C.Signature.IsValue (NetworkCommand.Frame node frame now) result
         (nodes_of ends.old) }
+    ensures seen { IsServedAmong C.cmp (wire_of C.SIZE C.spelled C.value
+        C.Signature.SIZE C.Signature.spelled C.Signature.value C.verifies)
+        (NetworkCommand.Frame node frame now) result (nodes_of ends.old) (nodes_of ends.new) }
     ensures slots { KeepSlots C.cmp ends.old ends.new }
 {
     if node >= ends.len() {
@@ -178,6 +198,10 @@ pub fn exchange<C: PublicKey>(
     replier_now: Duration,
 ) -> NetworkReply<C>
     ensures answered { IsNetworkAnswered C.cmp (wire_of C.SIZE C.spelled C.value
+        C.Signature.SIZE C.Signature.spelled C.Signature.value C.verifies)
+        (NetworkCommand.Exchange asker replier place asker_now replier_now) result
+        (nodes_of ends.old) (nodes_of ends.new) }
+    ensures seen { IsServedAmong C.cmp (wire_of C.SIZE C.spelled C.value
         C.Signature.SIZE C.Signature.spelled C.Signature.value C.verifies)
         (NetworkCommand.Exchange asker replier place asker_now replier_now) result
         (nodes_of ends.old) (nodes_of ends.new) }

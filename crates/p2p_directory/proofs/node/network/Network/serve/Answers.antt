@@ -1,16 +1,17 @@
-use Rattle.std.proofs.Common.{sym, subst, arith}
+use Rattle.std.proofs.Common.{ap, sym, subst, arith, ◌∙◌}
 use Rattle.std.proofs.lemmas.List.{with_items_is}
 use Rattle.std.specs.Prelude.{length}
 use Rattle.p2p_directory.specs.declared.node.network.NetworkCommand.{NetworkCommand}
 use Rattle.p2p_directory.specs.declared.node.network.NetworkCommand.TheVariants as command
-use Rattle.p2p_directory.specs.Network.{node_made, StandAfter, IsServedAt}
+use Rattle.p2p_directory.specs.Network.{node_made, StandAfter, IsServedAt, IsServedAmong}
 use Rattle.p2p_directory.specs.Received.{wire_of}
 use Rattle.p2p_directory.specs.Private.Networks.{nodes_of}
+use Rattle.p2p_directory.proofs.Nodes.Among.{among, so_many}
 use Rattle.p2p_directory.proofs.Nodes.Networks.{answered_served}
 use Rattle.p2p_directory.proofs.node.network.Network.serve.Goals as goal
 
-pub returns-in-Call : goal.returns-in-Call
-returns-in-Call g c = rw (← c.self.view_is, c.in-Call.is) (λ setups done other at.
+pub returns-in-Call-clause-served : goal.returns-in-Call-clause-served
+returns-in-Call-clause-served g c = rw (← c.self.view_is, c.in-Call.is) (λ setups done other at.
     let wire = wire_of g.C.FixedBytes.SIZE g.C.FixedBytes.spelled g.C.FixedBytes.value
     g.C.Signature.FixedBytes.SIZE g.C.Signature.FixedBytes.spelled g.C.Signature.FixedBytes.value
     g.C.PublicKey.verifies in
@@ -21,11 +22,11 @@ returns-in-Call g c = rw (← c.self.view_is, c.in-Call.is) (λ setups done othe
     let same = with_items_is c.self.inside.ends c.step.new.ends
     (omega (arith, c.step.auto.ends, c.deref_mut.ensures.len)) in
     subst (λ es. IsServedAt wire size node done x c.step.result (nodes_of es)) (sym same)
-    (c.step.ensures setups done other (subst (λ es. StandAfter wire size node done (nodes_of es))
+    (c.step.ensures.served setups done other (subst (λ es. StandAfter wire size node done (nodes_of es))
     (sym c.deref_mut.ensures.value) at)))
 
-pub returns-in-Ask : goal.returns-in-Ask
-returns-in-Ask g c = rw (← c.self.view_is, c.in-Ask.is) (λ setups done other at.
+pub returns-in-Ask-clause-served : goal.returns-in-Ask-clause-served
+returns-in-Ask-clause-served g c = rw (← c.self.view_is, c.in-Ask.is) (λ setups done other at.
     let wire = wire_of g.C.FixedBytes.SIZE g.C.FixedBytes.spelled g.C.FixedBytes.value
     g.C.Signature.FixedBytes.SIZE g.C.Signature.FixedBytes.spelled g.C.Signature.FixedBytes.value
     g.C.PublicKey.verifies in
@@ -34,11 +35,11 @@ returns-in-Ask g c = rw (← c.self.view_is, c.in-Ask.is) (λ setups done other 
     let x : NetworkCommand g.row.C.Denot g.row.C-Signature.Denot =
     command.Ask c.in-Ask.node c.in-Ask.place in
     subst (λ es. IsServedAt wire size node done x c.ask.result (nodes_of es)) c.deref.ensures.value
-    (answered_served wire size node done x _ _ (c.ask.ensures.answered setups done other (subst (λ es. StandAfter wire size node done (nodes_of es))
-    (sym c.deref.ensures.value) at))))
+    (answered_served wire size node done x _ _ (c.ask.ensures.answered setups done other
+    (subst (λ es. StandAfter wire size node done (nodes_of es)) (sym c.deref.ensures.value) at))))
 
-pub returns-in-Frame : goal.returns-in-Frame
-returns-in-Frame g c = rw (← c.self.view_is, c.in-Frame.is) (λ setups done other at.
+pub returns-in-Frame-clause-served : goal.returns-in-Frame-clause-served
+returns-in-Frame-clause-served g c = rw (← c.self.view_is, c.in-Frame.is) (λ setups done other at.
     let wire = wire_of g.C.FixedBytes.SIZE g.C.FixedBytes.spelled g.C.FixedBytes.value
     g.C.Signature.FixedBytes.SIZE g.C.Signature.FixedBytes.spelled g.C.Signature.FixedBytes.value
     g.C.PublicKey.verifies in
@@ -50,11 +51,11 @@ returns-in-Frame g c = rw (← c.self.view_is, c.in-Frame.is) (λ setups done ot
     (omega (arith, c.receive.auto.ends, c.deref_mut-in-Frame.ensures.len)) in
     subst (λ es. IsServedAt wire size node done x c.receive.result (nodes_of es)) (sym same)
     (answered_served wire size node done x _ _
-    (c.receive.ensures.answered setups done other (subst (λ es. StandAfter wire size node done (nodes_of es))
-    (sym c.deref_mut-in-Frame.ensures.value) at))))
+    (c.receive.ensures.answered setups done other
+    (subst (λ es. StandAfter wire size node done (nodes_of es)) (sym c.deref_mut-in-Frame.ensures.value) at))))
 
-pub returns-in-Exchange : goal.returns-in-Exchange
-returns-in-Exchange g c = rw (← c.self.view_is, c.in-Exchange.is) (λ setups done other at.
+pub returns-in-Exchange-clause-served : goal.returns-in-Exchange-clause-served
+returns-in-Exchange-clause-served g c = rw (← c.self.view_is, c.in-Exchange.is) (λ setups done other at.
     let wire = wire_of g.C.FixedBytes.SIZE g.C.FixedBytes.spelled g.C.FixedBytes.value
     g.C.Signature.FixedBytes.SIZE g.C.Signature.FixedBytes.spelled g.C.Signature.FixedBytes.value
     g.C.PublicKey.verifies in
@@ -67,5 +68,70 @@ returns-in-Exchange g c = rw (← c.self.view_is, c.in-Exchange.is) (λ setups d
     (omega (arith, c.exchange.auto.ends, c.deref_mut-in-Exchange.ensures.len)) in
     subst (λ es. IsServedAt wire size node done x c.exchange.result (nodes_of es)) (sym same)
     (answered_served wire size node done x _ _
-    (c.exchange.ensures.answered setups done other (subst (λ es. StandAfter wire size node done (nodes_of es))
-    (sym c.deref_mut-in-Exchange.ensures.value) at))))
+    (c.exchange.ensures.answered setups done other
+    (subst (λ es. StandAfter wire size node done (nodes_of es)) (sym c.deref_mut-in-Exchange.ensures.value) at))))
+
+pub returns-in-Call-clause-seen : goal.returns-in-Call-clause-seen
+returns-in-Call-clause-seen g c = rw (← c.self.view_is, c.in-Call.is) (
+    let wire = wire_of g.C.FixedBytes.SIZE g.C.FixedBytes.spelled g.C.FixedBytes.value
+    g.C.Signature.FixedBytes.SIZE g.C.Signature.FixedBytes.spelled g.C.Signature.FixedBytes.value
+    g.C.PublicKey.verifies in
+    let x : NetworkCommand g.row.C.Denot g.row.C-Signature.Denot =
+    command.Call c.in-Call.node c.in-Call.command in
+    let same = with_items_is c.self.inside.ends c.step.new.ends
+    (omega (arith, c.step.auto.ends, c.deref_mut.ensures.len)) in
+    among g.C.Ord.cmp wire x c.step.result c.deref_mut.ensures.value same c.step.ensures.seen)
+
+pub returns-in-Call-clause-count : goal.returns-in-Call-clause-count
+returns-in-Call-clause-count g c = rw (← c.self.view_is) (
+    let same = with_items_is c.self.inside.ends c.step.new.ends
+    (omega (arith, c.step.auto.ends, c.deref_mut.ensures.len)) in
+    so_many _ _ (ap length same
+    ∙ omega (arith, c.step.auto.ends, c.deref_mut.ensures.len)))
+
+pub returns-in-Frame-clause-seen : goal.returns-in-Frame-clause-seen
+returns-in-Frame-clause-seen g c = rw (← c.self.view_is, c.in-Frame.is) (
+    let wire = wire_of g.C.FixedBytes.SIZE g.C.FixedBytes.spelled g.C.FixedBytes.value
+    g.C.Signature.FixedBytes.SIZE g.C.Signature.FixedBytes.spelled g.C.Signature.FixedBytes.value
+    g.C.PublicKey.verifies in
+    let x : NetworkCommand g.row.C.Denot g.row.C-Signature.Denot =
+    command.Frame c.in-Frame.node c.in-Frame.frame c.in-Frame.now in
+    let same = with_items_is c.self.inside.ends c.receive.new.ends
+    (omega (arith, c.receive.auto.ends, c.deref_mut-in-Frame.ensures.len)) in
+    among g.C.Ord.cmp wire x c.receive.result c.deref_mut-in-Frame.ensures.value same c.receive.ensures.seen)
+
+pub returns-in-Frame-clause-count : goal.returns-in-Frame-clause-count
+returns-in-Frame-clause-count g c = rw (← c.self.view_is) (
+    let same = with_items_is c.self.inside.ends c.receive.new.ends
+    (omega (arith, c.receive.auto.ends, c.deref_mut-in-Frame.ensures.len)) in
+    so_many _ _ (ap length same
+    ∙ omega (arith, c.receive.auto.ends, c.deref_mut-in-Frame.ensures.len)))
+
+pub returns-in-Exchange-clause-seen : goal.returns-in-Exchange-clause-seen
+returns-in-Exchange-clause-seen g c = rw (← c.self.view_is, c.in-Exchange.is) (
+    let wire = wire_of g.C.FixedBytes.SIZE g.C.FixedBytes.spelled g.C.FixedBytes.value
+    g.C.Signature.FixedBytes.SIZE g.C.Signature.FixedBytes.spelled g.C.Signature.FixedBytes.value
+    g.C.PublicKey.verifies in
+    let x : NetworkCommand g.row.C.Denot g.row.C-Signature.Denot =
+    command.Exchange c.in-Exchange.asker c.in-Exchange.replier c.in-Exchange.place
+    c.in-Exchange.asker_now c.in-Exchange.replier_now in
+    let same = with_items_is c.self.inside.ends c.exchange.new.ends
+    (omega (arith, c.exchange.auto.ends, c.deref_mut-in-Exchange.ensures.len)) in
+    among g.C.Ord.cmp wire x c.exchange.result c.deref_mut-in-Exchange.ensures.value same c.exchange.ensures.seen)
+
+pub returns-in-Exchange-clause-count : goal.returns-in-Exchange-clause-count
+returns-in-Exchange-clause-count g c = rw (← c.self.view_is) (
+    let same = with_items_is c.self.inside.ends c.exchange.new.ends
+    (omega (arith, c.exchange.auto.ends, c.deref_mut-in-Exchange.ensures.len)) in
+    so_many _ _ (ap length same
+    ∙ omega (arith, c.exchange.auto.ends, c.deref_mut-in-Exchange.ensures.len)))
+
+pub returns-in-Ask-clause-seen : goal.returns-in-Ask-clause-seen
+returns-in-Ask-clause-seen g c = rw (← c.self.view_is, c.in-Ask.is) (
+    let wire = wire_of g.C.FixedBytes.SIZE g.C.FixedBytes.spelled g.C.FixedBytes.value
+    g.C.Signature.FixedBytes.SIZE g.C.Signature.FixedBytes.spelled g.C.Signature.FixedBytes.value
+    g.C.PublicKey.verifies in
+    let x : NetworkCommand g.row.C.Denot g.row.C-Signature.Denot =
+    command.Ask c.in-Ask.node c.in-Ask.place in
+    subst (λ es. IsServedAmong g.C.Ord.cmp wire x c.ask.result (nodes_of es) (nodes_of es))
+    c.deref.ensures.value c.ask.ensures.seen)

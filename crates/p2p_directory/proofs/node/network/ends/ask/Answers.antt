@@ -1,8 +1,10 @@
+use Rattle.std.proofs.lemmas.Bool.{le-ltb}
 use Rattle.std.specs.Prelude.{length}
 use Rattle.p2p_directory.specs.declared.node.network.NetworkCommand.TheVariants as command
 use Rattle.p2p_directory.specs.Network.{node_made, calls_at}
 use Rattle.p2p_directory.specs.Received.{wire_of}
 use Rattle.p2p_directory.specs.Private.Endpoints.{node_of}
+use Rattle.p2p_directory.proofs.Nodes.Among.{not_there, asked_among}
 use Rattle.p2p_directory.proofs.Nodes.Networks.{stands_there, none_more, is_absent, ask_more}
 use Rattle.p2p_directory.proofs.Nodes.Networks.{ask_written}
 use Rattle.p2p_directory.proofs.Nodes.Worlds.{asked_in, bits_in}
@@ -49,3 +51,20 @@ returns-clause-written g c = λ setups done other at.
     (bits_in (node i) wire (calls_at wire size node done i) (node_of e)
     (stands_there wire size node done es at i e c.if-node-ends.false c.index-ends-node.is)
     c.args.place c.ask.result c.ask.ensures.spelled))
+
+pub returns-then-node-ends-clause-seen : goal.returns-then-node-ends-clause-seen
+returns-then-node-ends-clause-seen g c =
+    let wire = wire_of g.C.FixedBytes.SIZE g.C.FixedBytes.spelled g.C.FixedBytes.value
+    g.C.Signature.FixedBytes.SIZE g.C.Signature.FixedBytes.spelled g.C.Signature.FixedBytes.value
+    g.C.PublicKey.verifies in
+    not_there g.C.Ord.cmp wire c.args.ends.now (command.Ask c.args.node c.args.place)
+    (le-ltb c.args.node (length c.args.ends.now) c.if-node-ends.true)
+
+pub returns-clause-seen : goal.returns-clause-seen
+returns-clause-seen g c =
+    let wire = wire_of g.C.FixedBytes.SIZE g.C.FixedBytes.spelled g.C.FixedBytes.value
+    g.C.Signature.FixedBytes.SIZE g.C.Signature.FixedBytes.spelled g.C.Signature.FixedBytes.value
+    g.C.PublicKey.verifies in
+    rw c.reply_to_ask.ensures (asked_among g.C.Ord.cmp wire c.args.ends.now c.args.node c.args.place
+    c.ask.result c.index-ends-node.result c.if-node-ends.false c.index-ends-node.is
+    c.ask.ensures.seen)

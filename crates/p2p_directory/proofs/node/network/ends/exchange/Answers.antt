@@ -7,6 +7,7 @@ use Rattle.p2p_directory.specs.Received.{wire_of}
 use Rattle.p2p_directory.specs.Private.Endpoints.{node_of}
 use Rattle.p2p_directory.specs.Private.Networks.{KeepSlots}
 use Rattle.p2p_directory.specs.Private.Slots.{has_slot}
+use Rattle.p2p_directory.proofs.Nodes.Among.{not_there, not_two, exchanged_among_nodes}
 use Rattle.p2p_directory.proofs.Nodes.Networks.{stands_at, none_more, not_served, exchange_more}
 use Rattle.p2p_directory.proofs.Nodes.Networks.{keep_slots}
 use Rattle.p2p_directory.proofs.Nodes.Worlds.{exchanged_in}
@@ -55,3 +56,21 @@ returns-clause-slots g c =
     subst (KeepSlots g.C.Ord.cmp c.args.ends.now) (sym x.rest)
     (keep_slots g.C.Ord.cmp c.args.ends.now c.args.asker x.left x.left c.if-asker-ends.false
     (λ q. ap (λ slots. has_slot g.C.Ord.cmp slots q) (x.slots x.left)))
+
+pub returns-then-asker-ends-clause-seen : goal.returns-then-asker-ends-clause-seen
+returns-then-asker-ends-clause-seen g c =
+    let wire = wire_of g.C.FixedBytes.SIZE g.C.FixedBytes.spelled g.C.FixedBytes.value
+    g.C.Signature.FixedBytes.SIZE g.C.Signature.FixedBytes.spelled g.C.Signature.FixedBytes.value
+    g.C.PublicKey.verifies in
+    not_there g.C.Ord.cmp wire c.args.ends.now (command.Exchange c.args.asker c.args.replier
+    c.args.place c.args.asker_now c.args.replier_now)
+    (not_two (length c.args.ends.now) c.args.asker c.args.replier c.then-asker-ends.either)
+
+pub returns-clause-seen : goal.returns-clause-seen
+returns-clause-seen g c =
+    let wire = wire_of g.C.FixedBytes.SIZE g.C.FixedBytes.spelled g.C.FixedBytes.value
+    g.C.Signature.FixedBytes.SIZE g.C.Signature.FixedBytes.spelled g.C.Signature.FixedBytes.value
+    g.C.PublicKey.verifies in
+    exchanged_among_nodes g.C.Ord.cmp wire c.args.ends.now c.args.asker c.args.replier c.args.place
+    c.args.asker_now c.args.replier_now c.exchange_between.result c.exchange_between.new.ends
+    c.if-asker-ends.false c.if-replier-ends.false c.exchange_between.ensures

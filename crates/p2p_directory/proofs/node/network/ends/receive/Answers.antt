@@ -1,3 +1,4 @@
+use Rattle.std.proofs.lemmas.Bool.{le-ltb}
 use Rattle.std.specs.Duration.{as_nanos}
 use Rattle.std.specs.Prelude.{length, slice_index_or}
 use Rattle.p2p_directory.specs.declared.node.network.NetworkCommand.TheVariants as command
@@ -6,6 +7,7 @@ use Rattle.p2p_directory.specs.Received.{wire_of}
 use Rattle.p2p_directory.specs.Private.Endpoints.{node_of}
 use Rattle.std.proofs.Common.{ap}
 use Rattle.p2p_directory.specs.Private.Slots.{has_slot}
+use Rattle.p2p_directory.proofs.Nodes.Among.{not_there, received_among}
 use Rattle.p2p_directory.proofs.Nodes.Networks.{stands_at, none_more, is_absent, frame_more}
 use Rattle.p2p_directory.proofs.Nodes.Networks.{keep_slots}
 use Rattle.p2p_directory.proofs.Nodes.Worlds.{received_in, told_in}
@@ -57,3 +59,21 @@ pub returns-clause-slots : goal.returns-clause-slots
 returns-clause-slots g c = keep_slots g.C.Ord.cmp c.args.ends.now c.args.node c.answer.new.self
     c.index-ends-node.result c.if-node-ends.false
     (λ q. ap (λ slots. has_slot g.C.Ord.cmp slots q) c.answer.ensures.slots)
+
+pub returns-then-node-ends-clause-seen : goal.returns-then-node-ends-clause-seen
+returns-then-node-ends-clause-seen g c =
+    let wire = wire_of g.C.FixedBytes.SIZE g.C.FixedBytes.spelled g.C.FixedBytes.value
+    g.C.Signature.FixedBytes.SIZE g.C.Signature.FixedBytes.spelled g.C.Signature.FixedBytes.value
+    g.C.PublicKey.verifies in
+    not_there g.C.Ord.cmp wire c.args.ends.now
+    (command.Frame c.args.node c.args.frame c.args.now)
+    (le-ltb c.args.node (length c.args.ends.now) c.if-node-ends.true)
+
+pub returns-clause-seen : goal.returns-clause-seen
+returns-clause-seen g c =
+    let wire = wire_of g.C.FixedBytes.SIZE g.C.FixedBytes.spelled g.C.FixedBytes.value
+    g.C.Signature.FixedBytes.SIZE g.C.Signature.FixedBytes.spelled g.C.Signature.FixedBytes.value
+    g.C.PublicKey.verifies in
+    received_among g.C.Ord.cmp wire c.args.ends.now c.args.node c.args.frame c.args.now
+    c.answer.result c.index-ends-node.result c.answer.new.self c.if-node-ends.false
+    c.answer.ensures.seen

@@ -1,13 +1,15 @@
+use Rattle.std.proofs.lemmas.Bool.{le-ltb}
 use Rattle.std.specs.Prelude.{length, slice_index_or}
 use Rattle.p2p_directory.specs.declared.node.network.NetworkCommand.TheVariants as command
 use Rattle.p2p_directory.specs.Network.{node_made, calls_at}
 use Rattle.p2p_directory.specs.Received.{wire_of}
+use Rattle.p2p_directory.proofs.Nodes.Among.{not_there, stepped_among}
 use Rattle.p2p_directory.proofs.Nodes.Networks.{stands_at, none_more, is_absent, step_more}
 use Rattle.p2p_directory.proofs.Nodes.Networks.{answered_served}
 use Rattle.p2p_directory.proofs.node.network.ends.step.Goals as goal
 
-pub returns-then-node-ends : goal.returns-then-node-ends
-returns-then-node-ends g c = λ setups done other at.
+pub returns-then-node-ends-clause-served : goal.returns-then-node-ends-clause-served
+returns-then-node-ends-clause-served g c = λ setups done other at.
     let wire = wire_of g.C.FixedBytes.SIZE g.C.FixedBytes.spelled g.C.FixedBytes.value
     g.C.Signature.FixedBytes.SIZE g.C.Signature.FixedBytes.spelled g.C.Signature.FixedBytes.value
     g.C.PublicKey.verifies in
@@ -18,8 +20,8 @@ returns-then-node-ends g c = λ setups done other at.
     (none_more wire size node done es at (command.Call c.args.node c.args.command)
     (is_absent wire size node done es at c.args.node c.if-node-ends.true))
 
-pub returns : goal.returns
-returns g c = λ setups done other at.
+pub returns-clause-served : goal.returns-clause-served
+returns-clause-served g c = λ setups done other at.
     let wire = wire_of g.C.FixedBytes.SIZE g.C.FixedBytes.spelled g.C.FixedBytes.value
     g.C.Signature.FixedBytes.SIZE g.C.Signature.FixedBytes.spelled g.C.Signature.FixedBytes.value
     g.C.PublicKey.verifies in
@@ -31,3 +33,19 @@ returns g c = λ setups done other at.
     c.if-node-ends.false
     (c.step.ensures.stepped (slice_index_or setups i other) (calls_at wire size node done i)
     (stands_at wire size node done es at i c.index-ends-node.result c.if-node-ends.false))
+
+pub returns-then-node-ends-clause-seen : goal.returns-then-node-ends-clause-seen
+returns-then-node-ends-clause-seen g c =
+    let wire = wire_of g.C.FixedBytes.SIZE g.C.FixedBytes.spelled g.C.FixedBytes.value
+    g.C.Signature.FixedBytes.SIZE g.C.Signature.FixedBytes.spelled g.C.Signature.FixedBytes.value
+    g.C.PublicKey.verifies in
+    not_there g.C.Ord.cmp wire c.args.ends.now (command.Call c.args.node c.args.command)
+    (le-ltb c.args.node (length c.args.ends.now) c.if-node-ends.true)
+
+pub returns-clause-seen : goal.returns-clause-seen
+returns-clause-seen g c =
+    let wire = wire_of g.C.FixedBytes.SIZE g.C.FixedBytes.spelled g.C.FixedBytes.value
+    g.C.Signature.FixedBytes.SIZE g.C.Signature.FixedBytes.spelled g.C.Signature.FixedBytes.value
+    g.C.PublicKey.verifies in
+    stepped_among g.C.Ord.cmp wire c.args.ends.now c.args.node c.args.command c.step.result
+    c.index-ends-node.result c.step.new.self c.if-node-ends.false c.step.ensures.stepped

@@ -1,0 +1,20 @@
+use Rattle.std.proofs.Common.{◌<◌, length, ◌∙◌, ap, arith}
+use Rattle.std.specs.Prelude.{slice_index_or, slice_set}
+use Rattle.std.proofs.lemmas.List.{with_items_is}
+use Rattle.p2p_directory.proofs.Nodes.Among.{replaced_at}
+use Rattle.p2p_directory.proofs.node.network.Network.replace.Goals as goal
+
+pub returns-clause-ok : goal.returns-clause-ok
+returns-clause-ok g c = rw (← c.self.view_is) (
+    let i = c.args.node in
+    let end = c.in_ok-end.end in
+    let old = c.swap_at-old.result in
+    let same = c.deref_mut.ensures.value in
+    let there : i < length c.self.inside.ends.items =
+    omega (arith, c.if-node-len.false, c.len.ensures, c.self.inside.ends.ok) in
+    replaced_at g.C.Ord.cmp c.args.setup c.self.inside.ends.items _ end
+    c.in_ok-end.ensures.stands i old c.finish.result there
+    (with_items_is c.self.inside.ends c.swap_at-old.new.ends
+    (omega (arith, c.swap_at-old.auto.ends, c.deref_mut.ensures.len))
+    ∙ c.swap_at-old.ensures.rest ∙ ap (λ es. slice_set es i end) same)
+    (c.swap_at-old.ensures.old ∙ ap (λ es. slice_index_or es i old) same) c.finish.ensures)
