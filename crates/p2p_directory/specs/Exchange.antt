@@ -17,28 +17,28 @@ use Rattle.p2p_directory.specs.Nodes.{standing_of, standing_in}
 use Rattle.p2p_directory.specs.Run.{world_after}
 
 -- what an exchange comes to, want of memory aside
-pub data Outcome (C S : Type 0) : Type 0 where
+pub data ExchangeOutcome (C S : Type 0) : Type 0 where
   -- the asker has no set at the place
-  NoSet : Outcome C S
+  NoSet : ExchangeOutcome C S
   -- the replier cannot read the bits
-  AskRefused : (fault : CodecError) → Outcome C S
+  AskRefused : (fault : CodecError) → ExchangeOutcome C S
   -- the replier has infos for another number of bits
-  Malformed : Outcome C S
+  Malformed : ExchangeOutcome C S
   -- the asker cannot read the infos
-  ReplyRefused : (fault : CodecError) → Outcome C S
+  ReplyRefused : (fault : CodecError) → ExchangeOutcome C S
   -- the asker refuses an info, or their number
-  Invalid : (error : Error) → Outcome C S
+  Invalid : (error : Error) → ExchangeOutcome C S
   -- an update with these infos is one more call of the asker
-  Applied : (infos : List (Info C S)) → Outcome C S
+  Applied : (infos : List (Info C S)) → ExchangeOutcome C S
 
 module _ {C S : Type 0} where
   -- the asker judged the infos: why they are refused, if they are
-  abbrev pub judged_at : List (Info C S) → Option Error → Outcome C S
+  abbrev pub judged_at : List (Info C S) → Option Error → ExchangeOutcome C S
   judged_at infos (Some error) = Invalid error
   judged_at infos None = Applied infos
 
   -- the replier has infos for the bits, or none at all; the asker reads them at its moment
-  abbrev pub replied_at : Standing C S → ℕ → Option (List (Info C S)) → Outcome C S
+  abbrev pub replied_at : Standing C S → ℕ → Option (List (Info C S)) → ExchangeOutcome C S
   replied_at asker asker_now None = Malformed
   replied_at asker asker_now (Some infos) =
       if nat_lt asker.limits.max_peers (length infos)
@@ -46,7 +46,7 @@ module _ {C S : Type 0} where
       else judged_at infos (list_refusal asker.judge asker_now infos)
 
   -- the asker has bits at the place, or no set; the replier reads them at its moment
-  abbrev pub asked_at : Standing C S → Standing C S → ℕ → ℕ → Option BitVec → Outcome C S
+  abbrev pub asked_at : Standing C S → Standing C S → ℕ → ℕ → Option BitVec → ExchangeOutcome C S
   asked_at asker replier asker_now replier_now None = NoSet
   asked_at asker replier asker_now replier_now (Some v) =
       if nat_lt replier.limits.max_bit_vec (length v.bits)
@@ -54,23 +54,23 @@ module _ {C S : Type 0} where
       else replied_at asker asker_now (replier.infos v.index v.bits replier_now)
 
   -- EXCHANGE: what it comes to at a place of the asker
-  abbrev pub exchanged_at : Standing C S → Standing C S → ℕ → ℕ → ℕ → Outcome C S
+  abbrev pub exchanged_at : Standing C S → Standing C S → ℕ → ℕ → ℕ → ExchangeOutcome C S
   exchanged_at asker replier place asker_now replier_now =
       asked_at asker replier asker_now replier_now (asker.bits place)
 
   -- WANT OF MEMORY: where there is a set at the place
-  abbrev pub may_want_memory : Standing C S → ℕ → Bool
-  may_want_memory asker place = is_some (asker.bits place)
+  abbrev pub exchange_may_want_memory : Standing C S → ℕ → Bool
+  exchange_may_want_memory asker place = is_some (asker.bits place)
 
   -- what is answered: want of memory where it is allowed, else what the exchange comes to
-  abbrev pub IsAnswer : Bool → Outcome C S → Exchanged C S → Type 0
-  IsAnswer may o exchanged.NoSet = o ≡ NoSet
-  IsAnswer may o (exchanged.AskRefused fault) = o ≡ AskRefused fault
-  IsAnswer may o exchanged.Malformed = o ≡ Malformed
-  IsAnswer may o (exchanged.ReplyRefused fault) = o ≡ ReplyRefused fault
-  IsAnswer may o (exchanged.Invalid error) = o ≡ Invalid error
-  IsAnswer may o exchanged.Memory = may ≡ true
-  IsAnswer may o (exchanged.Applied infos) = o ≡ Applied infos.items
+  abbrev pub IsExchangeAnswer : Bool → ExchangeOutcome C S → Exchanged C S → Type 0
+  IsExchangeAnswer may o exchanged.NoSet = o ≡ NoSet
+  IsExchangeAnswer may o (exchanged.AskRefused fault) = o ≡ AskRefused fault
+  IsExchangeAnswer may o exchanged.Malformed = o ≡ Malformed
+  IsExchangeAnswer may o (exchanged.ReplyRefused fault) = o ≡ ReplyRefused fault
+  IsExchangeAnswer may o (exchanged.Invalid error) = o ≡ Invalid error
+  IsExchangeAnswer may o exchanged.Memory = may ≡ true
+  IsExchangeAnswer may o (exchanged.Applied infos) = o ≡ Applied infos.items
 
   -- the infos that are applied to the asker's directory with an answer: with all others none are
   abbrev pub infos_applied : Exchanged C S → Option (List (Info C S))
@@ -83,7 +83,7 @@ module _ {C S : Type 0} where
 pub record Exchanges {C S : Type 0} (cmp : C → C → Ordering) (wire : Wire C S) (place s t : ℕ)
     (r : Exchanged C S) (a b a2 : NodeView C S) : Type 0 where
   pub answer : let asker = standing_of cmp wire a in
-      IsAnswer (may_want_memory asker place)
+      IsExchangeAnswer (exchange_may_want_memory asker place)
       (exchanged_at asker (standing_of cmp wire b) place s t) r
   pub left : IsLeft cmp a (infos_applied r) a2
 
@@ -95,7 +95,7 @@ pub record Exchanges {C S : Type 0} (cmp : C → C → Ordering) (wire : Wire C 
 pub record IsExchangedAt {C S : Type 0} (m n : Made C S) (wire : Wire C S)
     (cs ds : List (Call C S)) (place s t : ℕ) (r : Exchanged C S) (a2 : NodeView C S) : Type 0 where
   pub answer : let asker = standing_in m wire (world_after m.directory cs) in
-      IsAnswer (may_want_memory asker place)
+      IsExchangeAnswer (exchange_may_want_memory asker place)
       (exchanged_at asker (standing_in n wire (world_after n.directory ds)) place s t) r
   pub left : NodeStandsAt m (calls_with (infos_applied r) cs) a2
 

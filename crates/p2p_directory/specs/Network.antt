@@ -12,7 +12,7 @@ use Rattle.p2p_discovery.specs.declared.discovery.Payload.TheVariants as said
 use Rattle.p2p_discovery.specs.declared.discovery.PayloadConfig.{PayloadConfig}
 use Rattle.p2p_discovery.specs.Reading.{whole}
 use Rattle.p2p_directory.specs.declared.node.Received.{Received}
-use Rattle.p2p_directory.specs.declared.node.Setup.{Setup as Given}
+use Rattle.p2p_directory.specs.declared.node.Setup.{Setup}
 use Rattle.p2p_directory.specs.declared.node.exchanged.Exchanged.{Exchanged}
 use Rattle.p2p_directory.specs.declared.node.network.NetworkCommand.{NetworkCommand}
 use Rattle.p2p_directory.specs.declared.node.network.NetworkCommand.TheVariants as command
@@ -71,15 +71,15 @@ infos_of_frame wire limits frame = infos_of_reading (whole (wire.reading limits)
 
 -- what the nodes of these setups are made from, by number; past the last, where it is of no matter,
 -- another
-abbrev pub node_made : {C S : Type 0} → (C → C → Ordering) → Given C S → List (Given C S) → ℕ →
+abbrev pub node_made : {C S : Type 0} → (C → C → Ordering) → Setup C S → List (Setup C S) → ℕ →
     Made C S
 node_made cmp other setups i = made_of cmp (slice_index_or setups i other)
 
 -- P holds of so many nodes, made from these setups
-abbrev pub OfNetwork : {C S : Type 0} → (C → C → Ordering) → List (Given C S) →
+abbrev pub OfNetwork : {C S : Type 0} → (C → C → Ordering) → List (Setup C S) →
     (ℕ → (ℕ → Made C S) → Type 0) → Type 0
 OfNetwork {C} {S} cmp setups P =
-    (other : Given C S) → P (length setups) (node_made cmp other setups)
+    (other : Setup C S) → P (length setups) (node_made cmp other setups)
 
 module _ {C S : Type 0} (wire : Wire C S) where
   -- WHAT ONE NODE ACCEPTED, by what it is made from alone
@@ -129,12 +129,12 @@ module _ {C S : Type 0} (wire : Wire C S) where
         is_some (set_at_place (node i).directory (world_at_node done i) place) ≡ true
     IsServedAnswer done (command.Frame i frame now) (reply.Frame r) =
         let at = standing_at done i in
-        frames.IsAnswer (frames.may_want_memory wire at frame (as_nanos now))
+        frames.IsFrameAnswer (frames.frame_may_want_memory wire at frame (as_nanos now))
         (received_at wire at frame (as_nanos now)) r
     IsServedAnswer done (command.Exchange asker replier place asker_now replier_now)
         (reply.Exchange r) =
         let a = standing_at done asker in
-        exchange.IsAnswer (exchange.may_want_memory a place)
+        exchange.IsExchangeAnswer (exchange.exchange_may_want_memory a place)
         (exchanged_at a (standing_at done replier) place (as_nanos asker_now)
         (as_nanos replier_now)) r
     IsServedAnswer done c r = ⊥
@@ -181,7 +181,7 @@ module _ {C S : Type 0} (wire : Wire C S) where
 
     -- the reply to one more command is the answer at its point, or such want of memory, and all
     -- then stand at the next
-    pub record IsServedAt (done : Done C S) (c : NetworkCommand C S) (r : NetworkReply C S)
+    pub record IsNetworkServedAt (done : Done C S) (c : NetworkCommand C S) (r : NetworkReply C S)
         (vs : List (NodeView C S)) : Type 0 where
       pub answer : IsNetworkAnswer done c r ⊎ LacksRoom c r
       pub stand : StandAfter ((c, r) ∷ done) vs
@@ -189,9 +189,9 @@ module _ {C S : Type 0} (wire : Wire C S) where
 -- .. whatever the nodes were made from, and whatever was done before: vs before it, vs2 after it
 abbrev pub IsNetworkServed : {C S : Type 0} → (C → C → Ordering) → Wire C S → NetworkCommand C S →
     NetworkReply C S → List (NodeView C S) → List (NodeView C S) → Type 0
-IsNetworkServed {C} {S} cmp wire c r vs vs2 = (setups : List (Given C S)) (done : Done C S) →
+IsNetworkServed {C} {S} cmp wire c r vs vs2 = (setups : List (Setup C S)) (done : Done C S) →
     OfNetwork cmp setups (λ size node. StandAfter wire size node done vs →
-    IsServedAt wire size node done c r vs2)
+    IsNetworkServedAt wire size node done c r vs2)
 
 -- ONE COMMAND, by what each call of a node says: vs before it, vs2 after it
 
@@ -248,7 +248,7 @@ module _ {C S : Type 0} (cmp : C → C → Ordering) (wire : Wire C S) where
 
 -- A NEW NODE of a setup: vs before it, vs2 after it
 
-module _ {C S : Type 0} (cmp : C → C → Ordering) (given : Given C S) where
+module _ {C S : Type 0} (cmp : C → C → Ordering) (given : Setup C S) where
   -- it stands behind all others
   pub record IsAdded (vs vs2 : List (NodeView C S)) : Type 0 where
     pub node : NodeView C S

@@ -12,21 +12,22 @@ use Rattle.p2p_discovery.specs.Info.{IsInfo, IsKeyed}
 use Rattle.p2p_discovery.specs.Judgement.{Verifier, judge_of}
 use Rattle.p2p_tracker.specs.declared.directory.Metadata.{Metadata}
 use Rattle.p2p_directory.specs.declared.node.Received.{Received}
-use Rattle.p2p_directory.specs.declared.node.Setup.{Setup as Given}
+use Rattle.p2p_directory.specs.declared.node.Setup.{Setup}
 use Rattle.p2p_directory.specs.declared.run.commands.Command.{Command}
 use Rattle.p2p_directory.specs.declared.run.commands.Reply.{Reply}
 use Rattle.p2p_directory.specs.declared.run.commands.Reply.TheVariants as reply
-use Rattle.p2p_tracker.specs.Calls.{Setup, Call}
+use Rattle.p2p_tracker.specs.Calls.{Settings, Call}
 use Rattle.p2p_tracker.specs.Calls.Call.{Dial, Listen, Update}
 use Rattle.p2p_tracker.specs.World.{World}
 use Rattle.p2p_tracker.specs.Answers.{infos_for, set_at_place}
 use Rattle.p2p_tracker.specs.Directory.{DirectoryView, Updates, bit_vec_at, infos_in}
 use Rattle.p2p_directory.specs.Held.{held_of}
 use Rattle.p2p_directory.specs.Refinement.{Refines}
-use Rattle.p2p_directory.specs.Run.{setup_of, call_of, world_after, next, bit_vec_in}
+use Rattle.p2p_directory.specs.Run.{settings, call_of, world_after, next, bit_vec_in}
 use Rattle.p2p_directory.specs.Run.{IsAnswer, Holds}
 use Rattle.p2p_directory.specs.Received as frames
-use Rattle.p2p_directory.specs.Received.{Wire, Standing, Outcome, received_at, may_want_memory}
+use Rattle.p2p_directory.specs.Received.{Wire, Standing, FrameOutcome, received_at}
+use Rattle.p2p_directory.specs.Received.{frame_may_want_memory}
 use Rattle.p2p_directory.specs.Received.{ask_frame_at, applied_with, told_with}
 
 -- WHAT IS SEEN
@@ -52,14 +53,14 @@ standing_of cmp wire v = record {
 
 -- that of its directory, its limits, and by what it judges
 pub record Made (C S : Type 0) : Type 0 where
-  pub directory : Setup C S
+  pub directory : Settings C S
   pub limits : PayloadConfig
   pub verifier : Verifier C
 
 -- .. as a caller gives it, with the order of the keys: its own key is that of its own info
-abbrev pub made_of : {C S : Type 0} → (C → C → Ordering) → Given C S → Made C S
+abbrev pub made_of : {C S : Type 0} → (C → C → Ordering) → Setup C S → Made C S
 made_of cmp given = record {
-  directory = setup_of cmp given.bootstrappers.items given.myself given.cfg;
+  directory = settings cmp given.bootstrappers.items given.myself given.cfg;
   limits = given.payload;
   verifier = record {
     me = given.myself.public_key;
@@ -122,7 +123,8 @@ module _ {C S : Type 0} (m : Made C S) where
       (r : Received) (v : NodeView C S) : Type 0 where
     pub answer :
         let node = standing_in wire (world_after m.directory calls) in
-        frames.IsAnswer (may_want_memory wire node frame now) (received_at wire node frame now) r
+        frames.IsFrameAnswer (frame_may_want_memory wire node frame now)
+        (received_at wire node frame now) r
     pub left : let node = standing_in wire (world_after m.directory calls) in
         NodeStandsAt (calls_with (applied_with (received_at wire node frame now) r) calls) v
 
@@ -140,7 +142,7 @@ module _ {C S : Type 0} (m : Made C S) where
 module _ {C S : Type 0} (cmp : C → C → Ordering) where
   -- it stands somewhere
   abbrev pub AtEach : NodeView C S → (Made C S → List (Call C S) → Type 0) → Type 0
-  AtEach v P = (given : Given C S) (calls : List (Call C S)) →
+  AtEach v P = (given : Setup C S) (calls : List (Call C S)) →
       NodeStandsAt (made_of cmp given) calls v → P (made_of cmp given) calls
 
   abbrev pub IsStepped : Command C S → Reply C S → NodeView C S → NodeView C S → Type 0
@@ -169,14 +171,14 @@ module _ {C S : Type 0} (cmp : C → C → Ordering) where
 
   -- an answer that may be want of memory or not, and what is left
   pub record Answers
-      (may : Bool) (o : Outcome C S) (r : Received) (v v2 : NodeView C S) : Type 0 where
-    pub answer : frames.IsAnswer may o r
+      (may : Bool) (o : FrameOutcome C S) (r : Received) (v v2 : NodeView C S) : Type 0 where
+    pub answer : frames.IsFrameAnswer may o r
     pub left : IsLeft v (applied_with o r) v2
 
   -- .. to a frame at a moment
   abbrev pub AnswersFrame : Wire C S → List ℕ → ℕ → Received → NodeView C S → NodeView C S → Type 0
   AnswersFrame wire frame now r v v2 = let node = standing_of cmp wire v in
-      Answers (may_want_memory wire node frame now) (received_at wire node frame now) r v v2
+      Answers (frame_may_want_memory wire node frame now) (received_at wire node frame now) r v v2
 
   -- the infos that it tells have a spelling: they are made of values of their types
   abbrev pub TellsValues : Wire C S → (C → Type 0) → (S → Type 0) →

@@ -42,17 +42,17 @@ pub record Standing (C S : Type 0) : Type 0 where
 
 -- an answer, the infos that an update call applies with it, if it makes one, and the infos that
 -- are told by it
-pub record Outcome (C S : Type 0) : Type 0 where
+pub record FrameOutcome (C S : Type 0) : Type 0 where
   pub answer : Received
   pub applied : Option (List (Info C S))
   pub told : List (Info C S)
 
 -- an answer with which nothing is applied, and no info is told
-abbrev pub only : {C S : Type 0} → Received → Outcome C S
+abbrev pub only : {C S : Type 0} → Received → FrameOutcome C S
 only answer = record { answer = answer; applied = None; told = [] }
 
 -- .. with which these infos are applied
-abbrev pub applying : {C S : Type 0} → Received → List (Info C S) → Outcome C S
+abbrev pub applying : {C S : Type 0} → Received → List (Info C S) → FrameOutcome C S
 applying answer infos = record { answer = answer; applied = Some infos; told = [] }
 
 -- an answer to which room is asked for: to a greeting that is applied, and a reply
@@ -69,28 +69,28 @@ applies _ = false
 
 module _ {C S : Type 0} where
   -- want of memory where it is allowed, else this answer
-  abbrev pub IsAnswer : Bool → Outcome C S → Received → Type 0
-  IsAnswer may o received.Memory = may ≡ true
-  IsAnswer may o r = r ≡ o.answer
+  abbrev pub IsFrameAnswer : Bool → FrameOutcome C S → Received → Type 0
+  IsFrameAnswer may o received.Memory = may ≡ true
+  IsFrameAnswer may o r = r ≡ o.answer
 
   -- the infos that are applied with an answer: where memory was refused none
-  abbrev pub applied_with : Outcome C S → Received → Option (List (Info C S))
+  abbrev pub applied_with : FrameOutcome C S → Received → Option (List (Info C S))
   applied_with o received.Memory = None
   applied_with o r = o.applied
 
   -- the infos that are told with an answer: where memory was refused none
-  abbrev pub told_with : Outcome C S → Received → List (Info C S)
+  abbrev pub told_with : FrameOutcome C S → Received → List (Info C S)
   told_with o received.Memory = []
   told_with o r = o.told
 
 module _ {C S : Type 0} (wire : Wire C S) where
   -- a greeting, by why it is refused, if it is
-  abbrev pub greeted : Info C S → Option Error → Outcome C S
+  abbrev pub greeted : Info C S → Option Error → FrameOutcome C S
   greeted info None = applying received.Greeted (info ∷ [])
   greeted info (Some e) = only (received.Invalid e)
 
   -- bits, by the infos for them, if there are any at all
-  abbrev pub replied : Option (List (Info C S)) → Outcome C S
+  abbrev pub replied : Option (List (Info C S)) → FrameOutcome C S
   replied None = only received.Malformed
   replied (Some infos) = record {
     answer = received.Reply (wire.spelling (said.Peers infos));
@@ -99,24 +99,25 @@ module _ {C S : Type 0} (wire : Wire C S) where
   }
 
   -- infos, by why they are refused, if they are
-  abbrev pub taken : List (Info C S) → Option Error → Outcome C S
+  abbrev pub taken : List (Info C S) → Option Error → FrameOutcome C S
   taken infos None = applying (received.Applied (length infos)) infos
   taken infos (Some e) = only (received.Invalid e)
 
   -- what a node answers to a payload at a moment
-  abbrev pub answered_at : Standing C S → ℕ → Payload C S → Outcome C S
+  abbrev pub answered_at : Standing C S → ℕ → Payload C S → FrameOutcome C S
   answered_at node now (said.Data message) = only (received.Data message)
   answered_at node now (said.Greeting info) = greeted info (refusal node.judge now info)
   answered_at node now (said.BitVec v) = replied (node.infos v.index v.bits now)
   answered_at node now (said.Peers infos) = taken infos (list_refusal node.judge now infos)
 
   -- .. to what comes of reading a frame: its fault, if it spells no payload that is admitted
-  abbrev pub read_at : Standing C S → ℕ → Result (Payload C S × List ℕ) CodecError → Outcome C S
+  abbrev pub read_at : Standing C S → ℕ → Result (Payload C S × List ℕ) CodecError →
+      FrameOutcome C S
   read_at node now (Ok x) = answered_at node now x.0
   read_at node now (Err fault) = only (received.Codec fault)
 
   -- RECEIVED: what a node answers to a frame at a moment
-  abbrev pub received_at : Standing C S → List ℕ → ℕ → Outcome C S
+  abbrev pub received_at : Standing C S → List ℕ → ℕ → FrameOutcome C S
   received_at node frame now = read_at node now (whole (wire.reading node.limits) frame).outcome
 
   -- `ask`: the frame of the bits of the set at a place
@@ -124,7 +125,7 @@ module _ {C S : Type 0} (wire : Wire C S) where
   ask_frame_at node place = option_map (λ v. wire.spelling (said.BitVec v)) (node.bits place)
 
   -- WANT OF MEMORY: where reading the frame asks for some, and for an answer that takes room
-  abbrev pub may_want_memory : Standing C S → List ℕ → ℕ → Bool
-  may_want_memory node frame now =
+  abbrev pub frame_may_want_memory : Standing C S → List ℕ → ℕ → Bool
+  frame_may_want_memory node frame now =
       (whole (wire.reading node.limits) frame).grows
       || takes_room (received_at node frame now).answer

@@ -7,7 +7,7 @@ use Rattle.p2p_tracker.specs.declared.record.Address.TheVariants.{Unknown, Mysel
 use Rattle.p2p_tracker.specs.declared.record.Address.TheVariants.{Discovered}
 use Rattle.p2p_tracker.specs.declared.directory.Metadata.{Metadata}
 use Rattle.p2p_tracker.specs.declared.directory.Metadata.TheVariants as metadata
-use Rattle.p2p_tracker.specs.Calls.{Setup, Direction}
+use Rattle.p2p_tracker.specs.Calls.{Settings, Direction}
 use Rattle.p2p_tracker.specs.Calls.Direction.{Listener, Dialer}
 use Rattle.p2p_tracker.specs.History.{is_own, is_persistent, primary_count, secondary_count}
 use Rattle.p2p_tracker.specs.World.{World, Known, last_ingress, reservable_from, dialable_from}
@@ -32,7 +32,7 @@ abbrev pub address_known : {C S : Type 0} → Option Ingress → ℕ → Option 
 address_known given fails None = address_given given
 address_known given fails (Some info) = Discovered info (min fails (2 ^ 64 - 1))
 
-module _ {C S : Type 0} (s : Setup C S) where
+module _ {C S : Type 0} (s : Settings C S) where
   -- the configuration that the setup has
   abbrev pub config_of : ConfigView
   config_of = record {

@@ -16,7 +16,7 @@ use Rattle.p2p_directory.specs.declared.run.commands.Reply.TheVariants as reply
 use Rattle.p2p_tracker.specs.declared.directory.PeerSetUpdate.{PeerSetUpdate}
 use Rattle.p2p_tracker.specs.declared.directory.Metadata.{Metadata}
 use Rattle.p2p_discovery.specs.Ingress.{takes_none}
-use Rattle.p2p_tracker.specs.Calls.{Setup, SetAt, Question, Call, Event}
+use Rattle.p2p_tracker.specs.Calls.{Settings, SetAt, Question, Call, Event}
 use Rattle.p2p_tracker.specs.Calls.Question.{StatusOf, NumberTracked, NextUnblock, BlockedAt}
 use Rattle.p2p_tracker.specs.Calls.Question.{PeerSet, LatestIndex, AllPeers, LatestUpdate}
 use Rattle.p2p_tracker.specs.Calls.Question.{InfoOf, InfosFor, BitsAt, IsEligible, IsAcceptable}
@@ -41,9 +41,9 @@ use Rattle.p2p_directory.specs.Refinement.{metadata_of}
 -- WHAT A RUN IS GIVEN
 
 -- the setup that a caller gives, with the order of the keys; durations in nanoseconds
-abbrev pub setup_of : {C S : Type 0} →
-    (C → C → Ordering) → List (C × Ingress) → Info C S → Config → Setup C S
-setup_of cmp bootstrappers myself cfg = record {
+abbrev pub settings : {C S : Type 0} →
+    (C → C → Ordering) → List (C × Ingress) → Info C S → Config → Settings C S
+settings cmp bootstrappers myself cfg = record {
   cmp = cmp;
   own = myself;
   bootstrappers = bootstrappers;
@@ -100,7 +100,7 @@ was_made reply.NotReserved = false
 was_made reply.NotHeld = false
 was_made _ = true
 
-module _ {C S : Type 0} (s : Setup C S) where
+module _ {C S : Type 0} (s : Settings C S) where
   -- the bits of the set at a place in the world w, with its index, if there is one
   abbrev pub bit_vec_in : World C S → ℕ → Option BitVec
   bit_vec_in w place = option_map bit_vec_of (bits_at s w place)

@@ -4,7 +4,7 @@ ghost use Rattle.std.specs.Prelude.{◌≡◌, ◌≤◌, ◌<◌, ◌^◌, ℕ,
 ghost use Rattle.std.specs.Prelude.{map, Option, None};
 ghost use Rattle.std.specs.List.{AllByRecursion};
 ghost use Rattle.p2p_discovery.specs.declared.discovery.Info.{Info};
-ghost use Rattle.p2p_tracker.specs.Calls.{Setup, Call};
+ghost use Rattle.p2p_tracker.specs.Calls.{Settings, Call};
 ghost use Rattle.p2p_tracker.specs.Calls.Call.{Update};
 ghost use Rattle.p2p_tracker.specs.History.{taken_sets};
 ghost use Rattle.p2p_tracker.specs.World.{World, world_at, past};
@@ -27,8 +27,9 @@ ghost use Rattle.p2p_directory.specs.declared.run.commands.Reply.{Reply};
 ghost use Rattle.p2p_directory.specs.Refinement.{Refines};
 ghost use Rattle.p2p_directory.specs.Run.{AreAnswers, world_after};
 ghost use Rattle.p2p_directory.specs.Laws.Refined.{AnswersAs};
-ghost use Rattle.p2p_directory.specs.Laws.GrantRuns.{KeepCooldownUnlessForgotten, KeepCooldown};
-ghost use Rattle.p2p_directory.specs.Laws.GrantRuns.{KeepBlocks};
+ghost use Rattle.p2p_directory.specs.Laws.GrantRuns.{RunKeepsCooldownUnlessForgotten};
+ghost use Rattle.p2p_directory.specs.Laws.GrantRuns.{RunKeepsCooldown};
+ghost use Rattle.p2p_directory.specs.Laws.GrantRuns.{RunKeepsBlocks};
 ghost use Rattle.p2p_directory.specs.Laws.BlockRuns.{KeepLastBlock};
 ghost use Rattle.p2p_directory.specs.Laws.DialRuns.{KeepDialable};
 ghost use Rattle.p2p_directory.specs.Laws.IsolationRuns.{KeepAlone};
@@ -53,7 +54,7 @@ use p2p_discovery::codec::PublicKey;
 /// first, and one more call: the world recomputed from all these calls is one step from the world
 /// recomputed from the calls before.
 pub fn recomputed_is_one_step<C: PublicKey>()
-    ensures { (s : Setup C C.Signature) → s.cmp ≡ C.cmp → 1 ≤ s.max_sets →
+    ensures { (s : Settings C C.Signature) → s.cmp ≡ C.cmp → 1 ≤ s.max_sets →
         (cs : List (Call C C.Signature)) (c : Call C C.Signature) →
         world_at s (past s (c ∷ cs)) ≡ step s (world_at s (past s cs)) c }
 {}
@@ -65,7 +66,7 @@ pub fn recomputed_is_one_step<C: PublicKey>()
 /// of each question, who is granted, whether a block has ended, and how many cooldowns. The limit of failures fits
 /// `usize`, as in each `Config`.
 pub fn refined_answers<C: PublicKey>()
-    ensures { (s : Setup C C.Signature) → s.cmp ≡ C.cmp → s.dial_fail_limit < 2 ^ 64 →
+    ensures { (s : Settings C C.Signature) → s.cmp ≡ C.cmp → s.dial_fail_limit < 2 ^ 64 →
         (cs : List (Call C C.Signature)) (d : DirectoryView C C.Signature) →
         Refines s (world_after s cs) d → AnswersAs s (world_after s cs) d }
 {}
@@ -73,14 +74,14 @@ pub fn refined_answers<C: PublicKey>()
 /// An answer that lists the keys with a property, tells the least moment of some keys, or counts
 /// the tracked or the cooled keys of a world, is the only one.
 pub fn answers_are_determined<C: PublicKey>()
-    ensures lists { (s : Setup C C.Signature) → s.cmp ≡ C.cmp →
+    ensures lists { (s : Settings C C.Signature) → s.cmp ≡ C.cmp →
         (test : C → Bool) (xs ys : List C) → Lists s.cmp test xs → Lists s.cmp test ys → xs ≡ ys }
-    ensures moments { (s : Setup C C.Signature) (moment : C → Option ℕ) (a b : Option ℕ) →
+    ensures moments { (s : Settings C C.Signature) (moment : C → Option ℕ) (a b : Option ℕ) →
         IsLeastOf moment a → IsLeastOf moment b → a ≡ b }
-    ensures numbers { (s : Setup C C.Signature) → s.cmp ≡ C.cmp →
+    ensures numbers { (s : Settings C C.Signature) → s.cmp ≡ C.cmp →
         (w : World C C.Signature) (m n : ℕ) → IsNumberTracked s w m → IsNumberTracked s w n →
         m ≡ n }
-    ensures cooled { (s : Setup C C.Signature) → s.cmp ≡ C.cmp →
+    ensures cooled { (s : Settings C C.Signature) → s.cmp ≡ C.cmp →
         (w : World C C.Signature) (t m n : ℕ) →
         IsNumberCooled s w t m → IsNumberCooled s w t n → m ≡ n }
 {}
@@ -88,23 +89,23 @@ pub fn answers_are_determined<C: PublicKey>()
 /// Calls on other single peers, and the infos of others in updates, may be left out of the accepted
 /// calls: all that is said of p is the same, and so are the answers on p and what calls on p do.
 pub fn others_may_be_left_out<C: PublicKey>()
-    ensures same { (s : Setup C C.Signature) → s.cmp ≡ C.cmp → 1 ≤ s.max_sets →
+    ensures same { (s : Settings C C.Signature) → s.cmp ≡ C.cmp → 1 ≤ s.max_sets →
         (p : C) (cs : List (Call C C.Signature)) →
         SameFor p (world_at s (past s cs)) (world_at s (past s (left_for s p cs))) }
-    ensures answers { (s : Setup C C.Signature) → s.cmp ≡ C.cmp →
+    ensures answers { (s : Settings C C.Signature) → s.cmp ≡ C.cmp →
         (p : C) (w v : World C C.Signature) → SameFor p w v → AnswersAlike s p w v }
-    ensures torn_down { (s : Setup C C.Signature) (p : C) (w v w2 v2 : World C C.Signature) →
+    ensures torn_down { (s : Settings C C.Signature) (p : C) (w v w2 v2 : World C C.Signature) →
         SameFor p w w2 → SameFor p v v2 → is_torn_down s w v p ≡ is_torn_down s w2 v2 p }
 {}
 
 /// Call by call: a call on another single peer leaves all that is said of p as it was, an update
 /// changes it by p's infos alone.
 pub fn each_call_keeps_others<C: PublicKey>()
-    ensures another { (s : Setup C C.Signature) → 1 ≤ s.max_sets →
+    ensures another { (s : Settings C C.Signature) → 1 ≤ s.max_sets →
         (p : C) (c : Call C C.Signature) (cs : List (Call C C.Signature)) →
         is_on_another s p c ≡ true →
         SameFor p (world_at s (past s (c ∷ cs))) (world_at s (past s cs)) }
-    ensures narrowed { (s : Setup C C.Signature) (p : C) (w : World C C.Signature)
+    ensures narrowed { (s : Settings C C.Signature) (p : C) (w : World C C.Signature)
         (c : Call C C.Signature) → SameFor p (step s w c) (step s w (narrowed s p c)) }
 {}
 
@@ -131,16 +132,16 @@ pub fn effects_keep_others<C: PublicKey>()
 /// The order of infos in an update, or in several that follow each other directly, is of no matter
 /// where no two infos of one key have one timestamp.
 pub fn order_is_free<C: PublicKey>()
-    ensures alike { (s : Setup C C.Signature) (w : World C C.Signature)
+    ensures alike { (s : Settings C C.Signature) (w : World C C.Signature)
         (xs ys : List (Info C C.Signature)) → HaveSame xs ys → IsUnambiguous s xs →
         step s w (Update xs) ≡ step s w (Update ys) }
-    ensures joined { (s : Setup C C.Signature) (w : World C C.Signature)
+    ensures joined { (s : Settings C C.Signature) (w : World C C.Signature)
         (xs ys : List (Info C C.Signature)) → step s (step s w (Update xs)) (Update ys) ≡
         step s w (Update (xs ++ ys)) }
-    ensures later { (s : Setup C C.Signature) → 1 ≤ s.max_sets →
+    ensures later { (s : Settings C C.Signature) → 1 ≤ s.max_sets →
         (es cs ds : List (Call C C.Signature)) → world_at s (past s cs) ≡ world_at s (past s ds) →
         world_at s (past s (es ++ cs)) ≡ world_at s (past s (es ++ ds)) }
-    ensures effects { (s : Setup C C.Signature) → s.cmp ≡ C.cmp →
+    ensures effects { (s : Settings C C.Signature) → s.cmp ≡ C.cmp →
         (old new : DirectoryView C C.Signature) (xs ys : List (Info C C.Signature)) →
         HaveSame xs ys → IsUnambiguous s xs →
         Updates C.cmp old new xs → Updates C.cmp old new ys }
@@ -149,7 +150,7 @@ pub fn order_is_free<C: PublicKey>()
 /// Where each set that was taken names at most n distinct peers, the present keys are at most n for
 /// each set that may be retained, the persistent keys, and the peers not inert that no set names.
 pub fn presence_is_bounded<C: PublicKey>()
-    ensures { (s : Setup C C.Signature) → s.cmp ≡ C.cmp →
+    ensures { (s : Settings C C.Signature) → s.cmp ≡ C.cmp →
         (n : ℕ) (cs : List (Call C C.Signature)) →
         AllByRecursion (NamesAtMost s n) (taken_sets s (past s cs)) →
         IsBounded s n (world_at s (past s cs)) }
@@ -158,7 +159,7 @@ pub fn presence_is_bounded<C: PublicKey>()
 /// Of a peer that is absent info and failures are forgotten: what is known of it is what is known
 /// of a new peer.
 pub fn absent_are_forgotten<C: PublicKey>()
-    ensures { (s : Setup C C.Signature) (cs : List (Call C C.Signature)) (p : C) →
+    ensures { (s : Settings C C.Signature) (cs : List (Call C C.Signature)) (p : C) →
         is_present_in s (world_at s (past s cs)) p ≡ false →
         ((world_at s (past s cs)).peer p).known ≡ new_known s p }
 {}
@@ -167,7 +168,7 @@ pub fn absent_are_forgotten<C: PublicKey>()
 /// no earlier than the cooldown after the first, at most the greatest moment, also where its record
 /// was deleted and made again in between. Moments may go back.
 pub fn grants_are_spaced<C: PublicKey>()
-    ensures { (s : Setup C C.Signature) → s.cmp ≡ C.cmp →
+    ensures { (s : Settings C C.Signature) → s.cmp ≡ C.cmp →
         (p : C) (cs : List (Call C C.Signature)) → KeepsCooldownUnlessForgotten s p (past s cs) }
 {}
 
@@ -175,7 +176,7 @@ pub fn grants_are_spaced<C: PublicKey>()
 /// cooldown apart, at most the greatest moment, whatever was forgotten and also where its record
 /// was deleted and made again in between.
 pub fn cooldown_lasts<C: PublicKey>()
-    ensures { (s : Setup C C.Signature) → s.cmp ≡ C.cmp →
+    ensures { (s : Settings C C.Signature) → s.cmp ≡ C.cmp →
         (p : C) (cs : List (Call C C.Signature)) (now : ℕ) → NeverGoBack s now cs →
         KeepsCooldown s p (past s cs) }
 {}
@@ -184,7 +185,7 @@ pub fn cooldown_lasts<C: PublicKey>()
 /// later call before the block's end, at most the greatest moment, also where its record was
 /// deleted and made again in between.
 pub fn blocks_hold<C: PublicKey>()
-    ensures { (s : Setup C C.Signature) → s.cmp ≡ C.cmp →
+    ensures { (s : Settings C C.Signature) → s.cmp ≡ C.cmp →
         (p : C) (cs : List (Call C C.Signature)) (now : ℕ) → NeverGoBack s now cs →
         KeepsBlocks s p (past s cs) }
 {}
@@ -193,10 +194,10 @@ pub fn blocks_hold<C: PublicKey>()
 /// the other and with any draws, are all granted: of the whole list in its order, and of any of
 /// them in any order, each once.
 pub fn dialable_are_granted<C: PublicKey>()
-    ensures whole { (s : Setup C C.Signature) → s.cmp ≡ C.cmp → 1 ≤ s.max_sets →
+    ensures whole { (s : Settings C C.Signature) → s.cmp ≡ C.cmp → 1 ≤ s.max_sets →
         (cs : List (Call C C.Signature)) (t : ℕ) (xs : List (C × ℕ)) (next : Option ℕ) →
         IsDialable s (world_at s (past s cs)) t (map (λ x. x.0) xs) next → AreDialled s t xs cs }
-    ensures chosen { (s : Setup C C.Signature) → s.cmp ≡ C.cmp → 1 ≤ s.max_sets →
+    ensures chosen { (s : Settings C C.Signature) → s.cmp ≡ C.cmp → 1 ≤ s.max_sets →
         (cs : List (Call C C.Signature)) (t : ℕ) (ps : List C) (xs : List (C × ℕ))
         (next : Option ℕ) →
         IsDialable s (world_at s (past s cs)) t ps next → AreChosen s ps xs → AreDialled s t xs cs }
@@ -205,10 +206,10 @@ pub fn dialable_are_granted<C: PublicKey>()
 /// Where nothing is called in between, an answer of `dialable` stays until its next query, and for
 /// ever where it has none: the peers and the next query. Each moment has one answer.
 pub fn dialable_is_quiet<C: PublicKey>()
-    ensures stays { (s : Setup C C.Signature) (w : World C C.Signature) (t u : ℕ) (ps : List C)
+    ensures stays { (s : Settings C C.Signature) (w : World C C.Signature) (t u : ℕ) (ps : List C)
         (next : Option ℕ) →
         IsDialable s w t ps next → t ≤ u → IsBefore u next → IsDialable s w u ps next }
-    ensures only { (s : Setup C C.Signature) → s.cmp ≡ C.cmp →
+    ensures only { (s : Settings C C.Signature) → s.cmp ≡ C.cmp →
         (w : World C C.Signature) (t : ℕ) (ps qs : List C) (next after : Option ℕ) →
         IsDialable s w t ps next → IsDialable s w t qs after → (ps ≡ qs) × (next ≡ after) }
 {}
@@ -222,16 +223,16 @@ pub fn dialable_is_quiet<C: PublicKey>()
 /// block's end, at most the greatest moment. Of any moments, each grant and each further block of a
 /// peer comes no earlier than the end of its last block that no accepted `UnblockExpired` has ended.
 pub fn grants_of_a_run<C: PublicKey>()
-    ensures spaced { (s : Setup C C.Signature) → s.cmp ≡ C.cmp →
+    ensures spaced { (s : Settings C C.Signature) → s.cmp ≡ C.cmp →
         (p : C) (cs : List (Call C C.Signature)) (rs : List (Reply C C.Signature)) →
-        AreAnswers s [] cs rs → KeepCooldownUnlessForgotten s p None cs rs }
-    ensures lasting { (s : Setup C C.Signature) → s.cmp ≡ C.cmp →
+        AreAnswers s [] cs rs → RunKeepsCooldownUnlessForgotten s p None cs rs }
+    ensures lasting { (s : Settings C C.Signature) → s.cmp ≡ C.cmp →
         (p : C) (cs : List (Call C C.Signature)) (rs : List (Reply C C.Signature)) →
-        AreAnswers s [] cs rs → KeepCooldown s p 0 None cs rs }
-    ensures blocked { (s : Setup C C.Signature) → s.cmp ≡ C.cmp →
+        AreAnswers s [] cs rs → RunKeepsCooldown s p 0 None cs rs }
+    ensures blocked { (s : Settings C C.Signature) → s.cmp ≡ C.cmp →
         (p : C) (cs : List (Call C C.Signature)) (rs : List (Reply C C.Signature)) →
-        AreAnswers s [] cs rs → KeepBlocks s p 0 [] cs rs }
-    ensures last_block { (s : Setup C C.Signature) → s.cmp ≡ C.cmp →
+        AreAnswers s [] cs rs → RunKeepsBlocks s p 0 [] cs rs }
+    ensures last_block { (s : Settings C C.Signature) → s.cmp ≡ C.cmp →
         (p : C) (cs : List (Call C C.Signature)) (rs : List (Reply C C.Signature)) →
         AreAnswers s [] cs rs → KeepLastBlock s p None cs rs }
 {}
@@ -242,7 +243,7 @@ pub fn grants_of_a_run<C: PublicKey>()
 /// before its next query where it has one, is replied the same peers and the same next query,
 /// unless memory is refused.
 pub fn dials_of_a_run<C: PublicKey>()
-    ensures { (s : Setup C C.Signature) → s.cmp ≡ C.cmp → 1 ≤ s.max_sets →
+    ensures { (s : Settings C C.Signature) → s.cmp ≡ C.cmp → 1 ≤ s.max_sets →
         (cs : List (Call C C.Signature)) (rs : List (Reply C C.Signature)) →
         AreAnswers s [] cs rs → KeepDialable s cs rs }
 {}
@@ -262,13 +263,13 @@ pub fn dials_of_a_run<C: PublicKey>()
 /// keys are at most n for each set that may be retained, the persistent keys, and the peers not
 /// inert that no set names; so is the number that is replied.
 pub fn isolation_of_a_run<C: PublicKey>()
-    ensures isolation { (s : Setup C C.Signature) → s.cmp ≡ C.cmp → 1 ≤ s.max_sets →
+    ensures isolation { (s : Settings C C.Signature) → s.cmp ≡ C.cmp → 1 ≤ s.max_sets →
         (p : C) (cs : List (Call C C.Signature)) (rs : List (Reply C C.Signature)) →
         AreAnswers s [] cs rs → KeepAlone s p [] cs rs }
-    ensures order { (s : Setup C C.Signature) → 1 ≤ s.max_sets →
+    ensures order { (s : Settings C C.Signature) → 1 ≤ s.max_sets →
         (cs : List (Call C C.Signature)) (rs : List (Reply C C.Signature)) →
         AreAnswers s [] cs rs → KeepOrder s [] cs rs }
-    ensures bounds { (s : Setup C C.Signature) → s.cmp ≡ C.cmp →
+    ensures bounds { (s : Settings C C.Signature) → s.cmp ≡ C.cmp →
         (n : ℕ) (cs : List (Call C C.Signature)) (rs : List (Reply C C.Signature)) →
         AreAnswers s [] cs rs → KeepBound s n [] cs rs }
 {}
@@ -363,7 +364,7 @@ pub fn gossip_of_a_network<C: PublicKey>()
     ensures others { (wire : Wire C C.Signature) (size : ℕ) (node : ℕ → Made C C.Signature) →
         (cs : List (NetworkCommand C C.Signature)) (rs : List (NetworkReply C C.Signature)) →
         AreNetworkAnswers wire size node [] cs rs →
-        OfEachReply wire size node (network.LeavesOthers wire size node) [] cs rs }
+        OfEachReply wire size node (network.LeavesOtherNodes wire size node) [] cs rs }
     ensures acquaintance { (wire : Wire C C.Signature) (size : ℕ) (node : ℕ → Made C C.Signature) →
         AreMade wire size node C.cmp →
         (cs : List (NetworkCommand C C.Signature)) (rs : List (NetworkReply C C.Signature)) →

@@ -6,13 +6,14 @@ ghost use Rattle.std.specs.List.{AllPass};
 ghost use Rattle.p2p_tracker.specs.Directory.{bit_vec_at};
 ghost use Rattle.p2p_directory.specs.Held.{held_of};
 ghost use Rattle.p2p_directory.specs.Private.Slots.{has_slot, held_in};
-ghost use Rattle.p2p_directory.specs.Private.Serving.{has_room};
+ghost use Rattle.p2p_directory.specs.Private.Serving.{has_slot_for};
 ghost use Rattle.p2p_directory.specs.Nodes.{may_reserve};
 ghost use Rattle.p2p_directory.specs.Refinement.{Refines};
-ghost use Rattle.p2p_directory.specs.Run.{setup_of, call_of, calls_of, world_left, AreAnswers};
+ghost use Rattle.p2p_directory.specs.Run.{settings, call_of, calls_of, world_left, AreAnswers};
 ghost use Rattle.p2p_directory.specs.Run.{bit_vec_in, Holds};
-ghost use Rattle.p2p_directory.specs.Laws.GrantRuns.{KeepCooldownUnlessForgotten, KeepCooldown};
-ghost use Rattle.p2p_directory.specs.Laws.GrantRuns.{KeepBlocks};
+ghost use Rattle.p2p_directory.specs.Laws.GrantRuns.{RunKeepsCooldownUnlessForgotten};
+ghost use Rattle.p2p_directory.specs.Laws.GrantRuns.{RunKeepsCooldown};
+ghost use Rattle.p2p_directory.specs.Laws.GrantRuns.{RunKeepsBlocks};
 ghost use Rattle.p2p_directory.specs.Laws.BlockRuns.{KeepLastBlock};
 ghost use Rattle.p2p_directory.specs.Laws.DialRuns.{KeepDialable};
 ghost use Rattle.p2p_directory.specs.Laws.IsolationRuns.{KeepAlone};
@@ -102,32 +103,32 @@ pub fn run<C: PublicKey>(
     commands: Vec<Command<C>>,
 ) -> Result<Run<C>, AllocError>
     requires { non_zero_usize_get cfg.max_sets < 2 ^ 64 - 1 }
-    ensures answers { IfOk result (λ run. let s = setup_of C.cmp bootstrappers.items myself cfg in
+    ensures answers { IfOk result (λ run. let s = settings C.cmp bootstrappers.items myself cfg in
         AreAnswers s [] (calls_of commands.items) run.replies.items) }
-    ensures directory { IfOk result (λ run. let s = setup_of C.cmp bootstrappers.items myself cfg in
+    ensures directory { IfOk result (λ run. let s = settings C.cmp bootstrappers.items myself cfg in
         Refines s (world_left s (calls_of commands.items) run.replies.items) run.directory) }
-    ensures bits { IfOk result (λ run. let s = setup_of C.cmp bootstrappers.items myself cfg in
+    ensures bits { IfOk result (λ run. let s = settings C.cmp bootstrappers.items myself cfg in
         (place : ℕ) → bit_vec_at C.cmp run.directory place
         ≡ bit_vec_in s (world_left s (calls_of commands.items) run.replies.items) place) }
-    ensures held { IfOk result (λ run. let s = setup_of C.cmp bootstrappers.items myself cfg in
+    ensures held { IfOk result (λ run. let s = settings C.cmp bootstrappers.items myself cfg in
         Holds s (world_left s (calls_of commands.items) run.replies.items)
         (held_of C.cmp run.held)) }
-    ensures spaced { IfOk result (λ run. let s = setup_of C.cmp bootstrappers.items myself cfg in
+    ensures spaced { IfOk result (λ run. let s = settings C.cmp bootstrappers.items myself cfg in
         (p : C) →
-        KeepCooldownUnlessForgotten s p None (calls_of commands.items) run.replies.items) }
-    ensures lasting { IfOk result (λ run. let s = setup_of C.cmp bootstrappers.items myself cfg in
-        (p : C) → KeepCooldown s p 0 None (calls_of commands.items) run.replies.items) }
-    ensures blocks { IfOk result (λ run. let s = setup_of C.cmp bootstrappers.items myself cfg in
-        (p : C) → KeepBlocks s p 0 [] (calls_of commands.items) run.replies.items) }
-    ensures last_block { IfOk result (λ run. let s = setup_of C.cmp bootstrappers.items myself cfg in
+        RunKeepsCooldownUnlessForgotten s p None (calls_of commands.items) run.replies.items) }
+    ensures lasting { IfOk result (λ run. let s = settings C.cmp bootstrappers.items myself cfg in
+        (p : C) → RunKeepsCooldown s p 0 None (calls_of commands.items) run.replies.items) }
+    ensures blocks { IfOk result (λ run. let s = settings C.cmp bootstrappers.items myself cfg in
+        (p : C) → RunKeepsBlocks s p 0 [] (calls_of commands.items) run.replies.items) }
+    ensures last_block { IfOk result (λ run. let s = settings C.cmp bootstrappers.items myself cfg in
         (p : C) → KeepLastBlock s p None (calls_of commands.items) run.replies.items) }
-    ensures dials { IfOk result (λ run. let s = setup_of C.cmp bootstrappers.items myself cfg in
+    ensures dials { IfOk result (λ run. let s = settings C.cmp bootstrappers.items myself cfg in
         KeepDialable s (calls_of commands.items) run.replies.items) }
-    ensures isolation { IfOk result (λ run. let s = setup_of C.cmp bootstrappers.items myself cfg in
+    ensures isolation { IfOk result (λ run. let s = settings C.cmp bootstrappers.items myself cfg in
         (p : C) → KeepAlone s p [] (calls_of commands.items) run.replies.items) }
-    ensures order { IfOk result (λ run. let s = setup_of C.cmp bootstrappers.items myself cfg in
+    ensures order { IfOk result (λ run. let s = settings C.cmp bootstrappers.items myself cfg in
         KeepOrder s [] (calls_of commands.items) run.replies.items) }
-    ensures bounds { IfOk result (λ run. let s = setup_of C.cmp bootstrappers.items myself cfg in
+    ensures bounds { IfOk result (λ run. let s = settings C.cmp bootstrappers.items myself cfg in
         (n : ℕ) → KeepBound s n [] (calls_of commands.items) run.replies.items) }
 {
     let mut replies = Vec::with_capacity(alloc, commands.len())?;
@@ -147,7 +148,7 @@ pub fn run<C: PublicKey>(
 
 // A slot for each peer that the commands may be granted a reservation of.
 fn slots_for<C: PublicKey>(alloc: Global, commands: &[Command<C>]) -> Result<Slots<C>, AllocError>
-    ensures room { IfOk result (λ slots. AllPass (has_room C.cmp slots) commands.now) }
+    ensures room { IfOk result (λ slots. AllPass (has_slot_for C.cmp slots) commands.now) }
     ensures empty { IfOk result (λ slots. (q : C) → held_in C.cmp slots q ≡ None) }
 {
     let mut slots = Slots::new(alloc);
@@ -164,7 +165,7 @@ fn slots_for<C: PublicKey>(alloc: Global, commands: &[Command<C>]) -> Result<Slo
 fn make_slot<C: PublicKey>(slots: &mut Slots<C>, command: &Command<C>) -> Result<(), AllocError>
     ensures err { OnErr result (slots.new ≡ slots.old) }
     ensures reserves { OnErr result (may_reserve (call_of command.now) ≡ true) }
-    ensures room { OnOk result (has_room C.cmp slots.new command.now ≡ true) }
+    ensures room { OnOk result (has_slot_for C.cmp slots.new command.now ≡ true) }
     ensures slots { OnOk result ((q : C) →
         has_slot C.cmp slots.old q ≡ true → has_slot C.cmp slots.new q ≡ true) }
     ensures held { (q : C) → held_in C.cmp slots.new q ≡ held_in C.cmp slots.old q }

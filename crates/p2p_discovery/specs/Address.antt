@@ -19,9 +19,9 @@ same_address (Asymmetric ingress egress) (Asymmetric ingress2 egress2) =
 same_address _ _ = false
 
 -- what is dialled
-abbrev pub ingress_of : Address → Ingress
-ingress_of (Symmetric socket) = Socket socket
-ingress_of (Asymmetric ingress egress) = ingress
+abbrev pub dialled_ingress : Address → Ingress
+dialled_ingress (Symmetric socket) = Socket socket
+dialled_ingress (Asymmetric ingress egress) = ingress
 
 -- where connections come from
 abbrev pub egress_of : Address → SocketAddr

@@ -10,7 +10,7 @@ use Rattle.p2p_discovery.specs.Socket.{socket_at, socket_spelling, IsSocket}
 use Rattle.p2p_discovery.specs.SocketLaws.{lawful_socket, socket_short}
 use Rattle.p2p_discovery.specs.Ingress.{ingress_at, ingress_spelling, IsIngress}
 use Rattle.p2p_discovery.specs.IngressLaws.{lawful_ingress, ingress_short}
-use Rattle.p2p_discovery.specs.Address.{ingress_of, egress_of, address_at, address_spelling}
+use Rattle.p2p_discovery.specs.Address.{dialled_ingress, egress_of, address_at, address_spelling}
 use Rattle.p2p_discovery.specs.Address.{IsAddress}
 
 OnlySymmetric : Address → Type 0
@@ -30,11 +30,11 @@ lawful_symmetric =
     (elim [ Symmetric s ↦ λ h. (refl, h, refl) | Asymmetric i e ↦ λ h. absurd h ]) lawful_socket
 
 lawful_asymmetric : Lawful ((ingress_at & socket_at) >>= λ p. reads (Asymmetric p.0 p.1))
-    (λ a. ingress_spelling (ingress_of a) ++ socket_spelling (egress_of a)) OnlyAsymmetric
+    (λ a. ingress_spelling (dialled_ingress a) ++ socket_spelling (egress_of a)) OnlyAsymmetric
 unfolding OnlyAsymmetric
 lawful_asymmetric =
-    lawful_as (λ p. Asymmetric p.0 p.1) (λ a. (ingress_of a, egress_of a))
-    (λ a. ingress_spelling (ingress_of a) ++ socket_spelling (egress_of a)) OnlyAsymmetric
+    lawful_as (λ p. Asymmetric p.0 p.1) (λ a. (dialled_ingress a, egress_of a))
+    (λ a. ingress_spelling (dialled_ingress a) ++ socket_spelling (egress_of a)) OnlyAsymmetric
     (λ p h. (h, refl))
     (elim [ Asymmetric i e ↦ λ h. (refl, h, refl) | Symmetric s ↦ λ h. absurd h ])
     (lawful_both lawful_ingress lawful_socket)

@@ -15,7 +15,7 @@ abbrev pub bit_vec_spelling : BitVec → List ℕ
 bit_vec_spelling v = varint64 v.index ++ (varint64 (length v.bits) ++ packed v.bits)
 
 -- The limit allows so many bits, and so does the wire.
-pub record IsAllowed (limit : ℕ) (v : BitVec) : Type 0 where
+pub record IsBitVecAllowed (limit : ℕ) (v : BitVec) : Type 0 where
   pub within : length v.bits ≤ limit
   pub small : length v.bits < 2 ^ 64
 
@@ -26,10 +26,11 @@ unpacked n bytes rest =
     else refuses (Invalid what.Padding) rest
 
 -- as many bits as the limit allows; their number is judged before anything behind it
-unfoldable pub bits_at : ℕ → List ℕ → Reading (List Bool)
-bits_at limit =
+unfoldable pub bits_read_at : ℕ → List ℕ → Reading (List Bool)
+bits_read_at limit =
     (varint64_at >>= checked false (λ n. nat_le n limit) InvalidLength)
     >>= λ n. counted_at (byte_count n) >>= unpacked n
 
-unfoldable pub bit_vec_at : ℕ → List ℕ → Reading BitVec
-bit_vec_at limit = (varint64_at & bits_at limit) >>= λ p. reads (record { index = p.0; bits = p.1 })
+unfoldable pub bit_vec_read_at : ℕ → List ℕ → Reading BitVec
+bit_vec_read_at limit = (varint64_at & bits_read_at limit) >>=
+    λ p. reads (record { index = p.0; bits = p.1 })

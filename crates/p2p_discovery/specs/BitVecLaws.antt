@@ -14,7 +14,8 @@ use Rattle.p2p_discovery.specs.VarintLaws.{groups_lawful}
 use Rattle.p2p_discovery.specs.Bits.{bits_in, byte_count, padding_of, packed}
 use Rattle.p2p_discovery.specs.BitsLaws.{length-bits_in, length-packed, bits_in-packed}
 use Rattle.p2p_discovery.specs.BitsLaws.{packed-bits_in, packed_unpadded, unpadded}
-use Rattle.p2p_discovery.specs.BitVec.{bit_vec_spelling, IsAllowed, unpacked, bits_at, bit_vec_at}
+use Rattle.p2p_discovery.specs.BitVec.{bit_vec_spelling, IsBitVecAllowed, unpacked, bits_read_at}
+use Rattle.p2p_discovery.specs.BitVec.{bit_vec_read_at}
 
 bits_of_length : (n : ℕ)
     → Lawful (counted_at (byte_count n) >>= unpacked n) packed
@@ -56,20 +57,21 @@ bits_of_length n = record {
 }
 
 lawful_bits : (limit : ℕ)
-    → Lawful (bits_at limit) (λ bits. varint64 (length bits) ++ packed bits)
+    → Lawful (bits_read_at limit) (λ bits. varint64 (length bits) ++ packed bits)
     (λ bits. Unit {0} × ((leb (length bits) limit ≡ true) × (length bits < 2 ^ 64)))
-unfolding bits_at
+unfolding bits_read_at
 lawful_bits limit =
     lawful_sized length
     (lawful_checked false (λ n. leb n limit) InvalidLength (groups_lawful 10 1 9 (lit< tt)))
     (λ n _. bits_of_length n)
 
 pub lawful_bit_vec : (limit : ℕ)
-    → Lawful (bit_vec_at limit) bit_vec_spelling (λ v. (v.index < 2 ^ 64) × IsAllowed limit v)
-unfolding bit_vec_at
+    → Lawful (bit_vec_read_at limit) bit_vec_spelling
+    (λ v. (v.index < 2 ^ 64) × IsBitVecAllowed limit v)
+unfolding bit_vec_read_at
 lawful_bit_vec limit =
     lawful_as (λ p. record { index = p.0; bits = p.1 }) (λ v. (v.index, v.bits)) bit_vec_spelling
-    (λ v. (v.index < 2 ^ 64) × IsAllowed limit v)
+    (λ v. (v.index < 2 ^ 64) × IsBitVecAllowed limit v)
     (λ p h. ((h.0, record { within = leb-true (length p.1) limit h.1.1.0; small = h.1.1.1 }), refl))
     (λ v h. (refl, (h.0, (tt, (le-leb (length v.bits) limit h.1.within, h.1.small))), refl))
     (lawful_both (groups_lawful 10 1 9 (lit< tt)) (lawful_bits limit))

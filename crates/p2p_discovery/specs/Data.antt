@@ -12,7 +12,7 @@ abbrev pub data_spelling : Data → List ℕ
 data_spelling d = varint64 d.channel ++ counted_spelling d.message
 
 -- The limit allows a message of this length, and so does the wire.
-pub record IsAllowed (limit : RangeCfg) (d : Data) : Type 0 where
+pub record IsDataAllowed (limit : RangeCfg) (d : Data) : Type 0 where
   pub within : is_within limit (length d.message) ≡ true
   pub small : length d.message < 2 ^ 32
 

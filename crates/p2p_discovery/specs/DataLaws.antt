@@ -13,7 +13,7 @@ use Rattle.p2p_discovery.specs.Counted.{counted_spelling}
 use Rattle.p2p_discovery.specs.CountedLaws.{lawful_length, lawful_cut, counted_short}
 use Rattle.p2p_discovery.specs.Varint.{varint32, varint64}
 use Rattle.p2p_discovery.specs.VarintLaws.{groups_lawful, groups_short}
-use Rattle.p2p_discovery.specs.Data.{data_spelling, IsAllowed, message_at, data_at, header}
+use Rattle.p2p_discovery.specs.Data.{data_spelling, IsDataAllowed, message_at, data_at, header}
 use Rattle.p2p_discovery.specs.Data.{data_payload}
 
 lawful_message : (limit : RangeCfg)
@@ -23,11 +23,11 @@ unfolding message_at
 lawful_message limit = lawful_sized length (lawful_length limit) (λ n _. lawful_cut n)
 
 pub lawful_data : (limit : RangeCfg)
-    → Lawful (data_at limit) data_spelling (λ d. (d.channel < 2 ^ 64) × IsAllowed limit d)
+    → Lawful (data_at limit) data_spelling (λ d. (d.channel < 2 ^ 64) × IsDataAllowed limit d)
 unfolding data_at
 lawful_data limit =
     lawful_as (λ p. record { channel = p.0; message = p.1 }) (λ d. (d.channel, d.message))
-    data_spelling (λ d. (d.channel < 2 ^ 64) × IsAllowed limit d)
+    data_spelling (λ d. (d.channel < 2 ^ 64) × IsDataAllowed limit d)
     (λ p h. ((h.0, record { within = h.1.1.0; small = h.1.1.1 }), refl))
     (λ d h. (refl, (h.0, (tt, (h.1.within, h.1.small))), refl))
     (lawful_both (groups_lawful 10 1 9 (lit< tt)) (lawful_message limit))

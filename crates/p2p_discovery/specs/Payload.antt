@@ -44,9 +44,9 @@ IsKeyedPayload IsKey IsSignature (said.Peers is) = AllByRecursion (IsKeyed IsKey
 abbrev pub IsAdmitted : {C S : Type 0} → (C → Type 0) → (S → Type 0)
     → PayloadConfig → Payload C S → Type 0
 IsAdmitted IsKey IsSignature limits (said.Data d) =
-    messages.IsAllowed (up_to limits.max_data_length) d
+    messages.IsDataAllowed (up_to limits.max_data_length) d
 IsAdmitted IsKey IsSignature limits (said.Greeting i) = IsKeyed IsKey IsSignature i
-IsAdmitted IsKey IsSignature limits (said.BitVec v) = bits.IsAllowed limits.max_bit_vec v
+IsAdmitted IsKey IsSignature limits (said.BitVec v) = bits.IsBitVecAllowed limits.max_bit_vec v
 IsAdmitted IsKey IsSignature limits (said.Peers is) =
     AreAllowed IsKey IsSignature (up_to limits.max_peers) is
 
@@ -80,7 +80,7 @@ module _ {C S : Type 0} (key_size : ℕ) (key : List ℕ → Option C)
       else if prefix == 1 then
       (info_at key_size key signature_size signature >>= λ i. reads (said.Greeting i)) rest
       else if prefix == 2 then
-      (bits.bit_vec_at limits.max_bit_vec >>= λ v. reads (said.BitVec v)) rest
+      (bits.bit_vec_read_at limits.max_bit_vec >>= λ v. reads (said.BitVec v)) rest
       else if prefix == 3 then
       (infos_at key_size key signature_size signature (up_to limits.max_peers)
       >>= λ is. reads (said.Peers is)) rest

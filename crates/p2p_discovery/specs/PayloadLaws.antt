@@ -84,7 +84,7 @@ module _ {C S : Type 0} {key_size signature_size : ℕ} {spell_key : C → List 
       ]) (lawful_info k s)
 
   lawful_bits_form : (limits : PayloadConfig) (t : ℕ) → eqb t 2 ≡ true
-      → Lawful (bits.bit_vec_at limits.max_bit_vec >>= λ v. reads (said.BitVec v))
+      → Lawful (bits.bit_vec_read_at limits.max_bit_vec >>= λ v. reads (said.BitVec v))
       (body_spelling spell_key spell_signature) (Is limits t)
   unfolding Is
   lawful_bits_form limits t e =

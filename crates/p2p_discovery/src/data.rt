@@ -5,7 +5,8 @@
 ghost use Rattle.std.specs.Prelude.{◌≡◌, ℕ, ◌+◌, ◌-◌, ◌<◌, ◌≤◌, ◌^◌, ◌++◌, ◌∷◌, List, length};
 ghost use Rattle.std.specs.Prelude.{IfOk, IfErr};
 ghost use Rattle.std.specs.List.{concat};
-ghost use Rattle.p2p_discovery.specs.Data.{data_spelling, IsAllowed, data_at, header, data_payload};
+ghost use Rattle.p2p_discovery.specs.Data.{data_spelling, IsDataAllowed, data_at, header};
+ghost use Rattle.p2p_discovery.specs.Data.{data_payload};
 ghost use Rattle.p2p_discovery.specs.DataLaws.{lawful_data};
 
 use crate::codec::{
@@ -56,7 +57,7 @@ impl Write for Data {
 impl Read for Data {
     type Cfg = RangeCfg;
 
-    ghost Admits = { IsAllowed };
+    ghost Admits = { IsDataAllowed };
 
     ghost reading = { data_at };
 

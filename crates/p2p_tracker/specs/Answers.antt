@@ -5,7 +5,7 @@ use Rattle.std.specs.Prelude.{Some, None, option_map, nat_lt, nat_le, ◌==◌}
 use Rattle.std.specs.List.{slice_get, last_or}
 use Rattle.p2p_discovery.specs.declared.discovery.Info.{Info}
 use Rattle.p2p_tracker.specs.declared.record.Status.{Status}
-use Rattle.p2p_tracker.specs.Calls.{Setup, SetAt, Direction, Cooldown, Event}
+use Rattle.p2p_tracker.specs.Calls.{Settings, SetAt, Direction, Cooldown, Event}
 use Rattle.p2p_tracker.specs.declared.record.Status.TheVariants.{Active}
 use Rattle.p2p_tracker.specs.Calls.Event.{Tracked, Granted, Blocked}
 use Rattle.p2p_tracker.specs.History.{is_own, is_entitled, is_inert, is_reserved}
@@ -46,7 +46,7 @@ abbrev pub is_cooled_by : ℕ → Option Cooldown → Bool
 is_cooled_by t None = false
 is_cooled_by t (Some cooldown) = nat_le cooldown.dial_at t
 
-module _ {C S : Type 0} (s : Setup C S) where
+module _ {C S : Type 0} (s : Settings C S) where
   -- PRESENCE AND STATUS
 
   -- p is present in the world

@@ -1,14 +1,14 @@
 -- Dials of the peers that an answer of `dialable` names, and how long that answer stays.
 use Rattle.std.specs.Prelude.{◌≡◌, ℕ, ◌<◌, true, false, List, [], ◌∷◌, Option, Some, None}
 use Rattle.p2p_discovery.specs.declared.types.ingress.Ingress.{Ingress}
-use Rattle.p2p_tracker.specs.Calls.{Setup, Call, Event}
+use Rattle.p2p_tracker.specs.Calls.{Settings, Call, Event}
 use Rattle.p2p_tracker.specs.Calls.Call.{Dial}
 use Rattle.p2p_tracker.specs.Calls.Direction.{Dialer}
 use Rattle.p2p_tracker.specs.Calls.Event.{Granted}
 use Rattle.p2p_tracker.specs.History.{same, is_in, taken_sets}
 use Rattle.p2p_tracker.specs.World.{world_at, past, event_in}
 
-module _ {C S : Type 0} (s : Setup C S) where
+module _ {C S : Type 0} (s : Settings C S) where
   -- p is none of these
   abbrev pub IsApart : C → List (C × ℕ) → Type 0
   IsApart p [] = Unit {0}

@@ -10,7 +10,7 @@ use Rattle.p2p_discovery.specs.declared.types.ingress.Ingress.{Ingress}
 use Rattle.p2p_discovery.specs.Ingress.{same_ingress}
 use Rattle.p2p_tracker.specs.Moments.{cap, moments_after}
 use Rattle.p2p_tracker.specs.declared.record.Status.{Status}
-use Rattle.p2p_tracker.specs.Calls.{Setup, SetAt, Direction, Grant, Cooldown, Event}
+use Rattle.p2p_tracker.specs.Calls.{Settings, SetAt, Direction, Grant, Cooldown, Event}
 use Rattle.p2p_tracker.specs.declared.record.Status.TheVariants.{Inert, Reserved, Active}
 use Rattle.p2p_tracker.specs.Calls.Direction.{Listener, Dialer}
 use Rattle.p2p_tracker.specs.Calls.Event.{Tracked, Granted, Connected, Released, Updated, Blocked}
@@ -80,7 +80,7 @@ abbrev pub is_dial_at : Ingress → Direction → Bool
 is_dial_at ingress Listener = false
 is_dial_at ingress (Dialer a) = same_ingress ingress a
 
-module _ {C S : Type 0} (s : Setup C S) where
+module _ {C S : Type 0} (s : Settings C S) where
   -- KEYS, an event's or a stored one first
 
   -- the keys compare as equal
@@ -192,13 +192,13 @@ module _ {C S : Type 0} (s : Setup C S) where
   infos_by p _ = []
 
   -- p's infos in the updates, in order
-  abbrev pub infos_in : C → List (Event C S) → List (Info C S)
-  infos_in p [] = []
-  infos_in p (e ∷ l) = infos_in p l ++ infos_by p e
+  abbrev pub infos_offered : C → List (Event C S) → List (Info C S)
+  infos_offered p [] = []
+  infos_offered p (e ∷ l) = infos_offered p l ++ infos_by p e
 
   -- of the own key the own info, of another the first of greatest timestamp in its life
   abbrev pub info_in : C → List (Event C S) → Option (Info C S)
-  info_in p l = if is_own p then Some s.own else first_greatest (infos_in p l)
+  info_in p l = if is_own p then Some s.own else first_greatest (infos_offered p l)
 
   -- the event e, after the events l, brought p's info
   abbrev pub is_brought_by : C → Event C S → List (Event C S) → Bool

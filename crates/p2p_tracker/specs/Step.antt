@@ -5,7 +5,7 @@ use Rattle.std.specs.Prelude.{Option, Some, None, nat_lt, nat_le, filter}
 use Rattle.p2p_discovery.specs.declared.discovery.Info.{Info}
 use Rattle.p2p_tracker.specs.Moments.{cap}
 use Rattle.p2p_tracker.specs.declared.record.Status.{Status}
-use Rattle.p2p_tracker.specs.Calls.{Setup, Call, SetAt, Direction, Grant, Cooldown, Event}
+use Rattle.p2p_tracker.specs.Calls.{Settings, Call, SetAt, Direction, Grant, Cooldown, Event}
 use Rattle.p2p_tracker.specs.declared.record.Status.TheVariants.{Inert, Reserved, Active}
 use Rattle.p2p_tracker.specs.Calls.Event.{Tracked, Granted, Connected, Released, Updated, Blocked}
 use Rattle.p2p_tracker.specs.Calls.Event.{Expired, Forgot}
@@ -13,7 +13,7 @@ use Rattle.p2p_tracker.specs.History.{last_of, same, is_own, is_present_with, is
 use Rattle.p2p_tracker.specs.History.{moments_of}
 use Rattle.p2p_tracker.specs.World.{Known, Peer, State, World, event_in}
 
-module _ {C S : Type 0} (s : Setup C S) where
+module _ {C S : Type 0} (s : Settings C S) where
   -- THE STEP
 
   -- a set that is taken is the latest, and at most so many of the latest stay

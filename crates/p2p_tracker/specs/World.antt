@@ -8,7 +8,7 @@ use Rattle.p2p_discovery.specs.declared.discovery.Info.{Info}
 use Rattle.p2p_discovery.specs.declared.types.ingress.Ingress.{Ingress}
 use Rattle.p2p_discovery.specs.Ingress.{is_valid}
 use Rattle.p2p_tracker.specs.declared.record.Status.{Status}
-use Rattle.p2p_tracker.specs.Calls.{Setup, Call, SetAt, Grant, Cooldown, Event}
+use Rattle.p2p_tracker.specs.Calls.{Settings, Call, SetAt, Grant, Cooldown, Event}
 use Rattle.p2p_tracker.specs.Calls.Call.{Track, Dial, Listen, Connect, Release, Update, Block}
 use Rattle.p2p_tracker.specs.Calls.Call.{UnblockExpired, ForgetCooled, Ask}
 use Rattle.p2p_tracker.specs.declared.record.Status.TheVariants.{Inert, Reserved, Active}
@@ -68,7 +68,7 @@ last_ingress_by cmp p (b ∷ bs) = elim (last_ingress_by cmp p bs) [
   | Some a ↦ Some a
 ]
 
-module _ {C S : Type 0} (s : Setup C S) where
+module _ {C S : Type 0} (s : Settings C S) where
   -- THE WORLD THAT A PAST MAKES
 
   -- what is known of p by its life

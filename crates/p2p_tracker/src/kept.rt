@@ -15,7 +15,8 @@ ghost use Rattle.p2p_tracker.specs.Private.Counts.{leaving_count};
 ghost use Rattle.p2p_tracker.specs.Private.Window.{SetWithBits, plain_set, plain_sets};
 ghost use Rattle.p2p_tracker.specs.Private.Window.{set_with_bits, set_at, has_primary};
 ghost use Rattle.p2p_tracker.specs.Private.Window.{with_bit_of, IsAscending};
-ghost use Rattle.p2p_tracker.specs.Private.Places.{IsIndexed, AreEarlier, bit_at, bits_at, walk};
+ghost use Rattle.p2p_tracker.specs.Private.Places.{IsIndexed, AreEarlier, bit_at, with_bits_at};
+ghost use Rattle.p2p_tracker.specs.Private.Places.{walk};
 ghost use Rattle.p2p_tracker.specs.Private.Places.{indices, has_index};
 
 use crate::kept::places::{Links, Place, Places};
@@ -397,7 +398,7 @@ fn set_bits<C: PublicKey>(
     requires few { length (walk (indices sets.old.items) links.now.items latest) ≤
         length sets.old.items }
     ensures sets { sets.new.items ≡
-        bits_at known (walk (indices sets.old.items) links.now.items latest) sets.old.items }
+        with_bits_at known (walk (indices sets.old.items) links.now.items latest) sets.old.items }
     ensures count { result ≡ length (walk (indices sets.old.items) links.now.items latest) }
 {
     let mut next = latest;

@@ -9,7 +9,7 @@ use Rattle.p2p_directory.specs.declared.node.exchanged.Exchanged.{Exchanged}
 use Rattle.p2p_directory.specs.declared.run.commands.Command.{Command}
 use Rattle.p2p_directory.specs.declared.run.commands.Reply.{Reply}
 use Rattle.p2p_directory.specs.Exchange.{IsExchanged}
-use Rattle.p2p_directory.specs.declared.node.Setup.{Setup as Given}
+use Rattle.p2p_directory.specs.declared.node.Setup.{Setup}
 use Rattle.p2p_directory.specs.Nodes.{NodeView, NodeStandsAt, made_of, IsStepped, IsReceived}
 use Rattle.p2p_directory.specs.Received.{Wire}
 use Rattle.play.specs.declared.session.label.Label.{Label}
@@ -60,7 +60,7 @@ exchanged_at {C} {S} cmp wire i j place s t r vs vs2 a b node lt lt2 others of_a
 
 -- A NEW NODE of a name and a setup
 
-module _ {C S : Type 0} (cmp : C → C → Ordering) (name : List ℕ) (given : Given C S)
+module _ {C S : Type 0} (cmp : C → C → Ordering) (name : List ℕ) (given : Setup C S)
     (s s2 : SessionView C S) (label : Label) (node : NodeView C S)
     (is_called : IsCalled name given label) (stands : NodeStandsAt (made_of cmp given) [] node) where
   -- in place of node i

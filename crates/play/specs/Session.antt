@@ -6,7 +6,7 @@ use Rattle.std.specs.List.{All}
 use Rattle.std.specs.Duration.{as_nanos}
 use Rattle.std.specs.declared.cmp.Ordering.{Ordering}
 use Rattle.p2p_directory.specs.declared.node.Received.{Received}
-use Rattle.p2p_directory.specs.declared.node.Setup.{Setup as Given}
+use Rattle.p2p_directory.specs.declared.node.Setup.{Setup}
 use Rattle.p2p_directory.specs.declared.node.exchanged.Exchanged.{Exchanged}
 use Rattle.p2p_directory.specs.declared.node.network.NetworkCommand.{NetworkCommand}
 use Rattle.p2p_directory.specs.declared.node.network.NetworkCommand.TheVariants as command
@@ -89,12 +89,12 @@ module _ {C S : Type 0} (cmp : C → C → Ordering) (wire : Wire C S) where
 -- A NEW NODE of a name and a setup: s before it, s2 after it
 
 -- the label has the name, and the namespace of the setup
-pub record IsCalled {C S : Type 0} (name : List ℕ) (given : Given C S) (label : Label) :
+pub record IsCalled {C S : Type 0} (name : List ℕ) (given : Setup C S) (label : Label) :
     Type 0 where
   pub name_is : string_bytes label.name ≡ name
   pub namespace_is : label.namespace.items ≡ given.namespace.items
 
-module _ {C S : Type 0} (cmp : C → C → Ordering) (name : List ℕ) (given : Given C S) where
+module _ {C S : Type 0} (cmp : C → C → Ordering) (name : List ℕ) (given : Setup C S) where
   -- a node has the name, and the new one stands in its place
   pub record Replaces (s s2 : SessionView C S) : Type 0 where
     pub i : ℕ

@@ -7,7 +7,7 @@ use Rattle.p2p_discovery.specs.declared.types.ingress.Ingress.TheVariants.{Socke
 use Rattle.p2p_discovery.specs.declared.types.socket.IpAddr.TheVariants.{V4}
 use Rattle.p2p_discovery.specs.Ingress.{is_valid}
 use Rattle.p2p_discovery.specs.Global.{is_global}
-use Rattle.p2p_tracker.specs.Calls.{Setup, Call, Event}
+use Rattle.p2p_tracker.specs.Calls.{Settings, Call, Event}
 use Rattle.p2p_tracker.specs.Calls.Call.{Track, Listen, Connect, Release, Update, Block, UnblockExpired}
 use Rattle.p2p_tracker.specs.declared.record.Status.TheVariants.{Inert, Reserved, Active}
 use Rattle.p2p_tracker.specs.Calls.Direction.{Dialer}
@@ -33,36 +33,36 @@ abbrev moments : (ℕ → Option ℕ) → List ℕ
 moments moment = filter_map moment keys
 
 -- what a call does after a past
-abbrev did : Setup ℕ ℕ → List (Event ℕ ℕ) → Call ℕ ℕ → Event ℕ ℕ
+abbrev did : Settings ℕ ℕ → List (Event ℕ ℕ) → Call ℕ ℕ → Event ℕ ℕ
 did s h c = event_in s (History.taken_sets s h) (world_at s h) c
 
 -- whether a dial or listen is granted, a track or block taken
-abbrev granted : Setup ℕ ℕ → List (Event ℕ ℕ) → Call ℕ ℕ → Bool
+abbrev granted : Settings ℕ ℕ → List (Event ℕ ℕ) → Call ℕ ℕ → Bool
 granted s h c = was_granted (did s h c)
 
-abbrev taken : Setup ℕ ℕ → List (Event ℕ ℕ) → Call ℕ ℕ → Bool
+abbrev taken : Settings ℕ ℕ → List (Event ℕ ℕ) → Call ℕ ℕ → Bool
 taken s h c = was_taken (did s h c)
 
-abbrev blocks : Setup ℕ ℕ → List (Event ℕ ℕ) → Call ℕ ℕ → Bool
+abbrev blocks : Settings ℕ ℕ → List (Event ℕ ℕ) → Call ℕ ℕ → Bool
 blocks s h c = was_blocked (did s h c)
 
 -- whom a track tears down
-abbrev torn : Setup ℕ ℕ → List (Event ℕ ℕ) → Call ℕ ℕ → List ℕ
+abbrev torn : Settings ℕ ℕ → List (Event ℕ ℕ) → Call ℕ ℕ → List ℕ
 torn s h c = those (is_torn_down s (world_at s h) (world_at s (past_after s h c)))
 
 abbrev at : List (Call ℕ ℕ) → List (Event ℕ ℕ)
 at cs = after_calls setup [] cs
 
-abbrev known_fails : Setup ℕ ℕ → List (Event ℕ ℕ) → ℕ → ℕ
+abbrev known_fails : Settings ℕ ℕ → List (Event ℕ ℕ) → ℕ → ℕ
 known_fails s h p = ((world_at s h).peer p).known.fails
 
-abbrev known_info : Setup ℕ ℕ → List (Event ℕ ℕ) → ℕ → Option (Info ℕ ℕ)
+abbrev known_info : Settings ℕ ℕ → List (Event ℕ ℕ) → ℕ → Option (Info ℕ ℕ)
 known_info s h p = ((world_at s h).peer p).known.info
 
-abbrev dial_moment : Setup ℕ ℕ → List (Event ℕ ℕ) → ℕ → ℕ
+abbrev dial_moment : Settings ℕ ℕ → List (Event ℕ ℕ) → ℕ → ℕ
 dial_moment s h p = dialable_from ((world_at s h).cooldown p)
 
-abbrev reservable : Setup ℕ ℕ → List (Event ℕ ℕ) → ℕ → ℕ
+abbrev reservable : Settings ℕ ℕ → List (Event ℕ ℕ) → ℕ → ℕ
 reservable s h p = reservable_from ((world_at s h).cooldown p)
 
 -- C1 the own key in a set
@@ -89,7 +89,7 @@ corner1 = (refl, refl, refl, refl, refl, refl, refl, refl, refl, refl, refl, ref
 abbrev boot : ℕ → Ingress
 boot port = Socket (record { ip = V4 (1 ∷ 2 ∷ 3 ∷ 4 ∷ []); port = port })
 
-abbrev setup2 : Setup ℕ ℕ
+abbrev setup2 : Settings ℕ ℕ
 setup2 = record setup { bootstrappers = (3, boot 1) ∷ (4, boot 2) ∷ (3, boot 3) ∷ (9, boot 4) ∷ [] }
 
 abbrev c2_a : List (Event ℕ ℕ)
@@ -121,7 +121,7 @@ unfolding History.life is_valid
 corner2 = (refl, refl, refl, refl, refl, refl, refl, refl, refl, refl, refl, refl, refl, refl, refl)
 
 -- C3 roles over two sets
-abbrev setup3 : Setup ℕ ℕ
+abbrev setup3 : Settings ℕ ℕ
 setup3 = record setup { max_sets = 2 }
 
 abbrev c3_a : List (Event ℕ ℕ)
@@ -205,7 +205,7 @@ unfolding History.life is_valid
 corner5 = (refl, refl, refl, refl, refl, refl, refl, refl, refl, refl, refl, refl)
 
 -- C6 moments
-abbrev setup6 : ℕ → Setup ℕ ℕ
+abbrev setup6 : ℕ → Settings ℕ ℕ
 setup6 cooldown = record setup { cooldown = cooldown }
 
 abbrev c6 : ℕ → ℕ → ℕ → List (Event ℕ ℕ)
@@ -280,7 +280,7 @@ unfolding History.life is_valid
 corner9 = (refl, refl, refl, refl, refl, refl, refl)
 
 -- C10 an own info of the future isn't shared yet; addresses that are not valid
-abbrev setup10 : Setup ℕ ℕ
+abbrev setup10 : Settings ℕ ℕ
 setup10 = record setup { own = record own { timestamp = 100_001 }; allow_private_ips = false; allow_dns = false }
 
 abbrev local : Info ℕ ℕ

@@ -3,7 +3,7 @@ use Rattle.std.proofs.Common.{◌≡◌, ℕ, ◌+◌, ◌-◌, ◌^◌, Bool, t
 use Rattle.std.specs.Prelude.{filter, filter_map}
 use Rattle.std.specs.Duration.{max_nanos}
 use Rattle.p2p_discovery.specs.Ingress.{is_valid}
-use Rattle.p2p_tracker.specs.Calls.{Setup, Call, Event}
+use Rattle.p2p_tracker.specs.Calls.{Settings, Call, Event}
 use Rattle.p2p_tracker.specs.Calls.Call.{Track, Dial, Listen, Connect, Release, Update, Block, UnblockExpired}
 use Rattle.p2p_tracker.specs.declared.record.Status.TheVariants.{Reserved}
 use Rattle.p2p_tracker.specs.History
@@ -27,21 +27,21 @@ abbrev moments : (ℕ → Option ℕ) → List ℕ
 moments moment = filter_map moment keys
 
 -- what a call does after a past
-abbrev did : Setup ℕ ℕ → List (Event ℕ ℕ) → Call ℕ ℕ → Event ℕ ℕ
+abbrev did : Settings ℕ ℕ → List (Event ℕ ℕ) → Call ℕ ℕ → Event ℕ ℕ
 did s h c = event_in s (History.taken_sets s h) (world_at s h) c
 
 -- whether a dial or listen is granted, a track or block taken
-abbrev granted : Setup ℕ ℕ → List (Event ℕ ℕ) → Call ℕ ℕ → Bool
+abbrev granted : Settings ℕ ℕ → List (Event ℕ ℕ) → Call ℕ ℕ → Bool
 granted s h c = was_granted (did s h c)
 
-abbrev taken : Setup ℕ ℕ → List (Event ℕ ℕ) → Call ℕ ℕ → Bool
+abbrev taken : Settings ℕ ℕ → List (Event ℕ ℕ) → Call ℕ ℕ → Bool
 taken s h c = was_taken (did s h c)
 
-abbrev blocks : Setup ℕ ℕ → List (Event ℕ ℕ) → Call ℕ ℕ → Bool
+abbrev blocks : Settings ℕ ℕ → List (Event ℕ ℕ) → Call ℕ ℕ → Bool
 blocks s h c = was_blocked (did s h c)
 
 -- whom a track tears down
-abbrev torn : Setup ℕ ℕ → List (Event ℕ ℕ) → Call ℕ ℕ → List ℕ
+abbrev torn : Settings ℕ ℕ → List (Event ℕ ℕ) → Call ℕ ℕ → List ℕ
 torn s h c = those (is_torn_down s (world_at s h) (world_at s (past_after s h c)))
 
 -- ROW 6: a set that leaves tears down its peer, whose record goes at the release, and its cooldown
@@ -121,7 +121,7 @@ row9 = (refl, refl, refl, refl)
 
 -- ROW 10: an odd cooldown is halved and rounded down; sums stop at the greatest moment
 
-abbrev setup10 : Setup ℕ ℕ
+abbrev setup10 : Settings ℕ ℕ
 setup10 = record setup { cooldown = 5 }
 
 abbrev row10_a : List (Event ℕ ℕ)
@@ -142,7 +142,7 @@ row10 = (refl, refl, refl, refl, refl, refl)
 
 -- ROW 11: a block with duration zero is taken, though nobody is then blocked
 
-abbrev setup11 : Setup ℕ ℕ
+abbrev setup11 : Settings ℕ ℕ
 setup11 = record setup { block_duration = 0 }
 
 abbrev row11_a : List (Event ℕ ℕ)
@@ -202,7 +202,7 @@ row13_b = after_calls setup row13_a (dial 1 100 ∷ Connect 1 true ∷ [])
 abbrev row13_c : List (Event ℕ ℕ)
 row13_c = after_calls setup row13_b (Release 1 ∷ [])
 
-abbrev setup13 : Setup ℕ ℕ
+abbrev setup13 : Settings ℕ ℕ
 setup13 = record setup { dial_fail_limit = 0 }
 
 abbrev row13_d : List (Event ℕ ℕ)
@@ -290,7 +290,7 @@ row18 = (refl, refl, refl, refl, refl, refl, refl, refl, refl)
 
 -- ROW 19: two roles
 
-abbrev setup19 : Setup ℕ ℕ
+abbrev setup19 : Settings ℕ ℕ
 setup19 = record setup { max_sets = 2 }
 
 abbrev row19_a : List (Event ℕ ℕ)

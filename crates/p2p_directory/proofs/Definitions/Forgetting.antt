@@ -5,7 +5,7 @@ use Rattle.std.specs.Duration.{max_nanos}
 use Rattle.p2p_discovery.specs.declared.types.ingress.Ingress.TheVariants.{Socket}
 use Rattle.p2p_discovery.specs.declared.types.socket.IpAddr.TheVariants.{V4}
 use Rattle.p2p_discovery.specs.Ingress.{is_valid}
-use Rattle.p2p_tracker.specs.Calls.{Setup, Call, Cooldown, Event}
+use Rattle.p2p_tracker.specs.Calls.{Settings, Call, Cooldown, Event}
 use Rattle.p2p_tracker.specs.Calls.Call.{Dial, Listen, Connect, Release, Block, UnblockExpired, ForgetCooled}
 use Rattle.p2p_tracker.specs.declared.record.Status.TheVariants.{Reserved, Active}
 use Rattle.p2p_tracker.specs.History
@@ -28,26 +28,26 @@ abbrev moments : (ℕ → Option ℕ) → List ℕ
 moments moment = filter_map moment keys
 
 -- what a call does after a past
-abbrev did : Setup ℕ ℕ → List (Event ℕ ℕ) → Call ℕ ℕ → Event ℕ ℕ
+abbrev did : Settings ℕ ℕ → List (Event ℕ ℕ) → Call ℕ ℕ → Event ℕ ℕ
 did s h c = event_in s (History.taken_sets s h) (world_at s h) c
 
 -- whether a dial or listen is granted, and a track taken
-abbrev granted : Setup ℕ ℕ → List (Event ℕ ℕ) → Call ℕ ℕ → Bool
+abbrev granted : Settings ℕ ℕ → List (Event ℕ ℕ) → Call ℕ ℕ → Bool
 granted s h c = was_granted (did s h c)
 
-abbrev taken : Setup ℕ ℕ → List (Event ℕ ℕ) → Call ℕ ℕ → Bool
+abbrev taken : Settings ℕ ℕ → List (Event ℕ ℕ) → Call ℕ ℕ → Bool
 taken s h c = was_taken (did s h c)
 
 -- whom a track tears down
-abbrev torn : Setup ℕ ℕ → List (Event ℕ ℕ) → Call ℕ ℕ → List ℕ
+abbrev torn : Settings ℕ ℕ → List (Event ℕ ℕ) → Call ℕ ℕ → List ℕ
 torn s h c = those (is_torn_down s (world_at s h) (world_at s (past_after s h c)))
 
 -- how many cooldowns a call to forget at t finds
-abbrev forgets : Setup ℕ ℕ → List (Event ℕ ℕ) → ℕ → ℕ
+abbrev forgets : Settings ℕ ℕ → List (Event ℕ ℕ) → ℕ → ℕ
 forgets s h t = number (is_cooled_at s (world_at s h) t)
 
 -- the moments that are kept of a key
-abbrev kept : Setup ℕ ℕ → List (Event ℕ ℕ) → ℕ → Option Cooldown
+abbrev kept : Settings ℕ ℕ → List (Event ℕ ℕ) → ℕ → Option Cooldown
 kept s h p = (world_at s h).cooldown p
 
 abbrev at : List (Call ℕ ℕ) → List (Event ℕ ℕ)
@@ -144,7 +144,7 @@ at_the_last_moment = (refl, refl, refl, refl, refl, refl)
 
 -- F4 a bootstrapper, which is present throughout: it is forgotten within its life, and then begins at the epoch again
 
-abbrev setup4 : Setup ℕ ℕ
+abbrev setup4 : Settings ℕ ℕ
 setup4 = record setup { bootstrappers = (3, Socket (record { ip = V4 (1 ∷ 2 ∷ 3 ∷ 4 ∷ []); port = 1 })) ∷ [] }
 
 abbrev f4 : List (Event ℕ ℕ)
@@ -217,7 +217,7 @@ forgets_all_cooled = (refl, refl, refl, refl, refl, refl, refl, refl, refl)
 
 -- F8 without a cooldown a grant is kept all the same, until it is forgotten
 
-abbrev setup8 : Setup ℕ ℕ
+abbrev setup8 : Settings ℕ ℕ
 setup8 = record setup { cooldown = 0 }
 
 abbrev f8 : List (Event ℕ ℕ)

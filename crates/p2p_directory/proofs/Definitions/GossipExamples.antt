@@ -10,7 +10,7 @@ use Rattle.p2p_discovery.specs.declared.discovery.PayloadConfig.{PayloadConfig}
 use Rattle.p2p_discovery.specs.declared.types.ingress.Ingress.TheVariants.{Socket}
 use Rattle.p2p_discovery.specs.declared.types.socket.IpAddr.TheVariants.{V4}
 use Rattle.p2p_discovery.specs.Ingress.{is_valid}
-use Rattle.p2p_tracker.specs.Calls.{Setup, Call}
+use Rattle.p2p_tracker.specs.Calls.{Settings, Call}
 use Rattle.p2p_tracker.specs.Calls.Call.{Track, Dial, Listen, Connect, Release, Update, Block, UnblockExpired, Ask}
 use Rattle.p2p_tracker.specs.Calls.Question.{StatusOf}
 use Rattle.p2p_tracker.specs.History
@@ -20,7 +20,7 @@ use Rattle.p2p_directory.specs.Received.{Wire, Standing, wire_of}
 use Rattle.p2p_directory.specs.Nodes.{Made, standing_in}
 use Rattle.p2p_directory.specs.Exchange as exchange
 use Rattle.p2p_directory.specs.Exchange.{exchanged_at}
-use Rattle.p2p_directory.specs.Exchange.Outcome.{NoSet, AskRefused, Malformed, ReplyRefused, Invalid, Applied}
+use Rattle.p2p_directory.specs.Exchange.ExchangeOutcome.{NoSet, AskRefused, Malformed, ReplyRefused, Invalid, Applied}
 use Rattle.p2p_directory.specs.Laws.Gossip.{wanted_infos}
 use Rattle.p2p_directory.specs.Laws.Isolation.{left_for}
 use Rattle.p2p_directory.proofs.Definitions.Setting.{sec, info_at, info, own, setup, after_calls, track, listen, dial}
@@ -74,7 +74,7 @@ at m cs = world_at m.directory (after_calls m.directory [] cs)
 abbrev pub stands : Made ℕ ℕ → List (Call ℕ ℕ) → Standing ℕ ℕ
 stands m cs = standing_in m wire (at m cs)
 
-abbrev pub x : Made ℕ ℕ → List (Call ℕ ℕ) → Made ℕ ℕ → List (Call ℕ ℕ) → ℕ → ℕ → ℕ → exchange.Outcome ℕ ℕ
+abbrev pub x : Made ℕ ℕ → List (Call ℕ ℕ) → Made ℕ ℕ → List (Call ℕ ℕ) → ℕ → ℕ → ℕ → exchange.ExchangeOutcome ℕ ℕ
 x a cs r ds place s t = exchanged_at (stands a cs) (stands r ds) place s t
 
 abbrev pub asker_calls : List (Call ℕ ℕ)
@@ -159,16 +159,16 @@ wants_less = (refl, refl, refl, refl, refl)
 
 -- ---- one directory: corners that no other file computes
 
-abbrev with_boot : ℕ → Setup ℕ ℕ
+abbrev with_boot : ℕ → Settings ℕ ℕ
 with_boot port = record setup { bootstrappers = (1, Socket (record { ip = V4 (1 ∷ 2 ∷ 3 ∷ 4 ∷ []); port = port })) ∷ [] }
 
-abbrev fails : Setup ℕ ℕ → List (Call ℕ ℕ) → ℕ → ℕ
+abbrev fails : Settings ℕ ℕ → List (Call ℕ ℕ) → ℕ → ℕ
 fails s cs p = ((world_at s (after_calls s [] cs)).peer p).known.fails
 
-abbrev granted : Setup ℕ ℕ → List (Call ℕ ℕ) → Call ℕ ℕ → Bool
+abbrev granted : Settings ℕ ℕ → List (Call ℕ ℕ) → Call ℕ ℕ → Bool
 granted s cs c = let h = after_calls s [] cs in was_granted (event_in s (History.taken_sets s h) (world_at s h) c)
 
-abbrev world_after_calls : Setup ℕ ℕ → List (Call ℕ ℕ) → World ℕ ℕ
+abbrev world_after_calls : Settings ℕ ℕ → List (Call ℕ ℕ) → World ℕ ℕ
 world_after_calls s cs = world_at s (after_calls s [] cs)
 
 failure_corners :
@@ -192,7 +192,7 @@ failure_corners :
 unfolding History.life is_valid
 failure_corners = (refl, refl, refl, refl, refl, refl, refl, refl)
 
-abbrev no_cooldown : Setup ℕ ℕ
+abbrev no_cooldown : Settings ℕ ℕ
 no_cooldown = record setup { cooldown = 0 }
 
 moment_corners :

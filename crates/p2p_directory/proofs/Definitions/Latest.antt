@@ -3,7 +3,7 @@ use Rattle.std.proofs.Common.{◌≡◌, ℕ, suc, ◌+◌, Bool, true, false, �
 use Rattle.std.specs.Prelude.{nat_lt}
 use Rattle.std.specs.List.{list_all, last_or}
 use Rattle.std.proofs.lemmas.List.{drop-drop, length-drop}
-use Rattle.p2p_tracker.specs.Calls.{Setup, Call, SetAt}
+use Rattle.p2p_tracker.specs.Calls.{Settings, Call, SetAt}
 use Rattle.p2p_tracker.specs.History
 use Rattle.p2p_tracker.specs.World
 use Rattle.p2p_directory.proofs.Definitions.Law.{below, Decided, decided_past}
@@ -33,7 +33,7 @@ decided_drop j xs d = λ index k lt.
     let size = length-drop j xs in
     ap (list_all (below index)) (drop-drop k j xs) ∙ d index (j + k) (omega (arith, size, lt)) ∙ sym (d index j (omega (arith, size, lt)))
 
-module _ {C S : Type 0} (s : Setup C S) where
+module _ {C S : Type 0} (s : Settings C S) where
   -- what is above the latest retained set is above each retained set
   pub latest_decides : (cs : List (Call C S)) (index : ℕ) →
       list_all (λ x. nat_lt x.index index) (History.retained_sets s (World.past s cs))

@@ -9,7 +9,7 @@ use Rattle.std.proofs.lemmas.List.Folds.{list_all-append}
 use Rattle.std.proofs.lemmas.Bool.{ltb-true, lt-ltb, and_parts, and_from}
 use Rattle.p2p_discovery.specs.declared.types.ingress.Ingress.{Ingress}
 use Rattle.p2p_tracker.specs.declared.record.Status.{Status}
-use Rattle.p2p_tracker.specs.Calls.{Setup, Call, SetAt, Grant, Event}
+use Rattle.p2p_tracker.specs.Calls.{Settings, Call, SetAt, Grant, Event}
 use Rattle.p2p_tracker.specs.Calls.Call.{Track, Dial, Listen, Connect, Release, Update, Block, UnblockExpired, ForgetCooled, Ask}
 use Rattle.p2p_tracker.specs.declared.record.Status.TheVariants.{Inert, Reserved, Active}
 use Rattle.p2p_tracker.specs.Calls.Event.{Nothing, Tracked, Blocked}
@@ -57,7 +57,7 @@ decided_push xs top e index k lt =
     ∙ top_decides (drop k xs) top index (all_drop (below top.index) k xs e)
     ∙ sym (top_decides xs top index e)
 
-module _ {C S : Type 0} (s : Setup C S) where
+module _ {C S : Type 0} (s : Settings C S) where
   decided_same : (xs : List (SetAt C)) → Decided xs → Decided (xs ++ [])
   decided_same xs d = subst Decided (sym (append-nil xs)) d
 

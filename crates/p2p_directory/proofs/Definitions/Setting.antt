@@ -4,7 +4,7 @@ use Rattle.std.specs.Ordering.{nat_cmp}
 use Rattle.p2p_discovery.specs.declared.discovery.Info.{Info}
 use Rattle.p2p_discovery.specs.declared.types.ingress.Ingress.TheVariants.{Socket}
 use Rattle.p2p_discovery.specs.declared.types.socket.IpAddr.TheVariants.{V4}
-use Rattle.p2p_tracker.specs.Calls.{Setup, Call, Event}
+use Rattle.p2p_tracker.specs.Calls.{Settings, Call, Event}
 use Rattle.p2p_tracker.specs.Calls.Call.{Track, Dial, Listen, Update}
 use Rattle.p2p_tracker.specs.World.{past_after, past}
 
@@ -33,7 +33,7 @@ own = record {
   signature = 0;
 }
 
-abbrev pub setup : Setup ℕ ℕ
+abbrev pub setup : Settings ℕ ℕ
 setup = record {
   cmp = nat_cmp;
   own = own;
@@ -47,7 +47,7 @@ setup = record {
 }
 
 -- the past after these calls, the first of them first
-abbrev pub after_calls : Setup ℕ ℕ → List (Event ℕ ℕ) → List (Call ℕ ℕ) → List (Event ℕ ℕ)
+abbrev pub after_calls : Settings ℕ ℕ → List (Event ℕ ℕ) → List (Call ℕ ℕ) → List (Event ℕ ℕ)
 after_calls s h [] = h
 after_calls s h (c ∷ cs) = after_calls s (past_after s h c) cs
 
@@ -57,7 +57,7 @@ newest_first [] ds = ds
 newest_first (c ∷ cs) ds = newest_first cs (c ∷ ds)
 
 -- .. it is the past that the calls make
-pub is_past : (s : Setup ℕ ℕ) (cs ds : List (Call ℕ ℕ)) → after_calls s (past s ds) cs ≡ past s (newest_first cs ds)
+pub is_past : (s : Settings ℕ ℕ) (cs ds : List (Call ℕ ℕ)) → after_calls s (past s ds) cs ≡ past s (newest_first cs ds)
 is_past s [] ds = refl
 is_past s (c ∷ cs) ds = is_past s cs (c ∷ ds)
 

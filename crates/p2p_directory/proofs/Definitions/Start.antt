@@ -1,6 +1,6 @@
 -- The world before any call.
 use Rattle.std.proofs.Common.{◌≡◌, ℕ, zero, suc, ◌-◌, List, [], drop, None, refl}
-use Rattle.p2p_tracker.specs.Calls.{Setup, SetAt}
+use Rattle.p2p_tracker.specs.Calls.{Settings, SetAt}
 use Rattle.p2p_tracker.specs.declared.record.Status.TheVariants.{Inert}
 use Rattle.p2p_tracker.specs.History
 use Rattle.p2p_tracker.specs.World
@@ -8,7 +8,7 @@ use Rattle.p2p_tracker.specs.Step
 use Rattle.p2p_tracker.specs.World.{World}
 use Rattle.p2p_tracker.proofs.Definitions.Knowledge
 
-module _ {C S : Type 0} (s : Setup C S) where
+module _ {C S : Type 0} (s : Settings C S) where
   -- nothing is retained, reserved, blocked or cooling down, and of each key only what is known of a new peer
   abbrev pub new_world : World C S
   new_world = record {

@@ -3,7 +3,7 @@ use Rattle.std.proofs.Common.{◌≡◌, ℕ, ◌+◌, ◌-◌, Bool, true, fals
 use Rattle.std.specs.Prelude.{if◌then◌else◌, nat_le, option_map}
 use Rattle.std.specs.List.{list_any}
 use Rattle.std.proofs.lemmas.List.{append-nil, drop-append-le, drop-drop, length-append, length-drop}
-use Rattle.p2p_tracker.specs.Calls.{Setup, Grant, Event}
+use Rattle.p2p_tracker.specs.Calls.{Settings, Grant, Event}
 use Rattle.p2p_tracker.specs.declared.record.Status.TheVariants.{Inert, Reserved, Active}
 use Rattle.p2p_tracker.specs.Calls.Event.{Nothing, Tracked, Granted, Connected, Released, Updated, Blocked, Expired, Forgot}
 use Rattle.p2p_tracker.specs.Moments.{cap}
@@ -47,7 +47,7 @@ lasting_step {E} {A} gives ends e h = go (gives e) (last_with gives h)
         ended a true = elim (ends a e) as (λ b. (if b || true then None else Some a) ≡ None) [ true ↦ refl | false ↦ refl ]
         ended a false = elim (ends a e) as (λ b. (if b || false then None else Some a) ≡ (if b then None else Some a)) [ true ↦ refl | false ↦ refl ]
 
-module _ {C S : Type 0} (s : Setup C S) where
+module _ {C S : Type 0} (s : Settings C S) where
   pub retained_step : (e : Event C S) (h : List (Event C S)) → History.retained_sets s (e ∷ h) ≡ Step.sets_after s e (History.retained_sets s h)
   retained_step (Tracked taken) h = last_of-push s.max_sets (History.taken_sets s h) taken
   retained_step Nothing h = ap (last_of s.max_sets) (append-nil (History.taken_sets s h))

@@ -2,7 +2,7 @@
 use Rattle.std.proofs.Common.{◌≡◌, ℕ, Bool, true, false, not, ◌&&◌, List, Option}
 use Rattle.std.specs.Prelude.{nat_le}
 use Rattle.std.proofs.lemmas.Bool.{and_parts, and_from}
-use Rattle.p2p_tracker.specs.Calls.{Setup, SetAt, Cooldown}
+use Rattle.p2p_tracker.specs.Calls.{Settings, SetAt, Cooldown}
 use Rattle.p2p_tracker.specs.History.{is_entitled, is_inert}
 use Rattle.p2p_tracker.specs.World
 use Rattle.p2p_tracker.specs.World.{Peer, may_dial, may_listen, is_target, is_valid_address}
@@ -25,7 +25,7 @@ target_parts e i v g h =
 pub all_of : (e i b d : Bool) → e ≡ true → i ≡ true → b ≡ true → d ≡ true → (e && i && b && d) ≡ true
 all_of e i b d he hi hb hd = and_from (e && i && b) d (and_from (e && i) b (and_from e i he hi) hb) hd
 
-module _ {C S : Type 0} (s : Setup C S) (p : C) (sets : List (SetAt C)) (peer : Peer C S) where
+module _ {C S : Type 0} (s : Settings C S) (p : C) (sets : List (SetAt C)) (peer : Peer C S) where
   abbrev pub IsTarget : Type 0
   IsTarget = TargetParts (is_entitled s p sets) (is_inert peer.status)
       (is_valid_address s (address_with s p peer.known.info)) (is_dial_target s p sets)

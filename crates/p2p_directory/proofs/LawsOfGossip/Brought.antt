@@ -6,7 +6,7 @@ use Rattle.std.specs.List.{AllByRecursion}
 use Rattle.p2p_discovery.specs.declared.discovery.Info.{Info}
 use Rattle.p2p_directory.specs.declared.node.exchanged.Exchanged.{Exchanged}
 use Rattle.p2p_directory.specs.declared.node.exchanged.Exchanged.TheVariants as exchanged
-use Rattle.p2p_tracker.specs.Calls.{Setup, Call, SetAt}
+use Rattle.p2p_tracker.specs.Calls.{Settings, Call, SetAt}
 use Rattle.p2p_tracker.specs.Calls.Call.{Track, Dial, Listen, Connect, Release, Update, Block}
 use Rattle.p2p_tracker.specs.Calls.Call.{UnblockExpired, ForgetCooled, Ask}
 use Rattle.p2p_tracker.specs.History
@@ -16,10 +16,10 @@ use Rattle.p2p_tracker.specs.Answers.{set_at_place, set_with_index}
 use Rattle.p2p_directory.specs.Run.{world_after}
 use Rattle.p2p_directory.specs.Received.{Wire}
 use Rattle.p2p_directory.specs.Exchange
-use Rattle.p2p_directory.specs.Exchange.{Outcome, infos_applied}
-use Rattle.p2p_directory.specs.Exchange.Outcome.{Applied}
+use Rattle.p2p_directory.specs.Exchange.{ExchangeOutcome, infos_applied}
+use Rattle.p2p_directory.specs.Exchange.ExchangeOutcome.{Applied}
 use Rattle.p2p_directory.specs.Nodes.{Made, standing_in}
-use Rattle.p2p_directory.specs.Laws.Gossip.{Gives, IsUpToDate, wanted_infos}
+use Rattle.p2p_directory.specs.Laws.Gossip.{GivesOnly, IsUpToDate, wanted_infos}
 use Rattle.p2p_directory.proofs.Definitions.Law
 use Rattle.p2p_directory.proofs.LawsOfGossip.Lists.{all_weaker, from_members}
 use Rattle.p2p_directory.proofs.LawsOfGossip.Infos
@@ -29,7 +29,7 @@ use Rattle.p2p_directory.proofs.LawsOfGossip.Repeated
 -- WHAT WAS GIVEN, under a weaker property
 
 module _ {C S : Type 0} (P Q : Info C S → Type 0) (weaker : (i : Info C S) → P i → Q i) where
-  pub gives_weaker : (c : Call C S) → Gives P c → Gives Q c
+  pub gives_weaker : (c : Call C S) → GivesOnly P c → GivesOnly Q c
   gives_weaker (Update infos) h = all_weaker P Q weaker infos h
   gives_weaker (Track index primary secondary) h = tt
   gives_weaker (Dial p t draw) h = tt
@@ -41,11 +41,11 @@ module _ {C S : Type 0} (P Q : Info C S → Type 0) (weaker : (i : Info C S) →
   gives_weaker (ForgetCooled t) h = tt
   gives_weaker (Ask question) h = tt
 
-  pub given_weaker : (s : Setup C S) (cs : List (Call C S)) → Infos.AreGiven s P cs →
+  pub given_weaker : (s : Settings C S) (cs : List (Call C S)) → Infos.AreGiven s P cs →
       Infos.AreGiven s Q cs
   given_weaker s cs h = record {
     own = weaker s.own h.own;
-    calls = all_weaker (Gives P) (Gives Q) gives_weaker cs h.calls;
+    calls = all_weaker (GivesOnly P) (GivesOnly Q) gives_weaker cs h.calls;
   }
 
 -- ANSWERS
@@ -53,12 +53,12 @@ module _ {C S : Type 0} (P Q : Info C S → Type 0) (weaker : (i : Info C S) →
 module _ {C S : Type 0} where
   content : (xs ys : List (Info C S)) → Applied xs ≡ Applied ys → xs ≡ ys
   content xs ys e =
-      let infos : Outcome C S → List (Info C S) = λ o. elim o [ Applied zs ↦ zs | _ ↦ xs ] in
+      let infos : ExchangeOutcome C S → List (Info C S) = λ o. elim o [ Applied zs ↦ zs | _ ↦ xs ] in
       ap infos e
 
   -- the answer where an exchange comes to applied infos
-  pub applied_or_memory : (r : Exchanged C S) (may : Bool) (o : Outcome C S)
-      (infos : List (Info C S)) → Exchange.IsAnswer may o r → o ≡ Applied infos →
+  pub applied_or_memory : (r : Exchanged C S) (may : Bool) (o : ExchangeOutcome C S)
+      (infos : List (Info C S)) → Exchange.IsExchangeAnswer may o r → o ≡ Applied infos →
       (infos_applied r ≡ Some infos) ⊎ (r ≡ exchanged.Memory)
   applied_or_memory (exchanged.Applied xs) may o infos is e =
       inl (ap Some (content xs.items infos (sym is ∙ e)))
@@ -87,7 +87,7 @@ module _ {C S : Type 0} (wire : Wire C S) (asker replier : Made C S)
   abbrev v : World C S
   v = world_after replier.directory ds
 
-  abbrev coming : World C S → Outcome C S
+  abbrev coming : World C S → ExchangeOutcome C S
   coming u = Exchange.exchanged_at (standing_in asker wire u) (standing_in replier wire v) place
       asker_now replier_now
 

@@ -19,7 +19,7 @@ use Rattle.p2p_tracker.specs.Answers.{infos_for, shared_infos, wants, wants_with
 use Rattle.p2p_directory.specs.Run.{world_after, bit_vec_of}
 use Rattle.p2p_directory.specs.Received.{Wire}
 use Rattle.p2p_directory.specs.Exchange
-use Rattle.p2p_directory.specs.Exchange.Outcome.{AskRefused, ReplyRefused, Applied}
+use Rattle.p2p_directory.specs.Exchange.ExchangeOutcome.{AskRefused, ReplyRefused, Applied}
 use Rattle.p2p_directory.specs.Nodes.{Made, standing_in}
 use Rattle.p2p_directory.specs.Laws.Gossip.{IsUpToDate, wanted_info, wanted_infos}
 use Rattle.p2p_directory.proofs.LawsOfGossip.Lists.{Member, from_members, member_filter_map}

@@ -13,14 +13,14 @@ use Rattle.p2p_directory.specs.declared.node.exchanged.Exchanged.TheVariants as 
 use Rattle.p2p_tracker.specs.Calls.{Call}
 use Rattle.p2p_directory.specs.Received.{Standing}
 use Rattle.p2p_directory.specs.Exchange
-use Rattle.p2p_directory.specs.Exchange.{Outcome}
-use Rattle.p2p_directory.specs.Exchange.Outcome.{AskRefused, ReplyRefused, Applied}
+use Rattle.p2p_directory.specs.Exchange.{ExchangeOutcome}
+use Rattle.p2p_directory.specs.Exchange.ExchangeOutcome.{AskRefused, ReplyRefused, Applied}
 use Rattle.p2p_directory.specs.Nodes.{calls_with}
-use Rattle.p2p_directory.specs.Laws.Gossip.{Gives}
+use Rattle.p2p_directory.specs.Laws.Gossip.{GivesOnly}
 
 module _ {C S : Type 0} (P : Info C S → Type 0) where
   -- P holds of each info that is applied
-  abbrev pub Brings : Outcome C S → Type 0
+  abbrev pub Brings : ExchangeOutcome C S → Type 0
   Brings (Applied infos) = AllByRecursion P infos
   Brings _ = Unit {0}
 
@@ -58,9 +58,9 @@ module _ {C S : Type 0} (P : Info C S → Type 0) where
       asked None = tt
       asked (Some v) = read v (nat_lt b.limits.max_bit_vec (length v.bits))
 
-  pub gives_with : (r : Exchanged C S) (may : Bool) (o : Outcome C S) (calls : List (Call C S)) →
-      Exchange.IsAnswer may o r → Brings o → AllByRecursion (Gives P) calls →
-      AllByRecursion (Gives P) (calls_with (Exchange.infos_applied r) calls)
+  pub gives_with : (r : Exchanged C S) (may : Bool) (o : ExchangeOutcome C S) (calls : List (Call C S)) →
+      Exchange.IsExchangeAnswer may o r → Brings o → AllByRecursion (GivesOnly P) calls →
+      AllByRecursion (GivesOnly P) (calls_with (Exchange.infos_applied r) calls)
   gives_with (exchanged.Applied infos) may o calls is h before = (subst Brings is h, before)
   gives_with exchanged.NoSet may o calls is h before = before
   gives_with (exchanged.AskRefused fault) may o calls is h before = before
@@ -70,7 +70,7 @@ module _ {C S : Type 0} (P : Info C S → Type 0) where
   gives_with exchanged.Memory may o calls is h before = before
 
   -- one more call, or none
-  pub gives_if : (b : Bool) (c : Call C S) (calls : List (Call C S)) → (b ≡ true → Gives P c) →
-      AllByRecursion (Gives P) calls → AllByRecursion (Gives P) (if b then c ∷ calls else calls)
+  pub gives_if : (b : Bool) (c : Call C S) (calls : List (Call C S)) → (b ≡ true → GivesOnly P c) →
+      AllByRecursion (GivesOnly P) calls → AllByRecursion (GivesOnly P) (if b then c ∷ calls else calls)
   gives_if true c calls h before = (h refl, before)
   gives_if false c calls h before = before

@@ -12,12 +12,12 @@ use Rattle.p2p_discovery.specs.Reading.{whole, ends_whole}
 use Rattle.p2p_directory.specs.declared.node.Received.{Received}
 use Rattle.p2p_directory.specs.declared.node.Received.TheVariants as received
 use Rattle.p2p_directory.specs.Received as frames
-use Rattle.p2p_directory.specs.Received.{Outcome}
+use Rattle.p2p_directory.specs.Received.{FrameOutcome}
 
 module _ {C S : Type 0} where
   -- an answer is the one that is said, or want of memory
-  pub answer_or_memory : (r : Received) (may : Bool) (o : Outcome C S) (said : Received) →
-      frames.IsAnswer may o r → o.answer ≡ said → (r ≡ said) ⊎ (r ≡ received.Memory)
+  pub answer_or_memory : (r : Received) (may : Bool) (o : FrameOutcome C S) (said : Received) →
+      frames.IsFrameAnswer may o r → o.answer ≡ said → (r ≡ said) ⊎ (r ≡ received.Memory)
   answer_or_memory received.Memory may o said is e = inr refl
   answer_or_memory (received.Data message) may o said is e = inl (is ∙ e)
   answer_or_memory received.Greeted may o said is e = inl (is ∙ e)

@@ -7,7 +7,7 @@ use Rattle.p2p_discovery.specs.declared.discovery.Info.{Info}
 use Rattle.p2p_discovery.specs.declared.types.ingress.Ingress.{Ingress}
 use Rattle.p2p_tracker.specs.declared.record.Status.{Status}
 use Rattle.p2p_tracker.specs.declared.record.Status.TheVariants.{Inert, Reserved, Active}
-use Rattle.p2p_tracker.specs.Calls.{Setup, Call, SetAt, Grant, Event}
+use Rattle.p2p_tracker.specs.Calls.{Settings, Call, SetAt, Grant, Event}
 use Rattle.p2p_tracker.specs.Calls.Call.{Track, Dial, Listen, Connect, Release, Update, Block}
 use Rattle.p2p_tracker.specs.Calls.Call.{UnblockExpired, ForgetCooled, Ask}
 use Rattle.p2p_tracker.specs.Calls.Event.{Nothing, Tracked, Granted, Connected, Released, Updated}
@@ -16,22 +16,22 @@ use Rattle.p2p_tracker.specs.History
 use Rattle.p2p_tracker.specs.World
 use Rattle.p2p_tracker.specs.World.{World}
 use Rattle.p2p_tracker.specs.Answers
-use Rattle.p2p_directory.specs.Laws.Gossip.{Gives}
+use Rattle.p2p_directory.specs.Laws.Gossip.{GivesOnly}
 use Rattle.p2p_directory.proofs.LawsOfGossip.Lists.{inside, all_append, all_filter, from_members}
 use Rattle.p2p_directory.proofs.LawsOfGossip.Lists.{member_filter_map}
 
-module _ {C S : Type 0} (s : Setup C S) (P : Info C S → Type 0) where
+module _ {C S : Type 0} (s : Settings C S) (P : Info C S → Type 0) where
   -- P holds of the own info, and of each info that these calls give
   pub record AreGiven (cs : List (Call C S)) : Type 0 where
     pub own : P s.own
-    pub calls : AllByRecursion (Gives P) cs
+    pub calls : AllByRecursion (GivesOnly P) cs
 
   -- P holds of each info that an event brought
   abbrev pub Brings : Event C S → Type 0
   Brings (Updated infos) = AllByRecursion P infos
   Brings _ = Unit {0}
 
-  brings_call : (sets : List (SetAt C)) (w : World C S) (c : Call C S) → Gives P c →
+  brings_call : (sets : List (SetAt C)) (w : World C S) (c : Call C S) → GivesOnly P c →
       Brings (World.event_in s sets w c)
   brings_call sets w (Update infos) h = h
   brings_call sets w (Track index primary secondary) h = go _ _
@@ -71,7 +71,7 @@ module _ {C S : Type 0} (s : Setup C S) (P : Info C S → Type 0) where
   brings_call sets w (ForgetCooled t) h = tt
   brings_call sets w (Ask question) h = tt
 
-  pub brings_past : (cs : List (Call C S)) → AllByRecursion (Gives P) cs →
+  pub brings_past : (cs : List (Call C S)) → AllByRecursion (GivesOnly P) cs →
       AllByRecursion Brings (World.past s cs)
   brings_past [] h = tt
   brings_past (c ∷ cs) h = (
@@ -107,9 +107,9 @@ module _ {C S : Type 0} (s : Setup C S) (P : Info C S → Type 0) where
   of_event p (Forgot t) h = tt
 
   of_life : (p : C) (l : List (Event C S)) → AllByRecursion Brings l →
-      AllByRecursion (IsOf p) (History.infos_in s p l)
+      AllByRecursion (IsOf p) (History.infos_offered s p l)
   of_life p [] h = tt
-  of_life p (e ∷ l) h = all_append (IsOf p) (History.infos_in s p l) (History.infos_by s p e)
+  of_life p (e ∷ l) h = all_append (IsOf p) (History.infos_offered s p l) (History.infos_by s p e)
       (of_life p l h.1) (of_event p e h.0)
 
   of_best : (Q : Info C S → Type 0) (is : List (Info C S)) → AllByRecursion Q is → (i : Info C S) →
@@ -131,10 +131,10 @@ module _ {C S : Type 0} (s : Setup C S) (P : Info C S → Type 0) where
   known_of p l own h i e = go (History.is_own s p) refl e
     where
       go : (b : Bool) → History.is_own s p ≡ b →
-          (if b then Some s.own else History.first_greatest (History.infos_in s p l)) ≡ Some i →
+          (if b then Some s.own else History.first_greatest (History.infos_offered s p l)) ≡ Some i →
           IsOf p i
       go true f g = subst (IsOf p) (inside s.own i g) (own, f)
-      go false f g = of_best (IsOf p) (History.infos_in s p l) (of_life p l h) i g
+      go false f g = of_best (IsOf p) (History.infos_offered s p l) (of_life p l h) i g
 
   -- what is known of a peer
   pub known_is_given : (cs : List (Call C S)) → AreGiven cs → (p : C) (i : Info C S) →

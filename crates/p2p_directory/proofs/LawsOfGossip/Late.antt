@@ -23,7 +23,7 @@ use Rattle.p2p_tracker.specs.Step
 use Rattle.p2p_tracker.specs.Answers.{is_present_in}
 use Rattle.p2p_directory.specs.Run.{world_after}
 use Rattle.p2p_directory.specs.Received as frames
-use Rattle.p2p_directory.specs.Received.{Wire, Outcome, wire_of, applying, taken, read_at}
+use Rattle.p2p_directory.specs.Received.{Wire, FrameOutcome, wire_of, applying, taken, read_at}
 use Rattle.p2p_directory.specs.Received.{received_at, applied_with}
 use Rattle.p2p_directory.specs.Nodes.{Made, standing_in, calls_with}
 use Rattle.p2p_directory.specs.Laws.Gossip.{IsMade, IsUpToDate}
@@ -109,16 +109,16 @@ module _ {C S : Type 0} {key_size signature_size : ℕ} {key : C → List ℕ} {
           IsUpToDate (world calls) i) infos known)
 
       module _ (calls : List (Call C S)) where
-        abbrev coming : Outcome C S
+        abbrev coming : FrameOutcome C S
         coming = received_at wire (standing_in m wire (world calls)) frame now
 
         abbrev once : Received
         once = received.Applied (length infos)
 
-        is_taken : (r : Received) (may : Bool) → frames.IsAnswer may coming r →
+        is_taken : (r : Received) (may : Bool) → frames.IsFrameAnswer may coming r →
             IsTaken m calls infos r (calls_with (applied_with coming r) calls)
         is_taken r may is = go (answer_or_memory r may coming (received.Applied (length infos)) is
-            (ap (λ (o : Outcome C S). o.answer) (applied (world calls))))
+            (ap (λ (o : FrameOutcome C S). o.answer) (applied (world calls))))
           where
             go : (r ≡ once) ⊎ (r ≡ received.Memory) →
                 IsTaken m calls infos r (calls_with (applied_with coming r) calls)
@@ -145,7 +145,7 @@ module _ {C S : Type 0} {key_size signature_size : ℕ} {key : C → List ℕ} {
     -- a frame after any calls
     pub takes_late : (calls : List (Call C S)) (frame : List ℕ) (now : ℕ) (r : Received)
         (may : Bool) →
-        frames.IsAnswer may
+        frames.IsFrameAnswer may
         (received_at wire (standing_in m wire (world calls)) frame now) r →
         TakesLate wire IsKey IsSignature m calls frame now r (calls_with (applied_with
         (received_at wire (standing_in m wire (world calls)) frame now) r) calls)

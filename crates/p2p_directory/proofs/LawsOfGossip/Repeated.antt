@@ -6,7 +6,7 @@ use Rattle.std.proofs.lemmas.Bool.{leb-true, le-leb}
 use Rattle.p2p_discovery.specs.declared.discovery.Info.{Info}
 use Rattle.p2p_tracker.specs.declared.record.Status.{Status}
 use Rattle.p2p_tracker.specs.declared.record.Status.TheVariants.{Inert, Reserved, Active}
-use Rattle.p2p_tracker.specs.Calls.{Setup, Call, SetAt}
+use Rattle.p2p_tracker.specs.Calls.{Settings, Call, SetAt}
 use Rattle.p2p_tracker.specs.Calls.Call.{Update}
 use Rattle.p2p_tracker.specs.History
 use Rattle.p2p_tracker.specs.World.{World, Known}
@@ -16,7 +16,7 @@ use Rattle.p2p_tracker.specs.Answers.{wants_with, epoch_millis}
 use Rattle.p2p_directory.specs.Run.{world_after}
 use Rattle.p2p_directory.specs.Received.{Wire}
 use Rattle.p2p_directory.specs.Exchange
-use Rattle.p2p_directory.specs.Exchange.Outcome.{Applied}
+use Rattle.p2p_directory.specs.Exchange.ExchangeOutcome.{Applied}
 use Rattle.p2p_directory.specs.Nodes.{Made, standing_in}
 use Rattle.p2p_directory.specs.Laws.Gossip.{wanted_info, wanted_infos}
 use Rattle.p2p_tracker.proofs.Definitions.Knowledge
@@ -27,7 +27,7 @@ use Rattle.p2p_directory.proofs.LawsOfGossip.Updates
 use Rattle.p2p_directory.proofs.LawsOfGossip.Wanted
 use Rattle.p2p_directory.proofs.LawsOfGossip.Exchanges
 
-module _ {C S : Type 0} (s : Setup C S) where
+module _ {C S : Type 0} (s : Settings C S) where
   -- NO MORE IS WANTED
 
   limit_less : (limit fails : ℕ) (newer : Bool) → nat_le limit (if newer then 0 else fails) ≡ true →

@@ -5,7 +5,7 @@ use Rattle.std.specs.Prelude.{if◌then◌else◌, filter_map, nat_le, nat_lt, n
 use Rattle.std.specs.List.{cons_option}
 use Rattle.std.proofs.lemmas.Bool.{leb-true, lt-ltb, or_left, or_right}
 use Rattle.p2p_discovery.specs.declared.discovery.Info.{Info}
-use Rattle.p2p_tracker.specs.Calls.{Setup, SetAt}
+use Rattle.p2p_tracker.specs.Calls.{Settings, SetAt}
 use Rattle.p2p_tracker.specs.History
 use Rattle.p2p_tracker.specs.World.{World}
 use Rattle.p2p_tracker.specs.Answers.{wants, sharable_info, shared_infos, shared_info}
@@ -85,7 +85,7 @@ module _ {C S : Type 0} (asker replier : Made C S) (v : World C S) (millis : ℕ
       go true false k = absurd (let e = k refl in cc)
 
 -- the peers of a retained set's primary list are present
-module _ {C S : Type 0} (s : Setup C S) (itself : (p : C) → History.same s p p ≡ true) where
+module _ {C S : Type 0} (s : Settings C S) (itself : (p : C) → History.same s p p ≡ true) where
   primary_present : (w : World C S) (x : SetAt C) (p : C) → Member w.sets x → Member x.primary p →
       is_present_in s w p ≡ true
   primary_present w x p retained m =
@@ -106,7 +106,7 @@ module _ {C S : Type 0} (s : Setup C S) (itself : (p : C) → History.same s p p
   primary_at_place w place x p e m = primary_present w x p (member_at w.sets place x e) m
 
 -- .. by their names
-module _ {C S : Type 0} (s : Setup C S) where
+module _ {C S : Type 0} (s : Settings C S) where
   pub named_at_place : (w : World C S) (place : ℕ) (x : SetAt C) (p : C) →
       set_at_place s w place ≡ Some x → History.is_in s p x.primary ≡ true →
       is_present_in s w p ≡ true

@@ -24,8 +24,8 @@ use Rattle.p2p_tracker.specs.World.{World}
 use Rattle.p2p_directory.specs.Run.{world_after}
 use Rattle.p2p_directory.specs.Received.{Wire}
 use Rattle.p2p_directory.specs.Exchange
-use Rattle.p2p_directory.specs.Exchange.{Outcome, infos_applied}
-use Rattle.p2p_directory.specs.Exchange.Outcome.{Applied}
+use Rattle.p2p_directory.specs.Exchange.{ExchangeOutcome, infos_applied}
+use Rattle.p2p_directory.specs.Exchange.ExchangeOutcome.{Applied}
 use Rattle.p2p_directory.specs.Nodes.{Made, standing_in, calls_with}
 use Rattle.p2p_directory.specs.Network.{Done, is_node, calls_at, world_at_node}
 use Rattle.p2p_directory.specs.Network.{IsNetworkAnswer, AreNetworkAnswers}
@@ -122,7 +122,7 @@ module _ {C S : Type 0} (wire : Wire C S) (size : ℕ) (node : ℕ → Made C S)
           may.honest replier two.replies)
 
       -- what it comes to
-      abbrev coming : World C S → List (Call C S) → Outcome C S
+      abbrev coming : World C S → List (Call C S) → ExchangeOutcome C S
       coming u es = Exchange.exchanged_at (standing_in (node asker) wire u)
           (standing_in (node replier) wire (world_after (node replier).directory es))
           place (as_nanos asker_now) (as_nanos replier_now)

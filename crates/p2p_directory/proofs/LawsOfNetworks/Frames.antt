@@ -19,7 +19,7 @@ use Rattle.p2p_directory.specs.declared.node.network.NetworkCommand.TheVariants 
 use Rattle.p2p_directory.specs.declared.node.network.NetworkReply.{NetworkReply}
 use Rattle.p2p_directory.specs.declared.node.network.NetworkReply.TheVariants as reply
 use Rattle.p2p_directory.specs.Received as frames
-use Rattle.p2p_directory.specs.Received.{Wire, Standing, Outcome, wire_of, applying, greeted}
+use Rattle.p2p_directory.specs.Received.{Wire, Standing, FrameOutcome, wire_of, applying, greeted}
 use Rattle.p2p_directory.specs.Received.{read_at, received_at, applied_with}
 use Rattle.p2p_directory.specs.Nodes.{Made, calls_with}
 use Rattle.p2p_directory.specs.Network.{Done, is_node, calls_at, calls_then, standing_at}
@@ -64,7 +64,7 @@ module _ {C S : Type 0} {key_size signature_size : ℕ} {key : C → List ℕ} {
         (le-ltb (min (as_nanos now + n.judge.synchrony_bound) max_nanos) (o.timestamp * 10 ^ 6)
         within) signed) in
         answer_or_memory r _ (received_at wire n frame (as_nanos now)) received.Greeted is.1
-        (ap (λ (x : Outcome C S). x.answer)
+        (ap (λ (x : FrameOutcome C S). x.answer)
         (ap (λ f. received_at wire n f (as_nanos now)) same ∙ told))
     takes_greeting done (command.Frame i frame now) (reply.Call r) is = tt
     takes_greeting done (command.Frame i frame now) (reply.Ask r) is = tt
@@ -92,7 +92,7 @@ module _ {C S : Type 0} {key_size signature_size : ℕ} {key : C → List ℕ} {
         (calls_at wire size node done i)
         ∙ sym (calls_after_frame wire (standing_at wire size node done i) (as_nanos now)
         (calls_at wire size node done i) frame
-        (frames.may_want_memory wire (standing_at wire size node done i) frame (as_nanos now)) r
+        (frames.frame_may_want_memory wire (standing_at wire size node done i) frame (as_nanos now)) r
         is.1)
 
     pub takes_frame : (done : Done C S) (c : NetworkCommand C S) (r : NetworkReply C S) →
@@ -104,7 +104,7 @@ module _ {C S : Type 0} {key_size signature_size : ℕ} {key : C → List ℕ} {
         (sym (after_frame done i frame now r is))
         (Late.takes_late k s verifies cmp total exact_keys (node i) (made i is.0)
         (calls_at wire size node done i) frame (as_nanos now) r
-        (frames.may_want_memory wire (standing_at wire size node done i) frame (as_nanos now))
+        (frames.frame_may_want_memory wire (standing_at wire size node done i) frame (as_nanos now))
         is.1)
     takes_frame done (command.Frame i frame now) (reply.Call r) is = tt
     takes_frame done (command.Frame i frame now) (reply.Ask r) is = tt

@@ -8,7 +8,7 @@ use Rattle.p2p_directory.specs.declared.node.network.NetworkCommand.{NetworkComm
 use Rattle.p2p_directory.specs.declared.node.network.NetworkCommand.TheVariants as command
 use Rattle.p2p_directory.specs.declared.node.network.NetworkReply.{NetworkReply}
 use Rattle.p2p_directory.specs.declared.node.network.NetworkReply.TheVariants as reply
-use Rattle.p2p_tracker.specs.Calls.{Setup, Call, Event}
+use Rattle.p2p_tracker.specs.Calls.{Settings, Call, Event}
 use Rattle.p2p_tracker.specs.Calls.Call.{Update}
 use Rattle.p2p_tracker.specs.Calls.Event.{Nothing, Tracked, Granted, Connected, Released, Updated}
 use Rattle.p2p_tracker.specs.Calls.Event.{Blocked, Expired, Forgot}
@@ -32,7 +32,7 @@ use Rattle.p2p_directory.proofs.LawsOfGossip.Updates.{since_first}
 
 -- ONE CALL
 
-module _ {C S : Type 0} (s : Setup C S) (n : ℕ) where
+module _ {C S : Type 0} (s : Settings C S) (n : ℕ) where
   since_later_left : (a b : Option (Info C S)) → IsSince n a → IsSince n (Knowledge.later a b)
   since_later_left None b h = absurd h
   since_later_left (Some i) b h = since_first s n i b h

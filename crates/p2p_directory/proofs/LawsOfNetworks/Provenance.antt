@@ -21,11 +21,11 @@ use Rattle.p2p_directory.specs.Network.{infos_of_frame}
 use Rattle.p2p_directory.specs.Network.{Done, changed_by, calls_then, is_node, calls_at}
 use Rattle.p2p_directory.specs.Network.{standing_at}
 use Rattle.p2p_directory.specs.Network.{IsNetworkAnswer, AreNetworkAnswers}
-use Rattle.p2p_directory.specs.Laws.Gossip.{Gives}
+use Rattle.p2p_directory.specs.Laws.Gossip.{GivesOnly}
 use Rattle.p2p_directory.specs.Laws.Network.{IsAmong, given_by, GivesTo, AreAllGiven, HoldOnly}
 use Rattle.p2p_directory.specs.Laws.Network.{IsGivenBy, IsGivenIn, HasOrigin, Provenance}
 use Rattle.p2p_directory.specs.Laws.Network.{IsSignedFor, HoldSigned, AtEachPoint, OfEachReply}
-use Rattle.p2p_directory.specs.Laws.Network.{LeavesOthers}
+use Rattle.p2p_directory.specs.Laws.Network.{LeavesOtherNodes}
 use Rattle.p2p_directory.proofs.LawsOfGossip.Infos
 use Rattle.p2p_directory.proofs.LawsOfGossip.Given.{exchange_gives, gives_with, gives_if}
 
@@ -36,7 +36,7 @@ module _ {C S : Type 0} (P : Info C S → Type 0) where
   from_among [] h = tt
   from_among (x ∷ xs) h = (h x (inl refl), from_among xs (λ i m. h i (inr m)))
 
-  gives_call : (c : Call C S) → ((i : Info C S) → IsAmong (given_by c) i → P i) → Gives P c
+  gives_call : (c : Call C S) → ((i : Info C S) → IsAmong (given_by c) i → P i) → GivesOnly P c
   gives_call (Update infos) h = from_among infos h
   gives_call (Track index primary secondary) h = tt
   gives_call (Dial p t draw) h = tt
@@ -84,7 +84,7 @@ module _ {C S : Type 0} (wire : Wire C S) (size : ℕ) (node : ℕ → Made C S)
 
   -- the nodes that a command may not change
   pub leaves_others : (done : Done C S) (c : NetworkCommand C S) (r : NetworkReply C S) →
-      LeavesOthers wire size node done c r
+      LeavesOtherNodes wire size node done c r
   leaves_others done c r n other = ap (λ b. world_after (node n).directory (if b
       then calls_then wire (node n) c r (calls_at wire size node done n)
       else calls_at wire size node done n)) other
@@ -94,7 +94,7 @@ module _ {C S : Type 0} (wire : Wire C S) (size : ℕ) (node : ℕ → Made C S)
   module _ (P : Info C S → Type 0)
       (own : (i : ℕ) → is_node wire size node i ≡ true → P (node i).directory.own) where
     abbrev GivesAll : List (Call C S) → Type 0
-    GivesAll calls = AllByRecursion (Gives P) calls
+    GivesAll calls = AllByRecursion (GivesOnly P) calls
 
     gives_then : (done : Done C S) (c : NetworkCommand C S) (r : NetworkReply C S) →
         IsNetworkAnswer wire size node done c r → GivesTo wire size node P (c, r) →
@@ -129,7 +129,7 @@ module _ {C S : Type 0} (wire : Wire C S) (size : ℕ) (node : ℕ → Made C S)
         (is_node wire size node replier && not (asker == replier)) is.0).1).0 in
         let told = Infos.infos_are_given m.directory P (calls_at wire size node done replier)
         (record { own = own replier there; calls = before replier }) in
-        gives_with P r (Exchange.may_want_memory a place)
+        gives_with P r (Exchange.exchange_may_want_memory a place)
         (Exchange.exchanged_at a b place (as_nanos asker_now) (as_nanos replier_now))
         (calls_at wire size node done asker) is.1
         (exchange_gives P a b place (as_nanos asker_now) (as_nanos replier_now)

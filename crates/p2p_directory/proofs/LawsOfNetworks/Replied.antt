@@ -24,7 +24,7 @@ use Rattle.p2p_tracker.specs.World.{World}
 use Rattle.p2p_tracker.specs.Answers.{bits_of, wants, epoch_millis}
 use Rattle.p2p_directory.specs.Run.{bit_vec_of}
 use Rattle.p2p_directory.specs.Received as frames
-use Rattle.p2p_directory.specs.Received.{Wire, Standing, Outcome, wire_of, only, replied, read_at}
+use Rattle.p2p_directory.specs.Received.{Wire, Standing, FrameOutcome, wire_of, only, replied, read_at}
 use Rattle.p2p_directory.specs.Received.{received_at, told_with}
 use Rattle.p2p_directory.specs.Nodes.{Made, AreValues}
 use Rattle.p2p_directory.specs.Network.{Done, is_node, calls_at, world_at_node, standing_at}
@@ -153,7 +153,7 @@ module _ {C S : Type 0} {key_size signature_size : ℕ} {key : C → List ℕ} {
         sized = subst (λ o. IfSome o (λ v. (v.index < 2 ^ 64) × (length v.bits < 2 ^ 64))) bits_at
             ask_written
 
-        abbrev coming : Outcome C S
+        abbrev coming : FrameOutcome C S
         coming = received_at wire n frame now
 
         refused : nat_lt b.limits.max_bit_vec (length bits.bits) ≡ true →
@@ -176,11 +176,11 @@ module _ {C S : Type 0} {key_size signature_size : ℕ} {key : C → List ℕ} {
             ∙ ap (replied wire)
             (Exchanges.reply_is wire a b w v x one.kept now one.retained one.one_list)
 
-        module _ (r : Received) (may : Bool) (is : frames.IsAnswer may coming r)
+        module _ (r : Received) (may : Bool) (is : frames.IsFrameAnswer may coming r)
             (written : AreValues IsKey IsSignature (told_with coming r)) (sent : List ℕ)
             (is_reply : r ≡ received.Reply sent) where
           answer : received.Reply sent ≡ coming.answer
-          answer = subst (λ q. frames.IsAnswer may coming q) is_reply is
+          answer = subst (λ q. frames.IsFrameAnswer may coming q) is_reply is
 
           values : AreValues IsKey IsSignature coming.told
           values = subst (λ q. AreValues IsKey IsSignature (told_with coming q)) is_reply written
@@ -191,12 +191,12 @@ module _ {C S : Type 0} {key_size signature_size : ℕ} {key : C → List ℕ} {
               go : (c : Bool) → nat_lt b.limits.max_bit_vec (length bits.bits) ≡ c →
                   IsReplyFor wire size node IsKey IsSignature asker replier now sent
               go true e = absurd (let f = answer
-                  ∙ ap (λ (o : Outcome C S). o.answer) (refused e) in cc)
+                  ∙ ap (λ (o : FrameOutcome C S). o.answer) (refused e) in cc)
               go false e = record {
                 infos = infos;
                 spells = record {
                   spelled = reply_content sent (wire.spelling (said.Peers infos))
-                      (answer ∙ ap (λ (o : Outcome C S). o.answer) (told e));
+                      (answer ∙ ap (λ (o : FrameOutcome C S). o.answer) (told e));
                   small = omega (
                     arith,
                     ltb-false b.limits.max_bit_vec (length bits.bits) e,
@@ -204,7 +204,7 @@ module _ {C S : Type 0} {key_size signature_size : ℕ} {key : C → List ℕ} {
                     few replier there,
                     length_some (wanted_info a w b v (epoch_millis now)) x.primary,
                   );
-                  values = subst (λ (o : Outcome C S). AreValues IsKey IsSignature o.told) (told e)
+                  values = subst (λ (o : FrameOutcome C S). AreValues IsKey IsSignature o.told) (told e)
                       values;
                   each = from_members (IsFor wire a now) infos (λ i m. (brought_for i m).1);
                 };
@@ -224,7 +224,7 @@ module _ {C S : Type 0} {key_size signature_size : ℕ} {key : C → List ℕ} {
         (subst Answered before answered)).1
         (was_written later (command.Ask asker place, reply.Ask (Some frame)) asked
         (subst Written before written.1))
-        r (frames.may_want_memory wire (standing_at wire size node done replier) frame
+        r (frames.frame_may_want_memory wire (standing_at wire size node done replier) frame
         (as_nanos now)) is.1 written.0 sent is_reply
     reply_for done answered (command.Frame replier frame now) (reply.Call r) written is = tt
     reply_for done answered (command.Frame replier frame now) (reply.Ask r) written is = tt

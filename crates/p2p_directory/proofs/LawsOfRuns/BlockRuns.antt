@@ -1,5 +1,6 @@
 -- Blocks by the replies to a run: of any moments, and where these never go back.
-use Rattle.std.proofs.Common.{◌≡◌, ℕ, ◌+◌, ◌≤◌, max, Bool, true, false, not, ◌&&◌, List, [], ◌∷◌, ◌++◌, Option, Some, None, inl, inr, refl, sym, ◌∙◌, ap, subst, arith}
+use Rattle.std.proofs.Common.{◌≡◌, ℕ, ◌+◌, ◌≤◌, max, Bool, true, false, not, ◌&&◌, List, [], ◌∷◌}
+use Rattle.std.proofs.Common.{◌++◌, Option, Some, None, inl, inr, refl, sym, ◌∙◌, ap, subst, arith}
 use Rattle.std.specs.Prelude.{if◌then◌else◌, nat_le, nat_lt, option_to_list, filter, IfSome}
 use Rattle.std.specs.List.{list_all}
 use Rattle.std.specs.Option.{option_map}
@@ -8,7 +9,7 @@ use Rattle.std.proofs.lemmas.Bool.{leb-true, ltb-false, not-true, and_parts}
 use Rattle.p2p_discovery.specs.declared.types.ingress.Ingress.{Ingress}
 use Rattle.p2p_tracker.specs.declared.record.Status.{Status}
 use Rattle.p2p_tracker.specs.declared.record.Status.TheVariants.{Inert, Reserved, Active}
-use Rattle.p2p_tracker.specs.Calls.{Setup, Call, SetAt, Grant, Event}
+use Rattle.p2p_tracker.specs.Calls.{Settings, Call, SetAt, Grant, Event}
 use Rattle.p2p_tracker.specs.Calls.Call.{Track, Dial, Listen, Connect, Release, Update, Block, UnblockExpired, ForgetCooled, Ask}
 use Rattle.p2p_tracker.specs.Calls.Event.{Nothing, Tracked, Granted, Connected, Released, Updated, Blocked, Expired, Forgot}
 use Rattle.p2p_tracker.specs.Moments.{cap}
@@ -21,14 +22,14 @@ use Rattle.p2p_directory.specs.Run
 use Rattle.p2p_directory.specs.declared.run.commands.Reply.{Reply}
 use Rattle.p2p_directory.specs.declared.run.commands.Reply.TheVariants as reply
 use Rattle.p2p_directory.specs.Laws.Grants.{moment_or, AreOver}
-use Rattle.p2p_directory.specs.Laws.GrantRuns.{granted_by, blocked_by, IsAfter, KeepBlocks}
+use Rattle.p2p_directory.specs.Laws.GrantRuns.{granted_by, blocked_by, IsAfter, RunKeepsBlocks}
 use Rattle.p2p_directory.specs.Laws.BlockRuns.{expires_until, expired_by, unless_expired, IsNotBefore, block_taken_by, block_left, KeepLastBlock}
 use Rattle.p2p_directory.proofs.Definitions.Steps
 use Rattle.p2p_directory.proofs.LawsOfRuns.Spacing
 use Rattle.p2p_directory.proofs.LawsOfRuns.Spacing.{GrantFits, IsFree}
 use Rattle.p2p_directory.proofs.LawsOfRuns.GrantRuns.{told_after, made, if_accepted, moment_by}
 
-module _ {C S : Type 0} (s : Setup C S) where
+module _ {C S : Type 0} (s : Settings C S) where
   -- WHAT A REPLY TELLS OF THE BLOCK THAT IS KEPT
 
   -- until when an event ends blocks, if it does
@@ -257,7 +258,7 @@ module _ {C S : Type 0} (s : Setup C S) where
       go false e = over_later ms (max now end) (max u end) (omega arith) over
 
   forward_from : (p : C) (now : ℕ) (end : Option ℕ) (ms : List ℕ) (cs : List (Call C S)) (rs : List (Reply C S)) →
-      AreOver s (limit now end) ms → KeepLastBlock s p end cs rs → KeepBlocks s p now ms cs rs
+      AreOver s (limit now end) ms → KeepLastBlock s p end cs rs → RunKeepsBlocks s p now ms cs rs
   forward_from p now end ms [] [] over kept = tt
   forward_from p now end ms [] (r ∷ rs) over kept = tt
   forward_from p now end ms (c ∷ cs) [] over kept = tt
@@ -273,5 +274,5 @@ module _ {C S : Type 0} (s : Setup C S) where
       )
 
   -- as long as moments never go back, each grant comes when all blocks before it are over
-  pub keep_blocks : (p : C) (cs : List (Call C S)) (rs : List (Reply C S)) → KeepLastBlock s p None cs rs → KeepBlocks s p 0 [] cs rs
+  pub keep_blocks : (p : C) (cs : List (Call C S)) (rs : List (Reply C S)) → KeepLastBlock s p None cs rs → RunKeepsBlocks s p 0 [] cs rs
   keep_blocks p cs rs kept = forward_from p 0 None [] cs rs tt kept

@@ -3,7 +3,7 @@ use Rattle.std.proofs.Common.{◌≡◌, ℕ, Bool, true, false, List, [], ◌�
 use Rattle.std.specs.Prelude.{if◌then◌else◌}
 use Rattle.std.specs.Cmp.{IsTotalOrder}
 use Rattle.std.proofs.lemmas.Bool.{and_parts}
-use Rattle.p2p_tracker.specs.Calls.{Setup, Call}
+use Rattle.p2p_tracker.specs.Calls.{Settings, Call}
 use Rattle.p2p_tracker.specs.Calls.Question.{StatusOf, NumberTracked, NextUnblock, BlockedAt}
 use Rattle.p2p_tracker.specs.Calls.Question.{PeerSet, LatestIndex, AllPeers, LatestUpdate, InfoOf}
 use Rattle.p2p_tracker.specs.Calls.Question.{InfosFor, BitsAt, IsEligible, IsAcceptable, DialableAt}
@@ -16,7 +16,7 @@ use Rattle.p2p_directory.specs.Laws.BoundRuns.{IsFew, TellsFew, NameAtMost, Keep
 use Rattle.p2p_directory.proofs.LawsOfRuns.Bounded
 use Rattle.p2p_directory.proofs.LawsOfRuns.GrantRuns.{answered}
 
-module _ {C S : Type 0} (s : Setup C S) (n : ℕ) (total : IsTotalOrder s.cmp) where
+module _ {C S : Type 0} (s : Settings C S) (n : ℕ) (total : IsTotalOrder s.cmp) where
   -- the number that is tracked
   tracked_few : (before : List (Call C S)) (count : ℕ) → NameAtMost s n before →
       IsNumberTracked s (Run.world_after s before) count → IsFew s n before count

@@ -16,7 +16,7 @@ use Rattle.std.proofs.lemmas.List.Folds.{list_any-append}
 use Rattle.std.proofs.lemmas.List.Sums.{sum_by-cons}
 use Rattle.std.proofs.lemmas.Map.Keys.{IsDistinct-from_sorted}
 use Rattle.std.proofs.lemmas.Map.Made.{length-le_from_is_member}
-use Rattle.p2p_tracker.specs.Calls.{Setup, Call, SetAt}
+use Rattle.p2p_tracker.specs.Calls.{Settings, Call, SetAt}
 use Rattle.p2p_tracker.specs.History
 use Rattle.p2p_tracker.specs.World
 use Rattle.p2p_tracker.specs.World.{World}
@@ -46,7 +46,7 @@ any_more {A} p q f (x ∷ xs) e = go (or_cases (p x) (list_any p xs) e) (any_mor
     go (inl h) rest = or_left (q x) (list_any q xs) (f x h)
     go (inr h) rest = or_right (q x) (list_any q xs) (rest h)
 
-module _ {C S : Type 0} (s : Setup C S) (n : ℕ) where
+module _ {C S : Type 0} (s : Settings C S) (n : ℕ) where
   -- the peers that sets name, set by set
   named_by : (xs : List (SetAt C)) → AllByRecursion (NamesAtMost s n) xs → List C
   named_by [] h = []

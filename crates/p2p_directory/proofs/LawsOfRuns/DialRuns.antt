@@ -1,7 +1,7 @@
 -- Dials by the replies to a run.
 use Rattle.std.proofs.Common.{◌≡◌, ℕ, ◌≤◌, Bool, true, false, cond, not, ◌||◌, List, [], ◌∷◌, Option, ◌⊎◌, inl, inr, refl, sym, ◌∙◌, ap, subst}
 use Rattle.std.specs.Cmp.{IsTotalOrder}
-use Rattle.p2p_tracker.specs.Calls.{Setup, Question, Call}
+use Rattle.p2p_tracker.specs.Calls.{Settings, Question, Call}
 use Rattle.p2p_tracker.specs.Calls.Question.{DialableAt}
 use Rattle.p2p_tracker.specs.Calls.Call.{Track, Dial, Listen, Connect, Release, Update, Block, UnblockExpired, ForgetCooled, Ask}
 use Rattle.p2p_tracker.specs.declared.record.Dialable.{Dialable}
@@ -22,7 +22,7 @@ use Rattle.p2p_tracker.proofs.Definitions.Listed
 use Rattle.p2p_tracker.proofs.Definitions.Quiet
 use Rattle.p2p_directory.proofs.LawsOfRuns.GrantRuns.{answered}
 
-module _ {C S : Type 0} (s : Setup C S) where
+module _ {C S : Type 0} (s : Settings C S) where
   -- DIALS
 
   or_right : (a b : Bool) → b ≡ true → (a || b) ≡ true

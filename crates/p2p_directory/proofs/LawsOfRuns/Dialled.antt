@@ -9,7 +9,7 @@ use Rattle.std.specs.Ordering.{is_eq, ordering_reverse}
 use Rattle.std.specs.declared.cmp.Ordering.TheVariants.{Less, Equal, Greater}
 use Rattle.std.proofs.lemmas.Bool.{and_parts, and_from, leb-true, le-leb}
 use Rattle.p2p_discovery.specs.declared.types.ingress.Ingress.{Ingress}
-use Rattle.p2p_tracker.specs.Calls.{Setup, Call, Grant, Event}
+use Rattle.p2p_tracker.specs.Calls.{Settings, Call, Grant, Event}
 use Rattle.p2p_tracker.specs.Calls.Call.{Dial}
 use Rattle.p2p_tracker.specs.History
 use Rattle.p2p_tracker.specs.History.{last_unless_ended}
@@ -30,7 +30,7 @@ itself cmp total x = go (cmp x x) refl
     go Less e = absurd (let f = sym e ∙ total.antisymm x x ∙ ap ordering_reverse e in cc)
     go Greater e = absurd (let f = sym e ∙ total.antisymm x x ∙ ap ordering_reverse e in cc)
 
-module _ {C S : Type 0} (s : Setup C S) where
+module _ {C S : Type 0} (s : Settings C S) where
   -- the dial moment isn't before the reservable one
   reservable_first : (kept : Option Grant) →
       World.reservable_from (option_map (History.moments_of s) kept) ≤ World.dialable_from

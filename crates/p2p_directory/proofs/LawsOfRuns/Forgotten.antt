@@ -1,14 +1,14 @@
 -- Of a peer that is absent all is forgotten.
 use Rattle.std.proofs.Common.{◌≡◌, false, List, sym, ◌∙◌, ap}
 use Rattle.std.specs.Prelude.{if◌then◌else◌}
-use Rattle.p2p_tracker.specs.Calls.{Setup, Call}
+use Rattle.p2p_tracker.specs.Calls.{Settings, Call}
 use Rattle.p2p_tracker.specs.History
 use Rattle.p2p_tracker.specs.World
 use Rattle.p2p_tracker.specs.Step
 use Rattle.p2p_tracker.specs.Answers.{is_present_in}
 use Rattle.p2p_directory.proofs.LawsOfRuns.Isolation
 
-module _ {C S : Type 0} (s : Setup C S) where
+module _ {C S : Type 0} (s : Settings C S) where
   pub absent : (cs : List (Call C S)) (p : C) → is_present_in s (World.world_at s (World.past s cs)) p ≡ false →
       ((World.world_at s (World.past s cs)).peer p).known ≡ Step.new_known s p
   absent cs p gone =

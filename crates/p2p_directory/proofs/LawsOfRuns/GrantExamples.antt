@@ -9,7 +9,7 @@ use Rattle.p2p_tracker.specs.declared.record.Dialable.{Dialable}
 use Rattle.p2p_directory.specs.declared.run.commands.Reply.{Reply}
 use Rattle.p2p_directory.specs.declared.run.commands.Reply.TheVariants as reply
 use Rattle.p2p_directory.specs.Run.{AreAnswers}
-use Rattle.p2p_directory.specs.Laws.GrantRuns.{KeepCooldownUnlessForgotten, KeepCooldown, KeepBlocks}
+use Rattle.p2p_directory.specs.Laws.GrantRuns.{RunKeepsCooldownUnlessForgotten, RunKeepsCooldown, RunKeepsBlocks}
 use Rattle.p2p_directory.specs.Laws.BlockRuns.{KeepLastBlock}
 use Rattle.p2p_tracker.specs.Dials.{IsBefore}
 use Rattle.p2p_directory.specs.Laws.DialRuns.{next_query, AreGrantedAt, IsRepeated, KeepDialable}
@@ -38,13 +38,13 @@ reborn t = track 0 (1 ∷ []) ∷ listen 1 100 ∷ Release 1 ∷ track 1 [] ∷ 
 abbrev reborn_replies : List (Reply ℕ ℕ)
 reborn_replies = reply.Track (Some []) ∷ reply.Listen true ∷ reply.Release ∷ reply.Track (Some []) ∷ reply.Track (Some []) ∷ reply.Listen true ∷ []
 
-granted_too_soon : KeepCooldownUnlessForgotten setup 1 None (reborn 109) reborn_replies → ⊥
+granted_too_soon : RunKeepsCooldownUnlessForgotten setup 1 None (reborn 109) reborn_replies → ⊥
 granted_too_soon kept = absurd (omega (arith, kept.1.1.1.1.1.0))
 
-granted_in_time : KeepCooldownUnlessForgotten setup 1 None (reborn 110) reborn_replies
+granted_in_time : RunKeepsCooldownUnlessForgotten setup 1 None (reborn 110) reborn_replies
 granted_in_time = (tt, (tt, (tt, (tt, (tt, (omega arith, tt))))))
 
-granted_another : KeepCooldownUnlessForgotten setup 2 None (reborn 109) reborn_replies
+granted_another : RunKeepsCooldownUnlessForgotten setup 2 None (reborn 109) reborn_replies
 granted_another = (tt, (tt, (tt, (tt, (tt, (tt, tt))))))
 
 -- a forgetting in between, at a moment
@@ -56,39 +56,39 @@ abbrev forgotten_replies : ℕ → List (Reply ℕ ℕ)
 forgotten_replies count = reply.Listen true ∷ reply.Release ∷ reply.ForgetCooled count ∷ reply.Listen true ∷ []
 
 -- at the dial moment: of the grant after it the first clause says nothing
-granted_when_forgotten : KeepCooldownUnlessForgotten setup 1 None (forgotten (sec 114)) (forgotten_replies 1)
+granted_when_forgotten : RunKeepsCooldownUnlessForgotten setup 1 None (forgotten (sec 114)) (forgotten_replies 1)
 granted_when_forgotten = (tt, (tt, (tt, (tt, tt))))
 
 -- before the dial moment, though at the reservable one: nothing is forgotten
-granted_unforgotten : KeepCooldownUnlessForgotten setup 1 None (forgotten 113_999_999_999) (forgotten_replies 0) → ⊥
+granted_unforgotten : RunKeepsCooldownUnlessForgotten setup 1 None (forgotten 113_999_999_999) (forgotten_replies 0) → ⊥
 granted_unforgotten kept = absurd (omega (arith, kept.1.1.1.0))
 
 -- where moments go back, of such a run the second clause says nothing
-goes_back_to_forget : KeepCooldown setup 1 0 None (forgotten (sec 114)) (forgotten_replies 1)
+goes_back_to_forget : RunKeepsCooldown setup 1 0 None (forgotten (sec 114)) (forgotten_replies 1)
 goes_back_to_forget = λ from. (tt, λ on. (tt, λ later. (tt, λ back. absurd (omega (arith, back)))))
 
 -- where they never do, it refuses a grant that comes too soon
-granted_too_soon_though_forgotten : KeepCooldown setup 1 0 None
+granted_too_soon_though_forgotten : RunKeepsCooldown setup 1 0 None
     (Listen 1 (sec 100) (sec 4) ∷ ForgetCooled (sec 109) ∷ listen 1 109 ∷ [])
     (reply.Listen true ∷ reply.ForgetCooled 0 ∷ reply.Listen true ∷ []) → ⊥
 granted_too_soon_though_forgotten kept = absurd (omega (arith, (((kept (omega arith)).1 (omega arith)).1 (omega arith)).0))
 
 -- BLOCKS, of 60 s
 
-granted_while_blocked : KeepBlocks setup 1 0 [] (Block 1 (sec 100) ∷ listen 1 159 ∷ []) (reply.Block true ∷ reply.Listen true ∷ []) → ⊥
+granted_while_blocked : RunKeepsBlocks setup 1 0 [] (Block 1 (sec 100) ∷ listen 1 159 ∷ []) (reply.Block true ∷ reply.Listen true ∷ []) → ⊥
 granted_while_blocked kept = absurd (omega (arith, ((kept (omega arith)).1 (omega arith)).0.0))
 
-dialled_while_blocked : KeepBlocks setup 1 0 [] (Block 1 (sec 100) ∷ dial 1 159 ∷ []) (reply.Block true ∷ reply.Dial true ∷ []) → ⊥
+dialled_while_blocked : RunKeepsBlocks setup 1 0 [] (Block 1 (sec 100) ∷ dial 1 159 ∷ []) (reply.Block true ∷ reply.Dial true ∷ []) → ⊥
 dialled_while_blocked kept = absurd (omega (arith, ((kept (omega arith)).1 (omega arith)).0.0))
 
-granted_at_the_end : KeepBlocks setup 1 0 [] (Block 1 (sec 100) ∷ listen 1 160 ∷ []) (reply.Block true ∷ reply.Listen true ∷ [])
+granted_at_the_end : RunKeepsBlocks setup 1 0 [] (Block 1 (sec 100) ∷ listen 1 160 ∷ []) (reply.Block true ∷ reply.Listen true ∷ [])
 granted_at_the_end = λ from. (tt, λ on. ((omega arith, tt), tt))
 
-granted_where_not_taken : KeepBlocks setup 1 0 [] (Block 1 (sec 100) ∷ listen 1 159 ∷ []) (reply.Block false ∷ reply.Listen true ∷ [])
+granted_where_not_taken : RunKeepsBlocks setup 1 0 [] (Block 1 (sec 100) ∷ listen 1 159 ∷ []) (reply.Block false ∷ reply.Listen true ∷ [])
 granted_where_not_taken = λ from. (tt, λ on. (tt, tt))
 
 -- moments go back: of such a run the law says nothing
-goes_back : KeepBlocks setup 1 0 [] (Block 1 (sec 100) ∷ UnblockExpired (sec 1000) ∷ listen 1 120 ∷ [])
+goes_back : RunKeepsBlocks setup 1 0 [] (Block 1 (sec 100) ∷ UnblockExpired (sec 1000) ∷ listen 1 120 ∷ [])
     (reply.Block true ∷ reply.UnblockExpired true ∷ reply.Listen true ∷ [])
 goes_back = λ from. (tt, λ on. (tt, λ back. absurd (omega (arith, back))))
 

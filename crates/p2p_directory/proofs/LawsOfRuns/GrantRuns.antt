@@ -5,7 +5,7 @@ use Rattle.std.specs.Option.{option_map}
 use Rattle.std.specs.List.{list_all, list_any}
 use Rattle.p2p_discovery.specs.declared.types.ingress.Ingress.{Ingress}
 use Rattle.p2p_tracker.specs.declared.record.Status.{Status}
-use Rattle.p2p_tracker.specs.Calls.{Setup, SetAt, Call, Grant, Event}
+use Rattle.p2p_tracker.specs.Calls.{Settings, SetAt, Call, Grant, Event}
 use Rattle.p2p_tracker.specs.Calls.Call.{Track, Dial, Listen, Connect, Release, Update, Block, UnblockExpired, ForgetCooled, Ask}
 use Rattle.p2p_tracker.specs.Calls.Direction.{Listener, Dialer}
 use Rattle.p2p_tracker.specs.Calls.Event.{Nothing, Tracked, Updated, Blocked, Expired, Forgot}
@@ -17,13 +17,13 @@ use Rattle.p2p_directory.specs.Laws.Grants.{IsSpaced, IsSpacedUnlessForgotten, o
 use Rattle.p2p_directory.specs.Run
 use Rattle.p2p_directory.specs.declared.run.commands.Reply.{Reply}
 use Rattle.p2p_directory.specs.declared.run.commands.Reply.TheVariants as reply
-use Rattle.p2p_directory.specs.Laws.GrantRuns.{granted_by, forgets_by, blocked_by, IsCooledAfter}
-use Rattle.p2p_directory.specs.Laws.GrantRuns.{last_after, kept_after, KeepCooldownUnlessForgotten}
-use Rattle.p2p_directory.specs.Laws.GrantRuns.{KeepCooldown}
+use Rattle.p2p_directory.specs.Laws.GrantRuns.{granted_by, forgets_by, blocked_by, IsGrantCooledAfter}
+use Rattle.p2p_directory.specs.Laws.GrantRuns.{last_after, kept_after, RunKeepsCooldownUnlessForgotten}
+use Rattle.p2p_directory.specs.Laws.GrantRuns.{RunKeepsCooldown}
 use Rattle.p2p_directory.proofs.Definitions.Steps
 use Rattle.p2p_directory.proofs.LawsOfRuns.Spacing
 
-module _ {C S : Type 0} (s : Setup C S) where
+module _ {C S : Type 0} (s : Settings C S) where
   -- WHAT A REPLY TELLS OF THE EVENT
 
   -- a reply to a call that was accepted answers it
@@ -274,34 +274,34 @@ module _ {C S : Type 0} (s : Setup C S) where
 
   -- what the laws of the past say, on these
   spaced_kept : (accepted : Bool) (given : Option Grant) (found : Option (Grant × List (Event C S))) → IsSpacedUnlessForgotten s given found →
-      IsCooledAfter s (if_accepted accepted (option_map made given)) (option_map made (unless_ended (History.is_forgetting s) found))
+      IsGrantCooledAfter s (if_accepted accepted (option_map made given)) (option_map made (unless_ended (History.is_forgetting s) found))
   spaced_kept false given found spaced = tt
   spaced_kept true None found spaced = tt
   spaced_kept true (Some grant) None spaced = tt
   spaced_kept true (Some grant) (Some found) spaced = go (list_any (History.is_forgetting s found.0) found.1) refl
     where
       go : (b : Bool) → list_any (History.is_forgetting s found.0) found.1 ≡ b →
-          IsCooledAfter s (Some (made grant)) (option_map made (if b then None else Some found.0))
+          IsGrantCooledAfter s (Some (made grant)) (option_map made (if b then None else Some found.0))
       go true e = tt
       go false e = spaced e
 
   spaced_last : (accepted : Bool) (given : Option Grant) (found : Option (Grant × List (Event C S))) → IsSpaced s given found →
-      IsCooledAfter s (if_accepted accepted (option_map made given)) (option_map (λ found. made found.0) found)
+      IsGrantCooledAfter s (if_accepted accepted (option_map made given)) (option_map (λ found. made found.0) found)
   spaced_last false given found spaced = tt
   spaced_last true None found spaced = tt
   spaced_last true (Some grant) None spaced = tt
   spaced_last true (Some grant) (Some found) spaced = spaced
 
   keep_unless_forgotten_from : History.IsExact s → (p : C) (kept : Option (ℕ × ℕ)) (before cs : List (Call C S)) (rs : List (Reply C S)) →
-      kept ≡ kept_in p (World.past s before) → Run.AreAnswers s before cs rs → KeepCooldownUnlessForgotten s p kept cs rs
+      kept ≡ kept_in p (World.past s before) → Run.AreAnswers s before cs rs → RunKeepsCooldownUnlessForgotten s p kept cs rs
   keep_unless_forgotten_from exact p kept before [] [] e answers = tt
   keep_unless_forgotten_from exact p kept before [] (r ∷ rs) e answers = tt
   keep_unless_forgotten_from exact p kept before (c ∷ cs) [] e answers = tt
   keep_unless_forgotten_from exact p kept before (c ∷ cs) (r ∷ rs) e answers =
       let t = told_after p before c r answers.0 in
       let f = forgets_after (History.taken_sets s (World.past s before)) (Run.world_after s before) (Run.world_after s (c ∷ before)) c r answers.0 in (
-        subst (λ o. IsCooledAfter s o kept) (sym t.granted)
-            (subst (λ o. IsCooledAfter s (if_accepted (Run.was_made r) (moment_by p (Run.event_of s before c))) o) (sym e)
+        subst (λ o. IsGrantCooledAfter s o kept) (sym t.granted)
+            (subst (λ o. IsGrantCooledAfter s (if_accepted (Run.was_made r) (moment_by p (Run.event_of s before c))) o) (sym e)
             (spaced_kept (Run.was_made r) (History.grant_by s p (Run.event_of s before c))
             (last_with (History.grant_by s p) (World.past s before)) (Spacing.next_spaced s exact p c before))),
         keep_unless_forgotten_from exact p (kept_after s c (granted_by s p c r) kept) (Run.next s before c r) cs rs
@@ -311,18 +311,18 @@ module _ {C S : Type 0} (s : Setup C S) where
 
   -- by the replies to a whole run, the grants of p keep the cooldown, unless forgotten
   pub keep_unless_forgotten : History.IsExact s → (p : C) (cs : List (Call C S)) (rs : List (Reply C S)) →
-      Run.AreAnswers s [] cs rs → KeepCooldownUnlessForgotten s p None cs rs
+      Run.AreAnswers s [] cs rs → RunKeepsCooldownUnlessForgotten s p None cs rs
   keep_unless_forgotten exact p cs rs answers = keep_unless_forgotten_from exact p None [] cs rs refl answers
 
   keep_cooldown_from : History.IsExact s → (p : C) (last : Option (ℕ × ℕ)) (now : ℕ) (before cs : List (Call C S)) (rs : List (Reply C S)) →
-      last ≡ last_in p (World.past s before) → NeverGoBack s now before → Run.AreAnswers s before cs rs → KeepCooldown s p now last cs rs
+      last ≡ last_in p (World.past s before) → NeverGoBack s now before → Run.AreAnswers s before cs rs → RunKeepsCooldown s p now last cs rs
   keep_cooldown_from exact p last now before [] [] e on answers = tt
   keep_cooldown_from exact p last now before [] (r ∷ rs) e on answers = tt
   keep_cooldown_from exact p last now before (c ∷ cs) [] e on answers = tt
   keep_cooldown_from exact p last now before (c ∷ cs) (r ∷ rs) e on answers =
       λ forward. let t = told_after p before c r answers.0 in (
-        subst (λ o. IsCooledAfter s o last) (sym t.granted)
-            (subst (λ o. IsCooledAfter s (if_accepted (Run.was_made r) (moment_by p (Run.event_of s before c))) o) (sym e)
+        subst (λ o. IsGrantCooledAfter s o last) (sym t.granted)
+            (subst (λ o. IsGrantCooledAfter s (if_accepted (Run.was_made r) (moment_by p (Run.event_of s before c))) o) (sym e)
             (spaced_last (Run.was_made r) (History.grant_by s p (Run.event_of s before c)) (last_with (History.grant_by s p) (World.past s before))
             (Spacing.next_spaced_forward s exact p c before (moment_or s now c) (one_forward c before now forward on)))),
         keep_cooldown_from exact p (last_after s (granted_by s p c r) last) (moment_or s now c) (Run.next s before c r) cs rs
@@ -331,5 +331,5 @@ module _ {C S : Type 0} (s : Setup C S) where
       )
 
   -- by the replies to a whole run whose moments never go back, the grants of p keep the cooldown
-  pub keep_cooldown : History.IsExact s → (p : C) (cs : List (Call C S)) (rs : List (Reply C S)) → Run.AreAnswers s [] cs rs → KeepCooldown s p 0 None cs rs
+  pub keep_cooldown : History.IsExact s → (p : C) (cs : List (Call C S)) (rs : List (Reply C S)) → Run.AreAnswers s [] cs rs → RunKeepsCooldown s p 0 None cs rs
   keep_cooldown exact p cs rs answers = keep_cooldown_from exact p None 0 [] cs rs refl tt answers

@@ -4,7 +4,7 @@ use Rattle.std.specs.Prelude.{if◌then◌else◌, filter, nat_lt}
 use Rattle.std.proofs.lemmas.Bool.{not-true, not-false}
 use Rattle.p2p_discovery.specs.declared.types.ingress.Ingress.{Ingress}
 use Rattle.p2p_tracker.specs.declared.record.Status.{Status}
-use Rattle.p2p_tracker.specs.Calls.{Setup, Question, Call, SetAt, Grant, Cooldown, Event}
+use Rattle.p2p_tracker.specs.Calls.{Settings, Question, Call, SetAt, Grant, Cooldown, Event}
 use Rattle.p2p_tracker.specs.Calls.Call.{Track, Dial, Listen, Connect, Release, Update, Block, UnblockExpired, ForgetCooled, Ask}
 use Rattle.p2p_tracker.specs.declared.record.Status.TheVariants.{Inert, Reserved, Active}
 use Rattle.p2p_tracker.specs.Calls.Event.{Nothing, Tracked, Granted, Connected, Released, Updated, Blocked, Expired, Forgot}
@@ -27,7 +27,7 @@ filter_again test (x ∷ xs) = go (filter_again test xs) (test x) refl
     go again true e = ap (λ b. cond b (x ∷ filter test (filter test xs)) (filter test (filter test xs))) e ∙ ap (λ ys. x ∷ ys) again
     go again false e = again
 
-module _ {C S : Type 0} (s : Setup C S) where
+module _ {C S : Type 0} (s : Settings C S) where
   -- where p is absent, all is forgotten
   pub forgotten : (p : C) (h : List (Event C S)) →
       (if History.is_present s p h then World.known_in s p (History.life s p h) else Step.new_known s p)

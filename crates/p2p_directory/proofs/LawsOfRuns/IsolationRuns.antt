@@ -3,7 +3,7 @@ use Rattle.std.proofs.Common.{◌≡◌, ℕ, ◌≤◌, true, false, not, List,
 use Rattle.std.specs.Prelude.{if◌then◌else◌}
 use Rattle.std.specs.Option.{option_map, option_map_or, IsSomeAnd}
 use Rattle.p2p_discovery.specs.Ingress.{takes_none}
-use Rattle.p2p_tracker.specs.Calls.{Setup, Question, Call, Event}
+use Rattle.p2p_tracker.specs.Calls.{Settings, Question, Call, Event}
 use Rattle.p2p_tracker.specs.Calls.Question.{StatusOf, NumberTracked, NextUnblock, BlockedAt}
 use Rattle.p2p_tracker.specs.Calls.Question.{PeerSet, LatestIndex, AllPeers, LatestUpdate, InfoOf}
 use Rattle.p2p_tracker.specs.Calls.Question.{InfosFor, BitsAt, IsEligible, IsAcceptable, DialableAt}
@@ -21,7 +21,7 @@ use Rattle.p2p_directory.proofs.Definitions.Law
 use Rattle.p2p_directory.proofs.LawsOfRuns.Isolation
 use Rattle.p2p_directory.proofs.LawsOfRuns.GrantRuns.{answered}
 
-module _ {C S : Type 0} (s : Setup C S) where
+module _ {C S : Type 0} (s : Settings C S) where
   -- a reply is an answer elsewhere, too, where want of memory and the reply are
   moved : (e f : Event C S) (w v w2 v2 : World C S) (c : Call C S) (r : Reply C S) →
       (Run.MayWantMemory s e w c → Run.MayWantMemory s f w2 c) →

@@ -3,7 +3,7 @@ use Rattle.std.proofs.Common.{◌≡◌, ◌≤◌, true, false, List, [], ◌�
 use Rattle.std.specs.Prelude.{◌⊎◌, if◌then◌else◌}
 use Rattle.std.proofs.lemmas.List.{append-nil, append_assoc}
 use Rattle.p2p_discovery.specs.declared.discovery.Info.{Info}
-use Rattle.p2p_tracker.specs.Calls.{Setup, Call}
+use Rattle.p2p_tracker.specs.Calls.{Settings, Call}
 use Rattle.p2p_tracker.specs.Calls.Call.{Track, Dial, Listen, Connect, Release, Update, Block, UnblockExpired, ForgetCooled, Ask}
 use Rattle.p2p_tracker.specs.World
 use Rattle.p2p_tracker.specs.World.{World}
@@ -16,7 +16,7 @@ use Rattle.p2p_directory.specs.Laws.OrderRuns.{infos_together, with_updates, IsS
 use Rattle.p2p_directory.proofs.Definitions.Law
 use Rattle.p2p_directory.proofs.LawsOfRuns.Ordered
 
-module _ {C S : Type 0} (s : Setup C S) (least : 1 ≤ s.max_sets) where
+module _ {C S : Type 0} (s : Settings C S) (least : 1 ≤ s.max_sets) where
   -- after these accepted calls all stands as it does
   abbrev Alike : List (Call C S) → List (Call C S) → Type 0
   Alike before other = Run.world_after s before ≡ Run.world_after s other

@@ -3,7 +3,7 @@ use Rattle.std.proofs.Common.{◌≡◌, ◌≤◌, Bool, true, false, cond, Lis
 use Rattle.std.specs.Prelude.{if◌then◌else◌, nat_lt, filter}
 use Rattle.std.proofs.lemmas.Bool.{ltb-true, ltb-false}
 use Rattle.p2p_discovery.specs.declared.discovery.Info.{Info}
-use Rattle.p2p_tracker.specs.Calls.{Setup, Call}
+use Rattle.p2p_tracker.specs.Calls.{Settings, Call}
 use Rattle.p2p_tracker.specs.Calls.Call.{Update}
 use Rattle.p2p_tracker.specs.History
 use Rattle.p2p_tracker.specs.History.{first_greatest, earlier_best}
@@ -56,7 +56,7 @@ filter_member {A} test (y ∷ xs) x m t = go (filter_member test xs x) (test y) 
     go more true e = elim [ inl same ↦ inl same | inr m ↦ inr (more m t) ]
     go more false e = elim [ inl same ↦ absurd (let f = sym e ∙ ap test (sym same) ∙ t in cc) | inr m ↦ more m t ]
 
-module _ {C S : Type 0} (s : Setup C S) where
+module _ {C S : Type 0} (s : Settings C S) where
   mine : C → List (Info C S) → List (Info C S)
   mine p xs = filter (λ i. History.same s i.public_key p) xs
 

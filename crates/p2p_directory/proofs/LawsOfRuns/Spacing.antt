@@ -5,7 +5,7 @@ use Rattle.std.specs.List.{list_all, list_any}
 use Rattle.std.proofs.lemmas.Bool.{leb-true, ltb-false, not-true, and_parts}
 use Rattle.p2p_discovery.specs.declared.types.ingress.Ingress.{Ingress}
 use Rattle.p2p_tracker.specs.declared.record.Status.{Status}
-use Rattle.p2p_tracker.specs.Calls.{Setup, Call, SetAt, Grant, Event}
+use Rattle.p2p_tracker.specs.Calls.{Settings, Call, SetAt, Grant, Event}
 use Rattle.p2p_tracker.specs.Calls.Call.{Track, Dial, Listen, Connect, Release, Update, Block, UnblockExpired, ForgetCooled, Ask}
 use Rattle.p2p_tracker.specs.declared.record.Status.TheVariants.{Inert, Reserved, Active}
 use Rattle.p2p_tracker.specs.Calls.Event.{Nothing, Tracked, Granted, Connected, Released, Updated, Blocked, Expired, Forgot}
@@ -21,7 +21,7 @@ use Rattle.p2p_directory.specs.Laws.Grants.{KeepsCooldownUnlessForgotten, moment
 use Rattle.p2p_directory.specs.Laws.Grants.{blocks_in, AreOver, IsOverAt, KeepsBlocks}
 use Rattle.p2p_directory.proofs.Definitions.Steps
 
-module _ {C S : Type 0} (s : Setup C S) where
+module _ {C S : Type 0} (s : Settings C S) where
   -- WHAT AN EVENT TELLS OF THE WORLD BEFORE IT
 
   -- p's cooldown is over at t, and it isn't blocked

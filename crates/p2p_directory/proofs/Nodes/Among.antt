@@ -9,7 +9,7 @@ use Rattle.std.proofs.lemmas.Bool.{eq-eqb, lt-ltb, le-ltb}
 use Rattle.std.proofs.lemmas.List.{get_or-map, length-map, map-set, map-append}
 use Rattle.p2p_tracker.specs.Directory.{DirectoryView}
 use Rattle.p2p_directory.specs.declared.node.Received.{Received}
-use Rattle.p2p_directory.specs.declared.node.Setup.{Setup as Given}
+use Rattle.p2p_directory.specs.declared.node.Setup.{Setup}
 use Rattle.p2p_directory.specs.declared.node.exchanged.Exchanged.{Exchanged}
 use Rattle.p2p_directory.specs.declared.node.network.NetworkCommand.{NetworkCommand}
 use Rattle.p2p_directory.specs.declared.node.network.NetworkCommand.TheVariants as command
@@ -139,7 +139,7 @@ so_many es es2 same = length-map es2 node_of ∙ same ∙ sym (length-map es nod
 
 -- A NEW NODE of a setup
 
-module _ {C S : Type 0} (cmp : C → C → Ordering) (given : Given C S) (es es2 : List (EndpointView C S))
+module _ {C S : Type 0} (cmp : C → C → Ordering) (given : Setup C S) (es es2 : List (EndpointView C S))
     (e : EndpointView C S) (stands : NodeStandsAt (made_of cmp given) [] (node_of e)) where
   -- behind all others
   pub added : es2 ≡ es ++ e ∷ [] → IsAdded cmp given (nodes_of es) (nodes_of es2)

@@ -7,9 +7,9 @@ use Rattle.p2p_discovery.specs.declared.discovery.Payload.{Payload}
 use Rattle.p2p_discovery.specs.declared.discovery.Payload.TheVariants as said
 use Rattle.p2p_directory.specs.declared.node.exchanged.Exchanged.{Exchanged}
 use Rattle.p2p_directory.specs.Received.{Standing}
-use Rattle.p2p_directory.specs.Exchange.Outcome.{AskRefused}
-use Rattle.p2p_directory.specs.Exchange.{Outcome, asked_at, replied_at, exchanged_at, may_want_memory, IsAnswer}
-use Rattle.p2p_directory.specs.Private.Exchanging.{Replies}
+use Rattle.p2p_directory.specs.Exchange.ExchangeOutcome.{AskRefused}
+use Rattle.p2p_directory.specs.Exchange.{ExchangeOutcome, asked_at, replied_at, exchanged_at, exchange_may_want_memory, IsExchangeAnswer}
+use Rattle.p2p_directory.specs.Private.Exchanging.{RepliesToBits}
 use Rattle.p2p_directory.specs.Private.Frames.{HasSpelling}
 
 pub bits_are : {C S : Type 0} (x y : BitVec) → ◌≡◌ {A = Payload C S} (said.BitVec x) (said.BitVec y) → x ≡ y
@@ -17,12 +17,12 @@ bits_are x y h = cc
 
 module _ {C S : Type 0} (IsKey : C → Type 0) (IsSignature : S → Type 0) (spelling : Payload C S → List ℕ) where
   -- a part of an exchange that comes to the same
-  pub replies_alike : (comes comes2 : Standing C S → ℕ → Outcome C S) →
+  pub replies_alike : (comes comes2 : Standing C S → ℕ → ExchangeOutcome C S) →
       ((asker : Standing C S) (now : ℕ) → comes2 asker now ≡ comes asker now) →
       (r : Result (List ℕ) (Exchanged C S)) →
-      Replies IsKey IsSignature spelling comes r → Replies IsKey IsSignature spelling comes2 r
+      RepliesToBits IsKey IsSignature spelling comes r → RepliesToBits IsKey IsSignature spelling comes2 r
   replies_alike comes comes2 same (Ok frame) h = (h.0, h.1, h.2, λ asker now. same asker now ∙ h.3 asker now)
-  replies_alike comes comes2 same (Err ended) h = (h.0, λ asker now. subst (λ o. IsAnswer true o ended) (sym (same asker now)) (h.1 asker now))
+  replies_alike comes comes2 same (Err ended) h = (h.0, λ asker now. subst (λ o. IsExchangeAnswer true o ended) (sym (same asker now)) (h.1 asker now))
 
 -- bits that the replier read, no more than its limit
 pub asked_read : {C S : Type 0} (asker replier : Standing C S) (asker_now now : ℕ) (v bits : BitVec) →
@@ -36,9 +36,9 @@ asked_read asker replier asker_now now v bits below same =
 pub handed : {C S : Type 0} (spelling : Payload C S → List ℕ) (asker replier : Standing C S)
     (place asker_now now : ℕ) (frame : List ℕ) (r : Exchanged C S) (o : Option BitVec) → asker.bits place ≡ o →
     Some frame ≡ option_map (λ v. spelling (said.BitVec v)) o → IfSome o HasSpelling →
-    ((v : BitVec) → HasSpelling v → frame ≡ spelling (said.BitVec v) → IsAnswer true (asked_at asker replier asker_now now (Some v)) r) →
-    IsAnswer (may_want_memory asker place) (exchanged_at asker replier place asker_now now) r
+    ((v : BitVec) → HasSpelling v → frame ≡ spelling (said.BitVec v) → IsExchangeAnswer true (asked_at asker replier asker_now now (Some v)) r) →
+    IsExchangeAnswer (exchange_may_want_memory asker place) (exchanged_at asker replier place asker_now now) r
 handed spelling asker replier place asker_now now frame r None is asked fits answers = absurd cc
 handed spelling asker replier place asker_now now frame r (Some v) is asked fits answers =
-    subst (λ o. IsAnswer (is_some o) (asked_at asker replier asker_now now o) r) (sym is)
+    subst (λ o. IsExchangeAnswer (is_some o) (asked_at asker replier asker_now now o) r) (sym is)
     (answers v fits (let same : frame ≡ spelling (said.BitVec v) = cc in same))

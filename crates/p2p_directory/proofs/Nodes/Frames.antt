@@ -14,14 +14,14 @@ use Rattle.p2p_directory.specs.declared.node.Received.TheVariants as received
 use Rattle.p2p_tracker.specs.Calls.{Call}
 use Rattle.p2p_tracker.specs.Calls.Call.{Update}
 use Rattle.p2p_directory.specs.Received as frames
-use Rattle.p2p_directory.specs.Received.{Wire, Standing, Outcome, applies, received_at, read_at}
+use Rattle.p2p_directory.specs.Received.{Wire, Standing, FrameOutcome, applies, received_at, read_at}
 use Rattle.p2p_directory.specs.Received.{greeted, replied, taken, applied_with}
 use Rattle.p2p_directory.specs.Nodes.{calls_with}
 use Rattle.p2p_directory.specs.Network.{infos_of_frame, infos_of_reading}
 
 module _ {C S : Type 0} (wire : Wire C S) (node : Standing C S) (now : ℕ) where
   -- these infos are applied with the answer, if any are
-  abbrev Applies : Outcome C S → List (Info C S) → Type 0
+  abbrev Applies : FrameOutcome C S → List (Info C S) → Type 0
   Applies o infos = o.applied ≡ (if applies o.answer then Some infos else None)
 
   of_greeting : (info : Info C S) (refused : Option Error) → Applies (greeted wire info refused) (info ∷ [])
@@ -44,7 +44,7 @@ module _ {C S : Type 0} (wire : Wire C S) (node : Standing C S) (now : ℕ) wher
   of_reading (Ok (said.Peers infos, rest)) = of_infos infos (list_refusal node.judge now infos)
 
   -- the calls accepted after an answer
-  after : (calls : List (Call C S)) (may : Bool) (o : Outcome C S) (infos : List (Info C S)) (r : Received) → Applies o infos → frames.IsAnswer may o r →
+  after : (calls : List (Call C S)) (may : Bool) (o : FrameOutcome C S) (infos : List (Info C S)) (r : Received) → Applies o infos → frames.IsFrameAnswer may o r →
       calls_with (applied_with o r) calls ≡ (if applies r then Update infos ∷ calls else calls)
   after calls may o infos r fits h = go r h
     where
@@ -52,7 +52,7 @@ module _ {C S : Type 0} (wire : Wire C S) (node : Standing C S) (now : ℕ) wher
       is true e = ap (λ x. calls_with x calls) (subst (λ b. o.applied ≡ (if b then Some infos else None)) e fits)
       is false e = ap (λ x. calls_with x calls) (subst (λ b. o.applied ≡ (if b then Some infos else None)) e fits)
 
-      go : (r : Received) → frames.IsAnswer may o r → calls_with (applied_with o r) calls ≡ (if applies r then Update infos ∷ calls else calls)
+      go : (r : Received) → frames.IsFrameAnswer may o r → calls_with (applied_with o r) calls ≡ (if applies r then Update infos ∷ calls else calls)
       go received.Memory h = refl
       go (received.Data message) h = is false (ap applies (sym h))
       go received.Greeted h = is true (ap applies (sym h))
@@ -62,7 +62,7 @@ module _ {C S : Type 0} (wire : Wire C S) (node : Standing C S) (now : ℕ) wher
       go received.Malformed h = is false (ap applies (sym h))
       go (received.Invalid error) h = is false (ap applies (sym h))
 
-  pub calls_after_frame : (calls : List (Call C S)) (frame : List ℕ) (may : Bool) (r : Received) → frames.IsAnswer may (received_at wire node frame now) r →
+  pub calls_after_frame : (calls : List (Call C S)) (frame : List ℕ) (may : Bool) (r : Received) → frames.IsFrameAnswer may (received_at wire node frame now) r →
       calls_with (applied_with (received_at wire node frame now) r) calls
       ≡ (if applies r then Update (infos_of_frame wire node.limits frame) ∷ calls else calls)
   calls_after_frame calls frame may r h =

@@ -4,7 +4,7 @@ use Rattle.std.proofs.Common.{subst, arith}
 use Rattle.std.specs.Prelude.{slice_index_or}
 use Rattle.std.specs.declared.cmp.Ordering.{Ordering}
 use Rattle.std.proofs.lemmas.List.{get_or-map, length-map}
-use Rattle.p2p_directory.specs.declared.node.Setup.{Setup as Given}
+use Rattle.p2p_directory.specs.declared.node.Setup.{Setup}
 use Rattle.p2p_directory.specs.declared.node.network.NetworkCommand.{NetworkCommand}
 use Rattle.p2p_directory.specs.declared.node.network.NetworkReply.{NetworkReply}
 use Rattle.p2p_tracker.specs.Directory.{DirectoryView}
@@ -49,11 +49,11 @@ module _ {C S : Type 0} (cmp : C → C → Ordering) where
   -- THE START
 
   -- an endpoint is a new node of a setup
-  abbrev pub IsNew : Given C S → EndpointView C S → Type 0
+  abbrev pub IsNew : Setup C S → EndpointView C S → Type 0
   IsNew given e = NodeStandsAt (made_of cmp given) [] (node_of e)
 
-  pub stand_at_start : (wire : Wire C S) (setups : List (Given C S)) (es : List (EndpointView C S))
-      (other : Given C S) → length es ≡ length setups → OfBoth IsNew setups es →
+  pub stand_at_start : (wire : Wire C S) (setups : List (Setup C S)) (es : List (EndpointView C S))
+      (other : Setup C S) → length es ≡ length setups → OfBoth IsNew setups es →
       StandAfter wire (length setups) (node_made cmp other setups) [] (nodes_of es)
   stand_at_start wire setups es other same all = record {
     count = length-map es node_of ∙ same;

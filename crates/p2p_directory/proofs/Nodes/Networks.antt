@@ -33,10 +33,10 @@ use Rattle.p2p_directory.specs.Network.{standing_at, StandAfter, IsNetworkAnswer
 use Rattle.p2p_directory.specs.Network as network
 use Rattle.p2p_directory.specs.Laws.Network.{IsWritten}
 use Rattle.p2p_directory.specs.Exchange.{Exchanges, IsExchangedAt}
-use Rattle.p2p_directory.specs.Private.Endpoints.{EndpointView, node_of, IsServedAt}
+use Rattle.p2p_directory.specs.Private.Endpoints.{EndpointView, node_of, IsEndpointServedAt}
 use Rattle.p2p_directory.specs.Private.Networks.{nodes_of, reply_to_ask, HasRoomFor, GrowSlots}
 use Rattle.p2p_directory.specs.Private.Networks.{KeepSlots, IsAnsweredAt, ExchangesAmong}
-use Rattle.p2p_directory.specs.Private.Serving.{has_room}
+use Rattle.p2p_directory.specs.Private.Serving.{has_slot_for}
 use Rattle.p2p_directory.specs.Private.Slots.{has_slot}
 use Rattle.p2p_directory.proofs.Nodes.Among.{not_two}
 use Rattle.p2p_directory.proofs.Nodes.Frames.{calls_after_frame}
@@ -141,7 +141,7 @@ module _ {C S : Type 0} (wire : Wire C S) (size : ℕ) (node : ℕ → Made C S)
       same (command.Exchange asker replier place now now2) m calls = refl
 
   pub call_more : (i : ℕ) (x : Command C S) (r : Reply C S) (e2 : EndpointView C S) →
-      i < length es → IsServedAt (node i) (calls_at wire size node done i) (call_of x) r
+      i < length es → IsEndpointServedAt (node i) (calls_at wire size node done i) (call_of x) r
       (node_of e2) →
       IsAnsweredAt wire size node done (command.Call i x) (reply.Call r)
       (nodes_of (slice_set es i e2))
@@ -153,7 +153,7 @@ module _ {C S : Type 0} (wire : Wire C S) (size : ℕ) (node : ℕ → Made C S)
   pub step_more : (i : ℕ) (x : Command C S) (r : Reply C S) (e2 : EndpointView C S) →
       i < length es → IsSteppedAt (node i) (calls_at wire size node done i) (call_of x) r
       (node_of e2) →
-      network.IsServedAt wire size node done (command.Call i x) (reply.Call r)
+      network.IsNetworkServedAt wire size node done (command.Call i x) (reply.Call r)
       (nodes_of (slice_set es i e2))
   step_more i x r e2 lt h = record {
     answer = go h.answer;
@@ -195,7 +195,7 @@ module _ {C S : Type 0} (wire : Wire C S) (size : ℕ) (node : ℕ → Made C S)
       let calls = calls_at wire size node done i in
       let at_i = standing_at wire size node done i in
       let same = calls_after_frame wire at_i (as_nanos now) calls frame
-      (frames.may_want_memory wire at_i frame (as_nanos now)) r h.answer in
+      (frames.frame_may_want_memory wire at_i frame (as_nanos now)) r h.answer in
       record {
         answer = (is_there i lt, h.answer);
         stand = set_more (command.Frame i frame now) (reply.Frame r) e2 lt
@@ -239,7 +239,7 @@ module _ {C S : Type 0} (wire : Wire C S) (size : ℕ) (node : ℕ → Made C S)
 -- the answer at its point is one of the two
 pub answered_served : {C S : Type 0} (wire : Wire C S) (size : ℕ) (node : ℕ → Made C S)
     (done : Done C S) (c : NetworkCommand C S) (r : NetworkReply C S) (vs : List (NodeView C S)) →
-    IsAnsweredAt wire size node done c r vs → network.IsServedAt wire size node done c r vs
+    IsAnsweredAt wire size node done c r vs → network.IsNetworkServedAt wire size node done c r vs
 answered_served wire size node done c r vs h = record { answer = inl h.answer; stand = h.stand }
 
 -- what is told of bits has a spelling
@@ -295,10 +295,10 @@ module _ {C S : Type 0} (cmp : C → C → Ordering) (es : List (EndpointView C 
 
 -- there is room for a command once there is room where it is for
 pub room_in_place : {C S : Type 0} (cmp : C → C → Ordering) (es : List (EndpointView C S)) (i : ℕ)
-    (e2 : EndpointView C S) (x : Command C S) → i < length es → has_room cmp e2.slots x ≡ true →
+    (e2 : EndpointView C S) (x : Command C S) → i < length es → has_slot_for cmp e2.slots x ≡ true →
     HasRoomFor cmp (slice_set es i e2) (command.Call i x)
 room_in_place {C} {S} cmp es i e2 x lt h e inside = subst (λ (y : EndpointView C S).
-    has_room cmp y.slots x ≡ true) (sym (get_or-set_same es i e2 e lt)) h
+    has_slot_for cmp y.slots x ≡ true) (sym (get_or-set_same es i e2 e lt)) h
 
 -- there is room for a command where there are more slots
 pub room_for_grows : {C S : Type 0} (cmp : C → C → Ordering) (es es2 : List (EndpointView C S))

@@ -15,7 +15,7 @@ use Rattle.p2p_discovery.specs.Reading.{Reading, ◌>>=◌, whole, Gives, Leaves
 use Rattle.p2p_discovery.specs.Varint.{varint32, varint64, varint32_at, varint64_at}
 use Rattle.p2p_discovery.specs.VarintLaws.{groups_lawful}
 use Rattle.p2p_discovery.specs.Bits.{packed, byte_count}
-use Rattle.p2p_discovery.specs.BitVec.{bits_at, bit_vec_at, unpacked}
+use Rattle.p2p_discovery.specs.BitVec.{bits_read_at, bit_vec_read_at, unpacked}
 use Rattle.p2p_discovery.specs.Counted.{length_at}
 use Rattle.p2p_discovery.specs.Lists.{spellings, items_at, list_at}
 use Rattle.p2p_discovery.specs.Info.{info_spelling, info_at}
@@ -66,8 +66,8 @@ number_refused r test bytes n rest read refused =
     ap (λ o. outcome_then o (checked false test InvalidLength)) read
     ∙ ap (λ (b : Bool). (cond b (takes_memory false n rest) (refuses (InvalidLength n) rest)).outcome) refused
 
-bits_refused : (limit : ℕ) (n : ℕ) (rest : List ℕ) → n < 2 ^ 64 → nat_le n limit ≡ false → (bits_at limit (varint64 n ++ rest)).outcome ≡ Err (InvalidLength n)
-unfolding bits_at
+bits_refused : (limit : ℕ) (n : ℕ) (rest : List ℕ) → n < 2 ^ 64 → nat_le n limit ≡ false → (bits_read_at limit (varint64 n ++ rest)).outcome ≡ Err (InvalidLength n)
+unfolding bits_read_at
 bits_refused limit n rest small more =
     let bytes = varint64 n ++ rest in
     then_refused ((varint64_at >>= checked false (λ n. nat_le n limit) InvalidLength) bytes).outcome
@@ -75,8 +75,8 @@ bits_refused limit n rest small more =
     (number_refused varint64_at (λ n. nat_le n limit) bytes n rest ((groups_lawful 10 1 9 (lit< tt)).again n rest small) more)
 
 bit_vec_refused : (limit index n : ℕ) (rest : List ℕ) → index < 2 ^ 64 → n < 2 ^ 64 → nat_le n limit ≡ false →
-    (bit_vec_at limit (varint64 index ++ (varint64 n ++ rest))).outcome ≡ Err (InvalidLength n)
-unfolding bit_vec_at
+    (bit_vec_read_at limit (varint64 index ++ (varint64 n ++ rest))).outcome ≡ Err (InvalidLength n)
+unfolding bit_vec_read_at
 bit_vec_refused limit index n rest fits small more =
     rw (
       (groups_lawful 10 1 9 (lit< tt)).again index (varint64 n ++ rest) fits,

@@ -3,18 +3,18 @@ use Rattle.std.proofs.Common.{◌≡◌, true, List, Option, is_some, inl, inr, 
 use Rattle.p2p_tracker.specs.declared.directory.Metadata.{Metadata}
 use Rattle.p2p_directory.specs.declared.run.commands.Reply.{Reply}
 use Rattle.p2p_directory.specs.declared.run.commands.Reply.TheVariants as reply
-use Rattle.p2p_tracker.specs.Calls.{Setup, Call}
+use Rattle.p2p_tracker.specs.Calls.{Settings, Call}
 use Rattle.p2p_tracker.specs.World.{World}
 use Rattle.p2p_directory.specs.Held.{held_of}
 use Rattle.p2p_directory.specs.Refinement.{Refines}
 use Rattle.p2p_directory.specs.Run.{world_after, next, Holds}
 use Rattle.p2p_directory.specs.Nodes.{Made, NodeView, NodeStandsAt, IsSteppedAt, may_reserve}
-use Rattle.p2p_directory.specs.Private.Endpoints.{IsServedAt}
+use Rattle.p2p_directory.specs.Private.Endpoints.{IsEndpointServedAt}
 use Rattle.p2p_directory.specs.Private.Serving.{ServerView, StandsAt}
 use Rattle.p2p_directory.specs.Private.Serving as serving
 use Rattle.p2p_directory.specs.Private.Slots.{held_in}
 
-holds_alike : {C S : Type 0} (s : Setup C S) (w : World C S) (h h2 : C → Option (Metadata C S)) → ((q : C) → h2 q ≡ h q) → Holds s w h → Holds s w h2
+holds_alike : {C S : Type 0} (s : Settings C S) (w : World C S) (h h2 : C → Option (Metadata C S)) → ((q : C) → h2 q ≡ h q) → Holds s w h → Holds s w h2
 holds_alike s w h h2 same holds = record { peers = λ q. ap is_some (same q) ∙ holds.peers q; metadata = λ q. same q ∙ holds.metadata q }
 
 module _ {C S : Type 0} (m : Made C S) (calls : List (Call C S)) (n : NodeView C S) (v : ServerView C S)
@@ -44,7 +44,7 @@ pub served : {C S : Type 0} (m : Made C S) (calls : List (Call C S)) (n n2 : Nod
     n2.directory ≡ v2.directory →
     ((q : C) → held_of m.directory.cmp n2.held q ≡ held_in m.directory.cmp v2.slots q) → n2.limits ≡ n.limits →
     n2.verifier ≡ n.verifier →
-    (StandsAt m.directory calls v → serving.IsServedAt m.directory calls c r v2) → NodeStandsAt m calls n → IsServedAt m calls c r n2
+    (StandsAt m.directory calls v → serving.IsCallServedAt m.directory calls c r v2) → NodeStandsAt m calls n → IsEndpointServedAt m calls c r n2
 served m calls n n2 v v2 c r directory held directory2 held2 limits verifier serves at =
     let answers = serves (of_node m calls n v directory held at) in
     record {
@@ -56,7 +56,7 @@ served m calls n n2 v v2 c r directory held directory2 held2 limits verifier ser
 
 -- a step: n2 has room for the command, n3 has served it, and n4 has no more room than it needs
 pub stepped : {C S : Type 0} (m : Made C S) (calls : List (Call C S)) (n n2 n3 n4 : NodeView C S) (c : Call C S) (r : Reply C S) → n2 ≡ n → n4 ≡ n3 →
-    (NodeStandsAt m calls n2 → IsServedAt m calls c r n3) → NodeStandsAt m calls n → IsSteppedAt m calls c r n4
+    (NodeStandsAt m calls n2 → IsEndpointServedAt m calls c r n3) → NodeStandsAt m calls n → IsSteppedAt m calls c r n4
 stepped m calls n n2 n3 n4 c r room less serves at =
     let answers = serves (subst (NodeStandsAt m calls) (sym room) at) in
     record { answer = inl answers.answer; left = subst (NodeStandsAt m (next m.directory calls c r)) (sym less) answers.left }

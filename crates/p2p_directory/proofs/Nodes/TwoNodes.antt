@@ -4,7 +4,7 @@ use Rattle.std.proofs.Common.{arith}
 use Rattle.std.specs.Prelude.{slice_index_or}
 use Rattle.std.specs.List.{AllPass}
 use Rattle.std.specs.declared.cmp.Ordering.{Ordering}
-use Rattle.p2p_directory.specs.declared.node.Setup.{Setup as Given}
+use Rattle.p2p_directory.specs.declared.node.Setup.{Setup}
 use Rattle.p2p_directory.specs.declared.node.network.NetworkCommand.{NetworkCommand}
 use Rattle.p2p_directory.specs.declared.node.network.NetworkReply.{NetworkReply}
 use Rattle.p2p_directory.specs.declared.node.network.NetworkReply.TheVariants as reply
@@ -26,7 +26,7 @@ of_both P a b of_a of_b (suc zero) d lt = of_b
 of_both P a b of_a of_b (suc (suc k)) d lt = absurd (omega (arith, lt))
 
 -- what both are made from
-pub made_is : {C S : Type 0} (cmp : C → C → Ordering) (left right : Given C S) →
+pub made_is : {C S : Type 0} (cmp : C → C → Ordering) (left right : Setup C S) →
     node_made cmp right (left ∷ right ∷ []) ≡ two (made_of cmp left) (made_of cmp right)
 made_is cmp left right = λ j i. each i j
   where
@@ -37,8 +37,8 @@ made_is cmp left right = λ j i. each i j
     each (suc (suc i)) = refl
 
 -- what holds of a network of these two setups, its commands and its replies
-pub as_two : {C S : Type 0} (cmp : C → C → Ordering) (left right : Given C S)
-    (setups : List (Given C S)) (cs cs2 : List (NetworkCommand C S))
+pub as_two : {C S : Type 0} (cmp : C → C → Ordering) (left right : Setup C S)
+    (setups : List (Setup C S)) (cs cs2 : List (NetworkCommand C S))
     (rs rs2 : List (NetworkReply C S))
     (P : ℕ → (ℕ → Made C S) → List (NetworkCommand C S) → List (NetworkReply C S) → Type 0) →
     setups ≡ left ∷ right ∷ [] → cs ≡ cs2 → rs ≡ rs2 →

@@ -15,7 +15,7 @@ use Rattle.p2p_directory.specs.Held.{held_of}
 use Rattle.p2p_directory.specs.Refinement.{Refines}
 use Rattle.p2p_directory.specs.Run.{world_after, Holds}
 use Rattle.p2p_directory.specs.Received as frames
-use Rattle.p2p_directory.specs.Received.{Wire, Standing, received_at, may_want_memory, ask_frame_at, applied_with, told_with}
+use Rattle.p2p_directory.specs.Received.{Wire, Standing, received_at, frame_may_want_memory, ask_frame_at, applied_with, told_with}
 use Rattle.p2p_directory.specs.declared.node.exchanged.Exchanged.{Exchanged}
 use Rattle.p2p_directory.specs.Exchange as exchange
 use Rattle.p2p_directory.specs.Exchange.{exchanged_at, infos_applied, IsExchangedAt}
@@ -69,9 +69,9 @@ module _ {C S : Type 0} (m : Made C S) (wire : Wire C S) (calls : List (Call C S
   left_at some (Some infos) v2 change = updated some infos v2 change.0 change.1
 
   pub received_in : 1 ≤ m.directory.max_sets → (frame : List ℕ) (now : ℕ) (r : Received) (v2 : NodeView C S) →
-      Answers m.directory.cmp (may_want_memory wire seen frame now) (received_at wire seen frame now) r v v2 → IsReceivedAt m wire calls frame now r v2
+      Answers m.directory.cmp (frame_may_want_memory wire seen frame now) (received_at wire seen frame now) r v v2 → IsReceivedAt m wire calls frame now r v2
   received_in some frame now r v2 answers = record {
-    answer = subst (λ node. frames.IsAnswer (may_want_memory wire node frame now) (received_at wire node frame now) r) stands_alike answers.answer;
+    answer = subst (λ node. frames.IsFrameAnswer (frame_may_want_memory wire node frame now) (received_at wire node frame now) r) stands_alike answers.answer;
     left = subst (λ node. NodeStandsAt m (calls_with (applied_with (received_at wire node frame now) r) calls) v2)
         stands_alike (left_at some (applied_with (received_at wire seen frame now) r) v2 answers.left);
   }
@@ -105,14 +105,14 @@ module _ {C S : Type 0} (m n : Made C S) (wire : Wire C S) (cs ds : List (Call C
     (at : NodeStandsAt m cs a) (there : NodeStandsAt n ds b) where
   pub exchanged_in : 1 ≤ m.directory.max_sets → (place s t : ℕ) (r : Exchanged C S) (a2 : NodeView C S) →
       (let asker = standing_of m.directory.cmp wire a in
-      exchange.IsAnswer (exchange.may_want_memory asker place)
+      exchange.IsExchangeAnswer (exchange.exchange_may_want_memory asker place)
       (exchanged_at asker (standing_of n.directory.cmp wire b) place s t) r) →
       IsLeft m.directory.cmp a (infos_applied r) a2 → IsExchangedAt m n wire cs ds place s t r a2
   exchanged_in some place s t r a2 answer left = record {
     answer =
         let asker = standing_in m wire (world_after m.directory cs) in
-        subst (λ replier. exchange.IsAnswer (exchange.may_want_memory asker place) (exchanged_at asker replier place s t) r) (stands_alike n wire ds b there)
-        (subst (λ asker. exchange.IsAnswer (exchange.may_want_memory asker place)
+        subst (λ replier. exchange.IsExchangeAnswer (exchange.exchange_may_want_memory asker place) (exchanged_at asker replier place s t) r) (stands_alike n wire ds b there)
+        (subst (λ asker. exchange.IsExchangeAnswer (exchange.exchange_may_want_memory asker place)
         (exchanged_at asker (standing_of n.directory.cmp wire b) place s t) r) (stands_alike m wire cs a at)
         answer);
     left = left_at m wire cs a at some (infos_applied r) a2 left;

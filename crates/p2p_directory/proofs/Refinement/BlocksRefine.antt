@@ -6,7 +6,7 @@ use Rattle.std.specs.List.{last_or, list_any}
 use Rattle.std.specs.BTreeMap.{is_at}
 use Rattle.p2p_tracker.specs.declared.directory.PeerSetUpdate.{PeerSetUpdate}
 use Rattle.p2p_tracker.specs.declared.directory.TrackedPeers.{TrackedPeers}
-use Rattle.p2p_tracker.specs.Calls.{Setup}
+use Rattle.p2p_tracker.specs.Calls.{Settings}
 use Rattle.p2p_tracker.specs.Calls.Event.{Blocked, Expired}
 use Rattle.p2p_tracker.specs.Moments.{cap}
 use Rattle.p2p_tracker.specs.History.{same, is_own, is_inert, is_persistent, is_named, is_entitled}
@@ -41,7 +41,7 @@ swapped true false c = refl
 swapped false true c = refl
 swapped false false c = refl
 
-module _ {C S : Type 0} (s : Setup C S) where
+module _ {C S : Type 0} (s : Settings C S) where
   -- BLOCKS
 
   blocked_alike : (w : World C S) (d : DirectoryView C S) (t : ℕ) → Refines s w d → (q : C) → is_blocked_in s.cmp d t q ≡ is_blocked_at s w t q

@@ -10,7 +10,7 @@ use Rattle.p2p_discovery.specs.declared.types.ingress.Ingress.{Ingress}
 use Rattle.p2p_tracker.specs.declared.record.Address.TheVariants.{Myself, Bootstrapper}
 use Rattle.p2p_tracker.specs.declared.record.Status.{Status}
 use Rattle.p2p_tracker.specs.declared.record.Status.TheVariants.{Inert, Reserved}
-use Rattle.p2p_tracker.specs.Calls.{Setup, Call, SetAt, Direction, Grant, Cooldown}
+use Rattle.p2p_tracker.specs.Calls.{Settings, Call, SetAt, Direction, Grant, Cooldown}
 use Rattle.p2p_tracker.specs.Calls.Event.{Tracked, Granted, Released, Forgot}
 use Rattle.p2p_tracker.specs.History.{same, is_own, is_inert, is_persistent, is_named, is_present_with, last_of}
 use Rattle.p2p_tracker.specs.World
@@ -40,7 +40,7 @@ above_latest : {C : Type 0} (index : ℕ) (o : Option (SetAt C)) → is_above in
 above_latest index None = refl
 above_latest index (Some set) = refl
 
-module _ {C S : Type 0} (s : Setup C S) where
+module _ {C S : Type 0} (s : Settings C S) where
   -- QUESTIONS
 
   pub tie_status : (w : World C S) (d : DirectoryView C S) (p : C) → Refines s w d → option_map (λ r. r.status) (record_of s.cmp d p) ≡ status_in s w p

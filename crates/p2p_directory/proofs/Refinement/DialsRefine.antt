@@ -7,7 +7,7 @@ use Rattle.std.proofs.lemmas.Bool.{and_parts, and_from}
 use Rattle.p2p_discovery.specs.declared.types.ingress.Ingress.{Ingress}
 use Rattle.p2p_discovery.specs.declared.discovery.Info.{Info}
 use Rattle.p2p_tracker.specs.declared.record.Address.TheVariants.{Myself}
-use Rattle.p2p_tracker.specs.Calls.{Setup, SetAt, Cooldown}
+use Rattle.p2p_tracker.specs.Calls.{Settings, SetAt, Cooldown}
 use Rattle.p2p_tracker.specs.History.{is_own, is_inert, is_persistent, is_named, is_present_with, is_entitled, primary_count, secondary_count}
 use Rattle.p2p_tracker.specs.World
 use Rattle.p2p_tracker.specs.World.{World, Known, Peer, last_ingress, is_target, reservable_from, dialable_from}
@@ -30,7 +30,7 @@ neither : (b : Bool) → (b && false) ≡ false
 neither true = refl
 neither false = refl
 
-module _ {C S : Type 0} (s : Setup C S) where
+module _ {C S : Type 0} (s : Settings C S) where
   -- ONE PEER
 
   -- an address is valid where the peer isn't the local node, and its ingress is known and valid

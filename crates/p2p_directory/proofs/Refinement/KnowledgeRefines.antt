@@ -17,7 +17,7 @@ use Rattle.p2p_discovery.specs.declared.types.ingress.Ingress.{Ingress}
 use Rattle.p2p_tracker.specs.declared.record.Address.TheVariants.{Myself, Discovered}
 use Rattle.p2p_tracker.specs.declared.record.Status.{Status}
 use Rattle.p2p_tracker.specs.declared.record.Status.TheVariants.{Inert, Reserved, Active}
-use Rattle.p2p_tracker.specs.Calls.{Setup, SetAt, Cooldown}
+use Rattle.p2p_tracker.specs.Calls.{Settings, SetAt, Cooldown}
 use Rattle.p2p_tracker.specs.Calls.Event.{Connected, Updated}
 use Rattle.p2p_tracker.specs.History.{same, is_own, is_inert, is_reserved, is_persistent, is_named}
 use Rattle.p2p_tracker.specs.History.{is_present_with, is_newer, first_greatest, primary_count}
@@ -45,7 +45,7 @@ use Rattle.p2p_directory.proofs.Refinement.CallsRefine.{tie_status, same_blocks,
 capped : (limit fails : ℕ) → limit < 2 ^ 64 → nat_le limit (min fails (2 ^ 64 - 1)) ≡ nat_le limit fails
 capped limit fails fits = grind (arith, nat_tests)
 
-module _ {C S : Type 0} (s : Setup C S) where
+module _ {C S : Type 0} (s : Settings C S) where
   -- ADDRESSES
 
   succeeded_given : (given : Option Ingress) → after_success {C = C} {S = S} (address_given given) ≡ address_given given

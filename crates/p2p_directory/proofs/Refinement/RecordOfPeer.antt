@@ -12,7 +12,7 @@ use Rattle.p2p_tracker.specs.declared.record.Address.TheVariants.{Unknown, Mysel
 use Rattle.p2p_tracker.specs.declared.record.Status.{Status}
 use Rattle.p2p_tracker.specs.declared.record.Status.TheVariants.{Inert, Reserved, Active}
 use Rattle.p2p_tracker.specs.declared.record.ReserveResult.TheVariants as reserve
-use Rattle.p2p_tracker.specs.Calls.{Setup, SetAt, Direction, Cooldown}
+use Rattle.p2p_tracker.specs.Calls.{Settings, SetAt, Direction, Cooldown}
 use Rattle.p2p_tracker.specs.Calls.Direction.{Listener, Dialer}
 use Rattle.p2p_tracker.specs.History.{same, is_own, is_inert, is_persistent, is_named, is_present_with, primary_count, secondary_count, is_entitled}
 use Rattle.p2p_tracker.specs.World
@@ -23,7 +23,7 @@ use Rattle.p2p_tracker.specs.Record.{RecordView, fresh, is_myself, is_eligible, 
 use Rattle.p2p_tracker.specs.Directory.{address_after_release, released_record, is_connectable, record_with_sets}
 use Rattle.p2p_directory.specs.Refinement.{metadata_of, address_given, address_known, address_of}
 
-module _ {C S : Type 0} (s : Setup C S) where
+module _ {C S : Type 0} (s : Settings C S) where
   -- the record of a present peer
   abbrev pub record_with : C → List (SetAt C) → Option Cooldown → Peer C S → RecordView C S
   record_with p sets cooldown peer = record {

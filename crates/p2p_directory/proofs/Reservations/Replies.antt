@@ -5,16 +5,16 @@ use Rattle.std.specs.declared.cmp.Ordering.{Ordering}
 use Rattle.p2p_tracker.specs.declared.directory.Metadata.{Metadata}
 use Rattle.p2p_directory.specs.declared.run.commands.Command.{Command}
 use Rattle.p2p_directory.specs.declared.run.commands.Command.TheVariants as command
-use Rattle.p2p_tracker.specs.Calls.{Setup, Call}
+use Rattle.p2p_tracker.specs.Calls.{Settings, Call}
 use Rattle.p2p_directory.specs.declared.run.commands.Reply.{Reply}
-use Rattle.p2p_directory.specs.Private.Serving.{ServerView, has_room, StandsAt, IsServedAt}
+use Rattle.p2p_directory.specs.Private.Serving.{ServerView, has_slot_for, StandsAt, IsCallServedAt}
 use Rattle.p2p_directory.specs.Private.Slots.{has_slot}
 use Rattle.p2p_directory.specs.Run.{call_of, calls_of, next, IsAnswer, accepted, AreAnswers}
 
 -- there are slots for more peers
 pub room_grows : {C S : Type 0} (cmp : C → C → Ordering) (slots slots2 : List (C × Option (Metadata C S)))
     (x : Command C S) → ((q : C) → has_slot cmp slots q ≡ true → has_slot cmp slots2 q ≡ true)
-    → has_room cmp slots x ≡ true → has_room cmp slots2 x ≡ true
+    → has_slot_for cmp slots x ≡ true → has_slot_for cmp slots2 x ≡ true
 room_grows cmp slots slots2 (command.Dial peer now draw) more h = more peer h
 room_grows cmp slots slots2 (command.Listen peer now draw) more h = more peer h
 room_grows cmp slots slots2 (command.Track index peers) more h = refl
@@ -42,10 +42,10 @@ room_grows cmp slots slots2 (command.Dialable now) more h = refl
 -- the slots are for the same peers
 pub room_stays : {C S : Type 0} (cmp : C → C → Ordering) (slots slots2 : List (C × Option (Metadata C S)))
     (x : Command C S) → ((q : C) → has_slot cmp slots2 q ≡ has_slot cmp slots q)
-    → has_room cmp slots x ≡ true → has_room cmp slots2 x ≡ true
+    → has_slot_for cmp slots x ≡ true → has_slot_for cmp slots2 x ≡ true
 room_stays cmp slots slots2 x same h = room_grows cmp slots slots2 x (λ q is. same q ∙ is) h
 
-module _ {C S : Type 0} (s : Setup C S) where
+module _ {C S : Type 0} (s : Settings C S) where
   pub answers_push : (before cs : List (Call C S)) (rs : List (Reply C S)) (c : Call C S) (r : Reply C S) →
       AreAnswers s before cs rs → IsAnswer s (accepted s before cs rs) c r → AreAnswers s before (cs ++ c ∷ []) (rs ++ r ∷ [])
   answers_push before [] [] c r h last = (last, tt)
@@ -62,7 +62,7 @@ module _ {C S : Type 0} (s : Setup C S) where
 
   -- one more command
   pub one_more : (xs : List (Command C S)) (rs : List (Reply C S)) (x : Command C S) (r : Reply C S) (v : ServerView C S) →
-      AreAnswers s [] (calls_of xs) rs → IsServedAt s (accepted s [] (calls_of xs) rs) (call_of x) r v →
+      AreAnswers s [] (calls_of xs) rs → IsCallServedAt s (accepted s [] (calls_of xs) rs) (call_of x) r v →
       AreAnswers s [] (calls_of (xs ++ x ∷ [])) (rs ++ r ∷ []) × StandsAt s (accepted s [] (calls_of (xs ++ x ∷ [])) (rs ++ r ∷ [])) v
   one_more xs rs x r v answers done =
       let grown : calls_of (xs ++ x ∷ []) ≡ calls_of xs ++ call_of x ∷ [] = map-append call_of xs (x ∷ []) in

@@ -1,5 +1,6 @@
 -- Serving one command answers by the calls accepted before, and leads to the world with it.
-use Rattle.std.proofs.Common.{◌≡◌, ℕ, ◌≤◌, ◌<◌, ◌+◌, ◌^◌, Bool, true, false, not, ◌&&◌, ◌||◌, List, [], ◌∷◌, Option, Some, None, inl, inr, refl, sym, ◌∙◌, ap, subst}
+use Rattle.std.proofs.Common.{◌≡◌, ℕ, ◌≤◌, ◌<◌, ◌+◌, ◌^◌, Bool, true, false, not, ◌&&◌, ◌||◌, List}
+use Rattle.std.proofs.Common.{[], ◌∷◌, Option, Some, None, inl, inr, refl, sym, ◌∙◌, ap, subst}
 use Rattle.std.specs.Prelude.{if◌then◌else◌, nat_lt, is_some, IfSome, IfNone}
 use Rattle.std.specs.List.{list_all}
 use Rattle.std.specs.Option.{option_map, option_map_or}
@@ -14,7 +15,7 @@ use Rattle.p2p_tracker.specs.declared.directory.Metadata.TheVariants as metadata
 use Rattle.p2p_tracker.specs.declared.record.Status.{Status}
 use Rattle.p2p_tracker.specs.declared.record.Status.TheVariants.{Inert, Reserved, Active}
 use Rattle.p2p_directory.specs.declared.run.commands.Reply.TheVariants as reply
-use Rattle.p2p_tracker.specs.Calls.{Setup, Call, Event, Direction, Grant}
+use Rattle.p2p_tracker.specs.Calls.{Settings, Call, Event, Direction, Grant}
 use Rattle.p2p_tracker.specs.Calls.Call.{Track, Dial, Listen, Connect, Release, Update, Block, UnblockExpired, ForgetCooled}
 use Rattle.p2p_tracker.specs.Calls.Direction.{Listener, Dialer}
 use Rattle.p2p_tracker.specs.Calls.Event.{Nothing, Tracked, Granted, Connected, Released, Updated, Blocked, Expired, Forgot}
@@ -34,7 +35,7 @@ use Rattle.p2p_tracker.specs.Directory.{EndsBlocks, IsNumberCooledIn, ForgetsCoo
 use Rattle.p2p_tracker.specs.Directory.{may_dial_in, ingress_in, ChangesRecord, Reserves, Connects}
 use Rattle.p2p_tracker.specs.Directory.{Updates, TakesSet, AreTornDown}
 use Rattle.p2p_directory.specs.Held.{AreHeld}
-use Rattle.p2p_directory.specs.Private.Serving.{ServerView, StandsAt, IsServedAt}
+use Rattle.p2p_directory.specs.Private.Serving.{ServerView, StandsAt, IsCallServedAt}
 use Rattle.p2p_directory.specs.Private.Slots.{held_in}
 use Rattle.p2p_directory.specs.Refinement.{Refines, config_of, record_in, metadata_of}
 use Rattle.p2p_directory.specs.Run.{world_after, event_of, Holds}
@@ -46,7 +47,7 @@ use Rattle.p2p_directory.proofs.Refinement.DialsRefine
 use Rattle.p2p_directory.proofs.Refinement.BlocksRefine
 use Rattle.p2p_directory.proofs.Refinement.KnowledgeRefines
 
-module _ {C S : Type 0} (s : Setup C S) where
+module _ {C S : Type 0} (s : Settings C S) where
   -- a reservation is held exactly of the peers that are reserved or connected
   pub are_held : (w : World C S) (d : DirectoryView C S) (h : C → Option (Metadata C S)) → Refines s w d → Holds s w h → AreHeld s.cmp d h
   are_held w d h stands holds q =
@@ -193,7 +194,7 @@ module _ {C S : Type 0} (s : Setup C S) where
       -- track, refused memory
       pub served_no_memory : (index : ℕ) (primary secondary : List C) →
           is_above index (latest_index v.directory.sets) ≡ true → v2.directory ≡ v.directory → v2.slots ≡ v.slots
-          → IsServedAt s cs (Track index primary secondary) reply.OutOfMemory v2
+          → IsCallServedAt s cs (Track index primary secondary) reply.OutOfMemory v2
       served_no_memory index primary secondary next directory slots = record {
         answer = inl (
           refl,
@@ -207,7 +208,7 @@ module _ {C S : Type 0} (s : Setup C S) where
       -- track, where the index is not above
       served_untaken : (index : ℕ) (primary secondary : List C) →
           is_above index (latest_index v.directory.sets) ≡ false → v2.directory ≡ v.directory → v2.slots ≡ v.slots
-          → IsServedAt s cs (Track index primary secondary) (reply.Track None) v2
+          → IsCallServedAt s cs (Track index primary secondary) (reply.Track None) v2
       served_untaken index primary secondary old directory slots =
           let c : Call C S = Track index primary secondary in
           let is = tracked_is cs index primary secondary false (above index false old) in
@@ -216,7 +217,7 @@ module _ {C S : Type 0} (s : Setup C S) where
       served_taken : (index : ℕ) (primary secondary torn : List C) →
           is_above index (latest_index v.directory.sets) ≡ true →
           TakesSet s.cmp v.directory v2.directory (set_of s.cmp index primary secondary) →
-          AreTornDown s.cmp v.directory v2.directory torn → v2.slots ≡ v.slots → IsServedAt s cs (Track index primary secondary) (reply.Track (Some torn)) v2
+          AreTornDown s.cmp v.directory v2.directory torn → v2.slots ≡ v.slots → IsCallServedAt s cs (Track index primary secondary) (reply.Track (Some torn)) v2
       served_taken index primary secondary torn next change down slots =
           let c : Call C S = Track index primary secondary in
           let w : World C S = world_after s cs in
@@ -243,7 +244,7 @@ module _ {C S : Type 0} (s : Setup C S) where
           is_some torn ≡ is_above index (latest_index v.directory.sets) → IfNone torn (v2.directory ≡ v.directory) →
           IfSome torn (λ _. TakesSet s.cmp v.directory v2.directory (set_of s.cmp index primary secondary)) →
           IfSome torn (AreTornDown s.cmp v.directory v2.directory) → v2.slots ≡ v.slots →
-          IsServedAt s cs (Track index primary secondary) (reply.Track torn) v2
+          IsCallServedAt s cs (Track index primary secondary) (reply.Track torn) v2
       served_track index primary secondary None answer same taken down slots = served_untaken index primary secondary (sym answer) same slots
       served_track index primary secondary (Some torn) answer same taken down slots = served_taken index primary secondary torn (sym answer) taken down slots
 
@@ -267,7 +268,7 @@ module _ {C S : Type 0} (s : Setup C S) where
       -- listen
       pub served_granted : (p : C) (now draw : ℕ) → may_listen_in s.cmp v.directory now p ≡ true → Reserves s.cmp v.directory v2.directory p now draw →
           ((q : C) → held_in s.cmp v2.slots q ≡ (if is_at (s.cmp p) q then Some (metadata.Listener p) else held_in s.cmp v.slots q)) →
-          IsServedAt s cs (Listen p now draw) (reply.Listen true) v2
+          IsCallServedAt s cs (Listen p now draw) (reply.Listen true) v2
       served_granted p now draw can change held =
           let c : Call C S = Listen p now draw in
           let grant : Grant = record { t = now; draw = draw; direction = Listener } in
@@ -281,7 +282,7 @@ module _ {C S : Type 0} (s : Setup C S) where
 
       pub served_refused : (p : C) (now draw : ℕ) → may_listen_in s.cmp v.directory now p ≡ false →
           v2.directory ≡ v.directory → v2.slots ≡ v.slots →
-          IsServedAt s cs (Listen p now draw) (reply.Listen false) v2
+          IsCallServedAt s cs (Listen p now draw) (reply.Listen false) v2
       served_refused p now draw can directory slots =
           let c : Call C S = Listen p now draw in
           let may = sym (DialsRefine.tie_may_listen s (world_after s cs) v.directory p now at.refines) ∙ can in
@@ -290,7 +291,7 @@ module _ {C S : Type 0} (s : Setup C S) where
 
       -- .. that is refused memory
       pub served_no_listen : (p : C) (now draw : ℕ) → may_listen_in s.cmp v.directory now p ≡ true →
-          v2.directory ≡ v.directory → v2.slots ≡ v.slots → IsServedAt s cs (Listen p now draw) reply.OutOfMemory v2
+          v2.directory ≡ v.directory → v2.slots ≡ v.slots → IsCallServedAt s cs (Listen p now draw) reply.OutOfMemory v2
       served_no_listen p now draw can directory slots =
           let c : Call C S = Listen p now draw in
           let grant : Grant = record { t = now; draw = draw; direction = Listener } in
@@ -331,7 +332,7 @@ module _ {C S : Type 0} (s : Setup C S) where
           Reserves s.cmp v.directory v2.directory p now draw →
           ((q : C) → held_in s.cmp v2.slots q
           ≡ (if is_at (s.cmp p) q then Some m else held_in s.cmp v.slots q)) →
-          IsServedAt s cs (Dial p now draw) (reply.Dial true) v2
+          IsCallServedAt s cs (Dial p now draw) (reply.Dial true) v2
       served_dialled p now draw m can is_for change held =
           let c : Call C S = Dial p now draw in
           let found = dialled p now draw can in
@@ -362,7 +363,7 @@ module _ {C S : Type 0} (s : Setup C S) where
           nothing (Some a) = refl
 
       pub served_not_dialled : (p : C) (now draw : ℕ) → may_dial_in s.cmp v.directory now p ≡ false →
-          v2.directory ≡ v.directory → v2.slots ≡ v.slots → IsServedAt s cs (Dial p now draw) (reply.Dial false) v2
+          v2.directory ≡ v.directory → v2.slots ≡ v.slots → IsCallServedAt s cs (Dial p now draw) (reply.Dial false) v2
       served_not_dialled p now draw can directory slots =
           let c : Call C S = Dial p now draw in
           let is = not_dialled p now draw can in
@@ -370,7 +371,7 @@ module _ {C S : Type 0} (s : Setup C S) where
 
       -- .. refused memory
       pub served_no_dial : (p : C) (now draw : ℕ) → may_dial_in s.cmp v.directory now p ≡ true →
-          v2.directory ≡ v.directory → v2.slots ≡ v.slots → IsServedAt s cs (Dial p now draw) reply.OutOfMemory v2
+          v2.directory ≡ v.directory → v2.slots ≡ v.slots → IsCallServedAt s cs (Dial p now draw) reply.OutOfMemory v2
       served_no_dial p now draw can directory slots =
           let found = dialled p now draw can in
           let grant : Grant = record { t = now; draw = draw; direction = Dialer found.0 } in
@@ -392,7 +393,7 @@ module _ {C S : Type 0} (s : Setup C S) where
       served_blocked : (p : C) (now : ℕ) → may_block s.cmp v.directory now p ≡ true →
           BlocksUntil s.cmp v.directory v2.directory p (cap (now + v.directory.config.block_duration)) →
           v2.slots ≡ v.slots →
-          IsServedAt s cs (Block p now) (reply.Block true) v2
+          IsCallServedAt s cs (Block p now) (reply.Block true) v2
       served_blocked p now can change slots =
           let w : World C S = world_after s cs in
           let c : Call C S = Block p now in
@@ -406,7 +407,7 @@ module _ {C S : Type 0} (s : Setup C S) where
           }
 
       served_not_blocked : (p : C) (now : ℕ) → may_block s.cmp v.directory now p ≡ false →
-          v2.directory ≡ v.directory → v2.slots ≡ v.slots → IsServedAt s cs (Block p now) (reply.Block false) v2
+          v2.directory ≡ v.directory → v2.slots ≡ v.slots → IsCallServedAt s cs (Block p now) (reply.Block false) v2
       served_not_blocked p now can directory slots =
           let c : Call C S = Block p now in
           let is = block_is p now false can in
@@ -416,13 +417,13 @@ module _ {C S : Type 0} (s : Setup C S) where
       pub served_block : (p : C) (now : ℕ) (taken : Bool) → taken ≡ may_block s.cmp v.directory now p → (taken ≡ false → v2.directory ≡ v.directory) →
           (taken ≡ true →
           BlocksUntil s.cmp v.directory v2.directory p (cap (now + v.directory.config.block_duration))) →
-          v2.slots ≡ v.slots → IsServedAt s cs (Block p now) (reply.Block taken) v2
+          v2.slots ≡ v.slots → IsCallServedAt s cs (Block p now) (reply.Block taken) v2
       served_block p now true answer same change slots = served_blocked p now (sym answer) (change refl) slots
       served_block p now false answer same change slots = served_not_blocked p now (sym answer) (same refl) slots
 
       -- .. refused memory
       pub served_no_block : (p : C) (now : ℕ) → may_block s.cmp v.directory now p ≡ true →
-          v2.directory ≡ v.directory → v2.slots ≡ v.slots → IsServedAt s cs (Block p now) reply.OutOfMemory v2
+          v2.directory ≡ v.directory → v2.slots ≡ v.slots → IsCallServedAt s cs (Block p now) reply.OutOfMemory v2
       served_no_block p now can directory slots =
           record {
             answer = inl (refl, ap was_blocked (event cs (Block p now) (Blocked p now) (block_is p now true can)));
@@ -431,7 +432,7 @@ module _ {C S : Type 0} (s : Setup C S) where
 
       pub served_expired : (now : ℕ) (any : Bool) → IsAnyUntil (unblock_of s.cmp v.directory) now any →
           EndsBlocks s.cmp v.directory v2.directory now → v2.slots ≡ v.slots →
-          IsServedAt s cs (UnblockExpired now) (reply.UnblockExpired any) v2
+          IsCallServedAt s cs (UnblockExpired now) (reply.UnblockExpired any) v2
       served_expired now any told change slots =
           let w : World C S = world_after s cs in
           let same : Holds s (world_with s (Expired now) w) (held_in s.cmp v.slots) = record { peers = at.holds.peers; metadata = at.holds.metadata } in
@@ -445,7 +446,7 @@ module _ {C S : Type 0} (s : Setup C S) where
 
       pub served_forgotten : (now count : ℕ) → IsNumberCooledIn s.cmp v.directory now count →
           ForgetsCooled s.cmp v.directory v2.directory now → v2.slots ≡ v.slots →
-          IsServedAt s cs (ForgetCooled now) (reply.ForgetCooled count) v2
+          IsCallServedAt s cs (ForgetCooled now) (reply.ForgetCooled count) v2
       served_forgotten now count told change slots =
           let w : World C S = world_after s cs in
           let same : Holds s (world_with s (Forgot now) w) (held_in s.cmp v.slots) = record { peers = at.holds.peers; metadata = at.holds.metadata } in
@@ -466,7 +467,7 @@ module _ {C S : Type 0} (s : Setup C S) where
       pub served_connected : (p : C) (dialer : Bool) (o : Option Status) →
           o ≡ option_map (λ r. r.status) (record_of s.cmp v.directory p) →
           option_map_or is_reserved o false ≡ true →
-          Connects s.cmp v.directory v2.directory p dialer → v2.slots ≡ v.slots → IsServedAt s cs (Connect p dialer) reply.Connect v2
+          Connects s.cmp v.directory v2.directory p dialer → v2.slots ≡ v.slots → IsCallServedAt s cs (Connect p dialer) reply.Connect v2
       served_connected p dialer o told reserved change slots =
           let w : World C S = world_after s cs in
           let may = reserved_is p o true told reserved in
@@ -483,7 +484,7 @@ module _ {C S : Type 0} (s : Setup C S) where
           }
 
       pub served_updated : (infos : List (Info C S)) → Updates s.cmp v.directory v2.directory infos →
-          v2.slots ≡ v.slots → IsServedAt s cs (Update infos) reply.UpdatePeers v2
+          v2.slots ≡ v.slots → IsCallServedAt s cs (Update infos) reply.UpdatePeers v2
       served_updated infos change slots =
           let w : World C S = world_after s cs in
           let same : Holds s (world_with s (Updated infos) w) (held_in s.cmp v.slots) = record { peers = at.holds.peers; metadata = at.holds.metadata } in
@@ -511,7 +512,7 @@ module _ {C S : Type 0} (s : Setup C S) where
 
       pub served_release : (p : C) (m : Metadata C S) → held_in s.cmp v.slots p ≡ Some m →
           ChangesRecord s.cmp v.directory v2.directory p (kept_after_release m) →
-          ((q : C) → held_in s.cmp v2.slots q ≡ (if is_at (s.cmp p) q then None else held_in s.cmp v.slots q)) → IsServedAt s cs (Release p) reply.Release v2
+          ((q : C) → held_in s.cmp v2.slots q ≡ (if is_at (s.cmp p) q then None else held_in s.cmp v.slots q)) → IsCallServedAt s cs (Release p) reply.Release v2
       served_release p m found change held =
           let w : World C S = world_after s cs in
           let spent = held_grant p m found in
@@ -531,7 +532,7 @@ module _ {C S : Type 0} (s : Setup C S) where
           }
 
       pub served_not_held : (p : C) → held_in s.cmp v.slots p ≡ None → v2.directory ≡ v.directory →
-          ((q : C) → held_in s.cmp v2.slots q ≡ (if is_at (s.cmp p) q then None else held_in s.cmp v.slots q)) → IsServedAt s cs (Release p) reply.NotHeld v2
+          ((q : C) → held_in s.cmp v2.slots q ≡ (if is_at (s.cmp p) q then None else held_in s.cmp v.slots q)) → IsCallServedAt s cs (Release p) reply.NotHeld v2
       served_not_held p none directory held = record {
         answer = inr (ap (λ b. if b then reply.Release else reply.NotHeld) (sym (ap is_some none) ∙ at.holds.peers p));
         left = same_views cs v v2 directory (λ q. held q ∙ go q (is_at (s.cmp p) q) refl) at;

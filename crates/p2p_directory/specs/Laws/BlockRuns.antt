@@ -4,7 +4,7 @@ use Rattle.std.specs.Prelude.{ℕ, ◌+◌, ◌≤◌, true, nat_le, if◌then�
 use Rattle.std.specs.Prelude.{None}
 use Rattle.std.specs.Option.{option_map}
 use Rattle.p2p_tracker.specs.Moments.{cap}
-use Rattle.p2p_tracker.specs.Calls.{Setup, Call}
+use Rattle.p2p_tracker.specs.Calls.{Settings, Call}
 use Rattle.p2p_tracker.specs.Calls.Call.{Block, UnblockExpired}
 use Rattle.p2p_tracker.specs.History.{same}
 use Rattle.p2p_directory.specs.declared.run.commands.Reply.{Reply}
@@ -33,7 +33,7 @@ IsNotBefore (Some t) (Some end) = end ≤ t
 IsNotBefore (Some t) None = Unit {0}
 IsNotBefore None end = Unit {0}
 
-module _ {C S : Type 0} (s : Setup C S) where
+module _ {C S : Type 0} (s : Settings C S) where
   -- the moment at which p was granted by a command, if it was
   abbrev pub moment_granted : C → Call C S → Reply C S → Option ℕ
   moment_granted p c r = option_map (λ grant. grant.0) (granted_by s p c r)

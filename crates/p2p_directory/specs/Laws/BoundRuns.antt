@@ -2,7 +2,7 @@
 -- oldest first.
 use Rattle.std.specs.Prelude.{ℕ, ◌≡◌, ◌+◌, ◌*◌, ◌≤◌, List, ◌∷◌, length}
 use Rattle.std.specs.List.{AllByRecursion}
-use Rattle.p2p_tracker.specs.Calls.{Setup, Call}
+use Rattle.p2p_tracker.specs.Calls.{Settings, Call}
 use Rattle.p2p_tracker.specs.History.{is_persistent, taken_sets}
 use Rattle.p2p_tracker.specs.World.{past}
 use Rattle.p2p_tracker.specs.Lists.{Lists}
@@ -11,7 +11,7 @@ use Rattle.p2p_directory.specs.declared.run.commands.Reply.TheVariants as reply
 use Rattle.p2p_directory.specs.Run.{world_after, next}
 use Rattle.p2p_directory.specs.Laws.Bounds.{NamesAtMost, is_left_over, IsBounded}
 
-module _ {C S : Type 0} (s : Setup C S) (n : ℕ) where
+module _ {C S : Type 0} (s : Settings C S) (n : ℕ) where
   -- at most n for each set that may be retained, the persistent keys, and those that are left over
   abbrev pub IsFew : List (Call C S) → ℕ → Type 0
   IsFew before count =

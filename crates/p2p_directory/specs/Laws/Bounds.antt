@@ -1,12 +1,12 @@
 -- How many peers a directory holds.
 use Rattle.std.specs.Prelude.{ℕ, ◌+◌, ◌*◌, ◌≤◌, Bool, not, ◌&&◌, ◌||◌, List, length}
-use Rattle.p2p_tracker.specs.Calls.{Setup, SetAt}
+use Rattle.p2p_tracker.specs.Calls.{Settings, SetAt}
 use Rattle.p2p_tracker.specs.History.{is_in, is_named, is_inert, is_persistent}
 use Rattle.p2p_tracker.specs.World.{World}
 use Rattle.p2p_tracker.specs.Answers.{is_present_in}
 use Rattle.p2p_tracker.specs.Lists.{Lists}
 
-module _ {C S : Type 0} (s : Setup C S) where
+module _ {C S : Type 0} (s : Settings C S) where
   -- the set names p, in either role
   abbrev pub names_in : SetAt C → C → Bool
   names_in x p = is_in s p x.primary || is_in s p x.secondary

@@ -3,7 +3,7 @@
 use Rattle.std.specs.Prelude.{◌≡◌, ℕ, ◌≤◌, true, not, List, ◌∷◌, filter, Option}
 use Rattle.std.specs.Option.{option_map}
 use Rattle.std.specs.Duration.{as_nanos}
-use Rattle.p2p_tracker.specs.Calls.{Setup, Question, Call}
+use Rattle.p2p_tracker.specs.Calls.{Settings, Question, Call}
 use Rattle.p2p_tracker.specs.Calls.Question.{DialableAt}
 use Rattle.p2p_tracker.specs.Calls.Call.{Dial, Ask}
 use Rattle.p2p_tracker.specs.History.{same, is_in}
@@ -22,7 +22,7 @@ IsGrantedOrOutOfMemory _ = ⊥
 abbrev pub next_query : {C S : Type 0} → Dialable C S → Option ℕ
 next_query answer = option_map as_nanos answer.next_query_at
 
-module _ {C S : Type 0} (s : Setup C S) where
+module _ {C S : Type 0} (s : Settings C S) where
   -- the keys other than q
   abbrev pub without : C → List C → List C
   without q ps = filter (λ p. not (same s q p)) ps

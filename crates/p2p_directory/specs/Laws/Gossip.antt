@@ -42,9 +42,9 @@ module _ {C S : Type 0} where
   wanted_infos a w b v now ps = filter_map (wanted_info a w b v (epoch_millis now)) ps
 
   -- P holds of each info that the call gives
-  abbrev pub Gives : (Info C S → Type 0) → Call C S → Type 0
-  Gives P (Update infos) = AllByRecursion P infos
-  Gives P _ = Unit {0}
+  abbrev pub GivesOnly : (Info C S → Type 0) → Call C S → Type 0
+  GivesOnly P (Update infos) = AllByRecursion P infos
+  GivesOnly P _ = Unit {0}
 
   -- what a node is made from is one setup: the keys in this order, its own key that of its own
   -- info, and one set or more

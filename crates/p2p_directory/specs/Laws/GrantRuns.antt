@@ -3,14 +3,14 @@
 use Rattle.std.specs.Prelude.{ℕ, ◌+◌, ◌≤◌, true, if◌then◌else◌, List, ◌∷◌, ◌++◌, Option, Some}
 use Rattle.std.specs.Prelude.{None, Bool, false, nat_le, option_to_list}
 use Rattle.p2p_tracker.specs.Moments.{cap, jitter}
-use Rattle.p2p_tracker.specs.Calls.{Setup, Call}
+use Rattle.p2p_tracker.specs.Calls.{Settings, Call}
 use Rattle.p2p_tracker.specs.Calls.Call.{Dial, Listen, Block, ForgetCooled}
 use Rattle.p2p_tracker.specs.History.{same}
 use Rattle.p2p_directory.specs.declared.run.commands.Reply.{Reply}
 use Rattle.p2p_directory.specs.declared.run.commands.Reply.TheVariants as reply
 use Rattle.p2p_directory.specs.Laws.Grants.{moment_or, AreOver}
 
-module _ {C S : Type 0} (s : Setup C S) where
+module _ {C S : Type 0} (s : Settings C S) where
   -- ONE COMMAND AND ITS REPLY
 
   -- the moment at which p was granted by it, and the draw
@@ -35,9 +35,9 @@ module _ {C S : Type 0} (s : Setup C S) where
 
   -- a grant, if there is one, comes no earlier than the cooldown after the one before, if there is
   -- one
-  abbrev pub IsCooledAfter : Option (ℕ × ℕ) → Option (ℕ × ℕ) → Type 0
-  IsCooledAfter (Some grant) (Some before) = cap (before.0 + s.cooldown) ≤ grant.0
-  IsCooledAfter _ _ = Unit {0}
+  abbrev pub IsGrantCooledAfter : Option (ℕ × ℕ) → Option (ℕ × ℕ) → Type 0
+  IsGrantCooledAfter (Some grant) (Some before) = cap (before.0 + s.cooldown) ≤ grant.0
+  IsGrantCooledAfter _ _ = Unit {0}
 
   -- the last grant of p, with one more command
   abbrev pub last_after : Option (ℕ × ℕ) → Option (ℕ × ℕ) → Option (ℕ × ℕ)
@@ -52,20 +52,20 @@ module _ {C S : Type 0} (s : Setup C S) where
 
   -- with p's last grant, unless it is forgotten: each grant of p keeps the cooldown after the one
   -- before it, if that isn't forgotten in between
-  abbrev pub KeepCooldownUnlessForgotten : C → Option (ℕ × ℕ) → List (Call C S) →
+  abbrev pub RunKeepsCooldownUnlessForgotten : C → Option (ℕ × ℕ) → List (Call C S) →
       List (Reply C S) → Type 0
-  KeepCooldownUnlessForgotten p kept (c ∷ cs) (r ∷ rs) =
-      IsCooledAfter (granted_by p c r) kept
-      × KeepCooldownUnlessForgotten p (kept_after c (granted_by p c r) kept) cs rs
-  KeepCooldownUnlessForgotten p kept _ _ = Unit {0}
+  RunKeepsCooldownUnlessForgotten p kept (c ∷ cs) (r ∷ rs) =
+      IsGrantCooledAfter (granted_by p c r) kept
+      × RunKeepsCooldownUnlessForgotten p (kept_after c (granted_by p c r) kept) cs rs
+  RunKeepsCooldownUnlessForgotten p kept _ _ = Unit {0}
 
   -- with p's last grant: as long as the moments of the commands that may grant, block, end a block
   -- or forget never go back, each grant of p keeps the cooldown after the one before it
-  abbrev pub KeepCooldown : C → ℕ → Option (ℕ × ℕ) → List (Call C S) → List (Reply C S) → Type 0
-  KeepCooldown p now last (c ∷ cs) (r ∷ rs) = (now ≤ moment_or s now c) →
-      IsCooledAfter (granted_by p c r) last
-      × KeepCooldown p (moment_or s now c) (last_after (granted_by p c r) last) cs rs
-  KeepCooldown p now last _ _ = Unit {0}
+  abbrev pub RunKeepsCooldown : C → ℕ → Option (ℕ × ℕ) → List (Call C S) → List (Reply C S) → Type 0
+  RunKeepsCooldown p now last (c ∷ cs) (r ∷ rs) = (now ≤ moment_or s now c) →
+      IsGrantCooledAfter (granted_by p c r) last
+      × RunKeepsCooldown p (moment_or s now c) (last_after (granted_by p c r) last) cs rs
+  RunKeepsCooldown p now last _ _ = Unit {0}
 
   -- BLOCKS
 
@@ -77,8 +77,8 @@ module _ {C S : Type 0} (s : Setup C S) where
   -- with blocks of p until these moments: as long as the moments of the commands that may grant,
   -- block, end a block or forget never go back, each grant of p comes when every block of p that
   -- was taken before it is over
-  abbrev pub KeepBlocks : C → ℕ → List ℕ → List (Call C S) → List (Reply C S) → Type 0
-  KeepBlocks p now ms (c ∷ cs) (r ∷ rs) = (now ≤ moment_or s now c) →
+  abbrev pub RunKeepsBlocks : C → ℕ → List ℕ → List (Call C S) → List (Reply C S) → Type 0
+  RunKeepsBlocks p now ms (c ∷ cs) (r ∷ rs) = (now ≤ moment_or s now c) →
       IsAfter (granted_by p c r) ms
-      × KeepBlocks p (moment_or s now c) (option_to_list (blocked_by p c r) ++ ms) cs rs
-  KeepBlocks p now ms _ _ = Unit {0}
+      × RunKeepsBlocks p (moment_or s now c) (option_to_list (blocked_by p c r) ++ ms) cs rs
+  RunKeepsBlocks p now ms _ _ = Unit {0}

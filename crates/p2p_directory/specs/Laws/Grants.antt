@@ -3,7 +3,7 @@ use Rattle.std.specs.Prelude.{◌≡◌, ℕ, ◌+◌, ◌≤◌, false, List, [
 use Rattle.std.specs.Prelude.{option_to_list}
 use Rattle.std.specs.List.{AllByRecursion, list_any}
 use Rattle.p2p_tracker.specs.Moments.{cap}
-use Rattle.p2p_tracker.specs.Calls.{Setup, Call, Grant, Event}
+use Rattle.p2p_tracker.specs.Calls.{Settings, Call, Grant, Event}
 use Rattle.p2p_tracker.specs.Calls.Call.{Dial, Listen, Block, UnblockExpired, ForgetCooled}
 use Rattle.p2p_tracker.specs.History.{last_with, grant_by, is_forgetting, block_by}
 
@@ -12,7 +12,7 @@ abbrev pub or_now : ℕ → Option ℕ → ℕ
 or_now now None = now
 or_now now (Some t) = t
 
-module _ {C S : Type 0} (s : Setup C S) where
+module _ {C S : Type 0} (s : Settings C S) where
   -- COOLDOWN
 
   -- t is no earlier than the cooldown after the grant that was found, if one was

@@ -2,7 +2,7 @@
 use Rattle.std.specs.Prelude.{◌≡◌, ℕ, Bool, false, not, if◌then◌else◌, List, [], ◌∷◌, filter}
 use Rattle.std.specs.Prelude.{Option, Some, None}
 use Rattle.std.specs.Option.{option_map_or}
-use Rattle.p2p_tracker.specs.Calls.{Setup, Question, Call}
+use Rattle.p2p_tracker.specs.Calls.{Settings, Question, Call}
 use Rattle.p2p_tracker.specs.Calls.Question.{StatusOf, InfoOf, IsEligible, IsAcceptable}
 use Rattle.p2p_tracker.specs.Calls.Call.{Dial, Listen, Connect, Release, Update, Block, Ask}
 use Rattle.p2p_tracker.specs.History.{same}
@@ -29,7 +29,7 @@ single_peer_of (Block q t) = Some q
 single_peer_of (Ask question) = single_peer_asked question
 single_peer_of _ = None
 
-module _ {C S : Type 0} (s : Setup C S) where
+module _ {C S : Type 0} (s : Settings C S) where
   -- a call on the single peer p
   abbrev pub is_on : C → Call C S → Bool
   is_on p c = option_map_or (λ q. same s q p) (single_peer_of c) false
@@ -55,7 +55,7 @@ pub record SameFor {C S : Type 0} (p : C) (w v : World C S) : Type 0 where
   pub cooldown : w.cooldown p ≡ v.cooldown p
   pub held : w.held p ≡ v.held p
 
-module _ {C S : Type 0} (s : Setup C S) where
+module _ {C S : Type 0} (s : Settings C S) where
   -- the answers that are on p are the same in both worlds, and so is whether it is listed
   pub record AnswersAlike (p : C) (w v : World C S) : Type 0 where
     pub present : is_present_in s w p ≡ is_present_in s v p

@@ -3,7 +3,7 @@
 use Rattle.std.specs.Prelude.{ℕ, ◌≡◌, Bool, true, if◌then◌else◌, List, ◌∷◌, Option, Some, None}
 use Rattle.std.specs.Option.{option_map}
 use Rattle.p2p_tracker.specs.declared.record.Dialable.{Dialable}
-use Rattle.p2p_tracker.specs.Calls.{Setup, Call}
+use Rattle.p2p_tracker.specs.Calls.{Settings, Call}
 use Rattle.p2p_tracker.specs.Calls.Question.{DialableAt}
 use Rattle.p2p_tracker.specs.Calls.Call.{Track, Ask}
 use Rattle.p2p_tracker.specs.History.{is_in}
@@ -13,7 +13,7 @@ use Rattle.p2p_directory.specs.declared.run.commands.Reply.TheVariants as reply
 use Rattle.p2p_directory.specs.Run.{world_after, event_of, IsAnswer, next}
 use Rattle.p2p_directory.specs.Laws.Isolation.{SameFor, is_on, left_for}
 
-module _ {C S : Type 0} (s : Setup C S) where
+module _ {C S : Type 0} (s : Settings C S) where
   -- whether a track after these calls tears p down, where its set is taken
   abbrev pub torn_after : C → List (Call C S) → Call C S → Option Bool
   torn_after p before c =

@@ -30,7 +30,7 @@ use Rattle.p2p_directory.specs.Exchange.{infos_applied}
 use Rattle.p2p_directory.specs.Network.{infos_of_frame}
 use Rattle.p2p_directory.specs.Network.{Done, changed_by, is_node, calls_at, world_at_node}
 use Rattle.p2p_directory.specs.Network.{standing_at, IsNetworkAnswer}
-use Rattle.p2p_directory.specs.Laws.Gossip.{IsSince, IsUpToDate, Gives, IsMade, wanted_info}
+use Rattle.p2p_directory.specs.Laws.Gossip.{IsSince, IsUpToDate, GivesOnly, IsMade, wanted_info}
 use Rattle.p2p_directory.specs.Laws.Gossip.{wanted_infos, unless_above}
 use Rattle.p2p_directory.specs.Laws.LateFrames.{TakesLate, SpellsFor}
 use Rattle.p2p_directory.specs.Laws.Isolation.{SameFor, left_for}
@@ -57,7 +57,7 @@ module _ {C S : Type 0} (wire : Wire C S) (size : ℕ) (node : ℕ → Made C S)
 
   -- P holds of each info that is given
   abbrev pub GivesTo : (Info C S → Type 0) → NetworkCommand C S × NetworkReply C S → Type 0
-  GivesTo P (command.Call i x, r) = Gives P (call_of x)
+  GivesTo P (command.Call i x, r) = GivesOnly P (call_of x)
   GivesTo P (command.Frame i frame now, reply.Frame r) = applies r ≡ true →
       AllByRecursion P (infos_of_frame wire (node i).limits frame)
   GivesTo P _ = Unit {0}
@@ -287,8 +287,8 @@ module _ {C S : Type 0} (wire : Wire C S) (size : ℕ) (node : ℕ → Made C S)
     RepliesInfos done _ _ = Unit {0}
 
   -- all nodes but the one that a command may change stand as before
-  abbrev pub LeavesOthers : Done C S → NetworkCommand C S → NetworkReply C S → Type 0
-  LeavesOthers done c r = (n : ℕ) → (changed_by c == n) ≡ false →
+  abbrev pub LeavesOtherNodes : Done C S → NetworkCommand C S → NetworkReply C S → Type 0
+  LeavesOtherNodes done c r = (n : ℕ) → (changed_by c == n) ≡ false →
       world_at_node wire size node ((c, r) ∷ done) n ≡ world_at_node wire size node done n
 
   -- a law of one reply holds of each reply of a run

@@ -2,13 +2,13 @@
 -- first.
 use Rattle.std.specs.Prelude.{◌≡◌, List, [], ◌∷◌, ◌++◌}
 use Rattle.p2p_discovery.specs.declared.discovery.Info.{Info}
-use Rattle.p2p_tracker.specs.Calls.{Setup, Call}
+use Rattle.p2p_tracker.specs.Calls.{Settings, Call}
 use Rattle.p2p_tracker.specs.Calls.Call.{Update}
 use Rattle.p2p_directory.specs.declared.run.commands.Reply.{Reply}
 use Rattle.p2p_directory.specs.Run.{world_after, IsAnswer, next}
 use Rattle.p2p_directory.specs.Laws.Order.{HaveSame, IsUnambiguous}
 
-module _ {C S : Type 0} (s : Setup C S) where
+module _ {C S : Type 0} (s : Settings C S) where
   -- the infos of updates, one update after the other
   abbrev pub infos_together : List (List (Info C S)) → List (Info C S)
   infos_together [] = []

@@ -5,23 +5,25 @@ use Rattle.std.specs.List.Sorted.{IsStrictlySortedBy}
 use Rattle.std.specs.Map.{keys_of}
 use Rattle.p2p_tracker.specs.declared.directory.PeerSetUpdate.{PeerSetUpdate}
 use Rattle.p2p_tracker.specs.declared.directory.TrackedPeers.{TrackedPeers}
-use Rattle.p2p_tracker.specs.Calls.{Setup}
+use Rattle.p2p_tracker.specs.Calls.{Settings}
 use Rattle.p2p_tracker.specs.PeerSets.{latest_index}
 use Rattle.p2p_tracker.specs.Lists.{Lists, IsLeastOf}
 use Rattle.p2p_tracker.specs.Blocks.{IsAnyUntil}
 use Rattle.p2p_tracker.specs.Record.{is_eligible, is_acceptable}
 use Rattle.p2p_tracker.specs.World.{World, may_listen, may_dial}
 use Rattle.p2p_tracker.specs.Answers.{status_in, IsNumberTracked, AreBlocked, IsNextUnblock}
-use Rattle.p2p_tracker.specs.Answers.{IsAnyExpired, IsNumberCooled, set_with_index, latest_index_in, AreAll}
+use Rattle.p2p_tracker.specs.Answers.{IsAnyExpired, IsNumberCooled, set_with_index, latest_index_in}
+use Rattle.p2p_tracker.specs.Answers.{AreAll}
 use Rattle.p2p_tracker.specs.Answers.{IsLatestUpdate, sharable_info, infos_for, is_eligible_at}
 use Rattle.p2p_tracker.specs.Answers.{is_acceptable_at, IsDialable}
 use Rattle.p2p_tracker.specs.Directory.{DirectoryView, record_of, unblock_of, other_keys}
 use Rattle.p2p_tracker.specs.Directory.{is_blocked_in, peers_of, peer_set_in, AreAllOf, IsUpdateOf}
-use Rattle.p2p_tracker.specs.Directory.{sharable_in, infos_in, bit_vec_at, is_free_and, IsNumberCooledIn}
+use Rattle.p2p_tracker.specs.Directory.{sharable_in, infos_in, bit_vec_at, is_free_and}
+use Rattle.p2p_tracker.specs.Directory.{IsNumberCooledIn}
 use Rattle.p2p_tracker.specs.Directory.{AreDialableIn, may_listen_in, may_dial_in}
 use Rattle.p2p_directory.specs.Run.{bit_vec_in, update_in}
 
-module _ {C S : Type 0} (s : Setup C S) (w : World C S) (d : DirectoryView C S) where
+module _ {C S : Type 0} (s : Settings C S) (w : World C S) (d : DirectoryView C S) where
   -- each answer by what is kept, as the calls of a directory say it, is that of the world
   pub record AnswersAs : Type 0 where
     pub status : (p : C) → option_map (λ r. r.status) (record_of s.cmp d p) ≡ status_in s w p

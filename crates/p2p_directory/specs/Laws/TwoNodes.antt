@@ -13,8 +13,8 @@ use Rattle.p2p_directory.specs.Laws.Network.{RepliesInfos, TakesFrame}
 
 module _ {C S : Type 0} (wire : Wire C S) (left right : Made C S) where
   -- each exchange of a run
-  abbrev pub KeepExchanges : Done C S → List (PairCommand C S) → List (PairReply C S) → Type 0
-  KeepExchanges done cs rs =
+  abbrev pub KeepPairExchanges : Done C S → List (PairCommand C S) → List (PairReply C S) → Type 0
+  KeepPairExchanges done cs rs =
       network.KeepExchanges wire 2 (two left right) done (commands_in cs) (replies_in rs)
 
   -- what is held at each point of a run, the last one too

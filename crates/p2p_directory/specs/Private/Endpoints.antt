@@ -29,7 +29,7 @@ node_of e = record {
 }
 
 -- the reply to one more call answers at its point, and the node then stands at the next
-pub record IsServedAt {C S : Type 0} (m : Made C S) (calls : List (Call C S)) (c : Call C S)
+pub record IsEndpointServedAt {C S : Type 0} (m : Made C S) (calls : List (Call C S)) (c : Call C S)
     (r : Reply C S) (v : NodeView C S) : Type 0 where
   pub answer : IsAnswer m.directory calls c r
   pub left : NodeStandsAt m (next m.directory calls c r) v
@@ -39,4 +39,4 @@ pub record IsServedAt {C S : Type 0} (m : Made C S) (calls : List (Call C S)) (c
 abbrev pub IsServedBy : {C S : Type 0} → (C → C → Ordering) →
     Command C S → Reply C S → EndpointView C S → EndpointView C S → Type 0
 IsServedBy cmp x r e e2 =
-    AtEach cmp (node_of e) (λ m calls. IsServedAt m calls (call_of x) r (node_of e2))
+    AtEach cmp (node_of e) (λ m calls. IsEndpointServedAt m calls (call_of x) r (node_of e2))

@@ -8,7 +8,8 @@ use Rattle.p2p_discovery.specs.declared.discovery.Payload.TheVariants as said
 use Rattle.p2p_directory.specs.declared.node.exchanged.Exchanged.{Exchanged}
 use Rattle.p2p_directory.specs.declared.node.exchanged.Exchanged.TheVariants as exchanged
 use Rattle.p2p_directory.specs.Received.{Standing}
-use Rattle.p2p_directory.specs.Exchange.{Outcome, replied_at, IsAnswer, infos_applied}
+use Rattle.p2p_directory.specs.Exchange.{ExchangeOutcome, replied_at, IsExchangeAnswer}
+use Rattle.p2p_directory.specs.Exchange.{infos_applied}
 use Rattle.p2p_directory.specs.Private.Frames.{HaveSpelling}
 
 module _ {C S : Type 0} where
@@ -24,11 +25,11 @@ module _ {C S : Type 0} where
 
   -- the replier's part of an exchange that comes to this, by who asks, and when: a frame that
   -- spells infos, and it comes to what the asker makes of them; or an end of it, nothing applied
-  abbrev pub Replies : (C → Type 0) → (S → Type 0) → (Payload C S → List ℕ) →
-      (Standing C S → ℕ → Outcome C S) → Result (List ℕ) (Exchanged C S) → Type 0
-  Replies IsKey IsSignature spelling comes (Ok frame) =
+  abbrev pub RepliesToBits : (C → Type 0) → (S → Type 0) → (Payload C S → List ℕ) →
+      (Standing C S → ℕ → ExchangeOutcome C S) → Result (List ℕ) (Exchanged C S) → Type 0
+  RepliesToBits IsKey IsSignature spelling comes (Ok frame) =
       (infos : List (Info C S)) × HaveSpelling IsKey IsSignature infos
       × (frame ≡ spelling (said.Peers infos))
       × ((asker : Standing C S) (now : ℕ) → comes asker now ≡ replied_at asker now (Some infos))
-  Replies IsKey IsSignature spelling comes (Err ended) = (infos_applied ended ≡ None)
-      × ((asker : Standing C S) (now : ℕ) → IsAnswer true (comes asker now) ended)
+  RepliesToBits IsKey IsSignature spelling comes (Err ended) = (infos_applied ended ≡ None)
+      × ((asker : Standing C S) (now : ℕ) → IsExchangeAnswer true (comes asker now) ended)

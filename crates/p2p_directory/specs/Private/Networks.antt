@@ -3,7 +3,7 @@
 use Rattle.std.specs.Prelude.{ℕ, ◌≡◌, ◌<◌, true, List, ◌∷◌, length, map, slice_index_or, slice_set}
 use Rattle.std.specs.Prelude.{Bool, false, Option, Result, Ok, Err}
 use Rattle.std.specs.declared.cmp.Ordering.{Ordering}
-use Rattle.p2p_directory.specs.declared.node.Setup.{Setup as Given}
+use Rattle.p2p_directory.specs.declared.node.Setup.{Setup}
 use Rattle.p2p_directory.specs.declared.node.network.NetworkCommand.{NetworkCommand}
 use Rattle.p2p_directory.specs.declared.node.network.NetworkCommand.TheVariants as command
 use Rattle.p2p_directory.specs.declared.node.network.NetworkReply.{NetworkReply}
@@ -15,7 +15,7 @@ use Rattle.p2p_directory.specs.Nodes.{NodeView, Made}
 use Rattle.p2p_directory.specs.Network.{Done, OfNetwork, StandAfter, IsNetworkAnswer}
 use Rattle.p2p_directory.specs.Laws.Network.{IsWritten}
 use Rattle.p2p_directory.specs.Private.Endpoints.{EndpointView, node_of}
-use Rattle.p2p_directory.specs.Private.Serving.{has_room}
+use Rattle.p2p_directory.specs.Private.Serving.{has_slot_for}
 use Rattle.p2p_directory.specs.Private.Slots.{has_slot}
 
 -- the nodes that they are
@@ -40,7 +40,7 @@ module _ {C S : Type 0} (cmp : C → C → Ordering) where
   -- there is a slot for what the command may be granted
   abbrev pub HasRoomFor : List (EndpointView C S) → NetworkCommand C S → Type 0
   HasRoomFor es (command.Call i x) = (e : EndpointView C S) → i < length es →
-      has_room cmp (slice_index_or es i e).slots x ≡ true
+      has_slot_for cmp (slice_index_or es i e).slots x ≡ true
   HasRoomFor es _ = Unit {0}
 
   -- there are slots at each for the peers that had one, or for more
@@ -65,7 +65,7 @@ pub record IsAnsweredAt {C S : Type 0} (wire : Wire C S) (size : ℕ) (node : �
 -- .. whatever the nodes were made from, and whatever was done: vs before it, vs2 after it
 abbrev pub IsNetworkAnswered : {C S : Type 0} → (C → C → Ordering) → Wire C S →
     NetworkCommand C S → NetworkReply C S → List (NodeView C S) → List (NodeView C S) → Type 0
-IsNetworkAnswered {C} {S} cmp wire c r vs vs2 = (setups : List (Given C S)) (done : Done C S) →
+IsNetworkAnswered {C} {S} cmp wire c r vs vs2 = (setups : List (Setup C S)) (done : Done C S) →
     OfNetwork cmp setups (λ size node. StandAfter wire size node done vs →
     IsAnsweredAt wire size node done c r vs2)
 
@@ -73,7 +73,7 @@ IsNetworkAnswered {C} {S} cmp wire c r vs vs2 = (setups : List (Given C S)) (don
 abbrev pub IsNetworkWritten : {C S : Type 0} → (C → C → Ordering) → Wire C S → (C → Type 0) →
     (S → Type 0) → NetworkCommand C S → NetworkReply C S → List (NodeView C S) → Type 0
 IsNetworkWritten {C} {S} cmp wire IsKey IsSignature c r vs =
-    (setups : List (Given C S)) (done : Done C S) →
+    (setups : List (Setup C S)) (done : Done C S) →
     OfNetwork cmp setups (λ size node. StandAfter wire size node done vs →
     IsWritten wire size node IsKey IsSignature done c r)
 

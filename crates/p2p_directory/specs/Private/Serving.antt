@@ -8,11 +8,11 @@ use Rattle.p2p_tracker.specs.declared.directory.Metadata.{Metadata}
 use Rattle.p2p_directory.specs.declared.run.commands.Command.{Command}
 use Rattle.p2p_directory.specs.declared.run.commands.Command.TheVariants as command
 use Rattle.p2p_directory.specs.declared.run.commands.Reply.{Reply}
-use Rattle.p2p_tracker.specs.Calls.{Setup, Call}
+use Rattle.p2p_tracker.specs.Calls.{Settings, Call}
 use Rattle.p2p_tracker.specs.Directory.{DirectoryView}
 use Rattle.p2p_directory.specs.Refinement.{Refines}
 use Rattle.p2p_directory.specs.Private.Slots.{has_slot, held_in}
-use Rattle.p2p_directory.specs.Run.{setup_of, call_of, world_after}
+use Rattle.p2p_directory.specs.Run.{settings, call_of, world_after}
 use Rattle.p2p_directory.specs.Run.{IsAnswer, next, Holds}
 
 -- a directory, and slots for the reservations that it granted
@@ -22,12 +22,12 @@ pub record ServerView (C S : Type 0) : Type 0 where
 
 module _ {C S : Type 0} (cmp : C → C → Ordering) where
   -- there is a slot for what the command may be granted
-  abbrev pub has_room : List (C × Option (Metadata C S)) → Command C S → Bool
-  has_room slots (command.Dial peer now draw) = has_slot cmp slots peer
-  has_room slots (command.Listen peer now draw) = has_slot cmp slots peer
-  has_room slots _ = true
+  abbrev pub has_slot_for : List (C × Option (Metadata C S)) → Command C S → Bool
+  has_slot_for slots (command.Dial peer now draw) = has_slot cmp slots peer
+  has_slot_for slots (command.Listen peer now draw) = has_slot cmp slots peer
+  has_slot_for slots _ = true
 
-module _ {C S : Type 0} (s : Setup C S) where
+module _ {C S : Type 0} (s : Settings C S) where
   -- the directory and what is held stand at the point after these calls; the limit is a `usize`
   pub record StandsAt (calls : List (Call C S)) (v : ServerView C S) : Type 0 where
     pub limit_fits : s.dial_fail_limit < 2 ^ 64
@@ -35,7 +35,7 @@ module _ {C S : Type 0} (s : Setup C S) where
     pub holds : Holds s (world_after s calls) (held_in s.cmp v.slots)
 
   -- the reply to one more call answers at its point, and what is left stands at the next
-  pub record IsServedAt
+  pub record IsCallServedAt
       (calls : List (Call C S)) (c : Call C S) (r : Reply C S) (v : ServerView C S) : Type 0 where
     pub answer : IsAnswer s calls c r
     pub left : StandsAt (next s calls c r) v
@@ -45,5 +45,5 @@ abbrev pub IsServed : {C S : Type 0} → (C → C → Ordering) →
     Command C S → Reply C S → ServerView C S → ServerView C S → Type 0
 IsServed {C} {S} cmp x r v v2 =
     (bootstrappers : List (C × Ingress)) (myself : Info C S) (cfg : Config) →
-    (calls : List (Call C S)) → let s = setup_of cmp bootstrappers myself cfg in
-    StandsAt s calls v → IsServedAt s calls (call_of x) r v2
+    (calls : List (Call C S)) → let s = settings cmp bootstrappers myself cfg in
+    StandsAt s calls v → IsCallServedAt s calls (call_of x) r v2

@@ -1,6 +1,7 @@
 //! What a node is: a directory that serves commands, by what infos are judged, and limits.
 
-ghost use Rattle.std.specs.Prelude.{◌≡◌, ◌<◌, ◌^◌, true, false, None, IfOk, IfSome, OnOk, OnErr, length};
+ghost use Rattle.std.specs.Prelude.{◌≡◌, ◌<◌, ◌^◌, true, false, None, IfOk, IfSome, OnOk, OnErr};
+ghost use Rattle.std.specs.Prelude.{length};
 ghost use Rattle.std.specs.Prelude.{is_some, option_map};
 ghost use Rattle.std.specs.Duration.{as_nanos};
 ghost use Rattle.p2p_discovery.specs.Payload.{CanSpell, payload_spelling, IsPayload};
@@ -15,7 +16,7 @@ ghost use Rattle.p2p_directory.specs.Received.{applies, told_with};
 ghost use Rattle.p2p_directory.specs.Nodes.{may_reserve, Answers, AnswersFrame, AsksWith};
 ghost use Rattle.p2p_directory.specs.Nodes.{AreValues, TellsValues, IsStepped};
 ghost use Rattle.p2p_directory.specs.Private.Frames.{fault_answer, HasSpelling, HaveSpelling};
-ghost use Rattle.p2p_directory.specs.Private.Serving.{has_room};
+ghost use Rattle.p2p_directory.specs.Private.Serving.{has_slot_for};
 ghost use Rattle.p2p_directory.specs.Private.Slots.{contents, has_slot, held_in};
 ghost use Rattle.p2p_directory.specs.Private.Endpoints.{node_of, IsServedBy};
 
@@ -80,7 +81,7 @@ impl<C: PublicKey> Endpoint<C> {
 
     /// Serves one command, where there is a slot for what it may be granted.
     pub fn serve(&mut self, command: Command<C>) -> Reply<C>
-        requires room { has_room C.cmp self.old.slots command ≡ true }
+        requires room { has_slot_for C.cmp self.old.slots command ≡ true }
         ensures served { IsServedBy C.cmp command result self.old self.new }
         ensures unchanged { was_made result ≡ false → self.new ≡ self.old }
         ensures limits { self.new.limits ≡ self.old.limits }
@@ -97,7 +98,7 @@ impl<C: PublicKey> Endpoint<C> {
     pub fn make_room(&mut self, command: &Command<C>) -> Result<(), AllocError>
         ensures err { OnErr result (self.new ≡ self.old) }
         ensures reserves { OnErr result (may_reserve (call_of command.now) ≡ true) }
-        ensures room { OnOk result (has_room C.cmp self.new.slots command.now ≡ true) }
+        ensures room { OnOk result (has_slot_for C.cmp self.new.slots command.now ≡ true) }
         ensures slots { OnOk result ((q : C) →
             has_slot C.cmp self.old.slots q ≡ true → has_slot C.cmp self.new.slots q ≡ true) }
         ensures same { node_of self.new ≡ node_of self.old }

@@ -13,7 +13,7 @@ ghost use Rattle.p2p_directory.specs.Network.{IsAdded, IsReplaced};
 ghost use Rattle.p2p_directory.specs.Laws.Network.{KeepExchanges, AtEachPoint, OfEachReply};
 ghost use Rattle.p2p_directory.specs.Laws.Network.{Provenance, HoldSigned, OnlyGetNewer, Reach};
 ghost use Rattle.p2p_directory.specs.Laws.Network.{Acquaint, TakesGreeting, RepliesInfos};
-ghost use Rattle.p2p_directory.specs.Laws.Network.{TakesFrame, LeavesOthers, Isolate, Reorder};
+ghost use Rattle.p2p_directory.specs.Laws.Network.{TakesFrame, LeavesOtherNodes, Isolate, Reorder};
 ghost use Rattle.p2p_directory.specs.Private.Endpoints.{node_of};
 
 use crate::node::endpoint::Endpoint;
@@ -491,7 +491,7 @@ pub fn run_network<C: PublicKey>(
     ensures others { IfOk result (λ run. OfNetwork C.cmp setups.items (λ size node.
         let wire = wire_of C.SIZE C.spelled C.value
         C.Signature.SIZE C.Signature.spelled C.Signature.value C.verifies in
-        OfEachReply wire size node (LeavesOthers wire size node)
+        OfEachReply wire size node (LeavesOtherNodes wire size node)
         [] commands.items run.replies.items)) }
     ensures isolation { IfOk result (λ run. OfNetwork C.cmp setups.items (λ size node.
         let wire = wire_of C.SIZE C.spelled C.value

@@ -10,7 +10,7 @@ ghost use Rattle.p2p_directory.specs.Nodes.{NodeStandsAt, made_of};
 ghost use Rattle.p2p_directory.specs.Pairs.{ArePairAnswers, calls_left, commands_in, command_in};
 ghost use Rattle.p2p_directory.specs.Pairs.{replies_in, reply_in};
 ghost use Rattle.p2p_directory.specs.Pairs as pairs;
-ghost use Rattle.p2p_directory.specs.Laws.TwoNodes.{KeepExchanges, KeepSigned, KeepGreetings};
+ghost use Rattle.p2p_directory.specs.Laws.TwoNodes.{KeepPairExchanges, KeepSigned, KeepGreetings};
 ghost use Rattle.p2p_directory.specs.Laws.TwoNodes.{KeepReplies, KeepLate};
 ghost use Rattle.p2p_directory.specs.Private.Networks.{is_of_node};
 
@@ -163,7 +163,7 @@ pub fn run_pair<C: PublicKey>(
         C.Signature.SIZE C.Signature.spelled C.Signature.value C.verifies)
         (made_of C.cmp left) (made_of C.cmp right) commands.items run.replies.items side.Right)
         run.right) }
-    ensures exchanges { IfOk result (λ run. KeepExchanges (wire_of C.SIZE C.spelled C.value
+    ensures exchanges { IfOk result (λ run. KeepPairExchanges (wire_of C.SIZE C.spelled C.value
         C.Signature.SIZE C.Signature.spelled C.Signature.value C.verifies)
         (made_of C.cmp left) (made_of C.cmp right) [] commands.items run.replies.items) }
     ensures infos { IfOk result (λ run. KeepSigned (wire_of C.SIZE C.spelled C.value

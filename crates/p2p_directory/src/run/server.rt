@@ -4,7 +4,7 @@ ghost use Rattle.std.specs.Prelude.{◌≡◌, true, false, None, OnOk, OnErr, I
 ghost use Rattle.p2p_tracker.specs.Directory.{Updates};
 ghost use Rattle.p2p_directory.specs.Held.{held_of, AreHeld};
 ghost use Rattle.p2p_directory.specs.Private.Slots.{has_slot, held_in, AreSlots};
-ghost use Rattle.p2p_directory.specs.Private.Serving.{has_room, IsServed};
+ghost use Rattle.p2p_directory.specs.Private.Serving.{has_slot_for, IsServed};
 ghost use Rattle.p2p_directory.specs.Nodes.{may_reserve};
 ghost use Rattle.p2p_directory.specs.Run.{call_of, was_made};
 
@@ -53,7 +53,7 @@ impl<C: PublicKey> Server<C> {
 
     /// Serves one command, where there is a slot for what it may be granted.
     pub fn serve(&mut self, command: Command<C>) -> Reply<C>
-        requires room { has_room C.cmp self.old.slots command ≡ true }
+        requires room { has_slot_for C.cmp self.old.slots command ≡ true }
         ensures served { IsServed C.cmp command result self.old self.new }
         ensures unchanged { was_made result ≡ false → self.new ≡ self.old }
         ensures slots { (q : C) →
@@ -97,7 +97,7 @@ impl<C: PublicKey> Server<C> {
     pub fn make_room(&mut self, command: &Command<C>) -> Result<(), AllocError>
         ensures err { OnErr result (self.new ≡ self.old) }
         ensures reserves { OnErr result (may_reserve (call_of command.now) ≡ true) }
-        ensures room { OnOk result (has_room C.cmp self.new.slots command.now ≡ true) }
+        ensures room { OnOk result (has_slot_for C.cmp self.new.slots command.now ≡ true) }
         ensures slots { OnOk result ((q : C) →
             has_slot C.cmp self.old.slots q ≡ true → has_slot C.cmp self.new.slots q ≡ true) }
         ensures directory { self.new.directory ≡ self.old.directory }

@@ -2,7 +2,8 @@
 
 ghost use Rattle.std.specs.Prelude.{◌≡◌, ◌+◌, ◌<◌, ◌≤◌, ◌^◌, length};
 ghost use Rattle.p2p_discovery.specs.Reading.{Gives};
-ghost use Rattle.p2p_discovery.specs.BitVec.{bit_vec_spelling, IsAllowed, bits_at, bit_vec_at};
+ghost use Rattle.p2p_discovery.specs.BitVec.{bit_vec_spelling, IsBitVecAllowed, bits_read_at};
+ghost use Rattle.p2p_discovery.specs.BitVec.{bit_vec_read_at};
 ghost use Rattle.p2p_discovery.specs.BitVecLaws.{lawful_bit_vec};
 
 use crate::codec::{CodecError, EncodeSize, Read, Reader, Write};
@@ -40,11 +41,11 @@ impl Write for BitVec {
 impl Read for BitVec {
     type Cfg = u64;
 
-    ghost Admits = { IsAllowed };
+    ghost Admits = { IsBitVecAllowed };
 
-    ghost reading = { bit_vec_at };
+    ghost reading = { bit_vec_read_at };
 
-    #[tactic(auto, unfolding(crate::specs::BitVec::bit_vec_at))]
+    #[tactic(auto, unfolding(crate::specs::BitVec::bit_vec_read_at))]
     fn read(alloc: Global, reader: &mut Reader<'_>, limit: &u64) -> Result<BitVec, CodecError> {
         let index = u64::read(alloc, reader, &())?;
         let bits = read_bits(alloc, reader, *limit)?;
@@ -55,9 +56,9 @@ impl Read for BitVec {
 }
 
 // Reads the number of bits, and as many of them: at most so many.
-#[tactic(auto, unfolding(crate::specs::BitVec::bits_at))]
+#[tactic(auto, unfolding(crate::specs::BitVec::bits_read_at))]
 fn read_bits(alloc: Global, reader: &mut Reader<'_>, limit: u64) -> Result<BitMap, CodecError>
-    ensures { Gives result reader.new (bits_at limit reader.old) }
+    ensures { Gives result reader.new (bits_read_at limit reader.old) }
 {
     let count = u64::read(alloc, reader, &())?;
     if count > limit {

@@ -2,7 +2,7 @@
 
 ghost use Rattle.std.specs.Prelude.{◌≡◌, ◌↔◌, ◌≤◌, length, true, IfOk, IsOk, IsTrue};
 ghost use Rattle.p2p_discovery.specs.FieldsLaws.{lawful_unlimited};
-ghost use Rattle.p2p_discovery.specs.Address.{same_address, ingress_of, egress_of, IsAddress};
+ghost use Rattle.p2p_discovery.specs.Address.{same_address, dialled_ingress, egress_of, IsAddress};
 ghost use Rattle.p2p_discovery.specs.Address.{address_spelling, address_at};
 ghost use Rattle.p2p_discovery.specs.Ingress.{takes_none};
 ghost use Rattle.p2p_discovery.specs.Socket.{socket_ip};
@@ -36,8 +36,8 @@ impl Address {
     ///
     /// `AllocError` where memory for a name is refused.
     pub fn ingress(&self) -> Result<Ingress, AllocError>
-        ensures ingress { IfOk result (λ ingress. ingress ≡ ingress_of self.now) }
-        ensures socket { takes_none (ingress_of self.now) ≡ true → IsOk result }
+        ensures ingress { IfOk result (λ ingress. ingress ≡ dialled_ingress self.now) }
+        ensures socket { takes_none (dialled_ingress self.now) ≡ true → IsOk result }
     {
         match self {
             Address::Symmetric(socket) => Ok(Ingress::Socket(*socket)),
@@ -69,7 +69,7 @@ impl Address {
     /// `AllocError` where memory for a name is refused.
     pub fn clone(&self) -> Result<Address, AllocError>
         ensures equal { IfOk result (λ copy. copy ≡ self.now) }
-        ensures socket { takes_none (ingress_of self.now) ≡ true → IsOk result }
+        ensures socket { takes_none (dialled_ingress self.now) ≡ true → IsOk result }
     {
         match self {
             Address::Symmetric(socket) => Ok(Address::Symmetric(*socket)),

@@ -8,7 +8,7 @@ use Rattle.std.proofs.lemmas.List.Sums.{sum_by-cons}
 use Rattle.std.proofs.lemmas.Bool.{ltb-true, ltb-false, lt-ltb, le-ltb}
 use Rattle.p2p_discovery.specs.declared.discovery.Info.{Info}
 use Rattle.p2p_discovery.specs.declared.types.ingress.Ingress.{Ingress}
-use Rattle.p2p_tracker.specs.Calls.{Setup, Direction, Event}
+use Rattle.p2p_tracker.specs.Calls.{Settings, Direction, Event}
 use Rattle.p2p_tracker.specs.Calls.Event.{Nothing, Tracked, Granted, Connected, Released, Updated, Blocked, Expired, Forgot}
 use Rattle.p2p_tracker.specs.History
 use Rattle.p2p_tracker.specs.History.{last_of}
@@ -50,7 +50,7 @@ module _ {C S : Type 0} where
   first_greatest-append (i ∷ xs) ys =
       ap (History.earlier_best i) (first_greatest-append xs ys) ∙ sym (later_assoc (Some i) (History.first_greatest xs) (History.first_greatest ys))
 
-module _ {C S : Type 0} (s : Setup C S) where
+module _ {C S : Type 0} (s : Settings C S) where
   -- NEWER
 
   not_newer : (a : Option (Info C S)) → History.is_newer a a ≡ false
@@ -164,16 +164,16 @@ module _ {C S : Type 0} (s : Setup C S) where
   -- INFO IN A LIFE
 
   info_own : (p : C) (l : List (Event C S)) → History.is_own s p ≡ true → History.info_in s p l ≡ Some s.own
-  info_own p l e = ap (λ b. if b then Some s.own else History.first_greatest (History.infos_in s p l)) e
+  info_own p l e = ap (λ b. if b then Some s.own else History.first_greatest (History.infos_offered s p l)) e
 
-  info_other : (p : C) (l : List (Event C S)) → History.is_own s p ≡ false → History.info_in s p l ≡ History.first_greatest (History.infos_in s p l)
-  info_other p l e = ap (λ b. if b then Some s.own else History.first_greatest (History.infos_in s p l)) e
+  info_other : (p : C) (l : List (Event C S)) → History.is_own s p ≡ false → History.info_in s p l ≡ History.first_greatest (History.infos_offered s p l)
+  info_other p l e = ap (λ b. if b then Some s.own else History.first_greatest (History.infos_offered s p l)) e
 
   info_updated : (p : C) (infos : List (Info C S)) (l : List (Event C S)) → History.is_own s p ≡ false →
       History.info_in s p (Updated infos ∷ l) ≡ later (History.info_in s p l) (History.first_greatest (History.infos_by s p (Updated infos)))
   info_updated p infos l e =
       info_other p (Updated infos ∷ l) e
-      ∙ first_greatest-append (History.infos_in s p l) (History.infos_by s p (Updated infos))
+      ∙ first_greatest-append (History.infos_offered s p l) (History.infos_by s p (Updated infos))
       ∙ ap (λ x. later x (History.first_greatest (History.infos_by s p (Updated infos)))) (sym (info_other p l e))
 
   -- FAILURES IN A LIFE
@@ -217,8 +217,8 @@ module _ {C S : Type 0} (s : Setup C S) where
 
   info_quiet : (p : C) (e : Event C S) (l : List (Event C S)) → History.infos_by s p e ≡ [] → History.info_in s p (e ∷ l) ≡ History.info_in s p l
   info_quiet p e l none =
-      ap (λ is. if History.is_own s p then Some s.own else History.first_greatest (History.infos_in s p l ++ is)) none
-      ∙ ap (λ is. if History.is_own s p then Some s.own else History.first_greatest is) (append-nil (History.infos_in s p l))
+      ap (λ is. if History.is_own s p then Some s.own else History.first_greatest (History.infos_offered s p l ++ is)) none
+      ∙ ap (λ is. if History.is_own s p then Some s.own else History.first_greatest is) (append-nil (History.infos_offered s p l))
 
   -- an event that is no release
   no_failure : (p : C) (e : Event C S) → ((a : Ingress) → History.is_failure s p a e ≡ false) → (o : Option (Info C S)) → one_failure p o e ≡ 0

@@ -4,7 +4,7 @@ use Rattle.std.specs.List.Sorted.{IsStrictlySortedBy}
 use Rattle.std.specs.Ordering.{is_eq}
 use Rattle.std.specs.Cmp.{IsTotalOrder}
 use Rattle.p2p_tracker.proofs.Definitions.Members
-use Rattle.p2p_tracker.specs.Calls.{Setup}
+use Rattle.p2p_tracker.specs.Calls.{Settings}
 use Rattle.p2p_tracker.specs.History.{is_in, IsExact}
 use Rattle.p2p_tracker.specs.World.{World}
 use Rattle.p2p_tracker.specs.Answers.{IsNumberTracked, is_tracked, IsNumberCooled, is_cooled_at}
@@ -29,7 +29,7 @@ pub least_later : {C : Type 0} (f : C → Option ℕ) (u : ℕ) (next : Option �
 least_later f u None before least p n e = absurd (let f = sym (least p) ∙ e in cc)
 least_later f u (Some m) before least p n e = omega (arith, before, least.1 p n e)
 
-module _ {C S : Type 0} (s : Setup C S) where
+module _ {C S : Type 0} (s : Settings C S) where
   -- two least moments of the same keys are one
   pub one_least : (moment : C → Option ℕ) (a b : Option ℕ) → IsLeastOf moment a → IsLeastOf moment b → a ≡ b
   one_least moment None None x y = refl
@@ -37,7 +37,7 @@ module _ {C S : Type 0} (s : Setup C S) where
   one_least moment (Some m) None x y = absurd (let e = sym (y x.0.0) ∙ x.0.1 in cc)
   one_least moment (Some m) (Some n) x y = ap Some (omega (arith, x.1 y.0.0 n y.0.1, y.1 x.0.0 m x.0.1))
 
-module _ {C S : Type 0} (s : Setup C S) (total : IsTotalOrder s.cmp) (exact : IsExact s) where
+module _ {C S : Type 0} (s : Settings C S) (total : IsTotalOrder s.cmp) (exact : IsExact s) where
   pub same_members : (xs ys : List C) → IsStrictlySortedBy s.cmp xs → IsStrictlySortedBy s.cmp ys → ((p : C) → is_in s p xs ≡ is_in s p ys) → xs ≡ ys
   same_members xs ys sx sy members = Members.same_members total (λ x y e. exact x y (ap is_eq e)) xs ys sx sy members
 

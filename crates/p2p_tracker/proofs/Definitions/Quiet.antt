@@ -3,7 +3,7 @@ use Rattle.std.proofs.Common.{◌≡◌, ℕ, ◌<◌, ◌≤◌, Bool, true, fa
 use Rattle.std.specs.Prelude.{if◌then◌else◌, nat_lt, nat_le}
 use Rattle.std.specs.Cmp.{IsTotalOrder}
 use Rattle.std.proofs.lemmas.Bool.{le-leb, lt-leb, ltb-true, ltb-false, lt-ltb, le-ltb}
-use Rattle.p2p_tracker.specs.Calls.{Setup}
+use Rattle.p2p_tracker.specs.Calls.{Settings}
 use Rattle.p2p_tracker.specs.History
 use Rattle.p2p_tracker.specs.World
 use Rattle.p2p_tracker.specs.World.{World}
@@ -68,7 +68,7 @@ not_entitled own false true rest e = absurd (cc)
 not_entitled true false false rest e = refl
 not_entitled false false false rest e = refl
 
-module _ {C S : Type 0} (s : Setup C S) where
+module _ {C S : Type 0} (s : Settings C S) where
   absent : (p : C) (w : World C S) → is_present_in s w p ≡ false → is_target s p w.sets (w.peer p) ≡ false
   absent p w e =
       ap (λ b. b && History.is_inert (w.peer p).status && World.is_valid_address s

@@ -25,7 +25,7 @@ use Rattle.p2p_discovery.specs.BitSets.{with_bit}
 use Rattle.p2p_tracker.specs.declared.kept.places.Place.{Place}
 use Rattle.p2p_tracker.specs.PeerSets.{latest_index, is_above}
 use Rattle.p2p_discovery.specs.Ordered.{has_key}
-use Rattle.p2p_tracker.specs.Private.Places.{place_of, places_from, places_in, bit_at, bits_at, AreOrdered, IsIndexed}
+use Rattle.p2p_tracker.specs.Private.Places.{place_of, places_from, places_in, bit_at, with_bits_at, AreOrdered, IsIndexed}
 use Rattle.p2p_tracker.specs.Private.Places.{first_or, unless_in, walk, met_in, has_index, indices, AreEarlier}
 use Rattle.p2p_tracker.specs.Private.Window.{SetWithBits, plain_sets, bits_with, with_bit_of, IsAscending}
 use Rattle.p2p_tracker.proofs.SetsAndRecords.Naming.{all_joined}
@@ -369,10 +369,10 @@ module _ {C : Type 0} where
 
   -- the last of some places may have its bit first
   pub bits_last : (known : Bool) (ps : List Place) (p : Place) (sets : List (SetWithBits C)) →
-      bits_at known (ps ++ p ∷ []) sets ≡ bits_at known ps (map (bit_at known p) sets)
+      with_bits_at known (ps ++ p ∷ []) sets ≡ with_bits_at known ps (map (bit_at known p) sets)
   bits_last known [] p sets = refl
   bits_last known (r ∷ ps) p sets = bits_last known ps p (map (bit_at known r) sets)
-      ∙ ap (bits_at known ps) (all_swap known p r sets)
+      ∙ ap (with_bits_at known ps) (all_swap known p r sets)
 
   -- a bit leaves the indices
   pub indices_with_bit : (known : Bool) (p : Place) (sets : List (SetWithBits C)) →
@@ -385,16 +385,16 @@ module _ {C : Type 0} where
       one false = refl
 
   bits_both : (known : Bool) (ps qs : List Place) (sets : List (SetWithBits C)) →
-      bits_at known (ps ++ qs) sets ≡ bits_at known qs (bits_at known ps sets)
+      with_bits_at known (ps ++ qs) sets ≡ with_bits_at known qs (with_bits_at known ps sets)
   bits_both known [] qs sets = refl
   bits_both known (p ∷ ps) qs sets = bits_both known ps qs (map (bit_at known p) sets)
 
   -- places in later sets leave the first
   bits_past_head : (known : Bool) (ps : List Place) (x : SetWithBits C) (sets : List (SetWithBits C)) →
-      AllByRecursion (λ p. (x.index == p.set) ≡ false) ps → bits_at known ps (x ∷ sets) ≡ x ∷ bits_at known ps sets
+      AllByRecursion (λ p. (x.index == p.set) ≡ false) ps → with_bits_at known ps (x ∷ sets) ≡ x ∷ with_bits_at known ps sets
   bits_past_head known [] x sets past = refl
   bits_past_head known (p ∷ ps) x sets past =
-      (λ i. bits_at known ps (cond (past.0 i) (record x { primary = with_bit x.primary p.at known }) x ∷ map
+      (λ i. with_bits_at known ps (cond (past.0 i) (record x { primary = with_bit x.primary p.at known }) x ∷ map
       (bit_at known p) sets))
       ∙ bits_past_head known ps x (map (bit_at known p) sets) past.1
 
@@ -437,11 +437,11 @@ module _ {C : Type 0} {cmp : C → C → Ordering} (o : IsTotalOrder cmp) (q : C
   -- the first set of some has q's bit
   first_bit : (x : SetWithBits C) (sets : List (SetWithBits C)) → IsStrictlySortedBy cmp (keys_of x.primary) →
       AllByRecursion (λ set. (set.index == x.index) ≡ false) sets →
-      bits_at known (places_from cmp x.index 0 (keys_of x.primary) q) (x ∷ sets) ≡ with_bit_of cmp q known x ∷ sets
+      with_bits_at known (places_from cmp x.index 0 (keys_of x.primary) q) (x ∷ sets) ≡ with_bit_of cmp q known x ∷ sets
   first_bit x sets up past = elim (one_bit x.index 0 x.primary up) [
-    | inl none ↦ ap (λ ps. bits_at known ps (x ∷ sets)) none.0 ∙ (λ j. record x { primary = sym none.1 j } ∷ sets)
+    | inl none ↦ ap (λ ps. with_bits_at known ps (x ∷ sets)) none.0 ∙ (λ j. record x { primary = sym none.1 j } ∷ sets)
     | inr found ↦
-        ap (λ ps. bits_at known ps (x ∷ sets)) (found.1
+        ap (λ ps. with_bits_at known ps (x ∷ sets)) (found.1
         ∙ ap (only x.index) (let k : 0 + found.0 ≡ found.0 = omega arith in k))
         ∙ (λ j. cond (same_index x.index j) (record x { primary = with_bit x.primary found.0 known }) x ∷
         bit_elsewhere known (record { set = x.index; at = found.0 }) sets past j)
@@ -469,12 +469,12 @@ module _ {C : Type 0} {cmp : C → C → Ordering} (o : IsTotalOrder cmp) (q : C
 
   -- the bit at all places of q in ascending sets with ordered peers is the bit of each set that has q
   pub bits_of_all : (sets : List (SetWithBits C)) → IsAscending sets → AreOrdered cmp sets →
-      bits_at known (places_in cmp sets q) sets ≡ map (with_bit_of cmp q known) sets
+      with_bits_at known (places_in cmp sets q) sets ≡ map (with_bit_of cmp q known) sets
   unfolding IsStrictlySortedBy
   bits_of_all [] up ordered = refl
   bits_of_all (x ∷ sets) up ordered =
       bits_both known (places_from cmp x.index 0 (keys_of x.primary) q) (places_in cmp sets q) (x ∷ sets)
-      ∙ ap (bits_at known (places_in cmp sets q)) (first_bit x sets ordered.0 (later_differ x.index sets up.0))
+      ∙ ap (with_bits_at known (places_in cmp sets q)) (first_bit x sets ordered.0 (later_differ x.index sets up.0))
       ∙ bits_past_head known (places_in cmp sets q) (with_bit_of cmp q known x) sets (places_later x.index sets up.0)
       ∙ ap (λ ys. with_bit_of cmp q known x ∷ ys) (bits_of_all sets up.1 ordered.1)
 

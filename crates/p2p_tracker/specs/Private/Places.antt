@@ -70,9 +70,10 @@ module _ {C : Type 0} where
       else set
 
   -- the sets with this bit at each of the places
-  abbrev pub bits_at : Bool → List Place → List (SetWithBits C) → List (SetWithBits C)
-  bits_at known [] sets = sets
-  bits_at known (place ∷ places) sets = bits_at known places (map (bit_at known place) sets)
+  abbrev pub with_bits_at : Bool → List Place → List (SetWithBits C) → List (SetWithBits C)
+  with_bits_at known [] sets = sets
+  with_bits_at known (place ∷ places) sets =
+      with_bits_at known places (map (bit_at known place) sets)
 
 module _ {C : Type 0} (cmp : C → C → Ordering) where
   -- the latest place of a key

@@ -12,7 +12,7 @@ use Rattle.p2p_directory.proofs.LawsOfRuns.OrderRuns
 use Rattle.p2p_directory.proofs.Definitions.Keys.{exact_from}
 use Rattle.p2p_directory.specs.Network.{calls_at}
 use Rattle.p2p_directory.specs.Received.{wire_of}
-use Rattle.p2p_directory.specs.Laws.Network.{TakesGreeting, LeavesOthers, Acquaint, Isolate}
+use Rattle.p2p_directory.specs.Laws.Network.{TakesGreeting, LeavesOtherNodes, Acquaint, Isolate}
 use Rattle.p2p_directory.specs.Laws.Network.{Reorder}
 use Rattle.p2p_directory.specs.Laws.Network.{Reach as Reached}
 use Rattle.p2p_directory.proofs.laws.gossip_of_a_network.Goals as goal
@@ -65,7 +65,7 @@ returns-clause-late g c = λ size node made cs rs answers.
 
 pub returns-clause-others : goal.returns-clause-others
 returns-clause-others g c = λ wire size node cs rs answers.
-    Provenance.of_each_reply wire size node (LeavesOthers wire size node)
+    Provenance.of_each_reply wire size node (LeavesOtherNodes wire size node)
     (λ done answered x r is. Provenance.leaves_others wire size node done x r) [] tt cs rs answers
 
 pub returns-clause-acquaintance : goal.returns-clause-acquaintance

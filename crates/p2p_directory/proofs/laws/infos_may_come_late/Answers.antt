@@ -1,4 +1,4 @@
-use Rattle.p2p_directory.specs.Received.{wire_of, may_want_memory}
+use Rattle.p2p_directory.specs.Received.{wire_of, frame_may_want_memory}
 use Rattle.p2p_directory.specs.Nodes.{standing_in}
 use Rattle.p2p_directory.specs.Run.{world_after}
 use Rattle.p2p_directory.proofs.LawsOfGossip.Late
@@ -11,4 +11,4 @@ returns g c = λ m made calls frame now r v received.
     g.C.PublicKey.verifies in
     Late.takes_late g.met.C.FixedBytes.fixed g.met.C.Signature.FixedBytes.fixed g.C.PublicKey.verifies g.C.Ord.cmp
     g.met.C.Ord.total g.met.C.PublicKey.exact m made calls frame now r
-    (may_want_memory wire (standing_in m wire (world_after m.directory calls)) frame now) received.answer
+    (frame_may_want_memory wire (standing_in m wire (world_after m.directory calls)) frame now) received.answer

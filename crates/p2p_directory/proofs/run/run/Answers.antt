@@ -3,8 +3,8 @@ use Rattle.std.specs.Prelude.{is_some}
 use Rattle.std.proofs.lemmas.List.{length_push}
 use Rattle.p2p_directory.specs.Refinement.{Refines}
 use Rattle.p2p_tracker.specs.Directory.{bit_vec_at}
-use Rattle.p2p_directory.specs.Run.{setup_of, calls_of, world_after, accepted, AreAnswers, bit_vec_in, Holds}
-use Rattle.p2p_directory.specs.Private.Serving.{has_room}
+use Rattle.p2p_directory.specs.Run.{settings, calls_of, world_after, accepted, AreAnswers, bit_vec_in, Holds}
+use Rattle.p2p_directory.specs.Private.Serving.{has_slot_for}
 use Rattle.p2p_directory.specs.Private.Slots.{held_in}
 use Rattle.p2p_directory.proofs.Definitions.Keys.{exact_from}
 use Rattle.p2p_directory.proofs.LawsOfRuns.Forgotten
@@ -22,7 +22,7 @@ use Rattle.p2p_directory.proofs.run.run.Goals as goal
 
 pub new-server-requires : goal.new-server-requires
 new-server-requires g c =
-    let s = setup_of g.C.Ord.cmp c.args.bootstrappers.items c.args.myself c.args.cfg in
+    let s = settings g.C.Ord.cmp c.args.bootstrappers.items c.args.myself c.args.cfg in
     let at = stands_at_start s (record { directory = c.in-Ok.directory; slots = c.in_ok-slots.slots })
     (omega (arith, c.well_formed)) c.in-Ok.ensures.config c.in-Ok.ensures.sets c.in-Ok.ensures.blocks
     c.in-Ok.ensures.cooldowns c.in-Ok.ensures.records c.in_ok-slots.ensures.empty in
@@ -34,7 +34,7 @@ fits g c = omega (arith, c.well_formed)
 
 pub loop-command-init : goal.loop-command-init
 loop-command-init g c =
-    let s = setup_of g.C.Ord.cmp c.args.bootstrappers.items c.args.myself c.args.cfg in
+    let s = settings g.C.Ord.cmp c.args.bootstrappers.items c.args.myself c.args.cfg in
     record {
       rest = c.into_iter-command-iterator.ensures.into_iter_gives.0;
       answers = rw c.in_ok-replies.ensures.items tt;
@@ -51,7 +51,7 @@ loop-command-init g c =
 pub serve-requires : goal.serve-requires
 serve-requires g c = record {
   room =
-      item_has (λ x. has_room g.C.Ord.cmp c.loop-command.server.slots x ≡ true) c.loop-command.yielded
+      item_has (λ x. has_slot_for g.C.Ord.cmp c.loop-command.server.slots x ≡ true) c.loop-command.yielded
       c.loop-command.command-iterator.rest.items c.next.new.self.rest.items c.args.commands.items
       c.in-Some.command
       c.loop-command.invariant.rest c.in-Some.ensures.steps.0 c.loop-command.invariant.slots;
@@ -66,7 +66,7 @@ push_reserved-requires g c =
 
 pub loop-command-preserved : goal.loop-command-preserved
 loop-command-preserved g c =
-    let s = setup_of g.C.Ord.cmp c.args.bootstrappers.items c.args.myself c.args.cfg in
+    let s = settings g.C.Ord.cmp c.args.bootstrappers.items c.args.myself c.args.cfg in
     let kept = c.loop-command.invariant in
     let xs = c.loop-command.yielded in
     let x = c.in-Some.command in
@@ -85,7 +85,7 @@ loop-command-preserved g c =
 
 pub returns-clause-answers : goal.returns-clause-answers
 returns-clause-answers g c =
-    let s = setup_of g.C.Ord.cmp c.args.bootstrappers.items c.args.myself c.args.cfg in
+    let s = settings g.C.Ord.cmp c.args.bootstrappers.items c.args.myself c.args.cfg in
     let kept = c.loop-command.invariant in
     let rest = c.loop-command.command-iterator.rest in
     let all = all_moved c.loop-command.yielded rest.items c.args.commands.items kept.rest (sym rest.ok.0 ∙ c.in-None.ensures.steps.0) in
@@ -93,7 +93,7 @@ returns-clause-answers g c =
 
 pub returns-clause-directory : goal.returns-clause-directory
 returns-clause-directory g c =
-    let s = setup_of g.C.Ord.cmp c.args.bootstrappers.items c.args.myself c.args.cfg in
+    let s = settings g.C.Ord.cmp c.args.bootstrappers.items c.args.myself c.args.cfg in
     let kept = c.loop-command.invariant in
     let rest = c.loop-command.command-iterator.rest in
     let all = all_moved c.loop-command.yielded rest.items c.args.commands.items kept.rest (sym rest.ok.0 ∙ c.in-None.ensures.steps.0) in
@@ -102,7 +102,7 @@ returns-clause-directory g c =
 
 pub returns-clause-bits : goal.returns-clause-bits
 returns-clause-bits g c = λ place.
-    let s = setup_of g.C.Ord.cmp c.args.bootstrappers.items c.args.myself c.args.cfg in
+    let s = settings g.C.Ord.cmp c.args.bootstrappers.items c.args.myself c.args.cfg in
     let kept = c.loop-command.invariant in
     let rest = c.loop-command.command-iterator.rest in
     let all = all_moved c.loop-command.yielded rest.items c.args.commands.items kept.rest (sym rest.ok.0 ∙ c.in-None.ensures.steps.0) in
@@ -114,7 +114,7 @@ returns-clause-bits g c = λ place.
 
 pub returns-clause-held : goal.returns-clause-held
 returns-clause-held g c =
-    let s = setup_of g.C.Ord.cmp c.args.bootstrappers.items c.args.myself c.args.cfg in
+    let s = settings g.C.Ord.cmp c.args.bootstrappers.items c.args.myself c.args.cfg in
     let kept = c.loop-command.invariant in
     let rest = c.loop-command.command-iterator.rest in
     let all = all_moved c.loop-command.yielded rest.items c.args.commands.items kept.rest (sym rest.ok.0 ∙ c.in-None.ensures.steps.0) in
@@ -128,46 +128,46 @@ returns-clause-held g c =
 
 pub returns-clause-spaced : goal.returns-clause-spaced
 returns-clause-spaced g c = λ p.
-    let s = setup_of g.C.Ord.cmp c.args.bootstrappers.items c.args.myself c.args.cfg in
+    let s = settings g.C.Ord.cmp c.args.bootstrappers.items c.args.myself c.args.cfg in
     keep_unless_forgotten s (exact_from s g.C.Ord.cmp refl g.met.C.PublicKey.exact) p
     (calls_of c.args.commands.items) c.into_run.result.replies.items (returns-clause-answers g c)
 
 pub returns-clause-lasting : goal.returns-clause-lasting
 returns-clause-lasting g c = λ p.
-    let s = setup_of g.C.Ord.cmp c.args.bootstrappers.items c.args.myself c.args.cfg in
+    let s = settings g.C.Ord.cmp c.args.bootstrappers.items c.args.myself c.args.cfg in
     keep_cooldown s (exact_from s g.C.Ord.cmp refl g.met.C.PublicKey.exact) p (calls_of c.args.commands.items)
     c.into_run.result.replies.items (returns-clause-answers g c)
 
 pub returns-clause-last_block : goal.returns-clause-last_block
 returns-clause-last_block g c = λ p.
-    let s = setup_of g.C.Ord.cmp c.args.bootstrappers.items c.args.myself c.args.cfg in
+    let s = settings g.C.Ord.cmp c.args.bootstrappers.items c.args.myself c.args.cfg in
     keep_last_block s (exact_from s g.C.Ord.cmp refl g.met.C.PublicKey.exact) p (calls_of c.args.commands.items)
     c.into_run.result.replies.items (returns-clause-answers g c)
 
 pub returns-clause-blocks : goal.returns-clause-blocks
 returns-clause-blocks g c = λ p.
-    let s = setup_of g.C.Ord.cmp c.args.bootstrappers.items c.args.myself c.args.cfg in
+    let s = settings g.C.Ord.cmp c.args.bootstrappers.items c.args.myself c.args.cfg in
     keep_blocks s p (calls_of c.args.commands.items) c.into_run.result.replies.items (returns-clause-last_block g c p)
 
 pub returns-clause-dials : goal.returns-clause-dials
 returns-clause-dials g c =
-    let s = setup_of g.C.Ord.cmp c.args.bootstrappers.items c.args.myself c.args.cfg in
+    let s = settings g.C.Ord.cmp c.args.bootstrappers.items c.args.myself c.args.cfg in
     keep_dialable s g.met.C.Ord.total (exact_from s g.C.Ord.cmp refl g.met.C.PublicKey.exact)
     c.args.cfg.max_sets.ok [] (calls_of c.args.commands.items) c.into_run.result.replies.items
     (returns-clause-answers g c)
 
 pub returns-clause-isolation : goal.returns-clause-isolation
 returns-clause-isolation g c = λ p.
-    let s = setup_of g.C.Ord.cmp c.args.bootstrappers.items c.args.myself c.args.cfg in
+    let s = settings g.C.Ord.cmp c.args.bootstrappers.items c.args.myself c.args.cfg in
     keep_alone s c.args.cfg.max_sets.ok (exact_from s g.C.Ord.cmp refl g.met.C.PublicKey.exact) p
     (calls_of c.args.commands.items) c.into_run.result.replies.items (returns-clause-answers g c)
 
 pub returns-clause-order : goal.returns-clause-order
 returns-clause-order g c =
-    let s = setup_of g.C.Ord.cmp c.args.bootstrappers.items c.args.myself c.args.cfg in
+    let s = settings g.C.Ord.cmp c.args.bootstrappers.items c.args.myself c.args.cfg in
     keep_order s c.args.cfg.max_sets.ok (calls_of c.args.commands.items) c.into_run.result.replies.items (returns-clause-answers g c)
 
 pub returns-clause-bounds : goal.returns-clause-bounds
 returns-clause-bounds g c = λ n.
-    let s = setup_of g.C.Ord.cmp c.args.bootstrappers.items c.args.myself c.args.cfg in
+    let s = settings g.C.Ord.cmp c.args.bootstrappers.items c.args.myself c.args.cfg in
     keep_bound s n g.met.C.Ord.total (calls_of c.args.commands.items) c.into_run.result.replies.items (returns-clause-answers g c)

@@ -10,10 +10,10 @@ ghost use Rattle.p2p_discovery.specs.Payload.{IsAdmitted, payload_spelling};
 ghost use Rattle.p2p_tracker.specs.Directory.{infos_in};
 ghost use Rattle.p2p_directory.specs.Received.{wire_of};
 ghost use Rattle.p2p_directory.specs.Nodes.{standing_of, IsLeft};
-ghost use Rattle.p2p_directory.specs.Exchange.{asked_at, replied_at, judged_at, IsAnswer};
+ghost use Rattle.p2p_directory.specs.Exchange.{asked_at, replied_at, judged_at, IsExchangeAnswer};
 ghost use Rattle.p2p_directory.specs.Exchange.{infos_applied, Exchanges};
 ghost use Rattle.p2p_directory.specs.Private.Endpoints.{node_of};
-ghost use Rattle.p2p_directory.specs.Private.Exchanging.{Replies, ask_fault, reply_fault};
+ghost use Rattle.p2p_directory.specs.Private.Exchanging.{RepliesToBits, ask_fault, reply_fault};
 ghost use Rattle.p2p_directory.specs.Private.Frames.{HasSpelling, HaveSpelling, IsReadBack};
 ghost use Rattle.p2p_directory.specs.Private.Frames.{SpellsBits, SpellsInfos};
 
@@ -61,7 +61,7 @@ impl<C: PublicKey> Endpoint<C> {
             frame ≡ payload_spelling C.spelled C.Signature.spelled (said.BitVec v) →
             let wire = wire_of C.SIZE C.spelled C.value
             C.Signature.SIZE C.Signature.spelled C.Signature.value C.verifies in
-            IsAnswer true (asked_at (standing_of C.cmp wire (node_of self.old))
+            IsExchangeAnswer true (asked_at (standing_of C.cmp wire (node_of self.old))
             (standing_of C.cmp wire (node_of replier.now))
             (as_nanos asker_now) (as_nanos replier_now) (Some v)) result }
         ensures left { IsLeft C.cmp
@@ -80,7 +80,8 @@ impl<C: PublicKey> Endpoint<C> {
         requires { SpellsBits (payload_spelling C.spelled C.Signature.spelled) frame }
         ensures { (v : BitVec) → HasSpelling v →
             frame ≡ payload_spelling C.spelled C.Signature.spelled (said.BitVec v) →
-            Replies C.IsValue C.Signature.IsValue (payload_spelling C.spelled C.Signature.spelled)
+            RepliesToBits C.IsValue C.Signature.IsValue
+            (payload_spelling C.spelled C.Signature.spelled)
             (λ asker asker_now. asked_at asker (standing_of C.cmp (wire_of C.SIZE C.spelled C.value
             C.Signature.SIZE C.Signature.spelled C.Signature.value C.verifies)
             (node_of self.now)) asker_now (as_nanos now) (Some v)) result }
@@ -92,10 +93,10 @@ impl<C: PublicKey> Endpoint<C> {
         }
     }
 
-    // Replies to bits with a frame of the infos for them.
+    // RepliesToBits to bits with a frame of the infos for them.
     fn reply_with(&self, bits: &BitVec, now: Duration) -> Result<Bytes, Exchanged<C>>
         requires { length bits.now.bits < 2 ^ 32 }
-        ensures { Replies C.IsValue C.Signature.IsValue
+        ensures { RepliesToBits C.IsValue C.Signature.IsValue
             (payload_spelling C.spelled C.Signature.spelled)
             (λ asker asker_now. replied_at asker asker_now
             (infos_in C.cmp self.now.directory bits.now.index bits.now.bits (as_nanos now)))
@@ -115,7 +116,7 @@ impl<C: PublicKey> Endpoint<C> {
         ensures answer { (infos : List (Info C C.Signature)) →
             HaveSpelling C.IsValue C.Signature.IsValue infos →
             reply ≡ payload_spelling C.spelled C.Signature.spelled (said.Peers infos) →
-            IsAnswer true (replied_at (standing_of C.cmp (wire_of C.SIZE C.spelled C.value
+            IsExchangeAnswer true (replied_at (standing_of C.cmp (wire_of C.SIZE C.spelled C.value
             C.Signature.SIZE C.Signature.spelled C.Signature.value C.verifies)
             (node_of self.old)) (as_nanos now) (Some infos)) result }
         ensures left { IsLeft C.cmp
@@ -132,7 +133,7 @@ impl<C: PublicKey> Endpoint<C> {
 
     // Judges infos, all of them, and applies them. A copy of them is told.
     fn take_infos(&mut self, infos: Infos<C>, now: Duration) -> Exchanged<C>
-        ensures answer { IsAnswer true (judged_at infos (list_refusal
+        ensures answer { IsExchangeAnswer true (judged_at infos (list_refusal
             (judge_of C.cmp C.verifies self.old.verifier) (as_nanos now) infos)) result }
         ensures left { IsLeft C.cmp
             (node_of self.old) (infos_applied result) (node_of self.new) }

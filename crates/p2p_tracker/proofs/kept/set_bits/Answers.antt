@@ -4,7 +4,7 @@ use Rattle.std.specs.List.Sorted.{IsStrictlySortedBy}
 use Rattle.std.specs.Ordering.{nat_cmp}
 use Rattle.std.proofs.lemmas.List.{length-map}
 use Rattle.p2p_tracker.specs.Private.Window.{SetWithBits}
-use Rattle.p2p_tracker.specs.Private.Places.{bits_at, walk, indices, has_index}
+use Rattle.p2p_tracker.specs.Private.Places.{with_bits_at, walk, indices, has_index}
 use Rattle.p2p_tracker.proofs.SetsAndRecords.Indexed.{bits_last, bit_past, indices_with_bit}
 use Rattle.p2p_tracker.proofs.SetsAndRecords.Walks.{passed, met_at}
 use Rattle.p2p_tracker.proofs.kept.set_bits.Goals as goal
@@ -21,7 +21,7 @@ returns-in_default-clause-sets g c =
     let ns = indices c.args.sets.now.items in
     let none = ap (walk ns c.args.links.now.items) c.in_default.is
     ∙ passed (λ o. []) ns c.args.links.now.items None tt in
-    sym (ap (λ ps. bits_at c.args.known ps c.loop-count.sets.items) none) ∙ c.loop-count.invariant.0
+    sym (ap (λ ps. with_bits_at c.args.known ps c.loop-count.sets.items) none) ∙ c.loop-count.invariant.0
 
 pub returns-in_default-clause-count : goal.returns-in_default-clause-count
 returns-in_default-clause-count g c =
@@ -44,7 +44,7 @@ returns-in_default-set_bit_at-clause-sets g c =
     let none = ap (walk ns c.args.links.now.items) c.in-Some.is
     ∙ passed (λ o. []) ns c.args.links.now.items (Some place) gone in
     c.set_bit_at.ensures.sets ∙ bit_past c.args.known place sets c.in_default-set_bit_at.ensures.none
-    ∙ sym (ap (λ ps. bits_at c.args.known ps sets) none) ∙ c.loop-count.invariant.0
+    ∙ sym (ap (λ ps. with_bits_at c.args.known ps sets) none) ∙ c.loop-count.invariant.0
 
 pub returns-in_default-set_bit_at-clause-count : goal.returns-in_default-set_bit_at-clause-count
 returns-in_default-set_bit_at-clause-count g c =
@@ -73,9 +73,9 @@ loop-count-preserved g c =
     ∙ met_at (λ o. []) ns links found place c.requires.ascending c.requires.earlier low
     (sym (ap (λ ns. get_or ns found 0) same) ∙ at.1)
     ∙ ap (λ o. walk ns links o ++ place ∷ []) (sym c.link_at-next.ensures) in (
-      ap (bits_at c.args.known (walk ns links next)) c.set_bit_at.ensures.sets
+      ap (with_bits_at c.args.known (walk ns links next)) c.set_bit_at.ensures.sets
           ∙ sym (bits_last c.args.known (walk ns links next) place sets)
-          ∙ sym (ap (λ ps. bits_at c.args.known ps sets) step) ∙ c.loop-count.invariant.0,
+          ∙ sym (ap (λ ps. with_bits_at c.args.known ps sets) step) ∙ c.loop-count.invariant.0,
       omega (arith, c.loop-count.invariant.1, ap length step, length-append (walk ns links next) (place ∷ [])),
       ap indices c.set_bit_at.ensures.sets ∙ indices_with_bit c.args.known place sets ∙ same,
     )
@@ -91,7 +91,7 @@ returns-clause-sets g c =
       c.len-count-end.ensures,
       c.args.sets.now.ok.0,
     )) in
-    sym (ap (λ ps. bits_at c.args.known ps c.loop-count.sets.items) none) ∙ c.loop-count.invariant.0
+    sym (ap (λ ps. with_bits_at c.args.known ps c.loop-count.sets.items) none) ∙ c.loop-count.invariant.0
 
 pub returns-clause-count : goal.returns-clause-count
 returns-clause-count g c =

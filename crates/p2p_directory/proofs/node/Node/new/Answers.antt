@@ -1,7 +1,7 @@
 use Rattle.std.proofs.Common.{[], refl, sym, ap, ◌∙◌, rules}
 use Rattle.p2p_directory.specs.Held.{held_of}
 use Rattle.p2p_directory.specs.Nodes.{made_of}
-use Rattle.p2p_directory.specs.Run.{setup_of, world_after}
+use Rattle.p2p_directory.specs.Run.{settings, world_after}
 use Rattle.p2p_directory.specs.Private.Serving.{ServerView}
 use Rattle.p2p_directory.specs.Private.Slots.{held_in, contents}
 use Rattle.p2p_directory.proofs.Nodes.Standing.{of_server}
@@ -10,7 +10,7 @@ use Rattle.p2p_directory.proofs.node.Node.new.Goals as goal
 
 pub new-server-requires : goal.new-server-requires
 new-server-requires g c =
-    let s = setup_of g.C.Ord.cmp c.args.setup.bootstrappers.items c.args.setup.myself c.args.setup.cfg in
+    let s = settings g.C.Ord.cmp c.args.setup.bootstrappers.items c.args.setup.myself c.args.setup.cfg in
     let made = c.in_ok-directory.ensures in
     let at = stands_at_start s (record { directory = c.in_ok-directory.directory; slots = c.new.result })
     (search rules) made.config made.sets made.blocks made.cooldowns made.records
@@ -20,7 +20,7 @@ new-server-requires g c =
 pub returns-clause-stands : goal.returns-clause-stands
 returns-clause-stands g c =
     let cmp = g.C.Ord.cmp in
-    let s = setup_of cmp c.args.setup.bootstrappers.items c.args.setup.myself c.args.setup.cfg in
+    let s = settings cmp c.args.setup.bootstrappers.items c.args.setup.myself c.args.setup.cfg in
     let made = c.in_ok-directory.ensures in
     let v : ServerView g.row.C.Denot g.row.C-Signature.Denot = record { directory = c.in_ok-directory.directory; slots = c.new.result } in
     let at = stands_at_start s v (search rules) made.config made.sets made.blocks made.cooldowns made.records

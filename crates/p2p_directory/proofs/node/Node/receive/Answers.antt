@@ -1,7 +1,7 @@
 use Rattle.std.proofs.Common.{refl}
 use Rattle.std.specs.Duration.{as_nanos}
 use Rattle.p2p_directory.specs.Nodes.{made_of, standing_in}
-use Rattle.p2p_directory.specs.Received.{wire_of, may_want_memory}
+use Rattle.p2p_directory.specs.Received.{wire_of, frame_may_want_memory}
 use Rattle.p2p_directory.specs.Run.{world_after}
 use Rattle.p2p_directory.specs.Private.Endpoints.{node_of}
 use Rattle.p2p_directory.proofs.LawsOfGossip.Late
@@ -24,5 +24,5 @@ returns-clause-late g c = λ given calls at.
     let m = made_of g.C.Ord.cmp given in
     Late.takes_late g.met.C.FixedBytes.fixed g.met.C.Signature.FixedBytes.fixed g.C.PublicKey.verifies g.C.Ord.cmp g.met.C.Ord.total g.met.C.PublicKey.exact
     m (record { order = refl; me = refl; sets = given.cfg.max_sets.ok }) calls c.args.frame (as_nanos c.args.now) c.answer.result
-    (may_want_memory wire (standing_in m wire (world_after m.directory calls)) c.args.frame (as_nanos c.args.now))
+    (frame_may_want_memory wire (standing_in m wire (world_after m.directory calls)) c.args.frame (as_nanos c.args.now))
     (returns-clause-received g c given calls at).answer

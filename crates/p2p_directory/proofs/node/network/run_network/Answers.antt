@@ -13,7 +13,7 @@ use Rattle.p2p_directory.proofs.Nodes.Networks.{room_for_stays}
 use Rattle.p2p_tracker.proofs.SetsAndRecords.Moved.{item_left, item_moved, item_has, all_moved}
 use Rattle.std.specs.declared.cmp.Ordering.{Ordering}
 use Rattle.std.proofs.lemmas.Bool.{ltb-true}
-use Rattle.p2p_directory.specs.declared.node.Setup.{Setup as Given}
+use Rattle.p2p_directory.specs.declared.node.Setup.{Setup}
 use Rattle.p2p_directory.specs.Received.{Wire}
 use Rattle.p2p_directory.specs.Network.{calls_at}
 use Rattle.p2p_directory.specs.Laws.Network as networks
@@ -172,8 +172,8 @@ returns-clause-stand g c = λ other.
 
 -- WHAT THE REPLIES SAY OF EACH OTHER
 
-are_made : {C S : Type 0} (wire : Wire C S) (cmp : C → C → Ordering) (other : Given C S)
-    (setups : List (Given C S)) →
+are_made : {C S : Type 0} (wire : Wire C S) (cmp : C → C → Ordering) (other : Setup C S)
+    (setups : List (Setup C S)) →
     AreMade wire (length setups) (node_made cmp other setups) cmp
 are_made wire cmp other setups = λ i is. record {
   order = refl;
@@ -344,7 +344,7 @@ returns-clause-others g c = λ other.
     let cs = c.args.commands.items in
     let rs = c.loop-command.replies.items in
     let answers = returns-clause-answers g c other in
-    Provenance.of_each_reply wire size node (networks.LeavesOthers wire size node)
+    Provenance.of_each_reply wire size node (networks.LeavesOtherNodes wire size node)
     (λ done answered x r is. Provenance.leaves_others wire size node done x r)
     [] tt cs rs answers
 

@@ -3,7 +3,7 @@ use Rattle.std.proofs.lemmas.List.{with_items_is}
 use Rattle.std.specs.Prelude.{length}
 use Rattle.p2p_directory.specs.declared.node.network.NetworkCommand.{NetworkCommand}
 use Rattle.p2p_directory.specs.declared.node.network.NetworkCommand.TheVariants as command
-use Rattle.p2p_directory.specs.Network.{node_made, StandAfter, IsServedAt, IsServedAmong}
+use Rattle.p2p_directory.specs.Network.{node_made, StandAfter, IsNetworkServedAt, IsServedAmong}
 use Rattle.p2p_directory.specs.Received.{wire_of}
 use Rattle.p2p_directory.specs.Private.Networks.{nodes_of}
 use Rattle.p2p_directory.proofs.Nodes.Among.{among, so_many}
@@ -21,7 +21,7 @@ returns-in-Call-clause-served g c = rw (← c.self.view_is, c.in-Call.is) (λ se
     command.Call c.in-Call.node c.in-Call.command in
     let same = with_items_is c.self.inside.ends c.step.new.ends
     (omega (arith, c.step.auto.ends, c.deref_mut.ensures.len)) in
-    subst (λ es. IsServedAt wire size node done x c.step.result (nodes_of es)) (sym same)
+    subst (λ es. IsNetworkServedAt wire size node done x c.step.result (nodes_of es)) (sym same)
     (c.step.ensures.served setups done other (subst (λ es. StandAfter wire size node done (nodes_of es))
     (sym c.deref_mut.ensures.value) at)))
 
@@ -34,7 +34,7 @@ returns-in-Ask-clause-served g c = rw (← c.self.view_is, c.in-Ask.is) (λ setu
     let node = node_made g.C.Ord.cmp other setups in
     let x : NetworkCommand g.row.C.Denot g.row.C-Signature.Denot =
     command.Ask c.in-Ask.node c.in-Ask.place in
-    subst (λ es. IsServedAt wire size node done x c.ask.result (nodes_of es)) c.deref.ensures.value
+    subst (λ es. IsNetworkServedAt wire size node done x c.ask.result (nodes_of es)) c.deref.ensures.value
     (answered_served wire size node done x _ _ (c.ask.ensures.answered setups done other
     (subst (λ es. StandAfter wire size node done (nodes_of es)) (sym c.deref.ensures.value) at))))
 
@@ -49,7 +49,7 @@ returns-in-Frame-clause-served g c = rw (← c.self.view_is, c.in-Frame.is) (λ 
     command.Frame c.in-Frame.node c.in-Frame.frame c.in-Frame.now in
     let same = with_items_is c.self.inside.ends c.receive.new.ends
     (omega (arith, c.receive.auto.ends, c.deref_mut-in-Frame.ensures.len)) in
-    subst (λ es. IsServedAt wire size node done x c.receive.result (nodes_of es)) (sym same)
+    subst (λ es. IsNetworkServedAt wire size node done x c.receive.result (nodes_of es)) (sym same)
     (answered_served wire size node done x _ _
     (c.receive.ensures.answered setups done other
     (subst (λ es. StandAfter wire size node done (nodes_of es)) (sym c.deref_mut-in-Frame.ensures.value) at))))
@@ -66,7 +66,7 @@ returns-in-Exchange-clause-served g c = rw (← c.self.view_is, c.in-Exchange.is
     c.in-Exchange.asker_now c.in-Exchange.replier_now in
     let same = with_items_is c.self.inside.ends c.exchange.new.ends
     (omega (arith, c.exchange.auto.ends, c.deref_mut-in-Exchange.ensures.len)) in
-    subst (λ es. IsServedAt wire size node done x c.exchange.result (nodes_of es)) (sym same)
+    subst (λ es. IsNetworkServedAt wire size node done x c.exchange.result (nodes_of es)) (sym same)
     (answered_served wire size node done x _ _
     (c.exchange.ensures.answered setups done other
     (subst (λ es. StandAfter wire size node done (nodes_of es)) (sym c.deref_mut-in-Exchange.ensures.value) at))))

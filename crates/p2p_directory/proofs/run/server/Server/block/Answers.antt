@@ -1,6 +1,6 @@
 use Rattle.std.proofs.Common.{◌≡◌, Bool, true, false, Ok, sym, ◌∙◌, ap, refl}
 use Rattle.std.specs.Duration.{as_nanos}
-use Rattle.p2p_directory.specs.Run.{setup_of}
+use Rattle.p2p_directory.specs.Run.{settings}
 use Rattle.p2p_directory.proofs.Reservations.Served
 use Rattle.p2p_directory.proofs.Reservations.Holding.{held_by_records}
 use Rattle.p2p_directory.proofs.run.server.Server.block.Goals as goal
@@ -29,7 +29,7 @@ invariant_of-self g c =
 
 pub returns-clause-served : goal.returns-clause-served
 returns-clause-served g c = rw (← c.self.view_is) (λ bootstrappers myself cfg calls at.
-    let s = setup_of g.C.Ord.cmp bootstrappers myself cfg in
+    let s = settings g.C.Ord.cmp bootstrappers myself cfg in
     elim c.match-block.branch [
       | in-Ok w ↦
           rw w.result-is

@@ -1,15 +1,15 @@
 use Rattle.std.proofs.Common.{refl}
 use Rattle.std.specs.Duration.{as_nanos}
-use Rattle.p2p_directory.specs.Run.{setup_of}
+use Rattle.p2p_directory.specs.Run.{settings}
 use Rattle.p2p_directory.proofs.Reservations.Told
 use Rattle.p2p_directory.proofs.run.server.Server.blocked_peers.Goals as goal
 
 pub returns-in-Ok : goal.returns-in-Ok
 returns-in-Ok g c = rw (← c.self.view_is) (λ bootstrappers myself cfg calls at.
-    Told.served_blocked_peers (setup_of g.C.Ord.cmp bootstrappers myself cfg) cfg.max_sets.ok
+    Told.served_blocked_peers (settings g.C.Ord.cmp bootstrappers myself cfg) cfg.max_sets.ok
     g.met.C.PublicKey.exact calls _ _ at (as_nanos c.args.now) c.in-Ok.peers c.in-Ok.ensures.peers refl refl)
 
 pub returns-in-Err : goal.returns-in-Err
 returns-in-Err g c = rw (← c.self.view_is) (λ bootstrappers myself cfg calls at.
-    Told.served_no_blocked_peers (setup_of g.C.Ord.cmp bootstrappers myself cfg) cfg.max_sets.ok
+    Told.served_no_blocked_peers (settings g.C.Ord.cmp bootstrappers myself cfg) cfg.max_sets.ok
     g.met.C.PublicKey.exact calls _ _ at (as_nanos c.args.now) c.in-Err.ensures.err refl refl)

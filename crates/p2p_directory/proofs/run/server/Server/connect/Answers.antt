@@ -1,6 +1,6 @@
 use Rattle.std.proofs.Common.{refl}
 use Rattle.p2p_directory.specs.Private.Slots.{held_in}
-use Rattle.p2p_directory.specs.Run.{setup_of}
+use Rattle.p2p_directory.specs.Run.{settings}
 use Rattle.p2p_directory.proofs.Reservations.Holding.{told_reserved, held_by_connect}
 use Rattle.p2p_directory.proofs.Reservations.Served
 use Rattle.p2p_directory.proofs.run.server.Server.connect.Goals as goal
@@ -17,5 +17,5 @@ invariant_of-self g c =
 
 pub returns-in-Some-Reserved-clause-served : goal.returns-in-Some-Reserved-clause-served
 returns-in-Some-Reserved-clause-served g c = rw (← c.self.view_is) (λ bootstrappers myself cfg calls at.
-    Served.served_connected (setup_of g.C.Ord.cmp bootstrappers myself cfg) cfg.max_sets.ok g.met.C.PublicKey.exact calls _ _ at c.args.peer.now c.args.dialer _
+    Served.served_connected (settings g.C.Ord.cmp bootstrappers myself cfg) cfg.max_sets.ok g.met.C.PublicKey.exact calls _ _ at c.args.peer.now c.args.dialer _
     (rw c.in-Some-Reserved.field-0-is at c.in-Some-Reserved.ensures) refl c.connect.ensures.connected refl)

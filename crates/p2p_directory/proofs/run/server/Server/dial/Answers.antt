@@ -10,7 +10,7 @@ use Rattle.p2p_tracker.specs.Directory.{key_of, ingress_in, IsBusy}
 use Rattle.p2p_directory.specs.Private.Slots.{held_in}
 use Rattle.p2p_directory.proofs.Reservations.Holding.{held_by_grant}
 use Rattle.std.specs.Duration.{as_nanos}
-use Rattle.p2p_directory.specs.Run.{setup_of}
+use Rattle.p2p_directory.specs.Run.{settings}
 use Rattle.p2p_directory.proofs.Reservations.Served
 use Rattle.p2p_directory.proofs.run.server.Server.dial.Goals as goal
 
@@ -45,14 +45,14 @@ invariant_of-self g c =
 pub returns-in-Ok-Some-clause-served : goal.returns-in-Ok-Some-clause-served
 returns-in-Ok-Some-clause-served g c = rw (← c.self.view_is) (λ bootstrappers myself cfg calls at.
     let facts = rw c.in-Ok-Some.field-0-is at c.in-Ok-Some.ensures in
-    Served.served_dialled (setup_of g.C.Ord.cmp bootstrappers myself cfg) cfg.max_sets.ok g.met.C.PublicKey.exact
+    Served.served_dialled (settings g.C.Ord.cmp bootstrappers myself cfg) cfg.max_sets.ok g.met.C.PublicKey.exact
     calls _ _ at c.args.peer.now (as_nanos c.args.now) (as_nanos c.args.draw) c.in-Ok-Some.reservation
     (sym facts.answer) facts.reservation facts.granted (held g c))
 
 pub returns-in-Ok-None-clause-served : goal.returns-in-Ok-None-clause-served
 returns-in-Ok-None-clause-served g c = rw (← c.self.view_is) (λ bootstrappers myself cfg calls at.
     let facts = rw c.in-Ok-None.field-0-is at c.in-Ok-None.ensures in
-    Served.served_not_dialled (setup_of g.C.Ord.cmp bootstrappers myself cfg) cfg.max_sets.ok
+    Served.served_not_dialled (settings g.C.Ord.cmp bootstrappers myself cfg) cfg.max_sets.ok
     g.met.C.PublicKey.exact calls _ _ at c.args.peer.now (as_nanos c.args.now) (as_nanos c.args.draw)
     (sym facts.answer) facts.refused refl)
 
@@ -62,6 +62,6 @@ true_unless false h = absurd (h refl)
 
 pub returns-in-Err-clause-served : goal.returns-in-Err-clause-served
 returns-in-Err-clause-served g c = rw (← c.self.view_is) (λ bootstrappers myself cfg calls at.
-    Served.served_no_dial (setup_of g.C.Ord.cmp bootstrappers myself cfg) cfg.max_sets.ok g.met.C.PublicKey.exact
+    Served.served_no_dial (settings g.C.Ord.cmp bootstrappers myself cfg) cfg.max_sets.ok g.met.C.PublicKey.exact
     calls _ _ at c.args.peer.now (as_nanos c.args.now) (as_nanos c.args.draw)
     (true_unless _ (λ no. let f = sym c.in-Err.is ∙ c.dial.ensures.none no in cc)) c.in-Err.ensures.err refl)

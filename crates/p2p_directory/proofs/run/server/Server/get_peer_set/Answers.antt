@@ -1,14 +1,14 @@
 use Rattle.std.proofs.Common.{refl}
-use Rattle.p2p_directory.specs.Run.{setup_of}
+use Rattle.p2p_directory.specs.Run.{settings}
 use Rattle.p2p_directory.proofs.Reservations.Told
 use Rattle.p2p_directory.proofs.run.server.Server.get_peer_set.Goals as goal
 
 pub returns-in-Ok : goal.returns-in-Ok
 returns-in-Ok g c = rw (← c.self.view_is) (λ bootstrappers myself cfg calls at.
-    Told.served_peer_set (setup_of g.C.Ord.cmp bootstrappers myself cfg) cfg.max_sets.ok g.met.C.PublicKey.exact
+    Told.served_peer_set (settings g.C.Ord.cmp bootstrappers myself cfg) cfg.max_sets.ok g.met.C.PublicKey.exact
     calls _ _ at c.args.index c.in-Ok.peers c.in-Ok.ensures.peers refl refl)
 
 pub returns-in-Err : goal.returns-in-Err
 returns-in-Err g c = rw (← c.self.view_is) (λ bootstrappers myself cfg calls at.
-    Told.served_no_peer_set (setup_of g.C.Ord.cmp bootstrappers myself cfg) cfg.max_sets.ok g.met.C.PublicKey.exact
+    Told.served_no_peer_set (settings g.C.Ord.cmp bootstrappers myself cfg) cfg.max_sets.ok g.met.C.PublicKey.exact
     calls _ _ at c.args.index c.in-Err.ensures.err refl refl)

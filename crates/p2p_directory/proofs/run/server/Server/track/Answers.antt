@@ -7,7 +7,7 @@ use Rattle.p2p_tracker.specs.PeerSets.{set_of}
 use Rattle.p2p_tracker.specs.Directory.{DirectoryView, TakesSet}
 use Rattle.p2p_directory.specs.Held.{AreHeld}
 use Rattle.p2p_directory.specs.Private.Slots.{held_in}
-use Rattle.p2p_directory.specs.Run.{setup_of}
+use Rattle.p2p_directory.specs.Run.{settings}
 use Rattle.p2p_directory.proofs.Reservations.Holding.{held_by_track}
 use Rattle.p2p_directory.proofs.Reservations.Served
 use Rattle.p2p_directory.proofs.run.server.Server.track.Goals as goal
@@ -37,7 +37,7 @@ true_unless false h = absurd (h refl)
 
 pub returns-clause-served : goal.returns-clause-served
 returns-clause-served g c = rw (← c.self.view_is) (λ bootstrappers myself cfg calls at.
-    let s = setup_of g.C.Ord.cmp bootstrappers myself cfg in
+    let s = settings g.C.Ord.cmp bootstrappers myself cfg in
     elim c.match-track.branch [
       | in-Ok w ↦
           rw w.result-is
