@@ -220,11 +220,12 @@ module _ {C S : Type 0} (cmp : C → C → Ordering) (wire : Wire C S) where
     pub same : vs2 ≡ vs
     pub asked : (v : NodeView C S) → IsAsked cmp wire place r (slice_index_or vs i v)
 
-  -- node i asked node j at their moments s and t, and all but node i stayed
+  -- node i asked node j, another, at their moments s and t, and all but node i stayed
   pub record ExchangesAt (i j place s t : ℕ) (r : Exchanged C S)
       (vs vs2 : List (NodeView C S)) : Type 0 where
     pub there : i < length vs
     pub other : j < length vs
+    pub apart : ¬ (i ≡ j)
     pub node : NodeView C S
     pub others : vs2 ≡ slice_set vs i node
     pub exchanged : (v : NodeView C S) → IsExchanged cmp wire place s t r

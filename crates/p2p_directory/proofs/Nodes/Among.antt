@@ -1,6 +1,6 @@
 -- One of some nodes was given a command, by what its calls say, and all others stayed.
-use Rattle.std.proofs.Common.{◌≡◌, ◌<◌, ◌≤◌, ℕ, length, Bool, false, List, Option, Some, Result, Ok}
-use Rattle.std.proofs.Common.{[], ◌∷◌, ◌++◌, Err, inl, inr, refl, sym, ◌∙◌, ap, subst}
+use Rattle.std.proofs.Common.{◌≡◌, ◌<◌, ◌≤◌, ℕ, length, Bool, false, List, Option, Some, None, Result, Ok}
+use Rattle.std.proofs.Common.{[], ◌∷◌, ◌++◌, Err, inl, inr, refl, sym, ◌∙◌, ap, subst, arith}
 use Rattle.std.specs.Prelude.{◌==◌, ◌&&◌, not, ◌⊎◌, nat_lt, slice_index_or, slice_set}
 use Rattle.std.specs.Duration.{as_nanos}
 use Rattle.std.specs.declared.cmp.Ordering.{Ordering}
@@ -19,7 +19,7 @@ use Rattle.p2p_directory.specs.declared.run.commands.Command.{Command}
 use Rattle.p2p_directory.specs.declared.run.commands.Reply.{Reply}
 use Rattle.p2p_directory.specs.Exchange.{IsExchanged}
 use Rattle.p2p_directory.specs.Held.{ReleasesAll}
-use Rattle.p2p_directory.specs.Network.{are_there, IsServedAmong, IsAdded, IsReplaced}
+use Rattle.p2p_directory.specs.Network.{are_there, IsServedAmong, IsAdded, IsReplaced, ReplacesAt}
 use Rattle.p2p_directory.specs.Nodes.{NodeView, NodeStandsAt, made_of, IsStepped, AnswersFrame, AsksWith}
 use Rattle.p2p_directory.specs.Nodes.{IsReceived}
 use Rattle.p2p_directory.specs.Received.{Wire}
@@ -105,13 +105,14 @@ module _ {C S : Type 0} (cmp : C → C → Ordering) (wire : Wire C S) (es : Lis
 
   -- node i asked node j
   pub exchanged_among_nodes : (i j place : ℕ) (s t : Duration) (r : Exchanged C S)
-      (es2 : List (EndpointView C S)) → i < length es → j < length es →
+      (es2 : List (EndpointView C S)) → i < length es → j < length es → ¬ (i ≡ j) →
       ExchangesAmong cmp wire i j place (as_nanos s) (as_nanos t) r es es2 →
       IsServedAmong cmp wire (command.Exchange i j place s t) (reply.Exchange r)
       (nodes_of es) (nodes_of es2)
-  exchanged_among_nodes i j place s t r es2 lt lt2 x = record {
+  exchanged_among_nodes i j place s t r es2 lt lt2 apart x = record {
     there = there_too i lt;
     other = there_too j lt2;
+    apart = apart;
     node = node_of x.left;
     others = ap (λ es. nodes_of es) x.rest ∙ map-set node_of es i x.left;
     exchanged = λ v. subst (λ (u : NodeView C S × NodeView C S).
@@ -164,3 +165,10 @@ module _ {C S : Type 0} (cmp : C → C → Ordering) (given : Setup C S) (es es2
     λ v. subst (λ (u : NodeView C S). ReleasesAll cmp u.held u.directory d)
         (ap node_of is ∙ sym (get_or-map node_of es i old v lt)) releases,
   )
+
+-- .. where there is such a node
+pub was_there : {C S : Type 0} (cmp : C → C → Ordering) (given : Given C S) (i : ℕ)
+    (left : Option (DirectoryView C S)) (vs vs2 : List (NodeView C S)) → i < length vs →
+    IsReplaced cmp given i left vs vs2 → ReplacesAt cmp given i vs vs2
+was_there cmp given i None vs vs2 lt h = absurd (omega (arith, h.0))
+was_there cmp given i (Some directory) vs vs2 lt h = h.0

@@ -73,4 +73,5 @@ returns-clause-seen g c =
     g.C.PublicKey.verifies in
     exchanged_among_nodes g.C.Ord.cmp wire c.args.ends.now c.args.asker c.args.replier c.args.place
     c.args.asker_now c.args.replier_now c.exchange_between.result c.exchange_between.new.ends
-    c.if-asker-ends.false c.if-replier-ends.false c.exchange_between.ensures
+    c.if-asker-ends.false c.if-replier-ends.false c.if-asker-replier.false
+    c.exchange_between.ensures
