@@ -2,12 +2,13 @@
 use Rattle.std.specs.Prelude.{◌≡◌, ◌<◌, ◌-◌, ◌^◌, string_bytes}
 use Rattle.std.specs.Int.NonZero.{non_zero_usize_get}
 use Rattle.std.specs.declared.cmp.Ordering.{Ordering}
+use Rattle.p2p_directory.specs.Network.{IsServedAmong}
 use Rattle.p2p_directory.specs.Received.{Wire}
 use Rattle.play.specs.declared.request.Answer.{Answer}
 use Rattle.play.specs.declared.request.Answer.TheVariants as answer
 use Rattle.play.specs.declared.request.Request.{Request}
 use Rattle.play.specs.declared.request.Request.TheVariants as request
-use Rattle.play.specs.Session.{SessionView, IsServed, IsPut}
+use Rattle.play.specs.Session.{SessionView, IsPut}
 
 -- a node can be made where one is asked for
 abbrev pub CanServe : {C S : Type 0} → Request C S → Type 0
@@ -22,7 +23,7 @@ module _ {C S : Type 0} (cmp : C → C → Ordering) (wire : Wire C S) where
   IsAnswered (request.Node name given) answer.Ready s s2 =
       IsPut cmp (string_bytes name) given s s2
   IsAnswered (request.Command c) (answer.Reply r) s s2 =
-      (s2.labels ≡ s.labels) × IsServed cmp wire c r s.nodes s2.nodes
+      (s2.labels ≡ s.labels) × IsServedAmong cmp wire c r s.nodes s2.nodes
   IsAnswered (request.Node name given) answer.OutOfMemory s s2 = s2 ≡ s
   IsAnswered (request.Node name given) a s s2 = ⊥
   IsAnswered (request.Command c) a s s2 = ⊥

@@ -1,28 +1,26 @@
 //! Nodes that are called by names.
 
-ghost use Rattle.std.specs.Prelude.{◌≡◌, ◌<◌, ◌-◌, ◌^◌, [], ◌++◌, ◌∷◌, IfSome, IfNone, OnOk, OnErr};
-ghost use Rattle.std.specs.Prelude.{IfOk, length, slice_index_or, slice_set, string_bytes};
+ghost use Rattle.std.specs.Prelude.{◌≡◌, ◌<◌, ◌-◌, ◌^◌, [], IfSome, IfNone, OnOk, OnErr};
+ghost use Rattle.std.specs.Prelude.{IfOk, length, slice_index_or, string_bytes};
 ghost use Rattle.std.specs.List.{All};
 ghost use Rattle.std.specs.Int.NonZero.{non_zero_usize_get};
-ghost use Rattle.p2p_directory.specs.Nodes.{NodeStandsAt, made_of};
+ghost use Rattle.p2p_directory.specs.Network.{IsServedAmong};
 ghost use Rattle.p2p_directory.specs.Received.{wire_of};
-ghost use Rattle.play.specs.Session.{IsServed, IsPut, IsCalled};
+ghost use Rattle.play.specs.Session.{IsPut, IsCalled};
 
-use crate::session::serving::{ask, exchange_between, receive, replace_node, step};
 pub use label::Label;
-use p2p_directory::node::{NetworkCommand, NetworkReply, Node, Setup};
+use p2p_directory::node::{Network, NetworkCommand, NetworkReply, Setup};
 use p2p_discovery::codec::PublicKey;
 use std::alloc::{AllocError, Global};
 use std::marker::Model;
 
 mod label;
-mod serving;
 
 /// Nodes that are called by names, which are all different. A contract sees the names and the
 /// nodes. It must be spent, by [`Session::finish`].
 pub struct Session<C: PublicKey> {
     labels: Vec<Label>,
-    nodes: Vec<Node<C>>,
+    nodes: Network<C>,
     // The node that was made or named last.
     latest: usize,
 }
@@ -33,9 +31,9 @@ impl<C: PublicKey> Model for Session<C> {
 
     ghost Value = { SessionView C C.Signature };
 
-    ghost view = { λ s. record { labels = s.labels.items; nodes = s.nodes.items } };
+    ghost view = { λ s. record { labels = s.labels.items; nodes = s.nodes } };
 
-    ghost invariant = { λ s. length s.labels.items ≡ length s.nodes.items };
+    ghost invariant = { λ s. length s.labels.items ≡ length s.nodes };
 }
 
 impl<C: PublicKey> Session<C> {
@@ -45,7 +43,7 @@ impl<C: PublicKey> Session<C> {
     {
         Session {
             labels: Vec::new(alloc),
-            nodes: Vec::new(alloc),
+            nodes: Network::empty(alloc),
             latest: 0,
         }
     }
@@ -76,7 +74,7 @@ impl<C: PublicKey> Session<C> {
     ///
     /// # Conditions
     ///
-    /// Those of [`Node::new`].
+    /// Those of [`Network::add`].
     ///
     /// # Errors
     ///
@@ -90,19 +88,17 @@ impl<C: PublicKey> Session<C> {
         let label = label_of(alloc, name, &setup)?;
         match self.place_of(name) {
             Some(place) => {
-                let node = Node::new(alloc, setup)?;
+                self.nodes.replace(alloc, place, setup)?;
                 self.labels[place] = label;
                 self.latest = place;
-                replace_node(&mut self.nodes, place, node).finish();
                 Ok(())
             }
             None => {
                 self.labels.reserve(1)?;
-                self.nodes.reserve(1)?;
-                let node = Node::new(alloc, setup)?;
-                self.latest = self.nodes.len();
+                let place = self.nodes.nodes();
+                self.nodes.add(alloc, setup)?;
                 self.labels.push_reserved(label);
-                self.nodes.push_reserved(node);
+                self.latest = place;
                 Ok(())
             }
         }
@@ -112,30 +108,12 @@ impl<C: PublicKey> Session<C> {
     /// node that there isn't, and an exchange of a node with itself, is replied `NoNode`.
     pub fn serve(&mut self, command: NetworkCommand<C>) -> NetworkReply<C>
         ensures labels { self.new.labels ≡ self.old.labels }
-        ensures served { IsServed C.cmp (wire_of C.SIZE C.spelled C.value
+        ensures served { IsServedAmong C.cmp (wire_of C.SIZE C.spelled C.value
             C.Signature.SIZE C.Signature.spelled C.Signature.value C.verifies)
             command result self.old.nodes self.new.nodes }
     {
         self.latest = named_by(&command);
-        match command {
-            NetworkCommand::Call(node, command) => step(&mut self.nodes, node, command),
-            NetworkCommand::Ask(node, place) => ask(&self.nodes, node, place),
-            NetworkCommand::Frame(node, frame, now) => receive(&mut self.nodes, node, frame, now),
-            NetworkCommand::Exchange {
-                asker,
-                replier,
-                place,
-                asker_now,
-                replier_now,
-            } => exchange_between(
-                &mut self.nodes,
-                asker,
-                replier,
-                place,
-                asker_now,
-                replier_now,
-            ),
-        }
+        self.nodes.serve(command)
     }
 
     /// Releases all that is held.
@@ -145,11 +123,7 @@ impl<C: PublicKey> Session<C> {
             nodes,
             latest: _,
         } = self;
-        let mut left = nodes.into_iter();
-        while let Some(node) = left.next() {
-            node.finish();
-        }
-        left.destroy_empty();
+        nodes.finish();
     }
 }
 
