@@ -8,6 +8,7 @@ pub use Rattle.p2p_tracker.specs.Cooldowns
 pub use Rattle.p2p_tracker.specs.History
 pub use Rattle.p2p_tracker.specs.World
 pub use Rattle.p2p_tracker.specs.Answers
+pub use Rattle.p2p_tracker.specs.Seen
 pub use Rattle.p2p_tracker.specs.Record
 pub use Rattle.p2p_tracker.specs.Directory
 pub mod Refinement

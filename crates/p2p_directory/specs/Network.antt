@@ -30,7 +30,7 @@ use Rattle.p2p_directory.specs.Received.{Wire, Standing, applies, received_at, a
 use Rattle.p2p_directory.specs.Received as frames
 use Rattle.p2p_directory.specs.Exchange.{exchanged_at, infos_applied, IsExchanged}
 use Rattle.p2p_directory.specs.Exchange as exchange
-use Rattle.p2p_tracker.specs.Directory.{DirectoryView}
+use Rattle.p2p_tracker.specs.Seen.{DirectoryView}
 use Rattle.p2p_directory.specs.Held.{ReleasesAll}
 use Rattle.p2p_directory.specs.Nodes.{NodeView, Made, NodeStandsAt, made_of, standing_in}
 use Rattle.p2p_directory.specs.Nodes.{calls_with, may_reserve, IsStepped, IsReceived, IsAsked}

@@ -20,7 +20,8 @@ use Rattle.p2p_tracker.specs.Calls.{Settings, Call}
 use Rattle.p2p_tracker.specs.Calls.Call.{Dial, Listen, Update}
 use Rattle.p2p_tracker.specs.World.{World}
 use Rattle.p2p_tracker.specs.Answers.{infos_for, set_at_place}
-use Rattle.p2p_tracker.specs.Directory.{DirectoryView, Updates, bit_vec_at, infos_in}
+use Rattle.p2p_tracker.specs.Directory.{Updates, bit_vec_at, infos_in}
+use Rattle.p2p_tracker.specs.Seen.{DirectoryView}
 use Rattle.p2p_directory.specs.Held.{held_of}
 use Rattle.p2p_directory.specs.Refinement.{Refines}
 use Rattle.p2p_directory.specs.Run.{settings, call_of, world_after, next, bit_vec_in}

@@ -35,7 +35,7 @@ use Rattle.p2p_tracker.specs.Answers.{is_blocked_at}
 use Rattle.p2p_tracker.specs.Answers.{AreBlocked, IsNextUnblock, IsAnyExpired, IsNumberCooled}
 use Rattle.p2p_tracker.specs.Answers.{is_eligible_at}
 use Rattle.p2p_tracker.specs.Answers.{is_acceptable_at, is_dialable, IsDialable}
-use Rattle.p2p_tracker.specs.Directory.{peers_of, set_in}
+use Rattle.p2p_tracker.specs.Seen.{peers_of, set_in}
 use Rattle.p2p_directory.specs.Refinement.{metadata_of}
 
 -- WHAT A RUN IS GIVEN

@@ -13,6 +13,7 @@ use Rattle.std.specs.declared.cmp.Ordering.{Ordering}
 use Rattle.p2p_discovery.specs.declared.discovery.Info.{Info}
 use Rattle.p2p_discovery.specs.declared.discovery.BitVec.{BitVec}
 use Rattle.p2p_discovery.specs.declared.types.ingress.Ingress.{Ingress}
+use Rattle.p2p_tracker.specs.Seen.{DirectoryView, ConfigView, record_at, record_of, unblock_of, cooldown_of, peers_of, set_in, key_of}
 use Rattle.p2p_tracker.specs.declared.record.Address.{Address}
 use Rattle.p2p_tracker.specs.declared.record.Address.TheVariants.{Myself, Bootstrapper}
 use Rattle.p2p_tracker.specs.declared.record.Status.{Status}
@@ -27,7 +28,8 @@ use Rattle.p2p_tracker.specs.Calls.{SetAt, Cooldown}
 use Rattle.p2p_tracker.specs.History.{last_of, is_inert, is_reserved}
 use Rattle.p2p_tracker.specs.World.{last_ingress_by, is_blocked}
 use Rattle.p2p_tracker.specs.Answers.{epoch_millis, is_cooled_by}
-use Rattle.p2p_tracker.specs.Record.{RecordView, new_record, fresh, is_myself, is_eligible}
+use Rattle.p2p_tracker.specs.Record.{new_record, fresh, is_myself, is_eligible}
+use Rattle.p2p_tracker.specs.Seen.{RecordView}
 use Rattle.p2p_tracker.specs.Record.{after_failure, after_success, reserved_record, with_counts}
 use Rattle.p2p_tracker.specs.Record.{unless_deletable, address_after_infos, wants_info}
 use Rattle.p2p_tracker.specs.Record.{sharable_by, may_come, may_be_dialled, ingress_of}
@@ -39,60 +41,13 @@ use Rattle.p2p_tracker.specs.Lists.{Lists, IsLeastOf}
 use Rattle.p2p_tracker.specs.Blocks.{unblock_in}
 use Rattle.p2p_tracker.specs.Cooldowns.{unless_cooled, cooldown_in}
 
--- WHAT IS SEEN
-
--- the configuration, with durations in nanoseconds
-pub record ConfigView : Type 0 where
-  pub allow_private_ips : Bool
-  pub allow_dns : Bool
-  pub max_sets : ℕ
-  pub dial_fail_limit : ℕ
-  pub cooldown : ℕ
-  pub block_duration : ℕ
-
-abbrev pub config_view : Config → ConfigView
-config_view cfg = record {
-  allow_private_ips = cfg.allow_private_ips;
-  allow_dns = cfg.allow_dns;
-  max_sets = non_zero_usize_get cfg.max_sets;
-  dial_fail_limit = cfg.dial_fail_limit;
-  cooldown = as_nanos cfg.peer_connection_cooldown;
-  block_duration = as_nanos cfg.block_duration;
-}
-
--- the retained sets from the oldest on, and in order of their keys what is kept of each peer, until
--- when each block holds, and the moments of each last grant that isn't forgotten
-pub record DirectoryView (C S : Type 0) : Type 0 where
-  pub config : ConfigView
-  pub sets : List (SetAt C)
-  pub records : List (C × RecordView C S)
-  pub blocks : List (C × ℕ)
-  pub cooldowns : List (C × Cooldown)
-
--- the peers of a set, by role
-abbrev pub peers_of : {C S : Type 0} → SetAt C → TrackedPeers C S
-peers_of set = record { primary = set.primary; secondary = set.secondary }
-
 -- the peers of the retained set with an index, if there is one
 abbrev pub peer_set_in : {C S : Type 0} → DirectoryView C S → ℕ → Option (TrackedPeers C S)
 peer_set_in d index = option_map peers_of (set_with index d.sets)
 
--- the set that an update tells of
-abbrev pub set_in : {C S : Type 0} → PeerSetUpdate C S → SetAt C
-set_in update = record {
-  index = update.index;
-  primary = update.latest.primary;
-  secondary = update.latest.secondary;
-}
-
 -- a moment, if it is later than now
 abbrev pub if_later : ℕ → Option ℕ → Option ℕ
 if_later now moment = if is_blocked moment now then moment else None
-
--- whom a reservation is for
-abbrev pub key_of : {P S : Type 0} → Metadata P S → P
-key_of (Dialer key ingress) = key
-key_of (Listener key) = key
 
 module _ {C S : Type 0} where
   -- there is a record, and its status passes a test
@@ -143,21 +98,13 @@ module _ {C S : Type 0} where
   other_keys records = keys_of (filter (λ e. not (is_myself e.1.address)) records)
 
 module _ {C S : Type 0} (cmp : C → C → Ordering) where
-  -- what is kept of a peer, by all that is kept
-  abbrev pub record_at : List (C × RecordView C S) → C → Option (RecordView C S)
-  record_at records q = lookup (is_at (cmp q)) records
-
-  -- what a directory keeps of a peer
-  abbrev pub record_of : DirectoryView C S → C → Option (RecordView C S)
-  record_of d q = record_at d.records q
-
   -- a peer is reserved or connected
   abbrev pub IsBusy : DirectoryView C S → C → Type 0
-  IsBusy d q = is_busy (record_of d q) ≡ true
+  IsBusy d q = is_busy (record_of cmp d q) ≡ true
 
   -- a peer is reserved
   abbrev pub IsReserved : DirectoryView C S → C → Type 0
-  IsReserved d q = has_status is_reserved (record_of d q) ≡ true
+  IsReserved d q = has_status is_reserved (record_of cmp d q) ≡ true
 
   -- whoever is reserved or connected stays so
   abbrev pub StayBusy : DirectoryView C S → DirectoryView C S → Type 0
@@ -182,7 +129,7 @@ module _ {C S : Type 0} (cmp : C → C → Ordering) where
   abbrev pub ChangesAt : List (C × RecordView C S) → List (C × RecordView C S) → C →
       (Option (RecordView C S) → Option (RecordView C S)) → Type 0
   ChangesAt old new p f =
-      (q : C) → record_at new q ≡ (if is_at (cmp p) q then f (record_at old q) else record_at old q)
+      (q : C) → record_at cmp new q ≡ (if is_at (cmp p) q then f (record_at cmp old q) else record_at cmp old q)
 
   -- .. and all else of a directory stays
   pub record ChangesRecord (old new : DirectoryView C S) (p : C)
@@ -193,18 +140,14 @@ module _ {C S : Type 0} (cmp : C → C → Ordering) where
     pub cooldowns : new.cooldowns ≡ old.cooldowns
     pub records : ChangesAt old.records new.records p f
 
-  -- the moments that are kept of a peer's last grant, if it isn't forgotten
-  abbrev pub cooldown_of : DirectoryView C S → C → Option Cooldown
-  cooldown_of d q = cooldown_in cmp d.cooldowns q
-
   -- p is reserved at a moment, with a draw, the moments of this grant are kept, and all else stays
   pub record Reserves (old new : DirectoryView C S) (p : C) (now draw : ℕ) : Type 0 where
     pub config : new.config ≡ old.config
     pub sets : new.sets ≡ old.sets
     pub blocks : new.blocks ≡ old.blocks
-    pub cooldowns : (q : C) → cooldown_of new q ≡ (if is_at (cmp p) q
+    pub cooldowns : (q : C) → cooldown_of cmp new q ≡ (if is_at (cmp p) q
         then Some (moments_after now draw old.config.cooldown)
-        else cooldown_of old q)
+        else cooldown_of cmp old q)
     pub records : ChangesAt old.records new.records p
         (option_map (reserved_record now draw old.config.cooldown))
 
@@ -229,18 +172,18 @@ module _ {C S : Type 0} (cmp : C → C → Ordering) where
     pub blocks : new.blocks ≡ old.blocks
     pub cooldowns : new.cooldowns ≡ old.cooldowns
     pub records : (q : C) →
-        record_of new q ≡ option_map (updated_record (infos_of infos q)) (record_of old q)
+        record_of cmp new q ≡ option_map (updated_record (infos_of infos q)) (record_of cmp old q)
 
   -- the info of a peer that others may be told, if there is one
   abbrev pub sharable_in : DirectoryView C S → C → Option (Info C S)
-  sharable_in d q = option_and_then sharable_of_record (record_of d q)
+  sharable_in d q = option_and_then sharable_of_record (record_of cmp d q)
 
   -- of a peer with its bit, by all that is kept: its sharable info, where the bit is 0 and the
   -- timestamp isn't above these milliseconds
   abbrev pub shared_at : List (C × RecordView C S) → ℕ → C × Bool → Option (Info C S)
   shared_at records millis (q, true) = None
   shared_at records millis (q, false) =
-      elim (option_and_then sharable_of_record (record_at records q)) [
+      elim (option_and_then sharable_of_record (record_at cmp records q)) [
         | None ↦ None
         | Some i ↦ if nat_le i.timestamp millis then Some i else None
       ]
@@ -265,11 +208,11 @@ module _ {C S : Type 0} (cmp : C → C → Ordering) where
 
   -- a peer's info is wanted: by its record, and where there is none
   abbrev pub wants_in : DirectoryView C S → C → Bool
-  wants_in d q = option_map_or (wants_info d.config.dial_fail_limit) (record_of d q) true
+  wants_in d q = option_map_or (wants_info d.config.dial_fail_limit) (record_of cmp d q) true
 
   -- for each primary peer of a set, whether its info is known, and not wanted
   abbrev pub known_bits : DirectoryView C S → SetAt C → List Bool
-  known_bits d set = map (λ q. is_known d.config.dial_fail_limit (record_of d q)) set.primary
+  known_bits d set = map (λ q. is_known d.config.dial_fail_limit (record_of cmp d q)) set.primary
 
   -- the bits of the set at a place, with its index, if there is one
   abbrev pub bit_vec_at : DirectoryView C S → ℕ → Option BitVec
@@ -294,7 +237,7 @@ module _ {C S : Type 0} (cmp : C → C → Ordering) where
     pub blocks : new.blocks ≡ old.blocks
     pub cooldowns : new.cooldowns ≡ old.cooldowns
     pub records : (q : C) →
-        record_of new q ≡ record_with_sets new.sets (cooldown_of old q) q (record_of old q)
+        record_of cmp new q ≡ record_with_sets new.sets (cooldown_of cmp old q) q (record_of cmp old q)
 
   -- reserved or connected, and eligible
   abbrev pub is_connectable : Option (RecordView C S) → Bool
@@ -303,7 +246,7 @@ module _ {C S : Type 0} (cmp : C → C → Ordering) where
   -- a peer is reserved or connected, was eligible, and isn't any more
   abbrev pub is_torn_down_by : DirectoryView C S → DirectoryView C S → C → Bool
   is_torn_down_by old new q =
-      is_connectable (record_of old q) && not (option_map_or is_eligible (record_of new q) false)
+      is_connectable (record_of cmp old q) && not (option_map_or is_eligible (record_of cmp new q) false)
 
   -- the sorted peers that a change tears down
   abbrev pub AreTornDown : DirectoryView C S → DirectoryView C S → List C → Type 0
@@ -311,18 +254,14 @@ module _ {C S : Type 0} (cmp : C → C → Ordering) where
 
   -- BLOCKS
 
-  -- until when a peer's block holds, if there is one
-  abbrev pub unblock_of : DirectoryView C S → C → Option ℕ
-  unblock_of d q = unblock_in cmp d.blocks q
-
   -- a peer is blocked at a moment
   abbrev pub is_blocked_in : DirectoryView C S → ℕ → C → Bool
-  is_blocked_in d now q = is_blocked (unblock_of d q) now
+  is_blocked_in d now q = is_blocked (unblock_of cmp d q) now
 
   -- a block of p may be taken at a moment: p isn't the local node, and isn't blocked
   abbrev pub may_block : DirectoryView C S → ℕ → C → Bool
   may_block d now p =
-      not (option_map_or (λ r. is_myself r.address) (record_of d p) false)
+      not (option_map_or (λ r. is_myself r.address) (record_of cmp d p) false)
       && not (is_blocked_in d now p)
 
   -- p is blocked until a moment, and all else stays
@@ -332,7 +271,7 @@ module _ {C S : Type 0} (cmp : C → C → Ordering) where
     pub records : new.records ≡ old.records
     pub cooldowns : new.cooldowns ≡ old.cooldowns
     pub blocks : (q : C) →
-        unblock_of new q ≡ (if is_at (cmp p) q then Some moment else unblock_of old q)
+        unblock_of cmp new q ≡ (if is_at (cmp p) q then Some moment else unblock_of cmp old q)
 
   -- the blocks that hold until now, or until an earlier moment, end, and all else stays
   pub record EndsBlocks (old new : DirectoryView C S) (now : ℕ) : Type 0 where
@@ -340,13 +279,13 @@ module _ {C S : Type 0} (cmp : C → C → Ordering) where
     pub sets : new.sets ≡ old.sets
     pub records : new.records ≡ old.records
     pub cooldowns : new.cooldowns ≡ old.cooldowns
-    pub blocks : (q : C) → unblock_of new q ≡ if_later now (unblock_of old q)
+    pub blocks : (q : C) → unblock_of cmp new q ≡ if_later now (unblock_of cmp old q)
 
   -- COOLDOWNS
 
   -- moments are kept of a peer, and its dial moment is at most now
   abbrev pub is_cooled_in : DirectoryView C S → ℕ → C → Bool
-  is_cooled_in d now q = is_cooled_by now (cooldown_of d q)
+  is_cooled_in d now q = is_cooled_by now (cooldown_of cmp d q)
 
   -- how many such peers there are
   abbrev pub IsNumberCooledIn : DirectoryView C S → ℕ → ℕ → Type 0
@@ -359,17 +298,17 @@ module _ {C S : Type 0} (cmp : C → C → Ordering) where
     pub config : new.config ≡ old.config
     pub sets : new.sets ≡ old.sets
     pub blocks : new.blocks ≡ old.blocks
-    pub cooldowns : (q : C) → cooldown_of new q ≡ unless_cooled now (cooldown_of old q)
-    pub records : (q : C) → record_of new q ≡ (if is_cooled_in old now q
-        then option_map (with_cooldown None) (record_of old q)
-        else record_of old q)
+    pub cooldowns : (q : C) → cooldown_of cmp new q ≡ unless_cooled now (cooldown_of cmp old q)
+    pub records : (q : C) → record_of cmp new q ≡ (if is_cooled_in old now q
+        then option_map (with_cooldown None) (record_of cmp old q)
+        else record_of cmp old q)
 
   -- WHO MAY COME, AND WHO MAY BE DIALLED
 
   -- a peer that isn't blocked at a moment has a record that passes a test
   abbrev pub is_free_and : (RecordView C S → Bool) → DirectoryView C S → ℕ → C → Bool
   is_free_and test d now q =
-      not (is_blocked_in d now q) && option_map_or test (record_of d q) false
+      not (is_blocked_in d now q) && option_map_or test (record_of cmp d q) false
 
   -- a peer that comes at a moment is granted a reservation
   abbrev pub may_listen_in : DirectoryView C S → ℕ → C → Bool
@@ -382,7 +321,7 @@ module _ {C S : Type 0} (cmp : C → C → Ordering) where
 
   -- where a peer is reached, if that is known
   abbrev pub ingress_in : DirectoryView C S → C → Option Ingress
-  ingress_in d q = option_and_then (λ r. ingress_of r.address) (record_of d q)
+  ingress_in d q = option_and_then (λ r. ingress_of r.address) (record_of cmp d q)
 
   -- when a record's peer may be dialled, asked at a moment
   abbrev pub dial_status_in : DirectoryView C S → ℕ → RecordView C S → DialView
@@ -396,8 +335,8 @@ module _ {C S : Type 0} (cmp : C → C → Ordering) where
   -- when a peer that has a record may become dialable, asked at a moment: where it is blocked once
   -- its block ends, else at its later dial moment
   abbrev pub query_moment_in : DirectoryView C S → ℕ → C → Option ℕ
-  query_moment_in d now q = option_and_then (λ r. if is_blocked_in d now q then unblock_of d q
-      else later_moment (dial_status_in d now r)) (record_of d q)
+  query_moment_in d now q = option_and_then (λ r. if is_blocked_in d now q then unblock_of cmp d q
+      else later_moment (dial_status_in d now r)) (record_of cmp d q)
 
   -- the sorted peers that may be dialled at a moment, and when to ask again
   abbrev pub AreDialableIn : DirectoryView C S → ℕ → List C → Option ℕ → Type 0
@@ -434,9 +373,9 @@ module _ {C S : Type 0} (cmp : C → C → Ordering) where
 
   -- what is kept of q, until when it is blocked, and the moments that are kept are as they were
   pub record IsAsBefore (old new : DirectoryView C S) (q : C) : Type 0 where
-    pub record_stays : record_of new q ≡ record_of old q
-    pub unblock_stays : unblock_of new q ≡ unblock_of old q
-    pub cooldown_stays : cooldown_of new q ≡ cooldown_of old q
+    pub record_stays : record_of cmp new q ≡ record_of cmp old q
+    pub unblock_stays : unblock_of cmp new q ≡ unblock_of cmp old q
+    pub cooldown_stays : cooldown_of cmp new q ≡ cooldown_of cmp old q
 
   -- so of each key but p, and the retained sets stay
   pub record LeavesOthers (old new : DirectoryView C S) (p : C) : Type 0 where

@@ -8,6 +8,7 @@ pub mod Cooldowns
 pub mod History
 pub mod World
 pub mod Answers
+pub mod Seen
 pub mod Record
 pub mod Directory
 -- The step of one accepted call: the main law and other laws alone speak of it.

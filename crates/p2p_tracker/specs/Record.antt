@@ -6,6 +6,7 @@ use Rattle.std.specs.Duration.{as_nanos}
 use Rattle.p2p_discovery.specs.declared.discovery.Info.{Info}
 use Rattle.p2p_discovery.specs.Ingress.{same_ingress, is_valid}
 use Rattle.p2p_discovery.specs.declared.types.ingress.Ingress.{Ingress}
+use Rattle.p2p_tracker.specs.Seen.{RecordView}
 use Rattle.p2p_tracker.specs.declared.record.Address.{Address}
 use Rattle.p2p_tracker.specs.declared.record.Address.TheVariants.{Unknown, Myself, Bootstrapper}
 use Rattle.p2p_tracker.specs.declared.record.Address.TheVariants.{Discovered}
@@ -19,16 +20,6 @@ use Rattle.p2p_tracker.specs.Moments.{cap, jitter}
 use Rattle.p2p_tracker.specs.Calls.{Cooldown}
 use Rattle.p2p_tracker.specs.History.{is_inert, first_greatest}
 use Rattle.p2p_tracker.specs.World.{reservable_from, dialable_from}
-
--- what is kept of one peer
-pub record RecordView (C S : Type 0) : Type 0 where
-  pub address : Address C S
-  pub status : Status
-  pub primary_sets : ℕ
-  pub secondary_sets : ℕ
-  pub persistent : Bool
-  pub next_reservable_at : ℕ
-  pub next_dial_at : ℕ
 
 -- the answer grants a reservation
 abbrev pub is_grant : ReserveResult → Bool

@@ -10,7 +10,7 @@ ghost use Rattle.std.specs.Map.{keys_of};
 ghost use Rattle.std.specs.Duration.{as_nanos};
 ghost use Rattle.std.specs.Int.NonZero.{non_zero_usize_get};
 ghost use Rattle.p2p_tracker.specs.PeerSets.{set_of, latest_index, is_above};
-ghost use Rattle.p2p_tracker.specs.Directory.{record_at};
+ghost use Rattle.p2p_tracker.specs.Seen.{record_at};
 
 use crate::directory::records::Records;
 use crate::directory::track::{add, drop_oldest};
@@ -95,7 +95,7 @@ pub enum Metadata<P: PublicKey> {
 }
 
 impl<P: PublicKey> Metadata<P> {
-    ghost use Rattle.p2p_tracker.specs.Directory.{key_of};
+    ghost use Rattle.p2p_tracker.specs.Seen.{key_of};
 
     /// The key of the peer.
     pub fn public_key(&self) -> &P
@@ -146,7 +146,7 @@ pub struct Directory<C: PublicKey> {
 
 impl<C: PublicKey> Model for Directory<C> {
     ghost use Rattle.std.specs.Int.NonZero.{non_zero_usize_get};
-    ghost use Rattle.p2p_tracker.specs.Directory.{DirectoryView, config_view, record_at};
+    ghost use Rattle.p2p_tracker.specs.Seen.{DirectoryView, config_view, record_at};
     ghost use Rattle.p2p_tracker.specs.Private.Window.{plain_sets};
     ghost use Rattle.p2p_tracker.specs.Cooldowns.{cooldown_in};
     ghost use Rattle.p2p_tracker.specs.Private.Counts.{IsWhole};
@@ -167,7 +167,8 @@ impl<C: PublicKey> Model for Directory<C> {
 }
 
 impl<C: PublicKey> Directory<C> {
-    ghost use Rattle.p2p_tracker.specs.Directory.{config_view, key_of, record_of, first_record};
+    ghost use Rattle.p2p_tracker.specs.Directory.{first_record};
+    ghost use Rattle.p2p_tracker.specs.Seen.{config_view, key_of, record_of};
     ghost use Rattle.p2p_tracker.specs.Directory.{IsBusy, IsReserved, StayBusy, StayReserved};
     ghost use Rattle.p2p_tracker.specs.Directory.{Reserves, Releases, Connects, Updates};
     ghost use Rattle.p2p_tracker.specs.Directory.{TakesSet, AreTornDown};

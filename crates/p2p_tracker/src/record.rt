@@ -118,7 +118,7 @@ pub struct Record<C: PublicKey> {
 
 impl<C: PublicKey> Model for Record<C> {
     ghost use Rattle.std.specs.Duration.{as_nanos};
-    ghost use Rattle.p2p_tracker.specs.Record.{RecordView};
+    ghost use Rattle.p2p_tracker.specs.Seen.{RecordView};
 
     ghost Value = { RecordView C C.Signature };
 

@@ -7,7 +7,7 @@ use Rattle.std.specs.declared.cmp.Ordering.{Ordering}
 use Rattle.std.specs.declared.time.Duration.{Duration}
 use Rattle.std.proofs.lemmas.Bool.{eq-eqb, lt-ltb, le-ltb}
 use Rattle.std.proofs.lemmas.List.{get_or-map, length-map, map-set, map-append}
-use Rattle.p2p_tracker.specs.Directory.{DirectoryView}
+use Rattle.p2p_tracker.specs.Seen.{DirectoryView}
 use Rattle.p2p_directory.specs.declared.node.Received.{Received}
 use Rattle.p2p_directory.specs.declared.node.Setup.{Setup}
 use Rattle.p2p_directory.specs.declared.node.exchanged.Exchanged.{Exchanged}

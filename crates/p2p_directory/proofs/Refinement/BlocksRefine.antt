@@ -19,7 +19,8 @@ use Rattle.p2p_tracker.specs.Answers.{is_acceptable_at}
 use Rattle.p2p_tracker.specs.Lists.{Lists, IsLeastOf, Somebody}
 use Rattle.p2p_tracker.specs.Blocks.{IsAnyUntil}
 use Rattle.p2p_tracker.specs.Record.{is_myself, is_eligible, is_acceptable}
-use Rattle.p2p_tracker.specs.Directory.{DirectoryView, record_of, unblock_of, is_blocked_in}
+use Rattle.p2p_tracker.specs.Directory.{is_blocked_in}
+use Rattle.p2p_tracker.specs.Seen.{DirectoryView, record_of, unblock_of}
 use Rattle.p2p_tracker.specs.Directory.{may_block, if_later, is_free_and, is_named_of, AreAllOf}
 use Rattle.p2p_tracker.specs.Directory.{IsUpdateOf, BlocksUntil, EndsBlocks}
 use Rattle.p2p_directory.specs.Refinement.{Refines}

@@ -18,13 +18,16 @@ use Rattle.p2p_tracker.specs.Step
 use Rattle.p2p_tracker.specs.World.{World, Known, Peer, last_ingress_by, reservable_from, may_listen}
 use Rattle.p2p_tracker.specs.Step.{new_known, world_with}
 use Rattle.p2p_tracker.specs.Answers.{is_present_in, IsTeardown, status_in, is_cooled_by, is_cooled_at, IsNumberCooled}
-use Rattle.p2p_tracker.specs.Record.{RecordView, new_record, with_cooldown, is_eligible, reserved_record, unless_deletable}
+use Rattle.p2p_tracker.specs.Record.{new_record, with_cooldown, is_eligible, reserved_record, unless_deletable}
+use Rattle.p2p_tracker.specs.Seen.{RecordView}
 use Rattle.p2p_tracker.specs.Moments.{moments_after}
 use Rattle.p2p_tracker.specs.PeerSets.{latest_index, is_above}
 use Rattle.p2p_tracker.specs.Blocks.{unblock_in}
 use Rattle.p2p_tracker.specs.Cooldowns.{cooldown_in, unless_cooled}
-use Rattle.p2p_tracker.specs.Directory.{DirectoryView, unblock_of, cooldown_of, is_cooled_in}
-use Rattle.p2p_tracker.specs.Directory.{IsNumberCooledIn, ForgetsCooled, record_of, first_record}
+use Rattle.p2p_tracker.specs.Directory.{is_cooled_in}
+use Rattle.p2p_tracker.specs.Seen.{DirectoryView, unblock_of, cooldown_of}
+use Rattle.p2p_tracker.specs.Directory.{IsNumberCooledIn, ForgetsCooled, first_record}
+use Rattle.p2p_tracker.specs.Seen.{record_of}
 use Rattle.p2p_tracker.specs.Directory.{kept_after_release, record_with_sets, is_connectable}
 use Rattle.p2p_tracker.specs.Directory.{ChangesRecord, Reserves, TakesSet, AreTornDown}
 use Rattle.p2p_directory.specs.Refinement.{Refines, config_of, metadata_of, address_known}

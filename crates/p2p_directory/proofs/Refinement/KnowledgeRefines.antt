@@ -29,8 +29,10 @@ use Rattle.p2p_tracker.specs.Answers.{is_present_in, wants, wants_with, active_i
 use Rattle.p2p_tracker.specs.Answers.{sharable_info, shared_info, infos_for, epoch_millis}
 use Rattle.p2p_tracker.specs.Answers.{IsNumberTracked}
 use Rattle.p2p_tracker.specs.PeerSets.{set_with}
-use Rattle.p2p_tracker.specs.Record.{RecordView, is_myself, after_success, address_after_offer, address_after_infos, wants_by, sharable_by}
-use Rattle.p2p_tracker.specs.Directory.{DirectoryView, record_of, connected_record, updated_record}
+use Rattle.p2p_tracker.specs.Record.{is_myself, after_success, address_after_offer, address_after_infos, wants_by, sharable_by}
+use Rattle.p2p_tracker.specs.Seen.{RecordView}
+use Rattle.p2p_tracker.specs.Directory.{connected_record, updated_record}
+use Rattle.p2p_tracker.specs.Seen.{DirectoryView, record_of}
 use Rattle.p2p_tracker.specs.Directory.{infos_of, sharable_in, sharable_of_record, shared_at}
 use Rattle.p2p_tracker.specs.Directory.{infos_in, is_known, bit_vec_at, other_keys, Connects}
 use Rattle.p2p_tracker.specs.Directory.{Updates}

@@ -19,7 +19,8 @@ use Rattle.p2p_tracker.specs.World
 use Rattle.p2p_tracker.specs.Step
 use Rattle.p2p_tracker.specs.World.{Known, Peer, last_ingress, last_ingress_by, reservable_from, dialable_from}
 use Rattle.p2p_tracker.specs.Step.{new_known}
-use Rattle.p2p_tracker.specs.Record.{RecordView, fresh, is_myself, is_eligible, is_grant, may_come, after_failure, with_counts, unless_deletable}
+use Rattle.p2p_tracker.specs.Record.{fresh, is_myself, is_eligible, is_grant, may_come, after_failure, with_counts, unless_deletable}
+use Rattle.p2p_tracker.specs.Seen.{RecordView}
 use Rattle.p2p_tracker.specs.Directory.{address_after_release, released_record, is_connectable, record_with_sets}
 use Rattle.p2p_directory.specs.Refinement.{metadata_of, address_given, address_known, address_of}
 

@@ -27,10 +27,12 @@ use Rattle.p2p_tracker.specs.Step.{world_with, new_known, status_connected}
 use Rattle.p2p_tracker.specs.Moments.{cap}
 use Rattle.p2p_tracker.specs.Answers.{is_present_in, was_taken, was_granted, was_blocked}
 use Rattle.p2p_tracker.specs.Blocks.{IsAnyUntil}
-use Rattle.p2p_tracker.specs.Record.{RecordView}
+use Rattle.p2p_tracker.specs.Seen.{RecordView}
 use Rattle.p2p_tracker.specs.PeerSets.{set_of, latest_index, is_above}
-use Rattle.p2p_tracker.specs.Directory.{DirectoryView, is_busy, record_of, first_record}
-use Rattle.p2p_tracker.specs.Directory.{kept_after_release, unblock_of, may_block, BlocksUntil}
+use Rattle.p2p_tracker.specs.Directory.{is_busy, first_record}
+use Rattle.p2p_tracker.specs.Seen.{DirectoryView, record_of}
+use Rattle.p2p_tracker.specs.Directory.{kept_after_release, may_block, BlocksUntil}
+use Rattle.p2p_tracker.specs.Seen.{unblock_of}
 use Rattle.p2p_tracker.specs.Directory.{EndsBlocks, IsNumberCooledIn, ForgetsCooled, may_listen_in}
 use Rattle.p2p_tracker.specs.Directory.{may_dial_in, ingress_in, ChangesRecord, Reserves, Connects}
 use Rattle.p2p_tracker.specs.Directory.{Updates, TakesSet, AreTornDown}

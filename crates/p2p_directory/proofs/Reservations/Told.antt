@@ -12,7 +12,7 @@ use Rattle.p2p_tracker.specs.declared.record.Status.{Status}
 use Rattle.p2p_directory.specs.declared.run.commands.Reply.TheVariants as reply
 use Rattle.p2p_tracker.specs.Calls.{Settings, Call}
 use Rattle.p2p_tracker.specs.PeerSets.{latest_index}
-use Rattle.p2p_tracker.specs.Directory.{record_of, unblock_of}
+use Rattle.p2p_tracker.specs.Seen.{record_of, unblock_of}
 use Rattle.p2p_directory.specs.Private.Serving.{ServerView, StandsAt, IsCallServedAt}
 use Rattle.p2p_directory.specs.Private.Slots.{held_in}
 use Rattle.p2p_directory.specs.Run.{world_after}
@@ -37,7 +37,8 @@ use Rattle.p2p_tracker.specs.Answers.{IsNumberTracked, is_dialable}
 use Rattle.p2p_tracker.specs.PeerSets.{set_with, has_peers}
 use Rattle.p2p_tracker.specs.Lists.{Lists, IsLeastOf, Somebody}
 use Rattle.p2p_tracker.specs.Record.{is_eligible, is_acceptable}
-use Rattle.p2p_tracker.specs.Directory.{peers_of, peer_set_in, sharable_in, infos_in, bit_vec_at}
+use Rattle.p2p_tracker.specs.Directory.{peer_set_in, sharable_in, infos_in, bit_vec_at}
+use Rattle.p2p_tracker.specs.Seen.{peers_of}
 use Rattle.p2p_tracker.specs.Directory.{other_keys, is_blocked_in, is_free_and, is_named_of}
 use Rattle.p2p_tracker.specs.Directory.{AreAllOf, IsUpdateOf, is_dialable_in, AreDialableIn}
 use Rattle.p2p_directory.specs.Run.{MayWantToTell}

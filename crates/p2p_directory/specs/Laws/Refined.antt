@@ -16,8 +16,10 @@ use Rattle.p2p_tracker.specs.Answers.{IsAnyExpired, IsNumberCooled, set_with_ind
 use Rattle.p2p_tracker.specs.Answers.{AreAll}
 use Rattle.p2p_tracker.specs.Answers.{IsLatestUpdate, sharable_info, infos_for, is_eligible_at}
 use Rattle.p2p_tracker.specs.Answers.{is_acceptable_at, IsDialable}
-use Rattle.p2p_tracker.specs.Directory.{DirectoryView, record_of, unblock_of, other_keys}
-use Rattle.p2p_tracker.specs.Directory.{is_blocked_in, peers_of, peer_set_in, AreAllOf, IsUpdateOf}
+use Rattle.p2p_tracker.specs.Directory.{other_keys}
+use Rattle.p2p_tracker.specs.Seen.{DirectoryView, record_of, unblock_of}
+use Rattle.p2p_tracker.specs.Directory.{is_blocked_in, peer_set_in, AreAllOf, IsUpdateOf}
+use Rattle.p2p_tracker.specs.Seen.{peers_of}
 use Rattle.p2p_tracker.specs.Directory.{sharable_in, infos_in, bit_vec_at, is_free_and}
 use Rattle.p2p_tracker.specs.Directory.{IsNumberCooledIn}
 use Rattle.p2p_tracker.specs.Directory.{AreDialableIn, may_listen_in, may_dial_in}

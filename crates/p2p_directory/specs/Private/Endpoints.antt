@@ -7,7 +7,7 @@ use Rattle.p2p_tracker.specs.declared.directory.Metadata.{Metadata}
 use Rattle.p2p_directory.specs.declared.run.commands.Command.{Command}
 use Rattle.p2p_directory.specs.declared.run.commands.Reply.{Reply}
 use Rattle.p2p_tracker.specs.Calls.{Call}
-use Rattle.p2p_tracker.specs.Directory.{DirectoryView}
+use Rattle.p2p_tracker.specs.Seen.{DirectoryView}
 use Rattle.p2p_directory.specs.Nodes.{NodeView, Made, NodeStandsAt, AtEach}
 use Rattle.p2p_directory.specs.Private.Slots.{contents}
 use Rattle.p2p_directory.specs.Run.{call_of, next, IsAnswer}

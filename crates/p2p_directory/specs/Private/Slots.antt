@@ -7,7 +7,7 @@ use Rattle.std.specs.Map.{lookup, keys_of}
 use Rattle.std.specs.declared.cmp.Ordering.{Ordering}
 use Rattle.std.specs.BTreeMap.{is_at}
 use Rattle.p2p_tracker.specs.declared.directory.Metadata.{Metadata}
-use Rattle.p2p_tracker.specs.Directory.{key_of}
+use Rattle.p2p_tracker.specs.Seen.{key_of}
 
 -- what is held in slots
 abbrev pub contents : {C X : Type 0} → List (C × Option X) → List X

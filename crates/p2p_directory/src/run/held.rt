@@ -5,7 +5,7 @@ ghost use Rattle.std.specs.Prelude.{length, map, is_some, slice_get, ifâ—Œthenâ—
 ghost use Rattle.std.specs.Option.{option_map};
 ghost use Rattle.std.specs.BTreeMap.{is_at};
 ghost use Rattle.std.specs.List.Sorted.{IsStrictlySortedBy};
-ghost use Rattle.p2p_tracker.specs.Directory.{key_of};
+ghost use Rattle.p2p_tracker.specs.Seen.{key_of};
 ghost use Rattle.p2p_directory.specs.Held.{held_of, all_but, AreHeld, ReleasesAll};
 ghost use Rattle.p2p_directory.specs.Private.Slots.{held_in, AreFull};
 

@@ -4,7 +4,7 @@
 ghost use Rattle.std.specs.Prelude.{◌≡◌, [], false, true, ◌||◌, if◌then◌else◌};
 ghost use Rattle.std.specs.Prelude.{IfSome, IfNone, OnOk, OnErr, None, Some, is_some};
 ghost use Rattle.std.specs.BTreeMap.{is_at};
-ghost use Rattle.p2p_tracker.specs.Directory.{key_of};
+ghost use Rattle.p2p_tracker.specs.Seen.{key_of};
 ghost use Rattle.p2p_directory.specs.Held.{held_of};
 ghost use Rattle.p2p_directory.specs.Private.Slots.{slot_of, has_slot, held_in, AreSlots};
 

@@ -10,8 +10,10 @@ use Rattle.p2p_tracker.specs.World.{is_blocked}
 use Rattle.p2p_tracker.specs.Dials.{IsBefore}
 use Rattle.p2p_tracker.specs.Lists.{Lists, IsLeastOf}
 use Rattle.p2p_tracker.specs.Blocks.{unblock_in}
-use Rattle.p2p_tracker.specs.Record.{RecordView, DialView, dial_status, is_dial_candidate, is_now, later_moment}
-use Rattle.p2p_tracker.specs.Directory.{ConfigView, DirectoryView, record_at, record_of, unblock_of, is_dialable_in, query_moment_in, AreDialableIn}
+use Rattle.p2p_tracker.specs.Record.{DialView, dial_status, is_dial_candidate, is_now, later_moment}
+use Rattle.p2p_tracker.specs.Seen.{RecordView}
+use Rattle.p2p_tracker.specs.Directory.{is_dialable_in, query_moment_in, AreDialableIn}
+use Rattle.p2p_tracker.specs.Seen.{ConfigView, DirectoryView, record_at, record_of, unblock_of}
 use Rattle.p2p_tracker.specs.Private.Dialling.{dial_state, entry_state}
 use Rattle.p2p_tracker.proofs.Definitions.Quiet
 use Rattle.p2p_tracker.proofs.Definitions.Listed

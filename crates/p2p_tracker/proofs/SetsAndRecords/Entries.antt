@@ -5,8 +5,8 @@ use Rattle.std.specs.BTreeMap.{BTreeMap}
 use Rattle.std.specs.Cmp.{IsTotalOrder}
 use Rattle.std.specs.declared.cmp.Ordering.{Ordering}
 use Rattle.std.proofs.lemmas.Map.Lookups.{CmpEqualImpliesEq, btree_map_from_get}
-use Rattle.p2p_tracker.specs.Record.{RecordView}
-use Rattle.p2p_tracker.specs.Directory.{record_at}
+use Rattle.p2p_tracker.specs.Seen.{RecordView}
+use Rattle.p2p_tracker.specs.Seen.{record_at}
 use Rattle.p2p_tracker.specs.Private.Counts.{IsOfMap}
 
 pub same_entries : {C S : Type 0} {cmp : C → C → Ordering} → IsTotalOrder cmp → CmpEqualImpliesEq cmp →

@@ -11,9 +11,11 @@ use Rattle.p2p_discovery.specs.declared.discovery.Info.{Info}
 use Rattle.p2p_tracker.specs.Calls.{SetAt}
 use Rattle.p2p_tracker.specs.Answers.{epoch_millis}
 use Rattle.p2p_tracker.specs.PeerSets.{set_with}
-use Rattle.p2p_tracker.specs.Record.{RecordView}
-use Rattle.p2p_tracker.specs.Directory.{DirectoryView, shared_at, shared_of, shared_for, infos_in}
-use Rattle.p2p_tracker.specs.Directory.{record_at, is_known, known_bits, bit_vec_at}
+use Rattle.p2p_tracker.specs.Seen.{RecordView}
+use Rattle.p2p_tracker.specs.Directory.{shared_at, shared_of, shared_for, infos_in}
+use Rattle.p2p_tracker.specs.Seen.{DirectoryView}
+use Rattle.p2p_tracker.specs.Directory.{is_known, known_bits, bit_vec_at}
+use Rattle.p2p_tracker.specs.Seen.{record_at}
 use Rattle.p2p_tracker.specs.Private.Window.{SetWithBits, plain_set, plain_sets, set_at}
 use Rattle.p2p_tracker.specs.Private.Window.{sets_with_bits}
 use Rattle.p2p_tracker.proofs.SetsAndRecords.Windows.{bits_shown, none_shown}

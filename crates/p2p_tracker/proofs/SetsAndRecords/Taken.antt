@@ -13,7 +13,8 @@ use Rattle.std.proofs.lemmas.List.{map-append, length-map, drop-map}
 use Rattle.p2p_tracker.specs.declared.record.Role.TheVariants.{Primary, Secondary}
 use Rattle.p2p_tracker.specs.Calls.{SetAt, Cooldown}
 use Rattle.p2p_tracker.specs.History.{last_of}
-use Rattle.p2p_tracker.specs.Record.{RecordView, fresh, is_myself, is_eligible, with_counts}
+use Rattle.p2p_tracker.specs.Record.{fresh, is_myself, is_eligible, with_counts}
+use Rattle.p2p_tracker.specs.Seen.{RecordView}
 use Rattle.p2p_tracker.specs.PeerSets.{set_count, AreRolesDisjoint}
 use Rattle.p2p_discovery.specs.Ordered.{has_key}
 use Rattle.p2p_tracker.specs.Directory.{is_known, record_with_sets, is_connectable}

@@ -10,7 +10,8 @@ use Rattle.p2p_tracker.specs.declared.record.Role.{Role}
 use Rattle.p2p_tracker.specs.declared.record.Role.TheVariants.{Primary, Secondary}
 use Rattle.p2p_tracker.specs.Calls.{SetAt, Cooldown}
 use Rattle.p2p_tracker.specs.History.{is_inert}
-use Rattle.p2p_tracker.specs.Record.{RecordView, fresh, is_myself, is_eligible, is_deletable}
+use Rattle.p2p_tracker.specs.Record.{fresh, is_myself, is_eligible, is_deletable}
+use Rattle.p2p_tracker.specs.Seen.{RecordView}
 use Rattle.p2p_tracker.specs.Record.{with_counts, with_cooldown}
 use Rattle.p2p_tracker.specs.Record.{unless_deletable}
 use Rattle.p2p_tracker.specs.PeerSets.{set_count, AreRolesDisjoint}

@@ -6,9 +6,10 @@ use Rattle.std.specs.Option.{option_and_then}
 use Rattle.std.specs.declared.cmp.Ordering.{Ordering}
 use Rattle.p2p_discovery.specs.declared.types.ingress.Ingress.{Ingress}
 use Rattle.p2p_tracker.specs.declared.directory.Config.{Config}
-use Rattle.p2p_tracker.specs.Record.{RecordView, DialView, ingress_of, may_be_dialled}
+use Rattle.p2p_tracker.specs.Record.{DialView, ingress_of, may_be_dialled}
+use Rattle.p2p_tracker.specs.Seen.{RecordView}
 use Rattle.p2p_tracker.specs.Record.{dial_status}
-use Rattle.p2p_tracker.specs.Directory.{record_at}
+use Rattle.p2p_tracker.specs.Seen.{record_at}
 use Rattle.p2p_tracker.specs.Blocks.{unblock_in}
 
 module _ {C S : Type 0} where

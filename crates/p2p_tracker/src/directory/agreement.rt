@@ -7,7 +7,8 @@ use crate::directory::Directory;
 use p2p_discovery::codec::PublicKey;
 
 impl<C: PublicKey> Directory<C> {
-    ghost use Rattle.p2p_tracker.specs.Directory.{record_of, cooldown_of, is_named_of};
+    ghost use Rattle.p2p_tracker.specs.Directory.{is_named_of};
+    ghost use Rattle.p2p_tracker.specs.Seen.{record_of, cooldown_of};
     ghost use Rattle.p2p_tracker.specs.Directory.{bit_vec_at, wants_in};
     ghost use Rattle.p2p_tracker.specs.World.{reservable_from, dialable_from};
     ghost use Rattle.p2p_tracker.specs.Record.{is_deletable};

@@ -20,7 +20,8 @@ use std::time::Duration;
 
 impl<C: PublicKey> Directory<C> {
     ghost use Rattle.p2p_tracker.specs.Blocks.{IsAnyUntil};
-    ghost use Rattle.p2p_tracker.specs.Directory.{unblock_of, is_blocked_in, may_block};
+    ghost use Rattle.p2p_tracker.specs.Directory.{is_blocked_in, may_block};
+    ghost use Rattle.p2p_tracker.specs.Seen.{unblock_of};
     ghost use Rattle.p2p_tracker.specs.Directory.{BlocksUntil, EndsBlocks};
     ghost use Rattle.p2p_tracker.specs.Directory.{StayBusy, StayReserved};
     ghost use Rattle.p2p_tracker.specs.Lists.{IsLeastOf};

@@ -5,7 +5,7 @@ ghost use Rattle.std.specs.Option.{option_map};
 ghost use Rattle.std.specs.List.{count_by};
 ghost use Rattle.std.specs.Duration.{as_nanos};
 ghost use Rattle.p2p_tracker.specs.Record.{with_cooldown};
-ghost use Rattle.p2p_tracker.specs.Directory.{record_at};
+ghost use Rattle.p2p_tracker.specs.Seen.{record_at};
 ghost use Rattle.p2p_tracker.specs.Blocks.{is_later};
 ghost use Rattle.p2p_tracker.specs.Cooldowns.{cooldown_in, dial_moments, unless_cooled};
 ghost use Rattle.p2p_tracker.specs.Private.Counts.{AreCooled};

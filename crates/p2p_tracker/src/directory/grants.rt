@@ -14,7 +14,8 @@ use std::alloc::AllocError;
 use std::time::Duration;
 
 impl<C: PublicKey> Directory<C> {
-    ghost use Rattle.p2p_tracker.specs.Directory.{record_of, may_dial_in, ingress_in, Reserves};
+    ghost use Rattle.p2p_tracker.specs.Directory.{may_dial_in, ingress_in, Reserves};
+    ghost use Rattle.p2p_tracker.specs.Seen.{record_of};
     ghost use Rattle.p2p_tracker.specs.Directory.{IsBusy, IsReserved, StayBusy, StayReserved};
     ghost use Rattle.p2p_tracker.specs.Directory.{is_blocked_in};
 

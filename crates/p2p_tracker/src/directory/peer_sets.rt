@@ -3,7 +3,7 @@
 ghost use Rattle.std.specs.Prelude.{◌≡◌, true, IfOk, OnErr};
 ghost use Rattle.std.specs.Option.{IsSomeAnd};
 ghost use Rattle.p2p_tracker.specs.PeerSets.{latest_index, has_peers, set_with};
-ghost use Rattle.p2p_tracker.specs.Directory.{peers_of};
+ghost use Rattle.p2p_tracker.specs.Seen.{peers_of};
 ghost use Rattle.p2p_tracker.specs.Private.Window.{plain_set};
 
 use crate::directory::{Directory, PeerSetUpdate, TrackedPeers};

@@ -12,7 +12,8 @@ ghost use Rattle.p2p_tracker.specs.History.{is_inert, is_reserved};
 ghost use Rattle.p2p_tracker.specs.Record.{may_come, reserved_record, with_cooldown};
 ghost use Rattle.p2p_tracker.specs.Record.{is_myself};
 ghost use Rattle.p2p_tracker.specs.Private.Dialling.{dialled_of, dialled_in};
-ghost use Rattle.p2p_tracker.specs.Directory.{key_of, has_status, is_busy, is_known, record_at};
+ghost use Rattle.p2p_tracker.specs.Directory.{has_status, is_busy, is_known};
+ghost use Rattle.p2p_tracker.specs.Seen.{key_of, record_at};
 ghost use Rattle.p2p_tracker.specs.Directory.{first_record};
 ghost use Rattle.p2p_tracker.specs.Directory.{released_record, kept_after_release};
 ghost use Rattle.p2p_tracker.specs.Directory.{connected_record, updated_record, ChangesAt};
@@ -39,7 +40,7 @@ pub struct Records<C: PublicKey> {
 
 impl<C: PublicKey> Model for Records<C> {
     ghost use Rattle.std.specs.Prelude.{List};
-    ghost use Rattle.p2p_tracker.specs.Record.{RecordView};
+    ghost use Rattle.p2p_tracker.specs.Seen.{RecordView};
 
     ghost Value = { List (C × RecordView C C.Signature) };
 

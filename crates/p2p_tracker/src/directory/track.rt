@@ -4,7 +4,8 @@ ghost use Rattle.std.specs.Prelude.{◌≡◌, ◌≤◌, ◌++◌, ◌∷◌, [
 ghost use Rattle.std.specs.List.Sorted.{IsStrictlySortedBy};
 ghost use Rattle.p2p_tracker.specs.declared.record.Role.{Role};
 ghost use Rattle.p2p_tracker.specs.PeerSets.{latest_index, is_above, AreRolesDisjoint};
-ghost use Rattle.p2p_tracker.specs.Directory.{record_at, is_known};
+ghost use Rattle.p2p_tracker.specs.Directory.{is_known};
+ghost use Rattle.p2p_tracker.specs.Seen.{record_at};
 ghost use Rattle.p2p_tracker.specs.Cooldowns.{cooldown_in};
 ghost use Rattle.p2p_tracker.specs.Private.Window.{plain_set, plain_sets, set_with_bits};
 ghost use Rattle.p2p_tracker.specs.Private.Counts.{newest_sets, surplus_count};

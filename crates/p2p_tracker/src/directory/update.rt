@@ -2,7 +2,8 @@
 
 ghost use Rattle.std.specs.Prelude.{◌≡◌, ◌∷◌, []};
 ghost use Rattle.std.specs.Option.{option_map};
-ghost use Rattle.p2p_tracker.specs.Directory.{record_at, infos_of, updated_record, ChangesAt};
+ghost use Rattle.p2p_tracker.specs.Directory.{infos_of, updated_record, ChangesAt};
+ghost use Rattle.p2p_tracker.specs.Seen.{record_at};
 ghost use Rattle.p2p_tracker.specs.Private.Window.{plain_sets};
 ghost use Rattle.p2p_tracker.specs.Private.Counts.{AreMarked};
 

@@ -1,8 +1,10 @@
 use Rattle.std.proofs.Common.{Option, Some, cond, sym, ◌∙◌, ap}
 use Rattle.std.specs.Prelude.{option_map}
 use Rattle.std.specs.declared.cmp.Ordering.{Ordering}
-use Rattle.p2p_tracker.specs.Directory.{DirectoryView, ChangesRecord, LeavesOthers, record_at, record_of, unblock_of, cooldown_of, updated_record}
-use Rattle.p2p_tracker.specs.Record.{RecordView, reserved_record}
+use Rattle.p2p_tracker.specs.Directory.{ChangesRecord, LeavesOthers, updated_record}
+use Rattle.p2p_tracker.specs.Seen.{DirectoryView, record_at, record_of, unblock_of, cooldown_of}
+use Rattle.p2p_tracker.specs.Record.{reserved_record}
+use Rattle.p2p_tracker.specs.Seen.{RecordView}
 use Rattle.p2p_tracker.specs.Moments.{moments_after}
 use Rattle.p2p_tracker.specs.Blocks.{unblock_in}
 use Rattle.p2p_tracker.specs.Cooldowns.{cooldown_in}

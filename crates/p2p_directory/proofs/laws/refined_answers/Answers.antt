@@ -2,7 +2,7 @@ use Rattle.std.proofs.Common.{sym, ap, subst}
 use Rattle.std.specs.Option.{option_map}
 use Rattle.std.specs.Cmp.{IsTotalOrder}
 use Rattle.p2p_tracker.specs.PeerSets.{set_with, latest_index}
-use Rattle.p2p_tracker.specs.Directory.{peers_of}
+use Rattle.p2p_tracker.specs.Seen.{peers_of}
 use Rattle.p2p_directory.specs.Run.{world_after}
 use Rattle.p2p_directory.proofs.LawsOfRuns.Forgotten
 use Rattle.p2p_directory.proofs.Refinement.CallsRefine

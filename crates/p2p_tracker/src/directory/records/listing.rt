@@ -10,7 +10,7 @@ ghost use Rattle.p2p_tracker.specs.Record.{dial_view, is_now, later_moment};
 ghost use Rattle.p2p_tracker.specs.Private.Dialling.{dial_state, entry_state, earliest, least_by};
 ghost use Rattle.p2p_tracker.specs.Private.Dialling.{is_primary_record, is_secondary_record};
 ghost use Rattle.p2p_tracker.specs.Private.Dialling.{is_record_in_set};
-ghost use Rattle.p2p_tracker.specs.Directory.{record_at};
+ghost use Rattle.p2p_tracker.specs.Seen.{record_at};
 ghost use Rattle.p2p_tracker.specs.Lists.{Lists, IsLeastOf, Somebody};
 
 use crate::directory::records::Records;

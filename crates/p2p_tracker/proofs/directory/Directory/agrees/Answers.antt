@@ -5,8 +5,10 @@ use Rattle.std.specs.declared.cmp.Ordering.{Ordering}
 use Rattle.p2p_tracker.specs.declared.record.Role.TheVariants.{Primary, Secondary}
 use Rattle.p2p_tracker.specs.Calls.{SetAt}
 use Rattle.p2p_tracker.specs.PeerSets.{set_count}
-use Rattle.p2p_tracker.specs.Record.{RecordView, is_deletable, wants_info}
-use Rattle.p2p_tracker.specs.Directory.{DirectoryView, record_of, is_known, cooldown_of}
+use Rattle.p2p_tracker.specs.Record.{is_deletable, wants_info}
+use Rattle.p2p_tracker.specs.Seen.{RecordView}
+use Rattle.p2p_tracker.specs.Directory.{is_known}
+use Rattle.p2p_tracker.specs.Seen.{DirectoryView, record_of, cooldown_of}
 use Rattle.p2p_tracker.specs.Private.Counts.{AreCounted}
 use Rattle.p2p_tracker.proofs.SetsAndRecords.Cooled.{HasMoments, moments_of_record}
 use Rattle.p2p_tracker.proofs.directory.Directory.agrees.Goals as goal

@@ -2,7 +2,7 @@ use Rattle.std.proofs.Common.{Result, Ok, Err}
 use Rattle.std.specs.Prelude.{IfOk}
 use Rattle.std.specs.Result.{OnErr}
 use Rattle.std.specs.Int.NonZero.{non_zero_usize_get}
-use Rattle.p2p_tracker.specs.Directory.{record_at}
+use Rattle.p2p_tracker.specs.Seen.{record_at}
 use Rattle.p2p_tracker.specs.Private.Window.{plain_sets}
 use Rattle.p2p_tracker.proofs.Definitions.Listed.{lists_alike}
 use Rattle.p2p_tracker.proofs.SetsAndRecords.Changes.{primary_by_sets, secondary_by_sets, named_by_sets}

@@ -2,7 +2,7 @@ use Rattle.std.proofs.Common.{Result, Ok, Err, refl, ◌∙◌}
 use Rattle.std.specs.Prelude.{IfOk}
 use Rattle.std.specs.Result.{OnErr}
 use Rattle.std.specs.Duration.{as_nanos}
-use Rattle.p2p_tracker.specs.Directory.{config_view}
+use Rattle.p2p_tracker.specs.Seen.{config_view}
 use Rattle.p2p_tracker.specs.Private.Window.{plain_sets}
 use Rattle.p2p_tracker.proofs.SetsAndRecords.Dialables.{are_dialable, stay_dialable, is_dialable_by}
 use Rattle.p2p_tracker.proofs.directory.Directory.dialable.Goals as goal

@@ -3,7 +3,8 @@ use Rattle.std.specs.Duration.{as_nanos}
 use Rattle.std.specs.Int.NonZero.{non_zero_usize_get}
 use Rattle.p2p_tracker.specs.declared.record.Status.{Status}
 use Rattle.p2p_tracker.specs.History.{is_inert, is_reserved}
-use Rattle.p2p_tracker.specs.Directory.{DirectoryView, record_at, record_of, has_status}
+use Rattle.p2p_tracker.specs.Directory.{has_status}
+use Rattle.p2p_tracker.specs.Seen.{DirectoryView, record_at, record_of}
 use Rattle.p2p_tracker.specs.Cooldowns.{cooldown_in}
 use Rattle.p2p_tracker.proofs.SetsAndRecords.Cooled.{cooled_anew, forgotten, status_with_moments}
 use Rattle.p2p_tracker.proofs.SetsAndRecords.Cooldowns.{number_cooled}

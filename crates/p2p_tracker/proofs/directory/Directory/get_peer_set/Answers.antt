@@ -3,7 +3,7 @@ use Rattle.std.specs.Result.{OnErr}
 use Rattle.std.specs.Option.{option_map, IsSomeAnd}
 use Rattle.p2p_tracker.specs.Calls.{SetAt}
 use Rattle.p2p_tracker.specs.PeerSets.{has_peers}
-use Rattle.p2p_tracker.specs.Directory.{peers_of}
+use Rattle.p2p_tracker.specs.Seen.{peers_of}
 use Rattle.p2p_tracker.specs.Private.Window.{plain_set}
 use Rattle.p2p_tracker.proofs.SetsAndRecords.Windows.{set_with_plain}
 use Rattle.p2p_tracker.proofs.directory.Directory.get_peer_set.Goals as goal

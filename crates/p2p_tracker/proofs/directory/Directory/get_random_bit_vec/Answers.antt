@@ -1,6 +1,6 @@
 use Rattle.std.proofs.Common.{Some, sym, ◌∙◌, ap}
 use Rattle.std.specs.Map.{values_of}
-use Rattle.p2p_tracker.specs.Directory.{DirectoryView}
+use Rattle.p2p_tracker.specs.Seen.{DirectoryView}
 use Rattle.p2p_tracker.proofs.SetsAndRecords.Shared.{bit_vec_told, no_bit_vec_told}
 use Rattle.p2p_tracker.proofs.directory.Directory.get_random_bit_vec.Goals as goal
 

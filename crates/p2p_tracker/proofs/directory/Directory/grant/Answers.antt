@@ -5,7 +5,7 @@ use Rattle.std.specs.Option.{option_map_or}
 use Rattle.std.specs.Int.NonZero.{non_zero_usize_get}
 use Rattle.p2p_tracker.specs.Calls.{Cooldown}
 use Rattle.p2p_tracker.specs.Record.{may_come}
-use Rattle.p2p_tracker.specs.Directory.{DirectoryView, record_at, record_of}
+use Rattle.p2p_tracker.specs.Seen.{DirectoryView, record_at, record_of}
 use Rattle.p2p_tracker.specs.Cooldowns.{cooldown_in}
 use Rattle.p2p_tracker.proofs.SetsAndRecords.Changes.{reserved_at}
 use Rattle.p2p_tracker.proofs.SetsAndRecords.Cooled.{cooled_reserved}

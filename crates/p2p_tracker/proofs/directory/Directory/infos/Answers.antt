@@ -3,7 +3,7 @@ use Rattle.std.specs.Prelude.{IfOk, OnErr}
 use Rattle.std.specs.Option.{option_map, IsSomeAnd}
 use Rattle.std.specs.Duration.{as_nanos}
 use Rattle.std.specs.Map.{keys_of}
-use Rattle.p2p_tracker.specs.Directory.{DirectoryView}
+use Rattle.p2p_tracker.specs.Seen.{DirectoryView}
 use Rattle.p2p_tracker.proofs.SetsAndRecords.Shared.{infos_told, infos_not_found}
 use Rattle.p2p_tracker.proofs.directory.Directory.infos.Goals as goal
 

@@ -2,7 +2,7 @@ use Rattle.std.proofs.Common.{Result, Ok, Err, Some, None, sym, ◌∙◌, ap}
 use Rattle.std.specs.Result.{OnErr}
 use Rattle.std.specs.List.{last_or}
 use Rattle.std.specs.Option.{option_map}
-use Rattle.p2p_tracker.specs.Directory.{DirectoryView}
+use Rattle.p2p_tracker.specs.Seen.{DirectoryView}
 use Rattle.p2p_tracker.specs.Private.Window.{plain_set, plain_sets}
 use Rattle.p2p_tracker.proofs.SetsAndRecords.Windows.{last_plain}
 use Rattle.p2p_tracker.proofs.SetsAndRecords.Retained.{named_in_last}

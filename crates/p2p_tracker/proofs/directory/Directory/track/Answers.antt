@@ -8,7 +8,8 @@ use Rattle.p2p_tracker.specs.declared.record.Status.TheVariants.{Inert}
 use Rattle.p2p_tracker.specs.PeerSets.{set_of}
 use Rattle.p2p_tracker.specs.History.{last_of, is_inert, is_reserved}
 use Rattle.p2p_tracker.specs.Record.{is_eligible}
-use Rattle.p2p_tracker.specs.Directory.{DirectoryView, config_view, record_at, record_of, record_with_sets, is_connectable, has_status, is_known}
+use Rattle.p2p_tracker.specs.Directory.{record_with_sets, is_connectable, has_status, is_known}
+use Rattle.p2p_tracker.specs.Seen.{DirectoryView, config_view, record_at, record_of}
 use Rattle.p2p_tracker.specs.Private.Window.{plain_set, plain_sets, set_with_bits}
 use Rattle.p2p_tracker.specs.Cooldowns.{cooldown_in}
 use Rattle.p2p_tracker.specs.Private.Counts.{IsWhole}

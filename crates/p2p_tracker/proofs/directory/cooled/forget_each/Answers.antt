@@ -8,7 +8,7 @@ use Rattle.std.proofs.lemmas.List.{length-map}
 use Rattle.std.proofs.lemmas.List.Sums.{count_by-le-length}
 use Rattle.std.proofs.lemmas.Map.Views.{tells_apart}
 use Rattle.p2p_tracker.specs.Blocks.{is_later}
-use Rattle.p2p_tracker.specs.Directory.{record_at}
+use Rattle.p2p_tracker.specs.Seen.{record_at}
 use Rattle.p2p_tracker.specs.Cooldowns.{cooldown_in, dial_moments, unless_cooled}
 use Rattle.p2p_tracker.proofs.SetsAndRecords.Ends.{count_removed, count_step, count_last, none_left}
 use Rattle.p2p_tracker.proofs.SetsAndRecords.Cooled.{emptied}

@@ -6,7 +6,7 @@ use Rattle.std.specs.Map.{keys_of}
 use Rattle.std.specs.Option.{option_map}
 use Rattle.p2p_tracker.specs.Blocks.{is_later}
 use Rattle.p2p_tracker.specs.Record.{with_cooldown}
-use Rattle.p2p_tracker.specs.Directory.{record_at}
+use Rattle.p2p_tracker.specs.Seen.{record_at}
 use Rattle.p2p_tracker.specs.Cooldowns.{cooldown_in, dial_moments, unless_cooled}
 use Rattle.p2p_tracker.proofs.directory.cooled.forget_each.Given as goal
 

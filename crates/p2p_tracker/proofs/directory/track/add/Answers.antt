@@ -1,6 +1,7 @@
 use Rattle.std.proofs.Common.{◌≡◌, Bool, ◌∙◌, ap}
 use Rattle.p2p_tracker.specs.Calls.{SetAt}
-use Rattle.p2p_tracker.specs.Directory.{record_at, is_known}
+use Rattle.p2p_tracker.specs.Directory.{is_known}
+use Rattle.p2p_tracker.specs.Seen.{record_at}
 use Rattle.p2p_tracker.specs.Cooldowns.{cooldown_in}
 use Rattle.p2p_tracker.specs.Private.Window.{SetWithBits, plain_set}
 use Rattle.p2p_tracker.specs.Private.Counts.{record_leaving}

@@ -3,7 +3,8 @@ use Rattle.std.specs.Option.{option_map}
 use Rattle.std.specs.BTreeMap.{is_at}
 use Rattle.std.proofs.lemmas.List.Elements.{filter-append}
 use Rattle.p2p_discovery.specs.declared.discovery.Info.{Info}
-use Rattle.p2p_tracker.specs.Directory.{record_at, infos_of, updated_record}
+use Rattle.p2p_tracker.specs.Directory.{infos_of, updated_record}
+use Rattle.p2p_tracker.specs.Seen.{record_at}
 use Rattle.p2p_tracker.proofs.SetsAndRecords.Changes.{updated_more, updated_none}
 use Rattle.p2p_tracker.proofs.SetsAndRecords.Moved.{item_moved, all_moved}
 use Rattle.p2p_tracker.proofs.directory.update.update_each.Goals as goal

@@ -1,6 +1,7 @@
 use Rattle.std.proofs.Common.{◌≡◌, ◌++◌}
 use Rattle.std.specs.Option.{option_map}
-use Rattle.p2p_tracker.specs.Directory.{record_at, infos_of, updated_record}
+use Rattle.p2p_tracker.specs.Directory.{infos_of, updated_record}
+use Rattle.p2p_tracker.specs.Seen.{record_at}
 use Rattle.p2p_tracker.specs.Private.Window.{plain_sets}
 use Rattle.p2p_tracker.specs.Private.Counts.{AreMarked}
 use Rattle.p2p_tracker.proofs.directory.update.update_each.Given as goal

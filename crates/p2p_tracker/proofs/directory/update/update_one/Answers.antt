@@ -1,6 +1,7 @@
 use Rattle.std.proofs.Common.{◌∙◌, ap, ◌∷◌, []}
 use Rattle.std.specs.Option.{option_map}
-use Rattle.p2p_tracker.specs.Directory.{record_at, is_known, updated_record}
+use Rattle.p2p_tracker.specs.Directory.{is_known, updated_record}
+use Rattle.p2p_tracker.specs.Seen.{record_at}
 use Rattle.p2p_tracker.specs.Private.Window.{plain_sets}
 use Rattle.p2p_tracker.proofs.SetsAndRecords.Changes.{bits_anew, bits_same, known_anew, marked_again}
 use Rattle.p2p_tracker.proofs.SetsAndRecords.Windows.{plain_with_bit}

@@ -1,5 +1,5 @@
 use Rattle.std.proofs.Common.{ap, sym, ◌∙◌}
-use Rattle.p2p_tracker.specs.Directory.{record_of}
+use Rattle.p2p_tracker.specs.Seen.{record_of}
 use Rattle.p2p_directory.specs.Held.{held_of, after_release}
 use Rattle.p2p_directory.proofs.Reservations.Holding.{held_by_release, held_record, given_back}
 use Rattle.p2p_directory.proofs.run.held.Held.release_all.Goals as goal

@@ -1,5 +1,5 @@
 use Rattle.std.proofs.Common.{◌≡◌, length}
-use Rattle.p2p_tracker.specs.Directory.{record_of}
+use Rattle.p2p_tracker.specs.Seen.{record_of}
 use Rattle.p2p_directory.specs.Held.{held_of, AreHeld, after_release}
 use Rattle.p2p_directory.proofs.run.held.Held.release_all.Given as goal
 

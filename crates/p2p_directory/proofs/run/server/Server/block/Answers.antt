@@ -6,7 +6,7 @@ use Rattle.p2p_directory.proofs.Reservations.Holding.{held_by_records}
 use Rattle.p2p_directory.proofs.run.server.Server.block.Goals as goal
 use Rattle.p2p_directory.proofs.run.server.Server.block.Goals.{in-Ok, in-Err}
 use Rattle.p2p_directory.specs.Private.Slots.{held_in}
-use Rattle.p2p_tracker.specs.Directory.{DirectoryView}
+use Rattle.p2p_tracker.specs.Seen.{DirectoryView}
 
 -- the records stay
 records_same : (g : _) (c : goal.Joined-block g) → c.block.new.self.records ≡ c.self.inside.directory.records

@@ -6,7 +6,8 @@ use Rattle.p2p_discovery.specs.declared.types.ingress.Ingress.{Ingress}
 use Rattle.p2p_tracker.specs.declared.directory.Metadata.{Metadata}
 use Rattle.p2p_tracker.specs.declared.directory.Metadata.TheVariants as metadata
 use Rattle.p2p_tracker.specs.Record.{reserved_record}
-use Rattle.p2p_tracker.specs.Directory.{key_of, ingress_in, IsBusy}
+use Rattle.p2p_tracker.specs.Directory.{ingress_in, IsBusy}
+use Rattle.p2p_tracker.specs.Seen.{key_of}
 use Rattle.p2p_directory.specs.Private.Slots.{held_in}
 use Rattle.p2p_directory.proofs.Reservations.Holding.{held_by_grant}
 use Rattle.std.specs.Duration.{as_nanos}

@@ -3,7 +3,8 @@ use Rattle.std.specs.Prelude.{if◌then◌else◌}
 use Rattle.std.specs.Option.{option_map}
 use Rattle.std.specs.Ordering.{is_eq}
 use Rattle.p2p_discovery.specs.declared.types.ingress.Ingress.{Ingress}
-use Rattle.p2p_tracker.specs.Record.{RecordView, new_record}
+use Rattle.p2p_tracker.specs.Record.{new_record}
+use Rattle.p2p_tracker.specs.Seen.{RecordView}
 use Rattle.p2p_tracker.specs.World.{last_ingress_by}
 use Rattle.p2p_tracker.specs.declared.record.Address.TheVariants.{Bootstrapper}
 use Rattle.p2p_tracker.proofs.SetsAndRecords.Bootstrapped.{last_ingress-push, mapped}

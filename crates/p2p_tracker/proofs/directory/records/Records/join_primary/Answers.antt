@@ -6,7 +6,8 @@ use Rattle.std.proofs.lemmas.Option.{get_or_from_slice_get}
 use Rattle.p2p_discovery.specs.BitSets.{with_bit}
 use Rattle.p2p_tracker.specs.declared.record.Role.TheVariants.{Primary}
 use Rattle.p2p_discovery.specs.Ordered.{has_key}
-use Rattle.p2p_tracker.specs.Directory.{record_at, is_known}
+use Rattle.p2p_tracker.specs.Directory.{is_known}
+use Rattle.p2p_tracker.specs.Seen.{record_at}
 use Rattle.p2p_tracker.specs.Cooldowns.{cooldown_in}
 use Rattle.p2p_tracker.specs.Private.Counts.{one_set_more, one_set_less}
 use Rattle.p2p_tracker.specs.Private.Window.{SetWithBits}

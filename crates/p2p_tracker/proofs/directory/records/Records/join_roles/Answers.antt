@@ -2,7 +2,8 @@ use Rattle.std.proofs.Common.{◌≡◌, Bool, true, false, cond, Option, sym, �
 use Rattle.std.specs.Map.{keys_of}
 use Rattle.p2p_tracker.specs.declared.record.Role.TheVariants.{Primary, Secondary}
 use Rattle.p2p_discovery.specs.Ordered.{has_key}
-use Rattle.p2p_tracker.specs.Directory.{record_at, is_known}
+use Rattle.p2p_tracker.specs.Directory.{is_known}
+use Rattle.p2p_tracker.specs.Seen.{record_at}
 use Rattle.p2p_tracker.specs.Cooldowns.{cooldown_in}
 use Rattle.p2p_tracker.specs.Private.Counts.{one_set_more, one_set_less}
 use Rattle.p2p_tracker.specs.Private.Window.{SetWithBits}

@@ -2,7 +2,7 @@ use Rattle.std.proofs.Common.{◌≡◌, take, cond}
 use Rattle.p2p_tracker.specs.declared.record.Role.TheVariants.{Secondary}
 use Rattle.p2p_tracker.specs.Private.Counts.{one_set_more}
 use Rattle.p2p_discovery.specs.Ordered.{has_key}
-use Rattle.p2p_tracker.specs.Directory.{record_at}
+use Rattle.p2p_tracker.specs.Seen.{record_at}
 use Rattle.p2p_tracker.specs.Cooldowns.{cooldown_in}
 use Rattle.p2p_tracker.proofs.directory.records.Records.join_secondary.Given as goal
 

@@ -11,7 +11,7 @@ use Rattle.std.proofs.lemmas.Map.Keys.{IsDistinct-from_sorted}
 use Rattle.p2p_tracker.specs.declared.record.Role.TheVariants.{Primary, Secondary}
 use Rattle.p2p_tracker.specs.Private.Counts.{one_set_less, is_torn_down_without}
 use Rattle.p2p_discovery.specs.Ordered.{has_key}
-use Rattle.p2p_tracker.specs.Directory.{record_at}
+use Rattle.p2p_tracker.specs.Seen.{record_at}
 use Rattle.p2p_tracker.proofs.SetsAndRecords.Naming.{names-filter, distinct_both, excludes}
 use Rattle.p2p_tracker.proofs.directory.records.Records.leave.Goals as goal
 

@@ -3,7 +3,7 @@ use Rattle.std.specs.List.{filter}
 use Rattle.std.specs.Option.{option_map_or}
 use Rattle.p2p_tracker.specs.Private.Counts.{one_set_less, is_torn_down_without}
 use Rattle.p2p_discovery.specs.Ordered.{has_key}
-use Rattle.p2p_tracker.specs.Directory.{record_at}
+use Rattle.p2p_tracker.specs.Seen.{record_at}
 use Rattle.p2p_tracker.proofs.directory.records.Records.leave_each.Given as goal
 
 -- the peers so far are counted, and those listed whose connections have to end

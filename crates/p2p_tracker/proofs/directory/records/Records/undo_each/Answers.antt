@@ -1,5 +1,5 @@
 use Rattle.p2p_tracker.specs.Private.Counts.{one_set_less}
-use Rattle.p2p_tracker.specs.Directory.{record_at}
+use Rattle.p2p_tracker.specs.Seen.{record_at}
 use Rattle.p2p_tracker.proofs.SetsAndRecords.Naming.{one_changed}
 use Rattle.p2p_tracker.proofs.directory.records.Records.undo_each.Goals as goal
 

@@ -1,7 +1,7 @@
 use Rattle.std.proofs.Common.{◌≡◌, take, cond}
 use Rattle.p2p_tracker.specs.Private.Counts.{one_set_less}
 use Rattle.p2p_discovery.specs.Ordered.{has_key}
-use Rattle.p2p_tracker.specs.Directory.{record_at}
+use Rattle.p2p_tracker.specs.Seen.{record_at}
 use Rattle.p2p_tracker.proofs.directory.records.Records.undo_each.Given as goal
 
 -- the peers so far are counted

@@ -2,7 +2,8 @@ use Rattle.std.proofs.Common.{◌≡◌, ◌++◌, ◌∷◌, [], ◌∙◌, ap}
 use Rattle.std.specs.Prelude.{if◌then◌else◌}
 use Rattle.std.specs.Duration.{as_nanos}
 use Rattle.std.specs.Option.{option_map}
-use Rattle.p2p_tracker.specs.Record.{RecordView, DialView, dial_view, is_now, later_moment}
+use Rattle.p2p_tracker.specs.Record.{DialView, dial_view, is_now, later_moment}
+use Rattle.p2p_tracker.specs.Seen.{RecordView}
 use Rattle.p2p_tracker.specs.Private.Dialling.{dial_state, entry_state, earliest}
 use Rattle.p2p_tracker.proofs.SetsAndRecords.Listing.{listed_step, left_step, least_step}
 use Rattle.p2p_tracker.proofs.directory.records.listing.dialable_in.Goals as goal
