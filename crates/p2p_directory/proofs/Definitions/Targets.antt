@@ -1,10 +1,9 @@
 -- A peer that may be dialled, part by part.
-use Rattle.std.proofs.Common.{◌≡◌, ℕ, Bool, true, false, not, ◌&&◌, List, Option}
+use Rattle.std.proofs.Common.{◌≡◌, ℕ, Bool, true, not, ◌&&◌, List, Option}
 use Rattle.std.specs.Prelude.{nat_le}
 use Rattle.std.proofs.lemmas.Bool.{and_parts, and_from}
 use Rattle.p2p_tracker.specs.Calls.{Settings, SetAt, Cooldown}
 use Rattle.p2p_tracker.specs.History.{is_entitled, is_inert}
-use Rattle.p2p_tracker.specs.World
 use Rattle.p2p_tracker.specs.World.{Peer, may_dial, may_listen, is_target, is_valid_address}
 use Rattle.p2p_tracker.specs.World.{address_with, is_dial_target, is_blocked, reservable_from}
 

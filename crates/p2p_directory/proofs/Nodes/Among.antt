@@ -167,7 +167,7 @@ module _ {C S : Type 0} (cmp : C → C → Ordering) (given : Setup C S) (es es2
   )
 
 -- .. where there is such a node
-pub was_there : {C S : Type 0} (cmp : C → C → Ordering) (given : Given C S) (i : ℕ)
+pub was_there : {C S : Type 0} (cmp : C → C → Ordering) (given : Setup C S) (i : ℕ)
     (left : Option (DirectoryView C S)) (vs vs2 : List (NodeView C S)) → i < length vs →
     IsReplaced cmp given i left vs vs2 → ReplacesAt cmp given i vs vs2
 was_there cmp given i None vs vs2 lt h = absurd (omega (arith, h.0))

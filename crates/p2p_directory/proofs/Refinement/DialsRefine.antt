@@ -13,8 +13,7 @@ use Rattle.p2p_tracker.specs.World
 use Rattle.p2p_tracker.specs.World.{World, Known, Peer, last_ingress, is_target, reservable_from, dialable_from}
 use Rattle.p2p_tracker.specs.Answers
 use Rattle.p2p_tracker.specs.Answers.{is_present_in, is_dialable, query_moment, IsDialable}
-use Rattle.p2p_tracker.specs.Record.{DialView, is_eligible, is_grant, may_come}
-use Rattle.p2p_tracker.specs.Seen.{RecordView}
+use Rattle.p2p_tracker.specs.Record.{DialView, is_grant, may_come}
 use Rattle.p2p_tracker.specs.Record.{has_valid_ingress, ingress_of, is_dial_candidate}
 use Rattle.p2p_tracker.specs.Record.{may_be_dialled, reserve_answer, dial_status, is_now}
 use Rattle.p2p_tracker.specs.Record.{later_moment}
