@@ -8,7 +8,8 @@ use crate::node::greeting;
 use crate::pair::{ROWS, setup};
 use lines::{Line, is_printed_as};
 use p2p_directory::directory::TrackedPeers;
-use p2p_directory::node::{NetworkCommand, NetworkReply, NetworkRun, Setup, run_network};
+use p2p_directory::node::{Network, NetworkCommand, NetworkReply, NetworkRun, Setup, run_network};
+use p2p_directory::record::Status;
 use p2p_directory::run::{Command, Reply};
 use p2p_discovery::codec::TestKey;
 use p2p_discovery::discovery::BitVec;
@@ -54,6 +55,14 @@ fn track(alloc: Global, keys: &[u16]) -> Result<Command<TestKey>, AllocError> {
     })
 }
 
+fn listen(key: u16) -> Command<TestKey> {
+    Command::Listen {
+        peer: TestKey(u64::from(key)),
+        now: hundred(),
+        draw: Duration::ZERO,
+    }
+}
+
 fn exchange(asker: usize, replier: usize) -> NetworkCommand<TestKey> {
     NetworkCommand::Exchange {
         asker,
@@ -88,6 +97,8 @@ enum Deed {
     Track(usize, &'static [u16]),
     // A greeting, by key and timestamp.
     Greeting(usize, u16, u64),
+    // A peer is listened for.
+    Listen(usize, u16),
     Ask(usize),
     // The asker and the replier.
     Exchange(usize, usize),
@@ -101,6 +112,7 @@ impl Deed {
                 let frame = greeting(alloc, key, timestamp)?;
                 Ok(NetworkCommand::Frame(node, frame, hundred()))
             }
+            Deed::Listen(node, key) => Ok(NetworkCommand::Call(node, listen(key))),
             Deed::Ask(node) => Ok(NetworkCommand::Ask(node, 0)),
             Deed::Exchange(asker, replier) => Ok(exchange(asker, replier)),
         }
@@ -149,6 +161,77 @@ fn four_nodes(rt: HostRuntime) -> Result<(), Fail> {
         );
     }
     Ok(())
+}
+
+// NODES THAT JOIN: of the key 9, then of 8; in place of the first then one of 7.
+
+static FIRST: [(Deed, &'static str); 2] = [
+    (Deed::Track(0, &[7, 8, 9]), "Some([])"),
+    (Deed::Exchange(0, 1), "NoNode"),
+];
+
+static SECOND: [(Deed, &'static str); 4] = [
+    (Deed::Exchange(1, 0), "NoSet"),
+    (Deed::Track(1, &[7, 8, 9]), "Some([])"),
+    (Deed::Exchange(1, 0), "Applied([Info(9, 0, 1.2.3.4:8009)])"),
+    (Deed::Listen(0, 8), "granted"),
+];
+
+// What the first node knew is forgotten, what the second knows is not.
+static OTHER: [(Deed, &'static str); 4] = [
+    (Deed::Exchange(0, 1), "NoSet"),
+    (Deed::Track(0, &[7, 8, 9]), "Some([])"),
+    (Deed::Listen(0, 8), "granted"),
+    (Deed::Exchange(1, 0), "Applied([Info(7, 0, 1.2.3.4:8007)])"),
+];
+
+fn serves(
+    rt: &impl Abort,
+    alloc: Global,
+    nodes: &mut Network<TestKey>,
+    script: &[(Deed, &'static str)],
+) -> Result<(), Fail> {
+    for (deed, said) in script {
+        let reply = nodes.serve(deed.command(alloc)?);
+        assert!(rt;
+            is_printed_as(&Line(&reply), said),
+            "{deed:?} is to be {said}"
+        );
+    }
+    Ok(())
+}
+
+// Of the old node peer 8 was reserved, and is released; there is no third node.
+fn is_replaced(
+    rt: &impl Abort,
+    alloc: Global,
+    nodes: &mut Network<TestKey>,
+) -> Result<(), AllocError> {
+    match nodes.replace(alloc, 0, setup(alloc, 7, ROWS, 8)?)? {
+        Some(old) => assert_eq!(rt; old.status(&TestKey(8)), Some(Status::Inert)),
+        None => panic!(rt; "there is such a node"),
+    }
+    let absent = nodes.replace(alloc, 2, setup(alloc, 6, ROWS, 8)?)?;
+    assert!(rt; absent.is_none());
+    Ok(())
+}
+
+fn join(rt: &impl Abort, alloc: Global, nodes: &mut Network<TestKey>) -> Result<(), Fail> {
+    nodes.add(alloc, setup(alloc, 9, ROWS, 8)?)?;
+    serves(rt, alloc, nodes, &FIRST)?;
+    nodes.add(alloc, setup(alloc, 8, ROWS, 8)?)?;
+    serves(rt, alloc, nodes, &SECOND)?;
+    is_replaced(rt, alloc, nodes)?;
+    serves(rt, alloc, nodes, &OTHER)
+}
+
+#[test]
+fn nodes_join_and_one_is_replaced(rt: HostRuntime) -> Result<(), Fail> {
+    let alloc = rt.alloc();
+    let mut nodes = Network::empty(alloc);
+    let done = join(&rt, alloc, &mut nodes);
+    nodes.finish();
+    done
 }
 
 // TWO HUNDRED NODES, each of which asks the next three.
