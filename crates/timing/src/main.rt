@@ -1,347 +1,52 @@
-//! Times calls of a directory as its sets and its blocks grow: `timing times` prints times, and
-//! with no word the same calls are made with few peers and no time is printed.
+//! Times calls of a directory, of nodes and of the codecs.
+//!
+//! - `timing SCENARIO N SAMPLES` times one call as often, with so many peers, and prints its least
+//!   nanoseconds, those in the middle, and how much was done; with a further word `32` the keys have
+//!   32 bytes in place of 8.
+//! - `timing times` prints how some calls grow with sets and with blocks.
+//! - With no word the same calls are made with few peers and no time is printed.
 #![tactic(auto)]
 
-ghost use Rattle.std.specs.Prelude.{◌≡◌, ◌+◌, ◌-◌, ◌^◌, ◌<◌, IfOk, OnOk, if◌then◌else◌, length, min};
-ghost use Rattle.std.specs.Int.NonZero.{non_zero_usize_get};
-
-use p2p_directory::directory::{Config, Directory, TrackedPeers};
-use p2p_discovery::codec::{TestKey, TestSignature};
-use p2p_discovery::discovery::Info;
-use p2p_discovery::sets::OrderedSet;
-use p2p_discovery::types::{Ingress, IpAddr, SocketAddr};
-use std::alloc::{AllocError, AllocFailed, Global};
-use std::num::NonZeroUsize;
+use crate::growth::{FEW, MANY};
+use crate::keys::Key32;
+use crate::stop::Stop;
+use p2p_discovery::codec::TestKey;
+use std::env;
 use std::process::ExitCode;
-use std::time::{Duration, Instant};
-use std::{env, io};
 
-/// Why a measurement ends early.
-#[derive(Debug, Drop)]
-enum Stop {
-    Memory,
-    Io,
-}
-
-impl From<AllocError> for Stop {
-    fn from(_error: AllocError) -> Stop {
-        Stop::Memory
-    }
-}
-
-impl<T: Drop> From<AllocFailed<T>> for Stop {
-    fn from(_error: AllocFailed<T>) -> Stop {
-        Stop::Memory
-    }
-}
-
-impl From<io::Error> for Stop {
-    fn from(_error: io::Error) -> Stop {
-        Stop::Io
-    }
-}
-
-// How often each call is made.
-const SAMPLES: usize = 9;
-
-// How many calls of `next_unblock` are timed as one.
-const QUESTIONS: usize = 100;
-
-/// With how many peers a set, and how many blocks, the calls are made.
-#[derive(Clone, Copy)]
-struct Sizes {
-    peers: [usize; 2],
-    blocks: [usize; 4],
-}
-
-const FEW: Sizes = Sizes {
-    peers: [10, 100],
-    blocks: [10, 20, 40, 80],
-};
-
-const MANY: Sizes = Sizes {
-    peers: [1_000, 10_000],
-    blocks: [100, 1_000, 10_000, 100_000],
-};
-
-const WINDOWS: [usize; 3] = [1, 4, 16];
-
-// The times of some calls, and how many of them did what was wanted.
-#[derive(Drop)]
-struct Times {
-    nanos: Vec<u64>,
-    done: usize,
-}
-
-impl Times {
-    fn new(alloc: Global) -> Times {
-        Times {
-            nanos: Vec::new(alloc),
-            done: 0,
-        }
-    }
-
-    // One more time, of a call that did what was wanted or not.
-    fn count(&mut self, time: Duration, done: bool) -> Result<(), AllocError>
-        ensures times { OnOk result (length self.new.nanos.items ≡
-            length self.old.nanos.items + 1) }
-        ensures done { OnOk result (self.new.done ≡
-            (if done then min (self.old.done + 1) (2 ^ 64 - 1) else self.old.done)) }
-    {
-        let nanos = time.as_secs().saturating_mul(1_000_000_000);
-        self.nanos
-            .push(nanos.saturating_add(u64::from(time.subsec_nanos())))?;
-        if done {
-            self.done = self.done.saturating_add(1);
-        }
-        Ok(())
-    }
-
-    // The time in the middle.
-    fn median(mut self) -> u64 {
-        self.nanos.sort_unstable();
-        match self.nanos.get(self.nanos.len() / 2) {
-            Some(nanos) => *nanos,
-            None => 0,
-        }
-    }
-}
-
-// A number whose bits depend on all bits of another.
-fn mixed(number: u64) -> u64 {
-    let z = number.wrapping_mul(0x9e37_79b9_7f4a_7c15);
-    let z = (z ^ (z >> 30)).wrapping_mul(0xbf58_476d_1ce4_e5b9);
-    let z = (z ^ (z >> 27)).wrapping_mul(0x94d0_49bb_1331_11eb);
-    z ^ (z >> 31)
-}
-
-// As many keys, in no order, from a number on.
-fn keys(alloc: Global, from: usize, count: usize) -> Result<Vec<TestKey>, AllocError>
-    ensures { IfOk result (λ keys. length keys.items ≡ count) }
-{
-    let mut keys = Vec::with_capacity(alloc, count)?;
-    for place in 0..count {
-        keys.push(TestKey(mixed(from.saturating_add(place) as u64)))?;
-    }
-    Ok(keys)
-}
-
-fn info(key: TestKey, timestamp: u64) -> Info<TestKey> {
-    Info {
-        ingress: Ingress::Socket(SocketAddr::new(IpAddr::V4([1, 2, 3, 4]), 8000)),
-        timestamp,
-        public_key: key,
-        signature: TestSignature(0),
-    }
-}
-
-fn directory(alloc: Global, sets: usize) -> Result<Directory<TestKey>, AllocError>
-    requires { sets < 1000 }
-{
-    let config = Config {
-        allow_private_ips: true,
-        allow_dns: true,
-        max_sets: NonZeroUsize::new(sets).unwrap_or(NonZeroUsize::MIN),
-        dial_fail_limit: 1,
-        peer_connection_cooldown: Duration::from_secs(10),
-        block_duration: Duration::from_secs(60),
-    };
-    Directory::init(alloc, Vec::new(alloc), info(TestKey(9), 0), config)
-}
-
-// The set at an index: of as many peers a quarter is in it for the first time.
-fn set(alloc: Global, index: usize, count: usize) -> Result<TrackedPeers<TestKey>, AllocError> {
-    let keys = keys(alloc, index.saturating_mul(count / 4), count)?;
-    let primary = OrderedSet::from_iter_dedup(alloc, keys.into_iter())?;
-    let nobody: Vec<TestKey> = Vec::new(alloc);
-    let secondary = OrderedSet::from_iter_dedup(alloc, nobody.into_iter())?;
-    Ok(TrackedPeers::new(primary, secondary))
-}
-
-// Tracks as many sets.
-fn track_each(
-    alloc: Global,
-    directory: &mut Directory<TestKey>,
-    sets: usize,
-    count: usize,
-) -> Result<(), AllocError> {
-    for index in 0..sets {
-        let peers = set(alloc, index, count)?;
-        directory.track(index as u64, peers)?;
-    }
-    Ok(())
-}
-
-// A directory with as many sets, which are all that it retains.
-fn full(alloc: Global, sets: usize, count: usize) -> Result<Directory<TestKey>, AllocError>
-    requires { sets < 1000 }
-{
-    let mut directory = directory(alloc, sets)?;
-    track_each(alloc, &mut directory, sets, count)?;
-    Ok(directory)
-}
-
-// Tracks sets into a full window.
-fn time_tracks(rt: &HostRuntime, sets: usize, count: usize) -> Result<Times, Stop>
-    requires { sets < 1000 }
-{
-    let alloc = rt.alloc();
-    let mut directory = full(alloc, sets, count)?;
-    let mut times = Times::new(alloc);
-    for sample in 0..SAMPLES {
-        let index = sets.saturating_add(sample);
-        let peers = set(alloc, index, count)?;
-        let start = Instant::now(rt)?;
-        let torn = directory.track(index as u64, peers)?;
-        times.count(start.elapsed(rt)?, torn.is_some())?;
-    }
-    Ok(times)
-}
-
-// The infos of as many peers that are in the last set alone.
-fn newest(
-    alloc: Global,
-    sets: usize,
-    count: usize,
-    timestamp: u64,
-) -> Result<Vec<Info<TestKey>>, AllocError> {
-    let from = sets
-        .saturating_sub(1)
-        .saturating_mul(count / 4)
-        .saturating_add(count - count / 4);
-    let mut infos = Vec::with_capacity(alloc, count / 10)?;
-    for key in keys(alloc, from, count / 10)? {
-        infos.push(info(key, timestamp))?;
-    }
-    Ok(infos)
-}
-
-// Tells of a tenth of the peers of the last set, who are in no other.
-fn time_updates(rt: &HostRuntime, sets: usize, count: usize) -> Result<Times, Stop>
-    requires { sets < 1000 }
-{
-    let alloc = rt.alloc();
-    let mut directory = full(alloc, sets, count)?;
-    let mut times = Times::new(alloc);
-    for sample in 0..SAMPLES {
-        let infos = newest(alloc, sets, count, sample as u64)?;
-        let start = Instant::now(rt)?;
-        directory.update_peers(infos);
-        times.count(start.elapsed(rt)?, true)?;
-    }
-    Ok(times)
-}
-
-// A directory with as many blocks, each a nanosecond later than the one before.
-fn blocked(alloc: Global, count: usize) -> Result<Directory<TestKey>, AllocError> {
-    let mut directory = directory(alloc, 1)?;
-    let mut now = Duration::ZERO;
-    for key in keys(alloc, 0, count)? {
-        directory.block(&key, now)?;
-        now = now.saturating_add(Duration::from_nanos(1));
-    }
-    Ok(directory)
-}
-
-// Asks many times when the next block ends.
-fn time_questions(rt: &HostRuntime, count: usize) -> Result<Times, Stop> {
-    let alloc = rt.alloc();
-    let directory = blocked(alloc, count)?;
-    let mut times = Times::new(alloc);
-    for _ in 0..SAMPLES {
-        let mut answered = true;
-        let start = Instant::now(rt)?;
-        for _ in 0..QUESTIONS {
-            answered = answered && directory.next_unblock().is_some();
-        }
-        times.count(start.elapsed(rt)?, answered)?;
-    }
-    Ok(times)
-}
-
-// Ends the first of the blocks.
-fn time_ends(rt: &HostRuntime, count: usize) -> Result<Times, Stop> {
-    let alloc = rt.alloc();
-    let mut directory = blocked(alloc, count)?;
-    let mut times = Times::new(alloc);
-    for _ in 0..SAMPLES {
-        if let Some(moment) = directory.next_unblock() {
-            let start = Instant::now(rt)?;
-            let ended = directory.unblock_expired(moment);
-            times.count(start.elapsed(rt)?, ended)?;
-        }
-    }
-    Ok(times)
-}
-
-// Prints what was done, and the time of one call where times are wanted.
-fn print(
-    rt: &HostRuntime,
-    what: &str,
-    times: Times,
-    calls: u64,
-    is_timed: bool,
-) -> Result<(), Stop> {
-    if is_timed {
-        let nanos = times.median() / calls.max(1);
-        println!(rt; "{what}: {nanos} ns")?;
-    } else {
-        let done = times.done;
-        println!(rt; "{what}: {done} done")?;
-    }
-    Ok(())
-}
-
-fn measure_sets(rt: &HostRuntime, peers: &[usize], is_timed: bool) -> Result<(), Stop> {
-    let alloc = rt.alloc();
-    for count in peers {
-        for sets in &WINDOWS {
-            let of = format!(in alloc; "{sets} sets of {count} peers")?;
-            let track = format!(in alloc; "track, {of}")?;
-            print(
-                rt,
-                track.as_str(),
-                time_tracks(rt, *sets, *count)?,
-                1,
-                is_timed,
-            )?;
-            let update = format!(in alloc; "update_peers, {of}")?;
-            print(
-                rt,
-                update.as_str(),
-                time_updates(rt, *sets, *count)?,
-                1,
-                is_timed,
-            )?;
-        }
-    }
-    Ok(())
-}
-
-fn measure_blocks(rt: &HostRuntime, blocks: &[usize], is_timed: bool) -> Result<(), Stop> {
-    let alloc = rt.alloc();
-    for count in blocks {
-        let next = format!(in alloc; "next_unblock, {count} blocks")?;
-        let questions = QUESTIONS as u64;
-        print(
-            rt,
-            next.as_str(),
-            time_questions(rt, *count)?,
-            questions,
-            is_timed,
-        )?;
-        let ends = format!(in alloc; "unblock_expired, {count} blocks")?;
-        print(rt, ends.as_str(), time_ends(rt, *count)?, 1, is_timed)?;
-    }
-    Ok(())
-}
+mod growth;
+mod keys;
+mod made;
+mod scenarios;
+mod stop;
+mod times;
 
 fn measure(rt: &HostRuntime) -> Result<(), Stop> {
     let words: Vec<String> = env::args(rt)?.skip(1).collect(rt.alloc())?;
-    let is_timed = words.iter().any(|word| word.as_str() == "times");
-    let sizes = if is_timed { MANY } else { FEW };
-    measure_sets(rt, &sizes.peers, is_timed)?;
-    measure_blocks(rt, &sizes.blocks, is_timed)
+    match words.as_slice() {
+        [] => {
+            growth::measure(rt, &FEW, false)?;
+            scenarios::measure_few(rt)
+        }
+        [word] => {
+            if word.as_str() == "times" {
+                growth::measure(rt, &MANY, true)
+            } else {
+                Err(Stop::Words)
+            }
+        }
+        [name, count, samples] => {
+            scenarios::measure::<TestKey>(rt, name.as_str(), count.as_str(), samples.as_str())
+        }
+        [name, count, samples, bytes] => {
+            if bytes.as_str() == "32" {
+                scenarios::measure::<Key32>(rt, name.as_str(), count.as_str(), samples.as_str())
+            } else {
+                Err(Stop::Words)
+            }
+        }
+        _ => Err(Stop::Words),
+    }
 }
 
 fn main(rt: HostRuntime) -> ExitCode {

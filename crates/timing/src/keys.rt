@@ -1,0 +1,156 @@
+//! The keys that calls are timed with: of 8 bytes, and of 32 with a signature of 64.
+
+ghost use Rattle.std.specs.Prelude.{◌≡◌, ◌==◌, take, refl, Some, IfOk, length};
+ghost use Rattle.std.proofs.Common.{lit≤};
+ghost use Rattle.std.specs.Cmp.Lexicographic.{pointwise};
+ghost use Rattle.p2p_discovery.specs.Arrays.{array_spelling};
+ghost use Rattle.p2p_discovery.specs.ArraysLaws.{fixed_array, one_array, exact_array};
+ghost use Rattle.p2p_discovery.specs.Fields.{IsSized};
+
+use p2p_discovery::codec::{
+    FixedBytes, PublicKey, TestKey, TestSignature, read_array, write_array,
+};
+use std::alloc::{AllocError, Global};
+
+/// A key that is made of a number, and signs.
+pub(crate) trait TimedKey: PublicKey {
+    /// The key of a number.
+    fn numbered(number: u64) -> Self;
+
+    /// The last byte of the number.
+    fn last_byte(&self) -> u8;
+
+    /// The signature of this key over the namespace and the message.
+    fn sign_with(&self, namespace: &[u8], message: &[u8]) -> Self::Signature;
+}
+
+impl TimedKey for TestKey {
+    fn numbered(number: u64) -> TestKey {
+        TestKey(number)
+    }
+
+    fn last_byte(&self) -> u8 {
+        (self.0 % 256) as u8
+    }
+
+    fn sign_with(&self, namespace: &[u8], message: &[u8]) -> TestSignature {
+        self.sign(namespace, message)
+    }
+}
+
+/// A key of 32 bytes: those of its number, and zeros.
+#[derive(Clone, Copy, PartialEq, Eq, PartialOrd, Ord)]
+pub(crate) struct Key32([u8; 32]);
+
+/// A signature of 64 bytes. It is right where it begins with the key.
+#[derive(Clone, Copy, PartialEq, Eq)]
+pub(crate) struct Signature64([u8; 64]);
+
+impl FixedBytes for Key32 {
+    ghost SIZE = { 32 };
+
+    const SIZE: usize = 32;
+
+    ghost IsValue = { λ key. IsSized 32 key.0 };
+
+    ghost spelled = { λ key. array_spelling 32 key.0 };
+
+    ghost value = { λ bytes. Some (record { 0 = bytes }) };
+
+    fn write_fixed(&self, out: &mut [u8]) {
+        write_array(&self.0, out);
+    }
+
+    fn read_fixed(bytes: &[u8]) -> Option<Key32> {
+        Some(Key32(read_array(bytes)))
+    }
+
+    ghost fixed = { fixed_array (λ bytes. record { 0 = bytes }) (λ key. key.0)
+        (λ _. refl) (λ _. refl) 32 (lit≤ tt) };
+
+    ghost one_value = { one_array (λ bytes. record { 0 = bytes }) (λ key. key.0)
+        (λ _. refl) (λ _. refl) };
+}
+
+impl FixedBytes for Signature64 {
+    ghost SIZE = { 64 };
+
+    const SIZE: usize = 64;
+
+    ghost IsValue = { λ signature. IsSized 64 signature.0 };
+
+    ghost spelled = { λ signature. array_spelling 64 signature.0 };
+
+    ghost value = { λ bytes. Some (record { 0 = bytes }) };
+
+    fn write_fixed(&self, out: &mut [u8]) {
+        write_array(&self.0, out);
+    }
+
+    fn read_fixed(bytes: &[u8]) -> Option<Signature64> {
+        Some(Signature64(read_array(bytes)))
+    }
+
+    ghost fixed = { fixed_array (λ bytes. record { 0 = bytes }) (λ signature. signature.0)
+        (λ _. refl) (λ _. refl) 64 (lit≤ tt) };
+
+    ghost one_value = { one_array (λ bytes. record { 0 = bytes }) (λ signature. signature.0)
+        (λ _. refl) (λ _. refl) };
+}
+
+impl PublicKey for Key32 {
+    type Signature = Signature64;
+
+    ghost verifies = { λ key _ _ signature. pointwise ◌==◌ (take 32 signature.0) key.0 };
+
+    fn verify(&self, _namespace: &[u8], _message: &[u8], signature: &Signature64) -> bool {
+        signature.0[..32] == self.0[..]
+    }
+
+    ghost exact = { exact_array (λ bytes. record { 0 = bytes }) (λ key. key.0)
+        (λ _. refl) (λ _. refl) };
+}
+
+impl TimedKey for Key32 {
+    fn numbered(number: u64) -> Key32 {
+        let mut bytes = [0; 32];
+        bytes[..8].copy_from_slice(&number.to_be_bytes());
+        Key32(bytes)
+    }
+
+    fn last_byte(&self) -> u8 {
+        self.0[7]
+    }
+
+    fn sign_with(&self, _namespace: &[u8], _message: &[u8]) -> Signature64 {
+        let mut bytes = [0; 64];
+        bytes[..32].copy_from_slice(&self.0);
+        Signature64(bytes)
+    }
+}
+
+// A number whose bits depend on all bits of another.
+fn mixed(number: u64) -> u64 {
+    let z = number
+        .wrapping_add(1)
+        .wrapping_mul(0x9e37_79b9_7f4a_7c15)
+        .wrapping_add(7);
+    let z = (z ^ (z >> 30)).wrapping_mul(0xbf58_476d_1ce4_e5b9);
+    let z = (z ^ (z >> 27)).wrapping_mul(0x94d0_49bb_1331_11eb);
+    z ^ (z >> 31)
+}
+
+/// As many keys, in no order, from a number on.
+pub(crate) fn keys<K: TimedKey>(
+    alloc: Global,
+    from: usize,
+    count: usize,
+) -> Result<Vec<K>, AllocError>
+    ensures { IfOk result (λ keys. length keys.items ≡ count) }
+{
+    let mut keys = Vec::with_capacity(alloc, count)?;
+    for place in 0..count {
+        keys.push(K::numbered(mixed(from.saturating_add(place) as u64)))?;
+    }
+    Ok(keys)
+}

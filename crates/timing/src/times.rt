@@ -1,0 +1,76 @@
+//! The times of some calls, and how many did what was wanted.
+
+ghost use Rattle.std.specs.Prelude.{◌≡◌, ◌+◌, ◌-◌, ◌^◌, OnOk, if◌then◌else◌, length, min};
+
+use std::alloc::{AllocError, Global};
+use std::time::Duration;
+
+/// The times of some calls, and how many of them did what was wanted.
+#[derive(Drop)]
+pub(crate) struct Times {
+    nanos: Vec<u64>,
+    done: usize,
+}
+
+impl Times {
+    /// No time yet.
+    pub(crate) fn new(alloc: Global) -> Times {
+        Times {
+            nanos: Vec::new(alloc),
+            done: 0,
+        }
+    }
+
+    /// One more time, of a call that did what was wanted or not.
+    pub(crate) fn count(&mut self, time: Duration, done: bool) -> Result<(), AllocError>
+        ensures times { OnOk result (length self.new.nanos.items ≡
+            length self.old.nanos.items + 1) }
+        ensures done { OnOk result (self.new.done ≡
+            (if done then min (self.old.done + 1) (2 ^ 64 - 1) else self.old.done)) }
+    {
+        self.nanos.push(nanos_of(time))?;
+        if done {
+            self.done = self.done.saturating_add(1);
+        }
+        Ok(())
+    }
+
+    /// One more time, of calls of which so many did what was wanted.
+    pub(crate) fn add(&mut self, time: Duration, done: usize) -> Result<(), AllocError>
+        ensures times { OnOk result (length self.new.nanos.items ≡
+            length self.old.nanos.items + 1) }
+        ensures done { OnOk result (self.new.done ≡ min (self.old.done + done) (2 ^ 64 - 1)) }
+    {
+        self.nanos.push(nanos_of(time))?;
+        self.done = self.done.saturating_add(done);
+        Ok(())
+    }
+
+    /// The least time, the time in the middle, and how many calls did what was wanted.
+    pub(crate) fn summary(mut self) -> Summary {
+        self.nanos.sort_unstable();
+        Summary {
+            least: self.nanos.first().copied().unwrap_or(0),
+            median: self.nanos.get(self.nanos.len() / 2).copied().unwrap_or(0),
+            done: self.done,
+        }
+    }
+}
+
+/// What is printed of times, in nanoseconds.
+#[derive(Clone, Copy)]
+pub(crate) struct Summary {
+    /// The least time.
+    pub(crate) least: u64,
+    /// The time in the middle.
+    pub(crate) median: u64,
+    /// How many calls did what was wanted.
+    pub(crate) done: usize,
+}
+
+// A time in nanoseconds.
+fn nanos_of(time: Duration) -> u64 {
+    time.as_secs()
+        .saturating_mul(1_000_000_000)
+        .saturating_add(u64::from(time.subsec_nanos()))
+}
