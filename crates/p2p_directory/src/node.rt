@@ -144,7 +144,8 @@ impl<C: PublicKey> Node<C> {
     ///
     /// # Cost
     ///
-    /// That of the call, and for a `Dial`, a `Listen` and a `Release` one pass over what is held.
+    /// That of the call. For a `Dial`, a `Listen` and a `Release` also some searches in what is held,
+    /// and where nothing is held of the peer afterwards one pass over it.
     pub fn step(&mut self, command: Command<C>) -> Reply<C>
         ensures stepped { IsStepped C.cmp command result self.old self.new }
         ensures unchanged { was_made result ≡ false → self.new ≡ self.old }
@@ -247,7 +248,7 @@ impl<C: PublicKey> Node<C> {
     ///
     /// # Cost
     ///
-    /// That of [`Held::release_all`].
+    /// That of [`Node::parts`] and of [`Held::release_all`].
     pub fn finish(self) -> Directory<C>
         ensures { ReleasesAll C.cmp self.held self.directory result }
     {

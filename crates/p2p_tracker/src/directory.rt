@@ -189,7 +189,7 @@ impl<C: PublicKey> Directory<C> {
     ///
     /// # Cost
     ///
-    /// One search among the records for each bootstrapper.
+    /// One search among the records for each bootstrapper, and one for the local node.
     pub fn init(
         alloc: Global,
         bootstrappers: Vec<(C, Ingress)>,
@@ -234,12 +234,13 @@ impl<C: PublicKey> Directory<C> {
     ///
     /// # Cost
     ///
-    /// One search among the records and one among the kept moments for each peer of the new set,
-    /// one search among the records for each peer of the set that goes, and one more for each record
-    /// that goes with it; one search among the places for each primary peer of the new set; and for
-    /// the set that goes a walk along the places, or where there are many for each of its primary
-    /// peers, one search among them for each of these, and one more for each that has no place
-    /// left.
+    /// Constant where the index is not above. Else one search of the new set's primary peers for
+    /// each of its secondary ones; one search among the records for each peer of the new set, and one
+    /// among the kept moments for each that has no record yet; one search among the records for each
+    /// peer of the set that goes, and one more for each record that goes with it; one search among
+    /// the places for each primary peer of the new set; and for the set that goes a walk along the
+    /// places, or where there are many for each of its primary peers, one search among them for each
+    /// of these, and one more for each that has no place left; and one sort of the answer.
     pub fn track(
         &mut self,
         index: u64,
@@ -291,8 +292,9 @@ impl<C: PublicKey> Directory<C> {
     ///
     /// # Cost
     ///
-    /// One search among the blocks, and where the peer is reserved two among the records and one
-    /// among the kept moments.
+    /// One search among the blocks, and where the peer is not blocked one among the records. Where
+    /// the peer is reserved one more among the records, one among the kept moments, and one among
+    /// these in the order of dial moments, or two where another was kept of the peer.
     pub fn dial(
         &mut self,
         peer: &C,
@@ -349,8 +351,9 @@ impl<C: PublicKey> Directory<C> {
     ///
     /// # Cost
     ///
-    /// One search among the blocks, and where the peer is reserved two among the records and one
-    /// among the kept moments.
+    /// One search among the blocks, and where the peer is not blocked one among the records. Where
+    /// the peer is reserved one more among the records, one among the kept moments, and one among
+    /// these in the order of dial moments, or two where another was kept of the peer.
     pub fn listen(
         &mut self,
         peer: &C,
@@ -394,8 +397,8 @@ impl<C: PublicKey> Directory<C> {
     /// # Cost
     ///
     /// One search among the records, and one more where the record goes. Where the peer's info
-    /// comes to be wanted or not, one search among the places, and one step to each of the peer's
-    /// own.
+    /// comes to be wanted or not, one search among the places, and for each retained set that has
+    /// the peer as primary the search of that set by its index, and one bit.
     pub fn release(&mut self, reservation: Reservation<C>)
         requires { IsBusy C.cmp self.old (key_of reservation) }
         ensures released { Releases C.cmp self.old self.new reservation }
@@ -421,7 +424,8 @@ impl<C: PublicKey> Directory<C> {
     /// # Cost
     ///
     /// One search among the records. Where the peer's info comes to be wanted or not, one among the
-    /// places, and one step to each of the peer's own.
+    /// places, and for each retained set that has the peer as primary the search of that set by its
+    /// index, and one bit.
     pub fn connect(&mut self, peer: &C, dialer: bool)
         requires { IsReserved C.cmp self.old peer.now }
         ensures connected { Connects C.cmp self.old self.new peer.now dialer }
@@ -442,7 +446,8 @@ impl<C: PublicKey> Directory<C> {
     /// # Cost
     ///
     /// For each info one search among the records, and where the peer's info comes to be wanted or
-    /// not one among the places, and one step to each of the peer's own.
+    /// not one among the places, and for each retained set that has the peer as primary the search
+    /// of that set by its index, and one bit.
     pub fn update_peers(&mut self, infos: Vec<Info<C>>)
         ensures updated { Updates C.cmp self.old self.new infos.items }
         ensures busy { StayBusy C.cmp self.old self.new }

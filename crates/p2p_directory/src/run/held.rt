@@ -88,7 +88,7 @@ impl<C: PublicKey> Held<C> {
     ///
     /// # Cost
     ///
-    /// A release, which is logarithmic in the records, for each reservation that is held.
+    /// For each reservation that is held a [`Directory::release`], and two searches in what is held.
     pub fn release_all(self, directory: &mut Directory<C>)
         requires { AreHeld C.cmp directory.old (held_of C.cmp self) }
         ensures { ReleasesAll C.cmp self directory.old directory.new }

@@ -41,7 +41,9 @@ impl<C: PublicKey> Directory<C> {
     ///
     /// # Cost
     ///
-    /// One search among the records, two among the blocks, and one or two among their moments.
+    /// One search among the records, and for another than the local node one among the blocks.
+    /// Where the block is taken one more among the blocks, and one among their moments, or two where
+    /// another moment was kept of the peer.
     pub fn block(&mut self, peer: &C, now: Duration) -> Result<bool, AllocError>
         ensures err { OnErr result (self.new ≡ self.old) }
         ensures untaken { may_block C.cmp self.old (as_nanos now) peer.now ≡ false →

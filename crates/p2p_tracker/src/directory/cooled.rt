@@ -26,7 +26,8 @@ impl<C: PublicKey> Directory<C> {
     ///
     /// # Cost
     ///
-    /// For each such peer one search among the kept moments, and one among the records.
+    /// One step to the first of the dial moments, and for each such peer one removal there, one
+    /// search among the kept moments, and one among the records.
     pub fn forget_cooled(&mut self, now: Duration) -> usize
         ensures answer { IsNumberCooledIn C.cmp self.old (as_nanos now) result }
         ensures forgotten { ForgetsCooled C.cmp self.old self.new (as_nanos now) }

@@ -21,7 +21,7 @@ impl<C: PublicKey> Directory<C> {
     ///
     /// # Cost
     ///
-    /// One search among the blocks, and one among the records.
+    /// One search among the records, and where there is a record one among the blocks.
     pub fn eligible(&self, peer: &C, now: Duration) -> bool
         ensures { result ≡ is_free_and C.cmp is_eligible self.now (as_nanos now) peer.now }
     {
@@ -37,7 +37,7 @@ impl<C: PublicKey> Directory<C> {
     ///
     /// # Cost
     ///
-    /// One search among the blocks, and one among the records.
+    /// One search among the records, and where there is a record one among the blocks.
     pub fn acceptable(&self, peer: &C, now: Duration) -> bool
         ensures { result ≡ is_free_and C.cmp is_acceptable self.now (as_nanos now) peer.now }
     {

@@ -57,8 +57,8 @@ impl<C: PublicKey> Directory<C> {
     ///
     /// # Cost
     ///
-    /// One pass over the retained sets, and for each primary peer of that one whose bit is false one
-    /// search among the records.
+    /// One pass over the retained sets and one over the primary peers of that one, with one search
+    /// among the records for each whose bit is false.
     pub fn infos(&self, bit_vec: &BitVec, now: Duration) -> Result<Option<Vec<Info<C>>>, AllocError>
         ensures infos { IfOk result (λ infos. option_map (λ v. v.items) infos
             ≡ infos_in C.cmp self.now bit_vec.now.index bit_vec.now.bits (as_nanos now)) }

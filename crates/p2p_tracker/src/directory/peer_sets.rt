@@ -60,6 +60,10 @@ impl<C: PublicKey> Directory<C> {
     }
 
     /// The index of the latest peer set, or `None` where none was taken. Takes no memory.
+    ///
+    /// # Cost
+    ///
+    /// Constant.
     pub fn latest_set_index(&self) -> Option<u64>
         ensures { result ≡ latest_index self.now.sets }
     {
