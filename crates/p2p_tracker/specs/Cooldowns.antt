@@ -1,6 +1,6 @@
 -- Cooldowns, as keys with the moments that are kept of their last grant, in ascending order of the
 -- keys.
-use Rattle.std.specs.Prelude.{ℕ, List, map, Option, Some, None, nat_le}
+use Rattle.std.specs.Prelude.{ℕ, Bool, List, map, Option, Some, None, nat_le}
 use Rattle.std.specs.Prelude.{if◌then◌else◌}
 use Rattle.std.specs.Map.{lookup}
 use Rattle.std.specs.Duration.{as_nanos}
@@ -18,9 +18,9 @@ cooldown_view moments =
 abbrev pub cooldowns_view : {C : Type 0} → List (C × (Duration × Duration)) → List (C × Cooldown)
 cooldowns_view entries = map (λ e. (e.0, cooldown_view e.1)) entries
 
--- keys with their dial moments
-abbrev pub dial_moments : {C : Type 0} → List (C × Cooldown) → List (C × ℕ)
-dial_moments cooldowns = map (λ e. (e.0, e.1.dial_at)) cooldowns
+-- the dial moment is at most now
+abbrev pub has_cooled : {C : Type 0} → ℕ → C × Cooldown → Bool
+has_cooled now e = nat_le e.1.dial_at now
 
 -- what is kept once those are forgotten whose dial moment is at most now
 abbrev pub unless_cooled : ℕ → Option Cooldown → Option Cooldown

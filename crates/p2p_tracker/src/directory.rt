@@ -293,8 +293,7 @@ impl<C: PublicKey> Directory<C> {
     /// # Cost
     ///
     /// One search among the blocks, and where the peer is not blocked one among the records. Where
-    /// the peer is reserved one more among the records, one among the kept moments, and one among
-    /// these in the order of dial moments, or two where another was kept of the peer.
+    /// the peer is reserved one more among the records, and one among the kept moments.
     pub fn dial(
         &mut self,
         peer: &C,
@@ -352,8 +351,7 @@ impl<C: PublicKey> Directory<C> {
     /// # Cost
     ///
     /// One search among the blocks, and where the peer is not blocked one among the records. Where
-    /// the peer is reserved one more among the records, one among the kept moments, and one among
-    /// these in the order of dial moments, or two where another was kept of the peer.
+    /// the peer is reserved one more among the records, and one among the kept moments.
     pub fn listen(
         &mut self,
         peer: &C,

@@ -1,9 +1,11 @@
 -- The moments of records are those that are kept of their peers: calls keep it so.
-use Rattle.std.proofs.Common.{◌≡◌, ℕ, Bool, true, false, List, Option, Some, None, IfSome, sym, ap, subst, refl, ◌∙◌}
+use Rattle.std.proofs.Common.{◌≡◌, ℕ, Bool, true, false, ◌||◌, cond, List, [], ◌∷◌, filter, Option, Some, None}
+use Rattle.std.proofs.Common.{IfSome, sym, ap, subst, refl, ◌∙◌}
 use Rattle.std.specs.Prelude.{if◌then◌else◌, nat_le}
 use Rattle.std.specs.declared.cmp.Ordering.{Ordering}
 use Rattle.std.specs.Option.{option_map}
 use Rattle.std.specs.BTreeMap.{is_at}
+use Rattle.std.specs.Map.{keys_of}
 use Rattle.p2p_discovery.specs.declared.discovery.Info.{Info}
 use Rattle.p2p_discovery.specs.declared.types.ingress.Ingress.{Ingress}
 use Rattle.p2p_tracker.specs.declared.record.Address.TheVariants.{Myself, Bootstrapper}
@@ -20,9 +22,10 @@ use Rattle.p2p_tracker.specs.PeerSets.{set_count}
 use Rattle.p2p_tracker.specs.declared.record.Role.TheVariants.{Primary, Secondary}
 use Rattle.p2p_tracker.specs.Directory.{first_record, is_known, has_status, released_record, kept_after_release}
 use Rattle.p2p_tracker.specs.Directory.{connected_record, updated_record, record_with_sets}
-use Rattle.p2p_tracker.specs.Cooldowns.{unless_cooled}
+use Rattle.p2p_discovery.specs.Ordered.{has_key}
+use Rattle.p2p_tracker.specs.Cooldowns.{has_cooled, unless_cooled}
 use Rattle.p2p_tracker.specs.Private.Window.{SetWithBits}
-use Rattle.p2p_tracker.specs.Private.Counts.{AreCooled, IsWhole}
+use Rattle.p2p_tracker.specs.Private.Counts.{AreCooled, IsWhole, changed_if, cleared_at}
 use Rattle.p2p_tracker.proofs.SetsAndRecords.Changes.{IsSound, IsKept, kept_same, each_sound, bits_same}
 use Rattle.p2p_tracker.proofs.SetsAndRecords.Changes.{changed_with_bits}
 
@@ -59,18 +62,10 @@ module _ {C S : Type 0} where
   given k None = refl
   given k (Some r) = refl
 
-  twice : (k k2 : Option Cooldown) (o : Option (RecordView C S)) →
-      option_map (with_cooldown k2) (option_map (with_cooldown k) o) ≡ option_map (with_cooldown k2) o
-  twice k k2 None = refl
-  twice k k2 (Some r) = refl
-
-  -- moments that go
-  pub emptied : (b : Bool) (o now new : Option (RecordView C S)) (k k2 : Option Cooldown) →
-      new ≡ (if b then option_map (with_cooldown None) now else now) → k2 ≡ (if b then None else k) →
-      now ≡ option_map (with_cooldown k) o → new ≡ option_map (with_cooldown k2) o
-  emptied true o now new k k2 change is has = change ∙ ap (option_map (with_cooldown None)) has ∙ twice k None o
-      ∙ ap (λ x. option_map (with_cooldown x) o) (sym is)
-  emptied false o now new k k2 change is has = change ∙ has ∙ ap (λ x. option_map (with_cooldown x) o) (sym is)
+  cleared_twice : (o : Option (RecordView C S)) → option_map (with_cooldown None) (option_map (with_cooldown None) o)
+      ≡ option_map (with_cooldown None) o
+  cleared_twice None = refl
+  cleared_twice (Some r) = refl
 
   -- the moments of a record
   pub moments_of_record : (k : Option Cooldown) (o : Option (RecordView C S)) → HasMoments k o →
@@ -111,6 +106,39 @@ module _ {C S : Type 0} where
   status_with_moments test k (Some r) = refl
 
 module _ {C S : Type 0} (cmp : C → C → Ordering) where
+  -- moments that have cooled are cleared, of one peer and of the others
+  pub cleared_step : (now : ℕ) (e : C × Cooldown) (es : List (C × Cooldown)) (q : C) (o : Option (RecordView C S)) →
+      cleared_at cmp now es q (cleared_at cmp now (e ∷ []) q o) ≡ cleared_at cmp now (e ∷ es) q o
+  cleared_step now e es q o = go (has_cooled now e)
+    where
+      rest : List (C × Cooldown)
+      rest = filter (has_cooled now) es
+
+      clear : Bool → Option (RecordView C S) → Option (RecordView C S)
+      clear b o = if b then option_map (with_cooldown None) o else o
+
+      by : (here there : Bool) → clear there (clear (here || false) o) ≡ clear (here || there) o
+      by true true = cleared_twice o
+      by true false = refl
+      by false there = refl
+
+      go : (b : Bool) → clear (has_key cmp (keys_of rest) q) (clear (has_key cmp (keys_of (cond b (e ∷ []) [])) q) o)
+          ≡ clear (has_key cmp (keys_of (cond b (e ∷ rest) rest)) q) o
+      go true = by (is_at (cmp e.0) q) (has_key cmp (keys_of rest) q)
+      go false = refl
+
+  -- .. so that the moments that are left are those that are kept
+  pub cleared_left : (now : ℕ) (k : Option Cooldown) (o : Option (RecordView C S)) → HasMoments k o →
+      changed_if cmp (is_cooled_by now k) (option_map (with_cooldown None)) o
+      ≡ option_map (with_cooldown (unless_cooled now k)) o
+  cleared_left now None o has = has
+  cleared_left now (Some c) o has = go (nat_le c.dial_at now)
+    where
+      go : (b : Bool) → (if b then option_map (with_cooldown None) o else o)
+          ≡ option_map (with_cooldown (if b then None else Some c)) o
+      go true = refl
+      go false = has
+
   -- at first no moments are kept
   pub first_cooled : (bootstrappers : List (C × Ingress)) (own : Info C S) (q : C) →
       HasMoments None (first_record cmp bootstrappers own q)

@@ -2,7 +2,9 @@
 -- holds between calls.
 use Rattle.std.specs.Prelude.{ℕ, ◌≡◌, ◌<◌, ◌≤◌, ◌+◌, ◌-◌, ◌^◌, ◌==◌, Bool, true, false, not, ◌&&◌}
 use Rattle.std.specs.Prelude.{◌||◌, if◌then◌else◌, min, nat_lt, List, [], ◌∷◌, length, drop, Option}
-use Rattle.std.specs.Prelude.{Some, IfSome, unwrap_or}
+use Rattle.std.specs.Prelude.{Some, None, IfSome, unwrap_or}
+use Rattle.std.specs.List.{filter}
+use Rattle.std.specs.Map.{keys_of}
 use Rattle.std.specs.Option.{option_map, option_map_or, option_and_then}
 use Rattle.std.specs.BTreeMap.{BTreeMap, IsOrdered, is_at}
 use Rattle.std.specs.declared.cmp.Ordering.{Ordering}
@@ -17,6 +19,7 @@ use Rattle.p2p_tracker.specs.Record.{unless_deletable}
 use Rattle.p2p_tracker.specs.PeerSets.{set_count, AreRolesDisjoint}
 use Rattle.p2p_discovery.specs.Ordered.{has_key}
 use Rattle.p2p_tracker.specs.Directory.{is_known}
+use Rattle.p2p_tracker.specs.Cooldowns.{has_cooled}
 use Rattle.p2p_tracker.specs.Private.Window.{SetWithBits, plain_sets, sets_with_bits}
 
 -- SETS
@@ -167,6 +170,13 @@ module _ {C S : Type 0} (cmp : C → C → Ordering) where
   abbrev pub AreCooled : (C → Option (RecordView C S)) → (C → Option Cooldown) → Type 0
   AreCooled record_at cooldown_at =
       (q : C) → record_at q ≡ option_map (with_cooldown (cooldown_at q)) (record_at q)
+
+  -- what is kept of q once the moments of these that have cooled are cleared in the records
+  abbrev pub cleared_at : ℕ → List (C × Cooldown) → C → Option (RecordView C S) →
+      Option (RecordView C S)
+  cleared_at now cooldowns q o =
+      changed_if (has_key cmp (keys_of (filter (has_cooled now) cooldowns)) q)
+      (option_map (with_cooldown None)) o
 
   -- what holds of a directory between calls
   pub record IsWhole (max limit : ℕ) (window : List (SetWithBits C))

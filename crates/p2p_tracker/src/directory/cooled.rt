@@ -1,14 +1,14 @@
 //! Cooldowns that are forgotten.
 
-ghost use Rattle.std.specs.Prelude.{◌≡◌, not};
+ghost use Rattle.std.specs.Prelude.{◌≡◌, ◌∷◌, [], length, if◌then◌else◌};
 ghost use Rattle.std.specs.Option.{option_map};
-ghost use Rattle.std.specs.List.{count_by};
+ghost use Rattle.std.specs.List.{filter};
 ghost use Rattle.std.specs.Duration.{as_nanos};
 ghost use Rattle.p2p_tracker.specs.Record.{with_cooldown};
 ghost use Rattle.p2p_tracker.specs.Seen.{record_at};
-ghost use Rattle.p2p_tracker.specs.Blocks.{is_later};
-ghost use Rattle.p2p_tracker.specs.Cooldowns.{cooldown_in, dial_moments, unless_cooled};
-ghost use Rattle.p2p_tracker.specs.Private.Counts.{AreCooled};
+ghost use Rattle.p2p_tracker.specs.Cooldowns.{cooldown_in, cooldown_view, has_cooled};
+ghost use Rattle.p2p_tracker.specs.Cooldowns.{unless_cooled};
+ghost use Rattle.p2p_tracker.specs.Private.Counts.{AreCooled, cleared_at};
 
 use crate::directory::Directory;
 use crate::directory::records::Records;
@@ -26,8 +26,9 @@ impl<C: PublicKey> Directory<C> {
     ///
     /// # Cost
     ///
-    /// One step to the first of the dial moments, and for each such peer one removal there, one
-    /// search among the kept moments, and one among the records.
+    /// Constant while `now` is before the dial moments that were left when some were last forgotten,
+    /// and before those of all grants since. Else three passes over the kept moments, and for each
+    /// such peer one search among the records.
     pub fn forget_cooled(&mut self, now: Duration) -> usize
         ensures answer { IsNumberCooledIn C.cmp self.old (as_nanos now) result }
         ensures forgotten { ForgetsCooled C.cmp self.old self.new (as_nanos now) }
@@ -47,18 +48,58 @@ fn forget_each<C: PublicKey>(
     now: Duration,
 ) -> usize
     requires { AreCooled C.cmp (record_at C.cmp records.old) (cooldown_in C.cmp cooldowns.old) }
-    ensures count { result ≡
-        count_by (λ e. not (is_later (as_nanos now) e)) (dial_moments cooldowns.old) }
+    ensures count { result ≡ length (filter (has_cooled (as_nanos now)) cooldowns.old) }
     ensures cooldowns { (q : C) → cooldown_in C.cmp cooldowns.new q ≡
         unless_cooled (as_nanos now) (cooldown_in C.cmp cooldowns.old q) }
     ensures records { (q : C) → record_at C.cmp records.new q ≡ option_map
         (with_cooldown (cooldown_in C.cmp cooldowns.new q)) (record_at C.cmp records.old q) }
 {
-    let mut count = 0;
+    // For the proof: the clauses of `len` say that the keys are in order.
     let _most = cooldowns.len();
-    while let Some(peer) = cooldowns.pop_until(now) {
-        records.forget_cooldown(&peer);
-        count += 1;
+    if !cooldowns.may_have_cooled(now) {
+        return 0;
+    }
+    let count = clear_each(records, cooldowns, now);
+    cooldowns.drop_cooled(now);
+    count
+}
+
+// Clears the moments in the record of each peer whose dial moment is at or before `now`, and
+// answers how many such peers there are.
+fn clear_each<C: PublicKey>(
+    records: &mut Records<C>,
+    cooldowns: &Cooldowns<C>,
+    now: Duration,
+) -> usize
+    ensures count { result ≡ length (filter (has_cooled (as_nanos now)) cooldowns.now) }
+    ensures records { (q : C) → record_at C.cmp records.new q ≡
+        cleared_at C.cmp (as_nanos now) cooldowns.now q (record_at C.cmp records.old q) }
+{
+    let _most = cooldowns.len();
+    let mut count = 0;
+    for (peer, moments) in cooldowns.iter() {
+        count += clear_one(records, peer, *moments, now);
     }
     count
+}
+
+// Clears these moments in the record of the peer, where the dial moment is at or before `now`, and
+// answers how many that are.
+fn clear_one<C: PublicKey>(
+    records: &mut Records<C>,
+    peer: &C,
+    moments: (Duration, Duration),
+    now: Duration,
+) -> usize
+    ensures count { result ≡
+        (if has_cooled (as_nanos now) (peer.now, cooldown_view moments) then 1 else 0) }
+    ensures records { (q : C) → record_at C.cmp records.new q ≡
+        cleared_at C.cmp (as_nanos now) ((peer.now, cooldown_view moments) ∷ []) q
+        (record_at C.cmp records.old q) }
+{
+    if now.as_nanos() < moments.1.as_nanos() {
+        return 0;
+    }
+    records.forget_cooldown(peer);
+    1
 }

@@ -21,8 +21,8 @@ invariant_of-self g c =
 
 pub returns-clause-answer : goal.returns-clause-answer
 returns-clause-answer g c = rw (← c.self.view_is)
-    (number_cooled g.met.C.Ord.total c.self.inside.cooldowns
-    (as_nanos c.args.now) c.forget_each.result c.len-kept.ensures.sorted c.forget_each.ensures.count)
+    (number_cooled (as_nanos c.args.now) g.met.C.Ord.total c.self.inside.cooldowns c.len-kept.ensures.sorted
+    c.forget_each.result c.forget_each.ensures.count)
 
 pub returns-clause-forgotten : goal.returns-clause-forgotten
 returns-clause-forgotten g c =

@@ -1,96 +1,24 @@
-use Rattle.std.proofs.Common.{ap, sym, ◌∙◌, ◌≡◌, cond, Some, false, nat_eq, arith}
-use Rattle.std.specs.BTreeMap.{is_at}
+use Rattle.std.proofs.Common.{ℕ, ◌≤◌, arith}
 use Rattle.std.specs.Duration.{as_nanos}
-use Rattle.std.specs.Option.{option_map}
-use Rattle.std.proofs.lemmas.Bool.Decides.{nat_tests}
-use Rattle.p2p_tracker.specs.Calls.{Cooldown}
-use Rattle.p2p_tracker.specs.Cooldowns.{cooldown_view, cooldowns_view, dial_moments}
-use Rattle.p2p_tracker.specs.Private.Ends.{end_cmp}
-use Rattle.p2p_tracker.proofs.SetsAndRecords.Cooldowns.{cooldown_put, dial_put, cooldown_seen, dial_seen}
-use Rattle.p2p_tracker.proofs.SetsAndRecords.Ends.{ends_more, ends_instead, ends_back, same_or_none, same_or_other}
+use Rattle.std.specs.List.{All}
+use Rattle.std.specs.Map.{values_of}
+use Rattle.std.specs.declared.time.Duration.{Duration}
+use Rattle.std.proofs.lemmas.Grind.{common_steps}
+use Rattle.std.proofs.lemmas.List.Elements.{All-weaker}
+use Rattle.std.proofs.lemmas.Map.Views.{All-values-insert_entry}
+use Rattle.p2p_tracker.proofs.SetsAndRecords.Cooldowns.{cooldown_put}
 use Rattle.p2p_tracker.proofs.kept.cooldowns.put_cooldown.Goals as goal
 
-pub returns-then-as_nanos-clause-ends : goal.returns-then-as_nanos-clause-ends
-returns-then-as_nanos-clause-ends g c =
-    let cmp = g.C.Ord.cmp in
-    let old = c.args.moments.now.entries in
-    let new = c.insert-2.new.self.entries in
-    let before = as_nanos c.in-Ok-Some.before.1 in
-    let m = as_nanos c.args.cooldown.1 in
-    let had = dial_seen cmp (cooldowns_view old) c.args.key
-    ∙ ap (option_map (λ (k : Cooldown). k.dial_at)) (cooldown_seen cmp old c.args.key
-    ∙ ap (option_map cooldown_view) (sym c.in-Ok-Some.ensures.old ∙ c.in-Ok-Some.field-0-is)) in
-    let other : nat_eq before m ≡ false = grind (
-      arith,
-      nat_tests,
-      c.if-as_nanos.true,
-      c.as_nanos-in-Ok-Some.ensures,
-      c.as_nanos-in-Ok-Some-2.ensures,
-    ) in
-    let more = rw c.as_nanos.ensures at c.in_default.ensures.updates.0 in
-    let less = rw c.as_nanos-then-as_nanos.ensures at c.remove.ensures.updates.0 in
-    ends_instead g.met.C.PublicKey.exact c.args.ends.now.keys c.remove.new.self.keys (dial_moments (cooldowns_view old))
-    (dial_moments (cooldowns_view new)) c.args.key m before c.requires
-    (λ e. less e ∙ ap (cond (is_at (end_cmp cmp (before, c.args.key)) e) false) (more e))
-    (dial_put cmp old new c.args.key c.args.cooldown c.in-Ok-Some.ensures.updates.0)
-    had other
+pub returns-in-Ok-clause-bound : goal.returns-in-Ok-clause-bound
+returns-in-Ok-clause-bound g c =
+    let P : Duration × Duration → Type 0 = λ m. c.min.result ≤ as_nanos m.1 in
+    let low : c.min.result ≤ c.args.bound.now = grind (arith, common_steps) in
+    let here : c.min.result ≤ as_nanos c.args.cooldown.1 = grind (arith, common_steps) in
+    rw c.in-Ok.ensures.entries
+    (All-values-insert_entry g.C.Ord.cmp c.args.key c.args.cooldown P c.args.moments.now.entries
+    (All-weaker (λ m. c.args.bound.now ≤ as_nanos m.1) P (λ m le. omega (arith, low, le))
+    (values_of c.args.moments.now.entries) c.requires) here)
 
-pub returns-else-as_nanos-clause-ends : goal.returns-else-as_nanos-clause-ends
-returns-else-as_nanos-clause-ends g c =
-    let cmp = g.C.Ord.cmp in
-    let old = c.args.moments.now.entries in
-    let new = c.insert-2.new.self.entries in
-    let had = dial_seen cmp (cooldowns_view old) c.args.key
-    ∙ ap (option_map (λ (k : Cooldown). k.dial_at)) (cooldown_seen cmp old c.args.key
-    ∙ ap (option_map cooldown_view) (sym c.in-Ok-Some.ensures.old ∙ c.in-Ok-Some.field-0-is)) in
-    let same : as_nanos c.in-Ok-Some.before.1 ≡ as_nanos c.args.cooldown.1 = sym c.as_nanos-in-Ok-Some.ensures
-    ∙ c.if-as_nanos.false ∙ c.as_nanos-in-Ok-Some-2.ensures in
-    ends_more g.met.C.PublicKey.exact c.args.ends.now.keys c.insert.new.self.keys (dial_moments (cooldowns_view old))
-    (dial_moments (cooldowns_view new)) c.args.key (as_nanos c.args.cooldown.1) c.requires
-    (rw c.as_nanos.ensures at c.in_default.ensures.updates.0)
-    (dial_put cmp old new c.args.key c.args.cooldown c.in-Ok-Some.ensures.updates.0)
-    (same_or_other (had ∙ ap Some same))
-
-pub returns-in-Ok-None-clause-ends : goal.returns-in-Ok-None-clause-ends
-returns-in-Ok-None-clause-ends g c =
-    let cmp = g.C.Ord.cmp in
-    let old = c.args.moments.now.entries in
-    let new = c.insert-2.new.self.entries in
-    let had = dial_seen cmp (cooldowns_view old) c.args.key
-    ∙ ap (option_map (λ (k : Cooldown). k.dial_at)) (cooldown_seen cmp old c.args.key
-    ∙ ap (option_map cooldown_view) (sym c.in-Ok-None.ensures.old ∙ c.in-Ok-None.field-0-is)) in
-    ends_more g.met.C.PublicKey.exact c.args.ends.now.keys c.insert.new.self.keys (dial_moments (cooldowns_view old))
-    (dial_moments (cooldowns_view new)) c.args.key (as_nanos c.args.cooldown.1) c.requires
-    (rw c.as_nanos.ensures at c.in_default.ensures.updates.0)
-    (dial_put cmp old new c.args.key c.args.cooldown c.in-Ok-None.ensures.updates.0)
-    (same_or_none had)
-
-pub returns-in-Err-insert-clause-ends : goal.returns-in-Err-insert-clause-ends
-returns-in-Err-insert-clause-ends g c =
-    let cmp = g.C.Ord.cmp in
-    let old = c.args.moments.now.entries in
-    let m = as_nanos c.args.cooldown.1 in
-    let had = dial_seen cmp (cooldowns_view old) c.args.key
-    ∙ ap (option_map (λ (k : Cooldown). k.dial_at)) (cooldown_seen cmp old c.args.key
-    ∙ ap (option_map cooldown_view) c.in-Err-insert.ensures.absent) in
-    let more = rw c.as_nanos.ensures at c.in_default.ensures.updates.0 in
-    let less = rw c.as_nanos-in-Err-insert.ensures at c.remove-in-Err-insert.ensures.updates.0 in
-    rw c.in-Err-insert.ensures.err
-    (ends_back g.met.C.PublicKey.exact c.args.ends.now.keys c.remove-in-Err-insert.new.self.keys (dial_moments
-    (cooldowns_view old)) c.args.key m c.requires
-    (λ e. less e ∙ ap (cond (is_at (end_cmp cmp (m, c.args.key)) e) false) (more e)) had)
-
-pub returns-then-as_nanos-clause-ok : goal.returns-then-as_nanos-clause-ok
-returns-then-as_nanos-clause-ok g c =
-    cooldown_put g.C.Ord.cmp c.args.moments.now.entries c.insert-2.new.self.entries c.args.key c.args.cooldown
-    c.in-Ok-Some.ensures.updates.0
-
-pub returns-else-as_nanos-clause-ok : goal.returns-else-as_nanos-clause-ok
-returns-else-as_nanos-clause-ok g c =
-    cooldown_put g.C.Ord.cmp c.args.moments.now.entries c.insert-2.new.self.entries c.args.key c.args.cooldown
-    c.in-Ok-Some.ensures.updates.0
-
-pub returns-in-Ok-None-clause-ok : goal.returns-in-Ok-None-clause-ok
-returns-in-Ok-None-clause-ok g c =
-    cooldown_put g.C.Ord.cmp c.args.moments.now.entries c.insert-2.new.self.entries c.args.key c.args.cooldown
-    c.in-Ok-None.ensures.updates.0
+pub returns-in-Ok-clause-ok : goal.returns-in-Ok-clause-ok
+returns-in-Ok-clause-ok g c = cooldown_put g.C.Ord.cmp c.args.moments.now.entries c.insert.new.self.entries
+    c.args.key c.args.cooldown c.in-Ok.ensures.updates.0
