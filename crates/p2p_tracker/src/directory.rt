@@ -138,6 +138,8 @@ impl<P: PublicKey> Reservation<P> {
 pub struct Directory<C: PublicKey> {
     alloc: Global,
     config: Config,
+    // The key of the local node.
+    own: C,
     sets: Window<C>,
     records: Records<C>,
     blocks: Blocks<C>,
@@ -162,7 +164,7 @@ impl<C: PublicKey> Model for Directory<C> {
     } };
 
     ghost invariant = { λ d. IsWhole C.cmp (non_zero_usize_get d.config.max_sets)
-        d.config.dial_fail_limit d.sets (record_at C.cmp d.records)
+        d.config.dial_fail_limit d.own d.sets (record_at C.cmp d.records)
         (cooldown_in C.cmp d.cooldowns) };
 }
 
@@ -204,10 +206,12 @@ impl<C: PublicKey> Directory<C> {
         ensures records { IfOk result (λ d. (q : C) →
             record_of C.cmp d q ≡ first_record C.cmp bootstrappers.items myself q) }
     {
+        let own = myself.public_key;
         let records = Records::first(alloc, bootstrappers, myself)?;
         Ok(Directory {
             alloc,
             config: cfg,
+            own,
             sets: Window::new(alloc),
             records,
             blocks: Blocks::new(alloc),

@@ -212,8 +212,8 @@ module _ {C : Type 0} (cmp : C → C → Ordering) where
 module _ {C S : Type 0} (cmp : C → C → Ordering) where
   -- WHAT HOLDS BETWEEN CALLS
 
-  pub each_sound : (max limit : ℕ) (window : List (SetWithBits C)) (old : C → Option (RecordView C S)) →
-      IsInvariant cmp max limit window old → (q : C) → IsSound (old q)
+  pub each_sound : {me : C} (max limit : ℕ) (window : List (SetWithBits C)) (old : C → Option (RecordView C S)) →
+      IsInvariant cmp max limit me window old → (q : C) → IsSound (old q)
   each_sound max limit window old was q = go (old q) (was.counts.none_deletable q) (was.own.persists q)
     where
       go : (o : Option (RecordView C S)) → IfSome o (λ r. is_deletable r ≡ false) → IfSome o (λ r. is_myself r.address ≡ true → r.persistent ≡ true) → IsSound o
@@ -270,9 +270,9 @@ module _ {C S : Type 0} (cmp : C → C → Ordering) where
       stays None sound = tt
       stays (Some r) sound = sound.0
 
-  own_kept : (old new : C → Option (RecordView C S)) → HasOwn cmp old → ((q : C) → IsKept (old q) (new q)) → HasOwn cmp new
+  own_kept : {me : C} (old new : C → Option (RecordView C S)) → HasOwn cmp me old →
+      ((q : C) → IsKept (old q) (new q)) → HasOwn cmp me new
   own_kept old new was keeps = record {
-    own = was.own;
     is_own = λ q. (keeps q).own ∙ was.is_own q;
     persists = λ q. lasts (new q) (keeps q).sound;
   }
@@ -323,12 +323,12 @@ module _ {C S : Type 0} (cmp : C → C → Ordering) where
         same q false e = refl
 
     -- one record changes, and its bit is set anew
-    pub changed_at : (max limit : ℕ) (window window2 : List (SetWithBits C))
+    pub changed_at : {me : C} (max limit : ℕ) (window window2 : List (SetWithBits C))
         (old new : C → Option (RecordView C S)) (p : C) (f : Option (RecordView C S) → Option (RecordView C S))
-        (b : Bool) → IsInvariant cmp max limit window old →
+        (b : Bool) → IsInvariant cmp max limit me window old →
         ((q : C) → new q ≡ (if is_at (cmp p) q then f (old q) else old q)) →
         ((o : Option (RecordView C S)) → IsSound o → IsKept o (f o)) → b ≡ is_known limit (new p) →
-        window2 ≡ map (with_bit_of cmp p b) window → IsInvariant cmp max limit window2 new
+        window2 ≡ map (with_bit_of cmp p b) window → IsInvariant cmp max limit me window2 new
     changed_at max limit window window2 old new p f b was change keeps is anew = record {
       counts = subst (λ sets. IsConsistent cmp max sets new)
           (sym (ap plain_sets anew ∙ plain_with_bit cmp p b window))
@@ -348,11 +348,11 @@ module _ {C S : Type 0} (cmp : C → C → Ordering) where
             go false = kept_same (old q) (sound q)
 
   -- p is reserved
-  pub reserved_at : (max limit : ℕ) (window : List (SetWithBits C)) (old new : C → Option (RecordView C S)) (p : C)
-      (now draw cooldown : ℕ) → CmpEqualImpliesEq cmp → IsInvariant cmp max limit window old →
+  pub reserved_at : {me : C} (max limit : ℕ) (window : List (SetWithBits C)) (old new : C → Option (RecordView C S)) (p : C)
+      (now draw cooldown : ℕ) → CmpEqualImpliesEq cmp → IsInvariant cmp max limit me window old →
       ((q : C) → new q
       ≡ (if is_at (cmp p) q then option_map (reserved_record now draw cooldown) (old q) else old q)) →
-      option_map_or (may_come now) (old p) false ≡ true → IsInvariant cmp max limit window new
+      option_map_or (may_come now) (old p) false ≡ true → IsInvariant cmp max limit me window new
   reserved_at max limit window old new p now draw cooldown exact was change can = record {
     counts = counts_kept max (plain_sets window) old new was.counts each;
     own = own_kept old new was.own each;
@@ -405,10 +405,10 @@ module _ {C S : Type 0} (cmp : C → C → Ordering) where
       go false h f = absurd cc
 
   -- each record changes, and the bits are right again
-  pub changed_with_bits : (max limit : ℕ) (window window2 : List (SetWithBits C))
-      (old new : C → Option (RecordView C S)) → IsInvariant cmp max limit window old →
+  pub changed_with_bits : {me : C} (max limit : ℕ) (window window2 : List (SetWithBits C))
+      (old new : C → Option (RecordView C S)) → IsInvariant cmp max limit me window old →
       ((q : C) → IsKept (old q) (new q)) → plain_sets window2 ≡ plain_sets window →
-      AreMarked cmp limit window2 new → IsInvariant cmp max limit window2 new
+      AreMarked cmp limit window2 new → IsInvariant cmp max limit me window2 new
   changed_with_bits max limit window window2 old new was keeps sets bits = record {
     counts = subst (λ sets. IsConsistent cmp max sets new) (sym sets) (counts_kept max (plain_sets window) old new was.counts keeps);
     own = own_kept old new was.own keeps;

@@ -164,9 +164,8 @@ module _ {C S : Type 0} (cmp : C → C → Ordering) where
 
   -- the own record at first
   pub first_own : (bootstrappers : List (C × Ingress)) (own : Info C S) (record_at : C → Option (RecordView C S)) →
-      ((q : C) → record_at q ≡ first_record cmp bootstrappers own q) → HasOwn cmp record_at
+      ((q : C) → record_at q ≡ first_record cmp bootstrappers own q) → HasOwn cmp own.public_key record_at
   first_own bootstrappers own record_at first = record {
-    own = own.public_key;
     is_own = λ q. rw (first q) (is (is_at (cmp own.public_key) q) (last_ingress_by cmp q bootstrappers));
     persists = λ q. rw (first q) (lasts (is_at (cmp own.public_key) q) (last_ingress_by cmp q bootstrappers));
   }

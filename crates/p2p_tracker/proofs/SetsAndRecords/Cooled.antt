@@ -192,11 +192,11 @@ module _ {C S : Type 0} (cmp : C → C → Ordering) where
       go false = was q
 
   -- each record is given the moments that are kept
-  pub cooled_anew : (max limit : ℕ) (window : List (SetWithBits C)) (old new : C →
+  pub cooled_anew : {me : C} (max limit : ℕ) (window : List (SetWithBits C)) (old new : C →
       Option (RecordView C S)) (cooldowns cooldowns2 : C → Option Cooldown) →
-      IsWhole cmp max limit window old cooldowns →
+      IsWhole cmp max limit me window old cooldowns →
       ((q : C) → new q ≡ option_map (with_cooldown (cooldowns2 q)) (old q)) →
-      IsWhole cmp max limit window new cooldowns2
+      IsWhole cmp max limit me window new cooldowns2
   cooled_anew max limit window old new cooldowns cooldowns2 was change = record {
     whole =
         changed_with_bits cmp max limit window window old new was.whole

@@ -1,8 +1,7 @@
 -- The moments of blocks in order: they stay those of the blocks as blocks come and go.
-use Rattle.std.proofs.Common.{◌≡◌, ℕ, suc, ◌+◌, ◌≤◌, ◌<◌, ◌⊎◌, Bool, true, false, ◌&&◌, cond, not}
-use Rattle.std.proofs.Common.{nat_lt, nat_eq, List, [], ◌∷◌, filter, length, Option, Some, None}
+use Rattle.std.proofs.Common.{◌≡◌, ℕ, suc, ◌+◌, ◌≤◌, ◌<◌, Bool, true, false, ◌&&◌, cond, not}
+use Rattle.std.proofs.Common.{nat_lt, nat_le, nat_eq, List, [], ◌∷◌, filter, length, Option, Some, None}
 use Rattle.std.proofs.Common.{refl, sym, ◌∙◌, ap, arith}
-use mathlib.Core.Logic.{inl, inr}
 use Rattle.std.specs.Prelude.{IsSome, is_some, ◌↔◌}
 use Rattle.std.specs.declared.cmp.Ordering.{Ordering}
 use Rattle.std.specs.declared.cmp.Ordering.TheVariants.{Less, Equal, Greater}
@@ -24,7 +23,8 @@ use Rattle.std.proofs.lemmas.Map.Entries.{none_past_head}
 use Rattle.std.proofs.lemmas.Map.Keys.{sorted_tail, IsDistinct-from_sorted}
 use Rattle.std.proofs.lemmas.Map.Lookups.{CmpEqualImpliesEq}
 use Rattle.std.proofs.lemmas.Map.Views.{tells_apart}
-use Rattle.p2p_tracker.specs.Blocks.{in_nanos, is_later, unblock_in, IsLeastBlock}
+use Rattle.p2p_tracker.specs.Blocks.{in_nanos, is_later, unblock_in}
+use Rattle.p2p_tracker.specs.Lists.{IsLeastOf}
 use Rattle.p2p_tracker.specs.Private.Ends.{end_cmp, AreEnds}
 use Rattle.p2p_tracker.proofs.SetsAndRecords.Blocks.{lookup-in_nanos}
 
@@ -61,6 +61,16 @@ tied cmp m n p q = go (nat_lt m n) refl (nat_eq m n) refl
     go true e false f = refl
     go false e true f = refl
     go false e false f = refl
+
+-- an end that is not before another has no lesser moment
+pub not_before : {C : Type 0} (cmp : C → C → Ordering) (e f : ℕ × C) → is_gt (end_cmp cmp e f) ≡ false → e.0 ≤ f.0
+not_before cmp e f low = go (nat_lt e.0 f.0) refl (nat_eq e.0 f.0) refl low
+  where
+    go : (a : Bool) → nat_lt e.0 f.0 ≡ a → (b : Bool) → nat_eq e.0 f.0 ≡ b →
+        is_gt (ordering_then (cond a Less (cond b Equal Greater)) (cmp e.1 f.1)) ≡ false → e.0 ≤ f.0
+    go true g b h l = grind (arith, nat_tests)
+    go false g true h l = grind (arith, nat_tests)
+    go false g false h l = absurd cc
 
 module _ {C : Type 0} {cmp : C → C → Ordering} (exact : CmpEqualImpliesEq cmp) where
   abbrev Has : List (ℕ × C) → ℕ → C → Bool
@@ -186,20 +196,11 @@ module _ {C : Type 0} {cmp : C → C → Ordering} (exact : CmpEqualImpliesEq cm
   pub first_is_least : (ends : List (ℕ × C)) (blocks : List (C × ℕ)) (e : ℕ × C) → AreEnds cmp ends blocks →
       list_any (is_at (end_cmp cmp e)) ends ≡ true →
       ((f : ℕ × C) → list_any (is_at (end_cmp cmp f)) ends ≡ true → is_gt (end_cmp cmp e f) ≡ false) →
-      IsLeastBlock cmp blocks (e.1, e.0)
-  first_is_least ends blocks e are has least =
-      (end_is ends blocks e are has, λ q n found. go q n (least (n, q) (end_of ends blocks q n are found)))
-    where
-      go : (q : C) (n : ℕ) → is_gt (end_cmp cmp e (n, q)) ≡ false →
-          (e.0 < n) ⊎ ((e.0 ≡ n) × (is_gt (cmp e.1 q) ≡ false))
-      go q n low = by (nat_lt e.0 n) refl (nat_eq e.0 n) refl low
-        where
-          by : (a : Bool) → nat_lt e.0 n ≡ a → (b : Bool) → nat_eq e.0 n ≡ b →
-              is_gt (ordering_then (cond a Less (cond b Equal Greater)) (cmp e.1 q)) ≡ false →
-              (e.0 < n) ⊎ ((e.0 ≡ n) × (is_gt (cmp e.1 q) ≡ false))
-          by true f b g l = inl (grind (arith, nat_tests))
-          by false f true g l = inr (grind (arith, nat_tests), l)
-          by false f false g l = absurd cc
+      IsLeastOf (unblock_in cmp blocks) (Some e.0)
+  first_is_least ends blocks e are has least = (
+    (e.1, end_is ends blocks e are has),
+    λ q n found. not_before cmp e (n, q) (least (n, q) (end_of ends blocks q n are found)),
+  )
 
 -- with no end there is no block
 pub no_ends : {C : Type 0} {cmp : C → C → Ordering} → IsTotalOrder cmp →
@@ -342,12 +343,56 @@ pub none_first : {A B : Type 0} (o : Option B) (xs : List A) → o ≡ None → 
 none_first o [] e some = refl
 none_first o (x ∷ xs) e some = absurd (let f = sym (ap is_some e) ∙ some.1 (omega arith) in cc)
 
--- an end that is not before another has no lesser moment
-pub not_before : {C : Type 0} (cmp : C → C → Ordering) (e f : ℕ × C) → is_gt (end_cmp cmp e f) ≡ false → e.0 ≤ f.0
-not_before cmp e f low = go (nat_lt e.0 f.0) refl (nat_eq e.0 f.0) refl low
-  where
-    go : (a : Bool) → nat_lt e.0 f.0 ≡ a → (b : Bool) → nat_eq e.0 f.0 ≡ b →
-        is_gt (ordering_then (cond a Less (cond b Equal Greater)) (cmp e.1 f.1)) ≡ false → e.0 ≤ f.0
-    go true g b h l = grind (arith, nat_tests)
-    go false g true h l = grind (arith, nat_tests)
-    go false g false h l = absurd cc
+-- THE LEAST MOMENT
+
+-- before the least nothing ends
+pub none_ended : {C : Type 0} (moment : C → Option ℕ) (least : Option ℕ) (now : ℕ) → IsLeastOf moment least →
+    option_map_or (λ m. nat_le m now) least false ≡ false → (q : C) (n : ℕ) → moment q ≡ Some n → now < n
+none_ended moment None now is later q n found = absurd (let none = sym (is q) ∙ found in cc)
+none_ended moment (Some m) now is later q n found = let low = is.1 q n found in grind (arith, nat_tests)
+
+module _ {C : Type 0} {cmp : C → C → Ordering} (exact : CmpEqualImpliesEq cmp) (total : IsTotalOrder cmp)
+    (old new : List (C × ℕ)) (key : C) (m : ℕ)
+    (put : (q : C) → unblock_in cmp new q ≡ cond (is_at (cmp key) q) (Some m) (unblock_in cmp old q)) where
+  -- a moment that is no later than the least before is the least
+  pub least_new : (least : Option ℕ) → IsLeastOf (unblock_in cmp old) least →
+      option_map_or (λ l. nat_lt l m) least false ≡ false → IsLeastOf (unblock_in cmp new) (Some m)
+  least_new least was low = (
+    (key, put key ∙ ap (λ o. cond (is_eq o) (Some m) (unblock_in cmp old key)) (tied_itself total key)),
+    λ q n found. by q n (is_at (cmp key) q) (sym (put q) ∙ found),
+  )
+    where
+      other : (least : Option ℕ) → IsLeastOf (unblock_in cmp old) least →
+          option_map_or (λ l. nat_lt l m) least false ≡ false → (q : C) (n : ℕ) → unblock_in cmp old q ≡ Some n → m ≤ n
+      other None was low q n found = absurd (let none = sym (was q) ∙ found in cc)
+      other (Some l) was low q n found = let above = was.1 q n found in grind (arith, nat_tests)
+
+      by : (q : C) (n : ℕ) (here : Bool) → cond here (Some m) (unblock_in cmp old q) ≡ Some n → m ≤ n
+      by q n true found = let same : m ≡ n = cc in omega arith
+      by q n false found = other least was low q n found
+
+  -- the least before stays so, where the moment is later and the key had another
+  pub least_stays : (least before : Option ℕ) → IsLeastOf (unblock_in cmp old) least →
+      option_map_or (λ l. nat_lt l m) least false ≡ true → before ≡ unblock_in cmp old key →
+      option_map_or (λ b. option_map_or (nat_eq b) least false) before false ≡ false →
+      IsLeastOf (unblock_in cmp new) least
+  least_stays None before was late had other = absurd cc
+  least_stays (Some l) before was late had other = (
+    (was.0.0, put was.0.0 ∙ at (is_at (cmp key) was.0.0) refl),
+    λ q n found. by q n (is_at (cmp key) q) (sym (put q) ∙ found),
+  )
+    where
+      differs : (o : Option ℕ) → option_map_or (λ b. option_map_or (nat_eq b) (Some l) false) o false ≡ false →
+          o ≡ Some l → ⊥
+      differs None other is = absurd cc
+      differs (Some b) other is = let same : b ≡ l = cc in let yes : nat_eq b l ≡ true = grind (arith, nat_tests) in
+          let no = sym yes ∙ other in absurd cc
+
+      at : (here : Bool) → is_at (cmp key) was.0.0 ≡ here → cond here (Some m) (unblock_in cmp old was.0.0) ≡ Some l
+      at true is = absurd (differs before other (had ∙ ap (unblock_in cmp old) (tells_apart exact key was.0.0 is)
+          ∙ was.0.1))
+      at false is = was.0.1
+
+      by : (q : C) (n : ℕ) (here : Bool) → cond here (Some m) (unblock_in cmp old q) ≡ Some n → l ≤ n
+      by q n true found = let same : m ≡ n = cc in grind (arith, nat_tests)
+      by q n false found = was.1 q n found

@@ -76,11 +76,10 @@ module _ {C S : Type 0} (cmp : C → C → Ordering) where
       go None = refl
       go (Some r) = refl
 
-  own_with_sets : (sets : List (SetAt C)) (cooldowns : C → Option Cooldown)
-      (old new : C → Option (RecordView C S)) → HasOwn cmp old →
-      ((q : C) → new q ≡ record_with_sets cmp sets (cooldowns q) q (old q)) → HasOwn cmp new
+  own_with_sets : {me : C} (sets : List (SetAt C)) (cooldowns : C → Option Cooldown)
+      (old new : C → Option (RecordView C S)) → HasOwn cmp me old →
+      ((q : C) → new q ≡ record_with_sets cmp sets (cooldowns q) q (old q)) → HasOwn cmp me new
   own_with_sets sets cooldowns old new was is = record {
-    own = was.own;
     is_own = λ q. ap (λ o. option_map_or (λ r. is_myself r.address) o false) (is q)
         ∙ own_unless (counted q (old q)) (lasts q (old q) (was.persists q)) ∙ before q (old q) ∙ was.is_own q;
     persists = λ q. subst (λ o. IfSome o (λ r. is_myself r.address ≡ true → r.persistent ≡ true)) (sym (is q))
@@ -107,23 +106,23 @@ module _ {C S : Type 0} (cmp : C → C → Ordering) where
       persists (Some r) sound = sound.1
 
   -- A TRACK, from its parts: made is the set with no bit, window1 the sets with it
-  pub record IsTaken (max limit : ℕ) (window window2 : List (SetWithBits C)) (set : SetAt C)
+  pub record IsTaken (max limit : ℕ) (me : C) (window window2 : List (SetWithBits C)) (set : SetAt C)
       (cooldowns : C → Option Cooldown) (old new : C → Option (RecordView C S)) (torn : List C) : Type 0 where
-    pub invariant : IsInvariant cmp max limit window2 new
+    pub invariant : IsInvariant cmp max limit me window2 new
     pub kept : plain_sets window2 ≡ last_of max (plain_sets window ++ set ∷ [])
     pub records : (q : C) → new q ≡ record_with_sets cmp (plain_sets window2) (cooldowns q) q (old q)
     pub torn_down : (q : C) → has_key cmp torn q ≡ (is_connectable cmp (old q) && not (option_map_or is_eligible (new q) false))
 
-  pub taken_window : IsTotalOrder cmp →
+  pub taken_window : {me : C} → IsTotalOrder cmp →
       (max max2 limit : ℕ) (window window1 window2 : List (SetWithBits C)) (set : SetAt C) (made : SetWithBits C)
       (cooldowns : C → Option Cooldown) (old mid new : C → Option (RecordView C S)) (torn : List C) →
       max2 ≡ max → made ≡ set_with_bits (λ q. false) set →
       window1 ≡ window ++ set_with_bits (λ q. is_known limit (old q)) (plain_set made) ∷ [] →
       window2 ≡ newest_sets max2 window1 →
-      IsInvariant cmp max limit window old → AreRolesDisjoint cmp (plain_set made) →
+      IsInvariant cmp max limit me window old → AreRolesDisjoint cmp (plain_set made) →
       ((q : C) → mid q ≡ record_joining cmp (plain_set made) (cooldowns q) q (old q)) →
       DropsOldest cmp max2 (plain_sets window1) mid new torn →
-      IsTaken max limit window window2 set cooldowns old new torn
+      IsTaken max limit me window window2 set cooldowns old new torn
   taken_window total max max2 limit window window1 window2 set made cooldowns old mid new torn same_max is came went was disjoint joins drops = record {
     invariant = record {
       counts = whole.consistent;

@@ -145,9 +145,8 @@ module _ {C S : Type 0} (cmp : C → C → Ordering) where
     pub max_positive : 0 < max
     pub max_in_range : max < 2 ^ 64 - 1
 
-  -- one peer alone has the record of the local node, and that record is persistent
-  pub record HasOwn (record_at : C → Option (RecordView C S)) : Type 0 where
-    pub own : C
+  -- this peer alone has the record of the local node, and that record is persistent
+  pub record HasOwn (own : C) (record_at : C → Option (RecordView C S)) : Type 0 where
     pub is_own : (q : C) →
         option_map_or (λ r. is_myself r.address) (record_at q) false ≡ is_at (cmp own) q
     pub persists : (q : C) →
@@ -160,10 +159,10 @@ module _ {C S : Type 0} (cmp : C → C → Ordering) where
       window ≡ sets_with_bits (λ q. is_known limit (record_at q)) (plain_sets window)
 
   -- what holds of sets and records between calls
-  pub record IsInvariant (max limit : ℕ) (window : List (SetWithBits C))
+  pub record IsInvariant (max limit : ℕ) (me : C) (window : List (SetWithBits C))
       (record_at : C → Option (RecordView C S)) : Type 0 where
     pub counts : IsConsistent max (plain_sets window) record_at
-    pub own : HasOwn record_at
+    pub own : HasOwn me record_at
     pub bits : AreMarked limit window record_at
 
   -- each record has the moments that are kept of its peer, or the epoch where none are
@@ -179,7 +178,7 @@ module _ {C S : Type 0} (cmp : C → C → Ordering) where
       (option_map (with_cooldown None)) o
 
   -- what holds of a directory between calls
-  pub record IsWhole (max limit : ℕ) (window : List (SetWithBits C))
+  pub record IsWhole (max limit : ℕ) (me : C) (window : List (SetWithBits C))
       (record_at : C → Option (RecordView C S)) (cooldown_at : C → Option Cooldown) : Type 0 where
-    pub whole : IsInvariant max limit window record_at
+    pub whole : IsInvariant max limit me window record_at
     pub cooled : AreCooled record_at cooldown_at

@@ -4,7 +4,8 @@ ghost use Rattle.std.specs.Prelude.{◌≡◌, ◌+◌, true, false, IfOk, OnErr
 ghost use Rattle.std.specs.Duration.{as_nanos};
 ghost use Rattle.std.specs.List.{filter, list_any};
 ghost use Rattle.std.specs.Map.{keys_of};
-ghost use Rattle.std.specs.Option.{option_map};
+ghost use Rattle.std.specs.Option.{option_map, option_map_or};
+ghost use Rattle.p2p_tracker.specs.Record.{is_myself};
 ghost use Rattle.p2p_tracker.specs.World.{is_blocked};
 ghost use Rattle.p2p_tracker.specs.Lists.{Lists, Somebody};
 ghost use Rattle.p2p_tracker.specs.Blocks.{in_nanos, is_later, unblock_in};
@@ -15,13 +16,14 @@ use crate::kept::blocks::Blocks;
 use p2p_discovery::codec::PublicKey;
 use p2p_discovery::sets::OrderedSet;
 use std::alloc::{AllocError, Global};
+use std::cmp::Ordering;
 use std::collections::btree_map;
 use std::time::Duration;
 
 impl<C: PublicKey> Directory<C> {
     ghost use Rattle.p2p_tracker.specs.Blocks.{IsAnyUntil};
     ghost use Rattle.p2p_tracker.specs.Directory.{is_blocked_in, may_block};
-    ghost use Rattle.p2p_tracker.specs.Seen.{unblock_of};
+    ghost use Rattle.p2p_tracker.specs.Seen.{record_of, unblock_of};
     ghost use Rattle.p2p_tracker.specs.Directory.{BlocksUntil, EndsBlocks};
     ghost use Rattle.p2p_tracker.specs.Directory.{StayBusy, StayReserved};
     ghost use Rattle.p2p_tracker.specs.Lists.{IsLeastOf};
@@ -41,9 +43,9 @@ impl<C: PublicKey> Directory<C> {
     ///
     /// # Cost
     ///
-    /// One search among the records, and for another than the local node one among the blocks.
-    /// Where the block is taken one more among the blocks, and one among their moments, or two where
-    /// another moment was kept of the peer.
+    /// Constant for the local node, and for another peer one search among the blocks. Where the
+    /// block is taken one more among the blocks, and one among their moments, or two where another
+    /// moment was kept of the peer, and one more of each where that was the least.
     pub fn block(&mut self, peer: &C, now: Duration) -> Result<bool, AllocError>
         ensures err { OnErr result (self.new ≡ self.old) }
         ensures untaken { may_block C.cmp self.old (as_nanos now) peer.now ≡ false →
@@ -56,7 +58,7 @@ impl<C: PublicKey> Directory<C> {
         ensures busy { StayBusy C.cmp self.old self.new }
         ensures reserved { StayReserved C.cmp self.old self.new }
     {
-        if !self.records.is_blockable(peer) || self.is_blocked(peer, now) {
+        if self.is_own(peer) || self.is_blocked(peer, now) {
             return Ok(false);
         }
         let until = now.saturating_add(self.config.block_duration);
@@ -69,8 +71,8 @@ impl<C: PublicKey> Directory<C> {
     ///
     /// # Cost
     ///
-    /// One step to the first of the moments, and for each block that ends one removal there and one
-    /// among the blocks.
+    /// Constant where none ends. Else for each block that ends one removal of the first of their
+    /// moments and one among the blocks, and one search among these for the least that is left.
     pub fn unblock_expired(&mut self, now: Duration) -> bool
         ensures answer { IsAnyUntil (unblock_of C.cmp self.old) (as_nanos now) result }
         ensures ended { EndsBlocks C.cmp self.old self.new (as_nanos now) }
@@ -86,14 +88,11 @@ impl<C: PublicKey> Directory<C> {
     ///
     /// # Cost
     ///
-    /// One step to the first of the moments, and one search among the blocks.
+    /// Constant.
     pub fn next_unblock(&self) -> Option<Duration>
         ensures { IsLeastOf (unblock_of C.cmp self.now) (option_map as_nanos result) }
     {
-        match self.blocks.least() {
-            Some((_, moment)) => Some(moment),
-            None => None,
-        }
+        self.blocks.least()
     }
 
     /// The peers that are blocked at the moment `now`, a time since the epoch: those whose block
@@ -111,6 +110,14 @@ impl<C: PublicKey> Directory<C> {
         ensures err { OnErr result (Somebody (is_blocked_in C.cmp self.now (as_nanos now))) }
     {
         blocked_at(self.alloc, &self.blocks, now)
+    }
+
+    // Whether the peer is the local node.
+    fn is_own(&self, peer: &C) -> bool
+        ensures { result ≡ option_map_or (λ r. is_myself r.address)
+            (record_of C.cmp self.now peer.now) false }
+    {
+        self.own.cmp(peer) == Ordering::Equal
     }
 }
 

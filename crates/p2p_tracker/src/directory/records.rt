@@ -122,17 +122,6 @@ impl<C: PublicKey> Records<C> {
         }
     }
 
-    /// Whether the peer may be blocked: it is not the local node.
-    pub fn is_blockable(&self, peer: &C) -> bool
-        ensures { result ≡ not (option_map_or (λ r. is_myself r.address)
-            (record_at C.cmp self.now peer.now) false) }
-    {
-        match self.map.get(peer) {
-            Some(found) => found.is_blockable(),
-            None => true,
-        }
-    }
-
     /// Ends the reservation of its peer, and takes out the record where it is deletable then. Says
     /// whether the peer's info is known, and not wanted.
     pub fn release(&mut self, metadata: &Metadata<C>, limit: usize) -> Known

@@ -1,16 +1,18 @@
 //! Until when the blocks of peers hold.
 
 ghost use Rattle.std.specs.Prelude.{ℕ, ◌≡◌, ◌≤◌, ◌<◌, [], length, not, true, false, if◌then◌else◌};
-ghost use Rattle.std.specs.Prelude.{IfNone, IfSome, OnErr, OnOk, Some};
+ghost use Rattle.std.specs.Prelude.{nat_lt, nat_le, nat_eq};
+ghost use Rattle.std.specs.Prelude.{IfNone, IfOk, IfSome, OnErr, OnOk, Some};
 ghost use Rattle.std.specs.Duration.{as_nanos};
 ghost use Rattle.std.specs.List.{filter, count_by};
 ghost use Rattle.std.specs.List.Sorted.{IsStrictlySortedBy};
 ghost use Rattle.std.specs.Map.{keys_of};
 ghost use Rattle.std.specs.BTreeMap.{is_at};
 ghost use Rattle.std.specs.BTreeSet.{contains};
-ghost use Rattle.std.specs.Option.{option_map};
-ghost use Rattle.p2p_tracker.specs.Blocks.{in_nanos, is_later, unblock_in, IsLeastBlock};
-ghost use Rattle.p2p_tracker.specs.Private.Ends.{end_cmp, AreEnds};
+ghost use Rattle.std.specs.Option.{option_map, option_map_or};
+ghost use Rattle.p2p_tracker.specs.Blocks.{in_nanos, is_later, unblock_in};
+ghost use Rattle.p2p_tracker.specs.Lists.{IsLeastOf};
+ghost use Rattle.p2p_tracker.specs.Private.Ends.{end_cmp, AreEnds, AreKept};
 
 use crate::kept::forget;
 use p2p_discovery::codec::PublicKey;
@@ -25,18 +27,23 @@ use std::time::Duration;
 pub struct Blocks<C: PublicKey> {
     moments: BTreeMap<C, Duration>,
     ends: BTreeSet<(u128, C)>,
+    // The least moment.
+    least: Option<Duration>,
 }
 
 impl<C: PublicKey> Model for Blocks<C> {
     ghost use Rattle.std.specs.Prelude.{ℕ, List};
+    ghost use Rattle.std.specs.Duration.{as_nanos};
+    ghost use Rattle.std.specs.Option.{option_map};
     ghost use Rattle.p2p_tracker.specs.Blocks.{in_nanos};
-    ghost use Rattle.p2p_tracker.specs.Private.Ends.{AreEnds};
+    ghost use Rattle.p2p_tracker.specs.Private.Ends.{AreKept};
 
     ghost Value = { List (C × ℕ) };
 
     ghost view = { λ b. in_nanos b.moments.entries };
 
-    ghost invariant = { λ b. AreEnds C.cmp b.ends.keys (in_nanos b.moments.entries) };
+    ghost invariant = { λ b.
+        AreKept C.cmp b.ends.keys (in_nanos b.moments.entries) (option_map as_nanos b.least) };
 }
 
 impl<C: PublicKey> Blocks<C> {
@@ -47,6 +54,7 @@ impl<C: PublicKey> Blocks<C> {
         Blocks {
             moments: BTreeMap::new(alloc),
             ends: BTreeSet::new(alloc),
+            least: None,
         }
     }
 
@@ -58,15 +66,21 @@ impl<C: PublicKey> Blocks<C> {
     ///
     /// # Cost
     ///
-    /// One search among the blocks and one among the moments, and one more there where the peer had
-    /// another moment or memory is refused.
+    /// One search among the blocks and one among the moments, one more there where the peer had
+    /// another moment or memory is refused, and one more of each where that was the least.
     pub fn put(&mut self, key: C, moment: Duration) -> Result<(), AllocError>
         ensures err { OnErr result (self.new ≡ self.old) }
         ensures ok { OnOk result ((q : C) → unblock_in C.cmp self.new q ≡
             (if is_at (C.cmp key) q then Some (as_nanos moment)
             else unblock_in C.cmp self.old q)) }
     {
-        put_end(&mut self.moments, &mut self.ends, key, moment)
+        put_block(
+            &mut self.moments,
+            &mut self.ends,
+            &mut self.least,
+            key,
+            moment,
+        )
     }
 
     /// The moment of the peer, or `None` where it has none. Takes no memory.
@@ -80,17 +94,15 @@ impl<C: PublicKey> Blocks<C> {
         self.moments.get(key).copied()
     }
 
-    /// The least moment with its peer, of equal moments the one with the least key; `None` exactly
-    /// where there is no block. Takes no memory.
+    /// The least moment, or `None` where there is no block. Takes no memory.
     ///
     /// # Cost
     ///
-    /// One step to the first of the moments, and one search among the blocks.
-    pub fn least(&self) -> Option<(C, Duration)>
-        ensures none { IfNone result (self.now ≡ []) }
-        ensures least { IfSome result (λ e. IsLeastBlock C.cmp self.now (e.0, as_nanos e.1)) }
+    /// Constant.
+    pub fn least(&self) -> Option<Duration>
+        ensures { IsLeastOf (unblock_in C.cmp self.now) (option_map as_nanos result) }
     {
-        first_to_end(&self.moments, &self.ends)
+        self.least
     }
 
     /// Takes out each peer whose moment is at or before `now`, a time since the epoch, and answers
@@ -98,15 +110,15 @@ impl<C: PublicKey> Blocks<C> {
     ///
     /// # Cost
     ///
-    /// One step to the first of the moments, and for each block that ends one removal there and one
-    /// among the blocks.
+    /// Constant where there is none. Else for each such peer one removal of the first of the moments
+    /// and one among the blocks, and one search among these for the least that is left.
     pub fn drop_until(&mut self, now: Duration) -> usize
         ensures sorted { IsStrictlySortedBy C.cmp (keys_of self.old) }
         ensures left { self.new ≡ filter (is_later (as_nanos now)) self.old }
         ensures count { result ≡ count_by (λ e. not (is_later (as_nanos now) e)) self.old }
     {
         let _moments = self.moments.len();
-        drop_ended(&mut self.moments, &mut self.ends, now)
+        drop_ended(&mut self.moments, &mut self.ends, &mut self.least, now)
     }
 
     /// The peers in ascending order of their keys, each with its moment. Takes no memory.
@@ -118,14 +130,68 @@ impl<C: PublicKey> Blocks<C> {
     }
 }
 
-// Gives the key this moment in both. Where memory is refused both have the same pairs as before.
+// Gives the key this moment, and sets the least one anew where it is another then.
+fn put_block<C: PublicKey>(
+    moments: &mut BTreeMap<C, Duration>,
+    ends: &mut BTreeSet<(u128, C)>,
+    least: &mut Option<Duration>,
+    key: C,
+    moment: Duration,
+) -> Result<(), AllocError>
+    requires { AreKept C.cmp ends.old.keys (in_nanos moments.old.entries)
+        (option_map as_nanos least.old) }
+    ensures kept { AreKept C.cmp ends.new.keys (in_nanos moments.new.entries)
+        (option_map as_nanos least.new) }
+    ensures err { OnErr result (moments.new.entries ≡ moments.old.entries) }
+    ensures ok { OnOk result ((q : C) → unblock_in C.cmp (in_nanos moments.new.entries) q ≡
+        (if is_at (C.cmp key) q then Some (as_nanos moment)
+        else unblock_in C.cmp (in_nanos moments.old.entries) q)) }
+{
+    let before = put_end(moments, ends, key, moment)?;
+    if !is_before(*least, moment) {
+        *least = Some(moment);
+        return Ok(());
+    }
+    if !are_equal(before, *least) {
+        return Ok(());
+    }
+    *least = first_to_end(moments, ends);
+    Ok(())
+}
+
+// Whether there is a least moment, and it is before another.
+fn is_before(least: Option<Duration>, moment: Duration) -> bool
+    ensures { result ≡
+        option_map_or (λ m. nat_lt m (as_nanos moment)) (option_map as_nanos least) false }
+{
+    match least {
+        Some(first) => first.as_nanos() < moment.as_nanos(),
+        None => false,
+    }
+}
+
+// Whether there are two moments, and they are equal.
+fn are_equal(a: Option<Duration>, b: Option<Duration>) -> bool
+    ensures { result ≡ option_map_or (λ m. option_map_or (nat_eq m) (option_map as_nanos b) false)
+        (option_map as_nanos a) false }
+{
+    match (a, b) {
+        (Some(a), Some(b)) => a.as_nanos() == b.as_nanos(),
+        _ => false,
+    }
+}
+
+// Gives the key this moment in both, and answers the one that it had. Where memory is refused both
+// have the same pairs as before.
 fn put_end<C: PublicKey>(
     moments: &mut BTreeMap<C, Duration>,
     ends: &mut BTreeSet<(u128, C)>,
     key: C,
     moment: Duration,
-) -> Result<(), AllocError>
+) -> Result<Option<Duration>, AllocError>
     requires { AreEnds C.cmp ends.old.keys (in_nanos moments.old.entries) }
+    ensures before { IfOk result (λ before. option_map as_nanos before ≡
+        unblock_in C.cmp (in_nanos moments.old.entries) key) }
     ensures ends { AreEnds C.cmp ends.new.keys (in_nanos moments.new.entries) }
     ensures err { OnErr result (moments.new.entries ≡ moments.old.entries) }
     ensures ok { OnOk result ((q : C) → unblock_in C.cmp (in_nanos moments.new.entries) q ≡
@@ -141,9 +207,9 @@ fn put_end<C: PublicKey>(
             if before.as_nanos() != moment.as_nanos() {
                 ends.remove(&(before.as_nanos(), key));
             }
-            Ok(())
+            Ok(Some(before))
         }
-        Ok(None) => Ok(()),
+        Ok(None) => Ok(None),
         Err(refused) => {
             ends.remove(&(moment.as_nanos(), key));
             forget(refused);
@@ -152,26 +218,22 @@ fn put_end<C: PublicKey>(
     }
 }
 
-// The least moment with its key, of equal moments the one of the least key.
+// The least moment.
 fn first_to_end<C: PublicKey>(
     moments: &BTreeMap<C, Duration>,
     ends: &BTreeSet<(u128, C)>,
-) -> Option<(C, Duration)>
+) -> Option<Duration>
     requires { AreEnds C.cmp ends.now.keys (in_nanos moments.now.entries) }
-    ensures none { IfNone result (moments.now.entries ≡ []) }
-    ensures least { IfSome result (λ e.
-        IsLeastBlock C.cmp (in_nanos moments.now.entries) (e.0, as_nanos e.1)) }
+    ensures { IsLeastOf (unblock_in C.cmp (in_nanos moments.now.entries))
+        (option_map as_nanos result) }
 {
     let (_, key) = ends.first()?;
     let moment = moments.get(key)?;
-    Some((*key, *moment))
+    Some(*moment)
 }
 
 // Takes the first of the ends, where it is at or before `now`.
-pub(crate) fn take_ended<C: PublicKey>(
-    ends: &mut BTreeSet<(u128, C)>,
-    now: Duration,
-) -> Option<(u128, C)>
+fn take_ended<C: PublicKey>(ends: &mut BTreeSet<(u128, C)>, now: Duration) -> Option<(u128, C)>
     ensures some { IfSome result (λ end. (end.0 ≤ as_nanos now)
         × (contains (end_cmp C.cmp) ends.old end ≡ true)
         × ((e : ℕ × C) → contains (end_cmp C.cmp) ends.new e ≡
@@ -187,8 +249,45 @@ pub(crate) fn take_ended<C: PublicKey>(
     }
 }
 
-// Takes out each pair whose moment is at or before `now`, and answers how many there were.
+// Takes out each block whose moment is at or before `now`, and answers how many there were.
 fn drop_ended<C: PublicKey>(
+    moments: &mut BTreeMap<C, Duration>,
+    ends: &mut BTreeSet<(u128, C)>,
+    least: &mut Option<Duration>,
+    now: Duration,
+) -> usize
+    requires { AreKept C.cmp ends.old.keys (in_nanos moments.old.entries)
+        (option_map as_nanos least.old) }
+    ensures kept { AreKept C.cmp ends.new.keys (in_nanos moments.new.entries)
+        (option_map as_nanos least.new) }
+    ensures left { in_nanos moments.new.entries ≡
+        filter (is_later (as_nanos now)) (in_nanos moments.old.entries) }
+    ensures count { result ≡
+        count_by (λ e. not (is_later (as_nanos now) e)) (in_nanos moments.old.entries) }
+{
+    // For the proof: the clauses of `len` say that the keys are in order.
+    let _most = moments.len();
+    if !has_ended(*least, now) {
+        return 0;
+    }
+    let count = take_each(moments, ends, now);
+    *least = first_to_end(moments, ends);
+    count
+}
+
+// Whether there is a least moment, and it is at or before `now`.
+fn has_ended(least: Option<Duration>, now: Duration) -> bool
+    ensures { result ≡
+        option_map_or (λ m. nat_le m (as_nanos now)) (option_map as_nanos least) false }
+{
+    match least {
+        Some(first) => first.as_nanos() <= now.as_nanos(),
+        None => false,
+    }
+}
+
+// Takes out each pair whose moment is at or before `now`, and answers how many there were.
+fn take_each<C: PublicKey>(
     moments: &mut BTreeMap<C, Duration>,
     ends: &mut BTreeSet<(u128, C)>,
     now: Duration,

@@ -46,8 +46,8 @@ invariant_of-self g c =
     let max = non_zero_usize_get c.self.inside.config.max_sets in
     let limit = c.self.inside.config.dial_fail_limit in
     let cooldowns = cooldown_in cmp c.self.inside.cooldowns in
-    subst (λ rs. IsWhole cmp max limit c.add.new.sets (record_at cmp rs) cooldowns) (sym (same g c))
-    (subst (λ sets. IsWhole cmp max limit sets (record_at cmp c.self.inside.records) cooldowns) (sym c.in_err-add.ensures.sets) c.self.invariant)
+    subst (λ rs. IsWhole cmp max limit c.self.inside.own c.add.new.sets (record_at cmp rs) cooldowns) (sym (same g c))
+    (subst (λ sets. IsWhole cmp max limit c.self.inside.own sets (record_at cmp c.self.inside.records) cooldowns) (sym c.in_err-add.ensures.sets) c.self.invariant)
 
 on_err : {A E P : Type 0} (r : Result A E) → P → OnErr r P
 on_err (Ok x) h = tt
@@ -84,7 +84,7 @@ returns-in_err-add-clause-reserved g c = λ q h. status_same g c is_reserved q �
 -- a set was taken
 taken : (g : _) (c : goal.After-drop_oldest g) →
     IsTaken g.C.Ord.cmp (non_zero_usize_get c.self.inside.config.max_sets) c.self.inside.config.dial_fail_limit
-    c.self.inside.sets c.drop_oldest.new.sets
+    c.self.inside.own c.self.inside.sets c.drop_oldest.new.sets
     (set_of g.C.Ord.cmp c.args.index c.args.peers.primary c.args.peers.secondary)
     (cooldown_in g.C.Ord.cmp c.self.inside.cooldowns) (record_at g.C.Ord.cmp c.self.inside.records)
     (record_at g.C.Ord.cmp c.drop_oldest.new.records) c.drop_oldest.result

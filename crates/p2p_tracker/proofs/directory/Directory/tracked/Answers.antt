@@ -11,14 +11,14 @@ pub overflow_sub-result : goal.overflow_sub-result
 overflow_sub-result g c =
     let all = one_passes g.met.C.Ord.total g.met.C.PublicKey.exact
     (λ (r : RecordView g.row.C.Denot g.row.C-Signature.Denot). is_myself r.address)
-    c.self.invariant.whole.own.own c.self.inside.records c.len.ensures.sorted
+    c.self.inside.own c.self.inside.records c.len.ensures.sorted
     c.self.invariant.whole.own.is_own in
     omega (arith, all, c.len.ensures.count)
 
 pub returns-clause-count : goal.returns-clause-count
 returns-clause-count g c =
     let own : RecordView g.row.C.Denot g.row.C-Signature.Denot → _ = λ r. is_myself r.address in
-    let all = one_passes g.met.C.Ord.total g.met.C.PublicKey.exact own c.self.invariant.whole.own.own
+    let all = one_passes g.met.C.Ord.total g.met.C.PublicKey.exact own c.self.inside.own
     c.self.inside.records c.len.ensures.sorted c.self.invariant.whole.own.is_own in
     let counted = length-keys_of (filter (λ e. not (own e.1)) c.self.inside.records) in
     omega (arith, all, c.len.ensures.count, counted)

@@ -2,20 +2,20 @@ use Rattle.std.proofs.Common.{◌≡◌, ap, sym, ◌∙◌}
 use Rattle.std.specs.BTreeMap.{is_at}
 use Rattle.std.specs.Duration.{as_nanos}
 use Rattle.std.specs.Option.{option_map, option_copied}
-use Rattle.p2p_tracker.specs.Blocks.{in_nanos}
+use Rattle.p2p_tracker.specs.Blocks.{in_nanos, unblock_in}
 use Rattle.p2p_tracker.proofs.SetsAndRecords.Blocks.{lookup-in_nanos}
 use Rattle.p2p_tracker.proofs.SetsAndRecords.Ends.{end_is, no_ends, none_first, none_in_nanos, first_is_least}
 use Rattle.p2p_tracker.proofs.kept.blocks.first_to_end.Goals as goal
 
-pub returns-in_err-key-clause-none : goal.returns-in_err-key-clause-none
-returns-in_err-key-clause-none g c =
+pub returns-in_err-key : goal.returns-in_err-key
+returns-in_err-key g c =
     let es = c.args.moments.now.entries in
     let none = none_first c.first.result c.args.ends.now.keys c.in_err-key.was c.first.ensures.variant in
-    rw c.from_residual.ensures (none_in_nanos es
-    (no_ends g.met.C.Ord.total c.args.ends.now.keys (in_nanos es) c.requires none))
+    let bs = no_ends g.met.C.Ord.total c.args.ends.now.keys (in_nanos es) c.requires none in
+    rw c.from_residual.ensures (λ q. ap (λ ds. unblock_in g.C.Ord.cmp ds q) bs)
 
-pub returns-in_err-moment-clause-none : goal.returns-in_err-moment-clause-none
-returns-in_err-moment-clause-none g c =
+pub returns-in_err-moment : goal.returns-in_err-moment
+returns-in_err-moment g c =
     let es = c.args.moments.now.entries in
     let e = c.in_ok-key.field-0.now in
     let found = end_is g.met.C.PublicKey.exact c.args.ends.now.keys (in_nanos es) e c.requires
@@ -24,8 +24,8 @@ returns-in_err-moment-clause-none g c =
     ∙ ap (option_map as_nanos) (sym c.get.ensures.value ∙ ap option_copied c.in_err-moment.was) in
     absurd (let both = sym found ∙ seen in cc)
 
-pub returns-clause-least : goal.returns-clause-least
-returns-clause-least g c =
+pub returns : goal.returns
+returns g c =
     let cmp = g.C.Ord.cmp in
     let es = c.args.moments.now.entries in
     let e = c.in_ok-key.field-0.now in

@@ -1,9 +1,12 @@
-use Rattle.std.proofs.Common.{refl, ap, sym, ◌∙◌, ◌≡◌, cond, Some, false, nat_eq, arith}
+use Rattle.std.proofs.Common.{refl, ap, sym, ◌∙◌, ◌≡◌, cond, List, Option, Some, false, nat_eq, arith}
+use Rattle.std.specs.declared.cmp.Ordering.{Ordering}
+use Rattle.std.specs.declared.time.Duration.{Duration}
+use Rattle.std.specs.Map.{lookup}
 use Rattle.std.specs.BTreeMap.{is_at}
 use Rattle.std.specs.Duration.{as_nanos}
 use Rattle.std.specs.Option.{option_map}
 use Rattle.std.proofs.lemmas.Bool.Decides.{nat_tests}
-use Rattle.p2p_tracker.specs.Blocks.{in_nanos}
+use Rattle.p2p_tracker.specs.Blocks.{in_nanos, unblock_in}
 use Rattle.p2p_tracker.specs.Private.Ends.{end_cmp}
 use Rattle.p2p_tracker.proofs.SetsAndRecords.Blocks.{unblock_after, lookup-in_nanos}
 use Rattle.p2p_tracker.proofs.SetsAndRecords.Ends.{ends_more, ends_instead, ends_back, same_or_none, same_or_other}
@@ -89,3 +92,21 @@ pub returns-in-Ok-None-clause-ok : goal.returns-in-Ok-None-clause-ok
 returns-in-Ok-None-clause-ok g c =
     unblock_after g.C.Ord.cmp c.args.moments.now.entries c.insert-2.new.self.entries
     (in_nanos c.args.moments.now.entries) c.args.key c.args.moment refl c.in-Ok-None.ensures.updates.0
+
+-- what the key had
+had_before : {C : Type 0} (cmp : C → C → Ordering) (es : List (C × Duration)) (key : C) (got before : Option Duration) →
+    got ≡ lookup (is_at (cmp key)) es → got ≡ before →
+    option_map as_nanos before ≡ unblock_in cmp (in_nanos es) key
+had_before cmp es key got before is same = ap (option_map as_nanos) (sym same ∙ is) ∙ sym (lookup-in_nanos (is_at (cmp key)) es)
+
+pub returns-then-as_nanos-clause-before : goal.returns-then-as_nanos-clause-before
+returns-then-as_nanos-clause-before g c =
+    had_before g.C.Ord.cmp c.args.moments.now.entries c.args.key _ _ c.in-Ok-Some.ensures.old c.in-Ok-Some.field-0-is
+
+pub returns-else-as_nanos-clause-before : goal.returns-else-as_nanos-clause-before
+returns-else-as_nanos-clause-before g c =
+    had_before g.C.Ord.cmp c.args.moments.now.entries c.args.key _ _ c.in-Ok-Some.ensures.old c.in-Ok-Some.field-0-is
+
+pub returns-in-Ok-None-clause-before : goal.returns-in-Ok-None-clause-before
+returns-in-Ok-None-clause-before g c =
+    had_before g.C.Ord.cmp c.args.moments.now.entries c.args.key _ _ c.in-Ok-None.ensures.old c.in-Ok-None.field-0-is

@@ -5,7 +5,7 @@ use Rattle.std.specs.List.Sorted.{IsStrictlySortedBy}
 use Rattle.std.specs.Map.{keys_of}
 use Rattle.p2p_tracker.specs.Blocks.{in_nanos, is_later}
 use Rattle.p2p_tracker.specs.Private.Ends.{AreEnds}
-use Rattle.p2p_tracker.proofs.kept.blocks.drop_ended.Given as goal
+use Rattle.p2p_tracker.proofs.kept.blocks.take_each.Given as goal
 
 -- what is left of both are the same pairs, and those that went are counted
 abbrev pub invariant-loop-end : goal.invariant-loop-end
