@@ -8,8 +8,8 @@ use Rattle.std.specs.declared.cmp.Ordering.{Ordering}
 use Rattle.p2p_discovery.specs.declared.codec.error.CodecError.{CodecError}
 use Rattle.p2p_discovery.specs.declared.discovery.Info.{Info}
 use Rattle.p2p_discovery.specs.declared.discovery.Payload.{Payload}
-use Rattle.p2p_discovery.specs.declared.discovery.Payload.TheVariants as said
 use Rattle.p2p_discovery.specs.declared.discovery.PayloadConfig.{PayloadConfig}
+use Rattle.p2p_discovery.specs.Payload.{infos_of_payload}
 use Rattle.p2p_discovery.specs.Reading.{whole}
 use Rattle.p2p_directory.specs.declared.node.Received.{Received}
 use Rattle.p2p_directory.specs.declared.node.Setup.{Setup}
@@ -54,12 +54,7 @@ are_there size (command.Frame i frame now) = nat_lt i size
 are_there size (command.Exchange asker replier place asker_now replier_now) =
     nat_lt asker size && (nat_lt replier size && not (asker == replier))
 
--- the infos of a payload that a node applies where it accepts them
-abbrev pub infos_of_payload : {C S : Type 0} → Payload C S → List (Info C S)
-infos_of_payload (said.Greeting info) = info ∷ []
-infos_of_payload (said.Peers infos) = infos
-infos_of_payload _ = []
-
+-- the infos of a payload that was read, which a node applies where it accepts them
 abbrev pub infos_of_reading : {C S : Type 0} → Result (Payload C S × List ℕ) CodecError →
     List (Info C S)
 infos_of_reading (Ok x) = infos_of_payload x.0

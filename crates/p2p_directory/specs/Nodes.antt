@@ -27,8 +27,8 @@ use Rattle.p2p_directory.specs.Refinement.{Refines}
 use Rattle.p2p_directory.specs.Run.{settings, call_of, world_after, next, bit_vec_in}
 use Rattle.p2p_directory.specs.Run.{IsAnswer, Holds}
 use Rattle.p2p_directory.specs.Received as frames
-use Rattle.p2p_directory.specs.Received.{Wire, Standing, FrameOutcome, received_at}
-use Rattle.p2p_directory.specs.Received.{frame_may_want_memory}
+use Rattle.p2p_directory.specs.Received.{Wire, Standing, FrameOutcome, received_at, received_by}
+use Rattle.p2p_directory.specs.Received.{frame_may_want_memory, frame_may_want_memory_by}
 use Rattle.p2p_directory.specs.Received.{ask_frame_at, applied_with, told_with}
 
 -- WHAT IS SEEN
@@ -118,16 +118,27 @@ module _ {C S : Type 0} (m : Made C S) where
 
   -- A FRAME
 
-  -- the answer to a frame is that at its point, and the node then stands at the point after the
-  -- update that it made, if it made one
-  pub record IsReceivedAt (wire : Wire C S) (calls : List (Call C S)) (frame : List ℕ) (now : ℕ)
-      (r : Received) (v : NodeView C S) : Type 0 where
+  -- an answer that may be want of memory or not, by how the node stands, is this at its point, and
+  -- the node then stands at the point after the update that it made, if it made one
+  pub record IsAnsweredAt (wire : Wire C S) (calls : List (Call C S)) (may : Standing C S → Bool)
+      (outcome : Standing C S → FrameOutcome C S) (r : Received) (v : NodeView C S) : Type 0 where
     pub answer :
         let node = standing_in wire (world_after m.directory calls) in
-        frames.IsFrameAnswer (frame_may_want_memory wire node frame now)
-        (received_at wire node frame now) r
+        frames.IsFrameAnswer (may node) (outcome node) r
     pub left : let node = standing_in wire (world_after m.directory calls) in
-        NodeStandsAt (calls_with (applied_with (received_at wire node frame now) r) calls) v
+        NodeStandsAt (calls_with (applied_with (outcome node) r) calls) v
+
+  -- .. to a frame
+  abbrev pub IsReceivedAt : Wire C S → List (Call C S) → List ℕ → ℕ → Received → NodeView C S → Type 0
+  IsReceivedAt wire calls frame now = IsAnsweredAt wire calls
+      (λ node. frame_may_want_memory wire node frame now) (λ node. received_at wire node frame now)
+
+  -- .. by these verdicts on the signatures of its infos
+  abbrev pub IsReceivedByAt : Wire C S → List (Call C S) → List Bool → List ℕ → ℕ → Received →
+      NodeView C S → Type 0
+  IsReceivedByAt wire calls verdicts frame now = IsAnsweredAt wire calls
+      (λ node. frame_may_want_memory_by wire (λ _. verdicts) node frame now)
+      (λ node. received_by wire (λ _. verdicts) node frame now)
 
   -- the frame that is asked with, and want of memory only where there is a set at the place
   pub record IsAskedAt (wire : Wire C S) (calls : List (Call C S)) (place : ℕ)
@@ -151,6 +162,11 @@ module _ {C S : Type 0} (cmp : C → C → Ordering) where
 
   abbrev pub IsReceived : Wire C S → List ℕ → ℕ → Received → NodeView C S → NodeView C S → Type 0
   IsReceived wire frame now r v v2 = AtEach v (λ m calls. IsReceivedAt m wire calls frame now r v2)
+
+  abbrev pub IsReceivedBy : Wire C S → List Bool → List ℕ → ℕ → Received → NodeView C S →
+      NodeView C S → Type 0
+  IsReceivedBy wire verdicts frame now r v v2 =
+      AtEach v (λ m calls. IsReceivedByAt m wire calls verdicts frame now r v2)
 
   abbrev pub IsAsked : Wire C S → ℕ → {E : Type 0} → Result (Option (List ℕ)) E → NodeView C S →
       Type 0
@@ -180,6 +196,13 @@ module _ {C S : Type 0} (cmp : C → C → Ordering) where
   abbrev pub AnswersFrame : Wire C S → List ℕ → ℕ → Received → NodeView C S → NodeView C S → Type 0
   AnswersFrame wire frame now r v v2 = let node = standing_of cmp wire v in
       Answers (frame_may_want_memory wire node frame now) (received_at wire node frame now) r v v2
+
+  -- .. by these verdicts on the signatures of its infos
+  abbrev pub AnswersFrameBy : Wire C S → List Bool → List ℕ → ℕ → Received → NodeView C S →
+      NodeView C S → Type 0
+  AnswersFrameBy wire verdicts frame now r v v2 = let node = standing_of cmp wire v in
+      Answers (frame_may_want_memory_by wire (λ _. verdicts) node frame now)
+      (received_by wire (λ _. verdicts) node frame now) r v v2
 
   -- the infos that it tells have a spelling: they are made of values of their types
   abbrev pub TellsValues : Wire C S → (C → Type 0) → (S → Type 0) →

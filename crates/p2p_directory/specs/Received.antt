@@ -1,6 +1,6 @@
 -- What a node asks and what it answers to a frame, and which infos are applied with that. Frames
 -- are bytes, moments nanoseconds.
-use Rattle.std.specs.Prelude.{ℕ, ◌≡◌, Bool, true, false, ◌||◌, List, [], ◌∷◌, length}
+use Rattle.std.specs.Prelude.{ℕ, ◌≡◌, ◌==◌, Bool, true, false, not, ◌||◌, List, [], ◌∷◌, length}
 use Rattle.std.specs.Prelude.{Option, Some, None, option_map, Result, Ok, Err}
 use Rattle.p2p_discovery.specs.declared.codec.error.CodecError.{CodecError}
 use Rattle.p2p_discovery.specs.declared.discovery.BitVec.{BitVec}
@@ -10,8 +10,8 @@ use Rattle.p2p_discovery.specs.declared.discovery.Payload.{Payload}
 use Rattle.p2p_discovery.specs.declared.discovery.Payload.TheVariants as said
 use Rattle.p2p_discovery.specs.declared.discovery.PayloadConfig.{PayloadConfig}
 use Rattle.p2p_discovery.specs.Reading.{Reading, whole}
-use Rattle.p2p_discovery.specs.Judgement.{Judge, refusal, list_refusal}
-use Rattle.p2p_discovery.specs.Payload.{payload_spelling, payload_at}
+use Rattle.p2p_discovery.specs.Judgement.{Judge, refusal_if, list_refusal_by, verdicts_on}
+use Rattle.p2p_discovery.specs.Payload.{payload_spelling, payload_at, infos_of_payload}
 use Rattle.p2p_directory.specs.declared.node.Received.{Received}
 use Rattle.p2p_directory.specs.declared.node.Received.TheVariants as received
 
@@ -83,6 +83,25 @@ module _ {C S : Type 0} where
   told_with o received.Memory = []
   told_with o r = o.told
 
+-- want of memory, and no other answer
+abbrev pub IsWantOfMemory : Received → Type 0
+IsWantOfMemory received.Memory = Unit {0}
+IsWantOfMemory _ = ⊥
+
+-- whether each signature of what a payload has of infos is right, in their order
+abbrev pub verdicts_of : {C S : Type 0} → Judge C S → Payload C S → List Bool
+verdicts_of judge payload = verdicts_on judge (infos_of_payload payload)
+
+-- what is said of the first info; one of which nothing is said has no right signature
+abbrev pub first_verdict : List Bool → Bool
+first_verdict [] = false
+first_verdict (right ∷ verdicts) = right
+
+-- a payload that was read has another number of infos than there are verdicts
+abbrev pub miscounts : {C S : Type 0} → List Bool → Result (Payload C S × List ℕ) CodecError → Bool
+miscounts verdicts (Ok x) = not (length (infos_of_payload x.0) == length verdicts)
+miscounts verdicts (Err fault) = false
+
 module _ {C S : Type 0} (wire : Wire C S) where
   -- a greeting, by why it is refused, if it is
   abbrev pub greeted : Info C S → Option Error → FrameOutcome C S
@@ -103,29 +122,50 @@ module _ {C S : Type 0} (wire : Wire C S) where
   taken infos None = applying (received.Applied (length infos)) infos
   taken infos (Some e) = only (received.Invalid e)
 
-  -- what a node answers to a payload at a moment
-  abbrev pub answered_at : Standing C S → ℕ → Payload C S → FrameOutcome C S
-  answered_at node now (said.Data message) = only (received.Data message)
-  answered_at node now (said.Greeting info) = greeted info (refusal node.judge now info)
-  answered_at node now (said.BitVec v) = replied (node.infos v.index v.bits now)
-  answered_at node now (said.Peers infos) = taken infos (list_refusal node.judge now infos)
+  -- what a node answers to a payload at a moment, by whether the signatures of its infos are right
+  abbrev pub answered_by : List Bool → Standing C S → ℕ → Payload C S → FrameOutcome C S
+  answered_by verdicts node now (said.Data message) = only (received.Data message)
+  answered_by verdicts node now (said.Greeting info) =
+      greeted info (refusal_if node.judge (first_verdict verdicts) now info)
+  answered_by verdicts node now (said.BitVec v) = replied (node.infos v.index v.bits now)
+  answered_by verdicts node now (said.Peers infos) =
+      taken infos (list_refusal_by node.judge verdicts now infos)
 
   -- .. to what comes of reading a frame: its fault, if it spells no payload that is admitted
+  abbrev pub read_by : (Payload C S → List Bool) → Standing C S → ℕ →
+      Result (Payload C S × List ℕ) CodecError → FrameOutcome C S
+  read_by verdicts node now (Ok x) = answered_by (verdicts x.0) node now x.0
+  read_by verdicts node now (Err fault) = only (received.Codec fault)
+
+  -- .. by the signatures of the keys
   abbrev pub read_at : Standing C S → ℕ → Result (Payload C S × List ℕ) CodecError →
       FrameOutcome C S
-  read_at node now (Ok x) = answered_at node now x.0
-  read_at node now (Err fault) = only (received.Codec fault)
+  read_at node now = read_by (verdicts_of node.judge) node now
 
-  -- RECEIVED: what a node answers to a frame at a moment
+  -- RECEIVED: what a node answers to a frame at a moment, by these verdicts
+  abbrev pub received_by : (Payload C S → List Bool) → Standing C S → List ℕ → ℕ → FrameOutcome C S
+  received_by verdicts node frame now =
+      read_by verdicts node now (whole (wire.reading node.limits) frame).outcome
+
+  -- .. by the signatures of the keys
   abbrev pub received_at : Standing C S → List ℕ → ℕ → FrameOutcome C S
-  received_at node frame now = read_at node now (whole (wire.reading node.limits) frame).outcome
+  received_at node frame now = received_by (verdicts_of node.judge) node frame now
+
+  -- a frame that spells an admitted payload has another number of infos than there are verdicts
+  abbrev pub are_miscounted : Standing C S → List ℕ → List Bool → Bool
+  are_miscounted node frame verdicts =
+      miscounts verdicts (whole (wire.reading node.limits) frame).outcome
 
   -- `ask`: the frame of the bits of the set at a place
   abbrev pub ask_frame_at : Standing C S → ℕ → Option (List ℕ)
   ask_frame_at node place = option_map (λ v. wire.spelling (said.BitVec v)) (node.bits place)
 
   -- WANT OF MEMORY: where reading the frame asks for some, and for an answer that takes room
+  abbrev pub frame_may_want_memory_by : (Payload C S → List Bool) → Standing C S → List ℕ → ℕ → Bool
+  frame_may_want_memory_by verdicts node frame now =
+      (whole (wire.reading node.limits) frame).grows
+      || takes_room (received_by verdicts node frame now).answer
+
   abbrev pub frame_may_want_memory : Standing C S → List ℕ → ℕ → Bool
   frame_may_want_memory node frame now =
-      (whole (wire.reading node.limits) frame).grows
-      || takes_room (received_at node frame now).answer
+      frame_may_want_memory_by (verdicts_of node.judge) node frame now

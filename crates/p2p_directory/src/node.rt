@@ -1,6 +1,6 @@
 //! A node: a directory that judges what it is told by frames, and answers them.
 
-ghost use Rattle.std.specs.Prelude.{◌≡◌, ◌-◌, ◌<◌, ◌^◌, [], false, IfOk};
+ghost use Rattle.std.specs.Prelude.{◌≡◌, ◌-◌, ◌<◌, ◌^◌, [], true, false, IfOk, OnErr, option_map};
 ghost use Rattle.std.specs.Duration.{as_nanos};
 ghost use Rattle.std.specs.Int.NonZero.{non_zero_usize_get};
 ghost use Rattle.p2p_directory.specs.Held.{held_of, AreHeld, ReleasesAll};
@@ -9,6 +9,10 @@ ghost use Rattle.p2p_discovery.specs.Info.{IsInfo, IsKeyed};
 ghost use Rattle.p2p_directory.specs.Received.{wire_of, applies};
 ghost use Rattle.p2p_directory.specs.Nodes.{NodeStandsAt, made_of, IsStepped, IsAsked, IsReceived};
 ghost use Rattle.p2p_directory.specs.Nodes.{AnswersFrame, AsksWith, TellsValues, AtEach};
+ghost use Rattle.p2p_directory.specs.Nodes.{AnswersFrameBy, IsReceivedBy, standing_of};
+ghost use Rattle.p2p_directory.specs.Received.{are_miscounted, IsWantOfMemory};
+ghost use Rattle.p2p_discovery.specs.Payload.{payload_at};
+ghost use Rattle.p2p_discovery.specs.Reading.{Gives, whole};
 ghost use Rattle.p2p_directory.specs.Laws.LateFrames.{TakesLateAt};
 
 use crate::node::endpoint::Endpoint;
@@ -21,9 +25,9 @@ use crate::run::{Command, Held, Reply};
 use bytes::Bytes;
 use p2p_discovery::codec::{CodecError, PublicKey, Write};
 use p2p_discovery::data::Data;
-use p2p_discovery::discovery::{Error, Info, PayloadConfig};
+use p2p_discovery::discovery::{Error, Info, InfoVerifier, Payload, PayloadConfig};
 use p2p_discovery::types::Ingress;
-use p2p_tracker::directory::{Config, Directory};
+use p2p_tracker::directory::{Config, Directory, Metadata};
 use std::alloc::{AllocError, Global};
 use std::marker::Model;
 use std::time::Duration;
@@ -72,6 +76,10 @@ pub enum Received {
     /// Memory was refused. Nothing has changed.
     Memory,
 }
+
+/// The verdicts that were given are not as many as the infos of the frame. Nothing has changed.
+#[derive(Clone, Copy, Debug, PartialEq, Eq)]
+pub struct Miscounted;
 
 /// A directory with what is held of its grants, by what infos are judged, and the limits under
 /// which frames are read. A contract sees these four. It must be spent, by
@@ -227,6 +235,88 @@ impl<C: PublicKey> Node<C> {
             C.IsValue C.Signature.IsValue m calls frame (as_nanos now) result) }
     {
         self.endpoint.answer(frame, now)
+    }
+
+    /// Takes a frame at the moment `now` as [`Node::receive`] does, given whether the signature of
+    /// each of its infos is right, in the order of the frame: no signature is judged here. A
+    /// greeting has one info, bits and data have none. All is answered as where these were the
+    /// values of [`PublicKey::verify`].
+    ///
+    /// # Errors
+    ///
+    /// `Miscounted` where the frame spells a payload with another number of infos than there are
+    /// verdicts. Nothing has changed.
+    ///
+    /// # Cost
+    ///
+    /// One pass over the frame, and the cost of the call.
+    pub fn receive_by(
+        &mut self,
+        frame: Bytes,
+        now: Duration,
+        verdicts: &[bool],
+    ) -> Result<Received, Miscounted>
+        ensures seen { IfOk result (λ r. AnswersFrameBy C.cmp (wire_of C.SIZE C.spelled C.value
+            C.Signature.SIZE C.Signature.spelled C.Signature.value C.verifies)
+            verdicts.now frame (as_nanos now) r self.old self.new) }
+        ensures unchanged { IfOk result (λ r. applies r ≡ false → self.new ≡ self.old) }
+        ensures received { IfOk result (λ r. IsReceivedBy C.cmp (wire_of C.SIZE C.spelled C.value
+            C.Signature.SIZE C.Signature.spelled C.Signature.value C.verifies)
+            verdicts.now frame (as_nanos now) r self.old self.new) }
+        ensures counted { let node = standing_of C.cmp (wire_of C.SIZE C.spelled C.value
+            C.Signature.SIZE C.Signature.spelled C.Signature.value C.verifies) self.old in
+            IfOk result (λ r. are_miscounted (wire_of C.SIZE C.spelled C.value
+            C.Signature.SIZE C.Signature.spelled C.Signature.value C.verifies) node frame verdicts.now ≡ true
+            → IsWantOfMemory r) }
+        ensures err { let node = standing_of C.cmp (wire_of C.SIZE C.spelled C.value
+            C.Signature.SIZE C.Signature.spelled C.Signature.value C.verifies) self.old in
+            OnErr result (are_miscounted (wire_of C.SIZE C.spelled C.value
+            C.Signature.SIZE C.Signature.spelled C.Signature.value C.verifies) node frame verdicts.now ≡ true) }
+        ensures err_same { OnErr result (self.new ≡ self.old) }
+    {
+        self.endpoint.answer_by(frame, now, verdicts)
+    }
+
+    /// The payload that a frame spells, as [`Node::receive`] reads it: under the limits of the node.
+    ///
+    /// # Errors
+    ///
+    /// Those of [`Read::decode_cfg`](p2p_discovery::codec::Read::decode_cfg).
+    ///
+    /// # Cost
+    ///
+    /// One pass over the frame.
+    pub fn read(&self, frame: Bytes) -> Result<Payload<C>, CodecError>
+        ensures { Gives result [] (whole (payload_at C.SIZE C.value
+            C.Signature.SIZE C.Signature.value self.now.limits) frame) }
+    {
+        self.endpoint.read_frame(frame)
+    }
+
+    /// By what infos are judged.
+    pub fn verifier(&self) -> &InfoVerifier<C>
+        ensures { result.now ≡ self.now.verifier }
+    {
+        self.endpoint.verifier()
+    }
+
+    /// The limits under which frames are read.
+    pub fn limits(&self) -> PayloadConfig
+        ensures { result ≡ self.now.limits }
+    {
+        self.endpoint.limits()
+    }
+
+    /// Whom the reservation of the peer is for, and in which direction, or `None` where none is
+    /// held. Takes no memory.
+    ///
+    /// # Cost
+    ///
+    /// Logarithmic in what is held.
+    pub fn held(&self, peer: &C) -> Option<&Metadata<C>>
+        ensures { option_map (λ m. m.now) result ≡ held_of C.cmp self.now.held peer.now }
+    {
+        self.endpoint.held(peer)
     }
 
     /// The directory, and the reservations that it granted and that were not released: they are

@@ -5,3 +5,4 @@ pub mod Names
 pub mod Naming
 pub mod ReadLaws
 pub mod Sorting
+pub mod Verdicts

@@ -1,6 +1,7 @@
 -- Which infos are fine, and why one or a list of them is refused. Moments and bounds: nanoseconds.
-use Rattle.std.specs.Prelude.{ℕ, ◌+◌, ◌*◌, ◌^◌, min, Bool, not, if◌then◌else◌, List, [], ◌∷◌, ◌++◌}
-use Rattle.std.specs.Prelude.{length, Option, Some, None, Result, Ok, Err, nat_lt}
+use Rattle.std.specs.Prelude.{ℕ, ◌+◌, ◌*◌, ◌^◌, min, Bool, true, false, not, if◌then◌else◌, List, []}
+use Rattle.std.specs.Prelude.{◌∷◌, ◌++◌, length, map, Option, Some, None, is_some, Result, Ok, Err}
+use Rattle.std.specs.Prelude.{nat_lt}
 use Rattle.std.specs.Int.{w64, to_be_bytes}
 use Rattle.std.specs.Duration.{max_nanos}
 use Rattle.std.specs.Ordering.{is_eq}
@@ -67,24 +68,55 @@ module _ {C S : Type 0} (j : Judge C S) where
   abbrev pub is_too_late : ℕ → Info C S → Bool
   is_too_late now i = nat_lt (min (now + j.synchrony_bound) max_nanos) (i.timestamp * 10 ^ 6)
 
-  -- why an info is refused at a moment, if it is: the own key, the timestamp, the signature
-  abbrev pub refusal : ℕ → Info C S → Option Error
-  refusal now i =
+  -- why an info is refused at a moment, if it is, by whether its signature is right: the own key,
+  -- the timestamp, the signature
+  abbrev pub refusal_if : Bool → ℕ → Info C S → Option Error
+  refusal_if right now i =
       if j.is_me i.public_key then Some ReceivedSelf
       else if is_too_late now i then Some SynchronyBound
-      else if not (is_signed i) then Some InvalidSignature
+      else if not right then Some InvalidSignature
       else None
 
-  -- the first refusal in list order, if there is one
-  abbrev pub first_refusal : ℕ → List (Info C S) → Option Error
-  first_refusal now [] = None
-  first_refusal now (i ∷ is) = first_of (refusal now i) (first_refusal now is)
+  -- .. by the signatures of its key
+  abbrev pub refusal : ℕ → Info C S → Option Error
+  refusal now i = refusal_if (is_signed i) now i
 
-  -- why a list is refused at a moment, if it is: too many infos, before the first refused one
-  abbrev pub list_refusal : ℕ → List (Info C S) → Option Error
-  list_refusal now is =
+  -- the first refusal in list order, if there is one, by whether each info's signature is right, in
+  -- the order of the list; a signature of which nothing is said isn't
+  abbrev pub first_refusal_by : List Bool → ℕ → List (Info C S) → Option Error
+  first_refusal_by verdicts now [] = None
+  first_refusal_by [] now (i ∷ is) = first_of (refusal_if false now i) (first_refusal_by [] now is)
+  first_refusal_by (right ∷ verdicts) now (i ∷ is) =
+      first_of (refusal_if right now i) (first_refusal_by verdicts now is)
+
+  -- whether each signature is right
+  abbrev pub verdicts_on : List (Info C S) → List Bool
+  verdicts_on is = map is_signed is
+
+  abbrev pub first_refusal : ℕ → List (Info C S) → Option Error
+  first_refusal now is = first_refusal_by (verdicts_on is) now is
+
+  -- why a list is refused at a moment, if it is, by these verdicts: too many infos, before the first
+  -- refused one
+  abbrev pub list_refusal_by : List Bool → ℕ → List (Info C S) → Option Error
+  list_refusal_by verdicts now is =
       if nat_lt j.greatest_count (length is) then Some (TooManyPeers (length is))
-      else first_refusal now is
+      else first_refusal_by verdicts now is
+
+  -- .. by the signatures of their keys
+  abbrev pub list_refusal : ℕ → List (Info C S) → Option Error
+  list_refusal now is = list_refusal_by (verdicts_on is) now is
+
+  -- the infos whose signatures decide: those before the first that is refused whatever its signature
+  -- is, and none where they are too many
+  abbrev pub judged_before : ℕ → List (Info C S) → List (Info C S)
+  judged_before now [] = []
+  judged_before now (i ∷ is) =
+      if is_some (refusal_if true now i) then [] else i ∷ judged_before now is
+
+  abbrev pub to_verify : ℕ → List (Info C S) → List (Info C S)
+  to_verify now is =
+      if nat_lt j.greatest_count (length is) then [] else judged_before now is
 
 -- what is answered to a refusal, and to none
 abbrev pub judged : Option Error → Result (Unit {0}) Error

@@ -1,9 +1,10 @@
 -- What peers tell each other: which payloads there are, their spelling, and what limits admit.
-use Rattle.std.specs.Prelude.{ℕ, ◌+◌, ◌*◌, ◌<◌, ◌≤◌, ◌^◌, max, List, ◌∷◌, length, Option, ◌==◌}
+use Rattle.std.specs.Prelude.{ℕ, ◌+◌, ◌*◌, ◌<◌, ◌≤◌, ◌^◌, max, List, [], ◌∷◌, length, Option, ◌==◌}
 use Rattle.std.specs.Prelude.{if◌then◌else◌}
 use Rattle.std.specs.List.{AllByRecursion}
 use Rattle.p2p_discovery.specs.declared.codec.error.CodecError.TheVariants.{InvalidEnum}
 use Rattle.p2p_discovery.specs.declared.codec.error.RangeCfg.{RangeCfg}
+use Rattle.p2p_discovery.specs.declared.discovery.Info.{Info}
 use Rattle.p2p_discovery.specs.declared.discovery.Payload.{Payload}
 use Rattle.p2p_discovery.specs.declared.discovery.Payload.TheVariants as said
 use Rattle.p2p_discovery.specs.declared.discovery.PayloadConfig.{PayloadConfig}
@@ -25,6 +26,12 @@ prefix_of (said.Data d) = 0
 prefix_of (said.Greeting i) = 1
 prefix_of (said.BitVec v) = 2
 prefix_of (said.Peers is) = 3
+
+-- the infos that a payload has, in their order
+abbrev pub infos_of_payload : {C S : Type 0} → Payload C S → List (Info C S)
+infos_of_payload (said.Greeting i) = i ∷ []
+infos_of_payload (said.Peers is) = is
+infos_of_payload _ = []
 
 -- numbers fit, and ingresses are ones
 abbrev pub IsPayload : {C S : Type 0} → Payload C S → Type 0

@@ -18,6 +18,7 @@ use crate::data::Data;
 use crate::sets::BitMap;
 use crate::types::Ingress;
 pub use info_list::Infos;
+pub use info_signing::SignedBytes;
 pub use payload_codec::max_gossip_size;
 use std::alloc::AllocError;
 use thiserror::Error;

@@ -72,10 +72,23 @@ impl<P: PublicKey> OrderedSet<P> {
         ensures same { IfOk result (λ set. WholeRun I.next_gives items
             (λ run. (q : P) → Contains set q ↔ Contains run.items q)) }
     {
-        let mut items: Vec<P> = items.collect(alloc)?;
+        let items: Vec<P> = items.collect(alloc)?;
+        Ok(OrderedSet::from_vec_dedup(items))
+    }
+
+    /// The set of the items, in whatever order and however often each of them comes, sorted in
+    /// place: it takes no memory.
+    ///
+    /// # Cost
+    ///
+    /// One sort of the items.
+    pub fn from_vec_dedup(mut items: Vec<P>) -> Self
+        ensures sorted { IsStrictlySortedBy P.cmp result }
+        ensures same { (q : P) → Contains result q ↔ Contains items.items q }
+    {
         items.sort_unstable();
         items.dedup();
-        Ok(OrderedSet { items })
+        OrderedSet { items }
     }
 
     /// The set of the items, sorted in place: it takes no memory.

@@ -1,5 +1,5 @@
 -- What a node answers by what is seen is what it answers in the world that the accepted calls make.
-use Rattle.std.proofs.Common.{◌≡◌, ◌≤◌, ◌<◌, ◌^◌, ℕ, true, List, ◌∷◌, length, Option, Some, None, Result, Ok, Err, is_some, sym, ◌∙◌, ap, subst}
+use Rattle.std.proofs.Common.{◌≡◌, ◌≤◌, ◌<◌, ◌^◌, ℕ, Bool, true, List, ◌∷◌, length, Option, Some, None, Result, Ok, Err, is_some, sym, ◌∙◌, ap, subst}
 use Rattle.std.specs.Prelude.{IfOk, IfSome, OnErr, slice_get}
 use Rattle.p2p_discovery.specs.declared.discovery.BitVec.{BitVec}
 use Rattle.p2p_discovery.specs.declared.discovery.Info.{Info}
@@ -15,11 +15,11 @@ use Rattle.p2p_directory.specs.Held.{held_of}
 use Rattle.p2p_directory.specs.Refinement.{Refines}
 use Rattle.p2p_directory.specs.Run.{world_after, Holds}
 use Rattle.p2p_directory.specs.Received as frames
-use Rattle.p2p_directory.specs.Received.{Wire, Standing, received_at, frame_may_want_memory, ask_frame_at, applied_with, told_with}
+use Rattle.p2p_directory.specs.Received.{Wire, Standing, FrameOutcome, received_at, received_by, frame_may_want_memory, frame_may_want_memory_by, ask_frame_at, applied_with, told_with}
 use Rattle.p2p_directory.specs.declared.node.exchanged.Exchanged.{Exchanged}
 use Rattle.p2p_directory.specs.Exchange as exchange
 use Rattle.p2p_directory.specs.Exchange.{exchanged_at, infos_applied, IsExchangedAt}
-use Rattle.p2p_directory.specs.Nodes.{Made, NodeView, NodeStandsAt, IsReceivedAt, IsAskedAt}
+use Rattle.p2p_directory.specs.Nodes.{Made, NodeView, NodeStandsAt, IsAnsweredAt, IsReceivedAt, IsReceivedByAt, IsAskedAt}
 use Rattle.p2p_directory.specs.Nodes.{standing_of, standing_in, calls_with, IsLeft, Answers}
 use Rattle.p2p_directory.specs.Nodes.{AsksWith, AreValues}
 use Rattle.p2p_directory.specs.Private.Frames.{HasSpelling}
@@ -68,13 +68,22 @@ module _ {C S : Type 0} (m : Made C S) (wire : Wire C S) (calls : List (Call C S
   left_at some None v2 same = subst (NodeStandsAt m calls) (sym same) at
   left_at some (Some infos) v2 change = updated some infos v2 change.0 change.1
 
+  pub answered_in : 1 ≤ m.directory.max_sets → (may : Standing C S → Bool) (outcome : Standing C S → FrameOutcome C S) (r : Received) (v2 : NodeView C S) →
+      Answers m.directory.cmp (may seen) (outcome seen) r v v2 → IsAnsweredAt m wire calls may outcome r v2
+  answered_in some may outcome r v2 answers = record {
+    answer = subst (λ node. frames.IsFrameAnswer (may node) (outcome node) r) stands_alike answers.answer;
+    left = subst (λ node. NodeStandsAt m (calls_with (applied_with (outcome node) r) calls) v2)
+        stands_alike (left_at some (applied_with (outcome seen) r) v2 answers.left);
+  }
+
   pub received_in : 1 ≤ m.directory.max_sets → (frame : List ℕ) (now : ℕ) (r : Received) (v2 : NodeView C S) →
       Answers m.directory.cmp (frame_may_want_memory wire seen frame now) (received_at wire seen frame now) r v v2 → IsReceivedAt m wire calls frame now r v2
-  received_in some frame now r v2 answers = record {
-    answer = subst (λ node. frames.IsFrameAnswer (frame_may_want_memory wire node frame now) (received_at wire node frame now) r) stands_alike answers.answer;
-    left = subst (λ node. NodeStandsAt m (calls_with (applied_with (received_at wire node frame now) r) calls) v2)
-        stands_alike (left_at some (applied_with (received_at wire seen frame now) r) v2 answers.left);
-  }
+  received_in some frame now = answered_in some (λ node. frame_may_want_memory wire node frame now) (λ node. received_at wire node frame now)
+
+  pub received_by_in : 1 ≤ m.directory.max_sets → (verdicts : List Bool) (frame : List ℕ) (now : ℕ) (r : Received) (v2 : NodeView C S) →
+      Answers m.directory.cmp (frame_may_want_memory_by wire (λ _. verdicts) seen frame now) (received_by wire (λ _. verdicts) seen frame now) r v v2 →
+      IsReceivedByAt m wire calls verdicts frame now r v2
+  received_by_in some verdicts frame now = answered_in some (λ node. frame_may_want_memory_by wire (λ _. verdicts) node frame now) (λ node. received_by wire (λ _. verdicts) node frame now)
 
   pub asked_in : {E : Type 0} (place : ℕ) (r : Result (Option (List ℕ)) E) → AsksWith m.directory.cmp wire place r v → IsAskedAt m wire calls place r
   asked_in place r asks = record {

@@ -1,18 +1,23 @@
 //! What a node is: a directory that serves commands, by what infos are judged, and limits.
 
-ghost use Rattle.std.specs.Prelude.{◌≡◌, ◌<◌, ◌^◌, true, false, None, IfOk, IfSome, OnOk, OnErr};
+ghost use Rattle.std.specs.Prelude.{◌≡◌, ◌<◌, ◌^◌, [], true, false, None, IfOk, IfSome, OnOk, OnErr};
 ghost use Rattle.std.specs.Prelude.{length};
 ghost use Rattle.std.specs.Prelude.{is_some, option_map};
 ghost use Rattle.std.specs.Duration.{as_nanos};
 ghost use Rattle.p2p_discovery.specs.Payload.{CanSpell, payload_spelling, IsPayload};
-ghost use Rattle.p2p_discovery.specs.Payload.{IsKeyedPayload};
+ghost use Rattle.p2p_discovery.specs.Payload.{IsKeyedPayload, IsAdmitted};
 ghost use Rattle.p2p_discovery.specs.Judgement.{judge_of, refusal, list_refusal};
+ghost use Rattle.p2p_discovery.specs.Judgement.{refusal_if, list_refusal_by};
 ghost use Rattle.p2p_discovery.specs.declared.discovery.Payload.TheVariants.{Peers};
 ghost use Rattle.p2p_tracker.specs.Directory.{bit_vec_at, infos_in};
 ghost use Rattle.p2p_directory.specs.Held.{held_of, AreHeld, ReleasesAll};
 ghost use Rattle.p2p_directory.specs.Run.{call_of, was_made};
 ghost use Rattle.p2p_directory.specs.Received.{wire_of, greeted, replied, taken, takes_room};
-ghost use Rattle.p2p_directory.specs.Received.{applies, told_with};
+ghost use Rattle.p2p_directory.specs.Received.{applies, told_with, are_miscounted, answered_by};
+ghost use Rattle.p2p_directory.specs.Received.{first_verdict, IsWantOfMemory};
+ghost use Rattle.p2p_discovery.specs.Payload.{infos_of_payload, payload_at};
+ghost use Rattle.p2p_discovery.specs.Reading.{Gives, whole};
+ghost use Rattle.p2p_directory.specs.Nodes.{AnswersFrameBy, standing_of};
 ghost use Rattle.p2p_directory.specs.Nodes.{may_reserve, Answers, AnswersFrame, AsksWith};
 ghost use Rattle.p2p_directory.specs.Nodes.{AreValues, TellsValues, IsStepped};
 ghost use Rattle.p2p_directory.specs.Private.Frames.{fault_answer, HasSpelling, HaveSpelling};
@@ -20,13 +25,13 @@ ghost use Rattle.p2p_directory.specs.Private.Serving.{has_slot_for};
 ghost use Rattle.p2p_directory.specs.Private.Slots.{contents, has_slot, held_in};
 ghost use Rattle.p2p_directory.specs.Private.Endpoints.{node_of, IsServedBy};
 
-use crate::node::Received;
+use crate::node::{Miscounted, Received};
 use crate::run::server::Server;
 use crate::run::{Command, Held, Reply};
 use bytes::Bytes;
 use p2p_discovery::codec::{CodecError, PublicKey, Read, Write};
 use p2p_discovery::discovery::{BitVec, Info, InfoVerifier, Infos, Payload, PayloadConfig};
-use p2p_tracker::directory::Directory;
+use p2p_tracker::directory::{Directory, Metadata};
 use std::alloc::{AllocError, Global};
 use std::marker::Model;
 use std::time::Duration;
@@ -145,6 +150,36 @@ impl<C: PublicKey> Endpoint<C> {
         self.server.directory()
     }
 
+    /// The payload that a frame spells.
+    pub fn read_frame(&self, frame: Bytes) -> Result<Payload<C>, CodecError>
+        ensures { Gives result [] (whole (payload_at C.SIZE C.value
+            C.Signature.SIZE C.Signature.value self.now.limits) frame) }
+    {
+        Payload::<C>::decode_cfg(self.server.directory().allocator(), frame, &self.payload)
+    }
+
+    /// By what infos are judged.
+    pub fn verifier(&self) -> &InfoVerifier<C>
+        ensures { result.now ≡ self.now.verifier }
+    {
+        &self.verifier
+    }
+
+    /// The limits under which frames are read.
+    pub fn limits(&self) -> PayloadConfig
+        ensures { result ≡ self.now.limits }
+    {
+        self.payload
+    }
+
+    /// Whom the reservation of the peer is for, if one is held.
+    pub fn held(&self, peer: &C) -> Option<&Metadata<C>>
+        ensures { option_map (λ m. m.now) result
+            ≡ held_of C.cmp (contents self.now.slots) peer.now }
+    {
+        self.server.held(peer)
+    }
+
     /// The frame of the bits of the set at a place, or `None` where there is no such place.
     pub fn ask(&self, place: usize) -> Result<Option<Bytes>, AllocError>
         ensures seen { AsksWith C.cmp (wire_of C.SIZE C.spelled C.value
@@ -186,6 +221,37 @@ impl<C: PublicKey> Endpoint<C> {
         }
     }
 
+    /// Takes a frame at a moment, given whether the signatures of its infos are right, and answers
+    /// it. The verdicts have to be as many as the infos of the frame, if it spells a payload.
+    pub fn answer_by(
+        &mut self,
+        frame: Bytes,
+        now: Duration,
+        verdicts: &[bool],
+    ) -> Result<Received, Miscounted>
+        ensures seen { IfOk result (λ r. AnswersFrameBy C.cmp (wire_of C.SIZE C.spelled C.value
+            C.Signature.SIZE C.Signature.spelled C.Signature.value C.verifies)
+            verdicts.now frame (as_nanos now) r (node_of self.old) (node_of self.new)) }
+        ensures unchanged { IfOk result (λ r. applies r ≡ false → self.new ≡ self.old) }
+        ensures counted { let node = standing_of C.cmp (wire_of C.SIZE C.spelled C.value
+            C.Signature.SIZE C.Signature.spelled C.Signature.value C.verifies) (node_of self.old) in
+            IfOk result (λ r. are_miscounted (wire_of C.SIZE C.spelled C.value
+            C.Signature.SIZE C.Signature.spelled C.Signature.value C.verifies) node frame verdicts.now ≡ true
+            → IsWantOfMemory r) }
+        ensures err { let node = standing_of C.cmp (wire_of C.SIZE C.spelled C.value
+            C.Signature.SIZE C.Signature.spelled C.Signature.value C.verifies) (node_of self.old) in
+            OnErr result (are_miscounted (wire_of C.SIZE C.spelled C.value
+            C.Signature.SIZE C.Signature.spelled C.Signature.value C.verifies) node frame verdicts.now ≡ true) }
+        ensures err_same { OnErr result (self.new ≡ self.old) }
+        ensures slots { self.new.slots ≡ self.old.slots }
+    {
+        let alloc = self.server.directory().allocator();
+        match Payload::<C>::decode_cfg(alloc, frame, &self.payload) {
+            Ok(payload) => self.answer_payload_by(payload, now, verdicts),
+            Err(fault) => Ok(refused(fault)),
+        }
+    }
+
     /// Releases all that is held, and answers the directory. Takes no memory.
     pub fn finish(self) -> Directory<C>
         ensures { ReleasesAll C.cmp (contents self.slots) self.directory result }
@@ -210,6 +276,39 @@ impl<C: PublicKey> Endpoint<C> {
         server.into_parts()
     }
 
+    // Answers a payload, given whether the signatures of its infos are right.
+    fn answer_payload_by(
+        &mut self,
+        payload: Payload<C>,
+        now: Duration,
+        verdicts: &[bool],
+    ) -> Result<Received, Miscounted>
+        requires admitted { IsAdmitted C.IsValue C.Signature.IsValue self.old.limits payload }
+        requires limit { self.old.limits.max_bit_vec < 2 ^ 32 }
+        ensures seen { let o = answered_by (wire_of C.SIZE C.spelled C.value
+            C.Signature.SIZE C.Signature.spelled C.Signature.value C.verifies) verdicts.now
+            (standing_of C.cmp (wire_of C.SIZE C.spelled C.value
+            C.Signature.SIZE C.Signature.spelled C.Signature.value C.verifies) (node_of self.old)) (as_nanos now) payload in
+            IfOk result (λ r.
+            Answers C.cmp (takes_room o.answer) o r (node_of self.old) (node_of self.new)) }
+        ensures unchanged { IfOk result (λ r. applies r ≡ false → self.new ≡ self.old) }
+        ensures counted { IfOk result (λ _.
+            length (infos_of_payload payload) ≡ length verdicts.now) }
+        ensures err { OnErr result (¬ (length (infos_of_payload payload) ≡ length verdicts.now)) }
+        ensures err_same { OnErr result (self.new ≡ self.old) }
+        ensures slots { self.new.slots ≡ self.old.slots }
+    {
+        if count_infos(&payload) != verdicts.len() {
+            return Err(Miscounted);
+        }
+        Ok(match payload {
+            Payload::Data(message) => Received::Data(message),
+            Payload::Greeting(info) => self.greet_by(info, now, is_first_right(verdicts)),
+            Payload::BitVec(bits) => self.reply(&bits, now),
+            Payload::Peers(infos) => self.take_by(infos, now, verdicts),
+        })
+    }
+
     // Judges the info of a greeting, and applies it.
     fn greet(&mut self, info: Info<C>, now: Duration) -> Received
         ensures unchanged { applies result ≡ false → self.new ≡ self.old }
@@ -222,6 +321,32 @@ impl<C: PublicKey> Endpoint<C> {
         if let Err(error) = self.verifier.validate_info(now, &info) {
             return Received::Invalid(error);
         }
+        self.apply_greeting(info)
+    }
+
+    // Judges the info of a greeting, given whether its signature is right, and applies it.
+    fn greet_by(&mut self, info: Info<C>, now: Duration, right: bool) -> Received
+        ensures unchanged { applies result ≡ false → self.new ≡ self.old }
+        ensures seen { let o = greeted (wire_of C.SIZE C.spelled C.value
+            C.Signature.SIZE C.Signature.spelled C.Signature.value C.verifies) info
+            (refusal_if (judge_of C.cmp C.verifies self.old.verifier) right (as_nanos now) info) in
+            Answers C.cmp (takes_room o.answer) o result (node_of self.old) (node_of self.new) }
+        ensures slots { self.new.slots ≡ self.old.slots }
+    {
+        if let Err(error) = self.verifier.validate_info_by(now, &info, right) {
+            return Received::Invalid(error);
+        }
+        self.apply_greeting(info)
+    }
+
+    // Applies the info of a greeting.
+    fn apply_greeting(&mut self, info: Info<C>) -> Received
+        ensures unchanged { applies result ≡ false → self.new ≡ self.old }
+        ensures seen { Answers C.cmp true (greeted (wire_of C.SIZE C.spelled C.value
+            C.Signature.SIZE C.Signature.spelled C.Signature.value C.verifies) info None)
+            result (node_of self.old) (node_of self.new) }
+        ensures slots { self.new.slots ≡ self.old.slots }
+    {
         match Vec::with_capacity(self.server.directory().allocator(), 1) {
             Ok(mut infos) => {
                 infos.push_reserved(info);
@@ -288,6 +413,32 @@ impl<C: PublicKey> Endpoint<C> {
         if let Err(error) = self.verifier.validate(now, infos.as_slice()) {
             return Received::Invalid(error);
         }
+        self.apply(infos)
+    }
+
+    // Judges infos, all of them, given whether their signatures are right, and applies them.
+    fn take_by(&mut self, infos: Infos<C>, now: Duration, verdicts: &[bool]) -> Received
+        ensures unchanged { applies result ≡ false → self.new ≡ self.old }
+        ensures seen { Answers C.cmp false (taken (wire_of C.SIZE C.spelled C.value
+            C.Signature.SIZE C.Signature.spelled C.Signature.value C.verifies) infos (list_refusal_by
+            (judge_of C.cmp C.verifies self.old.verifier) verdicts.now (as_nanos now) infos))
+            result (node_of self.old) (node_of self.new) }
+        ensures slots { self.new.slots ≡ self.old.slots }
+    {
+        if let Err(error) = self.verifier.validate_by(now, infos.as_slice(), verdicts) {
+            return Received::Invalid(error);
+        }
+        self.apply(infos)
+    }
+
+    // Applies infos.
+    fn apply(&mut self, infos: Infos<C>) -> Received
+        ensures unchanged { applies result ≡ false → self.new ≡ self.old }
+        ensures seen { Answers C.cmp false (taken (wire_of C.SIZE C.spelled C.value
+            C.Signature.SIZE C.Signature.spelled C.Signature.value C.verifies) infos None)
+            result (node_of self.old) (node_of self.new) }
+        ensures slots { self.new.slots ≡ self.old.slots }
+    {
         let infos = infos.into_vec();
         let count = infos.len();
         self.server.update(infos);
@@ -304,6 +455,27 @@ fn frame_of<C: PublicKey>(alloc: Global, payload: Payload<C>) -> Result<Bytes, A
     ensures keyed { IfOk result (λ _. IsKeyedPayload C.IsValue C.Signature.IsValue payload) }
 {
     payload.encode(alloc)
+}
+
+// How many infos a payload has.
+fn count_infos<C: PublicKey>(payload: &Payload<C>) -> usize
+    ensures { result ≡ length (infos_of_payload payload.now) }
+{
+    match payload {
+        Payload::Data(_) | Payload::BitVec(_) => 0,
+        Payload::Greeting(_) => 1,
+        Payload::Peers(infos) => infos.as_slice().len(),
+    }
+}
+
+// Whether the first verdict says that a signature is right.
+fn is_first_right(verdicts: &[bool]) -> bool
+    ensures { result ≡ first_verdict verdicts.now }
+{
+    match verdicts {
+        [right, ..] => *right,
+        [] => false,
+    }
 }
 
 // A fault of a frame, or want of memory.

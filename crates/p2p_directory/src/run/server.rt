@@ -1,6 +1,6 @@
 //! A directory that serves commands, and holds what it grants.
 
-ghost use Rattle.std.specs.Prelude.{◌≡◌, true, false, None, OnOk, OnErr, IfSome};
+ghost use Rattle.std.specs.Prelude.{◌≡◌, true, false, None, OnOk, OnErr, IfSome, option_map};
 ghost use Rattle.p2p_tracker.specs.Directory.{Updates};
 ghost use Rattle.p2p_directory.specs.Held.{held_of, AreHeld};
 ghost use Rattle.p2p_directory.specs.Private.Slots.{has_slot, held_in, AreSlots};
@@ -15,7 +15,7 @@ use crate::run::outcome::Run;
 use crate::run::slots::Slots;
 use p2p_discovery::codec::PublicKey;
 use p2p_discovery::discovery::Info;
-use p2p_tracker::directory::{Directory, TrackedPeers};
+use p2p_tracker::directory::{Directory, Metadata, TrackedPeers};
 use p2p_tracker::record::Status;
 use std::alloc::AllocError;
 use std::marker::Model;
@@ -118,6 +118,13 @@ impl<C: PublicKey> Server<C> {
         if let Some(peer) = peer {
             self.slots.drop_empty(&peer);
         }
+    }
+
+    /// Whom the reservation of the peer is for, if one is held. Takes no memory.
+    pub fn held(&self, peer: &C) -> Option<&Metadata<C>>
+        ensures { option_map (λ m. m.now) result ≡ held_in C.cmp self.now.slots peer.now }
+    {
+        self.slots.held(peer)
     }
 
     // For the proof: the slots are in order, and each is of its peer.

@@ -2,7 +2,7 @@
 //! command, that of a node's command before it.
 
 ghost use Rattle.std.specs.Prelude.{◌≡◌, [], false, true, ◌||◌, if◌then◌else◌};
-ghost use Rattle.std.specs.Prelude.{IfSome, IfNone, OnOk, OnErr, None, Some, is_some};
+ghost use Rattle.std.specs.Prelude.{IfSome, IfNone, OnOk, OnErr, None, Some, is_some, option_map};
 ghost use Rattle.std.specs.BTreeMap.{is_at};
 ghost use Rattle.p2p_tracker.specs.Seen.{key_of};
 ghost use Rattle.p2p_directory.specs.Held.{held_of};
@@ -10,7 +10,7 @@ ghost use Rattle.p2p_directory.specs.Private.Slots.{slot_of, has_slot, held_in, 
 
 use crate::run::held::Held;
 use p2p_discovery::codec::PublicKey;
-use p2p_tracker::directory::Reservation;
+use p2p_tracker::directory::{Metadata, Reservation};
 use std::alloc::{AllocError, AllocFailed, Global};
 use std::cmp::Ordering;
 use std::collections::BTreeMap;
@@ -103,6 +103,16 @@ impl<C: PublicKey> Slots<C> {
         match self.reservations.get_mut(peer) {
             Some(slot) => slot.take(),
             None => None,
+        }
+    }
+
+    /// Whom the reservation of the peer is for, if one is held. Takes no memory.
+    pub fn held(&self, peer: &C) -> Option<&Metadata<C>>
+        ensures { option_map (λ m. m.now) result ≡ held_in C.cmp self.now peer.now }
+    {
+        match self.reservations.get(peer) {
+            Some(Some(reservation)) => Some(reservation.metadata()),
+            Some(None) | None => None,
         }
     }
 

@@ -53,6 +53,18 @@ impl<C: PublicKey> Info<C> {
         }
     }
 
+    /// What is signed: the spelling of the ingress, then the timestamp in eight bytes, the most
+    /// significant first. It takes no memory.
+    ///
+    /// # Cost
+    ///
+    /// At most 269 bytes are copied.
+    pub fn signed(&self) -> SignedBytes
+        ensures { result ≡ signed_bytes self.now.ingress self.now.timestamp }
+    {
+        SignedBytes::of(&self.ingress, self.timestamp)
+    }
+
     /// Whether the signature is one of the info's key over the namespace and what is signed. It
     /// takes no memory.
     ///
@@ -62,7 +74,7 @@ impl<C: PublicKey> Info<C> {
     pub fn verify(&self, namespace: &[u8]) -> bool
         ensures { result ≡ is_signed_in C.verifies namespace.now self.now }
     {
-        let signed = SignedBytes::of(&self.ingress, self.timestamp);
+        let signed = self.signed();
         self.public_key
             .verify(namespace, signed.as_slice(), &self.signature)
     }
@@ -71,9 +83,10 @@ impl<C: PublicKey> Info<C> {
 // The greatest number of signed bytes: those of an ingress, and eight of a timestamp.
 const SIGNED_SIZE: usize = 269;
 
-// Signed bytes, which stand in an array, so that they take no memory.
+/// The bytes that an info's signature is over. They stand in an array, so they take no memory. A
+/// contract sees these bytes.
 #[derive(Drop)]
-struct SignedBytes {
+pub struct SignedBytes {
     room: [u8; SIGNED_SIZE],
     len: usize,
 }
@@ -162,7 +175,8 @@ impl SignedBytes {
         self.len = end;
     }
 
-    fn as_slice(&self) -> &[u8]
+    /// The bytes.
+    pub fn as_slice(&self) -> &[u8]
         ensures { result.now ≡ self.now }
     {
         &self.room[..self.len]

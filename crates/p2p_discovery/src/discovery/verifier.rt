@@ -1,8 +1,10 @@
 //! Which infos are fine, and why others are refused.
 
-ghost use Rattle.std.specs.Prelude.{◌≡◌};
+ghost use Rattle.std.specs.Prelude.{◌≡◌, ◌≤◌, true, false, take, length, nat_lt};
+ghost use Rattle.std.specs.Prelude.{get_or};
 ghost use Rattle.std.specs.Duration.{as_nanos};
 ghost use Rattle.p2p_discovery.specs.Judgement.{judge_of, refusal, list_refusal, judged};
+ghost use Rattle.p2p_discovery.specs.Judgement.{refusal_if, list_refusal_by, to_verify};
 
 use crate::codec::PublicKey;
 use crate::discovery::{Error, Info};
@@ -77,15 +79,41 @@ impl<C: PublicKey> InfoVerifier<C> {
         ensures { result
             ≡ judged (refusal (judge_of C.cmp C.verifies self.now) (as_nanos now) info.now) }
     {
+        self.validate_unsigned(now, info)?;
+        if !info.verify(&self.ip_namespace) {
+            return Err(Error::InvalidSignature);
+        }
+        Ok(())
+    }
+
+    /// Whether the info is fine at a moment, given whether its signature is right. It takes no
+    /// memory.
+    ///
+    /// # Errors
+    ///
+    /// Those of [`InfoVerifier::validate_info`], in the same order.
+    pub fn validate_info_by(&self, now: Duration, info: &Info<C>, right: bool) -> Result<(), Error>
+        ensures { result
+            ≡ judged (refusal_if (judge_of C.cmp C.verifies self.now) right (as_nanos now) info.now) }
+    {
+        self.validate_unsigned(now, info)?;
+        if !right {
+            return Err(Error::InvalidSignature);
+        }
+        Ok(())
+    }
+
+    // Whether the info is fine at a moment, if its signature is right.
+    fn validate_unsigned(&self, now: Duration, info: &Info<C>) -> Result<(), Error>
+        ensures { result
+            ≡ judged (refusal_if (judge_of C.cmp C.verifies self.now) true (as_nanos now) info.now) }
+    {
         if let Ordering::Equal = self.me.cmp(&info.public_key) {
             return Err(Error::ReceivedSelf);
         }
         let latest = now.saturating_add(self.synchrony_bound);
         if Duration::from_millis(info.timestamp).as_nanos() > latest.as_nanos() {
             return Err(Error::SynchronyBound);
-        }
-        if !info.verify(&self.ip_namespace) {
-            return Err(Error::InvalidSignature);
         }
         Ok(())
     }
@@ -105,7 +133,7 @@ impl<C: PublicKey> InfoVerifier<C> {
         ensures { result
             ≡ judged (list_refusal (judge_of C.cmp C.verifies self.now) (as_nanos now) infos.now) }
     {
-        if infos.len() > self.peer_gossip_max_count {
+        if self.are_too_many(infos) {
             return Err(Error::TooManyPeers(infos.len()));
         }
         for info in infos {
@@ -113,4 +141,61 @@ impl<C: PublicKey> InfoVerifier<C> {
         }
         Ok(())
     }
+
+    /// Whether all of the infos are fine at a moment, given whether the signature of each is right,
+    /// in the order of the list. One of which nothing is said isn't. It takes no memory.
+    ///
+    /// # Errors
+    ///
+    /// Those of [`InfoVerifier::validate`], in the same order.
+    pub fn validate_by(
+        &self,
+        now: Duration,
+        infos: &[Info<C>],
+        verdicts: &[bool],
+    ) -> Result<(), Error>
+        ensures { result ≡ judged (list_refusal_by (judge_of C.cmp C.verifies self.now) verdicts.now
+            (as_nanos now) infos.now) }
+    {
+        if self.are_too_many(infos) {
+            return Err(Error::TooManyPeers(infos.len()));
+        }
+        for place in 0..infos.len() {
+            self.validate_info_by(now, &infos[place], is_right(verdicts, place))?;
+        }
+        Ok(())
+    }
+
+    /// How many of the infos have a signature that decides whether they are fine at a moment: those
+    /// before the first that is refused whatever its signature is, and none where they are too many.
+    /// It takes no memory.
+    pub fn count_to_verify(&self, now: Duration, infos: &[Info<C>]) -> usize
+        ensures value { take result infos.now
+            ≡ to_verify (judge_of C.cmp C.verifies self.now) (as_nanos now) infos.now }
+        ensures bound { result ≤ length infos.now }
+    {
+        if self.are_too_many(infos) {
+            return 0;
+        }
+        for place in 0..infos.len() {
+            if let Err(_) = self.validate_unsigned(now, &infos[place]) {
+                return place;
+            }
+        }
+        infos.len()
+    }
+
+    // Whether they are more than the verifier takes at a time.
+    fn are_too_many(&self, infos: &[Info<C>]) -> bool
+        ensures { result ≡ nat_lt self.now.greatest_count (length infos.now) }
+    {
+        infos.len() > self.peer_gossip_max_count
+    }
+}
+
+// Whether a signature is right by its verdict; it isn't where there is none.
+fn is_right(verdicts: &[bool], place: usize) -> bool
+    ensures { result ≡ get_or verdicts.now place false }
+{
+    place < verdicts.len() && verdicts[place]
 }
