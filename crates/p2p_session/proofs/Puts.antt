@@ -1,0 +1,141 @@
+-- What stands in a room once parts were put into it one after the other.
+use Rattle.std.proofs.Common.{replicate, min, ◌*◌, ◌≡◌, ℕ, ◌+◌, ◌≤◌, ◌<◌, List, [], ◌∷◌, ◌++◌, length, take, drop, refl, sym, ap, ◌∙◌, subst, arith, add_assoc, get_or, zero, suc}
+use Rattle.std.specs.Prelude.{flat_map}
+use Rattle.std.proofs.lemmas.List.{length-take-le, length-take, length-append, length-replicate, append-nil, drop-drop, length-drop, take-append-drop}
+use Rattle.std.proofs.lemmas.List.Folds.{length-flat_map-take}
+use Rattle.std.proofs.lemmas.Grind.{common_steps, flat_map-append}
+use Rattle.std.proofs.Math.Seq.{take-add, take-append-add, drop-append-add, take-append_seam}
+use Rattle.p2p_discovery.specs.ArraysLaws.{array_is}
+use Rattle.p2p_session.specs.declared.key.Key.{Key}
+use Rattle.p2p_session.specs.declared.key.TheConstants.{KEY_SIZE}
+use Rattle.p2p_session.specs.Answers.{key_bytes, keys_bytes, put_at}
+
+append_assoc : (xs ys zs : List ℕ) → (xs ++ ys) ++ zs ≡ xs ++ (ys ++ zs)
+append_assoc xs ys zs = grind (arith, common_steps)
+
+take_two : (fs xs rs : List ℕ) → take (length fs + length xs) (fs ++ (xs ++ rs)) ≡ fs ++ xs
+take_two fs xs rs =
+    take-append-add fs (xs ++ rs) (length xs) ∙ ap (λ l. fs ++ l) (take-append_seam xs rs)
+
+drop_two : (fs xs rs : List ℕ) (n : ℕ) → drop (length fs + length xs + n) (fs ++ (xs ++ rs)) ≡ drop n rs
+drop_two fs xs rs n =
+    ap (λ k. drop k (fs ++ (xs ++ rs))) (add_assoc (length fs) (length xs) n)
+    ∙ drop-append-add fs (xs ++ rs) (length xs + n) ∙ drop-append-add xs rs n
+
+put_after : (fs xs ys rs : List ℕ) →
+    put_at (length fs + length xs) ys (fs ++ (xs ++ rs)) ≡ fs ++ ((xs ++ ys) ++ drop (length ys) rs)
+put_after fs xs ys rs =
+    ap (λ l. l ++ (ys ++ drop (length fs + length xs + length ys) (fs ++ (xs ++ rs)))) (take_two fs xs rs)
+    ∙ ap (λ l. (fs ++ xs) ++ (ys ++ l)) (drop_two fs xs rs (length ys))
+    ∙ append_assoc fs xs (ys ++ drop (length ys) rs)
+    ∙ ap (λ l. fs ++ l) (sym (append_assoc xs ys (drop (length ys) rs)))
+
+pub put_put : (at : ℕ) (xs ys out : List ℕ) → at + length xs ≤ length out →
+    put_at (at + length xs) ys (put_at at xs out) ≡ put_at at (xs ++ ys) out
+put_put at xs ys out fits =
+    let front : length (take at out) ≡ at = length-take-le at out (omega (arith, fits)) in
+    let rest = drop (at + length xs) out in
+    let same : at + length xs + length ys ≡ at + length (xs ++ ys) = omega (arith, length-append xs ys) in
+    subst (λ n. put_at (n + length xs) ys (put_at at xs out) ≡ take at out ++ ((xs ++ ys) ++ drop (length ys) rest))
+    front (put_after (take at out) xs ys rest)
+    ∙ ap (λ l. take at out ++ ((xs ++ ys) ++ l))
+    (drop-drop (length ys) (at + length xs) out ∙ ap (λ n. drop n out) same)
+
+module _ {X : Type 0} (f : X → List ℕ) where
+  flat_next : (xs : List X) (i : ℕ) (d : X) → i < length xs →
+      flat_map f (take (suc i) xs) ≡ flat_map f (take i xs) ++ f (get_or xs i d)
+  flat_next [] i d h = absurd (omega (arith, h))
+  flat_next (y ∷ ys) zero d h = append-nil (f y)
+  flat_next (y ∷ ys) (suc i) d h =
+      ap (λ l. f y ++ l) (flat_next ys i d (omega (arith, h)))
+      ∙ sym (append_assoc (f y) (flat_map f (take i ys)) (f (get_or ys i d)))
+
+  -- the bytes of one more
+  pub one_more : (xs : List X) (i : ℕ) (d : X) → i < length xs →
+      flat_map f (take (i + 1) xs) ≡ flat_map f (take i xs) ++ f (get_or xs i d)
+  one_more xs i d h = let next : i + 1 ≡ suc i = omega arith in rw next (flat_next xs i d h)
+
+  module _ (xs : List X) (i start : ℕ) (d : X) (at : ℕ) (room out : List ℕ) where
+    -- there is room for the next where there is for all
+    pub room_next : i < length xs → start + length (flat_map f xs) ≤ length room →
+        at ≡ start + length (flat_map f (take i xs)) → length out ≡ length room →
+        at + length (f (get_or xs i d)) ≤ length out
+    room_next h fits is same =
+        let within = length-flat_map-take f xs i d h in
+        omega (arith, fits, is, same, within)
+
+    -- once the next was put behind those before, one more stands there
+    pub put_next : (at2 : ℕ) (out2 : List ℕ) → i < length xs →
+        start + length (flat_map f xs) ≤ length room →
+        at ≡ start + length (flat_map f (take i xs)) →
+        out ≡ put_at start (flat_map f (take i xs)) room →
+        at2 ≡ at + length (f (get_or xs i d)) → out2 ≡ put_at at (f (get_or xs i d)) out →
+        (at2 ≡ start + length (flat_map f (take (i + 1) xs)))
+        × (out2 ≡ put_at start (flat_map f (take (i + 1) xs)) room)
+    put_next at2 out2 h fits is before is2 after =
+        let more = one_more xs i d h in
+        let within = length-flat_map-take f xs i d h in
+        let front = flat_map f (take i xs) in
+        let x = f (get_or xs i d) in
+        let whole : length (front ++ x) ≡ length front + length x = length-append front x in
+        rw more (
+          omega (arith, is, is2, whole),
+          after ∙ ap (λ o. put_at at x o) before
+              ∙ subst (λ n. put_at n x (put_at start front room) ≡ put_at start (front ++ x) room) (sym is)
+              (put_put start front x room (omega (arith, fits, within))),
+        )
+
+-- ---- sizes
+
+pub length_key : (key : Key) → length (key_bytes key) ≡ KEY_SIZE
+length_key key =
+    let bytes = key.0 in
+    omega (
+      arith,
+      length-take KEY_SIZE (bytes ++ replicate KEY_SIZE 0),
+      length-append bytes (replicate KEY_SIZE 0),
+      length-replicate {A = ℕ} KEY_SIZE 0,
+    )
+
+pub length_keys : (keys : List Key) → length (keys_bytes keys) ≡ length keys * KEY_SIZE
+length_keys [] = refl
+length_keys (key ∷ keys) =
+    omega (
+      arith,
+      length-append (key_bytes key) (keys_bytes keys),
+      length_key key,
+      length_keys keys,
+    )
+
+-- the size of one part more, at most the greatest
+pub size_next : (greatest top n m a b whole : ℕ) → greatest ≤ top → n ≡ min a greatest → m ≡ min b greatest →
+    whole ≡ a + b → min (min (n + m) top) greatest ≡ min whole greatest
+size_next greatest top n m a b whole h is also sum = omega (arith, h, is, also, sum)
+
+-- a key of its number of bytes is spelled by them
+pub key_is : (bytes : List ℕ) → length bytes ≡ KEY_SIZE → key_bytes (record { 0 = bytes }) ≡ bytes
+key_is bytes h = array_is KEY_SIZE bytes h
+
+-- the bytes of the key in front, and those behind it
+pub front_is : (bytes key rest : List ℕ) → KEY_SIZE ≤ length bytes → key ≡ take KEY_SIZE bytes →
+    rest ≡ drop KEY_SIZE bytes → bytes ≡ key_bytes (record { 0 = key }) ++ rest
+front_is bytes key rest h is behind =
+    let sized : length key ≡ KEY_SIZE = ap (λ (l : List ℕ). length l) is ∙ length-take-le KEY_SIZE bytes h in
+    rw (key_is key sized) (rw is (rw behind (sym (take-append-drop KEY_SIZE bytes))))
+
+-- keys that are the front of the bytes, and the next
+pub keys_next : (keys : List Key) (bytes key : List ℕ) (place : ℕ) →
+    place * KEY_SIZE + KEY_SIZE ≤ length bytes → keys_bytes keys ≡ take (place * KEY_SIZE) bytes →
+    key ≡ take KEY_SIZE (drop (place * KEY_SIZE) bytes) →
+    keys_bytes (keys ++ record { 0 = key } ∷ []) ≡ take ((place + 1) * KEY_SIZE) bytes
+keys_next keys bytes key place h before is =
+    let left : KEY_SIZE ≤ length (drop (place * KEY_SIZE) bytes) =
+    omega (arith, h, length-drop (place * KEY_SIZE) bytes) in
+    let sized : length key ≡ KEY_SIZE =
+    ap (λ (l : List ℕ). length l) is ∙ length-take-le KEY_SIZE (drop (place * KEY_SIZE) bytes) left in
+    let more : (place + 1) * KEY_SIZE ≡ place * KEY_SIZE + KEY_SIZE = omega arith in
+    flat_map-append key_bytes keys (record { 0 = key } ∷ [])
+    ∙ ap (λ l. keys_bytes keys ++ (l ++ [])) (key_is key sized)
+    ∙ ap (λ l. keys_bytes keys ++ l) (append-nil key)
+    ∙ ap (λ l. l ++ key) before ∙ ap (λ l. take (place * KEY_SIZE) bytes ++ l) is
+    ∙ sym (take-add (place * KEY_SIZE) KEY_SIZE bytes) ∙ ap (λ n. take n bytes) (sym more)

@@ -1,0 +1,237 @@
+-- What the calls of a session do.
+use Rattle.std.specs.Prelude.{◌≡◌, ◌⊎◌, ℕ, ◌*◌, ◌<◌, ◌^◌, min, Bool, List, [], length}
+use Rattle.std.specs.Prelude.{Option, Some, None, Ok, Err, true, false, is_some}
+use Rattle.p2p_tracker.specs.Calls.{Call}
+use Rattle.p2p_tracker.specs.Calls.Call.{Dial, Listen, Connect, Release, Update, Block}
+use Rattle.p2p_tracker.specs.Calls.Call.{UnblockExpired, ForgetCooled, Ask}
+use Rattle.p2p_tracker.specs.Calls.Question.{StatusOf, NumberTracked, NextUnblock, BlockedAt}
+use Rattle.p2p_tracker.specs.Calls.Question.{PeerSet, LatestIndex, AllPeers, LatestUpdate}
+use Rattle.p2p_tracker.specs.Calls.Question.{InfoOf, InfosFor, BitsAt, IsEligible, IsAcceptable}
+use Rattle.p2p_tracker.specs.Calls.Question.{DialableAt}
+use Rattle.p2p_tracker.specs.Directory.{other_keys}
+use Rattle.p2p_directory.specs.Run.{was_made}
+use Rattle.p2p_directory.specs.Nodes.{NodeView, AtEach, IsSteppedAt, standing_of}
+use Rattle.p2p_directory.specs.Nodes.{NodeStandsAt, made_of}
+use Rattle.p2p_directory.specs.declared.node.Setup.{Setup}
+use Rattle.p2p_session.specs.declared.setup.Numbers.{Numbers}
+use Rattle.p2p_directory.specs.declared.run.commands.Reply.{Reply}
+use Rattle.p2p_session.specs.declared.key.Key.{Key}
+use Rattle.p2p_session.specs.declared.key.Signature.{Signature}
+use Rattle.p2p_session.specs.declared.key.TheConstants.{KEY_SIZE, SIGNATURE_SIZE}
+use Rattle.p2p_session.specs.declared.refusal.Refusal.TheVariants as refusal
+use Rattle.p2p_session.specs.declared.Session.{Session}
+use Rattle.p2p_session.specs.contracts.key.KeyOrd.TheImpl.{ghosts as order}
+use Rattle.p2p_session.specs.Answers.{Tells, TellsReply, Refuses, optional, key_bytes}
+use Rattle.p2p_session.specs.Answers.{signature_bytes}
+use Rattle.p2p_session.specs.Refusals.{number_of}
+use Rattle.p2p_session.specs.Given.{Asked, and_then, key_at, moment_at, IsTrackRead, IsRead}
+use Rattle.p2p_session.specs.Given.{infos_spelled, bits_spelled, key_of, signature_of, IsSetup}
+use Rattle.p2p_directory.specs.Received.{Wire, wire_of, ask_frame_at}
+
+abbrev pub View : Type 0
+View = NodeView Key Signature
+
+-- how payloads of these keys are spelled and read; no signature is right by itself
+abbrev pub wire : Wire Key Signature
+wire = wire_of KEY_SIZE key_bytes key_of SIGNATURE_SIZE signature_bytes signature_of
+    (λ _ _ _ _. false)
+
+-- no node has been made
+abbrev pub IsFresh : Session → Type 0
+IsFresh it = it.node ≡ None
+
+-- ---- one call
+
+-- the node made this call, wherever the calls accepted before led: the reply is that of a run, the
+-- node stands at the next point, and the reply is answered
+pub record Steps (call : Call Key Signature) (r : Reply Key Signature) (v v2 : View)
+    (out out2 : List ℕ) (n : ℕ) : Type 0 where
+  pub stepped : AtEach order.cmp v (λ m calls. IsSteppedAt m calls call r v2)
+  pub unchanged : was_made r ≡ false → v2 ≡ v
+  pub told : TellsReply r out out2 n
+
+-- there is no node, and nothing was done
+abbrev pub HasNone : Option View → List ℕ → List ℕ → ℕ → Type 0
+HasNone o out out2 n = (o ≡ None) × Refuses refusal.NoNode out out2 n
+
+-- the call that was asked for is made, or why it can't be read is answered
+abbrev pub Serves : Asked → List ℕ → List ℕ → Option View → Option View → ℕ → Type 0
+Serves given out out2 None o n = HasNone o out out2 n
+Serves (Err why) out out2 (Some v) o n = (o ≡ Some v) × Refuses why out out2 n
+Serves (Ok call) out out2 (Some v) None n = ⊥
+Serves (Ok call) out out2 (Some v) (Some v2) n =
+    (r : Reply Key Signature) × Steps call r v v2 out out2 n
+
+-- .. with nothing to write
+abbrev pub Answers : Asked → Session → Session → ℕ → Type 0
+Answers given before after n = Serves given [] [] before.node after.node n
+
+abbrev pub Writes : Asked → List ℕ → List ℕ → Session → Session → ℕ → Type 0
+Writes given out out2 before after n = Serves given out out2 before.node after.node n
+
+-- ---- each call
+
+abbrev pub of_peer : List ℕ → (Key → Call Key Signature) → Asked
+of_peer peer f = and_then (key_at peer) (λ p. Ok (f p))
+
+abbrev pub at_moment : ℕ → ℕ → (ℕ → Call Key Signature) → Asked
+at_moment seconds nanos f = and_then (moment_at seconds nanos) (λ now. Ok (f now))
+
+abbrev pub of_peer_at : List ℕ → ℕ → ℕ → (Key → ℕ → Call Key Signature) → Asked
+of_peer_at peer seconds nanos f = and_then (key_at peer) (λ p. at_moment seconds nanos (f p))
+
+abbrev pub with_draw : List ℕ → ℕ → ℕ → ℕ → ℕ → (Key → ℕ → ℕ → Call Key Signature) → Asked
+with_draw peer seconds nanos draw_seconds draw_nanos f =
+    and_then (key_at peer) (λ p. and_then (moment_at seconds nanos) (λ now.
+    at_moment draw_seconds draw_nanos (f p now)))
+
+abbrev pub Dials : List ℕ → ℕ → ℕ → ℕ → ℕ → Session → Session → ℕ → Type 0
+Dials peer seconds nanos draw_seconds draw_nanos =
+    Answers (with_draw peer seconds nanos draw_seconds draw_nanos (λ p now draw. Dial p now draw))
+
+abbrev pub Listens : List ℕ → ℕ → ℕ → ℕ → ℕ → Session → Session → ℕ → Type 0
+Listens peer seconds nanos draw_seconds draw_nanos =
+    Answers (with_draw peer seconds nanos draw_seconds draw_nanos (λ p now draw. Listen p now draw))
+
+abbrev pub Connects : List ℕ → Bool → Session → Session → ℕ → Type 0
+Connects peer dialer = Answers (of_peer peer (λ p. Connect p dialer))
+
+abbrev pub Releases : List ℕ → Session → Session → ℕ → Type 0
+Releases peer = Answers (of_peer peer (λ p. Release p))
+
+abbrev pub Blocks : List ℕ → ℕ → ℕ → Session → Session → ℕ → Type 0
+Blocks peer seconds nanos = Answers (of_peer_at peer seconds nanos (λ p now. Block p now))
+
+abbrev pub Unblocks : ℕ → ℕ → Session → Session → ℕ → Type 0
+Unblocks seconds nanos = Answers (at_moment seconds nanos (λ now. UnblockExpired now))
+
+abbrev pub Forgets : ℕ → ℕ → Session → Session → ℕ → Type 0
+Forgets seconds nanos = Answers (at_moment seconds nanos (λ now. ForgetCooled now))
+
+abbrev pub TellsUnblock : List ℕ → List ℕ → Session → Session → ℕ → Type 0
+TellsUnblock = Writes (Ok (Ask NextUnblock))
+
+abbrev pub TellsBlocked : ℕ → ℕ → List ℕ → List ℕ → Session → Session → ℕ → Type 0
+TellsBlocked seconds nanos = Writes (at_moment seconds nanos (λ now. Ask (BlockedAt now)))
+
+abbrev pub TellsStatus : List ℕ → Session → Session → ℕ → Type 0
+TellsStatus peer = Answers (of_peer peer (λ p. Ask (StatusOf p)))
+
+abbrev pub TellsPeerSet : ℕ → List ℕ → List ℕ → Session → Session → ℕ → Type 0
+TellsPeerSet index = Writes (Ok (Ask (PeerSet index)))
+
+abbrev pub TellsLatestIndex : List ℕ → List ℕ → Session → Session → ℕ → Type 0
+TellsLatestIndex = Writes (Ok (Ask LatestIndex))
+
+abbrev pub TellsUpdate : List ℕ → List ℕ → Session → Session → ℕ → Type 0
+TellsUpdate = Writes (Ok (Ask LatestUpdate))
+
+abbrev pub TellsAll : List ℕ → List ℕ → Session → Session → ℕ → Type 0
+TellsAll = Writes (Ok (Ask AllPeers))
+
+abbrev pub TellsInfo : List ℕ → List ℕ → List ℕ → Session → Session → ℕ → Type 0
+TellsInfo peer = Writes (of_peer peer (λ p. Ask (InfoOf p)))
+
+abbrev pub TellsBits : ℕ → List ℕ → List ℕ → Session → Session → ℕ → Type 0
+TellsBits place = Writes (Ok (Ask (BitsAt place)))
+
+abbrev pub TellsEligible : List ℕ → ℕ → ℕ → Session → Session → ℕ → Type 0
+TellsEligible peer seconds nanos =
+    Answers (of_peer_at peer seconds nanos (λ p now. Ask (IsEligible p now)))
+
+abbrev pub TellsAcceptable : List ℕ → ℕ → ℕ → Session → Session → ℕ → Type 0
+TellsAcceptable peer seconds nanos =
+    Answers (of_peer_at peer seconds nanos (λ p now. Ask (IsAcceptable p now)))
+
+abbrev pub TellsDialable : ℕ → ℕ → List ℕ → List ℕ → Session → Session → ℕ → Type 0
+TellsDialable seconds nanos = Writes (at_moment seconds nanos (λ now. Ask (DialableAt now)))
+
+abbrev pub TellsTracked : Session → Session → ℕ → Type 0
+TellsTracked = Answers (Ok (Ask NumberTracked))
+
+-- how many bytes the keys of all peers with a record have
+abbrev pub room_for : View → ℕ
+room_for v = min (length (other_keys v.directory.records) * KEY_SIZE) (2 ^ 63)
+
+abbrev pub TellsRoom : Session → Session → ℕ → Type 0
+TellsRoom before after n = (after ≡ before) × IsRoom before.node n
+  where
+    IsRoom : Option View → ℕ → Type 0
+    IsRoom None n = n ≡ number_of refusal.NoNode
+    IsRoom (Some v) n = n ≡ room_for v
+
+-- why a call without room is refused
+abbrev pub room_refusal : Option View → ℕ
+room_refusal None = number_of refusal.NoNode
+room_refusal (Some v) = number_of refusal.NoRoom
+
+-- the call, as it was read, is made
+abbrev pub ServesRead : (Asked → Type 0) → List ℕ → List ℕ → Session → Session → ℕ → Type 0
+ServesRead IsGiven out out2 before after n =
+    (given : Asked) × IsGiven given × Writes given out out2 before after n
+
+-- a set is taken; where the room is shorter than the keys of all peers with a record it isn't
+abbrev pub Tracks : ℕ → List ℕ → List ℕ → List ℕ → List ℕ → Session → Session → ℕ → Type 0
+Tracks index primary secondary out out2 before after n =
+    ((n ≡ room_refusal before.node) × (after ≡ before) × (out2 ≡ out) × LacksRoom before.node)
+    ⊎ ServesRead (IsTrackRead index primary secondary) out out2 before after n
+  where
+    LacksRoom : Option View → Type 0
+    LacksRoom None = Unit {0}
+    LacksRoom (Some v) = length out < room_for v
+
+abbrev pub UpdatesPeers : List ℕ → Session → Session → ℕ → Type 0
+UpdatesPeers infos = ServesRead
+    (λ given. IsRead given (and_then (infos_spelled infos) (λ is. Ok (Update is)))) [] []
+
+-- the greatest number of bits that the node takes
+abbrev pub greatest_bits : Option View → ℕ
+greatest_bits None = 0
+greatest_bits (Some v) = v.limits.max_bit_vec
+
+abbrev pub TellsInfos : List ℕ → ℕ → ℕ → List ℕ → List ℕ → Session → Session → ℕ → Type 0
+TellsInfos bits seconds nanos out out2 before after n = ServesRead (λ given. IsRead given
+    (and_then (bits_spelled (greatest_bits before.node) bits) (λ v.
+    at_moment seconds nanos (λ now. Ask (InfosFor v.index v.bits now)))))
+    out out2 before after n
+
+-- the frame of the bits of the set at a place, or want of memory; nothing changes
+abbrev pub Asks : ℕ → List ℕ → List ℕ → Session → Session → ℕ → Type 0
+Asks place out out2 before after n = (after ≡ before) × AskedOf before.node
+  where
+    AskedOf : Option View → Type 0
+    AskedOf None = Refuses refusal.NoNode out out2 n
+    AskedOf (Some v) = let frame = ask_frame_at wire (standing_of order.cmp wire v) place in
+        Tells (optional (λ bytes. bytes) frame) out out2 n
+        ⊎ (Refuses refusal.Memory out out2 n × (is_some frame ≡ true))
+
+-- ---- a node is made
+
+-- this node is new, and made from the setup
+abbrev pub IsMade : Option View → Setup Key Signature → Type 0
+IsMade None given = ⊥
+IsMade (Some v) given = NodeStandsAt (made_of order.cmp given) [] v
+
+-- 1 where there was none and it is made from these, and else nothing changes
+pub record InitsBy (numbers : Numbers) (namespace bootstrappers myself : List ℕ)
+    (before after : Session) (n : ℕ) : Type 0 where
+  pub made : n ≡ 1 → (before.node ≡ None) × ((given : Setup Key Signature)
+      × IsSetup numbers namespace bootstrappers myself given × IsMade after.node given)
+  pub refused : ¬ (n ≡ 1) → after.node ≡ before.node
+
+abbrev pub Inits : Bool → Bool → ℕ → ℕ → ℕ → ℕ → ℕ → ℕ → ℕ → ℕ → ℕ → ℕ → ℕ → ℕ →
+    List ℕ → List ℕ → List ℕ → Session → Session → ℕ → Type 0
+Inits private_ips dns sets fails cooldown_seconds cooldown_nanos block_seconds block_nanos
+    bits peers data_length count bound_seconds bound_nanos = InitsBy (record {
+      allow_private_ips = private_ips;
+      allow_dns = dns;
+      max_sets = sets;
+      dial_fail_limit = fails;
+      cooldown = (cooldown_seconds, cooldown_nanos);
+      block = (block_seconds, block_nanos);
+      max_bit_vec = bits;
+      max_peers = peers;
+      max_data_length = data_length;
+      peer_gossip_max_count = count;
+      bound = (bound_seconds, bound_nanos);
+    })

@@ -1,0 +1,131 @@
+//! Answers, written straight into the host's room: no memory is asked for.
+
+ghost use Rattle.std.specs.Prelude.{◌≡◌, ◌+◌, ◌*◌, ◌≤◌, ◌<◌, ◌^◌, min, length, take};
+ghost use Rattle.p2p_session.specs.Answers.{key_bytes, keys_bytes, part_bytes, parts_bytes, put_at};
+ghost use Rattle.p2p_session.specs.Answers.{IsAnswered};
+
+use crate::key::{KEY_SIZE, Key};
+use p2p_discovery::codec::FixedBytes;
+
+/// A part of an answer.
+#[derive(Clone, Copy)]
+pub enum Part<'a> {
+    /// A number, by eight bytes, the most significant first.
+    Number(u64),
+    /// A number below a second, by four bytes, the most significant first.
+    Nanos(u32),
+    /// One byte.
+    Byte(u8),
+    /// Keys, one after the other.
+    Keys(&'a [Key]),
+    /// These bytes.
+    Bytes(&'a [u8]),
+}
+
+/// The length of no answer is above this.
+const LONGEST: u64 = 1 << 63;
+
+/// Writes the parts at the front of the room, where they fit, and answers how many bytes they are,
+/// or, where they are more, the greatest length that is told.
+pub fn answer(parts: &[Part<'_>], out: &mut [u8]) -> u64
+    ensures { IsAnswered (parts_bytes parts.now) out.old out.new result }
+{
+    let size = size_of_all(parts);
+    if size <= out.len() as u64 {
+        write_all(parts, out);
+    }
+    size
+}
+
+// How many bytes the parts are.
+fn size_of_all(parts: &[Part<'_>]) -> u64
+    ensures { result ≡ min (length (parts_bytes parts.now)) (2 ^ 63) }
+{
+    let mut size: u64 = 0;
+    for part in parts {
+        size = size.saturating_add(size_of(part)).min(LONGEST);
+    }
+    size
+}
+
+// How many bytes the part is.
+fn size_of(part: &Part<'_>) -> u64
+    ensures { result ≡ min (length (part_bytes part.now)) (2 ^ 63) }
+{
+    match part {
+        Part::Number(_) => 8,
+        Part::Nanos(_) => 4,
+        Part::Byte(_) => 1,
+        Part::Keys(keys) => size_of_keys(keys.len()),
+        Part::Bytes(bytes) => (bytes.len() as u64).min(LONGEST),
+    }
+}
+
+// How many bytes so many keys are.
+pub(crate) fn size_of_keys(count: usize) -> u64
+    ensures { result ≡ min (count * KEY_SIZE) (2 ^ 63) }
+{
+    (count as u64).saturating_mul(KEY_SIZE as u64).min(LONGEST)
+}
+
+// Writes the parts one after the other.
+fn write_all(parts: &[Part<'_>], out: &mut [u8])
+    requires { length (parts_bytes parts.now) ≤ length out.old }
+    ensures { out.new ≡ put_at 0 (parts_bytes parts.now) out.old }
+{
+    let mut at = 0;
+    for part in parts {
+        at = write(part, out, at);
+    }
+}
+
+// Writes the part from a place on, and answers the place behind it.
+fn write(part: &Part<'_>, out: &mut [u8], at: usize) -> usize
+    requires { at + length (part_bytes part.now) ≤ length out.old }
+    ensures bytes { out.new ≡ put_at at (part_bytes part.now) out.old }
+    ensures end { result ≡ at + length (part_bytes part.now) }
+{
+    match part {
+        Part::Number(number) => put(out, at, &number.to_be_bytes()),
+        Part::Nanos(number) => put(out, at, &number.to_be_bytes()),
+        Part::Byte(byte) => put(out, at, &[*byte]),
+        Part::Keys(keys) => put_keys(out, at, keys),
+        Part::Bytes(bytes) => put(out, at, bytes),
+    }
+}
+
+// Writes the keys from a place on, and answers the place behind them.
+fn put_keys(out: &mut [u8], start: usize, keys: &[Key]) -> usize
+    requires { start + length (keys_bytes keys.now) ≤ length out.old }
+    ensures bytes { out.new ≡ put_at start (keys_bytes keys.now) out.old }
+    ensures end { result ≡ start + length (keys_bytes keys.now) }
+{
+    let mut at = start;
+    for key in keys {
+        at = put_key(out, at, key);
+    }
+    at
+}
+
+// Writes the key from a place on, and answers the place behind it.
+#[tactic(auto, using(crate::proofs::Puts::length_key))]
+fn put_key(out: &mut [u8], at: usize, key: &Key) -> usize
+    requires { at + length (key_bytes key.now) ≤ length out.old }
+    ensures bytes { out.new ≡ put_at at (key_bytes key.now) out.old }
+    ensures end { result ≡ at + length (key_bytes key.now) }
+{
+    let end = at + KEY_SIZE;
+    key.write_fixed(&mut out[at..end]);
+    end
+}
+
+// Writes the bytes from a place on, and answers the place behind them.
+fn put(out: &mut [u8], at: usize, bytes: &[u8]) -> usize
+    requires { at + length bytes.now ≤ length out.old }
+    ensures bytes { out.new ≡ put_at at bytes.now out.old }
+    ensures end { result ≡ at + length bytes.now }
+{
+    let end = at + bytes.len();
+    out[at..end].copy_from_slice(bytes);
+    end
+}

@@ -1,0 +1,161 @@
+//! Commands, by what a session is given for them.
+
+ghost use Rattle.std.specs.Prelude.{◌≡◌, Ok};
+ghost use Rattle.p2p_session.specs.Given.{asked, and_then, IsRead, IsTrackRead, infos_spelled};
+ghost use Rattle.p2p_session.specs.Given.{bits_spelled};
+ghost use Rattle.p2p_session.specs.Sessions.{of_peer, at_moment, of_peer_at, with_draw};
+ghost use Rattle.p2p_tracker.specs.Calls.Call.{Dial, Listen, Connect, Release, Block};
+ghost use Rattle.p2p_tracker.specs.Calls.Call.{UnblockExpired, ForgetCooled, Ask, Update};
+ghost use Rattle.p2p_tracker.specs.Calls.Question.{StatusOf, BlockedAt, InfoOf, IsEligible};
+ghost use Rattle.p2p_tracker.specs.Calls.Question.{IsAcceptable, DialableAt, InfosFor};
+
+use crate::given::{bits, infos, key, moment, set};
+use crate::key::Key;
+use crate::refusal::Refusal;
+use p2p_directory::directory::TrackedPeers;
+use p2p_directory::run::Command;
+use std::alloc::Global;
+
+pub fn track(
+    alloc: Global,
+    index: u64,
+    primary: &[u8],
+    secondary: &[u8],
+) -> Result<Command<Key>, Refusal>
+    ensures { IsTrackRead index primary.now secondary.now (asked result) }
+{
+    let primary = set(alloc, primary)?;
+    let secondary = set(alloc, secondary)?;
+    Ok(Command::Track {
+        index,
+        peers: TrackedPeers::new(primary, secondary),
+    })
+}
+
+pub fn update_peers(alloc: Global, bytes: &[u8]) -> Result<Command<Key>, Refusal>
+    ensures { IsRead (asked result) (and_then (infos_spelled bytes.now) (λ is. Ok (Update is))) }
+{
+    Ok(Command::UpdatePeers(infos(alloc, bytes)?))
+}
+
+pub fn infos_for(
+    alloc: Global,
+    bytes: &[u8],
+    greatest: u64,
+    seconds: u64,
+    nanos: u32,
+) -> Result<Command<Key>, Refusal>
+    ensures { IsRead (asked result) (and_then (bits_spelled greatest bytes.now) (λ v.
+        at_moment seconds nanos (λ now. Ask (InfosFor v.index v.bits now)))) }
+{
+    let bit_vec = bits(alloc, bytes, greatest)?;
+    let now = moment(seconds, nanos)?;
+    Ok(Command::Infos { bit_vec, now })
+}
+
+pub fn dial(
+    peer: &[u8],
+    seconds: u64,
+    nanos: u32,
+    draw_seconds: u64,
+    draw_nanos: u32,
+) -> Result<Command<Key>, Refusal>
+    ensures { asked result ≡ with_draw peer.now seconds nanos draw_seconds draw_nanos
+        (λ p now draw. Dial p now draw) }
+{
+    let peer = key(peer)?;
+    let now = moment(seconds, nanos)?;
+    let draw = moment(draw_seconds, draw_nanos)?;
+    Ok(Command::Dial { peer, now, draw })
+}
+
+pub fn listen(
+    peer: &[u8],
+    seconds: u64,
+    nanos: u32,
+    draw_seconds: u64,
+    draw_nanos: u32,
+) -> Result<Command<Key>, Refusal>
+    ensures { asked result ≡ with_draw peer.now seconds nanos draw_seconds draw_nanos
+        (λ p now draw. Listen p now draw) }
+{
+    let peer = key(peer)?;
+    let now = moment(seconds, nanos)?;
+    let draw = moment(draw_seconds, draw_nanos)?;
+    Ok(Command::Listen { peer, now, draw })
+}
+
+pub fn connect(peer: &[u8], dialer: bool) -> Result<Command<Key>, Refusal>
+    ensures { asked result ≡ of_peer peer.now (λ p. Connect p dialer) }
+{
+    let peer = key(peer)?;
+    Ok(Command::Connect { peer, dialer })
+}
+
+pub fn release(peer: &[u8]) -> Result<Command<Key>, Refusal>
+    ensures { asked result ≡ of_peer peer.now (λ p. Release p) }
+{
+    Ok(Command::Release(key(peer)?))
+}
+
+pub fn block(peer: &[u8], seconds: u64, nanos: u32) -> Result<Command<Key>, Refusal>
+    ensures { asked result ≡ of_peer_at peer.now seconds nanos (λ p now. Block p now) }
+{
+    let peer = key(peer)?;
+    let now = moment(seconds, nanos)?;
+    Ok(Command::Block { peer, now })
+}
+
+pub fn unblock_expired(seconds: u64, nanos: u32) -> Result<Command<Key>, Refusal>
+    ensures { asked result ≡ at_moment seconds nanos (λ now. UnblockExpired now) }
+{
+    Ok(Command::UnblockExpired(moment(seconds, nanos)?))
+}
+
+pub fn forget_cooled(seconds: u64, nanos: u32) -> Result<Command<Key>, Refusal>
+    ensures { asked result ≡ at_moment seconds nanos (λ now. ForgetCooled now) }
+{
+    Ok(Command::ForgetCooled(moment(seconds, nanos)?))
+}
+
+pub fn blocked_peers(seconds: u64, nanos: u32) -> Result<Command<Key>, Refusal>
+    ensures { asked result ≡ at_moment seconds nanos (λ now. Ask (BlockedAt now)) }
+{
+    Ok(Command::BlockedPeers(moment(seconds, nanos)?))
+}
+
+pub fn status(peer: &[u8]) -> Result<Command<Key>, Refusal>
+    ensures { asked result ≡ of_peer peer.now (λ p. Ask (StatusOf p)) }
+{
+    Ok(Command::Status(key(peer)?))
+}
+
+pub fn info(peer: &[u8]) -> Result<Command<Key>, Refusal>
+    ensures { asked result ≡ of_peer peer.now (λ p. Ask (InfoOf p)) }
+{
+    Ok(Command::Info(key(peer)?))
+}
+
+pub fn eligible(peer: &[u8], seconds: u64, nanos: u32) -> Result<Command<Key>, Refusal>
+    ensures { asked result ≡ of_peer_at peer.now seconds nanos
+        (λ p now. Ask (IsEligible p now)) }
+{
+    let peer = key(peer)?;
+    let now = moment(seconds, nanos)?;
+    Ok(Command::Eligible { peer, now })
+}
+
+pub fn acceptable(peer: &[u8], seconds: u64, nanos: u32) -> Result<Command<Key>, Refusal>
+    ensures { asked result ≡ of_peer_at peer.now seconds nanos
+        (λ p now. Ask (IsAcceptable p now)) }
+{
+    let peer = key(peer)?;
+    let now = moment(seconds, nanos)?;
+    Ok(Command::Acceptable { peer, now })
+}
+
+pub fn dialable(seconds: u64, nanos: u32) -> Result<Command<Key>, Refusal>
+    ensures { asked result ≡ at_moment seconds nanos (λ now. Ask (DialableAt now)) }
+{
+    Ok(Command::Dialable(moment(seconds, nanos)?))
+}

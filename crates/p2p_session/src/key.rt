@@ -1,0 +1,93 @@
+//! Keys and signatures as they stand in bytes.
+
+ghost use Rattle.std.specs.Prelude.{refl, false, Some};
+ghost use Rattle.std.proofs.Common.{lit≤};
+ghost use Rattle.p2p_discovery.specs.Arrays.{array_spelling};
+ghost use Rattle.p2p_discovery.specs.ArraysLaws.{fixed_array, one_array, exact_array};
+ghost use Rattle.p2p_discovery.specs.Fields.{IsSized};
+
+use p2p_discovery::codec::{FixedBytes, PublicKey, read_array, write_array};
+
+/// How many bytes a key has. For keys of another size edit this line.
+pub const KEY_SIZE: usize = 32;
+
+/// How many bytes a signature has. For signatures of another size edit this line.
+pub const SIGNATURE_SIZE: usize = 64;
+
+/// A key: its bytes, by which it is ordered.
+#[derive(Clone, Copy, Debug, PartialEq, Eq, PartialOrd, Ord)]
+pub struct Key(pub [u8; KEY_SIZE]);
+
+/// A signature: its bytes.
+#[derive(Clone, Copy, Debug, PartialEq, Eq)]
+pub struct Signature(pub [u8; SIGNATURE_SIZE]);
+
+impl FixedBytes for Key {
+    ghost use Rattle.p2p_session.specs.declared.key.TheConstants.{KEY_SIZE};
+
+    ghost SIZE = { KEY_SIZE };
+
+    const SIZE: usize = KEY_SIZE;
+
+    ghost IsValue = { λ key. IsSized KEY_SIZE key.0 };
+
+    ghost spelled = { λ key. array_spelling KEY_SIZE key.0 };
+
+    ghost value = { λ bytes. Some (record { 0 = bytes }) };
+
+    fn write_fixed(&self, out: &mut [u8]) {
+        write_array(&self.0, out);
+    }
+
+    fn read_fixed(bytes: &[u8]) -> Option<Key> {
+        Some(Key(read_array(bytes)))
+    }
+
+    ghost fixed = { fixed_array (λ bytes. record { 0 = bytes }) (λ key. key.0)
+        (λ _. refl) (λ _. refl) KEY_SIZE (lit≤ tt) };
+
+    ghost one_value = { one_array (λ bytes. record { 0 = bytes }) (λ key. key.0)
+        (λ _. refl) (λ _. refl) };
+}
+
+impl FixedBytes for Signature {
+    ghost use Rattle.p2p_session.specs.declared.key.TheConstants.{SIGNATURE_SIZE};
+
+    ghost SIZE = { SIGNATURE_SIZE };
+
+    const SIZE: usize = SIGNATURE_SIZE;
+
+    ghost IsValue = { λ signature. IsSized SIGNATURE_SIZE signature.0 };
+
+    ghost spelled = { λ signature. array_spelling SIGNATURE_SIZE signature.0 };
+
+    ghost value = { λ bytes. Some (record { 0 = bytes }) };
+
+    fn write_fixed(&self, out: &mut [u8]) {
+        write_array(&self.0, out);
+    }
+
+    fn read_fixed(bytes: &[u8]) -> Option<Signature> {
+        Some(Signature(read_array(bytes)))
+    }
+
+    ghost fixed = { fixed_array (λ bytes. record { 0 = bytes }) (λ signature. signature.0)
+        (λ _. refl) (λ _. refl) SIGNATURE_SIZE (lit≤ tt) };
+
+    ghost one_value = { one_array (λ bytes. record { 0 = bytes }) (λ signature. signature.0)
+        (λ _. refl) (λ _. refl) };
+}
+
+impl PublicKey for Key {
+    type Signature = Signature;
+
+    ghost verifies = { λ _ _ _ _. false };
+
+    // No session asks: the host judges signatures, for no scheme is in this library.
+    fn verify(&self, _namespace: &[u8], _message: &[u8], _signature: &Signature) -> bool {
+        false
+    }
+
+    ghost exact = { exact_array (λ bytes. record { 0 = bytes }) (λ key. key.0)
+        (λ _. refl) (λ _. refl) };
+}

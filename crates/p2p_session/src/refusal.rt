@@ -1,0 +1,77 @@
+//! Why a call is refused, and the number that it answers then.
+
+ghost use Rattle.std.specs.Prelude.{◌≡◌};
+ghost use Rattle.p2p_session.specs.Refusals.{number_of};
+ghost use Rattle.p2p_session.specs.declared.refusal.Refusal.TheVariants.{Memory};
+
+use std::alloc::{AllocError, AllocFailed};
+
+/// Why a call is refused, or has no answer. Nothing has changed then, and nothing was written.
+#[derive(Clone, Copy, Debug, PartialEq, Eq)]
+pub enum Refusal {
+    /// Memory was refused.
+    Memory,
+    /// No node was made yet.
+    NoNode,
+    /// The answer is that there is none.
+    None,
+    /// The room is shorter than the longest answer that the call may have, so it was not made.
+    NoRoom,
+    /// The peer that is to be connected isn't reserved.
+    NotReserved,
+    /// No reservation of the peer that is to be released is held.
+    NotHeld,
+    /// The bytes are no key: they are of another number.
+    BadKey,
+    /// The bytes are no list of keys: their number is no multiple of a key's.
+    BadKeys,
+    /// The bytes spell no info, no list of infos, or no bootstrappers.
+    BadInfo,
+    /// The bytes spell no bits that the node takes.
+    BadBits,
+    /// The nanoseconds of a moment are a second or more.
+    BadMoment,
+    /// A setting that no node may have, or there is a node already.
+    BadSetting,
+    /// The verdicts are not as many as the infos of the frame.
+    BadVerdicts,
+}
+
+impl Refusal {
+    /// The number that a call answers. The numbers stand at the top of `u64`, above every length.
+    pub fn number(self) -> u64
+        ensures { result ≡ number_of self }
+    {
+        match self {
+            Refusal::Memory => u64::MAX,
+            Refusal::NoNode => u64::MAX - 1,
+            Refusal::None => u64::MAX - 2,
+            Refusal::NoRoom => u64::MAX - 3,
+            Refusal::NotReserved => u64::MAX - 4,
+            Refusal::NotHeld => u64::MAX - 5,
+            Refusal::BadKey => u64::MAX - 6,
+            Refusal::BadKeys => u64::MAX - 7,
+            Refusal::BadInfo => u64::MAX - 8,
+            Refusal::BadBits => u64::MAX - 9,
+            Refusal::BadMoment => u64::MAX - 10,
+            Refusal::BadSetting => u64::MAX - 11,
+            Refusal::BadVerdicts => u64::MAX - 12,
+        }
+    }
+}
+
+impl From<AllocError> for Refusal {
+    ghost from_gives = { λ _ e. e ≡ Memory };
+
+    fn from(_error: AllocError) -> Refusal {
+        Refusal::Memory
+    }
+}
+
+impl<T: Drop> From<AllocFailed<T>> for Refusal {
+    ghost from_gives = { λ _ e. e ≡ Memory };
+
+    fn from(_error: AllocFailed<T>) -> Refusal {
+        Refusal::Memory
+    }
+}

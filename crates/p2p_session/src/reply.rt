@@ -1,0 +1,203 @@
+//! Replies of a node, as numbers and bytes.
+
+ghost use Rattle.std.specs.Prelude.{◌≡◌, ◌⊎◌, IfOk, OnErr};
+ghost use Rattle.p2p_session.specs.Answers.{TellsReply, Tells, Refuses, IsAnswered, part_bytes};
+ghost use Rattle.p2p_session.specs.Answers.{truth, status_number, peers_bytes, update_bytes};
+ghost use Rattle.p2p_session.specs.Answers.{optional, keys_bytes, dialable_bytes, moment_bytes};
+ghost use Rattle.p2p_session.specs.Answers.{answer_to, number, key_bytes, signature_bytes};
+ghost use Rattle.p2p_session.specs.Answers.Answer.{Is, Bytes as Spelled};
+ghost use Rattle.p2p_discovery.specs.Info.{infos_spelling};
+
+use crate::answer::{Part, answer};
+use crate::key::Key;
+use crate::refusal::Refusal;
+use bytes::Bytes;
+use p2p_directory::directory::{PeerSetUpdate, TrackedPeers};
+use p2p_directory::record::{Dialable, Status};
+use p2p_directory::run::Reply;
+use p2p_discovery::codec::Write;
+use p2p_discovery::discovery::{Info, Infos};
+use p2p_discovery::sets::OrderedSet;
+use std::alloc::{AllocError, Global};
+use std::time::Duration;
+
+/// Answers a reply: a number, or how many bytes were written at the front of the room.
+pub fn tell(alloc: Global, reply: Reply<Key>, out: &mut [u8]) -> u64
+    ensures { TellsReply reply out.old out.new result }
+{
+    match reply {
+        Reply::Track(torn) => tell_set(torn, out),
+        Reply::Dial(is) | Reply::Listen(is) | Reply::Block(is) => u64::from(is),
+        Reply::UnblockExpired(is) | Reply::Eligible(is) | Reply::Acceptable(is) => u64::from(is),
+        Reply::Connect | Reply::Release | Reply::UpdatePeers => 1,
+        Reply::ForgetCooled(count) | Reply::Tracked(count) => count as u64,
+        Reply::NextUnblock(moment) => tell_moment(moment, out),
+        Reply::BlockedPeers(peers) => answer_one(Part::Keys(peers.as_slice()), out),
+        Reply::Status(status) => status_of(status),
+        Reply::GetPeerSet(peers) => tell_peers(peers, out),
+        Reply::LatestSetIndex(index) => tell_index(index, out),
+        Reply::LatestUpdate(update) => tell_update(update, out),
+        Reply::All(peers) => answer_peers(&peers, out),
+        Reply::Info(Some(info)) => tell_spelled(alloc, &info, out),
+        Reply::Infos(Some(infos)) => tell_infos(alloc, infos, out),
+        Reply::GetRandomBitVec(Some(bits)) => tell_spelled(alloc, &bits, out),
+        Reply::Info(None) | Reply::Infos(None) | Reply::GetRandomBitVec(None) => {
+            Refusal::None.number()
+        }
+        Reply::Dialable(dialable) => tell_dialable(&dialable, out),
+        Reply::NotReserved => Refusal::NotReserved.number(),
+        Reply::NotHeld => Refusal::NotHeld.number(),
+        Reply::OutOfMemory => Refusal::Memory.number(),
+    }
+}
+
+/// Answers the frame that a node asks with.
+pub fn tell_frame(frame: Result<Option<Bytes>, AllocError>, out: &mut [u8]) -> u64
+    ensures ok { IfOk frame (λ frame. Tells (optional (λ bytes. bytes) frame)
+        out.old out.new result) }
+    ensures err { OnErr frame (Refuses Refusal.Memory out.old out.new result) }
+{
+    match frame {
+        Ok(Some(frame)) => answer_one(Part::Bytes(frame.as_slice()), out),
+        Ok(None) => Refusal::None.number(),
+        Err(AllocError) => Refusal::Memory.number(),
+    }
+}
+
+// Answers one part.
+fn answer_one(part: Part<'_>, out: &mut [u8]) -> u64
+    ensures { IsAnswered (part_bytes part.entry) out.old out.new result }
+{
+    answer(&[part], out)
+}
+
+fn tell_set(set: Option<OrderedSet<Key>>, out: &mut [u8]) -> u64
+    ensures { Tells (optional keys_bytes set) out.old out.new result }
+{
+    match set {
+        Some(set) => answer_one(Part::Keys(set.as_slice()), out),
+        None => Refusal::None.number(),
+    }
+}
+
+fn tell_moment(moment: Option<Duration>, out: &mut [u8]) -> u64
+    ensures { Tells (answer_to (Reply.NextUnblock moment)) out.old out.new result }
+{
+    match moment {
+        Some(t) => answer(
+            &[Part::Number(t.as_secs()), Part::Nanos(t.subsec_nanos())],
+            out,
+        ),
+        None => Refusal::None.number(),
+    }
+}
+
+fn status_of(status: Option<Status>) -> u64
+    ensures { Is result ≡ status_number status }
+{
+    match status {
+        None => Refusal::None.number(),
+        Some(Status::Inert) => 0,
+        Some(Status::Reserved) => 1,
+        Some(Status::Active) => 2,
+    }
+}
+
+fn tell_index(index: Option<u64>, out: &mut [u8]) -> u64
+    ensures { Tells (optional number index) out.old out.new result }
+{
+    match index {
+        Some(index) => answer_one(Part::Number(index), out),
+        None => Refusal::None.number(),
+    }
+}
+
+fn tell_peers(peers: Option<TrackedPeers<Key>>, out: &mut [u8]) -> u64
+    ensures { Tells (optional peers_bytes peers) out.old out.new result }
+{
+    match peers {
+        Some(peers) => answer_peers(&peers, out),
+        None => Refusal::None.number(),
+    }
+}
+
+fn answer_peers(peers: &TrackedPeers<Key>, out: &mut [u8]) -> u64
+    ensures { IsAnswered (peers_bytes peers.now) out.old out.new result }
+{
+    let parts = [
+        Part::Number(peers.primary.len() as u64),
+        Part::Keys(peers.primary.as_slice()),
+        Part::Keys(peers.secondary.as_slice()),
+    ];
+    answer(&parts, out)
+}
+
+fn tell_update(update: Option<PeerSetUpdate<Key>>, out: &mut [u8]) -> u64
+    ensures { Tells (optional update_bytes update) out.old out.new result }
+{
+    match update {
+        Some(update) => answer_update(&update, out),
+        None => Refusal::None.number(),
+    }
+}
+
+fn answer_update(update: &PeerSetUpdate<Key>, out: &mut [u8]) -> u64
+    ensures { IsAnswered (update_bytes update.now) out.old out.new result }
+{
+    let latest = &update.latest;
+    let all = &update.all;
+    let parts = [
+        Part::Number(update.index),
+        Part::Number(latest.primary.len() as u64),
+        Part::Number(latest.secondary.len() as u64),
+        Part::Number(all.primary.len() as u64),
+        Part::Keys(latest.primary.as_slice()),
+        Part::Keys(latest.secondary.as_slice()),
+        Part::Keys(all.primary.as_slice()),
+        Part::Keys(all.secondary.as_slice()),
+    ];
+    answer(&parts, out)
+}
+
+fn tell_dialable(dialable: &Dialable<Key>, out: &mut [u8]) -> u64
+    ensures { Tells (answer_to (Reply.Dialable dialable.now)) out.old out.new result }
+{
+    let peers = Part::Keys(&dialable.peers);
+    match dialable.next_query_at {
+        Some(t) => answer(
+            &[
+                Part::Byte(1),
+                Part::Number(t.as_secs()),
+                Part::Nanos(t.subsec_nanos()),
+                peers,
+            ],
+            out,
+        ),
+        None => answer(&[Part::Byte(0), peers], out),
+    }
+}
+
+// Answers the spelling of infos. They are no more than the bits that were given, so the number that
+// can't be spelled isn't met.
+fn tell_infos(alloc: Global, infos: Vec<Info<Key>>, out: &mut [u8]) -> u64
+    ensures { Refuses Refusal.Memory out.old out.new result
+        ⊎ Tells (Spelled (infos_spelling key_bytes signature_bytes infos.items))
+        out.old out.new result }
+{
+    if infos.len() > u32::MAX as usize {
+        return Refusal::Memory.number();
+    }
+    tell_spelled(alloc, &Infos::from_vec(infos), out)
+}
+
+// Answers the spelling of a value, for which memory is asked.
+fn tell_spelled<T: Write>(alloc: Global, value: &T, out: &mut [u8]) -> u64
+    requires { T.CanSpell value.now }
+    ensures { Refuses Refusal.Memory out.old out.new result
+        ⊎ Tells (Spelled (T.spelling value.now)) out.old out.new result }
+{
+    match value.encode(alloc) {
+        Ok(bytes) => answer_one(Part::Bytes(bytes.as_slice()), out),
+        Err(AllocError) => Refusal::Memory.number(),
+    }
+}

@@ -1,0 +1,143 @@
+//! What a node is made from, by what a session is given.
+
+ghost use Rattle.std.specs.Prelude.{◌≡◌, ◌<◌, ◌++◌, length, IfOk, OnOk};
+ghost use Rattle.p2p_discovery.specs.Info.{info_spelling};
+ghost use Rattle.p2p_discovery.specs.Ingress.{ingress_spelling};
+ghost use Rattle.std.specs.Duration.{as_nanos};
+ghost use Rattle.std.specs.Int.NonZero.{non_zero_usize_get};
+ghost use Rattle.p2p_session.specs.Answers.{key_bytes, signature_bytes};
+ghost use Rattle.p2p_session.specs.Given.{bootstrappers_spelling, IsSetup, moment_at};
+
+use crate::given::{key_in, moment};
+use crate::key::{KEY_SIZE, Key};
+use crate::refusal::Refusal;
+use bytes::Bytes;
+use p2p_directory::directory::Config;
+use p2p_directory::node::Setup;
+use p2p_discovery::codec::{CodecError, Read};
+use p2p_discovery::discovery::{Info, PayloadConfig};
+use p2p_discovery::types::Ingress;
+use std::alloc::Global;
+use std::num::NonZeroUsize;
+
+/// The numbers of a setup. A moment is its seconds and nanoseconds.
+#[derive(Clone, Copy)]
+pub struct Numbers {
+    pub allow_private_ips: bool,
+    pub allow_dns: bool,
+    pub max_sets: u64,
+    pub dial_fail_limit: u64,
+    pub cooldown: (u64, u32),
+    pub block: (u64, u32),
+    pub max_bit_vec: u64,
+    pub max_peers: u64,
+    pub max_data_length: u64,
+    pub peer_gossip_max_count: u64,
+    pub bound: (u64, u32),
+}
+
+/// What a node is made from.
+pub fn setup(
+    alloc: Global,
+    numbers: &Numbers,
+    namespace: &[u8],
+    bootstrappers: &[u8],
+    myself: &[u8],
+) -> Result<Setup<Key>, Refusal>
+    ensures { IfOk result (IsSetup numbers.now namespace.now bootstrappers.now myself.now) }
+{
+    let cfg = config(numbers)?;
+    let synchrony_bound = moment(numbers.bound.0, numbers.bound.1)?;
+    let bootstrappers = bootstrappers_of(alloc, bootstrappers)?;
+    let myself = info(alloc, myself)?;
+    Ok(Setup {
+        bootstrappers,
+        myself,
+        cfg,
+        payload: PayloadConfig {
+            max_bit_vec: numbers.max_bit_vec,
+            max_peers: numbers.max_peers as usize,
+            max_data_length: numbers.max_data_length as usize,
+        },
+        peer_gossip_max_count: numbers.peer_gossip_max_count as usize,
+        synchrony_bound,
+        namespace: namespace.to_vec(alloc)?,
+    })
+}
+
+// How a directory behaves.
+fn config(numbers: &Numbers) -> Result<Config, Refusal>
+    ensures private_ips { IfOk result (λ c.
+        c.allow_private_ips ≡ numbers.now.allow_private_ips) }
+    ensures dns { IfOk result (λ c. c.allow_dns ≡ numbers.now.allow_dns) }
+    ensures sets { IfOk result (λ c. non_zero_usize_get c.max_sets ≡ numbers.now.max_sets) }
+    ensures fails { IfOk result (λ c. c.dial_fail_limit ≡ numbers.now.dial_fail_limit) }
+    ensures cooldown { IfOk result (λ c. moment_at numbers.now.cooldown.0 numbers.now.cooldown.1
+        ≡ Ok (as_nanos c.peer_connection_cooldown)) }
+    ensures block { IfOk result (λ c. moment_at numbers.now.block.0 numbers.now.block.1
+        ≡ Ok (as_nanos c.block_duration)) }
+{
+    let Some(max_sets) = NonZeroUsize::new(numbers.max_sets as usize) else {
+        return Err(Refusal::BadSetting);
+    };
+    Ok(Config {
+        allow_private_ips: numbers.allow_private_ips,
+        allow_dns: numbers.allow_dns,
+        max_sets,
+        dial_fail_limit: numbers.dial_fail_limit as usize,
+        peer_connection_cooldown: moment(numbers.cooldown.0, numbers.cooldown.1)?,
+        block_duration: moment(numbers.block.0, numbers.block.1)?,
+    })
+}
+
+// The info that the bytes spell.
+fn info(alloc: Global, bytes: &[u8]) -> Result<Info<Key>, Refusal>
+    ensures { IfOk result (λ i. info_spelling key_bytes signature_bytes i ≡ bytes.now) }
+{
+    let bytes = Bytes::copy_from_slice(alloc, bytes)?;
+    match Info::decode(alloc, bytes) {
+        Ok(info) => Ok(info),
+        Err(CodecError::Memory) => Err(Refusal::Memory),
+        Err(_) => Err(Refusal::BadInfo),
+    }
+}
+
+// The bootstrappers that the bytes spell: a key and an ingress each, one after the other.
+fn bootstrappers_of(alloc: Global, bytes: &[u8]) -> Result<Vec<(Key, Ingress)>, Refusal>
+    ensures { IfOk result (λ bs. bootstrappers_spelling bs.items ≡ bytes.now) }
+{
+    let mut left = Bytes::copy_from_slice(alloc, bytes)?;
+    let mut read = Vec::new(alloc);
+    while !left.is_empty() {
+        let one = bootstrapper(alloc, &mut left)?;
+        read.push(one)?;
+    }
+    Ok(read)
+}
+
+// A key, and an ingress.
+fn bootstrapper(alloc: Global, left: &mut Bytes) -> Result<(Key, Ingress), Refusal>
+    ensures spelled { IfOk result (λ b.
+        left.old ≡ key_bytes b.0 ++ ingress_spelling b.1 ++ left.new) }
+    ensures shorter { OnOk result (length left.new < length left.old) }
+{
+    let key = front_key(left)?;
+    match Ingress::read_cfg(alloc, left, &()) {
+        Ok(ingress) => Ok((key, ingress)),
+        Err(CodecError::Memory) => Err(Refusal::Memory),
+        Err(_) => Err(Refusal::BadInfo),
+    }
+}
+
+// The key with which the bytes begin, which are then those behind it.
+fn front_key(left: &mut Bytes) -> Result<Key, Refusal>
+    ensures spelled { IfOk result (λ key. left.old ≡ key_bytes key ++ left.new) }
+    ensures shorter { OnOk result (length left.new < length left.old) }
+{
+    if left.len() < KEY_SIZE {
+        return Err(Refusal::BadInfo);
+    }
+    let key = key_in(left.as_slice(), 0);
+    left.advance(KEY_SIZE);
+    Ok(key)
+}

@@ -1,0 +1,9 @@
+//! Tests of sessions, by their numbers and bytes.
+#![tactic(auto)]
+
+#[cfg(test)]
+mod calls;
+#[cfg(test)]
+mod given;
+#[cfg(test)]
+mod refused;
