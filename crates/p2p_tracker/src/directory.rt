@@ -296,8 +296,8 @@ impl<C: PublicKey> Directory<C> {
     ///
     /// # Cost
     ///
-    /// One search among the blocks, and where the peer is not blocked one among the records. Where
-    /// the peer is reserved one more among the records, and one among the kept moments.
+    /// One search among the blocks, where the peer is not blocked one among the records, and where
+    /// it is reserved one among the kept moments.
     pub fn dial(
         &mut self,
         peer: &C,
@@ -322,13 +322,13 @@ impl<C: PublicKey> Directory<C> {
         ensures busy { StayBusy C.cmp self.old self.new }
         ensures reserved { StayReserved C.cmp self.old self.new }
     {
-        match self.dialled(peer, now)? {
-            Some(ingress) => {
-                self.grant(peer, now, draw)?;
-                Ok(Some(Reservation {
-                    metadata: Metadata::Dialer(*peer, ingress),
-                }))
-            }
+        if self.is_blocked(peer, now) {
+            return Ok(None);
+        }
+        match self.grant_dialled(peer, now, draw)? {
+            Some(ingress) => Ok(Some(Reservation {
+                metadata: Metadata::Dialer(*peer, ingress),
+            })),
             None => Ok(None),
         }
     }
@@ -354,8 +354,8 @@ impl<C: PublicKey> Directory<C> {
     ///
     /// # Cost
     ///
-    /// One search among the blocks, and where the peer is not blocked one among the records. Where
-    /// the peer is reserved one more among the records, and one among the kept moments.
+    /// One search among the blocks, where the peer is not blocked one among the records, and where
+    /// it is reserved one among the kept moments.
     pub fn listen(
         &mut self,
         peer: &C,
@@ -379,10 +379,9 @@ impl<C: PublicKey> Directory<C> {
         ensures busy { StayBusy C.cmp self.old self.new }
         ensures reserved { StayReserved C.cmp self.old self.new }
     {
-        if self.is_blocked(peer, now) || !self.records.may_come(peer, now) {
+        if self.is_blocked(peer, now) || !self.grant_coming(peer, now, draw)? {
             return Ok(None);
         }
-        self.grant(peer, now, draw)?;
         Ok(Some(Reservation {
             metadata: Metadata::Listener(*peer),
         }))

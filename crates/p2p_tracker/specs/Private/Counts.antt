@@ -18,8 +18,10 @@ use Rattle.p2p_tracker.specs.Record.{with_counts, with_cooldown}
 use Rattle.p2p_tracker.specs.Record.{unless_deletable}
 use Rattle.p2p_tracker.specs.PeerSets.{set_count, AreRolesDisjoint}
 use Rattle.p2p_discovery.specs.Ordered.{has_key}
-use Rattle.p2p_tracker.specs.Directory.{is_known}
-use Rattle.p2p_tracker.specs.Cooldowns.{has_cooled}
+use Rattle.p2p_tracker.specs.Directory.{is_known, ChangesAt}
+use Rattle.p2p_tracker.specs.Moments.{moments_after}
+use Rattle.p2p_tracker.specs.Record.{reserved_record}
+use Rattle.p2p_tracker.specs.Cooldowns.{has_cooled, cooldown_in}
 use Rattle.p2p_tracker.specs.Private.Window.{SetWithBits, plain_sets, sets_with_bits}
 
 -- SETS
@@ -169,6 +171,14 @@ module _ {C S : Type 0} (cmp : C → C → Ordering) where
   abbrev pub AreCooled : (C → Option (RecordView C S)) → (C → Option Cooldown) → Type 0
   AreCooled record_at cooldown_at =
       (q : C) → record_at q ≡ option_map (with_cooldown (cooldown_at q)) (record_at q)
+
+  -- p is reserved at a moment, with a draw, and the moments of this grant are kept
+  pub record IsGranted (old new : List (C × RecordView C S)) (kept kept2 : List (C × Cooldown))
+      (p : C) (now draw cooldown : ℕ) : Type 0 where
+    pub records : ChangesAt cmp old new p (option_map (reserved_record now draw cooldown))
+    pub cooldowns : (q : C) → cooldown_in cmp kept2 q ≡ (if is_at (cmp p) q
+        then Some (moments_after now draw cooldown)
+        else cooldown_in cmp kept q)
 
   -- what is kept of q once the moments of these that have cooled are cleared in the records
   abbrev pub cleared_at : ℕ → List (C × Cooldown) → C → Option (RecordView C S) →

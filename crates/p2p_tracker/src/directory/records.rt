@@ -1,16 +1,18 @@
 //! What a directory keeps of each peer, seen at each key.
 
-ghost use Rattle.std.specs.Prelude.{◌≡◌, ◌∷◌, [], false, true, not, IfOk, IfSome, IfNone, Some};
-ghost use Rattle.std.specs.Prelude.{None};
+ghost use Rattle.std.specs.Prelude.{◌≡◌, ◌∷◌, [], false, true, IfOk, IfSome, IfNone, Some};
+ghost use Rattle.std.specs.Prelude.{None, OnErr, OnOk, if◌then◌else◌};
 ghost use Rattle.std.specs.Prelude.{length};
 ghost use Rattle.std.specs.Option.{option_map, option_map_or, option_copied};
 ghost use Rattle.std.specs.Map.{keys_of};
 ghost use Rattle.std.specs.List.Sorted.{IsStrictlySortedBy};
 ghost use Rattle.std.specs.Duration.{as_nanos};
-ghost use Rattle.std.specs.BTreeMap.{get};
+ghost use Rattle.std.specs.BTreeMap.{get, is_at};
 ghost use Rattle.p2p_tracker.specs.History.{is_inert, is_reserved};
 ghost use Rattle.p2p_tracker.specs.Record.{may_come, reserved_record, with_cooldown};
-ghost use Rattle.p2p_tracker.specs.Record.{is_myself};
+ghost use Rattle.p2p_tracker.specs.Moments.{moments_after};
+ghost use Rattle.p2p_tracker.specs.Cooldowns.{cooldown_in};
+ghost use Rattle.p2p_tracker.specs.Private.Counts.{IsGranted};
 ghost use Rattle.p2p_tracker.specs.Private.Dialling.{dialled_of, dialled_in};
 ghost use Rattle.p2p_tracker.specs.Directory.{has_status, is_busy, is_known};
 ghost use Rattle.p2p_tracker.specs.Seen.{key_of, record_at};
@@ -19,8 +21,9 @@ ghost use Rattle.p2p_tracker.specs.Directory.{released_record, kept_after_releas
 ghost use Rattle.p2p_tracker.specs.Directory.{connected_record, updated_record, ChangesAt};
 
 use crate::directory::{Config, Metadata};
+use crate::kept::cooldowns::Cooldowns;
 use crate::kept::{Known, forget, put};
-use crate::record::{DialStatus, Record, ReserveResult};
+use crate::record::{DialStatus, Record, ReserveResult, next_moments};
 use p2p_discovery::codec::PublicKey;
 use p2p_discovery::discovery::Info;
 use p2p_discovery::types::Ingress;
@@ -72,45 +75,68 @@ impl<C: PublicKey> Records<C> {
         self.map.get(peer)
     }
 
-    /// Whether the peer may come at the moment `now`.
-    pub fn may_come(&self, peer: &C, now: Duration) -> bool
-        ensures { result ≡ option_map_or (may_come (as_nanos now))
-            (record_at C.cmp self.now peer.now) false }
-    {
-        match self.map.get(peer) {
-            Some(found) => {
-                found.eligible() && found.reserve_result(now) == ReserveResult::Reserved
-            }
-            None => false,
-        }
-    }
-
-    /// The ingress that a dial of the peer at the moment `now` is granted for, by its record.
-    pub fn dialled(
-        &self,
+    /// Reserves the peer at the moment `now`, where it may come then, and keeps the moments of this
+    /// grant: one search serves both. Says whether it was reserved; else nothing has changed.
+    pub fn reserve_coming(
+        &mut self,
+        cooldowns: &mut Cooldowns<C>,
         peer: &C,
         now: Duration,
-        cfg: &Config,
-    ) -> Result<Option<Ingress>, AllocError>
-        ensures none { IfNone (dialled_in C.cmp self.now cfg.now (as_nanos now) peer.now)
-            (result ≡ Ok None) }
-        ensures answer { IfOk result (λ ingress.
-            ingress ≡ dialled_in C.cmp self.now cfg.now (as_nanos now) peer.now) }
+        draw: Duration,
+        cooldown: Duration,
+    ) -> Result<bool, AllocError>
+        ensures err { OnErr result ((self.new ≡ self.old) × (cooldowns.new ≡ cooldowns.old)) }
+        ensures none { option_map_or (may_come (as_nanos now)) (record_at C.cmp self.old peer.now)
+            false ≡ false → result ≡ Ok false }
+        ensures answer { IfOk result (λ granted. granted ≡ option_map_or (may_come (as_nanos now))
+            (record_at C.cmp self.old peer.now) false) }
+        ensures refused { IfOk result (λ granted. granted ≡ false →
+            (self.new ≡ self.old) × (cooldowns.new ≡ cooldowns.old)) }
+        ensures granted { IfOk result (λ granted. granted ≡ true →
+            IsGranted C.cmp self.old self.new cooldowns.old cooldowns.new peer.now
+            (as_nanos now) (as_nanos draw) (as_nanos cooldown)) }
     {
-        match self.map.get(peer) {
-            Some(found) => dialled_by(found, now, cfg),
-            None => Ok(None),
+        let Some(found) = self.map.get_mut(peer) else {
+            return Ok(false);
+        };
+        if !comes(found, now) {
+            return Ok(false);
         }
+        keep_reserved(found, cooldowns, peer, now, draw, cooldown)?;
+        Ok(true)
     }
 
-    /// Reserves the peer at the moment `now`.
-    pub fn reserve(&mut self, peer: &C, now: Duration, draw: Duration, cooldown: Duration)
-        ensures { ChangesAt C.cmp self.old self.new peer.now
-            (option_map (reserved_record (as_nanos now) (as_nanos draw) (as_nanos cooldown))) }
+    /// Reserves the peer at the moment `now`, where it may be dialled then, and keeps the moments of
+    /// this grant: one search serves both. Answers the ingress of the dial; where there is none,
+    /// nothing has changed.
+    pub fn reserve_dialled(
+        &mut self,
+        cooldowns: &mut Cooldowns<C>,
+        peer: &C,
+        now: Duration,
+        draw: Duration,
+        cfg: &Config,
+    ) -> Result<Option<Ingress>, AllocError>
+        ensures err { OnErr result ((self.new ≡ self.old) × (cooldowns.new ≡ cooldowns.old)) }
+        ensures none { IfNone (dialled_in C.cmp self.old cfg.now (as_nanos now) peer.now)
+            (result ≡ Ok None) }
+        ensures answer { IfOk result (λ ingress.
+            ingress ≡ dialled_in C.cmp self.old cfg.now (as_nanos now) peer.now) }
+        ensures refused { IfOk result (λ ingress. IfNone ingress
+            ((self.new ≡ self.old) × (cooldowns.new ≡ cooldowns.old))) }
+        ensures granted { IfOk result (λ ingress. IfSome ingress (λ _.
+            IsGranted C.cmp self.old self.new cooldowns.old cooldowns.new peer.now
+            (as_nanos now) (as_nanos draw) (as_nanos cfg.now.peer_connection_cooldown))) }
     {
-        if let Some(found) = self.map.get_mut(peer) {
-            found.set_reserved(now, draw, cooldown);
-        }
+        let Some(found) = self.map.get_mut(peer) else {
+            return Ok(None);
+        };
+        let Some(ingress) = dialled_by(found, now, cfg)? else {
+            return Ok(None);
+        };
+        let cooldown = cfg.peer_connection_cooldown;
+        keep_reserved(found, cooldowns, peer, now, draw, cooldown)?;
+        Ok(Some(ingress))
     }
 
     /// Lets the peer be reserved and dialled from the epoch on.
@@ -206,6 +232,36 @@ impl<C: PublicKey> Records<C> {
     {
         self.map.len()
     }
+}
+
+// Whether the peer of the record may come at the moment `now`.
+fn comes<C: PublicKey>(found: &Record<C>, now: Duration) -> bool
+    ensures { result ≡ may_come (as_nanos now) found.now }
+{
+    found.eligible() && found.reserve_result(now) == ReserveResult::Reserved
+}
+
+// Reserves the peer of the record at the moment `now`, and keeps its moments. The room for these is
+// taken before the record changes.
+fn keep_reserved<C: PublicKey>(
+    found: &mut Record<C>,
+    cooldowns: &mut Cooldowns<C>,
+    peer: &C,
+    now: Duration,
+    draw: Duration,
+    cooldown: Duration,
+) -> Result<(), AllocError>
+    ensures err { OnErr result ((found.new ≡ found.old) × (cooldowns.new ≡ cooldowns.old)) }
+    ensures record { OnOk result (found.new ≡
+        reserved_record (as_nanos now) (as_nanos draw) (as_nanos cooldown) found.old) }
+    ensures cooldowns { OnOk result ((q : C) → cooldown_in C.cmp cooldowns.new q ≡
+        (if is_at (C.cmp peer.now) q
+        then Some (moments_after (as_nanos now) (as_nanos draw) (as_nanos cooldown))
+        else cooldown_in C.cmp cooldowns.old q)) }
+{
+    cooldowns.put(*peer, next_moments(now, draw, cooldown))?;
+    found.set_reserved(now, draw, cooldown);
+    Ok(())
 }
 
 // Connects the peer of the record, as its dialer or not.

@@ -1,0 +1,28 @@
+use Rattle.std.proofs.Common.{◌≡◌, sym, ◌∙◌}
+use Rattle.std.specs.Duration.{as_nanos}
+use Rattle.std.specs.Int.NonZero.{non_zero_usize_get}
+use Rattle.p2p_tracker.specs.Seen.{record_at}
+use Rattle.p2p_tracker.specs.Cooldowns.{cooldown_in}
+use Rattle.p2p_tracker.proofs.SetsAndRecords.Changes.{dialled_may_come, reserved_at}
+use Rattle.p2p_tracker.proofs.SetsAndRecords.Cooled.{cooled_reserved}
+use Rattle.p2p_tracker.proofs.directory.Directory.grant_dialled.Goals as goal
+
+pub invariant_of-self-2 : goal.invariant_of-self-2
+invariant_of-self-2 g c =
+    let cmp = g.C.Ord.cmp in
+    let cfg = c.self.inside.config in
+    let p = c.args.peer.now in
+    let now = as_nanos c.args.now in
+    let draw = as_nanos c.args.draw in
+    let cooldown = as_nanos cfg.peer_connection_cooldown in
+    let old = record_at cmp c.self.inside.records in
+    let new = record_at cmp c.reserve_dialled.new.self in
+    let granted = rw c.in-Some.is at c.in_ok-ingress.ensures.granted in
+    record {
+      whole = reserved_at cmp (non_zero_usize_get cfg.max_sets) cfg.dial_fail_limit c.self.inside.sets old new p now
+          draw cooldown g.met.C.PublicKey.exact c.self.invariant.whole granted.records
+          (dialled_may_come cmp cfg now (old p) c.in-Some.ingress (sym c.in_ok-ingress.ensures.answer ∙ c.in-Some.is));
+      cooled = cooled_reserved cmp old new (cooldown_in cmp c.self.inside.cooldowns)
+          (cooldown_in cmp c.reserve_dialled.new.cooldowns) p now draw cooldown c.self.invariant.cooled
+          granted.records granted.cooldowns;
+    }
