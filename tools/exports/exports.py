@@ -344,11 +344,11 @@ def declare(put, names, exports):
                 c_params.append(f'{C_TYPE[p.text]} {p.name}')
                 rust_params.append(f'{p.name}: {p.text}')
         c.append(f"{wrapped(doc, '// ')}\n{C_TYPE.get(result, 'void')} {prefix}_{method}({', '.join(c_params) or 'void'});\n")
-        one = f"    pub fn {prefix}_{method}({', '.join(rust_params)}){f' -> {result}' if result else ''};"
+        one = f"    fn {prefix}_{method}({', '.join(rust_params)}){f' -> {result}' if result else ''};"
         if len(one) > 100:
             inner = ''.join(f'        {p},\n' for p in rust_params)
-            one = f"    pub fn {prefix}_{method}(\n{inner}    ){f' -> {result}' if result else ''};"
-        rust.append(f"{wrapped(doc, '    /// ')}\n{one}\n")
+            one = f"    fn {prefix}_{method}(\n{inner}    ){f' -> {result}' if result else ''};"
+        rust.append(f"{one}\n")
     numbers = [(name, i) for i, name in enumerate(REFUSALS)]
     c_numbers = ''.join(f"#define {prefix.upper()}_{name} (UINT64_MAX{f' - {i}' if i else ''})\n" for name, i in numbers)
     rust_numbers = ''.join(f"pub const {name}: u64 = u64::MAX{f' - {i}' if i else ''};\n" for name, i in numbers)
@@ -356,8 +356,93 @@ def declare(put, names, exports):
     put(f'include/{prefix}.h', f"// {head}\n//\n{wrapped(HOST, '// ')}\n//\n// docs/FORMATS.md says how what is passed is spelled, and what the answers are.\n"
         f'#pragma once\n#include <stddef.h>\n#include <stdint.h>\n\nstruct {prefix};\n\n// Why a call is refused, or has no answer: nothing has changed then, and nothing was written.\n'
         + c_numbers + '\n' + '\n'.join(c))
-    put('rust/src/exports.rs', f"//! {head}\n//!\n{wrapped(HOST, '//! ')}\n\n#![allow(dead_code)]\n\n/// The room of a session.\n#[repr(C)]\npub struct Handle {{\n    _private: [u8; 0],\n}}\n\n"
-        + rust_numbers + f"\n#[link(name = \"{names['crate']}\", kind = \"static\")]\nunsafe extern \"C\" {{\n" + '\n'.join(rust) + '}\n')
+    put('rust/src/exports.rs', RUST_HEAD.format(head=head, host=wrapped(HOST, '//! '), numbers=rust_numbers)
+        + 'unsafe extern "C" {\n' + '\n'.join(rust) + '}\n\n' + RUST_SESSION.replace('PREFIX', prefix)
+        + '\n'.join(safe(prefix, *export) for export in exports) + '}\n' + RUST_DROP.replace('PREFIX', prefix))
+
+
+RUST_HEAD = """//! {head}
+//!
+//! The exports of the library, and a session in room of its own behind safe calls: the one file
+//! with `unsafe`.
+//!
+{host}
+
+#![allow(dead_code)]
+
+use std::alloc::{{Layout, alloc, dealloc, handle_alloc_error}};
+
+/// The room of a session.
+#[repr(C)]
+struct Handle {{
+    _private: [u8; 0],
+}}
+
+{numbers}
+"""
+
+RUST_SESSION = """/// A session, in room that is kept for it alone.
+pub struct Session {
+    at: *mut Handle,
+}
+
+// SAFETY: nothing in a session is bound to a thread, and its room is its own.
+unsafe impl Send for Session {}
+
+impl Session {
+    /// A session with no node.
+    pub fn new() -> Session {
+        let layout = layout();
+        // SAFETY: the size isn't 0.
+        let at = unsafe { alloc(layout) }.cast::<Handle>();
+        if at.is_null() {
+            handle_alloc_error(layout);
+        }
+        // SAFETY: the room has this size and alignment.
+        unsafe { PREFIX_new(at) };
+        Session { at }
+    }
+
+"""
+
+RUST_DROP = """
+impl Drop for Session {
+    fn drop(&mut self) {
+        // SAFETY: `new` made it, and it isn't used again.
+        unsafe {
+            PREFIX_free(self.at);
+            dealloc(self.at.cast(), layout());
+        }
+    }
+}
+
+fn layout() -> Layout {
+    // SAFETY: it takes nothing.
+    let size = unsafe { PREFIX_size() };
+    Layout::from_size_align(size.max(1), 16).expect("room for a session")
+}
+"""
+
+
+def safe(prefix, method, params, result, _, doc):
+    """A safe call of an export: the room is the session's own, no call is made during another, and slices are Rust's."""
+    taken, passed = ['&self'], ['self.at']
+    for p in params:
+        if p.kind in ('shr', 'mut'):
+            taken.append(f'{p.name}: {p.text}')
+            passed += [f"{p.name}.as_{'mut_' if p.kind == 'mut' else ''}ptr()", f'{p.name}.len()']
+        elif p.kind not in ('alloc', 'at'):
+            taken.append(f'{p.name}: {p.text}')
+            passed.append(p.name)
+    many = '    #[allow(clippy::too_many_arguments)]\n' if len(taken) > 7 else ''
+    head = f"    pub fn {method}({', '.join(taken)}) -> {result} {{"
+    if len(head) > 100:
+        head = f"    pub fn {method}(\n" + ''.join(f'        {one},\n' for one in taken) + f'    ) -> {result} {{'
+    call = f"        unsafe {{ {prefix}_{method}({', '.join(passed)}) }}"
+    if len(call) > 100:
+        call = f'        unsafe {{\n            {prefix}_{method}(\n' + ''.join(f'                {one},\n' for one in passed) + '            )\n        }'
+    return (f"{wrapped(doc, '    /// ')}\n{many}{head}\n"
+            f'        // SAFETY: `new` made the session, no call of it is under way, and slices are valid.\n{call}\n    }}\n')
 
 
 main()

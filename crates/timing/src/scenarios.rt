@@ -11,14 +11,14 @@ use crate::keys::{Key32, TimedKey};
 use crate::scenarios::asked::{Question, questions};
 use crate::scenarios::blocks::{Phase, phases};
 use crate::scenarios::calls::{Between, cycles, statuses, tracks, updates};
-use crate::scenarios::exchanges::exchanges;
+use crate::scenarios::exchanges::{exchanges, receives};
 use crate::scenarios::runs::{Kind, Made, fill, runs};
 use crate::scenarios::wire::{Way, bits, infos, ingresses, judgements, peers};
 use crate::stop::Stop;
 use crate::times::Times;
 use p2p_discovery::codec::TestKey;
 
-const NAMES: [&str; 41] = [
+const NAMES: [&str; 42] = [
     "track",
     "status",
     "listen",
@@ -54,6 +54,7 @@ const NAMES: [&str; 41] = [
     "validate",
     "exchange",
     "exchange_untold",
+    "receive",
     "run_tracks",
     "run_listens",
     "run_cycles",
@@ -133,6 +134,7 @@ fn of_bytes<K: TimedKey>(
         "validate" => judgements::<K>(rt, count, samples),
         "exchange" => exchanges::<K>(rt, count, samples, true),
         "exchange_untold" => exchanges::<K>(rt, count, samples, false),
+        "receive" => receives::<K>(rt, count, samples),
         _ => Err(Stop::Words),
     }
 }

@@ -7,9 +7,11 @@ use crate::keys::{TimedKey, keys};
 use crate::made::{NAMESPACE, SETS, config, infos_of, own_info, tracked};
 use crate::stop::Stop;
 use crate::times::Times;
-use p2p_directory::node::{Exchanged, Node, Setup, exchange};
+use bytes::Bytes;
+use p2p_directory::node::{Exchanged, Node, Received, Setup, exchange};
 use p2p_directory::run::Command;
-use p2p_discovery::discovery::PayloadConfig;
+use p2p_discovery::codec::Write;
+use p2p_discovery::discovery::{Infos, Payload, PayloadConfig};
 use std::alloc::{AllocError, Global};
 use std::num::NonZeroUsize;
 use std::time::{Duration, Instant};
@@ -140,5 +142,52 @@ pub(crate) fn exchanges<K: TimedKey>(
     let times = between(rt, &mut asker, &mut replier, count, samples, are_told);
     asker.finish();
     replier.finish();
+    times
+}
+
+// The frame of these infos.
+fn frame_of<K: TimedKey>(alloc: Global, keys: &[K], timestamp: u64) -> Result<Bytes, Stop> {
+    let infos = infos_of(alloc, keys, timestamp)?;
+    if infos.len() >= 4_294_967_296 {
+        return Err(Stop::Words);
+    }
+    let payload = Payload::Peers(Infos::from_vec(infos));
+    Ok(payload.encode(alloc)?)
+}
+
+// Takes frames with the infos of all peers, each time with newer ones.
+fn receive_each<K: TimedKey>(
+    rt: &HostRuntime,
+    node: &mut Node<K>,
+    count: usize,
+    samples: usize,
+) -> Result<Times, Stop> {
+    let alloc = rt.alloc();
+    let all: Vec<K> = keys(alloc, 0, count)?;
+    for index in 0..SETS {
+        let index = index as u64;
+        let peers = tracked(alloc, &all)?;
+        node.step(Command::Track { index, peers });
+    }
+    let mut times = Times::new(alloc);
+    for sample in 0..samples {
+        let frame = frame_of(alloc, &all, sample as u64)?;
+        let start = Instant::now(rt)?;
+        let answer = node.receive(frame, Duration::from_secs(100));
+        let time = start.elapsed(rt)?;
+        times.count(time, matches!(&answer, Received::Applied(_)))?;
+    }
+    Ok(times)
+}
+
+/// Frames with the infos of all peers, that a node takes.
+pub(crate) fn receives<K: TimedKey>(
+    rt: &HostRuntime,
+    count: usize,
+    samples: usize,
+) -> Result<Times, Stop> {
+    let mut node: Node<K> = node(rt.alloc(), 9, 1, count)?;
+    let times = receive_each(rt, &mut node, count, samples);
+    node.finish();
     times
 }

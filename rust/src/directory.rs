@@ -1,0 +1,952 @@
+//! The directory of peers.
+
+use crate::codec::Reader;
+use crate::error::{CodecError, NotReserved, OutOfMemory, SetupError};
+use crate::exports::{self, Session};
+use crate::info::{Info, read_infos, write_infos};
+use crate::ingress::Ingress;
+use crate::key::{KEY_SIZE, Key};
+use crate::payload::{BitVec, PayloadConfig};
+use crate::sets::{OrderedSet, TrackedPeers};
+use std::cell::RefCell;
+use std::fmt;
+use std::num::NonZeroUsize;
+use std::sync::atomic::{AtomicU64, Ordering};
+use std::time::Duration;
+
+mod reservation;
+
+pub use reservation::{Metadata, ReleaseError, Reservation};
+
+/// How a directory behaves.
+///
+/// # Examples
+///
+/// ```
+/// use p2p_directory::Config;
+/// use std::num::NonZeroUsize;
+/// use std::time::Duration;
+///
+/// let cfg = Config {
+///     allow_private_ips: false,
+///     allow_dns: true,
+///     max_sets: NonZeroUsize::new(4).unwrap(),
+///     dial_fail_limit: 3,
+///     peer_connection_cooldown: Duration::from_secs(10),
+///     block_duration: Duration::from_secs(3600),
+/// };
+/// assert!(!cfg.allow_private_ips);
+/// ```
+#[derive(Clone, Copy, Debug, PartialEq, Eq)]
+pub struct Config {
+    /// Whether addresses that are not global may be dialled.
+    pub allow_private_ips: bool,
+    /// Whether names may be dialled.
+    pub allow_dns: bool,
+    /// How many peer sets are retained: less than the greatest `usize`.
+    pub max_sets: NonZeroUsize,
+    /// After how many failed dials a peer's info is asked for again.
+    pub dial_fail_limit: usize,
+    /// The least time between two reservations of one peer.
+    pub peer_connection_cooldown: Duration,
+    /// How long a block lasts.
+    pub block_duration: Duration,
+}
+
+/// How a peer stands.
+///
+/// # Examples
+///
+/// ```
+/// # use p2p_directory::Status;
+/// assert_ne!(Status::Inert, Status::Active);
+/// ```
+#[derive(Clone, Copy, Debug, PartialEq, Eq)]
+pub enum Status {
+    /// There is neither a reservation nor a connection.
+    Inert,
+    /// It is reserved.
+    Reserved,
+    /// It is connected.
+    Active,
+}
+
+/// What is told of the latest set.
+///
+/// # Examples
+///
+/// ```
+/// # use p2p_directory::{PeerSetUpdate, TrackedPeers};
+/// let update = PeerSetUpdate {
+///     index: 0,
+///     latest: TrackedPeers::default(),
+///     all: TrackedPeers::default(),
+/// };
+/// assert_eq!(update.latest, update.all);
+/// ```
+#[derive(Clone, Debug, PartialEq, Eq)]
+pub struct PeerSetUpdate {
+    /// The index of the latest set.
+    pub index: u64,
+    /// The peers of the latest set.
+    pub latest: TrackedPeers,
+    /// The peers of all retained sets: one that is primary in some is primary only.
+    pub all: TrackedPeers,
+}
+
+/// Who may be dialled now, and when to ask again.
+///
+/// # Examples
+///
+/// ```
+/// # use p2p_directory::Dialable;
+/// assert_eq!(Dialable::default().next_query_at, None);
+/// ```
+#[derive(Clone, Debug, Default, PartialEq, Eq)]
+pub struct Dialable {
+    /// The peers that may be dialled, in ascending order.
+    pub peers: Vec<Key>,
+    /// When another peer may become dialable, a time since the epoch: `None` where none does by time
+    /// alone.
+    pub next_query_at: Option<Duration>,
+}
+
+/// The directory of peers: the retained sets, and what is known of each peer that is in one of them, is a
+/// bootstrapper, is reserved or is connected.
+///
+/// Each call is one of the proved library, whose answers are those recomputed from all calls so far:
+/// docs/RUST.md of the repository says what is proved up to where. A directory can go to another thread
+/// (`Send`), and is used by one at a time (it is not `Sync`). Moments are times since the epoch, and may go
+/// back.
+///
+/// # Examples
+///
+/// ```
+/// use p2p_directory::{Config, Directory, Info, Ingress, Key, OrderedSet, Signature, Status};
+/// use std::net::SocketAddr;
+/// use std::num::NonZeroUsize;
+/// use std::time::Duration;
+///
+/// let cfg = Config {
+///     allow_private_ips: true,
+///     allow_dns: true,
+///     max_sets: NonZeroUsize::MIN,
+///     dial_fail_limit: 1,
+///     peer_connection_cooldown: Duration::from_secs(10),
+///     block_duration: Duration::from_secs(60),
+/// };
+/// let ingress = Ingress::from(SocketAddr::from(([8, 8, 8, 8], 9000)));
+/// let myself = Info::sign(Key([9; 32]), b"net", ingress, 0, |_, _| Signature([0; 64]));
+/// let mut directory = Directory::init(Vec::new(), myself, cfg)?;
+///
+/// let peer = Key([1; 32]);
+/// directory.track(0, OrderedSet::from_iter_dedup([peer]).into())?;
+/// let now = Duration::from_secs(100);
+/// let reservation = directory.listen(&peer, now, Duration::ZERO)?.expect("it may come");
+/// assert_eq!(directory.status(&peer), Some(Status::Reserved));
+/// // .. the connection ..
+/// directory.release(reservation).expect("it is this directory's");
+/// assert_eq!(directory.status(&peer), Some(Status::Inert));
+/// # Ok::<(), Box<dyn std::error::Error>>(())
+/// ```
+pub struct Directory {
+    session: Session,
+    // Which directory of the process it is: a reservation belongs to one.
+    id: u64,
+    // In which infos are signed.
+    namespace: Vec<u8>,
+    // What is handed in, and what comes out.
+    input: RefCell<Vec<u8>>,
+    output: RefCell<Vec<u8>>,
+}
+
+/// How many bytes what comes out has room for at first: enough for what a call that changes something
+/// answers, but for a track.
+const FIRST_ROOM: usize = 512;
+
+static NEXT_ID: AtomicU64 = AtomicU64::new(0);
+
+impl Directory {
+    /// A directory that retains no set and blocks nobody. A later bootstrapper of a key replaces an
+    /// earlier one, and the own info a bootstrapper of its key.
+    ///
+    /// # Errors
+    ///
+    /// Where memory is refused, or `cfg.max_sets` is the greatest `usize`.
+    ///
+    /// # Examples
+    ///
+    /// ```
+    /// # use p2p_directory::{Config, Directory, Info, Ingress, Key, SetupError, Signature};
+    /// # use std::{net::SocketAddr, num::NonZeroUsize, time::Duration};
+    /// # let mut cfg = Config { allow_private_ips: true, allow_dns: true, max_sets: NonZeroUsize::MIN,
+    /// #     dial_fail_limit: 1, peer_connection_cooldown: Duration::ZERO, block_duration: Duration::ZERO };
+    /// # let ingress = Ingress::from(SocketAddr::from(([8, 8, 8, 8], 9000)));
+    /// # let myself = Info::sign(Key([9; 32]), b"", ingress.clone(), 0, |_, _| Signature([0; 64]));
+    /// let directory = Directory::init(vec![(Key([1; 32]), ingress)], myself.clone(), cfg)?;
+    /// assert_eq!(directory.tracked(), 1);
+    ///
+    /// cfg.max_sets = NonZeroUsize::MAX;
+    /// assert_eq!(Directory::init(Vec::new(), myself, cfg).err(), Some(SetupError::Setting));
+    /// # Ok::<(), SetupError>(())
+    /// ```
+    pub fn init(
+        bootstrappers: Vec<(Key, Ingress)>,
+        myself: Info,
+        cfg: Config,
+    ) -> Result<Directory, SetupError> {
+        let limits = Limits {
+            payload: PayloadConfig {
+                max_bit_vec: u64::from(u32::MAX),
+                max_peers: usize::MAX,
+                max_data_length: usize::MAX,
+            },
+            peer_gossip_max_count: usize::MAX,
+            synchrony_bound: Duration::MAX,
+            namespace: Vec::new(),
+        };
+        Directory::with_limits(&bootstrappers, &myself, &cfg, limits)
+    }
+
+    pub(crate) fn with_limits(
+        bootstrappers: &[(Key, Ingress)],
+        myself: &Info,
+        cfg: &Config,
+        limits: Limits,
+    ) -> Result<Directory, SetupError> {
+        let session = Session::new();
+        let mut spelled = Vec::new();
+        for (key, ingress) in bootstrappers {
+            spelled.extend_from_slice(&key.0);
+            ingress.write(&mut spelled);
+        }
+        let answer = session.init(
+            cfg.allow_private_ips,
+            cfg.allow_dns,
+            cfg.max_sets.get() as u64,
+            cfg.dial_fail_limit as u64,
+            cfg.peer_connection_cooldown.as_secs(),
+            cfg.peer_connection_cooldown.subsec_nanos(),
+            cfg.block_duration.as_secs(),
+            cfg.block_duration.subsec_nanos(),
+            limits.payload.max_bit_vec,
+            limits.payload.max_peers as u64,
+            limits.payload.max_data_length as u64,
+            limits.peer_gossip_max_count as u64,
+            limits.synchrony_bound.as_secs(),
+            limits.synchrony_bound.subsec_nanos(),
+            &limits.namespace,
+            &spelled,
+            &myself.encode(),
+        );
+        match answer {
+            exports::BAD_SETTING => return Err(SetupError::Setting),
+            answer => is_done(answer)?,
+        };
+        Ok(Directory {
+            session,
+            id: NEXT_ID.fetch_add(1, Ordering::Relaxed),
+            namespace: limits.namespace,
+            input: RefCell::new(Vec::new()),
+            output: RefCell::new(vec![0; FIRST_ROOM]),
+        })
+    }
+
+    /// Takes a peer set, where its index is above that of each set that was taken before; then the oldest
+    /// set goes, where there is one too many. Answers whose connections have to end: who is reserved or
+    /// connected, was eligible and is no longer. `None`, and nothing changes, where the index is not above.
+    ///
+    /// # Errors
+    ///
+    /// [`OutOfMemory`]; then nothing has changed.
+    ///
+    /// # Examples
+    ///
+    /// ```
+    /// # use p2p_directory::*; use std::time::Duration;
+    /// # let mut directory = testing::directory();
+    /// let set = |key| OrderedSet::from_iter_dedup([testing::key(key)]).into();
+    /// assert!(directory.track(7, set(1))?.is_some());
+    /// assert!(directory.track(7, set(2))?.is_none());
+    /// # Ok::<(), OutOfMemory>(())
+    /// ```
+    pub fn track(
+        &mut self,
+        index: u64,
+        peers: TrackedPeers,
+    ) -> Result<Option<OrderedSet>, OutOfMemory> {
+        let keys = self.input.get_mut();
+        keys.clear();
+        peers.primary.write(keys);
+        let split = keys.len();
+        peers.secondary.write(keys);
+        let (primary, secondary) = keys.split_at(split);
+        let room = self.session.track_room() as usize;
+        let torn = self.output.get_mut();
+        if torn.len() < room {
+            torn.resize(room, 0);
+        }
+        let answer = self.session.track(index, primary, secondary, torn);
+        let length = answered(answer)?;
+        Ok(length.map(|length| OrderedSet::read(&torn[..length as usize])))
+    }
+
+    /// Reserves the peer for a dial at the moment `now`, where that is allowed: it has a record, is
+    /// eligible, not reserved or connected, not blocked, its address is known and valid, and its cooldown is
+    /// over. `draw` is a random duration, by which it is dialable again later than reservable, at most by the
+    /// cooldown.
+    ///
+    /// # Errors
+    ///
+    /// [`OutOfMemory`]; then nothing has changed.
+    ///
+    /// # Examples
+    ///
+    /// ```
+    /// # use p2p_directory::*; use std::time::Duration;
+    /// # let mut directory = testing::directory();
+    /// let peer = testing::key(1);
+    /// directory.track(0, OrderedSet::from_iter_dedup([peer]).into())?;
+    /// // Nothing is known of where it can be dialled.
+    /// assert!(directory.dial(&peer, Duration::from_secs(1), Duration::ZERO)?.is_none());
+    /// # Ok::<(), OutOfMemory>(())
+    /// ```
+    pub fn dial(
+        &mut self,
+        peer: &Key,
+        now: Duration,
+        draw: Duration,
+    ) -> Result<Option<Reservation>, OutOfMemory> {
+        let (seconds, nanos) = parts(now);
+        let (draw_seconds, draw_nanos) = parts(draw);
+        let answer = self
+            .session
+            .dial(&peer.0, seconds, nanos, draw_seconds, draw_nanos);
+        self.granted(peer, true, answer)
+    }
+
+    /// Reserves the peer for a connection that it asks for at the moment `now`, where that is allowed: it
+    /// is eligible, not reserved or connected, not blocked, and its cooldown is over. `draw` as for
+    /// [`Directory::dial`].
+    ///
+    /// # Errors
+    ///
+    /// [`OutOfMemory`]; then nothing has changed.
+    ///
+    /// # Examples
+    ///
+    /// ```
+    /// # use p2p_directory::*; use std::time::Duration;
+    /// # let mut directory = testing::directory();
+    /// let (peer, now) = (testing::key(1), Duration::from_secs(1));
+    /// assert!(directory.listen(&peer, now, Duration::ZERO)?.is_none());
+    /// directory.track(0, OrderedSet::from_iter_dedup([peer]).into())?;
+    /// let reservation = directory.listen(&peer, now, Duration::ZERO)?.expect("in a set");
+    /// assert_eq!(reservation.public_key(), &peer);
+    /// # directory.release(reservation).expect("its own");
+    /// # Ok::<(), OutOfMemory>(())
+    /// ```
+    pub fn listen(
+        &mut self,
+        peer: &Key,
+        now: Duration,
+        draw: Duration,
+    ) -> Result<Option<Reservation>, OutOfMemory> {
+        let (seconds, nanos) = parts(now);
+        let (draw_seconds, draw_nanos) = parts(draw);
+        let answer = self
+            .session
+            .listen(&peer.0, seconds, nanos, draw_seconds, draw_nanos);
+        self.granted(peer, false, answer)
+    }
+
+    fn granted(
+        &self,
+        peer: &Key,
+        is_dialer: bool,
+        answer: u64,
+    ) -> Result<Option<Reservation>, OutOfMemory> {
+        Ok(is_true(answer)?.then(|| Reservation::new(*peer, is_dialer, self.id)))
+    }
+
+    /// Whom a reservation is for, and in which direction: with the very address that is to be dialled.
+    /// `None` for a reservation of another directory.
+    ///
+    /// # Errors
+    ///
+    /// [`OutOfMemory`].
+    ///
+    /// # Examples
+    ///
+    /// ```
+    /// # use p2p_directory::*; use std::time::Duration;
+    /// # let mut directory = testing::directory();
+    /// let peer = testing::key(1);
+    /// directory.track(0, OrderedSet::from_iter_dedup([peer]).into())?;
+    /// # let now = Duration::from_secs(1);
+    /// let reservation = directory.listen(&peer, now, Duration::ZERO)?.expect("in a set");
+    /// assert_eq!(directory.metadata(&reservation)?, Some(Metadata::Listener(peer)));
+    /// # directory.release(reservation).expect("its own");
+    /// # Ok::<(), OutOfMemory>(())
+    /// ```
+    pub fn metadata(&self, reservation: &Reservation) -> Result<Option<Metadata>, OutOfMemory> {
+        let peer = *reservation.public_key();
+        if !reservation.is_of(self.id) {
+            return Ok(None);
+        }
+        if !reservation.is_dialer() {
+            return Ok(Some(Metadata::Listener(peer)));
+        }
+        self.question(
+            |session, out| session.reservation(&peer.0, out),
+            |bytes| {
+                let ingress = Ingress::decode(&bytes[1..]).expect(OWN);
+                Metadata::Dialer(peer, ingress)
+            },
+        )
+    }
+
+    /// Connects a peer that is reserved, as its dialer or not. As the dialer its failed dials are
+    /// forgotten.
+    ///
+    /// # Errors
+    ///
+    /// [`NotReserved`]; then nothing has changed.
+    ///
+    /// # Examples
+    ///
+    /// ```
+    /// # use p2p_directory::*; use std::time::Duration;
+    /// # let mut directory = testing::directory();
+    /// assert_eq!(directory.connect(&testing::key(1), false), Err(NotReserved));
+    /// ```
+    pub fn connect(&mut self, peer: &Key, dialer: bool) -> Result<(), NotReserved> {
+        match self.session.connect(&peer.0, dialer) {
+            exports::NOT_RESERVED => Err(NotReserved),
+            answer => {
+                certain(answer);
+                Ok(())
+            }
+        }
+    }
+
+    /// Ends a reservation, and the connection that was made of it. A dialer's counts as one more failure
+    /// at the address that was dialled.
+    ///
+    /// # Errors
+    ///
+    /// Gives the reservation back where it is of another directory; then nothing has changed.
+    ///
+    /// # Examples
+    ///
+    /// ```
+    /// # use p2p_directory::*; use std::time::Duration;
+    /// # let (mut directory, mut other) = (testing::directory(), testing::directory());
+    /// # let (peer, now) = (testing::key(1), Duration::from_secs(1));
+    /// # directory.track(0, OrderedSet::from_iter_dedup([peer]).into())?;
+    /// let reservation = directory.listen(&peer, now, Duration::ZERO)?.expect("in a set");
+    /// let refused = other.release(reservation).unwrap_err();
+    /// directory.release(refused.reservation).expect("its own");
+    /// # Ok::<(), OutOfMemory>(())
+    /// ```
+    pub fn release(&mut self, reservation: Reservation) -> Result<(), ReleaseError> {
+        if !reservation.is_of(self.id) {
+            return Err(ReleaseError { reservation });
+        }
+        certain(self.session.release(&reservation.public_key().0));
+        Ok(())
+    }
+
+    /// Offers infos to the records of their peers, in any order: each peer's is the one of greatest
+    /// timestamp, of equal ones the first. An info of a peer without a record is dropped. The signatures are
+    /// not judged: they are infos that were made here, or judged before.
+    ///
+    /// # Errors
+    ///
+    /// [`OutOfMemory`]; then nothing has changed.
+    ///
+    /// # Examples
+    ///
+    /// ```
+    /// # use p2p_directory::*; use std::time::Duration;
+    /// # let mut directory = testing::directory();
+    /// let peer = testing::key(1);
+    /// directory.track(0, OrderedSet::from_iter_dedup([peer]).into())?;
+    /// directory.update_peers(&[testing::info(1, 1000)])?;
+    /// assert_eq!(directory.dialable(Duration::from_secs(1))?.peers, [peer]);
+    /// # Ok::<(), OutOfMemory>(())
+    /// ```
+    pub fn update_peers(&mut self, infos: &[Info]) -> Result<(), OutOfMemory> {
+        let spelled = self.input.get_mut();
+        spelled.clear();
+        write_infos(spelled, infos);
+        is_done(self.session.update_peers(spelled))
+    }
+
+    /// Blocks the peer from the moment `now` on, whether there is a record of it or not. False, and nothing
+    /// changes, for the own key, and for a peer that is blocked at `now`.
+    ///
+    /// # Errors
+    ///
+    /// [`OutOfMemory`]; then nothing has changed.
+    ///
+    /// # Examples
+    ///
+    /// ```
+    /// # use p2p_directory::*; use std::time::Duration;
+    /// # let mut directory = testing::directory();
+    /// let (peer, now) = (testing::key(1), Duration::from_secs(1));
+    /// assert!(directory.block(&peer, now)?);
+    /// assert!(!directory.block(&peer, now)?);
+    /// assert_eq!(directory.next_unblock(), Some(Duration::from_secs(61)));
+    /// # Ok::<(), OutOfMemory>(())
+    /// ```
+    pub fn block(&mut self, peer: &Key, now: Duration) -> Result<bool, OutOfMemory> {
+        let (seconds, nanos) = parts(now);
+        is_true(self.session.block(&peer.0, seconds, nanos))
+    }
+
+    /// Ends the blocks that hold until the moment `now` or an earlier one, and answers whether there were
+    /// any.
+    ///
+    /// # Examples
+    ///
+    /// ```
+    /// # use p2p_directory::*; use std::time::Duration;
+    /// # let mut directory = testing::directory();
+    /// assert!(!directory.unblock_expired(Duration::MAX));
+    /// ```
+    pub fn unblock_expired(&mut self, now: Duration) -> bool {
+        let (seconds, nanos) = parts(now);
+        certain(self.session.unblock_expired(seconds, nanos)) == 1
+    }
+
+    /// Forgets the cooldown of each peer whose dial moment is at or before `now`, and answers how many
+    /// there were. A cooldown outlives its peer's record until it is forgotten.
+    ///
+    /// # Examples
+    ///
+    /// ```
+    /// # use p2p_directory::*; use std::time::Duration;
+    /// # let mut directory = testing::directory();
+    /// assert_eq!(directory.forget_cooled(Duration::MAX), 0);
+    /// ```
+    pub fn forget_cooled(&mut self, now: Duration) -> usize {
+        let (seconds, nanos) = parts(now);
+        certain(self.session.forget_cooled(seconds, nanos)) as usize
+    }
+
+    /// The least moment until which a block holds. A block that has ended counts until
+    /// [`Directory::unblock_expired`] ends it.
+    ///
+    /// # Examples
+    ///
+    /// ```
+    /// # use p2p_directory::*; use std::time::Duration;
+    /// # let directory = testing::directory();
+    /// assert_eq!(directory.next_unblock(), None);
+    /// ```
+    #[must_use]
+    pub fn next_unblock(&self) -> Option<Duration> {
+        self.certain_question(Session::next_unblock, |bytes| {
+            Reader::new(bytes).moment().expect(OWN)
+        })
+    }
+
+    /// The peers that are blocked at the moment `now`.
+    ///
+    /// # Errors
+    ///
+    /// [`OutOfMemory`].
+    ///
+    /// # Examples
+    ///
+    /// ```
+    /// # use p2p_directory::*; use std::time::Duration;
+    /// # let directory = testing::directory();
+    /// assert!(directory.blocked_peers(Duration::ZERO)?.is_empty());
+    /// # Ok::<(), OutOfMemory>(())
+    /// ```
+    pub fn blocked_peers(&self, now: Duration) -> Result<OrderedSet, OutOfMemory> {
+        let (seconds, nanos) = parts(now);
+        let blocked = self.question(
+            |session, out| session.blocked_peers(seconds, nanos, out),
+            OrderedSet::read,
+        )?;
+        Ok(blocked.expect(OWN))
+    }
+
+    /// The peers of the retained set with an index.
+    ///
+    /// # Errors
+    ///
+    /// [`OutOfMemory`].
+    ///
+    /// # Examples
+    ///
+    /// ```
+    /// # use p2p_directory::*; use std::time::Duration;
+    /// # let mut directory = testing::directory();
+    /// let peers = TrackedPeers::from(OrderedSet::from_iter_dedup([testing::key(1)]));
+    /// directory.track(5, peers.clone())?;
+    /// assert_eq!(directory.get_peer_set(5)?, Some(peers));
+    /// # Ok::<(), OutOfMemory>(())
+    /// ```
+    pub fn get_peer_set(&self, index: u64) -> Result<Option<TrackedPeers>, OutOfMemory> {
+        self.question(
+            |session, out| session.get_peer_set(index, out),
+            |bytes| read_peers(bytes).expect(OWN),
+        )
+    }
+
+    /// What is told of the latest set, or `None` where none was taken.
+    ///
+    /// # Errors
+    ///
+    /// [`OutOfMemory`].
+    ///
+    /// # Examples
+    ///
+    /// ```
+    /// # use p2p_directory::*; use std::time::Duration;
+    /// # let directory = testing::directory();
+    /// assert_eq!(directory.latest_update()?, None);
+    /// # Ok::<(), OutOfMemory>(())
+    /// ```
+    pub fn latest_update(&self) -> Result<Option<PeerSetUpdate>, OutOfMemory> {
+        self.question(Session::latest_update, |bytes| {
+            read_update(bytes).expect(OWN)
+        })
+    }
+
+    /// The index of the latest set, or `None` where none was taken.
+    ///
+    /// # Examples
+    ///
+    /// ```
+    /// # use p2p_directory::*; use std::time::Duration;
+    /// # let directory = testing::directory();
+    /// assert_eq!(directory.latest_set_index(), None);
+    /// ```
+    #[must_use]
+    pub fn latest_set_index(&self) -> Option<u64> {
+        self.certain_question(Session::latest_set_index, |bytes| {
+            Reader::new(bytes).number().expect(OWN)
+        })
+    }
+
+    /// The peers of all retained sets: one that is primary in some is primary only.
+    ///
+    /// # Errors
+    ///
+    /// [`OutOfMemory`].
+    ///
+    /// # Examples
+    ///
+    /// ```
+    /// # use p2p_directory::*; use std::time::Duration;
+    /// # let directory = testing::directory();
+    /// assert_eq!(directory.all()?, TrackedPeers::default());
+    /// # Ok::<(), OutOfMemory>(())
+    /// ```
+    pub fn all(&self) -> Result<TrackedPeers, OutOfMemory> {
+        let all = self.question(Session::all, |bytes| read_peers(bytes).expect(OWN))?;
+        Ok(all.expect(OWN))
+    }
+
+    /// How the peer stands, or `None` where there is no record of it.
+    ///
+    /// # Examples
+    ///
+    /// ```
+    /// # use p2p_directory::*; use std::time::Duration;
+    /// # let directory = testing::directory();
+    /// assert_eq!(directory.status(&testing::key(1)), None);
+    /// ```
+    #[must_use]
+    pub fn status(&self, peer: &Key) -> Option<Status> {
+        match self.session.status(&peer.0) {
+            exports::NONE => None,
+            answer => Some(match certain(answer) {
+                0 => Status::Inert,
+                1 => Status::Reserved,
+                _ => Status::Active,
+            }),
+        }
+    }
+
+    /// The info of the peer that others may be told: the own one, and that of a peer that is connected.
+    ///
+    /// # Errors
+    ///
+    /// [`OutOfMemory`].
+    ///
+    /// # Examples
+    ///
+    /// ```
+    /// # use p2p_directory::*; use std::time::Duration;
+    /// # let directory = testing::directory();
+    /// let own = directory.info(&testing::key(9))?.expect("the own info");
+    /// assert_eq!(own.timestamp, 0);
+    /// # Ok::<(), OutOfMemory>(())
+    /// ```
+    pub fn info(&self, peer: &Key) -> Result<Option<Info>, OutOfMemory> {
+        self.question(
+            |session, out| session.info(&peer.0, out),
+            |bytes| Info::decode(bytes).expect(OWN),
+        )
+    }
+
+    /// The infos for one who knows these bits, at the moment `now`: of the primary peers of the set whose
+    /// bit is false, in order, those that others may be told and whose timestamp is not above `now`. No
+    /// infos where no retained set has the index, `None` where the bits are of another number than its
+    /// primary peers.
+    ///
+    /// # Errors
+    ///
+    /// [`OutOfMemory`].
+    ///
+    /// # Panics
+    ///
+    /// Where there are more bits than the greatest `u32`.
+    ///
+    /// # Examples
+    ///
+    /// ```
+    /// # use p2p_directory::*; use std::time::Duration;
+    /// # let directory = testing::directory();
+    /// let bits = BitVec { index: 3, bits: vec![false; 4] };
+    /// assert_eq!(directory.infos(&bits, Duration::ZERO)?, Some(Vec::new()));
+    /// # Ok::<(), OutOfMemory>(())
+    /// ```
+    pub fn infos(&self, bit_vec: &BitVec, now: Duration) -> Result<Option<Vec<Info>>, OutOfMemory> {
+        let (seconds, nanos) = parts(now);
+        let mut spelled = self.input.borrow_mut();
+        spelled.clear();
+        bit_vec.write(&mut spelled);
+        self.question(
+            |session, out| session.infos(&spelled, seconds, nanos, out),
+            |bytes| read_infos(&mut Reader::new(bytes), u64::MAX).expect(OWN),
+        )
+    }
+
+    /// The bits of the retained set at a place, counted from 0 in order of index, for each primary peer
+    /// whether its info is known and not wanted. A random place makes it a random set.
+    ///
+    /// # Errors
+    ///
+    /// [`OutOfMemory`].
+    ///
+    /// # Examples
+    ///
+    /// ```
+    /// # use p2p_directory::*; use std::time::Duration;
+    /// # let mut directory = testing::directory();
+    /// directory.track(5, OrderedSet::from_iter_dedup([testing::key(1)]).into())?;
+    /// let bits = BitVec { index: 5, bits: vec![false] };
+    /// assert_eq!(directory.get_random_bit_vec(0)?, Some(bits));
+    /// # Ok::<(), OutOfMemory>(())
+    /// ```
+    pub fn get_random_bit_vec(&self, place: usize) -> Result<Option<BitVec>, OutOfMemory> {
+        self.question(
+            |session, out| session.get_random_bit_vec(place as u64, out),
+            |bytes| BitVec::read(&mut Reader::new(bytes), u64::MAX).expect(OWN),
+        )
+    }
+
+    /// Whether the peer may be connected at the moment `now`: it is in a retained set or a bootstrapper,
+    /// not blocked, and not the local node.
+    ///
+    /// # Examples
+    ///
+    /// ```
+    /// # use p2p_directory::*; use std::time::Duration;
+    /// # let directory = testing::directory();
+    /// assert!(!directory.eligible(&testing::key(9), Duration::ZERO));
+    /// ```
+    #[must_use]
+    pub fn eligible(&self, peer: &Key, now: Duration) -> bool {
+        let (seconds, nanos) = parts(now);
+        certain(self.session.eligible(&peer.0, seconds, nanos)) == 1
+    }
+
+    /// Whether a connection of the peer may be accepted at the moment `now`: it is eligible, and neither
+    /// reserved nor connected.
+    ///
+    /// # Examples
+    ///
+    /// ```
+    /// # use p2p_directory::*; use std::time::Duration;
+    /// # let directory = testing::directory();
+    /// assert!(!directory.acceptable(&testing::key(1), Duration::ZERO));
+    /// ```
+    #[must_use]
+    pub fn acceptable(&self, peer: &Key, now: Duration) -> bool {
+        let (seconds, nanos) = parts(now);
+        certain(self.session.acceptable(&peer.0, seconds, nanos)) == 1
+    }
+
+    /// Who may be dialled at the moment `now`, and when to ask again.
+    ///
+    /// # Errors
+    ///
+    /// [`OutOfMemory`].
+    ///
+    /// # Examples
+    ///
+    /// ```
+    /// # use p2p_directory::*; use std::time::Duration;
+    /// # let directory = testing::directory();
+    /// assert_eq!(directory.dialable(Duration::ZERO)?, Dialable::default());
+    /// # Ok::<(), OutOfMemory>(())
+    /// ```
+    pub fn dialable(&self, now: Duration) -> Result<Dialable, OutOfMemory> {
+        let (seconds, nanos) = parts(now);
+        let dialable = self.question(
+            |session, out| session.dialable(seconds, nanos, out),
+            |bytes| read_dialable(bytes).expect(OWN),
+        )?;
+        Ok(dialable.expect(OWN))
+    }
+
+    /// How many peers have a record, but for the local node.
+    ///
+    /// # Examples
+    ///
+    /// ```
+    /// # use p2p_directory::*; use std::time::Duration;
+    /// # let directory = testing::directory();
+    /// assert_eq!(directory.tracked(), 0);
+    /// ```
+    #[must_use]
+    pub fn tracked(&self) -> usize {
+        certain(self.session.tracked()) as usize
+    }
+
+    pub(crate) fn session(&self) -> &Session {
+        &self.session
+    }
+
+    pub(crate) fn namespace(&self) -> &[u8] {
+        &self.namespace
+    }
+
+    // Asks, with more room where what comes out has too little, and reads what came out.
+    pub(crate) fn question<T>(
+        &self,
+        ask: impl Fn(&Session, &mut [u8]) -> u64,
+        read: impl FnOnce(&[u8]) -> T,
+    ) -> Result<Option<T>, OutOfMemory> {
+        let mut out = self.output.borrow_mut();
+        loop {
+            let Some(length) = answered(ask(&self.session, &mut out))? else {
+                return Ok(None);
+            };
+            let length = length as usize;
+            if length <= out.len() {
+                return Ok(Some(read(&out[..length])));
+            }
+            out.resize(length, 0);
+        }
+    }
+
+    // A question that takes no memory.
+    fn certain_question<T>(
+        &self,
+        ask: impl Fn(&Session, &mut [u8]) -> u64,
+        read: impl FnOnce(&[u8]) -> T,
+    ) -> Option<T> {
+        self.question(ask, read).expect(OWN)
+    }
+}
+
+impl fmt::Debug for Directory {
+    fn fmt(&self, f: &mut fmt::Formatter<'_>) -> fmt::Result {
+        f.debug_struct("Directory")
+            .field("tracked", &self.tracked())
+            .field("latest_set_index", &self.latest_set_index())
+            .finish_non_exhaustive()
+    }
+}
+
+/// What a node has besides its directory's configuration.
+pub(crate) struct Limits {
+    pub(crate) payload: PayloadConfig,
+    pub(crate) peer_gossip_max_count: usize,
+    pub(crate) synchrony_bound: Duration,
+    pub(crate) namespace: Vec<u8>,
+}
+
+/// Why what the library answers can be read.
+pub(crate) const OWN: &str = "the library's own answer";
+
+/// A moment as its seconds and nanoseconds.
+pub(crate) fn parts(moment: Duration) -> (u64, u32) {
+    (moment.as_secs(), moment.subsec_nanos())
+}
+
+/// The number that was answered, `None`, or want of memory. No other refusal can come of arguments that
+/// are typed.
+pub(crate) fn answered(answer: u64) -> Result<Option<u64>, OutOfMemory> {
+    match answer {
+        exports::MEMORY => Err(OutOfMemory),
+        exports::NONE => Ok(None),
+        exports::BAD_VERDICTS.. => panic!("p2p_session refused with {}", u64::MAX - answer),
+        number => Ok(Some(number)),
+    }
+}
+
+// The number that a call answered that takes no memory.
+fn certain(answer: u64) -> u64 {
+    match answered(answer) {
+        Ok(Some(number)) => number,
+        _ => panic!("p2p_session answered {answer:#x}"),
+    }
+}
+
+fn is_true(answer: u64) -> Result<bool, OutOfMemory> {
+    Ok(answered(answer)? == Some(1))
+}
+
+fn is_done(answer: u64) -> Result<(), OutOfMemory> {
+    answered(answer)?;
+    Ok(())
+}
+
+fn read_peers(bytes: &[u8]) -> Result<TrackedPeers, CodecError> {
+    let mut reader = Reader::new(bytes);
+    let primary = reader.number()?;
+    let primary = read_keys(&mut reader, primary)?;
+    Ok(TrackedPeers::new(primary, OrderedSet::read(reader.rest())))
+}
+
+fn read_update(bytes: &[u8]) -> Result<PeerSetUpdate, CodecError> {
+    let mut reader = Reader::new(bytes);
+    let index = reader.number()?;
+    let (primary, secondary, all) = (reader.number()?, reader.number()?, reader.number()?);
+    let latest = TrackedPeers::new(
+        read_keys(&mut reader, primary)?,
+        read_keys(&mut reader, secondary)?,
+    );
+    let all = TrackedPeers::new(
+        read_keys(&mut reader, all)?,
+        OrderedSet::read(reader.rest()),
+    );
+    Ok(PeerSetUpdate { index, latest, all })
+}
+
+fn read_dialable(bytes: &[u8]) -> Result<Dialable, CodecError> {
+    let mut reader = Reader::new(bytes);
+    let next_query_at = match reader.byte()? {
+        0 => None,
+        _ => Some(reader.moment()?),
+    };
+    Ok(Dialable {
+        peers: OrderedSet::read(reader.rest()).into_iter().collect(),
+        next_query_at,
+    })
+}
+
+fn read_keys(reader: &mut Reader<'_>, count: u64) -> Result<OrderedSet, CodecError> {
+    Ok(OrderedSet::read(reader.take(count as usize * KEY_SIZE)?))
+}

@@ -1,0 +1,285 @@
+//! Requests that are no commands: what can't be read is refused by a number with a name, nothing changes, and
+//! what comes out stays as it was.
+
+use crate::codec::Reader;
+use crate::directory::Directory;
+use crate::error::CodecError;
+use crate::exports::{self, Session};
+use crate::info::{Info, read_infos};
+use crate::key::KEY_SIZE;
+use crate::payload::{BitVec, Payload, PayloadConfig};
+use crate::testing;
+use std::time::Duration;
+
+const REQUESTS: u32 = 100_000;
+
+const LIMITS: PayloadConfig = PayloadConfig {
+    max_bit_vec: 64,
+    max_peers: 4,
+    max_data_length: 32,
+};
+
+// Numbers that look random, the same in each run.
+struct Draws(u64);
+
+impl Draws {
+    fn number(&mut self) -> u64 {
+        self.0 ^= self.0 << 13;
+        self.0 ^= self.0 >> 7;
+        self.0 ^= self.0 << 17;
+        self.0
+    }
+
+    fn below(&mut self, end: u64) -> u64 {
+        self.number() % end
+    }
+
+    fn bytes(&mut self, count: u64) -> Vec<u8> {
+        (0..count).map(|_| self.number() as u8).collect()
+    }
+
+    // Bytes that are no key: their number isn't that of a key.
+    fn no_key(&mut self) -> Vec<u8> {
+        let count = self.below(3 * KEY_SIZE as u64);
+        let count = count + u64::from(count == KEY_SIZE as u64);
+        self.bytes(count)
+    }
+
+    // A frame with some bytes changed, left out or put in.
+    fn spoilt(&mut self, frame: &[u8]) -> Vec<u8> {
+        let mut frame = frame.to_vec();
+        for _ in 0..=self.below(3) {
+            let place = self.below(frame.len() as u64 + 1) as usize;
+            let byte = self.number() as u8;
+            match self.below(3) {
+                0 if place < frame.len() => frame[place] = byte,
+                1 if place < frame.len() => drop(frame.remove(place)),
+                _ => frame.insert(place, byte),
+            }
+        }
+        frame
+    }
+}
+
+fn session() -> Session {
+    let session = Session::new();
+    assert_eq!(session.tracked(), exports::NO_NODE);
+    let myself = testing::info(9, 0).encode();
+    let init = |max_sets, myself: &[u8]| {
+        session.init(
+            true,
+            true,
+            max_sets,
+            1,
+            10,
+            0,
+            60,
+            0,
+            LIMITS.max_bit_vec,
+            LIMITS.max_peers as u64,
+            LIMITS.max_data_length as u64,
+            4,
+            30,
+            0,
+            testing::NAMESPACE,
+            &[],
+            myself,
+        )
+    };
+    assert_eq!(init(0, &myself), exports::BAD_SETTING);
+    assert_eq!(init(u64::MAX, &myself), exports::BAD_SETTING);
+    assert_eq!(init(1, &myself[1..]), exports::BAD_INFO);
+    assert_eq!(init(1, &myself), 1);
+    assert_eq!(init(1, &myself), exports::BAD_SETTING);
+    session
+}
+
+// What is seen of a session.
+fn seen(session: &Session) -> Vec<u8> {
+    let mut seen = Vec::new();
+    let mut out = [0; 512];
+    for length in [
+        session.all(&mut out),
+        session.latest_update(&mut out),
+        session.next_unblock(&mut out),
+        session.dialable(100, 0, &mut out),
+        session.get_random_bit_vec(0, &mut out),
+        session.tracked(),
+    ] {
+        seen.extend(length.to_be_bytes());
+        seen.extend(out);
+    }
+    for number in 0..12 {
+        let status = session.status(&testing::key(number).0);
+        seen.extend(status.to_be_bytes());
+    }
+    seen
+}
+
+// A request of some call that is none, with the answer that it has to have.
+fn request(session: &Session, draws: &mut Draws, out: &mut [u8]) -> (u64, u64) {
+    let key = testing::key(1).0;
+    let wrong = draws.no_key();
+    let nanos = 1_000_000_000 + draws.below(1 << 31) as u32;
+    match draws.below(24) {
+        0 => (session.dial(&wrong, 1, 0, 0, 0), exports::BAD_KEY),
+        1 => (session.dial(&key, 1, nanos, 0, 0), exports::BAD_MOMENT),
+        2 => (session.listen(&wrong, 1, 0, 0, 0), exports::BAD_KEY),
+        3 => (session.listen(&key, 1, 0, 0, nanos), exports::BAD_MOMENT),
+        4 => (session.connect(&wrong, true), exports::BAD_KEY),
+        5 => (session.release(&wrong), exports::BAD_KEY),
+        6 => (session.block(&wrong, 1, 0), exports::BAD_KEY),
+        7 => (session.block(&key, 1, nanos), exports::BAD_MOMENT),
+        8 => (session.unblock_expired(1, nanos), exports::BAD_MOMENT),
+        9 => (session.forget_cooled(1, nanos), exports::BAD_MOMENT),
+        10 => (session.blocked_peers(1, nanos, out), exports::BAD_MOMENT),
+        11 => (session.status(&wrong), exports::BAD_KEY),
+        12 => (session.info(&wrong, out), exports::BAD_KEY),
+        13 => (session.reservation(&wrong, out), exports::BAD_KEY),
+        14 => (session.eligible(&wrong, 1, 0), exports::BAD_KEY),
+        15 => (session.acceptable(&key, 1, nanos), exports::BAD_MOMENT),
+        16 => (session.dialable(1, nanos, out), exports::BAD_MOMENT),
+        17 => {
+            let count = 1 + draws.below(KEY_SIZE as u64 - 1);
+            let keys = draws.bytes(3 * KEY_SIZE as u64 + count);
+            (session.track(7, &key, &keys, out), exports::BAD_KEYS)
+        }
+        18 => (session.track(7, &key, &key, &mut []), exports::NO_ROOM),
+        19 => {
+            let count = draws.below(200);
+            let bytes = no_infos(draws.bytes(count));
+            (session.update_peers(&bytes), exports::BAD_INFO)
+        }
+        20 => {
+            let count = draws.below(40);
+            let bytes = no_bits(draws.bytes(count));
+            (session.infos(&bytes, 1, 0, out), exports::BAD_BITS)
+        }
+        21 => (session.check(&key, 1, nanos, out), exports::BAD_MOMENT),
+        22 => {
+            let frame = Payload::Greeting(testing::info(1, 0)).encode();
+            let count = draws.below(5);
+            let verdicts = draws.bytes(count + u64::from(count == 1));
+            let answer = session.receive(&frame, 1, 0, &verdicts, out);
+            (answer, exports::BAD_VERDICTS)
+        }
+        _ => {
+            let answer = session.receive(&key, 1, 0, &[], &mut []);
+            (answer, exports::NO_ROOM)
+        }
+    }
+}
+
+// The bytes, or where these happen to spell infos others that don't.
+fn no_infos(bytes: Vec<u8>) -> Vec<u8> {
+    let mut reader = Reader::new(&bytes);
+    match read_infos(&mut reader, u64::MAX).and_then(|_| reader.end()) {
+        Ok(()) => vec![1],
+        Err(_) => bytes,
+    }
+}
+
+fn no_bits(bytes: Vec<u8>) -> Vec<u8> {
+    let mut reader = Reader::new(&bytes);
+    match BitVec::read(&mut reader, u64::from(u32::MAX)).and_then(|_| reader.end()) {
+        Ok(()) => vec![1],
+        Err(_) => bytes,
+    }
+}
+
+#[test]
+fn requests_that_are_no_commands_change_nothing() {
+    let session = session();
+    let peers = [1, 2, 3].map(|number| testing::key(number).0).concat();
+    let mut torn = [0; 512];
+    assert_eq!(session.track(1, &peers, &[], &mut torn), 0);
+    assert_eq!(session.listen(&testing::key(1).0, 1, 0, 0, 0), 1);
+    assert_eq!(session.block(&testing::key(2).0, 1, 0), 1);
+    let before = seen(&session);
+    let mut draws = Draws(0x9e37_79b9_7f4a_7c15);
+    for _ in 0..REQUESTS {
+        let mut out = [0xaa; 512];
+        let (answer, wanted) = request(&session, &mut draws, &mut out);
+        assert_eq!(answer, wanted);
+        assert!(out.iter().all(|byte| *byte == 0xaa));
+    }
+    assert_eq!(seen(&session), before);
+}
+
+// The form of a fault in an answer to a frame.
+fn fault_bytes(fault: CodecError) -> Vec<u8> {
+    use crate::error::What;
+    let (kind, number) = match fault {
+        CodecError::EndOfBuffer => (0, None),
+        CodecError::ExtraData(count) => (1, Some(count)),
+        CodecError::InvalidLength(length) => (2, Some(length)),
+        CodecError::InvalidVarint(size) => (3, Some(size)),
+        CodecError::InvalidEnum(prefix) => (4, Some(u64::from(prefix))),
+        CodecError::Invalid(What::Hostname) => (5, None),
+        CodecError::Invalid(What::Padding) => (6, None),
+        CodecError::Invalid(What::Key) => (7, None),
+        CodecError::Invalid(What::Signature) => (8, None),
+    };
+    let number = number.map(u64::to_be_bytes);
+    [&[4, kind][..], number.as_ref().map_or(&[], |bytes| bytes)].concat()
+}
+
+// The frame is refused with the fault that this crate's own decoder names.
+fn has_this_fault(session: &Session, frame: &[u8], fault: CodecError) {
+    let mut out = [0; 512];
+    let length = session.receive(frame, 1, 0, &[], &mut out) as usize;
+    assert_eq!(out[..length], fault_bytes(fault));
+    assert_eq!(session.check(frame, 1, 0, &mut out), 8);
+    assert_eq!(out[..8], [0; 8]);
+}
+
+#[test]
+fn spoilt_frames_are_refused_with_the_fault_that_both_decoders_name() {
+    let session = session();
+    let frames = [
+        Payload::Greeting(testing::info(1, 1000)),
+        Payload::Peers([1, 2].map(|number| testing::info(number, 7)).to_vec()),
+        Payload::BitVec(BitVec {
+            index: 300,
+            bits: vec![true; 19],
+        }),
+    ]
+    .map(|payload| payload.encode());
+    let before = seen(&session);
+    let mut draws = Draws(7);
+    let mut refused = 0;
+    for _ in 0..REQUESTS {
+        let chosen = draws.below(4) as usize;
+        let frame = match frames.get(chosen) {
+            Some(frame) => draws.spoilt(frame),
+            None => {
+                let count = draws.below(24);
+                draws.bytes(count)
+            }
+        };
+        if let Err(fault) = Payload::decode(&frame, &LIMITS) {
+            has_this_fault(&session, &frame, fault);
+            refused += 1;
+        }
+    }
+    assert!(refused > REQUESTS / 4);
+    assert_eq!(seen(&session), before);
+}
+
+#[test]
+fn handles_come_and_go() {
+    for round in 0..50 {
+        let mut directory: Directory = testing::directory();
+        let keys = (1..=40).map(testing::key);
+        let peers = crate::OrderedSet::from_iter_dedup(keys).into();
+        directory.track(round, peers).unwrap();
+        let infos: Vec<Info> = (1..=40).map(|number| testing::info(number, 5)).collect();
+        directory.update_peers(&infos).unwrap();
+        let now = Duration::from_secs(1);
+        let held = directory.dial(&testing::key(1), now, Duration::ZERO);
+        assert!(held.unwrap().is_some());
+        // It is dropped with what is still held, on another thread.
+        std::thread::spawn(move || drop(directory)).join().unwrap();
+        drop(Session::new());
+    }
+}

@@ -1,0 +1,201 @@
+//! What peers say of themselves, signed.
+
+use crate::codec::{Reader, write_varint};
+use crate::error::CodecError;
+use crate::ingress::Ingress;
+use crate::key::{KEY_SIZE, Key, SIGNATURE_SIZE, Signature};
+
+/// What a peer says of itself: where it can be dialled, since when, and its signature over both.
+///
+/// # Examples
+///
+/// ```
+/// use p2p_directory::{Info, Ingress, Key, Signature};
+/// use std::net::SocketAddr;
+///
+/// let ingress = Ingress::from(SocketAddr::from(([127, 0, 0, 1], 8080)));
+/// // A scheme of your own signs: here, one without any security.
+/// let info = Info::sign(Key([1; 32]), b"net", ingress, 1000, |_namespace, _message| {
+///     Signature([1; 64])
+/// });
+/// assert_eq!(Info::decode(&info.encode()), Ok(info));
+/// ```
+#[derive(Clone, Debug, PartialEq, Eq)]
+pub struct Info {
+    /// Where the peer can be dialled.
+    pub ingress: Ingress,
+    /// Since when it can be dialled there, in milliseconds since the epoch.
+    pub timestamp: u64,
+    /// The key of the peer.
+    pub public_key: Key,
+    /// Its signature over ingress and timestamp.
+    pub signature: Signature,
+}
+
+impl Info {
+    /// The info of these parts, with the answer of the closure as its signature. The closure is called
+    /// once, with the namespace and the [signed bytes](Info::signed_bytes).
+    ///
+    /// # Examples
+    ///
+    /// ```
+    /// # use p2p_directory::{Info, Ingress, Key, Signature};
+    /// # use std::net::SocketAddr;
+    /// let ingress = Ingress::from(SocketAddr::from(([8, 8, 8, 8], 9000)));
+    /// let info = Info::sign(Key([9; 32]), b"net", ingress, 0, |namespace, message| {
+    ///     assert_eq!(namespace, b"net");
+    ///     assert_eq!(message.len(), 16);
+    ///     Signature([0; 64])
+    /// });
+    /// assert_eq!(info.timestamp, 0);
+    /// ```
+    pub fn sign(
+        public_key: Key,
+        namespace: &[u8],
+        ingress: Ingress,
+        timestamp: u64,
+        sign: impl FnOnce(&[u8], &[u8]) -> Signature,
+    ) -> Info {
+        let signature = sign(namespace, &signed_bytes(&ingress, timestamp));
+        Info {
+            ingress,
+            timestamp,
+            public_key,
+            signature,
+        }
+    }
+
+    /// What the signature is over: the spelling of the ingress, then the timestamp in eight bytes, the
+    /// most significant first.
+    ///
+    /// # Examples
+    ///
+    /// ```
+    /// # use p2p_directory::{Info, Ingress, Key, Signature};
+    /// # use std::net::SocketAddr;
+    /// # let ingress = Ingress::from(SocketAddr::from(([127, 0, 0, 1], 8080)));
+    /// # let info = Info::sign(Key([1; 32]), b"", ingress, 1000, |_, _| Signature([0; 64]));
+    /// assert_eq!(
+    ///     info.signed_bytes(),
+    ///     [0, 4, 127, 0, 0, 1, 0x1f, 0x90, 0, 0, 0, 0, 0, 0, 0x03, 0xe8]
+    /// );
+    /// ```
+    #[must_use]
+    pub fn signed_bytes(&self) -> Vec<u8> {
+        signed_bytes(&self.ingress, self.timestamp)
+    }
+
+    /// What the closure says of the key, the namespace, the signed bytes and the signature.
+    ///
+    /// # Examples
+    ///
+    /// ```
+    /// # use p2p_directory::{Info, Ingress, Key, Signature};
+    /// # use std::net::SocketAddr;
+    /// # let ingress = Ingress::from(SocketAddr::from(([127, 0, 0, 1], 8080)));
+    /// let info = Info::sign(Key([1; 32]), b"net", ingress, 1000, |_, _| Signature([1; 64]));
+    /// assert!(info.verify(b"net", |key, _namespace, _message, signature| {
+    ///     signature.0[..32] == key.0
+    /// }));
+    /// ```
+    pub fn verify(
+        &self,
+        namespace: &[u8],
+        verify: impl FnOnce(&Key, &[u8], &[u8], &Signature) -> bool,
+    ) -> bool {
+        verify(
+            &self.public_key,
+            namespace,
+            &self.signed_bytes(),
+            &self.signature,
+        )
+    }
+
+    /// How many bytes the spelling of an info is allowed for.
+    ///
+    /// # Examples
+    ///
+    /// ```
+    /// assert_eq!(p2p_directory::Info::max_encode_size(), 261 + 10 + 32 + 64);
+    /// ```
+    #[must_use]
+    pub const fn max_encode_size() -> usize {
+        Ingress::MAX_ENCODE_SIZE + 10 + KEY_SIZE + SIGNATURE_SIZE
+    }
+
+    /// The spelling.
+    ///
+    /// # Examples
+    ///
+    /// ```
+    /// # use p2p_directory::{Info, Ingress, Key, Signature};
+    /// # use std::net::SocketAddr;
+    /// # let ingress = Ingress::from(SocketAddr::from(([127, 0, 0, 1], 8080)));
+    /// # let info = Info::sign(Key([1; 32]), b"", ingress, 1000, |_, _| Signature([0; 64]));
+    /// assert_eq!(info.encode().len(), 8 + 2 + 32 + 64);
+    /// ```
+    #[must_use]
+    pub fn encode(&self) -> Vec<u8> {
+        let mut out = Vec::new();
+        self.write(&mut out);
+        out
+    }
+
+    /// The info that these bytes spell.
+    ///
+    /// # Errors
+    ///
+    /// The first fault of bytes that spell none.
+    ///
+    /// # Examples
+    ///
+    /// ```
+    /// # use p2p_directory::{CodecError, Info};
+    /// assert_eq!(Info::decode(&[]), Err(CodecError::EndOfBuffer));
+    /// ```
+    pub fn decode(bytes: &[u8]) -> Result<Info, CodecError> {
+        let mut reader = Reader::new(bytes);
+        let info = Info::read(&mut reader)?;
+        reader.end()?;
+        Ok(info)
+    }
+
+    pub(crate) fn write(&self, out: &mut Vec<u8>) {
+        self.ingress.write(out);
+        write_varint(out, self.timestamp);
+        out.extend_from_slice(&self.public_key.0);
+        out.extend_from_slice(&self.signature.0);
+    }
+
+    pub(crate) fn read(reader: &mut Reader<'_>) -> Result<Info, CodecError> {
+        Ok(Info {
+            ingress: Ingress::read(reader)?,
+            timestamp: reader.varint()?,
+            public_key: Key(reader.array()?),
+            signature: Signature(reader.array()?),
+        })
+    }
+}
+
+fn signed_bytes(ingress: &Ingress, timestamp: u64) -> Vec<u8> {
+    let mut out = ingress.encode();
+    out.extend_from_slice(&timestamp.to_be_bytes());
+    out
+}
+
+/// Appends the spelling of a list of infos.
+pub(crate) fn write_infos(out: &mut Vec<u8>, infos: &[Info]) {
+    write_varint(out, infos.len() as u64);
+    for info in infos {
+        info.write(out);
+    }
+}
+
+/// Reads a list of infos, at most so many.
+pub(crate) fn read_infos(reader: &mut Reader<'_>, most: u64) -> Result<Vec<Info>, CodecError> {
+    let count = reader.length()?;
+    if count > most {
+        return Err(CodecError::InvalidLength(count));
+    }
+    (0..count).map(|_| Info::read(reader)).collect()
+}

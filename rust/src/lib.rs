@@ -1,0 +1,60 @@
+//! A directory of peers, for nodes that find each other by signed gossip: which peers there are, who may be
+//! dialled or listened for, who is blocked, which reservation is held, whose connection has to end, and what
+//! is told to other nodes.
+//!
+//! It is a crate over a library that is proved in Rattle: each call of [`Directory`] and [`Node`] is one of
+//! the library's, which answers what is recomputed from all calls so far. There is no clock, no random
+//! generator, no socket, no thread and no scheme of signatures inside: moments, random draws, frames and
+//! what tells a good signature are handed in.
+//!
+//! Names and shapes are those of the discovery directory of `commonware-p2p` where they can be.
+//!
+//! # Examples
+//!
+//! ```
+//! # use p2p_directory::*; use std::time::Duration;
+//! let mut directory = testing::directory();
+//! let peer = testing::key(1);
+//! directory.track(0, OrderedSet::from_iter_dedup([peer]).into())?;
+//! directory.update_peers(&[testing::info(1, 1000)])?;
+//!
+//! let now = Duration::from_secs(100);
+//! for peer in directory.dialable(now)?.peers {
+//!     if let Some(reservation) = directory.dial(&peer, now, Duration::ZERO)? {
+//!         directory.connect(&peer, true)?;
+//!         // .. the connection ..
+//!         directory.release(reservation)?;
+//!     }
+//! }
+//! # Ok::<(), Box<dyn std::error::Error>>(())
+//! ```
+
+#[cfg(not(target_pointer_width = "64"))]
+compile_error!("the library is built for targets whose `usize` has 64 bits");
+
+mod codec;
+mod directory;
+mod error;
+#[rustfmt::skip]
+mod exports;
+mod info;
+mod ingress;
+mod key;
+mod node;
+mod payload;
+mod sets;
+pub mod testing;
+
+pub use directory::{
+    Config, Dialable, Directory, Metadata, PeerSetUpdate, ReleaseError, Reservation, Status,
+};
+pub use error::{CodecError, Error, NotReserved, OutOfMemory, SetupError, What};
+pub use info::Info;
+pub use ingress::{Hostname, Ingress};
+pub use key::{KEY_SIZE, Key, SIGNATURE_SIZE, Signature};
+pub use node::{Node, Received, Setup};
+pub use payload::{BitVec, Data, Payload, PayloadConfig};
+pub use sets::{DuplicateKey, OrderedSet, TrackedPeers};
+
+#[cfg(test)]
+mod hostile;

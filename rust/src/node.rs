@@ -1,0 +1,309 @@
+//! A node: a directory that judges what it is told by frames, and answers them.
+
+use crate::codec::Reader;
+use crate::directory::{Config, Directory, Limits, OWN, answered, parts};
+use crate::error::{CodecError, Error, OutOfMemory, SetupError, What};
+use crate::info::Info;
+use crate::ingress::Ingress;
+use crate::key::{Key, Signature};
+use crate::payload::{Data, PayloadConfig};
+use std::time::Duration;
+
+/// What a node is made from.
+///
+/// # Examples
+///
+/// ```
+/// # use p2p_directory::*; use std::time::Duration;
+/// let setup = testing::setup(9);
+/// assert_eq!(setup.namespace, testing::NAMESPACE);
+/// ```
+#[derive(Clone, Debug)]
+pub struct Setup {
+    /// The bootstrappers: a later one of a key replaces an earlier one.
+    pub bootstrappers: Vec<(Key, Ingress)>,
+    /// The own info.
+    pub myself: Info,
+    /// How its directory behaves.
+    pub cfg: Config,
+    /// The limits under which it reads frames.
+    pub payload: PayloadConfig,
+    /// How many infos it takes at a time.
+    pub peer_gossip_max_count: usize,
+    /// How far ahead the timestamp of an info may lie.
+    pub synchrony_bound: Duration,
+    /// The namespace in which infos are signed.
+    pub namespace: Vec<u8>,
+}
+
+/// What a node answers to a frame.
+///
+/// # Examples
+///
+/// ```
+/// # use p2p_directory::{CodecError, Received};
+/// let answer = Received::Codec(CodecError::EndOfBuffer);
+/// assert_ne!(answer, Received::Malformed);
+/// ```
+#[derive(Clone, Debug, PartialEq, Eq)]
+pub enum Received {
+    /// A message on a channel. Nothing has changed.
+    Data(Data),
+    /// The info of a greeting was applied.
+    Greeted,
+    /// A frame with the infos for one who knows the bits that came: send it back. Nothing has changed.
+    Reply(Vec<u8>),
+    /// All infos of the frame were applied, so many of them.
+    Applied(usize),
+    /// The frame spells no payload that the limits admit: its first fault. Nothing has changed.
+    Codec(CodecError),
+    /// The bits that came are of another number than the primary peers. Nothing has changed.
+    Malformed,
+    /// An info is refused, or their number. Nothing has changed.
+    Invalid(Error),
+    /// Memory was refused. Nothing has changed: the frame may be handed in again.
+    Memory,
+}
+
+/// A directory that reads frames and answers them.
+///
+/// It has no scheme of signatures: whoever hands in a frame also hands in what tells a good signature.
+///
+/// # Examples
+///
+/// ```
+/// # use p2p_directory::*; use std::time::Duration;
+/// use p2p_directory::{Node, Received};
+///
+/// let (one, two) = (testing::key(1), testing::key(2));
+/// let mut asker = Node::new(testing::setup(1))?;
+/// let mut replier = Node::new(testing::setup(2))?;
+/// for node in [&mut asker, &mut replier] {
+///     node.directory_mut().track(0, OrderedSet::from_iter_dedup([one, two]).into())?;
+/// }
+///
+/// // The asker wants the info of the replier, who tells it.
+/// let now = Duration::from_secs(100);
+/// let question = asker.ask(0)?.expect("a set");
+/// let Received::Reply(reply) = replier.receive(&question, now, testing::verify) else { panic!() };
+/// assert_eq!(asker.receive(&reply, now, testing::verify), Received::Applied(1));
+/// assert_eq!(asker.directory().dialable(now)?.peers, [two]);
+/// # Ok::<(), Box<dyn std::error::Error>>(())
+/// ```
+#[derive(Debug)]
+pub struct Node {
+    directory: Directory,
+    // What was judged of the infos of a frame.
+    verdicts: Vec<u8>,
+    // What the answer to a frame has room for.
+    answer: Vec<u8>,
+}
+
+/// How many bytes an answer has room for at first: enough for each that changes something.
+const FIRST_ROOM: usize = 4096;
+
+impl Node {
+    /// A node of this setup: its directory is new.
+    ///
+    /// # Errors
+    ///
+    /// Where memory is refused, `cfg.max_sets` is the greatest `usize`, or `payload.max_bit_vec` above
+    /// the greatest `u32`.
+    ///
+    /// # Examples
+    ///
+    /// ```
+    /// # use p2p_directory::*; use std::time::Duration;
+    /// # use p2p_directory::{Node, SetupError};
+    /// let mut setup = testing::setup(9);
+    /// assert!(Node::new(setup.clone()).is_ok());
+    /// setup.payload.max_bit_vec = 1 << 32;
+    /// assert_eq!(Node::new(setup).err(), Some(SetupError::Setting));
+    /// ```
+    pub fn new(setup: Setup) -> Result<Node, SetupError> {
+        let Setup {
+            bootstrappers,
+            myself,
+            cfg,
+            payload,
+            peer_gossip_max_count,
+            synchrony_bound,
+            namespace,
+        } = setup;
+        let limits = Limits {
+            payload,
+            peer_gossip_max_count,
+            synchrony_bound,
+            namespace,
+        };
+        Ok(Node {
+            directory: Directory::with_limits(&bootstrappers, &myself, &cfg, limits)?,
+            verdicts: Vec::new(),
+            answer: vec![0; FIRST_ROOM],
+        })
+    }
+
+    /// The directory.
+    ///
+    /// # Examples
+    ///
+    /// ```
+    /// # use p2p_directory::*;
+    /// let node = Node::new(testing::setup(9)).unwrap();
+    /// assert_eq!(node.directory().latest_set_index(), None);
+    /// ```
+    #[must_use]
+    pub fn directory(&self) -> &Directory {
+        &self.directory
+    }
+
+    /// The directory, to make calls that change it.
+    ///
+    /// # Examples
+    ///
+    /// ```
+    /// # use p2p_directory::*;
+    /// let mut node = Node::new(testing::setup(9)).unwrap();
+    /// let peers = OrderedSet::from_iter_dedup([testing::key(1)]);
+    /// node.directory_mut().track(3, peers.into())?;
+    /// assert_eq!(node.directory().latest_set_index(), Some(3));
+    /// # Ok::<(), OutOfMemory>(())
+    /// ```
+    #[must_use]
+    pub fn directory_mut(&mut self) -> &mut Directory {
+        &mut self.directory
+    }
+
+    /// The frame that asks for what is wanted of the retained set at a place, counted from 0 in order of
+    /// index, or `None` where there is no such place.
+    ///
+    /// # Errors
+    ///
+    /// [`OutOfMemory`].
+    ///
+    /// # Examples
+    ///
+    /// ```
+    /// # use p2p_directory::*; use std::time::Duration;
+    /// # use p2p_directory::Node;
+    /// # let node = Node::new(testing::setup(9)).unwrap();
+    /// assert_eq!(node.ask(0), Ok(None));
+    /// ```
+    pub fn ask(&self, place: usize) -> Result<Option<Vec<u8>>, OutOfMemory> {
+        self.directory.question(
+            |session, out| session.ask(place as u64, out),
+            <[u8]>::to_vec,
+        )
+    }
+
+    /// Takes a frame at the moment `now`, and answers it.
+    ///
+    /// The closure says of a key, the namespace, signed bytes and a signature whether the signature is
+    /// right. It is asked once for each info whose signature decides, in the order of the frame, and before
+    /// anything changes: so it may take its time, and none is asked behind the first info that is refused
+    /// for something else.
+    ///
+    /// # Examples
+    ///
+    /// ```
+    /// # use p2p_directory::*; use std::time::Duration;
+    /// # use p2p_directory::{Error, Node, Payload, Received};
+    /// # let mut node = Node::new(testing::setup(9)).unwrap();
+    /// let greeting = Payload::Greeting(testing::info(1, 1000)).encode();
+    /// let now = Duration::from_secs(1);
+    /// assert_eq!(node.receive(&greeting, now, testing::verify), Received::Greeted);
+    /// assert_eq!(
+    ///     node.receive(&greeting, now, |_, _, _, _| false),
+    ///     Received::Invalid(Error::InvalidSignature)
+    /// );
+    /// ```
+    pub fn receive(
+        &mut self,
+        frame: &[u8],
+        now: Duration,
+        verify: impl Fn(&Key, &[u8], &[u8], &Signature) -> bool,
+    ) -> Received {
+        let Node {
+            directory,
+            verdicts,
+            answer,
+        } = self;
+        let (seconds, nanos) = parts(now);
+        let checked = directory.question(
+            |session, out| session.check(frame, seconds, nanos, out),
+            |items| judge(items, directory.namespace(), verify, verdicts).expect(OWN),
+        );
+        if checked.is_err() {
+            return Received::Memory;
+        }
+        loop {
+            let session = directory.session();
+            let Ok(length) = answered(session.receive(frame, seconds, nanos, verdicts, answer))
+            else {
+                return Received::Memory;
+            };
+            let length = length.expect(OWN) as usize;
+            if length <= answer.len() {
+                return read_received(&answer[..length]).expect(OWN);
+            }
+            answer.resize(length, 0);
+        }
+    }
+}
+
+// What the closure says of each info whose signature decides, and false of the others.
+fn judge(
+    items: &[u8],
+    namespace: &[u8],
+    verify: impl Fn(&Key, &[u8], &[u8], &Signature) -> bool,
+    verdicts: &mut Vec<u8>,
+) -> Result<(), CodecError> {
+    let mut reader = Reader::new(items);
+    let count = reader.number()? as usize;
+    verdicts.clear();
+    while !reader.is_empty() {
+        let length = reader.number()? as usize;
+        let key = Key(reader.array()?);
+        let message = reader.take(length)?;
+        let signature = Signature(reader.array()?);
+        verdicts.push(verify(&key, namespace, message, &signature).into());
+    }
+    verdicts.resize(count, 0);
+    Ok(())
+}
+
+fn read_received(bytes: &[u8]) -> Result<Received, CodecError> {
+    let mut reader = Reader::new(bytes);
+    Ok(match reader.byte()? {
+        0 => Received::Data(Data::read(&mut reader, u64::MAX)?),
+        1 => Received::Greeted,
+        2 => Received::Reply(reader.rest().to_vec()),
+        3 => Received::Applied(reader.number()? as usize),
+        4 => Received::Codec(read_fault(&mut reader)?),
+        5 => Received::Malformed,
+        _ => Received::Invalid(read_error(&mut reader)?),
+    })
+}
+
+fn read_fault(reader: &mut Reader<'_>) -> Result<CodecError, CodecError> {
+    Ok(match reader.byte()? {
+        0 => CodecError::EndOfBuffer,
+        1 => CodecError::ExtraData(reader.number()?),
+        2 => CodecError::InvalidLength(reader.number()?),
+        3 => CodecError::InvalidVarint(reader.number()?),
+        4 => CodecError::InvalidEnum(reader.number()? as u8),
+        5 => CodecError::Invalid(What::Hostname),
+        6 => CodecError::Invalid(What::Padding),
+        7 => CodecError::Invalid(What::Key),
+        _ => CodecError::Invalid(What::Signature),
+    })
+}
+
+fn read_error(reader: &mut Reader<'_>) -> Result<Error, CodecError> {
+    Ok(match reader.byte()? {
+        0 => Error::TooManyPeers(reader.number()?),
+        1 => Error::ReceivedSelf,
+        2 => Error::InvalidSignature,
+        _ => Error::SynchronyBound,
+    })
+}

@@ -1,0 +1,205 @@
+//! What peers send each other.
+
+use crate::codec::{Reader, write_varint};
+use crate::error::{CodecError, What};
+use crate::info::{Info, read_infos, write_infos};
+
+const DATA_PREFIX: u8 = 0;
+const GREETING_PREFIX: u8 = 1;
+const BIT_VEC_PREFIX: u8 = 2;
+const PEERS_PREFIX: u8 = 3;
+
+/// The limits under which frames are read.
+///
+/// # Examples
+///
+/// ```
+/// use p2p_directory::{CodecError, Payload, PayloadConfig};
+///
+/// let limits = PayloadConfig { max_bit_vec: 8, max_peers: 8, max_data_length: 4 };
+/// let frame = [0, 1, 5, b'h', b'e', b'l', b'l', b'o'];
+/// assert_eq!(Payload::decode(&frame, &limits), Err(CodecError::InvalidLength(5)));
+/// ```
+#[derive(Clone, Copy, Debug, PartialEq, Eq)]
+pub struct PayloadConfig {
+    /// How many bits there may be, at most the greatest `u32`.
+    pub max_bit_vec: u64,
+    /// How many infos there may be.
+    pub max_peers: usize,
+    /// How many bytes a message may have.
+    pub max_data_length: usize,
+}
+
+/// A message on a channel.
+///
+/// # Examples
+///
+/// ```
+/// use p2p_directory::{Data, Payload};
+///
+/// let data = Data { channel: 1, message: b"hello".to_vec() };
+/// assert_eq!(Payload::Data(data).encode(), [0, 1, 5, b'h', b'e', b'l', b'l', b'o']);
+/// ```
+#[derive(Clone, Debug, PartialEq, Eq)]
+pub struct Data {
+    /// The channel.
+    pub channel: u64,
+    /// The message.
+    pub message: Vec<u8>,
+}
+
+/// Of the primary peers of a set, in order, whose info is known.
+///
+/// # Examples
+///
+/// ```
+/// use p2p_directory::{BitVec, Payload};
+///
+/// let bits = BitVec { index: 5, bits: vec![true; 9] };
+/// assert_eq!(Payload::BitVec(bits).encode(), [2, 5, 9, 0xff, 1]);
+/// ```
+#[derive(Clone, Debug, PartialEq, Eq)]
+pub struct BitVec {
+    /// The index of the set.
+    pub index: u64,
+    /// A bit for each primary peer: whether its info is known, and not wanted.
+    pub bits: Vec<bool>,
+}
+
+/// What a frame spells.
+///
+/// # Examples
+///
+/// ```
+/// use p2p_directory::{Payload, PayloadConfig};
+///
+/// let limits = PayloadConfig { max_bit_vec: 9, max_peers: 8, max_data_length: 8 };
+/// let frame = Payload::Peers(Vec::new()).encode();
+/// assert_eq!(frame, [3, 0]);
+/// assert_eq!(Payload::decode(&frame, &limits), Ok(Payload::Peers(Vec::new())));
+/// ```
+#[derive(Clone, Debug, PartialEq, Eq)]
+pub enum Payload {
+    /// A message on a channel.
+    Data(Data),
+    /// The info of whom the connection is with.
+    Greeting(Info),
+    /// Which infos of a set are known to the sender, who asks for the others.
+    BitVec(BitVec),
+    /// Infos that the receiver asked for.
+    Peers(Vec<Info>),
+}
+
+impl BitVec {
+    pub(crate) fn write(&self, out: &mut Vec<u8>) {
+        write_varint(out, self.index);
+        write_varint(out, self.bits.len() as u64);
+        let bytes = self.bits.chunks(8).map(|bits| {
+            let places = bits.iter().enumerate();
+            places.fold(0, |byte, (place, bit)| byte | u8::from(*bit) << place)
+        });
+        out.extend(bytes);
+    }
+
+    pub(crate) fn read(reader: &mut Reader<'_>, most: u64) -> Result<BitVec, CodecError> {
+        let index = reader.varint()?;
+        let count = reader.varint()?;
+        if count > most {
+            return Err(CodecError::InvalidLength(count));
+        }
+        let bytes = reader.take(count.div_ceil(8) as usize)?;
+        let bits = (0..count as usize).map(|place| is_set(bytes, place));
+        let bits = bits.collect();
+        let unused = count as usize..8 * bytes.len();
+        if unused.into_iter().any(|place| is_set(bytes, place)) {
+            return Err(CodecError::Invalid(What::Padding));
+        }
+        Ok(BitVec { index, bits })
+    }
+}
+
+impl Data {
+    pub(crate) fn read(reader: &mut Reader<'_>, most: u64) -> Result<Data, CodecError> {
+        let channel = reader.varint()?;
+        let length = reader.length()?;
+        if length > most {
+            return Err(CodecError::InvalidLength(length));
+        }
+        let message = reader.take(length as usize)?.to_vec();
+        Ok(Data { channel, message })
+    }
+
+    fn write(&self, out: &mut Vec<u8>) {
+        write_varint(out, self.channel);
+        write_varint(out, self.message.len() as u64);
+        out.extend_from_slice(&self.message);
+    }
+}
+
+impl Payload {
+    /// The frame.
+    ///
+    /// # Examples
+    ///
+    /// ```
+    /// # use p2p_directory::{BitVec, Payload};
+    /// let none = BitVec { index: 0, bits: Vec::new() };
+    /// assert_eq!(Payload::BitVec(none).encode(), [2, 0, 0]);
+    /// ```
+    #[must_use]
+    pub fn encode(&self) -> Vec<u8> {
+        let mut out = Vec::new();
+        match self {
+            Payload::Data(data) => {
+                out.push(DATA_PREFIX);
+                data.write(&mut out);
+            }
+            Payload::Greeting(info) => {
+                out.push(GREETING_PREFIX);
+                info.write(&mut out);
+            }
+            Payload::BitVec(bits) => {
+                out.push(BIT_VEC_PREFIX);
+                bits.write(&mut out);
+            }
+            Payload::Peers(infos) => {
+                out.push(PEERS_PREFIX);
+                write_infos(&mut out, infos);
+            }
+        }
+        out
+    }
+
+    /// The payload that a frame spells under these limits.
+    ///
+    /// # Errors
+    ///
+    /// The first fault of a frame that spells none: what [`Node::receive`](crate::Node::receive)
+    /// answers to it as `Received::Codec`.
+    ///
+    /// # Examples
+    ///
+    /// ```
+    /// # use p2p_directory::{CodecError, Payload, PayloadConfig, What};
+    /// let limits = PayloadConfig { max_bit_vec: 9, max_peers: 8, max_data_length: 8 };
+    /// let padded = [2, 5, 9, 0xff, 3];
+    /// assert_eq!(Payload::decode(&padded, &limits), Err(CodecError::Invalid(What::Padding)));
+    /// ```
+    pub fn decode(frame: &[u8], limits: &PayloadConfig) -> Result<Payload, CodecError> {
+        let mut reader = Reader::new(frame);
+        let payload = match reader.byte()? {
+            DATA_PREFIX => Payload::Data(Data::read(&mut reader, limits.max_data_length as u64)?),
+            GREETING_PREFIX => Payload::Greeting(Info::read(&mut reader)?),
+            BIT_VEC_PREFIX => Payload::BitVec(BitVec::read(&mut reader, limits.max_bit_vec)?),
+            PEERS_PREFIX => Payload::Peers(read_infos(&mut reader, limits.max_peers as u64)?),
+            other => return Err(CodecError::InvalidEnum(other)),
+        };
+        reader.end()?;
+        Ok(payload)
+    }
+}
+
+// Whether the bit at a place is set: of each byte the least significant stands first.
+fn is_set(bytes: &[u8], place: usize) -> bool {
+    bytes[place / 8] >> (place % 8) & 1 == 1
+}
