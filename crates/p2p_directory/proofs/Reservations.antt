@@ -4,3 +4,4 @@ pub mod Holding
 pub mod Served
 pub mod Told
 pub mod Replies
+pub mod Torn

@@ -2,7 +2,7 @@
 -- calls that its directory accepted.
 use Rattle.std.specs.Prelude.{ℕ, ◌≡◌, ◌<◌, ◌^◌, ◌∷◌, Bool, true, false, ◌⊎◌, List, Option, Some}
 use Rattle.std.specs.Prelude.{None, Result}
-use Rattle.std.specs.Prelude.{IfOk, OnErr, is_some, slice_get}
+use Rattle.std.specs.Prelude.{IfOk, OnErr, is_some, slice_get, length, ◌≤◌}
 use Rattle.std.specs.Duration.{as_nanos}
 use Rattle.std.specs.List.{AllByRecursion}
 use Rattle.std.specs.declared.cmp.Ordering.{Ordering}
@@ -20,7 +20,7 @@ use Rattle.p2p_tracker.specs.Calls.{Settings, Call}
 use Rattle.p2p_tracker.specs.Calls.Call.{Dial, Listen, Update}
 use Rattle.p2p_tracker.specs.World.{World}
 use Rattle.p2p_tracker.specs.Answers.{infos_for, set_at_place}
-use Rattle.p2p_tracker.specs.Directory.{Updates, bit_vec_at, infos_in}
+use Rattle.p2p_tracker.specs.Directory.{Updates, bit_vec_at, infos_in, other_keys}
 use Rattle.p2p_tracker.specs.Seen.{DirectoryView}
 use Rattle.p2p_directory.specs.Held.{held_of}
 use Rattle.p2p_directory.specs.Refinement.{Refines}
@@ -178,6 +178,11 @@ AreValues IsKey IsSignature infos =
     AllByRecursion IsInfo infos × AllByRecursion (IsKeyed IsKey IsSignature) infos
 
 -- EACH CALL BY WHAT IS SEEN: v before it, v2 after it
+
+-- a track tears down no more peers than there are records, but for that of the local node
+abbrev pub TearsDownFew : {C S : Type 0} → DirectoryView C S → Reply C S → Type 0
+TearsDownFew {C} d r = (torn : List C) → r ≡ reply.Track (Some torn) →
+    length torn ≤ length (other_keys d.records)
 
 module _ {C S : Type 0} (cmp : C → C → Ordering) where
   -- what is left of a node once these infos were applied, or nothing was

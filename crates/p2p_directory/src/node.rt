@@ -10,6 +10,7 @@ ghost use Rattle.p2p_directory.specs.Received.{wire_of, applies};
 ghost use Rattle.p2p_directory.specs.Nodes.{NodeStandsAt, made_of, IsStepped, IsAsked, IsReceived};
 ghost use Rattle.p2p_directory.specs.Nodes.{AnswersFrame, AsksWith, TellsValues, AtEach};
 ghost use Rattle.p2p_directory.specs.Nodes.{AnswersFrameBy, IsReceivedBy, standing_of};
+ghost use Rattle.p2p_directory.specs.Nodes.{TearsDownFew};
 ghost use Rattle.p2p_directory.specs.Received.{are_miscounted, IsWantOfMemory};
 ghost use Rattle.p2p_discovery.specs.Payload.{payload_at};
 ghost use Rattle.p2p_discovery.specs.Reading.{Gives, whole};
@@ -27,7 +28,7 @@ use p2p_discovery::codec::{CodecError, PublicKey, Write};
 use p2p_discovery::data::Data;
 use p2p_discovery::discovery::{Error, Info, InfoVerifier, Payload, PayloadConfig};
 use p2p_discovery::types::Ingress;
-use p2p_tracker::directory::{Config, Directory, Metadata};
+use p2p_tracker::directory::{Config, Directory, Metadata, TrackedPeers};
 use std::alloc::{AllocError, Global};
 use std::marker::Model;
 use std::time::Duration;
@@ -161,6 +162,23 @@ impl<C: PublicKey> Node<C> {
         ensures verifier { self.new.verifier ≡ self.old.verifier }
     {
         self.endpoint.step(command)
+    }
+
+    /// Takes a peer set, as [`Node::step`] of `Command::Track` does. No more peers are torn down than
+    /// there are records, but for that of the local node, so whoever has room for so many keys has
+    /// room for the answer.
+    ///
+    /// # Cost
+    ///
+    /// That of [`Directory::track`].
+    pub fn track(&mut self, index: u64, peers: TrackedPeers<C>) -> Reply<C>
+        ensures stepped { IsStepped C.cmp (Command.Track index peers) result self.old self.new }
+        ensures unchanged { was_made result ≡ false → self.new ≡ self.old }
+        ensures limits { self.new.limits ≡ self.old.limits }
+        ensures verifier { self.new.verifier ≡ self.old.verifier }
+        ensures few { TearsDownFew self.old.directory result }
+    {
+        self.endpoint.track(index, peers)
     }
 
     /// The directory.

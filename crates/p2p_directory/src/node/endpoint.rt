@@ -19,7 +19,7 @@ ghost use Rattle.p2p_discovery.specs.Payload.{infos_of_payload, payload_at};
 ghost use Rattle.p2p_discovery.specs.Reading.{Gives, whole};
 ghost use Rattle.p2p_directory.specs.Nodes.{AnswersFrameBy, standing_of};
 ghost use Rattle.p2p_directory.specs.Nodes.{may_reserve, Answers, AnswersFrame, AsksWith};
-ghost use Rattle.p2p_directory.specs.Nodes.{AreValues, TellsValues, IsStepped};
+ghost use Rattle.p2p_directory.specs.Nodes.{AreValues, TellsValues, IsStepped, TearsDownFew};
 ghost use Rattle.p2p_directory.specs.Private.Frames.{fault_answer, HasSpelling, HaveSpelling};
 ghost use Rattle.p2p_directory.specs.Private.Serving.{has_slot_for};
 ghost use Rattle.p2p_directory.specs.Private.Slots.{contents, has_slot, held_in};
@@ -31,7 +31,7 @@ use crate::run::{Command, Held, Reply};
 use bytes::Bytes;
 use p2p_discovery::codec::{CodecError, PublicKey, Read, Write};
 use p2p_discovery::discovery::{BitVec, Info, InfoVerifier, Infos, Payload, PayloadConfig};
-use p2p_tracker::directory::{Directory, Metadata};
+use p2p_tracker::directory::{Directory, Metadata, TrackedPeers};
 use std::alloc::{AllocError, Global};
 use std::marker::Model;
 use std::time::Duration;
@@ -140,6 +140,20 @@ impl<C: PublicKey> Endpoint<C> {
         }
         let reply = self.serve(command);
         self.drop_room(peer);
+        reply
+    }
+
+    /// Takes a peer set, as [`Endpoint::step`] does.
+    pub fn track(&mut self, index: u64, peers: TrackedPeers<C>) -> Reply<C>
+        ensures stepped { IsStepped C.cmp (Command.Track index peers) result
+            (node_of self.old) (node_of self.new) }
+        ensures unchanged { was_made result ≡ false → self.new ≡ self.old }
+        ensures limits { self.new.limits ≡ self.old.limits }
+        ensures verifier { self.new.verifier ≡ self.old.verifier }
+        ensures few { TearsDownFew self.old.directory result }
+    {
+        let reply = self.server.track(index, peers);
+        self.server.in_order();
         reply
     }
 

@@ -5,7 +5,7 @@ ghost use Rattle.p2p_tracker.specs.Directory.{Updates};
 ghost use Rattle.p2p_directory.specs.Held.{held_of, AreHeld};
 ghost use Rattle.p2p_directory.specs.Private.Slots.{has_slot, held_in, AreSlots};
 ghost use Rattle.p2p_directory.specs.Private.Serving.{has_slot_for, IsServed};
-ghost use Rattle.p2p_directory.specs.Nodes.{may_reserve};
+ghost use Rattle.p2p_directory.specs.Nodes.{may_reserve, TearsDownFew};
 ghost use Rattle.p2p_directory.specs.Run.{call_of, was_made};
 
 use crate::run::commands::{Command, Reply};
@@ -152,11 +152,12 @@ impl<C: PublicKey> Server<C> {
         (directory, slots.into_held())
     }
 
-    // Takes a peer set.
-    fn track(&mut self, index: u64, peers: TrackedPeers<C>) -> Reply<C>
+    /// Takes a peer set.
+    pub fn track(&mut self, index: u64, peers: TrackedPeers<C>) -> Reply<C>
         ensures served { IsServed C.cmp (Command.Track index peers) result self.old self.new }
         ensures unchanged { was_made result ≡ false → self.new ≡ self.old }
         ensures slots { self.new.slots ≡ self.old.slots }
+        ensures few { TearsDownFew self.old.directory result }
     {
         match self.directory.track(index, peers) {
             Ok(torn) => Reply::Track(torn),

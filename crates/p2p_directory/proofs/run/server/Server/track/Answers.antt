@@ -4,13 +4,14 @@ use Rattle.std.specs.declared.cmp.Ordering.{Ordering}
 use Rattle.p2p_tracker.specs.declared.directory.Metadata.{Metadata}
 use Rattle.p2p_tracker.specs.Calls.{SetAt}
 use Rattle.p2p_tracker.specs.PeerSets.{set_of}
-use Rattle.p2p_tracker.specs.Directory.{TakesSet}
+use Rattle.p2p_tracker.specs.Directory.{TakesSet, AreTornDown}
 use Rattle.p2p_tracker.specs.Seen.{DirectoryView}
 use Rattle.p2p_directory.specs.Held.{AreHeld}
 use Rattle.p2p_directory.specs.Private.Slots.{held_in}
 use Rattle.p2p_directory.specs.Run.{settings}
 use Rattle.p2p_directory.proofs.Reservations.Holding.{held_by_track}
 use Rattle.p2p_directory.proofs.Reservations.Served
+use Rattle.p2p_directory.proofs.Reservations.Torn.{few_torn}
 use Rattle.p2p_directory.proofs.run.server.Server.track.Goals as goal
 use Rattle.p2p_directory.proofs.run.server.Server.track.Goals.{in-Ok, in-Err}
 
@@ -50,4 +51,15 @@ returns-clause-served g c = rw (← c.self.view_is) (λ bootstrappers myself cfg
           (Served.served_no_memory s cfg.max_sets.ok g.met.C.PublicKey.exact calls _ _ at c.args.index
           c.args.peers.primary c.args.peers.secondary
           (true_unless _ (λ old. let f = sym w.in-Err.is ∙ c.track.ensures.untaken old in cc)) w.in-Err.ensures.err refl)
+    ])
+
+pub returns-clause-few : goal.returns-clause-few
+returns-clause-few g c = rw (← c.self.view_is) (λ torn e.
+    let cmp = g.C.Ord.cmp in
+    elim c.match-track.branch [
+      | in-Ok w ↦
+          let same : w.in-Ok.torn ≡ Some torn = cc (w.result-is, e) in
+          few_torn g.met.C.Ord.total c.self.inside.directory c.track.new.self torn
+          (subst (λ o. IfSome o (AreTornDown cmp c.self.inside.directory c.track.new.self)) same w.in-Ok.ensures.torn)
+      | in-Err w ↦ absurd (cc (w.result-is, e))
     ])
