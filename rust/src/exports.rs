@@ -102,6 +102,16 @@ unsafe extern "C" {
         draw_nanos: u32,
     ) -> u64;
 
+    /// Whom the reservation that is held of a peer is for: byte 0 for one that comes, or byte 1 and
+    /// the spelling of the ingress that is dialled, or NONE where none is held.
+    pub fn p2p_session_reservation(
+        at: *mut Handle,
+        peer: *const u8,
+        peer_length: usize,
+        out: *mut u8,
+        out_length: usize,
+    ) -> u64;
+
     /// Connects a peer that is reserved: 1, or NOT_RESERVED.
     pub fn p2p_session_connect(
         at: *mut Handle,
@@ -228,6 +238,39 @@ unsafe extern "C" {
 
     /// The frame that asks for what is wanted of the set at a place, or NONE.
     pub fn p2p_session_ask(at: *mut Handle, place: u64, out: *mut u8, out_length: usize) -> u64;
+
+    /// What receive has to be told of a frame: how many infos it has, in 8 bytes, and then, in
+    /// their order, each info whose signature decides whether it is refused, up to the first that
+    /// is refused whatever its signature is: the length of its signed bytes in 8 bytes, its key,
+    /// the signed bytes, its signature. Namespace and scheme are the host's.
+    pub fn p2p_session_check(
+        at: *mut Handle,
+        frame: *const u8,
+        frame_length: usize,
+        seconds: u64,
+        nanos: u32,
+        out: *mut u8,
+        out_length: usize,
+    ) -> u64;
+
+    /// Takes a frame. verdicts has a byte for each info of the frame, in their order: 0 where its
+    /// signature is not right. Those of infos that check doesn't tell aren't looked at. NO_ROOM
+    /// where out is shorter than 10, BAD_VERDICTS where they are not as many as the infos. The
+    /// answer: byte 0 and the spelling of a message; byte 1 for a greeting that was applied; byte 2
+    /// and the frame to reply with; byte 3 and how many infos were applied, in 8 bytes; byte 4 and
+    /// the fault of the frame; byte 5 for bits of another number than the peers; byte 6 and why
+    /// infos are refused. docs/FORMATS.md has faults and refusals.
+    pub fn p2p_session_receive(
+        at: *mut Handle,
+        frame: *const u8,
+        frame_length: usize,
+        seconds: u64,
+        nanos: u32,
+        verdicts: *const u8,
+        verdicts_length: usize,
+        out: *mut u8,
+        out_length: usize,
+    ) -> u64;
 
     /// Ends the session, and gives back all that it holds. The room is the host's again.
     pub fn p2p_session_free(at: *mut Handle);
