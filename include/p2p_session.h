@@ -53,6 +53,10 @@ uint64_t p2p_session_dial(struct p2p_session *at, const uint8_t *peer, size_t pe
 // Reserves a peer that comes: 1 where it is granted, else 0.
 uint64_t p2p_session_listen(struct p2p_session *at, const uint8_t *peer, size_t peer_length, uint64_t seconds, uint32_t nanos, uint64_t draw_seconds, uint32_t draw_nanos);
 
+// Whom the reservation that is held of a peer is for: byte 0 for one that comes, or byte 1 and the
+// spelling of the ingress that is dialled, or NONE where none is held.
+uint64_t p2p_session_reservation(struct p2p_session *at, const uint8_t *peer, size_t peer_length, uint8_t *out, size_t out_length);
+
 // Connects a peer that is reserved: 1, or NOT_RESERVED.
 uint64_t p2p_session_connect(struct p2p_session *at, const uint8_t *peer, size_t peer_length, _Bool dialer);
 
@@ -119,6 +123,21 @@ uint64_t p2p_session_tracked(struct p2p_session *at);
 
 // The frame that asks for what is wanted of the set at a place, or NONE.
 uint64_t p2p_session_ask(struct p2p_session *at, uint64_t place, uint8_t *out, size_t out_length);
+
+// What receive has to be told of a frame: how many infos it has, in 8 bytes, and then, in their
+// order, each info whose signature decides whether it is refused, up to the first that is refused
+// whatever its signature is: the length of its signed bytes in 8 bytes, its key, the signed bytes,
+// its signature. Namespace and scheme are the host's.
+uint64_t p2p_session_check(struct p2p_session *at, const uint8_t *frame, size_t frame_length, uint64_t seconds, uint32_t nanos, uint8_t *out, size_t out_length);
+
+// Takes a frame. verdicts has a byte for each info of the frame, in their order: 0 where its
+// signature is not right. Those of infos that check doesn't tell aren't looked at. NO_ROOM where
+// out is shorter than 10, BAD_VERDICTS where they are not as many as the infos. The answer: byte 0
+// and the spelling of a message; byte 1 for a greeting that was applied; byte 2 and the frame to
+// reply with; byte 3 and how many infos were applied, in 8 bytes; byte 4 and the fault of the
+// frame; byte 5 for bits of another number than the peers; byte 6 and why infos are refused.
+// docs/FORMATS.md has faults and refusals.
+uint64_t p2p_session_receive(struct p2p_session *at, const uint8_t *frame, size_t frame_length, uint64_t seconds, uint32_t nanos, const uint8_t *verdicts, size_t verdicts_length, uint8_t *out, size_t out_length);
 
 // Ends the session, and gives back all that it holds. The room is the host's again.
 void p2p_session_free(struct p2p_session *at);

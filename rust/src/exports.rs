@@ -95,6 +95,14 @@ unsafe extern "C" {
         draw_nanos: u32,
     ) -> u64;
 
+    fn p2p_session_reservation(
+        at: *mut Handle,
+        peer: *const u8,
+        peer_length: usize,
+        out: *mut u8,
+        out_length: usize,
+    ) -> u64;
+
     fn p2p_session_connect(
         at: *mut Handle,
         peer: *const u8,
@@ -195,14 +203,6 @@ unsafe extern "C" {
     fn p2p_session_tracked(at: *mut Handle) -> u64;
 
     fn p2p_session_ask(at: *mut Handle, place: u64, out: *mut u8, out_length: usize) -> u64;
-
-    fn p2p_session_reservation(
-        at: *mut Handle,
-        peer: *const u8,
-        peer_length: usize,
-        out: *mut u8,
-        out_length: usize,
-    ) -> u64;
 
     fn p2p_session_check(
         at: *mut Handle,
@@ -374,6 +374,21 @@ impl Session {
         }
     }
 
+    /// Whom the reservation that is held of a peer is for: byte 0 for one that comes, or byte 1 and
+    /// the spelling of the ingress that is dialled, or NONE where none is held.
+    pub fn reservation(&self, peer: &[u8], out: &mut [u8]) -> u64 {
+        // SAFETY: `new` made the session, no call of it is under way, and slices are valid.
+        unsafe {
+            p2p_session_reservation(
+                self.at,
+                peer.as_ptr(),
+                peer.len(),
+                out.as_mut_ptr(),
+                out.len(),
+            )
+        }
+    }
+
     /// Connects a peer that is reserved: 1, or NOT_RESERVED.
     pub fn connect(&self, peer: &[u8], dialer: bool) -> u64 {
         // SAFETY: `new` made the session, no call of it is under way, and slices are valid.
@@ -515,21 +530,10 @@ impl Session {
         unsafe { p2p_session_ask(self.at, place, out.as_mut_ptr(), out.len()) }
     }
 
-    /// x
-    pub fn reservation(&self, peer: &[u8], out: &mut [u8]) -> u64 {
-        // SAFETY: `new` made the session, no call of it is under way, and slices are valid.
-        unsafe {
-            p2p_session_reservation(
-                self.at,
-                peer.as_ptr(),
-                peer.len(),
-                out.as_mut_ptr(),
-                out.len(),
-            )
-        }
-    }
-
-    /// x
+    /// What receive has to be told of a frame: how many infos it has, in 8 bytes, and then, in
+    /// their order, each info whose signature decides whether it is refused, up to the first that
+    /// is refused whatever its signature is: the length of its signed bytes in 8 bytes, its key,
+    /// the signed bytes, its signature. Namespace and scheme are the host's.
     pub fn check(&self, frame: &[u8], seconds: u64, nanos: u32, out: &mut [u8]) -> u64 {
         // SAFETY: `new` made the session, no call of it is under way, and slices are valid.
         unsafe {
@@ -545,7 +549,13 @@ impl Session {
         }
     }
 
-    /// x
+    /// Takes a frame. verdicts has a byte for each info of the frame, in their order: 0 where its
+    /// signature is not right. Those of infos that check doesn't tell aren't looked at. NO_ROOM
+    /// where out is shorter than 10, BAD_VERDICTS where they are not as many as the infos. The
+    /// answer: byte 0 and the spelling of a message; byte 1 for a greeting that was applied; byte 2
+    /// and the frame to reply with; byte 3 and how many infos were applied, in 8 bytes; byte 4 and
+    /// the fault of the frame; byte 5 for bits of another number than the peers; byte 6 and why
+    /// infos are refused. docs/FORMATS.md has faults and refusals.
     pub fn receive(
         &self,
         frame: &[u8],

@@ -1,6 +1,6 @@
 -- What stands in a room once parts were put into it one after the other.
 use Rattle.std.proofs.Common.{replicate, min, ◌*◌, ◌≡◌, ℕ, ◌+◌, ◌≤◌, ◌<◌, List, [], ◌∷◌, ◌++◌, length, take, drop, refl, sym, ap, ◌∙◌, subst, arith, add_assoc, get_or, zero, suc}
-use Rattle.std.specs.Prelude.{flat_map}
+use Rattle.std.specs.Prelude.{flat_map, map}
 use Rattle.std.proofs.lemmas.List.{length-take-le, length-take, length-append, length-replicate, append-nil, drop-drop, length-drop, take-append-drop}
 use Rattle.std.proofs.lemmas.List.Folds.{length-flat_map-take}
 use Rattle.std.proofs.lemmas.Grind.{common_steps, flat_map-append}
@@ -139,3 +139,24 @@ keys_next keys bytes key place h before is =
     ∙ ap (λ l. keys_bytes keys ++ l) (append-nil key)
     ∙ ap (λ l. l ++ key) before ∙ ap (λ l. take (place * KEY_SIZE) bytes ++ l) is
     ∙ sym (take-add (place * KEY_SIZE) KEY_SIZE bytes) ∙ ap (λ n. take n bytes) (sym more)
+
+-- what was told of the first infos, and the next
+pub told_next : {X : Type 0} (f : X → List ℕ) (xs : List X) (i : ℕ) (x : X) (front bytes more : List ℕ) →
+    i < length xs → get_or xs i x ≡ x → bytes ≡ front ++ flat_map f (take i xs) → more ≡ bytes ++ f x →
+    more ≡ front ++ flat_map f (take (i + 1) xs)
+told_next f xs i x front bytes more h is before after =
+    let next : flat_map f (take (i + 1) xs) ≡ flat_map f (take i xs) ++ f x =
+    one_more f xs i x h ∙ ap (λ y. flat_map f (take i xs) ++ f y) is in
+    after ∙ ap (λ l. l ++ f x) before ∙ append_assoc front (flat_map f (take i xs)) (f x)
+    ∙ ap (λ l. front ++ l) (sym next)
+
+pub map_next : {X Y : Type 0} (f : X → Y) (xs : List X) (i : ℕ) (d : X) → i < length xs →
+    map f (take (i + 1) xs) ≡ map f (take i xs) ++ f (get_or xs i d) ∷ []
+map_next f xs i d h =
+    let next : i + 1 ≡ suc i = omega arith in rw next (one f xs i d h)
+  where
+    one : {X Y : Type 0} (f : X → Y) (xs : List X) (i : ℕ) (d : X) → i < length xs →
+        map f (take (suc i) xs) ≡ map f (take i xs) ++ f (get_or xs i d) ∷ []
+    one f [] i d h = absurd (omega (arith, h))
+    one f (x ∷ xs) zero d h = refl
+    one f (x ∷ xs) (suc i) d h = ap (λ l. f x ∷ l) (one f xs i d (omega (arith, h)))

@@ -1,4 +1,9 @@
+-- What a session is given, what it answers, and what its calls do: read them in this order.
 pub mod Refusals
-pub mod Answers
 pub mod Given
+pub mod Answers
+pub mod Views
+pub mod Frames
 pub mod Sessions
+-- The law of whole sessions.
+pub mod Laws

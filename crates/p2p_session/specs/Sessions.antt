@@ -10,31 +10,24 @@ use Rattle.p2p_tracker.specs.Calls.Question.{InfoOf, InfosFor, BitsAt, IsEligibl
 use Rattle.p2p_tracker.specs.Calls.Question.{DialableAt}
 use Rattle.p2p_tracker.specs.Directory.{other_keys}
 use Rattle.p2p_directory.specs.Run.{was_made}
-use Rattle.p2p_directory.specs.Nodes.{NodeView, AtEach, IsSteppedAt, standing_of}
+use Rattle.p2p_directory.specs.Nodes.{AtEach, IsSteppedAt, standing_of}
 use Rattle.p2p_directory.specs.Nodes.{NodeStandsAt, made_of}
 use Rattle.p2p_directory.specs.declared.node.Setup.{Setup}
 use Rattle.p2p_session.specs.declared.setup.Numbers.{Numbers}
 use Rattle.p2p_directory.specs.declared.run.commands.Reply.{Reply}
 use Rattle.p2p_session.specs.declared.key.Key.{Key}
 use Rattle.p2p_session.specs.declared.key.Signature.{Signature}
-use Rattle.p2p_session.specs.declared.key.TheConstants.{KEY_SIZE, SIGNATURE_SIZE}
+use Rattle.p2p_session.specs.declared.key.TheConstants.{KEY_SIZE}
 use Rattle.p2p_session.specs.declared.refusal.Refusal.TheVariants as refusal
 use Rattle.p2p_session.specs.declared.Session.{Session}
 use Rattle.p2p_session.specs.contracts.key.KeyOrd.TheImpl.{ghosts as order}
-use Rattle.p2p_session.specs.Answers.{Tells, TellsReply, Refuses, optional, key_bytes}
-use Rattle.p2p_session.specs.Answers.{signature_bytes}
+use Rattle.p2p_session.specs.Views.{View, wire, HasNone}
+use Rattle.p2p_session.specs.Frames.{TellsHeldOf, ReceivesOf, ChecksAt}
+use Rattle.p2p_session.specs.Answers.{Tells, TellsReply, Refuses, optional}
 use Rattle.p2p_session.specs.Refusals.{number_of}
 use Rattle.p2p_session.specs.Given.{Asked, and_then, key_at, moment_at, IsTrackRead, IsRead}
-use Rattle.p2p_session.specs.Given.{infos_spelled, bits_spelled, key_of, signature_of, IsSetup}
-use Rattle.p2p_directory.specs.Received.{Wire, wire_of, ask_frame_at}
-
-abbrev pub View : Type 0
-View = NodeView Key Signature
-
--- how payloads of these keys are spelled and read; no signature is right by itself
-abbrev pub wire : Wire Key Signature
-wire = wire_of KEY_SIZE key_bytes key_of SIGNATURE_SIZE signature_bytes signature_of
-    (λ _ _ _ _. false)
+use Rattle.p2p_session.specs.Given.{infos_spelled, bits_spelled, IsSetup}
+use Rattle.p2p_directory.specs.Received.{ask_frame_at}
 
 -- no node has been made
 abbrev pub IsFresh : Session → Type 0
@@ -49,10 +42,6 @@ pub record Steps (call : Call Key Signature) (r : Reply Key Signature) (v v2 : V
   pub stepped : AtEach order.cmp v (λ m calls. IsSteppedAt m calls call r v2)
   pub unchanged : was_made r ≡ false → v2 ≡ v
   pub told : TellsReply r out out2 n
-
--- there is no node, and nothing was done
-abbrev pub HasNone : Option View → List ℕ → List ℕ → ℕ → Type 0
-HasNone o out out2 n = (o ≡ None) × Refuses refusal.NoNode out out2 n
 
 -- the call that was asked for is made, or why it can't be read is answered
 abbrev pub Serves : Asked → List ℕ → List ℕ → Option View → Option View → ℕ → Type 0
@@ -235,3 +224,26 @@ Inits private_ips dns sets fails cooldown_seconds cooldown_nanos block_seconds b
       peer_gossip_max_count = count;
       bound = (bound_seconds, bound_nanos);
     })
+
+-- ---- reservations and frames
+
+-- what is held of the peer; nothing changes
+abbrev pub TellsReservation : List ℕ → List ℕ → List ℕ → Session → Session → ℕ → Type 0
+TellsReservation peer out out2 before after n = (after ≡ before) × HeldOf before.node
+  where
+    HeldOf : Option View → Type 0
+    HeldOf None = Refuses refusal.NoNode out out2 n
+    HeldOf (Some v) = TellsHeldOf v (key_at peer) out out2 n
+
+-- what has to be verified of a frame; nothing changes
+abbrev pub Checks : List ℕ → ℕ → ℕ → List ℕ → List ℕ → Session → Session → ℕ → Type 0
+Checks frame seconds nanos out out2 before after n = (after ≡ before) × ChecksOf before.node
+  where
+    ChecksOf : Option View → Type 0
+    ChecksOf None = Refuses refusal.NoNode out out2 n
+    ChecksOf (Some v) = ChecksAt v frame (moment_at seconds nanos) out out2 n
+
+-- a frame is taken by what was said of the signatures of its infos
+abbrev pub Receives : List ℕ → ℕ → ℕ → List ℕ → List ℕ → List ℕ → Session → Session → ℕ → Type 0
+Receives frame seconds nanos verdicts out out2 before after n =
+    ReceivesOf frame seconds nanos verdicts out out2 before.node after.node n

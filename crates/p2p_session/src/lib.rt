@@ -22,11 +22,14 @@ ghost use Rattle.p2p_session.specs.Sessions.{TellsUpdate, TellsAll, TellsInfo, T
 ghost use Rattle.p2p_session.specs.Sessions.{TellsEligible, TellsAcceptable, TellsDialable};
 ghost use Rattle.p2p_session.specs.Sessions.{TellsTracked, TellsRoom, room_refusal, Tracks};
 ghost use Rattle.p2p_session.specs.Sessions.{UpdatesPeers, TellsInfos, Asks, Inits, IsMade};
+ghost use Rattle.p2p_session.specs.Sessions.{TellsReservation, Checks, Receives};
 
 mod answer;
 mod commands;
+mod frames;
 mod given;
 mod key;
+pub mod laws;
 mod refusal;
 mod reply;
 mod setup;
@@ -361,6 +364,59 @@ impl Session {
         ensures { TellsTracked self.old self.new result }
     {
         self.serve(Ok(Command::Tracked), &mut [])
+    }
+
+    /// Whom the reservation that is held of a peer is for: byte 0 for one that comes, or byte 1 and
+    /// the spelling of the ingress that is dialled, or `None`.
+    pub fn reservation(&mut self, alloc: Global, peer: &[u8], out: &mut [u8]) -> u64
+        ensures { TellsReservation peer.now out.old out.new self.old self.new result }
+    {
+        let Some(node) = &self.node else {
+            return Refusal::NoNode.number();
+        };
+        match given::key(peer) {
+            Ok(peer) => reply::tell_held(alloc, node.held(&peer), out),
+            Err(refusal) => refusal.number(),
+        }
+    }
+
+    /// What [`Session::receive`] has to be told of a frame: how many infos it has, and the infos
+    /// whose signatures decide, up to the first that is refused whatever its signature is, each by
+    /// the length of its signed bytes, its key, the signed bytes and its signature.
+    pub fn check(
+        &mut self,
+        alloc: Global,
+        frame: &[u8],
+        seconds: u64,
+        nanos: u32,
+        out: &mut [u8],
+    ) -> u64
+        ensures { Checks frame.now seconds nanos out.old out.new self.old self.new result }
+    {
+        match &self.node {
+            Some(node) => frames::check(alloc, node, frame, (seconds, nanos), out),
+            None => Refusal::NoNode.number(),
+        }
+    }
+
+    /// `Node::receive_by`: takes a frame, by a byte for each of its infos that says whether its
+    /// signature is right, and tells the answer.
+    pub fn receive(
+        &mut self,
+        alloc: Global,
+        frame: &[u8],
+        seconds: u64,
+        nanos: u32,
+        verdicts: &[u8],
+        out: &mut [u8],
+    ) -> u64
+        ensures { Receives frame.now seconds nanos verdicts.now out.old out.new
+            self.old self.new result }
+    {
+        match &mut self.node {
+            Some(node) => frames::receive(alloc, node, frame, (seconds, nanos), verdicts, out),
+            None => Refusal::NoNode.number(),
+        }
     }
 
     // Serves the command, if there is a node and the command could be read, and answers its reply.

@@ -1,6 +1,8 @@
 //! Replies of a node, as numbers and bytes.
 
-ghost use Rattle.std.specs.Prelude.{◌≡◌, ◌⊎◌, IfOk, OnErr};
+ghost use Rattle.std.specs.Prelude.{◌≡◌, ◌⊎◌, ◌∷◌, IfOk, OnErr, option_map};
+ghost use Rattle.p2p_discovery.specs.Ingress.{ingress_spelling};
+ghost use Rattle.p2p_session.specs.Frames.{TellsHeld};
 ghost use Rattle.p2p_session.specs.Answers.{TellsReply, Tells, Refuses, IsAnswered, part_bytes};
 ghost use Rattle.p2p_session.specs.Answers.{truth, status_number, peers_bytes, update_bytes};
 ghost use Rattle.p2p_session.specs.Answers.{optional, keys_bytes, dialable_bytes, moment_bytes};
@@ -12,12 +14,13 @@ use crate::answer::{Part, answer};
 use crate::key::Key;
 use crate::refusal::Refusal;
 use bytes::Bytes;
-use p2p_directory::directory::{PeerSetUpdate, TrackedPeers};
+use p2p_directory::directory::{Metadata, PeerSetUpdate, TrackedPeers};
 use p2p_directory::record::{Dialable, Status};
 use p2p_directory::run::Reply;
 use p2p_discovery::codec::Write;
 use p2p_discovery::discovery::{Info, Infos};
 use p2p_discovery::sets::OrderedSet;
+use p2p_discovery::types::Ingress;
 use std::alloc::{AllocError, Global};
 use std::time::Duration;
 
@@ -64,8 +67,29 @@ pub fn tell_frame(frame: Result<Option<Bytes>, AllocError>, out: &mut [u8]) -> u
     }
 }
 
-// Answers one part.
-fn answer_one(part: Part<'_>, out: &mut [u8]) -> u64
+/// Answers whom a reservation is for.
+pub fn tell_held(alloc: Global, held: Option<&Metadata<Key>>, out: &mut [u8]) -> u64
+    ensures { TellsHeld (option_map (λ m. m.now) held.entry) out.old out.new result }
+{
+    match held {
+        Some(Metadata::Dialer(_, ingress)) => tell_dialler(alloc, ingress, out),
+        Some(Metadata::Listener(_)) => answer_one(Part::Byte(0), out),
+        None => Refusal::None.number(),
+    }
+}
+
+fn tell_dialler(alloc: Global, ingress: &Ingress, out: &mut [u8]) -> u64
+    ensures { Refuses Refusal.Memory out.old out.new result
+        ⊎ Tells (Spelled (1 ∷ ingress_spelling ingress.now)) out.old out.new result }
+{
+    match ingress.encode(alloc) {
+        Ok(bytes) => answer(&[Part::Byte(1), Part::Bytes(bytes.as_slice())], out),
+        Err(AllocError) => Refusal::Memory.number(),
+    }
+}
+
+/// Answers one part.
+pub fn answer_one(part: Part<'_>, out: &mut [u8]) -> u64
     ensures { IsAnswered (part_bytes part.entry) out.old out.new result }
 {
     answer(&[part], out)

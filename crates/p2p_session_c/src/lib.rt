@@ -12,12 +12,13 @@ ghost use Rattle.std.specs.Prelude.{◌≡◌};
 ghost use Rattle.std.specs.Mem.{type_size};
 ghost use types.Logic.{sem};
 ghost use Rattle.std.specs.Ptr.{points_to, uninit_at};
-ghost use Rattle.p2p_session.specs.Sessions.{Asks, Blocks, Connects, Dials, Forgets};
-ghost use Rattle.p2p_session.specs.Sessions.{Inits, IsFresh, Listens, Releases};
-ghost use Rattle.p2p_session.specs.Sessions.{TellsAcceptable, TellsAll, TellsBits};
-ghost use Rattle.p2p_session.specs.Sessions.{TellsBlocked, TellsDialable, TellsEligible};
-ghost use Rattle.p2p_session.specs.Sessions.{TellsInfo, TellsInfos, TellsLatestIndex};
-ghost use Rattle.p2p_session.specs.Sessions.{TellsPeerSet, TellsRoom, TellsStatus};
+ghost use Rattle.p2p_session.specs.Sessions.{Asks, Blocks, Checks, Connects, Dials};
+ghost use Rattle.p2p_session.specs.Sessions.{Forgets, Inits, IsFresh, Listens, Receives};
+ghost use Rattle.p2p_session.specs.Sessions.{Releases, TellsAcceptable, TellsAll};
+ghost use Rattle.p2p_session.specs.Sessions.{TellsBits, TellsBlocked, TellsDialable};
+ghost use Rattle.p2p_session.specs.Sessions.{TellsEligible, TellsInfo, TellsInfos};
+ghost use Rattle.p2p_session.specs.Sessions.{TellsLatestIndex, TellsPeerSet};
+ghost use Rattle.p2p_session.specs.Sessions.{TellsReservation, TellsRoom, TellsStatus};
 ghost use Rattle.p2p_session.specs.Sessions.{TellsTracked, TellsUnblock, TellsUpdate};
 ghost use Rattle.p2p_session.specs.Sessions.{Tracks, Unblocks, UpdatesPeers};
 ghost use Rattle.p2p_session.specs.declared.Session.{Session};
@@ -193,6 +194,27 @@ pub unsafe extern "C" fn p2p_session_listen(
 {
     let value = unsafe { &mut *(at as *mut Session) };
     value.listen(peer, seconds, nanos, draw_seconds, draw_nanos)
+}
+
+/// Whom the reservation that is held of a peer is for: byte 0 for one that comes, or byte 1 and the
+/// spelling of the ingress that is dialled, or NONE where none is held.
+///
+/// # Safety
+///
+/// A session lies at the pointer, and the host keeps to what stands at the head of the crate.
+#[unsafe(no_mangle)]
+pub unsafe extern "C" fn p2p_session_reservation(
+    alloc: Global,
+    at: *mut Handle,
+    peer: &[u8],
+    out: &mut [u8],
+) -> u64
+    ghost before: { Session }
+    requires* { sem 𝓛 (points_to the_row at before) }
+    ensures* { ∃ₛ (λ (after : Session). sem 𝓛 (points_to the_row at after) ∗ ⌜ TellsReservation peer.now out.old out.new before after result ⌝) }
+{
+    let value = unsafe { &mut *(at as *mut Session) };
+    value.reservation(alloc, peer, out)
 }
 
 /// Connects a peer that is reserved: 1, or NOT_RESERVED.
@@ -567,6 +589,60 @@ pub unsafe extern "C" fn p2p_session_ask(at: *mut Handle, place: u64, out: &mut 
 {
     let value = unsafe { &mut *(at as *mut Session) };
     value.ask(place, out)
+}
+
+/// What receive has to be told of a frame: how many infos it has, in 8 bytes, and then, in their
+/// order, each info whose signature decides whether it is refused, up to the first that is refused
+/// whatever its signature is: the length of its signed bytes in 8 bytes, its key, the signed bytes,
+/// its signature. Namespace and scheme are the host's.
+///
+/// # Safety
+///
+/// A session lies at the pointer, and the host keeps to what stands at the head of the crate.
+#[unsafe(no_mangle)]
+pub unsafe extern "C" fn p2p_session_check(
+    alloc: Global,
+    at: *mut Handle,
+    frame: &[u8],
+    seconds: u64,
+    nanos: u32,
+    out: &mut [u8],
+) -> u64
+    ghost before: { Session }
+    requires* { sem 𝓛 (points_to the_row at before) }
+    ensures* { ∃ₛ (λ (after : Session). sem 𝓛 (points_to the_row at after) ∗ ⌜ Checks frame.now seconds nanos out.old out.new before after result ⌝) }
+{
+    let value = unsafe { &mut *(at as *mut Session) };
+    value.check(alloc, frame, seconds, nanos, out)
+}
+
+/// Takes a frame. verdicts has a byte for each info of the frame, in their order: 0 where its
+/// signature is not right. Those of infos that check doesn't tell aren't looked at. NO_ROOM where
+/// out is shorter than 10, BAD_VERDICTS where they are not as many as the infos. The answer: byte 0
+/// and the spelling of a message; byte 1 for a greeting that was applied; byte 2 and the frame to
+/// reply with; byte 3 and how many infos were applied, in 8 bytes; byte 4 and the fault of the
+/// frame; byte 5 for bits of another number than the peers; byte 6 and why infos are refused.
+/// docs/FORMATS.md has faults and refusals.
+///
+/// # Safety
+///
+/// A session lies at the pointer, and the host keeps to what stands at the head of the crate.
+#[unsafe(no_mangle)]
+pub unsafe extern "C" fn p2p_session_receive(
+    alloc: Global,
+    at: *mut Handle,
+    frame: &[u8],
+    seconds: u64,
+    nanos: u32,
+    verdicts: &[u8],
+    out: &mut [u8],
+) -> u64
+    ghost before: { Session }
+    requires* { sem 𝓛 (points_to the_row at before) }
+    ensures* { ∃ₛ (λ (after : Session). sem 𝓛 (points_to the_row at after) ∗ ⌜ Receives frame.now seconds nanos verdicts.now out.old out.new before after result ⌝) }
+{
+    let value = unsafe { &mut *(at as *mut Session) };
+    value.receive(alloc, frame, seconds, nanos, verdicts, out)
 }
 
 /// Ends the session: all that it holds is given back, and the pointer leads to room again.

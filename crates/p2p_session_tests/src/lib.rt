@@ -4,6 +4,8 @@
 #[cfg(test)]
 mod calls;
 #[cfg(test)]
+mod frames;
+#[cfg(test)]
 mod given;
 #[cfg(test)]
 mod refused;

@@ -1,0 +1,166 @@
+-- What a session does with frames, and what it tells of reservations.
+use Rattle.std.specs.Prelude.{◌≡◌, ◌⊎◌, ℕ, ◌<◌, Bool, true, false, not, ◌==◌, List, [], ◌∷◌, ◌++◌}
+use Rattle.std.specs.Prelude.{length, map, flat_map, Option, Some, None, Result, Ok, Err, Vec}
+use Rattle.p2p_discovery.specs.declared.codec.error.CodecError.{CodecError}
+use Rattle.p2p_discovery.specs.declared.codec.error.CodecError.TheVariants as fault
+use Rattle.p2p_discovery.specs.declared.codec.error.What.TheVariants as what
+use Rattle.p2p_discovery.specs.declared.discovery.Error.{Error}
+use Rattle.p2p_discovery.specs.declared.discovery.Error.TheVariants as error
+use Rattle.p2p_discovery.specs.declared.discovery.Info.{Info}
+use Rattle.p2p_discovery.specs.declared.discovery.Payload.{Payload}
+use Rattle.p2p_discovery.specs.declared.discovery.Payload.TheVariants as said
+use Rattle.p2p_discovery.specs.Data.{data_spelling}
+use Rattle.p2p_discovery.specs.Ingress.{ingress_spelling}
+use Rattle.p2p_discovery.specs.Judgement.{Judge, judge_of, judged_before, to_verify, signed_bytes}
+use Rattle.p2p_discovery.specs.Payload.{infos_of_payload}
+use Rattle.p2p_discovery.specs.Reading.{whole}
+use Rattle.p2p_tracker.specs.declared.directory.Metadata.{Metadata}
+use Rattle.p2p_tracker.specs.declared.directory.Metadata.TheVariants.{Dialer, Listener}
+use Rattle.p2p_directory.specs.Held.{held_of}
+use Rattle.p2p_directory.specs.Nodes.{standing_of, AnswersFrameBy, IsReceivedBy}
+use Rattle.p2p_directory.specs.Received.{are_miscounted}
+use Rattle.p2p_directory.specs.declared.node.Received.{Received}
+use Rattle.p2p_directory.specs.declared.node.Received.TheVariants as received
+use Rattle.p2p_session.specs.declared.key.Key.{Key}
+use Rattle.p2p_session.specs.declared.key.Signature.{Signature}
+use Rattle.p2p_session.specs.declared.refusal.Refusal.{Refusal}
+use Rattle.p2p_session.specs.declared.refusal.Refusal.TheVariants as refusal
+use Rattle.p2p_session.specs.contracts.key.KeyOrd.TheImpl.{ghosts as order}
+use Rattle.p2p_session.specs.Answers.{Answer, refused, number, key_bytes, signature_bytes, Tells}
+use Rattle.p2p_session.specs.Answers.{Refuses}
+use Rattle.p2p_session.specs.Answers.Answer.{Bytes}
+use Rattle.p2p_session.specs.Given.{moment_at}
+use Rattle.p2p_session.specs.Views.{View, wire, HasNone}
+
+-- ---- reservations
+
+-- whom a reservation is for: a peer that comes, or an ingress that is dialled
+abbrev pub held_bytes : Metadata Key Signature → List ℕ
+held_bytes (Listener p) = 0 ∷ []
+held_bytes (Dialer p ingress) = 1 ∷ ingress_spelling ingress
+
+abbrev pub held_answer : Option (Metadata Key Signature) → Answer
+held_answer None = refused refusal.None
+held_answer (Some metadata) = Bytes (held_bytes metadata)
+
+-- what is held of the peer, or want of memory
+abbrev pub TellsHeld : Option (Metadata Key Signature) → List ℕ → List ℕ → ℕ → Type 0
+TellsHeld held out out2 n =
+    Refuses refusal.Memory out out2 n ⊎ Tells (held_answer held) out out2 n
+
+abbrev pub TellsHeldOf : View → Result Key Refusal → List ℕ → List ℕ → ℕ → Type 0
+TellsHeldOf v (Ok p) out out2 n = TellsHeld (held_of order.cmp v.held p) out out2 n
+TellsHeldOf v (Err why) out out2 n = Refuses why out out2 n
+
+-- ---- answers to frames
+
+abbrev pub fault_bytes : CodecError → List ℕ
+fault_bytes fault.EndOfBuffer = 0 ∷ []
+fault_bytes (fault.ExtraData n) = 1 ∷ number n
+fault_bytes (fault.InvalidLength n) = 2 ∷ number n
+fault_bytes (fault.InvalidVarint n) = 3 ∷ number n
+fault_bytes (fault.InvalidEnum n) = 4 ∷ number n
+fault_bytes (fault.Invalid what.Hostname) = 5 ∷ []
+fault_bytes (fault.Invalid what.Padding) = 6 ∷ []
+fault_bytes (fault.Invalid what.Key) = 7 ∷ []
+fault_bytes (fault.Invalid what.Signature) = 8 ∷ []
+fault_bytes fault.Memory = 9 ∷ []
+
+abbrev pub error_bytes : Error → List ℕ
+error_bytes (error.TooManyPeers n) = 0 ∷ number n
+error_bytes error.ReceivedSelf = 1 ∷ []
+error_bytes error.InvalidSignature = 2 ∷ []
+error_bytes error.SynchronyBound = 3 ∷ []
+
+abbrev pub received_answer : Received → Answer
+received_answer (received.Data message) = Bytes (0 ∷ data_spelling message)
+received_answer received.Greeted = Bytes (1 ∷ [])
+received_answer (received.Reply frame) = Bytes (2 ∷ frame)
+received_answer (received.Applied count) = Bytes (3 ∷ number count)
+received_answer (received.Codec fault) = Bytes (4 ∷ fault_bytes fault)
+received_answer received.Malformed = Bytes (5 ∷ [])
+received_answer (received.Invalid error) = Bytes (6 ∷ error_bytes error)
+received_answer received.Memory = refused refusal.Memory
+
+-- data is spelled in memory of its own
+abbrev pub is_data : Received → Bool
+is_data (received.Data message) = true
+is_data _ = false
+
+abbrev pub TellsReceived : Received → List ℕ → List ℕ → ℕ → Type 0
+TellsReceived r out out2 n = ((is_data r ≡ true) × Refuses refusal.Memory out out2 n)
+    ⊎ Tells (received_answer r) out out2 n
+
+-- a byte of 0 says that a signature is not right, each other byte that it is
+abbrev pub verdicts_in : List ℕ → List Bool
+verdicts_in bytes = map (λ b. not (b == 0)) bytes
+
+-- the node took the frame by these verdicts, wherever the calls accepted before led
+pub record Hears (verdicts : List Bool) (frame : List ℕ) (now : ℕ) (v v2 : View) (r : Received)
+    : Type 0 where
+  pub seen : AnswersFrameBy order.cmp wire verdicts frame now r v v2
+  pub received : IsReceivedBy order.cmp wire verdicts frame now r v v2
+
+-- .. at a moment that was read
+abbrev pub HearsAt : List Bool → List ℕ → Result ℕ Refusal → View → View → Received → Type 0
+HearsAt verdicts frame (Ok t) v v2 r = Hears verdicts frame t v v2 r
+HearsAt verdicts frame (Err why) v v2 r = ⊥
+
+-- why a frame isn't taken
+abbrev pub MayRefuse : View → List Bool → List ℕ → Result ℕ Refusal → ℕ → Refusal → Type 0
+MayRefuse v verdicts frame now room refusal.BadMoment = now ≡ Err refusal.BadMoment
+MayRefuse v verdicts frame now room refusal.NoRoom = room < 10
+MayRefuse v verdicts frame now room refusal.Memory = Unit {0}
+MayRefuse v verdicts frame now room refusal.BadVerdicts =
+    are_miscounted wire (standing_of order.cmp wire v) frame verdicts ≡ true
+MayRefuse v verdicts frame now room _ = ⊥
+
+-- a frame is refused and nothing changes, or it is taken and the answer told
+abbrev pub ReceivesAt : List Bool → List ℕ → Result ℕ Refusal → List ℕ → List ℕ → View → View → ℕ →
+    Type 0
+ReceivesAt verdicts frame now out out2 v v2 n =
+    ((why : Refusal) × MayRefuse v verdicts frame now (length out) why × (v2 ≡ v) × Refuses why out out2 n)
+    ⊎ ((r : Received) × HearsAt verdicts frame now v v2 r × TellsReceived r out out2 n)
+
+abbrev pub ReceivesOf : List ℕ → ℕ → ℕ → List ℕ → List ℕ → List ℕ → Option View → Option View → ℕ →
+    Type 0
+ReceivesOf frame seconds nanos verdicts out out2 None o n = HasNone o out out2 n
+ReceivesOf frame seconds nanos verdicts out out2 (Some v) None n = ⊥
+ReceivesOf frame seconds nanos verdicts out out2 (Some v) (Some v2) n =
+    ReceivesAt (verdicts_in verdicts) frame (moment_at seconds nanos) out out2 v v2 n
+
+-- ---- what has to be verified
+
+-- an info whose signature is asked about: how long its signed bytes are, its key, the signed bytes,
+-- the signature
+abbrev pub asked_bytes : Info Key Signature → List ℕ
+asked_bytes i = let signed = signed_bytes i.ingress i.timestamp in
+    number (length signed) ++ (key_bytes i.public_key ++ (signed ++ signature_bytes i.signature))
+
+-- the infos of a payload whose signatures decide
+abbrev pub to_ask : Judge Key Signature → ℕ → Payload Key Signature → List (Info Key Signature)
+to_ask judge now (said.Greeting i) = judged_before judge now (i ∷ [])
+to_ask judge now (said.Peers is) = to_verify judge now is
+to_ask judge now _ = []
+
+-- how many infos there are, and those whose signatures decide
+abbrev pub check_bytes : Judge Key Signature → ℕ → Result (Payload Key Signature × List ℕ) CodecError →
+    List ℕ
+check_bytes judge now (Ok x) =
+    number (length (infos_of_payload x.0)) ++ flat_map asked_bytes (to_ask judge now x.0)
+check_bytes judge now (Err fault) = number 0
+
+-- what a frame has to be verified of, at a moment that was read, or why nothing is told
+abbrev pub IsAsked : {A : Type 0} → View → List ℕ → Result ℕ Refusal → Result (Vec ℕ A) Refusal → Type 0
+IsAsked v frame (Ok now) (Ok bytes) =
+    bytes.items ≡ check_bytes (judge_of order.cmp wire.verifies v.verifier) now
+    (whole (wire.reading v.limits) frame).outcome
+IsAsked v frame (Ok now) (Err why) = why ≡ refusal.Memory
+IsAsked v frame (Err why) (Ok bytes) = ⊥
+IsAsked v frame (Err why) (Err e) = e ≡ why
+
+abbrev pub ChecksAt : View → List ℕ → Result ℕ Refusal → List ℕ → List ℕ → ℕ → Type 0
+ChecksAt v frame (Ok now) out out2 n = Refuses refusal.Memory out out2 n
+    ⊎ Tells (Bytes (check_bytes (judge_of order.cmp wire.verifies v.verifier) now
+    (whole (wire.reading v.limits) frame).outcome)) out out2 n
+ChecksAt v frame (Err why) out out2 n = Refuses why out out2 n

@@ -1,0 +1,255 @@
+//! Frames: what of them has to be verified, and what a node answers to them.
+
+ghost use Rattle.std.specs.Prelude.{◌≡◌, ◌≤◌, ◌∷◌, ◌++◌, ◌⊎◌, IfOk, IfErr, OnOk, OnErr, length};
+ghost use Rattle.std.specs.Prelude.{take, flat_map};
+ghost use Rattle.p2p_discovery.specs.Data.{data_spelling};
+ghost use Rattle.std.specs.Duration.{as_nanos};
+ghost use Rattle.p2p_session.specs.Answers.{Tells, Refuses, IsAnswered, number};
+ghost use Rattle.p2p_session.specs.Answers.Answer.{Bytes as Spelled};
+ghost use Rattle.p2p_session.specs.Given.{moment_at};
+ghost use Rattle.p2p_session.specs.Frames.{received_answer, TellsReceived, fault_bytes, error_bytes};
+ghost use Rattle.p2p_session.specs.Frames.{verdicts_in, MayRefuse, ReceivesAt, HearsAt};
+ghost use Rattle.p2p_session.specs.Frames.{to_ask, asked_bytes, ChecksAt, IsAsked};
+ghost use Rattle.p2p_session.specs.contracts.key.KeyOrd.TheImpl.{ghosts as order};
+ghost use Rattle.p2p_session.specs.Views.{wire};
+ghost use Rattle.p2p_session.specs.Answers.{part_bytes};
+ghost use Rattle.p2p_discovery.specs.Judgement.{judge_of};
+ghost use Rattle.p2p_discovery.specs.Payload.{infos_of_payload};
+
+use crate::answer::{Part, answer};
+use crate::given::moment;
+use crate::key::{KEY_SIZE, Key, SIGNATURE_SIZE};
+use crate::refusal::Refusal;
+use crate::reply::answer_one;
+use bytes::Bytes;
+use p2p_directory::node::{Miscounted, Node, Received};
+use p2p_discovery::codec::{CodecError, FixedBytes, What, Write};
+use p2p_discovery::data::Data;
+use p2p_discovery::discovery::{Error, Info, InfoVerifier, Payload};
+use std::alloc::{AllocError, Global};
+use std::time::Duration;
+
+/// What answers to frames that are applied or refused need at most.
+const LONGEST_RECEIVED: usize = 10;
+
+/// Takes a frame by verdicts on the signatures of its infos, and tells the answer.
+pub fn receive(
+    alloc: Global,
+    node: &mut Node<Key>,
+    frame: &[u8],
+    time: (u64, u32),
+    verdicts: &[u8],
+    out: &mut [u8],
+) -> u64
+    ensures { ReceivesAt (verdicts_in verdicts.now) frame.now (moment_at time.0 time.1)
+        out.old out.new node.old node.new result }
+{
+    match hear(alloc, node, frame, time, verdicts, out.len()) {
+        Ok(received) => tell_received(alloc, received, out),
+        Err(refusal) => refusal.number(),
+    }
+}
+
+// Takes a frame by verdicts, where the room is long enough.
+fn hear(
+    alloc: Global,
+    node: &mut Node<Key>,
+    frame: &[u8],
+    time: (u64, u32),
+    verdicts: &[u8],
+    room: usize,
+) -> Result<Received, Refusal>
+    ensures heard { IfOk result (λ r. HearsAt (verdicts_in verdicts.now) frame.now
+        (moment_at time.0 time.1) node.old node.new r) }
+    ensures refused { IfErr result (MayRefuse node.old (verdicts_in verdicts.now) frame.now
+        (moment_at time.0 time.1) room) }
+    ensures same { OnErr result (node.new ≡ node.old) }
+{
+    let now = moment(time.0, time.1)?;
+    if room < LONGEST_RECEIVED {
+        return Err(Refusal::NoRoom);
+    }
+    let verdicts = verdicts_of(alloc, verdicts)?;
+    let frame = Bytes::copy_from_slice(alloc, frame)?;
+    match node.receive_by(frame, now, &verdicts) {
+        Ok(received) => Ok(received),
+        Err(Miscounted) => Err(Refusal::BadVerdicts),
+    }
+}
+
+/// What of a frame has to be verified, for a node to take it: how many infos it has, and those whose
+/// signatures decide.
+pub fn check(alloc: Global, node: &Node<Key>, frame: &[u8], time: (u64, u32), out: &mut [u8]) -> u64
+    ensures { ChecksAt node.now frame.now (moment_at time.0 time.1) out.old out.new result }
+{
+    match asked(alloc, node, frame, time) {
+        Ok(bytes) => answer_one(Part::Bytes(&bytes), out),
+        Err(refusal) => refusal.number(),
+    }
+}
+
+// What of a frame has to be verified.
+fn asked(
+    alloc: Global,
+    node: &Node<Key>,
+    frame: &[u8],
+    time: (u64, u32),
+) -> Result<Vec<u8>, Refusal>
+    ensures { IsAsked node.now frame.now (moment_at time.0 time.1) result }
+{
+    let now = moment(time.0, time.1)?;
+    let frame = Bytes::copy_from_slice(alloc, frame)?;
+    match node.read(frame) {
+        Ok(payload) => Ok(asked_of(alloc, node.verifier(), &payload, now)?),
+        Err(CodecError::Memory) => Err(Refusal::Memory),
+        Err(_) => Ok(0u64.to_be_bytes().as_slice().to_vec(alloc)?),
+    }
+}
+
+// What of a payload has to be verified.
+fn asked_of(
+    alloc: Global,
+    verifier: &InfoVerifier<Key>,
+    payload: &Payload<Key>,
+    now: Duration,
+) -> Result<Vec<u8>, AllocError>
+    ensures { IfOk result (λ bytes. bytes.items ≡ number (length (infos_of_payload payload.now))
+        ++ flat_map asked_bytes (to_ask (judge_of order.cmp wire.verifies verifier.now)
+        (as_nanos now) payload.now)) }
+{
+    match payload {
+        Payload::Data(_) | Payload::BitVec(_) => Ok(0u64.to_be_bytes().as_slice().to_vec(alloc)?),
+        Payload::Greeting(info) => {
+            let mut bytes = 1u64.to_be_bytes().as_slice().to_vec(alloc)?;
+            if let Ok(()) = verifier.validate_info_by(now, info, true) {
+                push_asked(&mut bytes, info)?;
+            }
+            Ok(bytes)
+        }
+        Payload::Peers(infos) => {
+            let infos = infos.as_slice();
+            let count = verifier.count_to_verify(now, infos);
+            asked_first(alloc, infos, count)
+        }
+    }
+}
+
+// The number of infos, and so many of them.
+#[tactic(auto, using(crate::proofs::Puts::told_next))]
+fn asked_first(alloc: Global, infos: &[Info<Key>], count: usize) -> Result<Vec<u8>, AllocError>
+    requires { count ≤ length infos.now }
+    ensures { IfOk result (λ bytes. bytes.items ≡ number (length infos.now)
+        ++ flat_map asked_bytes (take count infos.now)) }
+{
+    let mut bytes = (infos.len() as u64).to_be_bytes().as_slice().to_vec(alloc)?;
+    for place in 0..count {
+        push_asked(&mut bytes, &infos[place])?;
+    }
+    Ok(bytes)
+}
+
+// Appends what is asked of an info: how long its signed bytes are, its key, the signed bytes, and
+// the signature.
+fn push_asked(bytes: &mut Vec<u8>, info: &Info<Key>) -> Result<(), AllocError>
+    ensures { OnOk result (bytes.new.items ≡ bytes.old.items ++ asked_bytes info.now) }
+{
+    let signed = info.signed();
+    let signed = signed.as_slice();
+    let mut key = [0; KEY_SIZE];
+    info.public_key.write_fixed(&mut key);
+    let mut signature = [0; SIGNATURE_SIZE];
+    info.signature.write_fixed(&mut signature);
+    bytes.extend_from_slice(&(signed.len() as u64).to_be_bytes())?;
+    bytes.extend_from_slice(&key)?;
+    bytes.extend_from_slice(signed)?;
+    bytes.extend_from_slice(&signature)
+}
+
+// What bytes say of signatures.
+#[tactic(auto, using(crate::proofs::Puts::map_next))]
+fn verdicts_of(alloc: Global, bytes: &[u8]) -> Result<Vec<bool>, AllocError>
+    ensures { IfOk result (λ v. v.items ≡ verdicts_in bytes.now) }
+{
+    let mut verdicts = Vec::with_capacity(alloc, bytes.len())?;
+    for byte in bytes {
+        verdicts.push(*byte != 0)?;
+    }
+    Ok(verdicts)
+}
+
+// Tells what a node answered to a frame.
+fn tell_received(alloc: Global, received: Received, out: &mut [u8]) -> u64
+    ensures { TellsReceived received out.old out.new result }
+{
+    match received {
+        Received::Data(message) => tell_data(alloc, &message, out),
+        Received::Greeted => answer_one(Part::Byte(1), out),
+        Received::Reply(frame) => answer_two(2, Part::Bytes(frame.as_slice()), out),
+        Received::Applied(count) => answer_two(3, Part::Number(count as u64), out),
+        Received::Codec(fault) => tell_fault(fault, out),
+        Received::Malformed => answer_one(Part::Byte(5), out),
+        Received::Invalid(error) => tell_error(error, out),
+        Received::Memory => Refusal::Memory.number(),
+    }
+}
+
+// Answers a byte and a part.
+fn answer_two(byte: u8, part: Part<'_>, out: &mut [u8]) -> u64
+    ensures { IsAnswered (byte ∷ part_bytes part.entry) out.old out.new result }
+{
+    answer(&[Part::Byte(byte), part], out)
+}
+
+// Answers a message. A length that can't be spelled isn't met, for a frame spells it.
+fn tell_data(alloc: Global, message: &Data, out: &mut [u8]) -> u64
+    ensures { Refuses Refusal.Memory out.old out.new result
+        ⊎ Tells (Spelled (0 ∷ data_spelling message.now)) out.old out.new result }
+{
+    if message.message.len() > u32::MAX as usize {
+        return Refusal::Memory.number();
+    }
+    match message.encode(alloc) {
+        Ok(bytes) => answer_two(0, Part::Bytes(bytes.as_slice()), out),
+        Err(AllocError) => Refusal::Memory.number(),
+    }
+}
+
+// Answers the fault of a frame.
+fn tell_fault(fault: CodecError, out: &mut [u8]) -> u64
+    ensures { IsAnswered (4 ∷ fault_bytes fault) out.old out.new result }
+{
+    match fault {
+        CodecError::EndOfBuffer => answer_two(4, Part::Byte(0), out),
+        CodecError::ExtraData(n) => answer_three(4, 1, n as u64, out),
+        CodecError::InvalidLength(n) => answer_three(4, 2, n as u64, out),
+        CodecError::InvalidVarint(n) => answer_three(4, 3, n as u64, out),
+        CodecError::InvalidEnum(n) => answer_three(4, 4, u64::from(n), out),
+        CodecError::Invalid(What::Hostname) => answer_two(4, Part::Byte(5), out),
+        CodecError::Invalid(What::Padding) => answer_two(4, Part::Byte(6), out),
+        CodecError::Invalid(What::Key) => answer_two(4, Part::Byte(7), out),
+        CodecError::Invalid(What::Signature) => answer_two(4, Part::Byte(8), out),
+        CodecError::Memory => answer_two(4, Part::Byte(9), out),
+    }
+}
+
+// Answers why infos are refused.
+fn tell_error(error: Error, out: &mut [u8]) -> u64
+    ensures { IsAnswered (6 ∷ error_bytes error) out.old out.new result }
+{
+    match error {
+        Error::TooManyPeers(n) => answer_three(6, 0, n as u64, out),
+        Error::ReceivedSelf => answer_two(6, Part::Byte(1), out),
+        Error::InvalidSignature => answer_two(6, Part::Byte(2), out),
+        Error::SynchronyBound => answer_two(6, Part::Byte(3), out),
+    }
+}
+
+// Answers two bytes and a number.
+fn answer_three(byte: u8, kind: u8, count: u64, out: &mut [u8]) -> u64
+    ensures { IsAnswered (byte ∷ (kind ∷ number count)) out.old out.new result }
+{
+    answer(
+        &[Part::Byte(byte), Part::Byte(kind), Part::Number(count)],
+        out,
+    )
+}
