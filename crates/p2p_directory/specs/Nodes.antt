@@ -2,7 +2,7 @@
 -- calls that its directory accepted.
 use Rattle.std.specs.Prelude.{ℕ, ◌≡◌, ◌<◌, ◌^◌, ◌∷◌, Bool, true, false, ◌⊎◌, List, Option, Some}
 use Rattle.std.specs.Prelude.{None, Result}
-use Rattle.std.specs.Prelude.{IfOk, OnErr, is_some, slice_get, length, ◌≤◌}
+use Rattle.std.specs.Prelude.{IfOk, IfSome, OnErr, is_some, slice_get, length, ◌≤◌}
 use Rattle.std.specs.Duration.{as_nanos}
 use Rattle.std.specs.List.{AllByRecursion}
 use Rattle.std.specs.declared.cmp.Ordering.{Ordering}
@@ -179,10 +179,12 @@ AreValues IsKey IsSignature infos =
 
 -- EACH CALL BY WHAT IS SEEN: v before it, v2 after it
 
--- a track tears down no more peers than there are records, but for that of the local node
+-- a track is replied want of memory, or tears down no more peers than there are records, but for
+-- that of the local node
 abbrev pub TearsDownFew : {C S : Type 0} → DirectoryView C S → Reply C S → Type 0
-TearsDownFew {C} d r = (torn : List C) → r ≡ reply.Track (Some torn) →
-    length torn ≤ length (other_keys d.records)
+TearsDownFew {C} d r = (r ≡ reply.OutOfMemory) ⊎ ((torn : Option (List C))
+    × (r ≡ reply.Track torn)
+    × IfSome torn (λ ps. length ps ≤ length (other_keys d.records)))
 
 module _ {C S : Type 0} (cmp : C → C → Ordering) where
   -- what is left of a node once these infos were applied, or nothing was

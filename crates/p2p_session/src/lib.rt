@@ -146,7 +146,13 @@ impl Session {
         if self.track_room() > torn.len() as u64 {
             return self.without_room();
         }
-        self.serve(commands::track(alloc, index, primary, secondary), torn)
+        let Some(node) = &mut self.node else {
+            return Refusal::NoNode.number();
+        };
+        match commands::peers(alloc, primary, secondary) {
+            Ok(peers) => take_set(alloc, node, index, peers, torn),
+            Err(refusal) => refusal.number(),
+        }
     }
 
     /// How much room `track` has to have: that of the keys of all peers with a record.
@@ -189,14 +195,7 @@ impl Session {
     ) -> u64
         ensures { TellsInfos bits.now seconds nanos out.old out.new self.old self.new result }
     {
-        let greatest = match &self.node {
-            Some(node) => node.limits().max_bit_vec,
-            None => 0,
-        };
-        self.serve(
-            commands::infos_for(alloc, bits, greatest, seconds, nanos),
-            out,
-        )
+        self.serve(commands::infos_for(alloc, bits, seconds, nanos), out)
     }
 
     /// The frame that asks for what is wanted of the set at a place, or `None`.

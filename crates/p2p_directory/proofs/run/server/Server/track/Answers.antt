@@ -1,10 +1,11 @@
-use Rattle.std.proofs.Common.{◌≡◌, Bool, true, false, List, Option, Some, None, sym, subst, ◌∙◌, refl}
+use Rattle.std.proofs.Common.{◌≡◌, Bool, true, false, List, Option, Some, None, sym, subst, ◌∙◌, refl, inl, inr, ◌≤◌, length}
 use Rattle.std.specs.Prelude.{IfSome, IfNone}
 use Rattle.std.specs.declared.cmp.Ordering.{Ordering}
 use Rattle.p2p_tracker.specs.declared.directory.Metadata.{Metadata}
 use Rattle.p2p_tracker.specs.Calls.{SetAt}
 use Rattle.p2p_tracker.specs.PeerSets.{set_of}
-use Rattle.p2p_tracker.specs.Directory.{TakesSet, AreTornDown}
+use Rattle.p2p_tracker.specs.Directory.{TakesSet, AreTornDown, other_keys}
+use Rattle.std.specs.Cmp.{IsTotalOrder}
 use Rattle.p2p_tracker.specs.Seen.{DirectoryView}
 use Rattle.p2p_directory.specs.Held.{AreHeld}
 use Rattle.p2p_directory.specs.Private.Slots.{held_in}
@@ -53,13 +54,14 @@ returns-clause-served g c = rw (← c.self.view_is) (λ bootstrappers myself cfg
           (true_unless _ (λ old. let f = sym w.in-Err.is ∙ c.track.ensures.untaken old in cc)) w.in-Err.ensures.err refl)
     ])
 
+-- those who are torn down, if a set was taken, are few
+few : {C S : Type 0} {cmp : C → C → Ordering} (total : IsTotalOrder cmp) (d d2 : DirectoryView C S) (torn : Option (List C)) →
+    IfSome torn (AreTornDown cmp d d2) → IfSome torn (λ ps. length ps ≤ length (other_keys d.records))
+few total d d2 None h = tt
+few total d d2 (Some torn) h = few_torn total d d2 torn h
+
 pub returns-clause-few : goal.returns-clause-few
-returns-clause-few g c = rw (← c.self.view_is) (λ torn e.
-    let cmp = g.C.Ord.cmp in
-    elim c.match-track.branch [
-      | in-Ok w ↦
-          let same : w.in-Ok.torn ≡ Some torn = cc (w.result-is, e) in
-          few_torn g.met.C.Ord.total c.self.inside.directory c.track.new.self torn
-          (subst (λ o. IfSome o (AreTornDown cmp c.self.inside.directory c.track.new.self)) same w.in-Ok.ensures.torn)
-      | in-Err w ↦ absurd (cc (w.result-is, e))
-    ])
+returns-clause-few g c = rw (← c.self.view_is) (elim c.match-track.branch [
+  | in-Ok w ↦ inr (w.in-Ok.torn, w.result-is, few g.met.C.Ord.total c.self.inside.directory c.track.new.self w.in-Ok.torn w.in-Ok.ensures.torn)
+  | in-Err w ↦ inl w.result-is
+])
