@@ -153,12 +153,28 @@ fn slots_for<C: PublicKey>(alloc: Global, commands: &[Command<C>]) -> Result<Slo
 {
     let mut slots = Slots::new(alloc);
     for command in commands {
-        if make_slot(&mut slots, command).is_err() {
+        if make_first(&mut slots, command).is_err() {
             slots.close();
             return Err(AllocError);
         }
     }
     Ok(slots)
+}
+
+// A slot for the peer that the command may be granted a reservation of, if there is one, while
+// nothing is held.
+fn make_first<C: PublicKey>(slots: &mut Slots<C>, command: &Command<C>) -> Result<(), AllocError>
+    requires { (q : C) → held_in C.cmp slots.old q ≡ None }
+    ensures err { OnErr result (slots.new ≡ slots.old) }
+    ensures room { OnOk result (has_slot_for C.cmp slots.new command.now ≡ true) }
+    ensures slots { OnOk result ((q : C) →
+        has_slot C.cmp slots.old q ≡ true → has_slot C.cmp slots.new q ≡ true) }
+    ensures held { (q : C) → held_in C.cmp slots.new q ≡ held_in C.cmp slots.old q }
+{
+    match command {
+        Command::Dial { peer, .. } | Command::Listen { peer, .. } => slots.make_first(*peer),
+        _ => Ok(()),
+    }
 }
 
 // A slot for the peer that the command may be granted a reservation of, if there is one.

@@ -2,15 +2,15 @@
 use Rattle.std.proofs.Common.{◌≡◌, ◌+◌, Bool, true, false, not, ◌&&◌, ◌||◌, T, List, [], ◌∷◌}
 use Rattle.std.proofs.Common.{length, map, Option, Some, None, refl, sym, ◌∙◌, ap, subst, cond}
 use Rattle.std.proofs.Common.{arith}
-use Rattle.std.specs.Prelude.{is_some, IfSome, slice_get, if◌then◌else◌}
+use Rattle.std.specs.Prelude.{is_some, IfSome, IfNone, slice_get}
 use Rattle.std.specs.Ordering.{is_eq, is_lt}
 use Rattle.std.specs.FinMap.Entries.{find, below_all, is_sorted, same_entries}
 use Rattle.std.specs.declared.cmp.Ordering.TheVariants.{Less}
 use Rattle.std.specs.Cmp.{IsTotalOrder, eq_by_cmp_equiv}
 use Rattle.std.specs.List.{AllByRecursion, cons_option, list_any}
 use Rattle.std.specs.List.Sorted.{IsStrictlySortedBy}
-use Rattle.std.specs.Option.{option_map, option_flatten, IsSomeAnd}
-use Rattle.std.specs.Map.{keys_of, remove_entry}
+use Rattle.std.specs.Option.{option_map, option_flatten}
+use Rattle.std.specs.Map.{keys_of, lookup, remove_entry}
 use Rattle.std.specs.BTreeMap.{is_at}
 use Rattle.std.specs.declared.cmp.Ordering.{Ordering}
 use Rattle.std.proofs.lemmas.Cmp.{tied_itself}
@@ -19,18 +19,16 @@ use Rattle.std.proofs.lemmas.Map.{NonePasses, lookup-none}
 use Rattle.std.proofs.lemmas.Map.Entries.{none_past_head}
 use Rattle.std.proofs.lemmas.Map.Keys.{sorted_tail, IsDistinct-from_sorted}
 use Rattle.std.proofs.lemmas.Map.Lookups.{CmpEqualImpliesEq}
+use Rattle.std.proofs.lemmas.Map.Views.{tells_apart}
 use Rattle.p2p_tracker.specs.declared.directory.Metadata.{Metadata}
 use Rattle.p2p_tracker.specs.Seen.{key_of}
 use Rattle.p2p_directory.specs.Held.{held_of, all_but}
-use Rattle.p2p_directory.specs.Private.Slots.{contents, slot_of, held_in, AreSlots, AreFull}
+use Rattle.p2p_directory.specs.Private.Slots.{contents, begins_full, slot_of, held_in, AreSlots, BeginFull}
 
 module _ {C S : Type 0} {cmp : C → C → Ordering} (total : IsTotalOrder cmp) (exact : CmpEqualImpliesEq cmp) where
   -- empty, or with a reservation of its peer
   abbrev IsKeyed : C × Option (Metadata C S) → Type 0
   IsKeyed slot = IfSome slot.1 (λ m. key_of m ≡ slot.0)
-
-  abbrev IsFilled : C × Option (Metadata C S) → Type 0
-  IsFilled slot = IsSomeAnd slot.1 (λ m. key_of m ≡ slot.0)
 
   -- no later slot is that of the first peer
   none_later : (slot : C × Option (Metadata C S)) (slots : List (C × Option (Metadata C S))) (q : C) →
@@ -96,26 +94,6 @@ module _ {C S : Type 0} {cmp : C → C → Ordering} (total : IsTotalOrder cmp) 
       go false e (Some m) key h =
           ap (λ ms. m ∷ ms) h ∙ sym (ap (λ b. cond (not b) (m ∷ all_but cmp q (contents slots)) (all_but cmp q (contents slots))) (ap (is_at (cmp q)) key ∙ e))
 
-  -- the peers of full slots
-  peers : (slots : List (C × Option (Metadata C S))) → AllByRecursion IsFilled slots → map key_of (contents slots) ≡ keys_of slots
-  peers [] filled = refl
-  peers ((k, None) ∷ slots) filled = absurd filled.0
-  peers ((k, Some m) ∷ slots) filled = λ i. filled.0 i ∷ peers slots filled.1 i
-
-  if_some : (o : Option (Metadata C S)) (q : C) → IsSomeAnd o (λ m. key_of m ≡ q) → IfSome o (λ m. key_of m ≡ q)
-  if_some None q h = tt
-  if_some (Some m) q h = h
-
-  -- FULL SLOTS
-
-  pub are_slots : (slots : List (C × Option (Metadata C S))) → AreFull cmp slots → AreSlots cmp slots
-  are_slots slots full = record { ordered = full.ordered; keyed = λ q. go q (slot_of cmp slots q) (full.filled q) }
-    where
-      go : (q : C) (o : Option (Option (Metadata C S))) → IfSome o (λ slot. IsSomeAnd slot (λ m. key_of m ≡ q)) →
-          IfSome o (λ slot. IfSome slot (λ m. key_of m ≡ q))
-      go q None h = tt
-      go q (Some slot) h = if_some slot q h
-
   pub held_is : (slots : List (C × Option (Metadata C S))) → AreSlots cmp slots → (q : C) → held_of cmp (contents slots) q ≡ held_in cmp slots q
   held_is slots are = found slots are.ordered (each (λ q slot. IfSome slot (λ m. key_of m ≡ q)) slots are.ordered are.keyed)
 
@@ -123,75 +101,114 @@ module _ {C S : Type 0} {cmp : C → C → Ordering} (total : IsTotalOrder cmp) 
       contents (remove_entry (is_at (cmp q)) slots) ≡ all_but cmp q (contents slots)
   rest_is slots q are = removed slots q are.ordered (each (λ q slot. IfSome slot (λ m. key_of m ≡ q)) slots are.ordered are.keyed)
 
-  pub peers_are : (slots : List (C × Option (Metadata C S))) → AreFull cmp slots → map key_of (contents slots) ≡ keys_of slots
-  peers_are slots full = peers slots (each (λ q slot. IsSomeAnd slot (λ m. key_of m ≡ q)) slots full.ordered full.filled)
+  abbrev keyed_each : (slots : List (C × Option (Metadata C S))) → AreSlots cmp slots → AllByRecursion IsKeyed slots
+  keyed_each slots are = each (λ q slot. IfSome slot (λ m. key_of m ≡ q)) slots are.ordered are.keyed
 
-  -- what is left when the slot of p goes
-  pub full_without : (slots slots2 : List (C × Option (Metadata C S))) (p : C) → AreFull cmp slots → IsStrictlySortedBy cmp (keys_of slots2)
-      → ((q : C) → slot_of cmp slots2 q ≡ cond (is_at (cmp p) q) None (slot_of cmp slots q)) → AreFull cmp slots2
-  full_without slots slots2 p full up is = record {
-    ordered = up;
-    filled = λ q. subst (λ o. IfSome o (λ slot. IsSomeAnd slot (λ m. key_of m ≡ q))) (sym (is q)) (go q (is_at (cmp p) q));
+  -- the slots after the first
+  pub slots_after : (slot : C × Option (Metadata C S)) (slots : List (C × Option (Metadata C S))) →
+      AreSlots cmp (slot ∷ slots) → AreSlots cmp slots
+  slots_after slot slots are = record {
+    ordered = sorted_tail cmp slot.0 (keys_of slots) are.ordered;
+    keyed = λ q. later q (is_at (cmp q) slot.0) refl;
   }
     where
-      go : (q : C) (b : Bool) → IfSome (cond b None (slot_of cmp slots q)) (λ slot. IsSomeAnd slot (λ m. key_of m ≡ q))
-      go q true = tt
-      go q false = full.filled q
+      later : (q : C) (b : Bool) → is_at (cmp q) slot.0 ≡ b →
+          IfSome (slot_of cmp slots q) (λ o. IfSome o (λ m. key_of m ≡ q))
+      later q true e = subst (λ o. IfSome o (λ o. IfSome o (λ m. key_of m ≡ q)))
+          (sym (lookup-none (is_at (cmp q)) slots (none_later slot slots q are.ordered e))) tt
+      later q false e = subst (λ b. IfSome (cond b (Some slot.1) (slot_of cmp slots q)) (λ o. IfSome o (λ m. key_of m ≡ q)))
+          e (are.keyed q)
 
-  pub held_without : (slots slots2 : List (C × Option (Metadata C S))) (p : C) → AreFull cmp slots → IsStrictlySortedBy cmp (keys_of slots2)
-      → ((q : C) → slot_of cmp slots2 q ≡ cond (is_at (cmp p) q) None (slot_of cmp slots q))
-      → (q : C) → held_of cmp (contents slots2) q ≡ cond (is_at (cmp p) q) None (held_of cmp (contents slots) q)
-  held_without slots slots2 p full up is q =
-      held_is slots2 (are_slots slots2 (full_without slots slots2 p full up is)) q ∙ ap option_flatten (is q) ∙ go (is_at (cmp p) q)
+  -- the first goes, where it is empty
+  pub first_gone : (slots slots2 : List (C × Option (Metadata C S))) (slot : C × Option (Metadata C S)) →
+      slots ≡ slot ∷ slots2 → begins_full slots ≡ false → contents slots2 ≡ contents slots
+  first_gone slots slots2 (k, None) e empty = sym (ap contents e)
+  first_gone slots slots2 (k, Some m) e empty = absurd (let f = sym (ap begins_full e) ∙ empty in cc)
+
+  pub is_empty : (slots slots2 : List (C × Option (Metadata C S))) (slot : C × Option (Metadata C S)) →
+      slots ≡ slot ∷ slots2 → begins_full slots ≡ false → slot.1 ≡ None
+  is_empty slots slots2 (k, None) e empty = refl
+  is_empty slots slots2 (k, Some m) e empty = absurd (let f = sym (ap begins_full e) ∙ empty in cc)
+
+  -- what is left when the slot of p goes
+  pub slots_without : (slots slots2 : List (C × Option (Metadata C S))) (p : C) → AreSlots cmp slots →
+      IsStrictlySortedBy cmp (keys_of slots2) →
+      ((q : C) → slot_of cmp slots2 q ≡ cond (is_at (cmp p) q) None (slot_of cmp slots q)) → AreSlots cmp slots2
+  slots_without slots slots2 p are up is = record {
+    ordered = up;
+    keyed = λ q. subst (λ o. IfSome o (λ slot. IfSome slot (λ m. key_of m ≡ q))) (sym (is q)) (go q (is_at (cmp p) q));
+  }
     where
-      go : (b : Bool) → option_flatten (cond b None (slot_of cmp slots q)) ≡ cond b None (held_of cmp (contents slots) q)
+      go : (q : C) (b : Bool) → IfSome (cond b None (slot_of cmp slots q)) (λ slot. IfSome slot (λ m. key_of m ≡ q))
+      go q true = tt
+      go q false = are.keyed q
+
+  pub held_without : (slots slots2 : List (C × Option (Metadata C S))) (p : C) →
+      ((q : C) → slot_of cmp slots2 q ≡ cond (is_at (cmp p) q) None (slot_of cmp slots q)) →
+      (q : C) → held_in cmp slots2 q ≡ cond (is_at (cmp p) q) None (held_in cmp slots q)
+  held_without slots slots2 p is q = ap option_flatten (is q) ∙ go (is_at (cmp p) q)
+    where
+      go : (b : Bool) → option_flatten (cond b None (slot_of cmp slots q)) ≡ cond b None (held_in cmp slots q)
       go true = refl
-      go false = sym (held_is slots (are_slots slots full) q)
+      go false = refl
 
-  -- as many are held as there are full slots
-  pub length_is : (slots : List (C × Option (Metadata C S))) → AreFull cmp slots → length (contents slots) ≡ length slots
-  length_is slots full = sym (length-map (contents slots) key_of) ∙ ap length (peers_are slots full) ∙ length-map slots (λ slot. slot.0)
+  -- .. and where nothing was in it
+  pub same_without : (slots slots2 : List (C × Option (Metadata C S))) (p : C) →
+      ((q : C) → slot_of cmp slots2 q ≡ cond (is_at (cmp p) q) None (slot_of cmp slots q)) → held_in cmp slots p ≡ None →
+      (q : C) → held_in cmp slots2 q ≡ held_in cmp slots q
+  same_without slots slots2 p is none q = held_without slots slots2 p is q ∙ go (is_at (cmp p) q) refl
+    where
+      go : (b : Bool) → is_at (cmp p) q ≡ b → cond b None (held_in cmp slots q) ≡ held_in cmp slots q
+      go true e = sym (ap (held_in cmp slots) (sym (tells_apart exact p q e)) ∙ none)
+      go false e = refl
 
-  pub one_fewer : (slots slots2 : List (C × Option (Metadata C S))) (o : Option (Option (Metadata C S))) → AreFull cmp slots → AreFull cmp slots2
-      → length slots2 + (if is_some o then 1 else 0) ≡ length slots → IfSome (option_flatten o) (λ _. length (contents slots) ≡ length (contents slots2) + 1)
-  one_fewer slots slots2 None full full2 e = tt
-  one_fewer slots slots2 (Some None) full full2 e = tt
-  one_fewer slots slots2 (Some (Some m)) full full2 e = omega (arith, e, length_is slots full, length_is slots2 full2)
+  -- one less is held where something was in it
+  pub one_fewer : (test : C → Bool) (slots : List (C × Option (Metadata C S))) (o : Option (Metadata C S)) →
+      o ≡ option_flatten (lookup test slots) →
+      IfSome o (λ _. length (contents slots) ≡ length (contents (remove_entry test slots)) + 1)
+  one_fewer test slots None is = tt
+  one_fewer test slots (Some m) is = fewer slots (sym is)
+    where
+      fewer : (slots : List (C × Option (Metadata C S))) → option_flatten (lookup test slots) ≡ Some m →
+          length (contents slots) ≡ length (contents (remove_entry test slots)) + 1
+      fewer [] e = absurd cc
+      fewer ((k, o) ∷ slots) e = go (test k) o e (fewer slots)
+        where
+          go : (b : Bool) (o : Option (Metadata C S)) → option_flatten (cond b (Some o) (lookup test slots)) ≡ Some m →
+              (option_flatten (lookup test slots) ≡ Some m →
+              length (contents slots) ≡ length (contents (remove_entry test slots)) + 1) →
+              length (cons_option o (contents slots))
+              ≡ length (contents (cond b slots ((k, o) ∷ remove_entry test slots))) + 1
+          go true None e rest = absurd cc
+          go true (Some x) e rest = omega arith
+          go false None e rest = rest e
+          go false (Some x) e rest = let one = rest e in omega (arith, one)
 
-  pub none_full : (slots : List (C × Option (Metadata C S))) → AreFull cmp slots → contents slots ≡ [] → slots ≡ []
+  pub none_full : (slots : List (C × Option (Metadata C S))) → BeginFull cmp slots → contents slots ≡ [] → slots ≡ []
   none_full [] full none = refl
-  none_full (slot ∷ slots) full none = absurd (let all = sym (ap (map key_of) none) ∙ peers_are (slot ∷ slots) full in cc)
+  none_full ((k, None) ∷ slots) full none = absurd (let f = full.first in cc)
+  none_full ((k, Some m) ∷ slots) full none = absurd cc
 
   -- the first slot is that of the least peer of whom a reservation is held
-  pub least_is : (slots : List (C × Option (Metadata C S))) (k : C) (o : Option (Metadata C S)) → AreFull cmp slots → slice_get slots 0 ≡ Some (k, o)
-      → Some k ≡ option_map key_of (slice_get (contents slots) 0)
-  least_is slots k o full e = sym (ap (option_map (λ slot. slot.0)) e) ∙ go slots (contents slots) (peers_are slots full)
-    where
-      go : (slots : List (C × Option (Metadata C S))) (ms : List (Metadata C S)) → map key_of ms ≡ keys_of slots →
-          option_map (λ slot. slot.0) (slice_get slots 0) ≡ option_map key_of (slice_get ms 0)
-      go [] [] e = refl
-      go [] (m ∷ ms) e = absurd cc
-      go (slot ∷ slots) [] e = absurd cc
-      go (slot ∷ slots) (m ∷ ms) e = cc
+  pub least_is : (slots : List (C × Option (Metadata C S))) (k : C) (o : Option (Metadata C S)) → BeginFull cmp slots →
+      slice_get slots 0 ≡ Some (k, o) → Some k ≡ option_map key_of (slice_get (contents slots) 0)
+  least_is [] k o full e = absurd cc
+  least_is ((q, None) ∷ slots) k o full e = absurd (let f = full.first in cc)
+  least_is ((q, Some m) ∷ slots) k o full e =
+      let key = (keyed_each ((q, Some m) ∷ slots) full.slots_are).0 in
+      sym (ap (option_map (λ (slot : C × Option (Metadata C S)). slot.0)) e) ∙ ap Some (sym key)
 
-  pub has_one : (slots : List (C × Option (Metadata C S))) (k : C) (o : Option (Metadata C S)) →
-      AreFull cmp slots → slot_of cmp slots k ≡ Some o → is_some (held_of cmp (contents slots) k) ≡ true
-  has_one slots k o full e = ap is_some (held_is slots (are_slots slots full) k ∙ ap option_flatten e)
-      ∙ go o (subst (λ o. IfSome o (λ slot. IsSomeAnd slot (λ m. key_of m ≡ k))) e (full.filled k))
+  pub has_one : (slots : List (C × Option (Metadata C S))) (k : C) (o : Option (Metadata C S)) → BeginFull cmp slots →
+      slice_get slots 0 ≡ Some (k, o) → slot_of cmp slots k ≡ Some o →
+      is_some (held_of cmp (contents slots) k) ≡ true
+  has_one slots k o full e at = ap is_some (held_is slots full.slots_are k ∙ ap option_flatten at) ∙ go slots full.first e
     where
-      go : (o : Option (Metadata C S)) → IsSomeAnd o (λ m. key_of m ≡ k) → is_some o ≡ true
-      go None h = absurd h
-      go (Some m) h = refl
-
-  -- slots of which none is empty
-  pub are_full : (slots : List (C × Option (Metadata C S))) → AreSlots cmp slots → ((q : C) → slot_of cmp slots q ≡ Some None → ⊥) → AreFull cmp slots
-  are_full slots are none = record { ordered = are.ordered; filled = λ q. go q (slot_of cmp slots q) refl (are.keyed q) }
-    where
-      go : (q : C) (o : Option (Option (Metadata C S))) → slot_of cmp slots q ≡ o →
-          IfSome o (λ slot. IfSome slot (λ m. key_of m ≡ q)) → IfSome o (λ slot. IsSomeAnd slot (λ m. key_of m ≡ q))
-      go q None e h = tt
-      go q (Some None) e h = none q e
-      go q (Some (Some m)) e h = h
+      go : (slots : List (C × Option (Metadata C S))) → begins_full slots ≡ true → slice_get slots 0 ≡ Some (k, o) →
+          is_some o ≡ true
+      go [] f e = absurd cc
+      go ((q, p) ∷ slots) f e =
+          let both = ap (option_map (λ (slot : C × Option (Metadata C S)). slot.1)) e in
+          let same : p ≡ o = cc in ap is_some (sym same) ∙ f
 
   -- WHAT IS HELD, AS A LIST
 
@@ -213,6 +230,10 @@ module _ {C S : Type 0} {cmp : C → C → Ordering} (total : IsTotalOrder cmp) 
         (above_contents k slots up.0 keyed.1),
     ordered_contents slots up.1 keyed.1,
   )
+
+  pub contents_ascend : (slots : List (C × Option (Metadata C S))) → AreSlots cmp slots →
+      IsStrictlySortedBy cmp (map key_of (contents slots))
+  contents_ascend slots are = ordered_contents slots are.ordered (keyed_each slots are)
 
   -- what is held, beside its peers
   abbrev pairs : List (Metadata C S) → List (C × Metadata C S)
@@ -256,12 +277,22 @@ module _ {C S : Type 0} {cmp : C → C → Ordering} (total : IsTotalOrder cmp) 
       (ordered_contents slots2 are2.ordered (keyed slots2 are2)) (ordered_contents slots are.ordered (keyed slots are))
       (λ q. held_is slots2 are2 q ∙ same q ∙ sym (held_is slots are q))
 
+  -- where nothing was in the slot that goes, what is held is the same
+  pub none_fewer : (slots slots2 : List (C × Option (Metadata C S))) (p : C) (o : Option (Metadata C S)) →
+      AreSlots cmp slots → IsStrictlySortedBy cmp (keys_of slots2) →
+      ((q : C) → slot_of cmp slots2 q ≡ cond (is_at (cmp p) q) None (slot_of cmp slots q)) → o ≡ held_in cmp slots p →
+      IfNone o (contents slots2 ≡ contents slots)
+  none_fewer slots slots2 p None are up is none =
+      same_contents slots slots2 are (slots_without slots slots2 p are up is) (same_without slots slots2 p is (sym none))
+  none_fewer slots slots2 p (Some m) are up is some = tt
+
+  -- what is in a slot is of its peer
+  pub key_is : (slots : List (C × Option (Metadata C S))) (k : C) (m : Metadata C S) → AreSlots cmp slots →
+      slot_of cmp slots k ≡ Some (Some m) → key_of m ≡ k
+  key_is slots k m are e = subst (λ o. IfSome o (λ slot. IfSome slot (λ m. key_of m ≡ k))) e (are.keyed k)
+
 -- of no peer a reservation is held
 pub nothing_held : {C S : Type 0} {cmp : C → C → Ordering} → IsTotalOrder cmp → (held : List (Metadata C S)) → ((q : C) → held_of cmp held q ≡ None) → held ≡ []
 nothing_held total [] none = refl
 nothing_held {cmp = cmp} total (m ∷ held) none =
     absurd (let some = sym (ap (λ o. cond (is_eq o) (Some m) (held_of cmp held (key_of m))) (tied_itself total (key_of m))) ∙ none (key_of m) in cc)
-
--- the first is passed
-pub none_passed : {C : Type 0} (test : C → Bool) (x : C) (xs : List C) → list_any test (x ∷ xs) ≡ true → test x ≡ false → list_any test xs ≡ true
-none_passed test x xs any not_first = sym (ap (λ b. b || list_any test xs) not_first) ∙ any

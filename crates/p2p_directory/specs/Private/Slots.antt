@@ -1,8 +1,8 @@
 -- Slots, made beforehand for the reservations of some peers, by what private contracts see of them.
-use Rattle.std.specs.Prelude.{◌≡◌, Bool, true, List, Option, is_some, IfSome}
-use Rattle.std.specs.List.{list_any, filter_map}
+use Rattle.std.specs.Prelude.{◌≡◌, Bool, true, List, [], ◌∷◌, Option, is_some, IfSome}
+use Rattle.std.specs.List.{filter_map}
 use Rattle.std.specs.List.Sorted.{IsStrictlySortedBy}
-use Rattle.std.specs.Option.{option_flatten, IsSomeAnd}
+use Rattle.std.specs.Option.{option_flatten}
 use Rattle.std.specs.Map.{lookup, keys_of}
 use Rattle.std.specs.declared.cmp.Ordering.{Ordering}
 use Rattle.std.specs.BTreeMap.{is_at}
@@ -12,6 +12,11 @@ use Rattle.p2p_tracker.specs.Seen.{key_of}
 -- what is held in slots
 abbrev pub contents : {C X : Type 0} → List (C × Option X) → List X
 contents slots = filter_map (λ slot. slot.1) slots
+
+-- the first is not empty, if there is one
+abbrev pub begins_full : {C X : Type 0} → List (C × Option X) → Bool
+begins_full [] = true
+begins_full (slot ∷ slots) = is_some slot.1
 
 module _ {C S : Type 0} (cmp : C → C → Ordering) where
   -- the slot of q, if there is one
@@ -30,13 +35,7 @@ module _ {C S : Type 0} (cmp : C → C → Ordering) where
     pub ordered : IsStrictlySortedBy cmp (keys_of slots)
     pub keyed : (q : C) → IfSome (slot_of slots q) (λ slot. IfSome slot (λ m. key_of m ≡ q))
 
-  -- in the order of their peers, each with a reservation of its peer
-  pub record AreFull (slots : List (C × Option (Metadata C S))) : Type 0 where
-    pub ordered : IsStrictlySortedBy cmp (keys_of slots)
-    pub filled : (q : C) →
-        IfSome (slot_of slots q) (λ slot. IsSomeAnd slot (λ m. key_of m ≡ q))
-
-  -- each slot is that of one of these peers
-  abbrev pub AreListed : List C → List (C × Option (Metadata C S)) → Type 0
-  AreListed peers slots =
-      (q : C) → has_slot slots q ≡ true → list_any (is_at (cmp q)) peers ≡ true
+  -- .. where there are any, the first isn't empty
+  pub record BeginFull (slots : List (C × Option (Metadata C S))) : Type 0 where
+    pub slots_are : AreSlots slots
+    pub first : begins_full slots ≡ true

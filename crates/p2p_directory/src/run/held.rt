@@ -1,14 +1,16 @@
 //! The reservations that a run leaves.
 
-ghost use Rattle.std.specs.Prelude.{◌≡◌, ◌+◌, [], true, None, IfNone, IfSome};
+ghost use Rattle.std.specs.Prelude.{◌≡◌, ◌+◌, [], true, not, None, IfNone, IfSome};
 ghost use Rattle.std.specs.Prelude.{length, map, is_some, slice_get, if◌then◌else◌};
 ghost use Rattle.std.specs.Option.{option_map};
 ghost use Rattle.std.specs.BTreeMap.{is_at};
 ghost use Rattle.std.specs.List.Sorted.{IsStrictlySortedBy};
 ghost use Rattle.p2p_tracker.specs.Seen.{key_of};
 ghost use Rattle.p2p_directory.specs.Held.{held_of, all_but, AreHeld, ReleasesAll};
-ghost use Rattle.p2p_directory.specs.Private.Slots.{held_in, AreFull};
+ghost use Rattle.p2p_directory.specs.Private.Slots.{contents, begins_full, held_in};
+ghost use Rattle.p2p_directory.specs.Private.Slots.{AreSlots, BeginFull};
 
+use crate::run::slots::spend_empty;
 use p2p_discovery::codec::PublicKey;
 use p2p_tracker::directory::{Directory, Reservation};
 use std::collections::BTreeMap;
@@ -17,7 +19,7 @@ use std::marker::Model;
 /// The reservations that are held, in ascending order of their peers. A contract sees the list of
 /// what they are for. It must be spent, by [`Held::release_all`] or [`Held::close`].
 pub struct Held<C: PublicKey> {
-    // Each has its value.
+    // Those of no value are of peers of whom none is held. The first has one.
     reservations: BTreeMap<C, Option<Reservation<C>>>,
 }
 
@@ -27,19 +29,20 @@ impl<C: PublicKey> Model for Held<C> {
 
     ghost Value = { List (Metadata C C.Signature) };
 
-    ghost use Rattle.p2p_directory.specs.Private.Slots.{contents, AreFull};
+    ghost use Rattle.p2p_directory.specs.Private.Slots.{contents, BeginFull};
 
     ghost view = { λ h. contents h.reservations.entries };
 
-    ghost invariant = { λ h. AreFull C.cmp h.reservations.entries };
+    ghost invariant = { λ h. BeginFull C.cmp h.reservations.entries };
 }
 
 impl<C: PublicKey> Held<C> {
-    // These reservations.
-    pub(crate) fn new(reservations: BTreeMap<C, Option<Reservation<C>>>) -> Self
-        requires { AreFull C.cmp reservations.entries }
+    // What is held in these slots.
+    pub(crate) fn new(mut reservations: BTreeMap<C, Option<Reservation<C>>>) -> Self
+        requires { AreSlots C.cmp reservations.entries }
         ensures { (q : C) → held_of C.cmp result q ≡ held_in C.cmp reservations.entries q }
     {
+        drop_empty_first(&mut reservations);
         Held { reservations }
     }
 
@@ -66,7 +69,8 @@ impl<C: PublicKey> Held<C> {
     ///
     /// # Cost
     ///
-    /// Logarithmic in what is held.
+    /// Logarithmic in what is held, and after a run in how many peers its commands dialled or
+    /// listened for; for each of these of whom none is held one step more, once in all.
     pub fn take(&mut self, peer: &C) -> Option<Reservation<C>>
         ensures taken { result ≡ held_of C.cmp self.old peer.now }
         ensures peer { IfSome result (λ metadata. key_of metadata ≡ peer.now) }
@@ -76,7 +80,9 @@ impl<C: PublicKey> Held<C> {
         ensures length { IfSome result (λ _. length self.old ≡ length self.new + 1) }
         ensures absent { IfNone result (self.new ≡ self.old) }
     {
-        self.reservations.remove(peer).flatten()
+        let taken = self.reservations.remove(peer).flatten();
+        drop_empty_first(&mut self.reservations);
+        taken
     }
 
     /// Releases all that is held, in the directory that granted it. Takes no memory.
@@ -88,18 +94,20 @@ impl<C: PublicKey> Held<C> {
     ///
     /// # Cost
     ///
-    /// For each reservation that is held a [`Directory::release`], and two searches in what is held.
+    /// One pass over what is held, with a [`Directory::release`] of each, and after a run over the
+    /// other peers that its commands dialled or listened for.
     pub fn release_all(self, directory: &mut Directory<C>)
         requires { AreHeld C.cmp directory.old (held_of C.cmp self) }
         ensures { ReleasesAll C.cmp self directory.old directory.new }
     {
-        let mut held = self;
-        while let Some(peer) = held.first() {
-            if let Some(reservation) = held.take(&peer) {
-                directory.release(reservation);
+        let Held { mut reservations } = self;
+        while let Some((_, slot)) = reservations.pop_first() {
+            match slot {
+                Some(reservation) => directory.release(reservation),
+                None => {}
             }
         }
-        held.close();
+        reservations.destroy_empty();
     }
 
     /// Ends it. Takes no memory. What is held goes first, by [`Held::release_all`].
@@ -112,5 +120,28 @@ impl<C: PublicKey> Held<C> {
     {
         let Held { reservations } = self;
         reservations.destroy_empty();
+    }
+}
+
+// Takes out the first slots, as long as they are empty.
+fn drop_empty_first<C: PublicKey>(slots: &mut BTreeMap<C, Option<Reservation<C>>>)
+    requires { AreSlots C.cmp slots.old.entries }
+    ensures full { BeginFull C.cmp slots.new.entries }
+    ensures same { contents slots.new.entries ≡ contents slots.old.entries }
+{
+    while begins_empty(slots) {
+        if let Some((_, slot)) = slots.pop_first() {
+            spend_empty(slot);
+        }
+    }
+}
+
+// Whether there is a first slot, and it is empty.
+fn begins_empty<C: PublicKey>(slots: &BTreeMap<C, Option<Reservation<C>>>) -> bool
+    ensures { result ≡ not (begins_full slots.now.entries) }
+{
+    match slots.first_key_value() {
+        Some((_, slot)) => slot.is_none(),
+        None => false,
     }
 }

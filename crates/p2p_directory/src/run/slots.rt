@@ -2,17 +2,16 @@
 //! command, that of a node's command before it.
 
 ghost use Rattle.std.specs.Prelude.{◌≡◌, [], false, true, ◌||◌, if◌then◌else◌};
-ghost use Rattle.std.specs.Prelude.{IfSome, IfNone, OnOk, OnErr, None, Some, is_some, option_map};
+ghost use Rattle.std.specs.Prelude.{IfSome, IfNone, OnOk, OnErr, None, Some, option_map};
 ghost use Rattle.std.specs.BTreeMap.{is_at};
 ghost use Rattle.p2p_tracker.specs.Seen.{key_of};
 ghost use Rattle.p2p_directory.specs.Held.{held_of};
-ghost use Rattle.p2p_directory.specs.Private.Slots.{slot_of, has_slot, held_in, AreSlots};
+ghost use Rattle.p2p_directory.specs.Private.Slots.{has_slot, held_in, AreSlots};
 
 use crate::run::held::Held;
 use p2p_discovery::codec::PublicKey;
 use p2p_tracker::directory::{Metadata, Reservation};
 use std::alloc::{AllocError, AllocFailed, Global};
-use std::cmp::Ordering;
 use std::collections::BTreeMap;
 use std::marker::Model;
 
@@ -21,8 +20,6 @@ use std::marker::Model;
 /// [`Slots::close`].
 pub struct Slots<C: PublicKey> {
     reservations: BTreeMap<C, Option<Reservation<C>>>,
-    // The peers of all slots.
-    peers: Vec<C>,
 }
 
 impl<C: PublicKey> Model for Slots<C> {
@@ -31,12 +28,11 @@ impl<C: PublicKey> Model for Slots<C> {
 
     ghost Value = { List (C × Option (Metadata C C.Signature)) };
 
-    ghost use Rattle.p2p_directory.specs.Private.Slots.{AreSlots, AreListed};
+    ghost use Rattle.p2p_directory.specs.Private.Slots.{AreSlots};
 
     ghost view = { λ s. s.reservations.entries };
 
-    ghost invariant = { λ s. AreSlots C.cmp s.reservations.entries
-        × AreListed C.cmp s.peers.items s.reservations.entries };
+    ghost invariant = { λ s. AreSlots C.cmp s.reservations.entries };
 }
 
 impl<C: PublicKey> Slots<C> {
@@ -46,7 +42,6 @@ impl<C: PublicKey> Slots<C> {
     {
         Slots {
             reservations: BTreeMap::new(alloc),
-            peers: Vec::new(alloc),
         }
     }
 
@@ -60,10 +55,30 @@ impl<C: PublicKey> Slots<C> {
         if self.reservations.contains_key(&peer) {
             return Ok(());
         }
-        self.peers.push(peer)?;
         match self.reservations.insert(peer, None) {
             Ok(None) => Ok(()),
             Ok(Some(_slot)) => unreachable!(),
+            Err(AllocFailed { value: (_, slot) }) => {
+                spend_empty(slot);
+                Err(AllocError)
+            }
+        }
+    }
+
+    /// Makes an empty slot for the peer, where it has none, while nothing is held: one search.
+    pub fn make_first(&mut self, peer: C) -> Result<(), AllocError>
+        requires { (q : C) → held_in C.cmp self.old q ≡ None }
+        ensures err { OnErr result (self.new ≡ self.old) }
+        ensures slots { OnOk result ((q : C) →
+            has_slot C.cmp self.new q ≡ (is_at (C.cmp peer) q || has_slot C.cmp self.old q)) }
+        ensures held { (q : C) → held_in C.cmp self.new q ≡ held_in C.cmp self.old q }
+    {
+        match self.reservations.insert(peer, None) {
+            Ok(Some(slot)) => {
+                spend_empty(slot);
+                Ok(())
+            }
+            Ok(None) => Ok(()),
             Err(AllocFailed { value: (_, slot) }) => {
                 spend_empty(slot);
                 Err(AllocError)
@@ -97,13 +112,10 @@ impl<C: PublicKey> Slots<C> {
             ≡ (if is_at (C.cmp peer.now) q then None else held_in C.cmp self.old q) }
         ensures none { IfNone result (self.new ≡ self.old) }
     {
-        if !self.holds(peer) {
+        let Some(slot) = self.reservations.get_mut(peer) else {
             return None;
-        }
-        match self.reservations.get_mut(peer) {
-            Some(slot) => slot.take(),
-            None => None,
-        }
+        };
+        slot.take()
     }
 
     /// Whom the reservation of the peer is for, if one is held. Takes no memory.
@@ -116,51 +128,31 @@ impl<C: PublicKey> Slots<C> {
         }
     }
 
-    // Whether a reservation of the peer is held.
-    fn holds(&self, peer: &C) -> bool
-        ensures { result ≡ is_some (held_in C.cmp self.now peer.now) }
-    {
-        match self.reservations.get(peer) {
-            Some(slot) => slot.is_some(),
-            None => false,
-        }
-    }
-
     /// Takes the slot of the peer out, where it is empty. Takes no memory.
     ///
     /// # Cost
     ///
-    /// One pass over the peers of the slots.
+    /// One search among the slots, and one more where it goes.
     pub fn drop_empty(&mut self, peer: &C)
         ensures dropped { held_in C.cmp self.old peer.now ≡ None →
             has_slot C.cmp self.new peer.now ≡ false }
         ensures held { (q : C) → held_in C.cmp self.new q ≡ held_in C.cmp self.old q }
     {
         remove_empty(&mut self.reservations, peer);
-        if !self.reservations.contains_key(peer) {
-            self.peers
-                .retain(|listed| listed.cmp(peer) != Ordering::Equal);
-        }
     }
 
     // For the proof: the slots are in order, and each is of its peer.
     pub fn in_order(&self)
         ensures { AreSlots C.cmp self.now }
     {
-        let _count = self.peers.len();
+        let _count = self.reservations.len();
     }
 
-    /// What is held. The empty slots go. Takes no memory.
+    /// What is held. Takes no memory.
     pub fn into_held(self) -> Held<C>
         ensures { (q : C) → held_of C.cmp result q ≡ held_in C.cmp self q }
     {
-        let Slots {
-            mut reservations,
-            peers,
-        } = self;
-        for peer in &peers {
-            remove_empty(&mut reservations, peer);
-        }
+        let Slots { reservations } = self;
         Held::new(reservations)
     }
 
@@ -178,12 +170,8 @@ fn remove_empty<C: PublicKey>(slots: &mut BTreeMap<C, Option<Reservation<C>>>, p
     ensures slots { AreSlots C.cmp slots.new.entries }
     ensures held { (q : C) →
         held_in C.cmp slots.new.entries q ≡ held_in C.cmp slots.old.entries q }
-    ensures fewer { (q : C) →
-        has_slot C.cmp slots.new.entries q ≡ true → has_slot C.cmp slots.old.entries q ≡ true }
     ensures dropped { held_in C.cmp slots.old.entries peer.now ≡ None →
         has_slot C.cmp slots.new.entries peer.now ≡ false }
-    ensures empty { (q : C) → slot_of C.cmp slots.new.entries q ≡ Some None →
-        (slot_of C.cmp slots.old.entries q ≡ Some None) × (is_at (C.cmp q) peer.now ≡ false) }
 {
     if let Some(None) = slots.get(peer) {
         if let Some(slot) = slots.remove(peer) {
@@ -193,7 +181,7 @@ fn remove_empty<C: PublicKey>(slots: &mut BTreeMap<C, Option<Reservation<C>>>, p
 }
 
 // What is in no slot needs no release.
-fn spend_empty<C: PublicKey>(slot: Option<Reservation<C>>)
+pub(super) fn spend_empty<C: PublicKey>(slot: Option<Reservation<C>>)
     requires { slot ≡ None }
 {
     match slot {

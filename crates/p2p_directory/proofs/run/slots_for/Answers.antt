@@ -13,15 +13,15 @@ made (Result.Err v) e h = absurd (cc)
 pub loop-command-preserved : goal.loop-command-preserved
 loop-command-preserved g c =
     let old = c.loop-command.slots in
-    let new = c.make_slot.new.slots in
+    let new = c.make_first.new.slots in
     let no_error = sym c.is_err.ensures.value ∙ c.if-is_err.false in
     record {
       room = λ k d lt. below_more (λ k. has_slot_for g.C.Ord.cmp new (get_or c.args.commands.now k d) ≡ true) c.loop-command.command-index
           (λ k lt. room_grows g.C.Ord.cmp old new (get_or c.args.commands.now k d)
-          (made c.make_slot.result no_error c.make_slot.ensures.slots) (c.loop-command.invariant.room k d lt))
+          (made c.make_first.result no_error c.make_first.ensures.slots) (c.loop-command.invariant.room k d lt))
           (subst (λ x. has_slot_for g.C.Ord.cmp new x ≡ true)
           (c.command-item.is ∙ get_or_default c.args.commands.now c.loop-command.command-index
           c.command-item.result d c.loop-command-test.true)
-          (made c.make_slot.result no_error c.make_slot.ensures.room)) k lt;
-      empty = λ q. c.make_slot.ensures.held q ∙ c.loop-command.invariant.empty q;
+          (made c.make_first.result no_error c.make_first.ensures.room)) k lt;
+      empty = λ q. c.make_first.ensures.held q ∙ c.loop-command.invariant.empty q;
     }

@@ -1,7 +1,7 @@
 use Rattle.std.proofs.Common.{◌≡◌, List, [], ◌∷◌, ◌++◌, false, length, Result, sym, ap, subst, ◌∙◌}
-use Rattle.std.proofs.Common.{refl}
+use Rattle.std.proofs.Common.{refl, ℕ, ◌≤◌, take, drop}
 use Rattle.std.proofs.Common.{arith}
-use Rattle.std.proofs.lemmas.List.{length_push, with_items_is}
+use Rattle.std.proofs.lemmas.List.{length-take, length_push, with_items_is}
 use Rattle.std.specs.Prelude.{OnOk, slice_index_or}
 use Rattle.std.specs.List.{All}
 use Rattle.std.specs.Result.{is_err}
@@ -383,3 +383,15 @@ returns-clause-order g c = λ other.
     OrderRuns.reordered (node n).directory (slice_index_or setups n other).cfg.max_sets.ok
     (calls_at wire size node done n) later before first some more others is one have)
     [] tt cs rs answers
+
+-- what is written back over all of a list has no more
+room_left : {A : Type 0} (len cap : ℕ) (new old : List A) → len ≡ length old → length old ≤ cap →
+    length (take len (new ++ drop (length new) old)) ≤ cap
+room_left len cap new old is room = omega (arith, length-take len (new ++ drop (length new) old), is, room)
+
+pub invariant_of-finish : goal.invariant_of-finish
+invariant_of-finish g c = (
+  c.ends.invariant.0,
+  room_left c.ends.inside.ends.len _ c.make_room.new.ends
+      c.ends.inside.ends.items c.ends.inside.ends.ok.0 c.ends.invariant.1,
+)

@@ -3,7 +3,8 @@ use Rattle.std.specs.Prelude.{nat_lt}
 use Rattle.std.proofs.lemmas.Bool.{ltb-false}
 use Rattle.p2p_discovery.specs.declared.discovery.Payload.TheVariants as said
 use Rattle.p2p_discovery.specs.Reading.{whole}
-use Rattle.p2p_discovery.specs.Payload.{payload_at}
+use Rattle.std.proofs.lemmas.Result.{IfOk-weaker}
+use Rattle.p2p_discovery.specs.Payload.{IsAdmitted, payload_at}
 use Rattle.p2p_directory.proofs.Nodes.ReadBack.{read_back, too_many_bits, too_many_infos, is_admitted, is_above}
 use Rattle.p2p_directory.proofs.node.endpoint.Endpoint.read.Goals as goal
 
@@ -41,3 +42,9 @@ returns-clause-infos g c = λ infos fit spelled. rw (← c.self.view_is) (
     c.self.inside.payload infos
     fit.count (is_above c.self.inside.payload.max_peers (length infos) above))
     c.decode_cfg.ensures.exact)
+
+pub returns-clause-admitted : goal.returns-clause-admitted
+returns-clause-admitted g c = rw (← c.self.view_is)
+    (IfOk-weaker c.decode_cfg.result _
+    (IsAdmitted g.C.FixedBytes.IsValue g.C.Signature.FixedBytes.IsValue c.self.inside.payload)
+    (λ p h. h.1) c.decode_cfg.ensures.found)

@@ -53,3 +53,9 @@ returns-else-asker-replier g c =
     (λ e. first_of_back all front back parts.value c.args.asker a e parts.front_len some)
     (λ e. of_front all front back parts.value c.args.replier b e there)
     c.exchange_with-else-asker-replier.ensures.seen c.exchange_with-else-asker-replier.ensures.slots
+
+pub bounds-front-replier : goal.bounds-front-replier
+bounds-front-replier g c =
+    let parts = c.split_at_mut-front-else-asker-replier.ensures in
+    let apart = eqb-false c.args.asker c.args.replier c.requires.differ in
+    omega (arith, parts.front_len, c.if-asker-replier.false, apart)

@@ -1,6 +1,4 @@
-use Rattle.std.proofs.Common.{sym, subst}
-use Rattle.std.specs.List.Sorted.{IsStrictlySortedBy}
-use Rattle.p2p_directory.proofs.Reservations.Slots.{least_is, peers_are, has_one}
+use Rattle.p2p_directory.proofs.Reservations.Slots.{least_is, contents_ascend, has_one}
 use Rattle.p2p_directory.proofs.run.held.Held.first.Goals as goal
 
 pub returns-in-Some-clause-least : goal.returns-in-Some-clause-least
@@ -12,12 +10,11 @@ returns-in-Some-clause-least g c =
 pub returns-in-Some-clause-ascending : goal.returns-in-Some-clause-ascending
 returns-in-Some-clause-ascending g c =
     rw (← c.self.view_is)
-    (subst (IsStrictlySortedBy g.C.Ord.cmp)
-    (sym (peers_are g.met.C.Ord.total g.met.C.PublicKey.exact c.self.inside.reservations.entries
-    c.self.invariant)) c.self.invariant.ordered)
+    (contents_ascend g.met.C.Ord.total g.met.C.PublicKey.exact c.self.inside.reservations.entries
+    c.self.invariant.slots_are)
 
 pub returns-in-Some-clause-held : goal.returns-in-Some-clause-held
 returns-in-Some-clause-held g c =
     rw (← c.self.view_is)
     (has_one g.met.C.Ord.total g.met.C.PublicKey.exact c.self.inside.reservations.entries c.in-Some.peer.now
-    c.in-Some.field-0-1.now c.self.invariant c.in-Some.ensures.value)
+    c.in-Some.field-0-1.now c.self.invariant c.in-Some.ensures.first c.in-Some.ensures.value)

@@ -1,42 +1,71 @@
-use Rattle.std.proofs.Common.{ap, sym, ◌∙◌}
+use Rattle.std.proofs.Common.{◌≡◌, Some, refl, ap, sym, ◌∙◌}
+use Rattle.std.specs.Prelude.{is_some}
+use Rattle.std.specs.Option.{option_flatten}
 use Rattle.p2p_tracker.specs.Seen.{record_of}
+use Rattle.p2p_tracker.proofs.SetsAndRecords.Ends.{none_first}
 use Rattle.p2p_directory.specs.Held.{held_of, after_release}
-use Rattle.p2p_directory.proofs.Reservations.Holding.{held_by_release, held_record, given_back}
+use Rattle.p2p_directory.specs.Private.Slots.{held_in}
+use Rattle.p2p_directory.proofs.Reservations.Holding.{held_by_release, given_back}
+use Rattle.p2p_directory.proofs.Reservations.Slots.{held_is, held_without, slots_without, key_is}
 use Rattle.p2p_directory.proofs.run.held.Held.release_all.Goals as goal
 
-pub loop-peer-preserved-in-Some-take : goal.loop-peer-preserved-in-Some-take
-loop-peer-preserved-in-Some-take g c =
+pub loop-slot-init : goal.loop-slot-init
+loop-slot-init g c =
     let cmp = g.C.Ord.cmp in
-    let d = c.loop-peer.directory in
-    let d2 = c.release.new.self in
-    let key = c.in-Some-take.ensures.peer in
-    let change = rw key at c.release.ensures.released in
     record {
-      agree = held_by_release cmp d d2 c.in-Some.peer c.in-Some-take.reservation (held_of cmp c.loop-peer.held)
-          (held_of cmp c.take.new.self) c.loop-peer.invariant.agree change c.in-Some-take.ensures.left;
-      config = change.config ∙ c.loop-peer.invariant.config;
-      sets = change.sets ∙ c.loop-peer.invariant.sets;
-      blocks = change.blocks ∙ c.loop-peer.invariant.blocks;
-      cooldowns = change.cooldowns ∙ c.loop-peer.invariant.cooldowns;
-      records = λ q. given_back cmp g.met.C.PublicKey.exact d d2 c.in-Some.peer c.in-Some-take.reservation
-          (held_of cmp c.loop-peer.held) (held_of cmp c.take.new.self) (sym c.in-Some-take.ensures.taken) change
-          c.in-Some-take.ensures.left q
-          ∙ c.loop-peer.invariant.records q;
+      slots = c.self.invariant.slots_are;
+      agree = λ q. ap is_some (sym (held_is g.met.C.Ord.total g.met.C.PublicKey.exact
+          c.self.inside.reservations.entries c.self.invariant.slots_are q)
+          ∙ ap (λ ms. held_of cmp ms q) c.self.view_is) ∙ c.requires q;
+      config = refl;
+      sets = refl;
+      blocks = refl;
+      cooldowns = refl;
+      records = λ q. refl;
     }
 
-pub release-requires : goal.release-requires
-release-requires g c =
-    held_record g.C.Ord.cmp c.loop-peer.directory (held_of g.C.Ord.cmp c.loop-peer.held) c.in-Some.peer
-    c.in-Some-take.reservation c.loop-peer.invariant.agree (sym c.in-Some-take.ensures.taken)
-    c.in-Some-take.ensures.peer
+pub loop-slot-preserved-in-Some-slot : goal.loop-slot-preserved-in-Some-slot
+loop-slot-preserved-in-Some-slot g c =
+    let cmp = g.C.Ord.cmp in
+    let total = g.met.C.Ord.total in
+    let exact = g.met.C.PublicKey.exact in
+    let d = c.loop-slot.directory in
+    let d2 = c.release.new.self in
+    let old = c.loop-slot.reservations.entries in
+    let new = c.pop_first.new.self.entries in
+    let peer = c.in-Some.field-0-0 in
+    let m = c.in-Some-slot.reservation in
+    let at = c.in-Some.ensures.value ∙ ap Some c.in-Some-slot.is in
+    let change = rw (key_is total exact old peer m c.loop-slot.invariant.slots at) at c.release.ensures.released in
+    let left = held_without total exact old new peer c.in-Some.ensures.updates.0 in
+    record {
+      slots = slots_without total exact old new peer c.loop-slot.invariant.slots c.pop_first.ensures.ordered
+          c.in-Some.ensures.updates.0;
+      agree = held_by_release cmp d d2 peer m (held_in cmp old) (held_in cmp new) c.loop-slot.invariant.agree change left;
+      config = change.config ∙ c.loop-slot.invariant.config;
+      sets = change.sets ∙ c.loop-slot.invariant.sets;
+      blocks = change.blocks ∙ c.loop-slot.invariant.blocks;
+      cooldowns = change.cooldowns ∙ c.loop-slot.invariant.cooldowns;
+      records = λ q. given_back cmp exact d d2 peer m (held_in cmp old) (held_in cmp new) (ap option_flatten at) change
+          left q
+          ∙ c.loop-slot.invariant.records q;
+    }
 
 pub returns : goal.returns
-returns g c = record {
-  config = c.loop-peer.invariant.config;
-  sets = c.loop-peer.invariant.sets;
-  blocks = c.loop-peer.invariant.blocks;
-  cooldowns = c.loop-peer.invariant.cooldowns;
-  records = λ q.
-      ap (λ held. after_release (held_of g.C.Ord.cmp held q) (record_of g.C.Ord.cmp c.loop-peer.directory q)) (sym c.in_default.ensures.none)
-      ∙ c.loop-peer.invariant.records q;
-}
+returns g c =
+    let cmp = g.C.Ord.cmp in
+    let slots = c.self.inside.reservations.entries in
+    let none = none_first c.pop_first.result c.loop-slot.reservations.entries c.in_default.is
+    c.pop_first.ensures.variant in
+    record {
+      config = c.loop-slot.invariant.config;
+      sets = c.loop-slot.invariant.sets;
+      blocks = c.loop-slot.invariant.blocks;
+      cooldowns = c.loop-slot.invariant.cooldowns;
+      records = λ q.
+          ap (λ es. after_release (held_in cmp es q) (record_of cmp c.loop-slot.directory q)) (sym none)
+          ∙ c.loop-slot.invariant.records q
+          ∙ ap (λ o. after_release o (record_of cmp c.args.directory.now q))
+          (sym (held_is g.met.C.Ord.total g.met.C.PublicKey.exact slots c.self.invariant.slots_are q)
+          ∙ ap (λ ms. held_of cmp ms q) c.self.view_is);
+    }
