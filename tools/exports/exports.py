@@ -197,10 +197,7 @@ def walk(names, method, params, result, word):
 
 IMPORTS = """-- The value at the pointer is lent for the call of `{method}`, and comes back. Written by tools/exports.py.
 use Rattle.{crate}.proofs.Steps.{{{steps}}}
-use Rattle.std.specs.contracts.alloc.Global.{{the_row as A}}
-use Rattle.std.proofs.alloc.Global.TheLaws as alloc_laws
-use Rattle.std.specs.contracts.impls.GlobalAllocator.TheImpl as I
-use Rattle.{lib}.specs.declared.{type}.{{{type}}}
+{alloc}use Rattle.{lib}.specs.declared.{type}.{{{type}}}
 use Rattle.{lib}.specs.contracts.{type}.{{the_row as R}}
 use Rattle.{lib}.specs.{words}.{{{word}}}
 use Rattle.{lib}.specs.contracts.{type}.{method} as g
@@ -209,6 +206,11 @@ use Rattle.{crate}.specs.contracts.{prefix}_{method} as f
 use Rattle.{crate}.proofs.{prefix}_{method}.Statement.{{statement}}
 use Rattle.{crate}.proofs.{prefix}_{method}.Code as code
 
+"""
+
+ALLOC = """use Rattle.std.specs.contracts.alloc.Global.{the_row as A}
+use Rattle.std.proofs.alloc.Global.TheLaws as alloc_laws
+use Rattle.std.specs.contracts.impls.GlobalAllocator.TheImpl as I
 """
 
 STEPS = """◌≡◌ ℕ Bool List [] ◌∷◌ ◌++◌ refl sym ap ◌∙◌ w8 w16 w32 w64 MutBor proved_at handle_tells full_share id⊢ sep sem ftrue flft flent
@@ -318,7 +320,8 @@ def main():
     for method, params, result, word, _ in exports:
         proof = walk(names, method, params, result, word)
         cited = [s for s in STEPS if re.search(r'(?<![\w◌-])' + re.escape(s.strip('◌')) + r'(?![\w-])' if re.fullmatch(r'[\w-]+', s) else re.escape(s.strip('◌')), proof)]
-        put(f'{crate}/proofs/{prefix}_{method}/Proof.antt', IMPORTS.format(method=method, word=word, steps=', '.join(cited), **names) + proof)
+        put(f'{crate}/proofs/{prefix}_{method}/Proof.antt', IMPORTS.format(method=method, word=word, steps=', '.join(cited),
+            alloc=ALLOC if any(p.kind == 'alloc' for p in params) else '', **names) + proof)
     declare(put, names, exports)
 
 

@@ -1,8 +1,5 @@
 -- The value at the pointer is lent for the call of `acceptable`, and comes back. Written by tools/exports.py.
 use Rattle.p2p_session_c.proofs.Steps.{◌≡◌, ℕ, List, [], ◌∷◌, ◌++◌, refl, sym, ap, ◌∙◌, w32, w64, MutBor, proved_at, full_share, id⊢, sep, sem, ftrue, flft, flent, named, Val, vptr, fact, tables, ‵, raw, prop, at_ret, ◌⊛◌, some, later, ◌$◌, ◌∵◌, !, qed, done, drop, move, keep, use1, use2, use3, split, join, fsplit, pick, await, rewrite, regoal, suffices, frame, group, show, enter, of_opd, addr, stop, from, first, blocks, exec, no_more, and_then, returns, env, alloc_all, pass_all, free_all, look_at, get, through, sets, sets_last, lands_as, u8, u32, u64, yes, shows, Is, uint_Lawful, uint_vals, uint_Tells, Ptr, RawPtr, block_ptr, ptr_val, lies_at, in_a_block, rawptr_Tells, MutRef, ShrSlice, shr_slice_vals, shr_slice_Tells, SliceRefOf, plain, types_at, owns, nothing, heard, peeks, calls_at, lasts, Lasts, triple_of, Stays, walk_of, says, stay_dropped, Goes-dropped, ends_at, framed, lft_new, lft_end, lends_ref, ref_back, Body, mem, WpFn}
-use Rattle.std.specs.contracts.alloc.Global.{the_row as A}
-use Rattle.std.proofs.alloc.Global.TheLaws as alloc_laws
-use Rattle.std.specs.contracts.impls.GlobalAllocator.TheImpl as I
 use Rattle.p2p_session.specs.declared.Session.{Session}
 use Rattle.p2p_session.specs.contracts.Session.{the_row as R}
 use Rattle.p2p_session.specs.Sessions.{TellsAcceptable}
