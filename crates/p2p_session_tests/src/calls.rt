@@ -22,9 +22,15 @@ fn a_peer_is_torn_down(rt: HostRuntime) -> Result<(), Fail> {
     assert_eq!(rt; init(alloc, &mut session, &own), 1);
     assert_eq!(rt; session.track(alloc, 0, &key(1), b"", &mut room), 0);
     assert_eq!(rt; session.listen(&key(1), 100, 0, 0, 0), 1);
-    assert_eq!(rt; session.track(alloc, 0, &key(2), b"", &mut room), Refusal::None.number());
+    assert_eq!(rt;
+        session.track(alloc, 0, &key(2), b"", &mut room),
+        Refusal::None.number()
+    );
     assert_eq!(rt; session.track_room(), KEY_SIZE as u64);
-    assert_eq!(rt; session.track(alloc, 1, &key(2), b"", &mut room), KEY_SIZE as u64);
+    assert_eq!(rt;
+        session.track(alloc, 1, &key(2), b"", &mut room),
+        KEY_SIZE as u64
+    );
     assert_eq!(rt; front(&rt, &room, 32), key(1).as_slice());
     assert_eq!(rt; session.status(&key(1)), 1);
     assert_eq!(rt; session.release(&key(1)), 1);
@@ -54,10 +60,19 @@ fn what_is_wanted_is_told_as_bits(rt: HostRuntime) -> Result<(), Fail> {
     assert_eq!(rt; front(&rt, &room, 1), [0].as_slice());
     assert_eq!(rt; session.listen(&key(1), 100, 0, 0, 0), 1);
     assert_eq!(rt; session.connect(&key(1), false), 1);
-    assert_eq!(rt; session.infos(alloc, &[5, 2, 0], 100, 0, &mut room), told.len() as u64);
+    assert_eq!(rt;
+        session.infos(alloc, &[5, 2, 0], 100, 0, &mut room),
+        told.len() as u64
+    );
     assert_eq!(rt; front(&rt, &room, told.len() as u64), told.as_slice());
-    assert_eq!(rt; session.info(alloc, &key(1), &mut room), told.len() as u64 - 1);
-    assert_eq!(rt; session.info(alloc, &key(2), &mut room), Refusal::None.number());
+    assert_eq!(rt;
+        session.info(alloc, &key(1), &mut room),
+        told.len() as u64 - 1
+    );
+    assert_eq!(rt;
+        session.info(alloc, &key(2), &mut room),
+        Refusal::None.number()
+    );
     session.end(alloc);
     Ok(())
 }
@@ -72,7 +87,10 @@ fn sets_are_told(rt: HostRuntime) -> Result<(), Fail> {
     assert_eq!(rt; init(alloc, &mut session, &own), 1);
     assert_eq!(rt; session.latest_update(&mut room), Refusal::None.number());
     assert_eq!(rt; session.latest_set_index(&mut room), Refusal::None.number());
-    assert_eq!(rt; session.track(alloc, 5, front(&rt, &told, 64), &key(3), &mut room), 0);
+    assert_eq!(rt;
+        session.track(alloc, 5, front(&rt, &told, 64), &key(3), &mut room),
+        0
+    );
     assert_eq!(rt; session.get_peer_set(5, &mut room), 104);
     assert_eq!(rt; front(&rt, &room, 8), 2u64.to_be_bytes().as_slice());
     assert_eq!(rt; room.get(8..104), Some(told.as_slice()));
@@ -107,11 +125,17 @@ fn blocks_and_dials_are_told(rt: HostRuntime) -> Result<(), Fail> {
     assert_eq!(rt; session.eligible(&key(2), 100, 5), 0);
     assert_eq!(rt; session.acceptable(&key(1), 100, 5), 1);
     assert_eq!(rt; session.next_unblock(&mut room), 12);
-    assert_eq!(rt; front(&rt, &room, 12), [0, 0, 0, 0, 0, 0, 0, 160, 0, 0, 0, 5].as_slice());
+    assert_eq!(rt;
+        front(&rt, &room, 12),
+        [0, 0, 0, 0, 0, 0, 0, 160, 0, 0, 0, 5].as_slice()
+    );
     assert_eq!(rt; session.blocked_peers(100, 5, &mut room), KEY_SIZE as u64);
     assert_eq!(rt; front(&rt, &room, 32), key(2).as_slice());
     assert_eq!(rt; session.dialable(100, 5, &mut room), 45);
-    assert_eq!(rt; front(&rt, &room, 13), [1, 0, 0, 0, 0, 0, 0, 0, 160, 0, 0, 0, 5].as_slice());
+    assert_eq!(rt;
+        front(&rt, &room, 13),
+        [1, 0, 0, 0, 0, 0, 0, 0, 160, 0, 0, 0, 5].as_slice()
+    );
     assert_eq!(rt; room.get(13..45), Some(key(1).as_slice()));
     assert_eq!(rt; session.dial(&key(1), 100, 5, 0, 0), 1);
     assert_eq!(rt; session.dial(&key(1), 100, 5, 0, 0), 0);

@@ -36,22 +36,37 @@ fn an_info_is_told_to_another_session(rt: HostRuntime) -> Result<(), Fail> {
     assert_eq!(rt; replier.check(alloc, &frame, 100, 0, &mut room), 8);
     // The list of the infos behind its prefix, and the byte for a reply.
     let length = told.len() as u64 + 2;
-    assert_eq!(rt; replier.receive(alloc, &frame, 100, 0, b"", &mut reply), length);
+    assert_eq!(rt;
+        replier.receive(alloc, &frame, 100, 0, b"", &mut reply),
+        length
+    );
     assert_eq!(rt; front(&rt, &reply, 2), [2, 3].as_slice());
     let Some(peers) = reply.get(1..length as usize) else {
         panic!(rt; "the reply fits");
     };
     // The number, the length, the key, an ingress of 8 bytes with the timestamp, the signature.
-    assert_eq!(rt; asker.check(alloc, peers, 100, 0, &mut room), 8 + 8 + 32 + 16 + 64);
+    assert_eq!(rt;
+        asker.check(alloc, peers, 100, 0, &mut room),
+        8 + 8 + 32 + 16 + 64
+    );
     assert_eq!(rt; front(&rt, &room, 8), 1u64.to_be_bytes().as_slice());
     assert_eq!(rt; room.get(8..16), Some(16u64.to_be_bytes().as_slice()));
     assert_eq!(rt; room.get(16..48), Some(key(1).as_slice()));
-    assert_eq!(rt; asker.receive(alloc, peers, 100, 0, b"", &mut room), Refusal::BadVerdicts.number());
+    assert_eq!(rt;
+        asker.receive(alloc, peers, 100, 0, b"", &mut room),
+        Refusal::BadVerdicts.number()
+    );
     assert_eq!(rt; asker.receive(alloc, peers, 100, 0, &[0], &mut room), 2);
     assert_eq!(rt; front(&rt, &room, 2), [6, 2].as_slice());
-    assert_eq!(rt; asker.receive(alloc, peers, 100, 0, &[1], &mut [0; 9]), Refusal::NoRoom.number());
+    assert_eq!(rt;
+        asker.receive(alloc, peers, 100, 0, &[1], &mut [0; 9]),
+        Refusal::NoRoom.number()
+    );
     assert_eq!(rt; asker.receive(alloc, peers, 100, 0, &[1], &mut room), 9);
-    assert_eq!(rt; front(&rt, &room, 9), [3, 0, 0, 0, 0, 0, 0, 0, 1].as_slice());
+    assert_eq!(rt;
+        front(&rt, &room, 9),
+        [3, 0, 0, 0, 0, 0, 0, 0, 1].as_slice()
+    );
     assert_eq!(rt; asker.ask(0, &mut frame), 4);
     assert_eq!(rt; frame, [2, 0, 2, 1]);
     asker.end(alloc);
@@ -72,23 +87,44 @@ fn greetings_data_and_faults_are_answered(rt: HostRuntime) -> Result<(), Fail> {
     assert_eq!(rt; init(alloc, &mut session, &own), 1);
     assert_eq!(rt; session.track(alloc, 0, &key(1), b"", &mut []), 0);
     assert_eq!(rt; session.check(alloc, &greeting, 100, 0, &mut room), 128);
-    assert_eq!(rt; session.receive(alloc, &greeting, 100, 0, &[1], &mut room), 1);
+    assert_eq!(rt;
+        session.receive(alloc, &greeting, 100, 0, &[1], &mut room),
+        1
+    );
     assert_eq!(rt; front(&rt, &room, 1), [1].as_slice());
     assert_eq!(rt; session.check(alloc, &itself, 100, 0, &mut room), 8);
     assert_eq!(rt; session.receive(alloc, &itself, 100, 0, &[1], &mut room), 2);
     assert_eq!(rt; front(&rt, &room, 2), [6, 1].as_slice());
-    assert_eq!(rt; session.receive(alloc, b"\x00\x03\x02hi", 100, 0, b"", &mut room), 5);
+    assert_eq!(rt;
+        session.receive(alloc, b"\x00\x03\x02hi", 100, 0, b"", &mut room),
+        5
+    );
     assert_eq!(rt; front(&rt, &room, 5), b"\x00\x03\x02hi".as_slice());
-    assert_eq!(rt; session.receive(alloc, b"\x02\x00\x01\x00", 100, 0, b"", &mut room), 3);
+    assert_eq!(rt;
+        session.receive(alloc, b"\x02\x00\x01\x00", 100, 0, b"", &mut room),
+        3
+    );
     assert_eq!(rt; front(&rt, &room, 3), [2, 3, 0].as_slice());
-    assert_eq!(rt; session.receive(alloc, b"\x02\x00\x02\x00", 100, 0, b"", &mut room), 1);
+    assert_eq!(rt;
+        session.receive(alloc, b"\x02\x00\x02\x00", 100, 0, b"", &mut room),
+        1
+    );
     assert_eq!(rt; front(&rt, &room, 1), [5].as_slice());
     assert_eq!(rt; session.receive(alloc, b"\x04", 100, 0, b"", &mut room), 10);
-    assert_eq!(rt; front(&rt, &room, 10), [4, 4, 0, 0, 0, 0, 0, 0, 0, 4].as_slice());
+    assert_eq!(rt;
+        front(&rt, &room, 10),
+        [4, 4, 0, 0, 0, 0, 0, 0, 0, 4].as_slice()
+    );
     assert_eq!(rt; session.dial(&key(1), 100, 0, 0, 0), 1);
     assert_eq!(rt; session.reservation(alloc, &key(1), &mut room), 9);
-    assert_eq!(rt; front(&rt, &room, 9), [1, 0, 4, 1, 2, 3, 4, 31, 65].as_slice());
-    assert_eq!(rt; session.reservation(alloc, &key(2), &mut room), Refusal::None.number());
+    assert_eq!(rt;
+        front(&rt, &room, 9),
+        [1, 0, 4, 1, 2, 3, 4, 31, 65].as_slice()
+    );
+    assert_eq!(rt;
+        session.reservation(alloc, &key(2), &mut room),
+        Refusal::None.number()
+    );
     session.end(alloc);
     Ok(())
 }

@@ -11,16 +11,37 @@ fn what_cant_be_read_is_named(rt: HostRuntime) -> Result<(), Fail> {
     let mut session = Session::new(alloc);
     assert_eq!(rt; session.tracked(), Refusal::NoNode.number());
     assert_eq!(rt; init(alloc, &mut session, &own), 1);
-    assert_eq!(rt; init(alloc, &mut session, &own), Refusal::BadSetting.number());
+    assert_eq!(rt;
+        init(alloc, &mut session, &own),
+        Refusal::BadSetting.number()
+    );
     assert_eq!(rt; session.status(b"short"), Refusal::BadKey.number());
-    assert_eq!(rt; session.block(&key(1), 0, 1_000_000_000), Refusal::BadMoment.number());
-    assert_eq!(rt; session.track(alloc, 0, b"odd", b"", &mut []), Refusal::BadKeys.number());
-    assert_eq!(rt; session.update_peers(alloc, b"\x01"), Refusal::BadInfo.number());
-    assert_eq!(rt; session.infos(alloc, b"\x00", 0, 0, &mut []), Refusal::BadBits.number());
-    assert_eq!(rt; session.connect(&key(1), true), Refusal::NotReserved.number());
+    assert_eq!(rt;
+        session.block(&key(1), 0, 1_000_000_000),
+        Refusal::BadMoment.number()
+    );
+    assert_eq!(rt;
+        session.track(alloc, 0, b"odd", b"", &mut []),
+        Refusal::BadKeys.number()
+    );
+    assert_eq!(rt;
+        session.update_peers(alloc, b"\x01"),
+        Refusal::BadInfo.number()
+    );
+    assert_eq!(rt;
+        session.infos(alloc, b"\x00", 0, 0, &mut []),
+        Refusal::BadBits.number()
+    );
+    assert_eq!(rt;
+        session.connect(&key(1), true),
+        Refusal::NotReserved.number()
+    );
     assert_eq!(rt; session.release(&key(1)), Refusal::NotHeld.number());
     assert_eq!(rt; session.track(alloc, 0, &key(1), b"", &mut []), 0);
-    assert_eq!(rt; session.track(alloc, 1, &key(1), b"", &mut []), Refusal::NoRoom.number());
+    assert_eq!(rt;
+        session.track(alloc, 1, &key(1), b"", &mut []),
+        Refusal::NoRoom.number()
+    );
     session.end(alloc);
     Ok(())
 }
