@@ -1,3 +1,4 @@
 pub mod Puts
 pub mod Unread
 pub mod Heard
+pub mod Rooms

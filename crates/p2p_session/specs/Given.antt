@@ -13,6 +13,7 @@ use Rattle.p2p_discovery.specs.Info.{info_spelling, infos_at}
 use Rattle.p2p_discovery.specs.BitVec.{bit_vec_read_at}
 use Rattle.p2p_discovery.specs.Payload.{up_to}
 use Rattle.p2p_tracker.specs.Calls.{Call}
+use Rattle.p2p_tracker.specs.declared.directory.TrackedPeers.{TrackedPeers}
 use Rattle.p2p_tracker.specs.Calls.Call.{Track}
 use Rattle.p2p_directory.specs.Run.{call_of}
 use Rattle.p2p_directory.specs.declared.run.commands.Command.{Command}
@@ -98,21 +99,31 @@ abbrev pub infos_spelled : List ℕ → Result (List (Info Key Signature)) Refus
 infos_spelled bytes = spelled refusal.BadInfo
     (whole (infos_at KEY_SIZE key_of SIGNATURE_SIZE signature_of (up_to (2 ^ 64 - 1))) bytes).outcome
 
-abbrev pub bits_spelled : ℕ → List ℕ → Result BitVec Refusal
-bits_spelled greatest bytes =
-    spelled refusal.BadBits (whole (bit_vec_read_at greatest) bytes).outcome
+-- .. bits, at most as many as the greatest `u32`
+abbrev pub bits_spelled : List ℕ → Result BitVec Refusal
+bits_spelled bytes = spelled refusal.BadBits (whole (bit_vec_read_at (2 ^ 32 - 1)) bytes).outcome
 
 -- what was read is this, or memory for it was refused
 abbrev pub IsRead : {A : Type 0} → Result A Refusal → Result A Refusal → Type 0
 IsRead read it = (read ≡ Err refusal.Memory) ⊎ (read ≡ it)
 
--- a call of `track` that was read: the sets of these keys, or why there is none
-abbrev pub IsTrackRead : ℕ → List ℕ → List ℕ → Asked → Type 0
-IsTrackRead index primary secondary (Ok call) = (ps : List Key) × ((ss : List Key)
-    × IsSetOf primary ps × IsSetOf secondary ss × (call ≡ Track index ps ss))
-IsTrackRead index primary secondary (Err why) = (why ≡ refusal.Memory)
+-- the peers of a set that were read, or why there are none
+abbrev pub ArePeersRead : List ℕ → List ℕ → Result (TrackedPeers Key Signature) Refusal → Type 0
+ArePeersRead primary secondary (Ok peers) =
+    IsSetOf primary peers.primary × IsSetOf secondary peers.secondary
+ArePeersRead primary secondary (Err why) = (why ≡ refusal.Memory)
     ⊎ ((why ≡ refusal.BadKeys) × ((¬ (length primary % KEY_SIZE ≡ 0))
     ⊎ (¬ (length secondary % KEY_SIZE ≡ 0))))
+
+-- the track of the set of these peers
+abbrev pub track_of : ℕ → Result (TrackedPeers Key Signature) Refusal → Asked
+track_of index (Ok peers) = Ok (Track index peers.primary peers.secondary)
+track_of index (Err why) = Err why
+
+-- a call of `track` that was read
+abbrev pub IsTrackRead : ℕ → List ℕ → List ℕ → Asked → Type 0
+IsTrackRead index primary secondary given = (peers : Result (TrackedPeers Key Signature) Refusal)
+    × ArePeersRead primary secondary peers × (given ≡ track_of index peers)
 
 -- ---- what a node is made from
 

@@ -1,5 +1,5 @@
 -- What the calls of a session do.
-use Rattle.std.specs.Prelude.{◌≡◌, ◌⊎◌, ℕ, ◌*◌, ◌<◌, ◌^◌, min, Bool, List, [], length}
+use Rattle.std.specs.Prelude.{◌≡◌, ◌⊎◌, ℕ, ◌*◌, ◌<◌, ◌≤◌, ◌^◌, min, Bool, List, [], length}
 use Rattle.std.specs.Prelude.{Option, Some, None, Ok, Err, true, false, is_some}
 use Rattle.p2p_tracker.specs.Calls.{Call}
 use Rattle.p2p_tracker.specs.Calls.Call.{Dial, Listen, Connect, Release, Update, Block}
@@ -159,11 +159,21 @@ abbrev pub ServesRead : (Asked → Type 0) → List ℕ → List ℕ → Session
 ServesRead IsGiven out out2 before after n =
     (given : Asked) × IsGiven given × Writes given out out2 before after n
 
--- a set is taken; where the room is shorter than the keys of all peers with a record it isn't
+-- what is answered fits the room, or is no length: nothing of it is lost
+abbrev pub IsWhole : List ℕ → ℕ → Type 0
+IsWhole out n = (n ≤ length out) ⊎ (2 ^ 63 < n)
+
+-- the room has the keys of all peers with a record
+abbrev pub HasRoom : Option View → List ℕ → Type 0
+HasRoom None out = Unit {0}
+HasRoom (Some v) out = room_for v ≤ length out
+
+-- a set is taken, and its answer is whole; where the room is shorter than the keys of all peers with
+-- a record it isn't
 abbrev pub Tracks : ℕ → List ℕ → List ℕ → List ℕ → List ℕ → Session → Session → ℕ → Type 0
 Tracks index primary secondary out out2 before after n =
     ((n ≡ room_refusal before.node) × (after ≡ before) × (out2 ≡ out) × LacksRoom before.node)
-    ⊎ ServesRead (IsTrackRead index primary secondary) out out2 before after n
+    ⊎ (ServesRead (IsTrackRead index primary secondary) out out2 before after n × IsWhole out n)
   where
     LacksRoom : Option View → Type 0
     LacksRoom None = Unit {0}
@@ -173,14 +183,9 @@ abbrev pub UpdatesPeers : List ℕ → Session → Session → ℕ → Type 0
 UpdatesPeers infos = ServesRead
     (λ given. IsRead given (and_then (infos_spelled infos) (λ is. Ok (Update is)))) [] []
 
--- the greatest number of bits that the node takes
-abbrev pub greatest_bits : Option View → ℕ
-greatest_bits None = 0
-greatest_bits (Some v) = v.limits.max_bit_vec
-
 abbrev pub TellsInfos : List ℕ → ℕ → ℕ → List ℕ → List ℕ → Session → Session → ℕ → Type 0
 TellsInfos bits seconds nanos out out2 before after n = ServesRead (λ given. IsRead given
-    (and_then (bits_spelled (greatest_bits before.node) bits) (λ v.
+    (and_then (bits_spelled bits) (λ v.
     at_moment seconds nanos (λ now. Ask (InfosFor v.index v.bits now)))))
     out out2 before after n
 

@@ -1,7 +1,7 @@
 //! Commands, by what a session is given for them.
 
 ghost use Rattle.std.specs.Prelude.{◌≡◌, Ok};
-ghost use Rattle.p2p_session.specs.Given.{asked, and_then, IsRead, IsTrackRead, infos_spelled};
+ghost use Rattle.p2p_session.specs.Given.{asked, and_then, IsRead, ArePeersRead, infos_spelled};
 ghost use Rattle.p2p_session.specs.Given.{bits_spelled};
 ghost use Rattle.p2p_session.specs.Sessions.{of_peer, at_moment, of_peer_at, with_draw};
 ghost use Rattle.p2p_tracker.specs.Calls.Call.{Dial, Listen, Connect, Release, Block};
@@ -16,20 +16,12 @@ use p2p_directory::directory::TrackedPeers;
 use p2p_directory::run::Command;
 use std::alloc::Global;
 
-pub fn track(
-    alloc: Global,
-    index: u64,
-    primary: &[u8],
-    secondary: &[u8],
-) -> Result<Command<Key>, Refusal>
-    ensures { IsTrackRead index primary.now secondary.now (asked result) }
+pub fn peers(alloc: Global, primary: &[u8], secondary: &[u8]) -> Result<TrackedPeers<Key>, Refusal>
+    ensures { ArePeersRead primary.now secondary.now result }
 {
     let primary = set(alloc, primary)?;
     let secondary = set(alloc, secondary)?;
-    Ok(Command::Track {
-        index,
-        peers: TrackedPeers::new(primary, secondary),
-    })
+    Ok(TrackedPeers::new(primary, secondary))
 }
 
 pub fn update_peers(alloc: Global, bytes: &[u8]) -> Result<Command<Key>, Refusal>
@@ -41,14 +33,13 @@ pub fn update_peers(alloc: Global, bytes: &[u8]) -> Result<Command<Key>, Refusal
 pub fn infos_for(
     alloc: Global,
     bytes: &[u8],
-    greatest: u64,
     seconds: u64,
     nanos: u32,
 ) -> Result<Command<Key>, Refusal>
-    ensures { IsRead (asked result) (and_then (bits_spelled greatest bytes.now) (λ v.
+    ensures { IsRead (asked result) (and_then (bits_spelled bytes.now) (λ v.
         at_moment seconds nanos (λ now. Ask (InfosFor v.index v.bits now)))) }
 {
-    let bit_vec = bits(alloc, bytes, greatest)?;
+    let bit_vec = bits(alloc, bytes)?;
     let now = moment(seconds, nanos)?;
     Ok(Command::Infos { bit_vec, now })
 }

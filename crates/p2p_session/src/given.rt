@@ -85,13 +85,16 @@ pub fn infos(alloc: Global, bytes: &[u8]) -> Result<Vec<Info<Key>>, Refusal>
     }
 }
 
-/// The bits that these bytes spell, at most so many.
+/// The greatest number of bits that may be asked about: no set has more peers.
+const GREATEST_BITS: u64 = 0xffff_ffff;
+
+/// The bits that these bytes spell, at most as many as the greatest `u32`.
 #[tactic(auto, using(crate::proofs::Unread::refused_as))]
-pub fn bits(alloc: Global, bytes: &[u8], greatest: u64) -> Result<BitVec, Refusal>
-    ensures { IsRead result (bits_spelled greatest bytes.now) }
+pub fn bits(alloc: Global, bytes: &[u8]) -> Result<BitVec, Refusal>
+    ensures { IsRead result (bits_spelled bytes.now) }
 {
     let bytes = Bytes::copy_from_slice(alloc, bytes)?;
-    match BitVec::decode_cfg(alloc, bytes, &greatest) {
+    match BitVec::decode_cfg(alloc, bytes, &GREATEST_BITS) {
         Ok(bits) => Ok(bits),
         Err(CodecError::Memory) => Err(Refusal::Memory),
         Err(_) => Err(Refusal::BadBits),

@@ -14,7 +14,7 @@
 #![tactic(auto)]
 
 ghost use Rattle.std.specs.Prelude.{◌≡◌, None};
-ghost use Rattle.p2p_session.specs.Given.{asked};
+ghost use Rattle.p2p_session.specs.Given.{asked, track_of};
 ghost use Rattle.p2p_session.specs.Sessions.{IsFresh, Serves, Dials, Listens, Connects, Releases};
 ghost use Rattle.p2p_session.specs.Sessions.{Blocks, Unblocks, Forgets, TellsUnblock, TellsBlocked};
 ghost use Rattle.p2p_session.specs.Sessions.{TellsStatus, TellsPeerSet, TellsLatestIndex};
@@ -23,6 +23,7 @@ ghost use Rattle.p2p_session.specs.Sessions.{TellsEligible, TellsAcceptable, Tel
 ghost use Rattle.p2p_session.specs.Sessions.{TellsTracked, TellsRoom, room_refusal, Tracks};
 ghost use Rattle.p2p_session.specs.Sessions.{UpdatesPeers, TellsInfos, Asks, Inits, IsMade};
 ghost use Rattle.p2p_session.specs.Sessions.{TellsReservation, Checks, Receives};
+ghost use Rattle.p2p_session.specs.Sessions.{HasRoom, IsWhole};
 
 mod answer;
 mod commands;
@@ -37,6 +38,7 @@ mod setup;
 pub use crate::key::{KEY_SIZE, Key, SIGNATURE_SIZE, Signature};
 pub use crate::refusal::Refusal;
 use crate::setup::{Numbers, setup};
+use p2p_directory::directory::TrackedPeers;
 use p2p_directory::node::{Node, Setup};
 use p2p_directory::run::Command;
 use std::alloc::Global;
@@ -146,11 +148,34 @@ impl Session {
         if self.track_room() > torn.len() as u64 {
             return self.without_room();
         }
+        self.take_set(
+            alloc,
+            index,
+            commands::peers(alloc, primary, secondary),
+            torn,
+        )
+    }
+
+    // Takes the set, if there is a node and the peers could be read, and answers who is torn down.
+    fn take_set(
+        &mut self,
+        alloc: Global,
+        index: u64,
+        peers: Result<TrackedPeers<Key>, Refusal>,
+        torn: &mut [u8],
+    ) -> u64
+        ensures served { Serves (track_of index peers) torn.old torn.new
+            self.old.node self.new.node result }
+        ensures whole { HasRoom self.old.node torn.old → IsWhole torn.old result }
+    {
         let Some(node) = &mut self.node else {
             return Refusal::NoNode.number();
         };
-        match commands::peers(alloc, primary, secondary) {
-            Ok(peers) => take_set(alloc, node, index, peers, torn),
+        match peers {
+            Ok(peers) => {
+                let reply = node.track(index, peers);
+                reply::tell(alloc, reply, torn)
+            }
             Err(refusal) => refusal.number(),
         }
     }

@@ -2,6 +2,7 @@
 
 use p2p_session::{KEY_SIZE, SIGNATURE_SIZE, Session};
 use std::alloc::{AllocError, Global};
+use std::process::Abort;
 
 // The key whose bytes are all this one.
 pub(crate) fn key(byte: u8) -> [u8; KEY_SIZE] {
@@ -44,4 +45,30 @@ pub(crate) fn init(alloc: Global, session: &mut Session, own: &[u8]) -> u64 {
     session.init(
         alloc, true, true, 1, 1, 10, 0, 60, 0, 8, 8, 32, 8, 30, 0, b"rows", b"", own,
     )
+}
+
+// A session whose node has this info of its own.
+pub(crate) fn session(rt: &impl Abort, alloc: Global, own: &[u8]) -> Session {
+    let mut session = Session::new(alloc);
+    if init(alloc, &mut session, own) != 1 {
+        panic!(rt; "the setting can be taken");
+    }
+    session
+}
+
+// A session that has taken a set of these primary peers, with index 0.
+pub(crate) fn tracking(rt: &impl Abort, alloc: Global, own: &[u8], primary: &[u8]) -> Session {
+    let mut session = session(rt, alloc, own);
+    if session.track(alloc, 0, primary, b"", &mut []) != 0 {
+        panic!(rt; "the set is the first");
+    }
+    session
+}
+
+// The first so many bytes of the room.
+pub(crate) fn front<'a>(rt: &impl Abort, room: &'a [u8], length: u64) -> &'a [u8] {
+    let Some(front) = room.get(..length as usize) else {
+        panic!(rt; "the answer fits");
+    };
+    front
 }

@@ -9,3 +9,5 @@ mod frames;
 mod given;
 #[cfg(test)]
 mod refused;
+#[cfg(test)]
+mod sets;
