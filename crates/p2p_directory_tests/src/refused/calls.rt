@@ -74,12 +74,12 @@ static CALLS: [Call; 31] = [
         said: "Some([])",
         blocks: 596,
     },
-    // A node each of the slots (72), of the moments of grants (39) and of their order (32).
+    // A node each of the slots (72) and of the moments of grants (39).
     Call {
         prepared: NEW,
         deed: Deed::Left(Given::Listen(1, 100)),
         said: "granted",
-        blocks: 145,
+        blocks: 112,
     },
     // Each node has room.
     Call {
@@ -96,7 +96,7 @@ static CALLS: [Call; 31] = [
         ],
         deed: Deed::Left(Given::Dial(1, 100)),
         said: "granted",
-        blocks: 145,
+        blocks: 112,
     },
     // And a name (2).
     Call {
@@ -106,7 +106,7 @@ static CALLS: [Call; 31] = [
         ],
         deed: Deed::Left(Given::Dial(2, 100)),
         said: "granted",
-        blocks: 148,
+        blocks: 115,
     },
     // Each node has room.
     Call {

@@ -39,7 +39,7 @@ static ROWS_OF_ONE: [Row; 5] = [
         ],
         blocks: 284,
     },
-    // Nodes and window as before (234), what a grant takes (143), 6 replies.
+    // Nodes and window as before (234), what a grant takes (111), 6 replies.
     Row {
         more: 0,
         commands: &[
@@ -50,9 +50,9 @@ static ROWS_OF_ONE: [Row; 5] = [
             Given::Dialable(115),
             Given::Dial(1, 115),
         ],
-        blocks: 428,
+        blocks: 395,
     },
-    // Nodes and window (234), what a grant (143) and a block (56) take, 13 replies, lists.
+    // Nodes and window (234), what a grant (111) and a block (56) take, 13 replies, lists.
     Row {
         more: 0,
         commands: &[
@@ -70,9 +70,9 @@ static ROWS_OF_ONE: [Row; 5] = [
             Given::Status(1),
             Given::BlockedPeers(170),
         ],
-        blocks: 548,
+        blocks: 515,
     },
-    // Nodes and window (234), what a grant takes (143), 15 replies.
+    // Nodes and window (234), what a grant takes (111), 15 replies.
     Row {
         more: 0,
         commands: &[
@@ -92,9 +92,9 @@ static ROWS_OF_ONE: [Row; 5] = [
             Given::Update(&[(1, 1_002, 8004)]),
             Given::Bits(0),
         ],
-        blocks: 498,
+        blocks: 465,
     },
-    // Nodes and window (234), what a grant takes (143), 10 replies, lists.
+    // Nodes and window (234), what a grant takes (111), 10 replies, lists.
     Row {
         more: 1,
         commands: &[
@@ -109,7 +109,7 @@ static ROWS_OF_ONE: [Row; 5] = [
             Given::Track(2, &[], &[]),
             Given::Track(3, &[], &[]),
         ],
-        blocks: 482,
+        blocks: 449,
     },
 ];
 
@@ -250,7 +250,7 @@ struct PairRow {
 }
 
 static ROWS_OF_TWO: [PairRow; 1] = [
-    // Nodes and window of both (234 each), what a grant takes (143), 12 replies (9 each) of the
+    // Nodes and window of both (234 each), what a grant takes (111), 12 replies (9 each) of the
     // network and as many of the pair, both setups and endpoints (88), frames, infos.
     PairRow {
         deeds: &[
@@ -267,7 +267,7 @@ static ROWS_OF_TWO: [PairRow; 1] = [
             Deed::Left(Given::Bits(0)),
             Deed::Exchange(Side::Left, 0, 70, 100),
         ],
-        blocks: 938,
+        blocks: 905,
     },
 ];
 
