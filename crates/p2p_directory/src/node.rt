@@ -153,8 +153,7 @@ impl<C: PublicKey> Node<C> {
     ///
     /// # Cost
     ///
-    /// That of the call. For a `Dial`, a `Listen` and a `Release` also some searches in what is held,
-    /// and where nothing is held of the peer afterwards one pass over it.
+    /// That of the call. For a `Dial`, a `Listen` and a `Release` also some searches in what is held.
     pub fn step(&mut self, command: Command<C>) -> Reply<C>
         ensures stepped { IsStepped C.cmp command result self.old self.new }
         ensures unchanged { was_made result ≡ false → self.new ≡ self.old }
