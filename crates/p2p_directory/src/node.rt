@@ -29,6 +29,7 @@ use p2p_discovery::data::Data;
 use p2p_discovery::discovery::{Error, Info, InfoVerifier, Payload, PayloadConfig};
 use p2p_discovery::types::Ingress;
 use p2p_tracker::directory::{Config, Directory, Metadata, TrackedPeers};
+use p2p_tracker::record::Status;
 use std::alloc::{AllocError, Global};
 use std::marker::Model;
 use std::time::Duration;
@@ -178,6 +179,103 @@ impl<C: PublicKey> Node<C> {
         ensures few { TearsDownFew self.old.directory result }
     {
         self.endpoint.track(index, peers)
+    }
+
+    /// Connects the peer, where it is reserved, as [`Node::step`] of `Command::Connect` does. Takes
+    /// no memory.
+    ///
+    /// # Cost
+    ///
+    /// That of two calls of the directory, its `status` and its `connect`.
+    pub fn connect(&mut self, peer: &C, dialer: bool) -> Reply<C>
+        ensures stepped { IsStepped C.cmp (Command.Connect peer.now dialer) result self.old self.new }
+        ensures unchanged { was_made result ≡ false → self.new ≡ self.old }
+        ensures limits { self.new.limits ≡ self.old.limits }
+        ensures verifier { self.new.verifier ≡ self.old.verifier }
+    {
+        self.endpoint.connect(peer, dialer)
+    }
+
+    /// Releases the reservation of the peer, where one is held, as [`Node::step`] of
+    /// `Command::Release` does. Takes no memory.
+    ///
+    /// # Cost
+    ///
+    /// A search or two in what is held, and that of [`Directory::release`].
+    pub fn release(&mut self, peer: &C) -> Reply<C>
+        ensures stepped { IsStepped C.cmp (Command.Release peer.now) result self.old self.new }
+        ensures unchanged { was_made result ≡ false → self.new ≡ self.old }
+        ensures limits { self.new.limits ≡ self.old.limits }
+        ensures verifier { self.new.verifier ≡ self.old.verifier }
+    {
+        self.endpoint.release(peer)
+    }
+
+    /// Blocks the peer at the moment `now`, a time since the epoch, as [`Node::step`] of
+    /// `Command::Block` does: want of memory is `Reply::OutOfMemory`.
+    ///
+    /// # Cost
+    ///
+    /// That of [`Directory::block`].
+    pub fn block(&mut self, peer: &C, now: Duration) -> Reply<C>
+        ensures stepped { IsStepped C.cmp (Command.Block peer.now now) result self.old self.new }
+        ensures unchanged { was_made result ≡ false → self.new ≡ self.old }
+        ensures limits { self.new.limits ≡ self.old.limits }
+        ensures verifier { self.new.verifier ≡ self.old.verifier }
+    {
+        self.endpoint.block(peer, now)
+    }
+
+    /// Whether the peer is connected, or `None` where there is no record of it: what [`Node::step`]
+    /// replies to `Command::Status`.
+    /// Takes no memory, and changes nothing.
+    ///
+    /// # Cost
+    ///
+    /// That of [`Directory::status`].
+    pub fn status(&self, peer: &C) -> Option<Status>
+        ensures { IsStepped C.cmp (Command.Status peer.now) (Reply.Status result) self.now self.now }
+    {
+        self.endpoint.status(peer)
+    }
+
+    /// Whether the peer may be connected at the moment `now`, a time since the epoch: what
+    /// [`Node::step`] replies to `Command::Eligible`.
+    /// Takes no memory, and changes nothing.
+    ///
+    /// # Cost
+    ///
+    /// That of [`Directory::eligible`].
+    pub fn eligible(&self, peer: &C, now: Duration) -> bool
+        ensures { IsStepped C.cmp (Command.Eligible peer.now now) (Reply.Eligible result) self.now self.now }
+    {
+        self.endpoint.eligible(peer, now)
+    }
+
+    /// Whether a connection of the peer may be accepted at the moment `now`, a time since the epoch:
+    /// what [`Node::step`] replies to `Command::Acceptable`.
+    /// Takes no memory, and changes nothing.
+    ///
+    /// # Cost
+    ///
+    /// That of [`Directory::acceptable`].
+    pub fn acceptable(&self, peer: &C, now: Duration) -> bool
+        ensures { IsStepped C.cmp (Command.Acceptable peer.now now) (Reply.Acceptable result) self.now self.now }
+    {
+        self.endpoint.acceptable(peer, now)
+    }
+
+    /// How many peers have a record, but for the local node: what [`Node::step`] replies to
+    /// `Command::Tracked`.
+    /// Takes no memory, and changes nothing.
+    ///
+    /// # Cost
+    ///
+    /// That of [`Directory::tracked`].
+    pub fn tracked(&self) -> usize
+        ensures { IsStepped C.cmp Command.Tracked (Reply.Tracked result) self.now self.now }
+    {
+        self.endpoint.tracked()
     }
 
     /// The directory.

@@ -154,6 +154,34 @@ fn a_node_tells_of_the_connected_and_hands_out_what_it_holds(rt: HostRuntime) ->
     Ok(())
 }
 
+// Peer 1 is reserved, then connected, blocked and released, by calls straight at the node.
+fn is_served_alone(rt: &impl Abort, node: &mut Node<TestKey>) {
+    let (peer, now) = (TestKey(1), Duration::from_secs(50));
+    assert_eq!(rt; node.status(&peer), Some(Status::Reserved));
+    assert!(rt; node.eligible(&peer, now) && !node.acceptable(&peer, now));
+    assert!(rt; matches!(node.connect(&peer, false), Reply::Connect));
+    assert!(rt; matches!(node.connect(&peer, false), Reply::NotReserved));
+    is_active(rt, node);
+    assert!(rt; matches!(node.block(&peer, now), Reply::Block(true)));
+    assert!(rt; !node.eligible(&peer, now));
+    assert!(rt; matches!(node.release(&peer), Reply::Release));
+    assert!(rt; matches!(node.release(&peer), Reply::NotHeld));
+}
+
+#[test]
+fn a_node_serves_a_single_peer(rt: HostRuntime) -> Result<(), Fail> {
+    let alloc = rt.alloc();
+    let mut node = node(alloc, 32)?;
+    let outcome = tracks(&rt, alloc, &mut node);
+    listens(&rt, &mut node);
+    is_served_alone(&rt, &mut node);
+    let known = (node.tracked(), node.status(&TestKey(3)));
+    node.finish();
+    outcome?;
+    assert_eq!(rt; known, (2, None));
+    Ok(())
+}
+
 // A long message is a cut of its frame, which has two owners as long as the caller keeps it.
 fn receives_a_long_message(
     rt: &impl Abort,

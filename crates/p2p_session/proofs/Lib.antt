@@ -2,3 +2,4 @@ pub mod Puts
 pub mod Unread
 pub mod Heard
 pub mod Rooms
+pub mod Direct

@@ -3,11 +3,10 @@
 ghost use Rattle.std.specs.Prelude.{◌≡◌, Ok};
 ghost use Rattle.p2p_session.specs.Given.{asked, and_then, IsRead, ArePeersRead, infos_spelled};
 ghost use Rattle.p2p_session.specs.Given.{bits_spelled};
-ghost use Rattle.p2p_session.specs.Sessions.{of_peer, at_moment, of_peer_at, with_draw};
-ghost use Rattle.p2p_tracker.specs.Calls.Call.{Dial, Listen, Connect, Release, Block};
+ghost use Rattle.p2p_session.specs.Sessions.{of_peer, at_moment, with_draw};
+ghost use Rattle.p2p_tracker.specs.Calls.Call.{Dial, Listen};
 ghost use Rattle.p2p_tracker.specs.Calls.Call.{UnblockExpired, ForgetCooled, Ask, Update};
-ghost use Rattle.p2p_tracker.specs.Calls.Question.{StatusOf, BlockedAt, InfoOf, IsEligible};
-ghost use Rattle.p2p_tracker.specs.Calls.Question.{IsAcceptable, DialableAt, InfosFor};
+ghost use Rattle.p2p_tracker.specs.Calls.Question.{BlockedAt, InfoOf, DialableAt, InfosFor};
 
 use crate::given::{bits, infos, key, moment, set};
 use crate::key::Key;
@@ -76,27 +75,6 @@ pub fn listen(
     Ok(Command::Listen { peer, now, draw })
 }
 
-pub fn connect(peer: &[u8], dialer: bool) -> Result<Command<Key>, Refusal>
-    ensures { asked result ≡ of_peer peer.now (λ p. Connect p dialer) }
-{
-    let peer = key(peer)?;
-    Ok(Command::Connect { peer, dialer })
-}
-
-pub fn release(peer: &[u8]) -> Result<Command<Key>, Refusal>
-    ensures { asked result ≡ of_peer peer.now (λ p. Release p) }
-{
-    Ok(Command::Release(key(peer)?))
-}
-
-pub fn block(peer: &[u8], seconds: u64, nanos: u32) -> Result<Command<Key>, Refusal>
-    ensures { asked result ≡ of_peer_at peer.now seconds nanos (λ p now. Block p now) }
-{
-    let peer = key(peer)?;
-    let now = moment(seconds, nanos)?;
-    Ok(Command::Block { peer, now })
-}
-
 pub fn unblock_expired(seconds: u64, nanos: u32) -> Result<Command<Key>, Refusal>
     ensures { asked result ≡ at_moment seconds nanos (λ now. UnblockExpired now) }
 {
@@ -115,34 +93,10 @@ pub fn blocked_peers(seconds: u64, nanos: u32) -> Result<Command<Key>, Refusal>
     Ok(Command::BlockedPeers(moment(seconds, nanos)?))
 }
 
-pub fn status(peer: &[u8]) -> Result<Command<Key>, Refusal>
-    ensures { asked result ≡ of_peer peer.now (λ p. Ask (StatusOf p)) }
-{
-    Ok(Command::Status(key(peer)?))
-}
-
 pub fn info(peer: &[u8]) -> Result<Command<Key>, Refusal>
     ensures { asked result ≡ of_peer peer.now (λ p. Ask (InfoOf p)) }
 {
     Ok(Command::Info(key(peer)?))
-}
-
-pub fn eligible(peer: &[u8], seconds: u64, nanos: u32) -> Result<Command<Key>, Refusal>
-    ensures { asked result ≡ of_peer_at peer.now seconds nanos
-        (λ p now. Ask (IsEligible p now)) }
-{
-    let peer = key(peer)?;
-    let now = moment(seconds, nanos)?;
-    Ok(Command::Eligible { peer, now })
-}
-
-pub fn acceptable(peer: &[u8], seconds: u64, nanos: u32) -> Result<Command<Key>, Refusal>
-    ensures { asked result ≡ of_peer_at peer.now seconds nanos
-        (λ p now. Ask (IsAcceptable p now)) }
-{
-    let peer = key(peer)?;
-    let now = moment(seconds, nanos)?;
-    Ok(Command::Acceptable { peer, now })
 }
 
 pub fn dialable(seconds: u64, nanos: u32) -> Result<Command<Key>, Refusal>

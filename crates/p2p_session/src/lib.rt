@@ -34,6 +34,7 @@ pub mod laws;
 mod refusal;
 mod reply;
 mod setup;
+mod single;
 
 pub use crate::key::{KEY_SIZE, Key, SIGNATURE_SIZE, Signature};
 pub use crate::refusal::Refusal;
@@ -267,21 +268,30 @@ impl Session {
     pub fn connect(&mut self, peer: &[u8], dialer: bool) -> u64
         ensures { Connects peer.now dialer self.old self.new result }
     {
-        self.serve(commands::connect(peer, dialer), &mut [])
+        match &mut self.node {
+            Some(node) => single::connect(node, peer, dialer),
+            None => Refusal::NoNode.number(),
+        }
     }
 
     /// `Directory::release` of what is held of the peer: 1, or `NotHeld`.
     pub fn release(&mut self, peer: &[u8]) -> u64
         ensures { Releases peer.now self.old self.new result }
     {
-        self.serve(commands::release(peer), &mut [])
+        match &mut self.node {
+            Some(node) => single::release(node, peer),
+            None => Refusal::NoNode.number(),
+        }
     }
 
     /// `Directory::block`: 1 where the block is taken, 0 where it isn't.
     pub fn block(&mut self, peer: &[u8], seconds: u64, nanos: u32) -> u64
         ensures { Blocks peer.now seconds nanos self.old self.new result }
     {
-        self.serve(commands::block(peer, seconds, nanos), &mut [])
+        match &mut self.node {
+            Some(node) => single::block(node, peer, seconds, nanos),
+            None => Refusal::NoNode.number(),
+        }
     }
 
     /// `Directory::unblock_expired`: 1 where some block ended, 0 where none did.
@@ -316,7 +326,10 @@ impl Session {
     pub fn status(&mut self, peer: &[u8]) -> u64
         ensures { TellsStatus peer.now self.old self.new result }
     {
-        self.serve(commands::status(peer), &mut [])
+        match &self.node {
+            Some(node) => single::status(node, peer),
+            None => Refusal::NoNode.number(),
+        }
     }
 
     /// `Directory::get_peer_set`: how many primary peers, they, and the secondary peers, or `None`.
@@ -366,14 +379,20 @@ impl Session {
     pub fn eligible(&mut self, peer: &[u8], seconds: u64, nanos: u32) -> u64
         ensures { TellsEligible peer.now seconds nanos self.old self.new result }
     {
-        self.serve(commands::eligible(peer, seconds, nanos), &mut [])
+        match &self.node {
+            Some(node) => single::eligible(node, peer, seconds, nanos),
+            None => Refusal::NoNode.number(),
+        }
     }
 
     /// `Directory::acceptable`: 1 or 0.
     pub fn acceptable(&mut self, peer: &[u8], seconds: u64, nanos: u32) -> u64
         ensures { TellsAcceptable peer.now seconds nanos self.old self.new result }
     {
-        self.serve(commands::acceptable(peer, seconds, nanos), &mut [])
+        match &self.node {
+            Some(node) => single::acceptable(node, peer, seconds, nanos),
+            None => Refusal::NoNode.number(),
+        }
     }
 
     /// `Directory::dialable`: whether a moment to ask again follows, the moment, and the keys.
@@ -387,7 +406,10 @@ impl Session {
     pub fn tracked(&mut self) -> u64
         ensures { TellsTracked self.old self.new result }
     {
-        self.serve(Ok(Command::Tracked), &mut [])
+        match &self.node {
+            Some(node) => single::tracked(node),
+            None => Refusal::NoNode.number(),
+        }
     }
 
     /// Whom the reservation that is held of a peer is for: byte 0 for one that comes, or byte 1 and

@@ -116,7 +116,8 @@ fn tell_moment(moment: Option<Duration>, out: &mut [u8]) -> u64
     }
 }
 
-fn status_of(status: Option<Status>) -> u64
+/// The number that a status is answered by.
+pub fn status_of(status: Option<Status>) -> u64
     ensures { Is result ≡ status_number status }
 {
     match status {
@@ -125,6 +126,13 @@ fn status_of(status: Option<Status>) -> u64
         Some(Status::Reserved) => 1,
         Some(Status::Active) => 2,
     }
+}
+
+/// The number that a truth value is answered by.
+pub fn truth_of(is: bool) -> u64
+    ensures { Is result ≡ truth is }
+{
+    u64::from(is)
 }
 
 fn tell_index(index: Option<u64>, out: &mut [u8]) -> u64

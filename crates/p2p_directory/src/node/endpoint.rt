@@ -37,6 +37,7 @@ use std::marker::Model;
 use std::time::Duration;
 
 mod exchanges;
+mod single;
 
 /// A server, by what infos are judged, and the limits under which frames are read. A contract sees
 /// its directory and its slots, and these two. It must be spent, by [`Endpoint::into_parts`].

@@ -71,7 +71,7 @@ impl<C: PublicKey> Server<C> {
             Command::ForgetCooled(now) => self.forget_cooled(now),
             Command::NextUnblock => self.next_unblock(),
             Command::BlockedPeers(now) => self.blocked_peers(now),
-            Command::Status(peer) => self.status(&peer),
+            Command::Status(peer) => Reply::Status(self.status(&peer)),
             Command::GetPeerSet(index) => self.get_peer_set(index),
             Command::LatestSetIndex => self.latest_set_index(),
             Command::LatestUpdate => self.latest_update(),
@@ -79,10 +79,10 @@ impl<C: PublicKey> Server<C> {
             Command::Info(peer) => self.info(&peer),
             Command::Infos { bit_vec, now } => self.infos(&bit_vec, now),
             Command::GetRandomBitVec(place) => self.get_random_bit_vec(place),
-            Command::Eligible { peer, now } => self.eligible(&peer, now),
-            Command::Acceptable { peer, now } => self.acceptable(&peer, now),
+            Command::Eligible { peer, now } => Reply::Eligible(self.eligible(&peer, now)),
+            Command::Acceptable { peer, now } => Reply::Acceptable(self.acceptable(&peer, now)),
             Command::Dialable(now) => self.dialable(now),
-            Command::Tracked => self.tracked(),
+            Command::Tracked => Reply::Tracked(self.tracked()),
         }
     }
 
@@ -203,8 +203,8 @@ impl<C: PublicKey> Server<C> {
         }
     }
 
-    // Connects the peer, where it is reserved.
-    fn connect(&mut self, peer: &C, dialer: bool) -> Reply<C>
+    /// Connects the peer, where it is reserved.
+    pub fn connect(&mut self, peer: &C, dialer: bool) -> Reply<C>
         ensures served { IsServed C.cmp (Command.Connect peer.now dialer)
             result self.old self.new }
         ensures unchanged { was_made result ≡ false → self.new ≡ self.old }
@@ -219,8 +219,8 @@ impl<C: PublicKey> Server<C> {
         }
     }
 
-    // Releases the reservation of the peer, where one is held.
-    fn release(&mut self, peer: &C) -> Reply<C>
+    /// Releases the reservation of the peer, where one is held.
+    pub fn release(&mut self, peer: &C) -> Reply<C>
         ensures served { IsServed C.cmp (Command.Release peer.now) result self.old self.new }
         ensures unchanged { was_made result ≡ false → self.new ≡ self.old }
         ensures slots { (q : C) →
@@ -245,8 +245,8 @@ impl<C: PublicKey> Server<C> {
         Reply::UpdatePeers
     }
 
-    // Blocks the peer.
-    fn block(&mut self, peer: &C, now: Duration) -> Reply<C>
+    /// Blocks the peer.
+    pub fn block(&mut self, peer: &C, now: Duration) -> Reply<C>
         ensures served { IsServed C.cmp (Command.Block peer.now now) result self.old self.new }
         ensures unchanged { was_made result ≡ false → self.new ≡ self.old }
         ensures slots { self.new.slots ≡ self.old.slots }

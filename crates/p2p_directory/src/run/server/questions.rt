@@ -7,6 +7,7 @@ use crate::run::commands::Reply;
 use crate::run::server::Server;
 use p2p_discovery::codec::PublicKey;
 use p2p_discovery::discovery::BitVec;
+use p2p_tracker::record::Status;
 use std::alloc::AllocError;
 use std::time::Duration;
 
@@ -28,11 +29,12 @@ impl<C: PublicKey> Server<C> {
         }
     }
 
-    // Whether the peer is connected.
-    pub(super) fn status(&self, peer: &C) -> Reply<C>
-        ensures { IsServed C.cmp (Command.Status peer.now) result self.now self.now }
+    /// Whether the peer is connected, or `None` where there is no record of it.
+    pub fn status(&self, peer: &C) -> Option<Status>
+        ensures { IsServed C.cmp (Command.Status peer.now) (Reply.Status result)
+            self.now self.now }
     {
-        Reply::Status(self.directory.status(peer))
+        self.directory.status(peer)
     }
 
     // The peers of the retained set with an index.
@@ -102,18 +104,20 @@ impl<C: PublicKey> Server<C> {
         }
     }
 
-    // Whether the peer may be connected.
-    pub(super) fn eligible(&self, peer: &C, now: Duration) -> Reply<C>
-        ensures { IsServed C.cmp (Command.Eligible peer.now now) result self.now self.now }
+    /// Whether the peer may be connected.
+    pub fn eligible(&self, peer: &C, now: Duration) -> bool
+        ensures { IsServed C.cmp (Command.Eligible peer.now now) (Reply.Eligible result)
+            self.now self.now }
     {
-        Reply::Eligible(self.directory.eligible(peer, now))
+        self.directory.eligible(peer, now)
     }
 
-    // Whether a connection of the peer may be accepted.
-    pub(super) fn acceptable(&self, peer: &C, now: Duration) -> Reply<C>
-        ensures { IsServed C.cmp (Command.Acceptable peer.now now) result self.now self.now }
+    /// Whether a connection of the peer may be accepted.
+    pub fn acceptable(&self, peer: &C, now: Duration) -> bool
+        ensures { IsServed C.cmp (Command.Acceptable peer.now now) (Reply.Acceptable result)
+            self.now self.now }
     {
-        Reply::Acceptable(self.directory.acceptable(peer, now))
+        self.directory.acceptable(peer, now)
     }
 
     // The peers that may be dialled at a moment, and when to ask again.
@@ -126,10 +130,10 @@ impl<C: PublicKey> Server<C> {
         }
     }
 
-    // How many peers have a record, but for the local node.
-    pub(super) fn tracked(&self) -> Reply<C>
-        ensures { IsServed C.cmp Command.Tracked result self.now self.now }
+    /// How many peers have a record, but for the local node.
+    pub fn tracked(&self) -> usize
+        ensures { IsServed C.cmp Command.Tracked (Reply.Tracked result) self.now self.now }
     {
-        Reply::Tracked(self.directory.tracked())
+        self.directory.tracked()
     }
 }

@@ -1,0 +1,87 @@
+//! Calls on a single peer, and the number of peers: what [`Endpoint::step`] does of their commands,
+//! with no command made.
+
+ghost use Rattle.std.specs.Prelude.{◌≡◌, false};
+ghost use Rattle.p2p_directory.specs.Run.{was_made};
+ghost use Rattle.p2p_directory.specs.Nodes.{IsStepped};
+ghost use Rattle.p2p_directory.specs.Private.Endpoints.{node_of};
+ghost use Rattle.p2p_directory.specs.declared.run.commands.Command.{Command};
+
+use crate::node::endpoint::Endpoint;
+use crate::run::Reply;
+use p2p_discovery::codec::PublicKey;
+use p2p_tracker::record::Status;
+use std::time::Duration;
+
+impl<C: PublicKey> Endpoint<C> {
+    /// Connects the peer, where it is reserved.
+    pub fn connect(&mut self, peer: &C, dialer: bool) -> Reply<C>
+        ensures stepped { IsStepped C.cmp (Command.Connect peer.now dialer) result
+            (node_of self.old) (node_of self.new) }
+        ensures unchanged { was_made result ≡ false → self.new ≡ self.old }
+        ensures limits { self.new.limits ≡ self.old.limits }
+        ensures verifier { self.new.verifier ≡ self.old.verifier }
+    {
+        let reply = self.server.connect(peer, dialer);
+        self.server.in_order();
+        reply
+    }
+
+    /// Releases the reservation of the peer, where one is held.
+    pub fn release(&mut self, peer: &C) -> Reply<C>
+        ensures stepped { IsStepped C.cmp (Command.Release peer.now) result
+            (node_of self.old) (node_of self.new) }
+        ensures unchanged { was_made result ≡ false → self.new ≡ self.old }
+        ensures limits { self.new.limits ≡ self.old.limits }
+        ensures verifier { self.new.verifier ≡ self.old.verifier }
+    {
+        let reply = self.server.release(peer);
+        self.server.in_order();
+        reply
+    }
+
+    /// Blocks the peer.
+    pub fn block(&mut self, peer: &C, now: Duration) -> Reply<C>
+        ensures stepped { IsStepped C.cmp (Command.Block peer.now now) result
+            (node_of self.old) (node_of self.new) }
+        ensures unchanged { was_made result ≡ false → self.new ≡ self.old }
+        ensures limits { self.new.limits ≡ self.old.limits }
+        ensures verifier { self.new.verifier ≡ self.old.verifier }
+    {
+        let reply = self.server.block(peer, now);
+        self.server.in_order();
+        reply
+    }
+
+    /// Whether the peer is connected, or `None` where there is no record of it.
+    pub fn status(&self, peer: &C) -> Option<Status>
+        ensures { IsStepped C.cmp (Command.Status peer.now) (Reply.Status result)
+            (node_of self.now) (node_of self.now) }
+    {
+        self.server.status(peer)
+    }
+
+    /// Whether the peer may be connected.
+    pub fn eligible(&self, peer: &C, now: Duration) -> bool
+        ensures { IsStepped C.cmp (Command.Eligible peer.now now) (Reply.Eligible result)
+            (node_of self.now) (node_of self.now) }
+    {
+        self.server.eligible(peer, now)
+    }
+
+    /// Whether a connection of the peer may be accepted.
+    pub fn acceptable(&self, peer: &C, now: Duration) -> bool
+        ensures { IsStepped C.cmp (Command.Acceptable peer.now now) (Reply.Acceptable result)
+            (node_of self.now) (node_of self.now) }
+    {
+        self.server.acceptable(peer, now)
+    }
+
+    /// How many peers have a record, but for the local node.
+    pub fn tracked(&self) -> usize
+        ensures { IsStepped C.cmp Command.Tracked (Reply.Tracked result)
+            (node_of self.now) (node_of self.now) }
+    {
+        self.server.tracked()
+    }
+}

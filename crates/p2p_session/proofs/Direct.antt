@@ -1,0 +1,29 @@
+-- A call that was made straight at the node is one that was asked for.
+use Rattle.std.proofs.Common.{◌≡◌, ℕ, false, true, Bool, [], Ok, Some, inr, refl, subst}
+use Rattle.std.specs.Prelude.{Option}
+use Rattle.p2p_tracker.specs.Calls.{Call}
+use Rattle.p2p_tracker.specs.declared.record.Status.{Status}
+use Rattle.p2p_directory.specs.Run.{was_made}
+use Rattle.p2p_directory.specs.Nodes.{AtEach, IsSteppedAt}
+use Rattle.p2p_directory.specs.declared.run.commands.Reply.{Reply}
+use Rattle.p2p_directory.specs.declared.run.commands.Reply.TheVariants as reply
+use Rattle.p2p_session.specs.declared.key.Key.{Key}
+use Rattle.p2p_session.specs.declared.key.Signature.{Signature}
+use Rattle.p2p_session.specs.contracts.key.KeyOrd.TheImpl.{ghosts as order}
+use Rattle.p2p_session.specs.Views.{View}
+use Rattle.p2p_session.specs.Answers.{Answer, Tells, TellsReply, answer_to}
+use Rattle.p2p_session.specs.Answers.Answer.{Is}
+use Rattle.p2p_session.specs.Sessions.{Serves}
+
+-- a call that may change the node
+pub made : (call : Call Key Signature) (r : Reply Key Signature) (v v2 : View) (n : ℕ) →
+    AtEach order.cmp v (λ m calls. IsSteppedAt m calls call r v2) → (was_made r ≡ false → v2 ≡ v) →
+    TellsReply r [] [] n → Serves (Ok call) [] [] (Some v) (Some v2) n
+made call r v v2 n stepped unchanged told = (r, record { stepped = stepped; unchanged = unchanged; told = told })
+
+-- a question that is answered by a number
+pub asked : (call : Call Key Signature) (r : Reply Key Signature) (v : View) (n : ℕ) →
+    AtEach order.cmp v (λ m calls. IsSteppedAt m calls call r v) → Is n ≡ answer_to r →
+    Serves (Ok call) [] [] (Some v) (Some v) n
+asked call r v n stepped is =
+    made call r v v n stepped (λ _. refl) (inr (subst (λ a. Tells a [] [] n) is (refl, refl)))

@@ -1,0 +1,10 @@
+use Rattle.std.proofs.Common.{refl}
+use Rattle.p2p_tracker.specs.Calls.Call.{Ask}
+use Rattle.p2p_tracker.specs.Calls.Question.{NumberTracked}
+use Rattle.p2p_directory.specs.declared.run.commands.Reply.TheVariants as reply
+use Rattle.p2p_session.proofs.Direct.{asked}
+use Rattle.p2p_session.proofs.single.tracked.Goals as goal
+
+pub returns : goal.returns
+returns c =
+    asked (Ask NumberTracked) (reply.Tracked c.tracked.result) c.args.node.now c.tracked.result c.tracked.ensures refl

@@ -1,0 +1,131 @@
+//! Calls on a single peer, and the number of peers, straight to the node: they make no command, and
+//! answer a number alone.
+
+ghost use Rattle.std.specs.Prelude.{[], Ok, Some};
+ghost use Rattle.p2p_session.specs.Given.{and_then, nanos_of};
+ghost use Rattle.p2p_session.specs.Sessions.{Serves, of_peer, of_peer_at};
+ghost use Rattle.p2p_tracker.specs.Calls.Call.{Connect, Release, Block, Ask};
+ghost use Rattle.p2p_tracker.specs.Calls.Question.{StatusOf, NumberTracked, IsEligible};
+ghost use Rattle.p2p_tracker.specs.Calls.Question.{IsAcceptable};
+
+use crate::given::{key, moment};
+use crate::key::Key;
+use crate::refusal::Refusal;
+use crate::reply::{status_of, tell, truth_of};
+use p2p_directory::node::Node;
+use std::time::Duration;
+
+/// `Directory::connect` of the peer of these bytes.
+pub fn connect(node: &mut Node<Key>, peer: &[u8], dialer: bool) -> u64
+    ensures { Serves (of_peer peer.now (λ p. Connect p dialer)) [] []
+        (Some node.old) (Some node.new) result }
+{
+    match key(peer) {
+        Ok(peer) => {
+            let reply = node.connect(&peer, dialer);
+            tell(node.directory().allocator(), reply, &mut [])
+        }
+        Err(refusal) => refusal.number(),
+    }
+}
+
+/// `Directory::release` of what is held of the peer of these bytes.
+pub fn release(node: &mut Node<Key>, peer: &[u8]) -> u64
+    ensures { Serves (of_peer peer.now (λ p. Release p)) [] []
+        (Some node.old) (Some node.new) result }
+{
+    match key(peer) {
+        Ok(peer) => {
+            let reply = node.release(&peer);
+            tell(node.directory().allocator(), reply, &mut [])
+        }
+        Err(refusal) => refusal.number(),
+    }
+}
+
+/// `Directory::status` of the peer of these bytes.
+pub fn status(node: &Node<Key>, peer: &[u8]) -> u64
+    ensures { Serves (of_peer peer.now (λ p. Ask (StatusOf p))) [] []
+        (Some node.now) (Some node.now) result }
+{
+    match key(peer) {
+        Ok(peer) => status_of(node.status(&peer)),
+        Err(refusal) => refusal.number(),
+    }
+}
+
+/// `Directory::tracked`.
+pub fn tracked(node: &Node<Key>) -> u64
+    ensures { Serves (Ok (Ask NumberTracked)) [] [] (Some node.now) (Some node.now) result }
+{
+    node.tracked() as u64
+}
+
+/// `Directory::eligible` of the peer of these bytes.
+pub fn eligible(node: &Node<Key>, peer: &[u8], seconds: u64, nanos: u32) -> u64
+    ensures { Serves (of_peer_at peer.now seconds nanos (λ p now. Ask (IsEligible p now))) [] []
+        (Some node.now) (Some node.now) result }
+{
+    match key(peer) {
+        Ok(peer) => eligible_at(node, &peer, moment(seconds, nanos)),
+        Err(refusal) => refusal.number(),
+    }
+}
+
+// .. at a moment that was read.
+fn eligible_at(node: &Node<Key>, peer: &Key, now: Result<Duration, Refusal>) -> u64
+    ensures { Serves (and_then (nanos_of now) (λ t. Ok (Ask (IsEligible peer.now t)))) [] []
+        (Some node.now) (Some node.now) result }
+{
+    match now {
+        Ok(now) => truth_of(node.eligible(peer, now)),
+        Err(refusal) => refusal.number(),
+    }
+}
+
+/// `Directory::acceptable` of the peer of these bytes.
+pub fn acceptable(node: &Node<Key>, peer: &[u8], seconds: u64, nanos: u32) -> u64
+    ensures { Serves (of_peer_at peer.now seconds nanos (λ p now. Ask (IsAcceptable p now))) [] []
+        (Some node.now) (Some node.now) result }
+{
+    match key(peer) {
+        Ok(peer) => acceptable_at(node, &peer, moment(seconds, nanos)),
+        Err(refusal) => refusal.number(),
+    }
+}
+
+// .. at a moment that was read.
+fn acceptable_at(node: &Node<Key>, peer: &Key, now: Result<Duration, Refusal>) -> u64
+    ensures { Serves (and_then (nanos_of now) (λ t. Ok (Ask (IsAcceptable peer.now t)))) [] []
+        (Some node.now) (Some node.now) result }
+{
+    match now {
+        Ok(now) => truth_of(node.acceptable(peer, now)),
+        Err(refusal) => refusal.number(),
+    }
+}
+
+/// `Directory::block` of the peer of these bytes.
+pub fn block(node: &mut Node<Key>, peer: &[u8], seconds: u64, nanos: u32) -> u64
+    ensures { Serves (of_peer_at peer.now seconds nanos (λ p now. Block p now)) [] []
+        (Some node.old) (Some node.new) result }
+{
+    match key(peer) {
+        Ok(peer) => block_at(node, &peer, moment(seconds, nanos)),
+        Err(refusal) => refusal.number(),
+    }
+}
+
+// .. at a moment that was read.
+fn block_at(node: &mut Node<Key>, peer: &Key, now: Result<Duration, Refusal>) -> u64
+    ensures { Serves (and_then (nanos_of now) (λ t. Ok (Block peer.now t))) [] []
+        (Some node.old) (Some node.new) result }
+{
+    match now {
+        Ok(now) => {
+            let reply = node.block(peer, now);
+            tell(node.directory().allocator(), reply, &mut [])
+        }
+        Err(refusal) => refusal.number(),
+    }
+}
