@@ -1,8 +1,6 @@
 -- A call that was made straight at the node is one that was asked for.
-use Rattle.std.proofs.Common.{◌≡◌, ℕ, false, true, Bool, [], Ok, Some, inr, refl, subst}
-use Rattle.std.specs.Prelude.{Option}
+use Rattle.std.proofs.Common.{◌≡◌, ℕ, false, [], Ok, Some, inr, refl, subst}
 use Rattle.p2p_tracker.specs.Calls.{Call}
-use Rattle.p2p_tracker.specs.declared.record.Status.{Status}
 use Rattle.p2p_directory.specs.Run.{was_made}
 use Rattle.p2p_directory.specs.Nodes.{AtEach, IsSteppedAt}
 use Rattle.p2p_directory.specs.declared.run.commands.Reply.{Reply}
@@ -11,7 +9,7 @@ use Rattle.p2p_session.specs.declared.key.Key.{Key}
 use Rattle.p2p_session.specs.declared.key.Signature.{Signature}
 use Rattle.p2p_session.specs.contracts.key.KeyOrd.TheImpl.{ghosts as order}
 use Rattle.p2p_session.specs.Views.{View}
-use Rattle.p2p_session.specs.Answers.{Answer, Tells, TellsReply, answer_to}
+use Rattle.p2p_session.specs.Answers.{Tells, TellsReply, answer_to}
 use Rattle.p2p_session.specs.Answers.Answer.{Is}
 use Rattle.p2p_session.specs.Sessions.{Serves}
 
