@@ -181,6 +181,40 @@ impl<C: PublicKey> Node<C> {
         self.endpoint.track(index, peers)
     }
 
+    /// Reserves the peer for a dial at the moment `now`, a time since the epoch, with the draw of its
+    /// jitter, as [`Node::step`] of `Command::Dial` does: what is granted is held, and want of memory
+    /// is `Reply::OutOfMemory`.
+    ///
+    /// # Cost
+    ///
+    /// That of [`Directory::dial`], and a search or two in what is held; where it isn't granted two
+    /// more.
+    pub fn dial(&mut self, peer: &C, now: Duration, draw: Duration) -> Reply<C>
+        ensures stepped { IsStepped C.cmp (Command.Dial peer.now now draw) result self.old self.new }
+        ensures unchanged { was_made result ≡ false → self.new ≡ self.old }
+        ensures limits { self.new.limits ≡ self.old.limits }
+        ensures verifier { self.new.verifier ≡ self.old.verifier }
+    {
+        self.endpoint.dial(peer, now, draw)
+    }
+
+    /// Reserves the peer that comes at the moment `now`, a time since the epoch, with the draw of its
+    /// jitter, as [`Node::step`] of `Command::Listen` does: what is granted is held, and want of
+    /// memory is `Reply::OutOfMemory`.
+    ///
+    /// # Cost
+    ///
+    /// That of [`Directory::listen`], and a search or two in what is held; where it isn't granted two
+    /// more.
+    pub fn listen(&mut self, peer: &C, now: Duration, draw: Duration) -> Reply<C>
+        ensures stepped { IsStepped C.cmp (Command.Listen peer.now now draw) result self.old self.new }
+        ensures unchanged { was_made result ≡ false → self.new ≡ self.old }
+        ensures limits { self.new.limits ≡ self.old.limits }
+        ensures verifier { self.new.verifier ≡ self.old.verifier }
+    {
+        self.endpoint.listen(peer, now, draw)
+    }
+
     /// Connects the peer, where it is reserved, as [`Node::step`] of `Command::Connect` does. Takes
     /// no memory.
     ///
@@ -201,7 +235,7 @@ impl<C: PublicKey> Node<C> {
     ///
     /// # Cost
     ///
-    /// A search or two in what is held, and that of [`Directory::release`].
+    /// A search in what is held, and that of [`Directory::release`].
     pub fn release(&mut self, peer: &C) -> Reply<C>
         ensures stepped { IsStepped C.cmp (Command.Release peer.now) result self.old self.new }
         ensures unchanged { was_made result ≡ false → self.new ≡ self.old }
@@ -224,6 +258,63 @@ impl<C: PublicKey> Node<C> {
         ensures verifier { self.new.verifier ≡ self.old.verifier }
     {
         self.endpoint.block(peer, now)
+    }
+
+    /// Ends the blocks that hold until the moment `now`, a time since the epoch, or until an earlier
+    /// one, and says whether there were any: what [`Node::step`] replies to
+    /// `Command::UnblockExpired`. Takes no memory.
+    ///
+    /// # Cost
+    ///
+    /// That of [`Directory::unblock_expired`].
+    pub fn unblock_expired(&mut self, now: Duration) -> bool
+        ensures stepped { IsStepped C.cmp (Command.UnblockExpired now) (Reply.UnblockExpired result)
+            self.old self.new }
+        ensures limits { self.new.limits ≡ self.old.limits }
+        ensures verifier { self.new.verifier ≡ self.old.verifier }
+    {
+        self.endpoint.unblock_expired(now)
+    }
+
+    /// Forgets the cooldowns whose dial moment is at or before the moment `now`, a time since the
+    /// epoch, and says how many: what [`Node::step`] replies to `Command::ForgetCooled`. Takes no
+    /// memory.
+    ///
+    /// # Cost
+    ///
+    /// That of [`Directory::forget_cooled`].
+    pub fn forget_cooled(&mut self, now: Duration) -> usize
+        ensures stepped { IsStepped C.cmp (Command.ForgetCooled now) (Reply.ForgetCooled result)
+            self.old self.new }
+        ensures limits { self.new.limits ≡ self.old.limits }
+        ensures verifier { self.new.verifier ≡ self.old.verifier }
+    {
+        self.endpoint.forget_cooled(now)
+    }
+
+    /// The least moment until which a block holds, a time since the epoch: what [`Node::step`]
+    /// replies to `Command::NextUnblock`. Takes no memory, and changes nothing.
+    ///
+    /// # Cost
+    ///
+    /// That of [`Directory::next_unblock`].
+    pub fn next_unblock(&self) -> Option<Duration>
+        ensures { IsStepped C.cmp Command.NextUnblock (Reply.NextUnblock result) self.now self.now }
+    {
+        self.endpoint.next_unblock()
+    }
+
+    /// The index of the latest set: what [`Node::step`] replies to `Command::LatestSetIndex`. Takes
+    /// no memory, and changes nothing.
+    ///
+    /// # Cost
+    ///
+    /// Constant.
+    pub fn latest_set_index(&self) -> Option<u64>
+        ensures { IsStepped C.cmp Command.LatestSetIndex (Reply.LatestSetIndex result)
+            self.now self.now }
+    {
+        self.endpoint.latest_set_index()
     }
 
     /// Whether the peer is connected, or `None` where there is no record of it: what [`Node::step`]

@@ -3,9 +3,8 @@
 ghost use Rattle.std.specs.Prelude.{◌≡◌, Ok};
 ghost use Rattle.p2p_session.specs.Given.{asked, and_then, IsRead, ArePeersRead, infos_spelled};
 ghost use Rattle.p2p_session.specs.Given.{bits_spelled};
-ghost use Rattle.p2p_session.specs.Sessions.{of_peer, at_moment, with_draw};
-ghost use Rattle.p2p_tracker.specs.Calls.Call.{Dial, Listen};
-ghost use Rattle.p2p_tracker.specs.Calls.Call.{UnblockExpired, ForgetCooled, Ask, Update};
+ghost use Rattle.p2p_session.specs.Sessions.{of_peer, at_moment};
+ghost use Rattle.p2p_tracker.specs.Calls.Call.{Ask, Update};
 ghost use Rattle.p2p_tracker.specs.Calls.Question.{BlockedAt, InfoOf, DialableAt, InfosFor};
 
 use crate::given::{bits, infos, key, moment, set};
@@ -41,50 +40,6 @@ pub fn infos_for(
     let bit_vec = bits(alloc, bytes)?;
     let now = moment(seconds, nanos)?;
     Ok(Command::Infos { bit_vec, now })
-}
-
-pub fn dial(
-    peer: &[u8],
-    seconds: u64,
-    nanos: u32,
-    draw_seconds: u64,
-    draw_nanos: u32,
-) -> Result<Command<Key>, Refusal>
-    ensures { asked result ≡ with_draw peer.now seconds nanos draw_seconds draw_nanos
-        (λ p now draw. Dial p now draw) }
-{
-    let peer = key(peer)?;
-    let now = moment(seconds, nanos)?;
-    let draw = moment(draw_seconds, draw_nanos)?;
-    Ok(Command::Dial { peer, now, draw })
-}
-
-pub fn listen(
-    peer: &[u8],
-    seconds: u64,
-    nanos: u32,
-    draw_seconds: u64,
-    draw_nanos: u32,
-) -> Result<Command<Key>, Refusal>
-    ensures { asked result ≡ with_draw peer.now seconds nanos draw_seconds draw_nanos
-        (λ p now draw. Listen p now draw) }
-{
-    let peer = key(peer)?;
-    let now = moment(seconds, nanos)?;
-    let draw = moment(draw_seconds, draw_nanos)?;
-    Ok(Command::Listen { peer, now, draw })
-}
-
-pub fn unblock_expired(seconds: u64, nanos: u32) -> Result<Command<Key>, Refusal>
-    ensures { asked result ≡ at_moment seconds nanos (λ now. UnblockExpired now) }
-{
-    Ok(Command::UnblockExpired(moment(seconds, nanos)?))
-}
-
-pub fn forget_cooled(seconds: u64, nanos: u32) -> Result<Command<Key>, Refusal>
-    ensures { asked result ≡ at_moment seconds nanos (λ now. ForgetCooled now) }
-{
-    Ok(Command::ForgetCooled(moment(seconds, nanos)?))
 }
 
 pub fn blocked_peers(seconds: u64, nanos: u32) -> Result<Command<Key>, Refusal>

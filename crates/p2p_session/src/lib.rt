@@ -245,8 +245,10 @@ impl Session {
     ) -> u64
         ensures { Dials peer.now seconds nanos draw_seconds draw_nanos self.old self.new result }
     {
-        let command = commands::dial(peer, seconds, nanos, draw_seconds, draw_nanos);
-        self.serve(command, &mut [])
+        match &mut self.node {
+            Some(node) => single::dial(node, peer, seconds, nanos, draw_seconds, draw_nanos),
+            None => Refusal::NoNode.number(),
+        }
     }
 
     /// `Directory::listen`: 1 where the peer that comes is reserved, 0 where it isn't granted.
@@ -260,8 +262,10 @@ impl Session {
     ) -> u64
         ensures { Listens peer.now seconds nanos draw_seconds draw_nanos self.old self.new result }
     {
-        let command = commands::listen(peer, seconds, nanos, draw_seconds, draw_nanos);
-        self.serve(command, &mut [])
+        match &mut self.node {
+            Some(node) => single::listen(node, peer, seconds, nanos, draw_seconds, draw_nanos),
+            None => Refusal::NoNode.number(),
+        }
     }
 
     /// `Directory::connect`: 1, or `NotReserved`.
@@ -298,21 +302,30 @@ impl Session {
     pub fn unblock_expired(&mut self, seconds: u64, nanos: u32) -> u64
         ensures { Unblocks seconds nanos self.old self.new result }
     {
-        self.serve(commands::unblock_expired(seconds, nanos), &mut [])
+        match &mut self.node {
+            Some(node) => single::unblock_expired(node, seconds, nanos),
+            None => Refusal::NoNode.number(),
+        }
     }
 
     /// `Directory::forget_cooled`: how many cooldowns were forgotten.
     pub fn forget_cooled(&mut self, seconds: u64, nanos: u32) -> u64
         ensures { Forgets seconds nanos self.old self.new result }
     {
-        self.serve(commands::forget_cooled(seconds, nanos), &mut [])
+        match &mut self.node {
+            Some(node) => single::forget_cooled(node, seconds, nanos),
+            None => Refusal::NoNode.number(),
+        }
     }
 
     /// `Directory::next_unblock`: the moment, or `None`.
     pub fn next_unblock(&mut self, out: &mut [u8]) -> u64
         ensures { TellsUnblock out.old out.new self.old self.new result }
     {
-        self.serve(Ok(Command::NextUnblock), out)
+        match &self.node {
+            Some(node) => single::next_unblock(node, out),
+            None => Refusal::NoNode.number(),
+        }
     }
 
     /// `Directory::blocked_peers`: their keys.
@@ -343,7 +356,10 @@ impl Session {
     pub fn latest_set_index(&mut self, out: &mut [u8]) -> u64
         ensures { TellsLatestIndex out.old out.new self.old self.new result }
     {
-        self.serve(Ok(Command::LatestSetIndex), out)
+        match &self.node {
+            Some(node) => single::latest_set_index(node, out),
+            None => Refusal::NoNode.number(),
+        }
     }
 
     /// `Directory::latest_update`: the index, how many peers the first three lists have, and the

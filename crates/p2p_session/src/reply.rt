@@ -104,7 +104,8 @@ fn tell_set(set: Option<OrderedSet<Key>>, out: &mut [u8]) -> u64
     }
 }
 
-fn tell_moment(moment: Option<Duration>, out: &mut [u8]) -> u64
+/// Answers a moment, if there is one.
+pub fn tell_moment(moment: Option<Duration>, out: &mut [u8]) -> u64
     ensures { Tells (answer_to (Reply.NextUnblock moment)) out.old out.new result }
 {
     match moment {
@@ -135,7 +136,8 @@ pub fn truth_of(is: bool) -> u64
     u64::from(is)
 }
 
-fn tell_index(index: Option<u64>, out: &mut [u8]) -> u64
+/// Answers an index, if there is one.
+pub fn tell_index(index: Option<u64>, out: &mut [u8]) -> u64
     ensures { Tells (optional number index) out.old out.new result }
 {
     match index {

@@ -1,19 +1,103 @@
-//! Calls on a single peer, and the number of peers, straight to the node: they make no command, and
-//! answer a number alone.
+//! Calls without lists, straight to the node: they make no command.
 
 ghost use Rattle.std.specs.Prelude.{[], Ok, Some};
 ghost use Rattle.p2p_session.specs.Given.{and_then, nanos_of};
-ghost use Rattle.p2p_session.specs.Sessions.{Serves, of_peer, of_peer_at};
-ghost use Rattle.p2p_tracker.specs.Calls.Call.{Connect, Release, Block, Ask};
+ghost use Rattle.p2p_session.specs.Sessions.{Serves, of_peer, of_peer_at, at_moment, with_draw};
+ghost use Rattle.p2p_tracker.specs.Calls.Call.{Dial, Listen, Connect, Release, Block, Ask};
+ghost use Rattle.p2p_tracker.specs.Calls.Call.{UnblockExpired, ForgetCooled};
 ghost use Rattle.p2p_tracker.specs.Calls.Question.{StatusOf, NumberTracked, IsEligible};
-ghost use Rattle.p2p_tracker.specs.Calls.Question.{IsAcceptable};
+ghost use Rattle.p2p_tracker.specs.Calls.Question.{IsAcceptable, NextUnblock, LatestIndex};
 
 use crate::given::{key, moment};
 use crate::key::Key;
 use crate::refusal::Refusal;
-use crate::reply::{status_of, tell, truth_of};
+use crate::reply::{status_of, tell, tell_index, tell_moment, truth_of};
 use p2p_directory::node::Node;
 use std::time::Duration;
+
+/// `Directory::dial` of the peer of these bytes.
+pub fn dial(
+    node: &mut Node<Key>,
+    peer: &[u8],
+    seconds: u64,
+    nanos: u32,
+    draw_seconds: u64,
+    draw_nanos: u32,
+) -> u64
+    ensures { Serves (with_draw peer.now seconds nanos draw_seconds draw_nanos
+        (λ p now draw. Dial p now draw)) [] [] (Some node.old) (Some node.new) result }
+{
+    match key(peer) {
+        Ok(peer) => dial_at(
+            node,
+            &peer,
+            moment(seconds, nanos),
+            moment(draw_seconds, draw_nanos),
+        ),
+        Err(refusal) => refusal.number(),
+    }
+}
+
+// .. at a moment and with a draw that were read.
+fn dial_at(
+    node: &mut Node<Key>,
+    peer: &Key,
+    now: Result<Duration, Refusal>,
+    draw: Result<Duration, Refusal>,
+) -> u64
+    ensures { Serves (and_then (nanos_of now) (λ t. and_then (nanos_of draw) (λ d.
+        Ok (Dial peer.now t d)))) [] [] (Some node.old) (Some node.new) result }
+{
+    match (now, draw) {
+        (Ok(now), Ok(draw)) => {
+            let reply = node.dial(peer, now, draw);
+            tell(node.directory().allocator(), reply, &mut [])
+        }
+        (Err(refusal), _) | (Ok(_), Err(refusal)) => refusal.number(),
+    }
+}
+
+/// `Directory::listen` of the peer of these bytes.
+pub fn listen(
+    node: &mut Node<Key>,
+    peer: &[u8],
+    seconds: u64,
+    nanos: u32,
+    draw_seconds: u64,
+    draw_nanos: u32,
+) -> u64
+    ensures { Serves (with_draw peer.now seconds nanos draw_seconds draw_nanos
+        (λ p now draw. Listen p now draw)) [] [] (Some node.old) (Some node.new) result }
+{
+    match key(peer) {
+        Ok(peer) => listen_at(
+            node,
+            &peer,
+            moment(seconds, nanos),
+            moment(draw_seconds, draw_nanos),
+        ),
+        Err(refusal) => refusal.number(),
+    }
+}
+
+// .. at a moment and with a draw that were read.
+fn listen_at(
+    node: &mut Node<Key>,
+    peer: &Key,
+    now: Result<Duration, Refusal>,
+    draw: Result<Duration, Refusal>,
+) -> u64
+    ensures { Serves (and_then (nanos_of now) (λ t. and_then (nanos_of draw) (λ d.
+        Ok (Listen peer.now t d)))) [] [] (Some node.old) (Some node.new) result }
+{
+    match (now, draw) {
+        (Ok(now), Ok(draw)) => {
+            let reply = node.listen(peer, now, draw);
+            tell(node.directory().allocator(), reply, &mut [])
+        }
+        (Err(refusal), _) | (Ok(_), Err(refusal)) => refusal.number(),
+    }
+}
 
 /// `Directory::connect` of the peer of these bytes.
 pub fn connect(node: &mut Node<Key>, peer: &[u8], dialer: bool) -> u64
@@ -128,4 +212,40 @@ fn block_at(node: &mut Node<Key>, peer: &Key, now: Result<Duration, Refusal>) ->
         }
         Err(refusal) => refusal.number(),
     }
+}
+
+/// `Directory::unblock_expired`.
+pub fn unblock_expired(node: &mut Node<Key>, seconds: u64, nanos: u32) -> u64
+    ensures { Serves (at_moment seconds nanos (λ now. UnblockExpired now)) [] []
+        (Some node.old) (Some node.new) result }
+{
+    match moment(seconds, nanos) {
+        Ok(now) => truth_of(node.unblock_expired(now)),
+        Err(refusal) => refusal.number(),
+    }
+}
+
+/// `Directory::forget_cooled`.
+pub fn forget_cooled(node: &mut Node<Key>, seconds: u64, nanos: u32) -> u64
+    ensures { Serves (at_moment seconds nanos (λ now. ForgetCooled now)) [] []
+        (Some node.old) (Some node.new) result }
+{
+    match moment(seconds, nanos) {
+        Ok(now) => node.forget_cooled(now) as u64,
+        Err(refusal) => refusal.number(),
+    }
+}
+
+/// `Directory::next_unblock`.
+pub fn next_unblock(node: &Node<Key>, out: &mut [u8]) -> u64
+    ensures { Serves (Ok (Ask NextUnblock)) out.old out.new (Some node.now) (Some node.now) result }
+{
+    tell_moment(node.next_unblock(), out)
+}
+
+/// `Directory::latest_set_index`.
+pub fn latest_set_index(node: &Node<Key>, out: &mut [u8]) -> u64
+    ensures { Serves (Ok (Ask LatestIndex)) out.old out.new (Some node.now) (Some node.now) result }
+{
+    tell_index(node.latest_set_index(), out)
 }

@@ -4,6 +4,7 @@ mod asked;
 mod blocks;
 mod calls;
 mod exchanges;
+mod nodes;
 mod runs;
 mod wire;
 
@@ -12,13 +13,14 @@ use crate::scenarios::asked::{Question, questions};
 use crate::scenarios::blocks::{Phase, phases};
 use crate::scenarios::calls::{Between, cycles, statuses, tracks, updates};
 use crate::scenarios::exchanges::{exchanges, receives};
+use crate::scenarios::nodes::{Served, of_a_node};
 use crate::scenarios::runs::{Kind, Made, fill, runs};
 use crate::scenarios::wire::{Way, bits, infos, ingresses, judgements, peers};
 use crate::stop::Stop;
 use crate::times::Times;
 use p2p_discovery::codec::TestKey;
 
-const NAMES: [&str; 42] = [
+const NAMES: [&str; 46] = [
     "track",
     "status",
     "listen",
@@ -55,6 +57,10 @@ const NAMES: [&str; 42] = [
     "exchange",
     "exchange_untold",
     "receive",
+    "node_status",
+    "node_listen",
+    "node_track",
+    "node_receive",
     "run_tracks",
     "run_listens",
     "run_cycles",
@@ -135,6 +141,21 @@ fn of_bytes<K: TimedKey>(
         "exchange" => exchanges::<K>(rt, count, samples, true),
         "exchange_untold" => exchanges::<K>(rt, count, samples, false),
         "receive" => receives::<K>(rt, count, samples),
+        _ => of_nodes::<K>(rt, name, count, samples),
+    }
+}
+
+fn of_nodes<K: TimedKey>(
+    rt: &HostRuntime,
+    name: &str,
+    count: usize,
+    samples: usize,
+) -> Result<Times, Stop> {
+    match name {
+        "node_status" => of_a_node::<K>(rt, count, samples, Served::Status),
+        "node_listen" => of_a_node::<K>(rt, count, samples, Served::Listen),
+        "node_track" => of_a_node::<K>(rt, count, samples, Served::Track),
+        "node_receive" => of_a_node::<K>(rt, count, samples, Served::Receive),
         _ => Err(Stop::Words),
     }
 }

@@ -1,14 +1,16 @@
 -- A node stands where its server does.
 use Rattle.std.proofs.Common.{◌≡◌, true, List, Option, is_some, inl, inr, refl, sym, ◌∙◌, ap, subst}
+use Rattle.std.specs.declared.cmp.Ordering.{Ordering}
 use Rattle.p2p_tracker.specs.declared.directory.Metadata.{Metadata}
+use Rattle.p2p_directory.specs.declared.run.commands.Command.{Command}
 use Rattle.p2p_directory.specs.declared.run.commands.Reply.{Reply}
 use Rattle.p2p_directory.specs.declared.run.commands.Reply.TheVariants as reply
 use Rattle.p2p_tracker.specs.Calls.{Settings, Call}
 use Rattle.p2p_tracker.specs.World.{World}
 use Rattle.p2p_directory.specs.Held.{held_of}
 use Rattle.p2p_directory.specs.Refinement.{Refines}
-use Rattle.p2p_directory.specs.Run.{world_after, next, Holds}
-use Rattle.p2p_directory.specs.Nodes.{Made, NodeView, NodeStandsAt, IsSteppedAt, may_reserve}
+use Rattle.p2p_directory.specs.Run.{call_of, world_after, next, Holds}
+use Rattle.p2p_directory.specs.Nodes.{Made, NodeView, NodeStandsAt, IsStepped, IsSteppedAt, made_of, may_reserve}
 use Rattle.p2p_directory.specs.Private.Endpoints.{IsEndpointServedAt}
 use Rattle.p2p_directory.specs.Private.Serving.{ServerView, StandsAt}
 use Rattle.p2p_directory.specs.Private.Serving as serving
@@ -60,6 +62,18 @@ pub stepped : {C S : Type 0} (m : Made C S) (calls : List (Call C S)) (n n2 n3 n
 stepped m calls n n2 n3 n4 c r room less serves at =
     let answers = serves (subst (NodeStandsAt m calls) (sym room) at) in
     record { answer = inl answers.answer; left = subst (NodeStandsAt m (next m.directory calls c r)) (sym less) answers.left }
+
+-- a command that a server served, where nothing is left to do: n is the node before it, n2 after it
+pub stepped_by : {C S : Type 0} (cmp : C → C → Ordering) (x : Command C S) (r : Reply C S) (n n2 : NodeView C S) (v v2 : ServerView C S) →
+    n.directory ≡ v.directory → ((q : C) → held_of cmp n.held q ≡ held_in cmp v.slots q) →
+    n2.directory ≡ v2.directory →
+    ((q : C) → held_of cmp n2.held q ≡ held_in cmp v2.slots q) → n2.limits ≡ n.limits →
+    n2.verifier ≡ n.verifier → serving.IsServed cmp x r v v2 → IsStepped cmp x r n n2
+stepped_by cmp x r n n2 v v2 directory held directory2 held2 limits verifier serves = λ given calls at.
+    let m = made_of cmp given in
+    stepped m calls n n n2 n2 (call_of x) r refl refl
+    (served m calls n n2 v v2 (call_of x) r directory held directory2 held2 limits verifier
+    (serves given.bootstrappers.items given.myself given.cfg calls)) at
 
 -- room for what a command may be granted was refused
 pub no_room : {C S : Type 0} (m : Made C S) (calls : List (Call C S)) (n n2 : NodeView C S) (c : Call C S) →

@@ -37,6 +37,7 @@ use std::marker::Model;
 use std::time::Duration;
 
 mod exchanges;
+mod reservations;
 mod single;
 
 /// A server, by what infos are judged, and the limits under which frames are read. A contract sees

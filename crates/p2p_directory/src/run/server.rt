@@ -67,13 +67,13 @@ impl<C: PublicKey> Server<C> {
             Command::Release(peer) => self.release(&peer),
             Command::UpdatePeers(infos) => self.update_peers(infos),
             Command::Block { peer, now } => self.block(&peer, now),
-            Command::UnblockExpired(now) => self.unblock_expired(now),
-            Command::ForgetCooled(now) => self.forget_cooled(now),
-            Command::NextUnblock => self.next_unblock(),
+            Command::UnblockExpired(now) => Reply::UnblockExpired(self.unblock_expired(now)),
+            Command::ForgetCooled(now) => Reply::ForgetCooled(self.forget_cooled(now)),
+            Command::NextUnblock => Reply::NextUnblock(self.next_unblock()),
             Command::BlockedPeers(now) => self.blocked_peers(now),
             Command::Status(peer) => Reply::Status(self.status(&peer)),
             Command::GetPeerSet(index) => self.get_peer_set(index),
-            Command::LatestSetIndex => self.latest_set_index(),
+            Command::LatestSetIndex => Reply::LatestSetIndex(self.latest_set_index()),
             Command::LatestUpdate => self.latest_update(),
             Command::All => self.all(),
             Command::Info(peer) => self.info(&peer),
@@ -105,6 +105,17 @@ impl<C: PublicKey> Server<C> {
             held_in C.cmp self.new.slots q ≡ held_in C.cmp self.old.slots q }
     {
         make_slot(&mut self.slots, command)
+    }
+
+    /// Makes a slot for the peer, where there is none.
+    pub fn make_slot(&mut self, peer: &C) -> Result<(), AllocError>
+        ensures err { OnErr result (self.new ≡ self.old) }
+        ensures room { OnOk result (has_slot C.cmp self.new.slots peer.now ≡ true) }
+        ensures directory { self.new.directory ≡ self.old.directory }
+        ensures held { (q : C) →
+            held_in C.cmp self.new.slots q ≡ held_in C.cmp self.old.slots q }
+    {
+        self.slots.make(*peer)
     }
 
     /// Takes the slot of the peer out, where it is empty. Takes no memory.
@@ -165,8 +176,8 @@ impl<C: PublicKey> Server<C> {
         }
     }
 
-    // Reserves the peer for a dial, where that is granted.
-    fn dial(&mut self, peer: &C, now: Duration, draw: Duration) -> Reply<C>
+    /// Reserves the peer for a dial, where that is granted.
+    pub fn dial(&mut self, peer: &C, now: Duration, draw: Duration) -> Reply<C>
         requires room { has_slot C.cmp self.old.slots peer.now ≡ true }
         ensures served { IsServed C.cmp (Command.Dial peer.now now draw)
             result self.old self.new }
@@ -184,8 +195,8 @@ impl<C: PublicKey> Server<C> {
         }
     }
 
-    // Reserves the peer that comes, where that is granted.
-    fn listen(&mut self, peer: &C, now: Duration, draw: Duration) -> Reply<C>
+    /// Reserves the peer that comes, where that is granted.
+    pub fn listen(&mut self, peer: &C, now: Duration, draw: Duration) -> Reply<C>
         requires room { has_slot C.cmp self.old.slots peer.now ≡ true }
         ensures served { IsServed C.cmp (Command.Listen peer.now now draw)
             result self.old self.new }
@@ -235,6 +246,23 @@ impl<C: PublicKey> Server<C> {
         }
     }
 
+    /// Releases the reservation of the peer, where one is held, and takes its slot out.
+    pub fn release_slot(&mut self, peer: &C) -> Reply<C>
+        ensures served { IsServed C.cmp (Command.Release peer.now) result self.old self.new }
+        ensures directory { was_made result ≡ false → self.new.directory ≡ self.old.directory }
+        ensures held { was_made result ≡ false → (q : C) →
+            held_in C.cmp self.new.slots q ≡ held_in C.cmp self.old.slots q }
+        ensures gone { has_slot C.cmp self.new.slots peer.now ≡ false }
+    {
+        match self.slots.remove(peer) {
+            Some(reservation) => {
+                self.directory.release(reservation);
+                Reply::Release
+            }
+            None => Reply::NotHeld,
+        }
+    }
+
     // Offers the infos to the records of their peers.
     fn update_peers(&mut self, infos: Vec<Info<C>>) -> Reply<C>
         ensures served { IsServed C.cmp (Command.UpdatePeers infos) result self.old self.new }
@@ -257,22 +285,23 @@ impl<C: PublicKey> Server<C> {
         }
     }
 
-    // Ends the blocks that hold until the moment, or until an earlier one.
-    fn unblock_expired(&mut self, now: Duration) -> Reply<C>
-        ensures served { IsServed C.cmp (Command.UnblockExpired now) result self.old self.new }
-        ensures unchanged { was_made result ≡ false → self.new ≡ self.old }
+    /// Ends the blocks that hold until the moment, or until an earlier one, and says whether there
+    /// were any.
+    pub fn unblock_expired(&mut self, now: Duration) -> bool
+        ensures served { IsServed C.cmp (Command.UnblockExpired now) (Reply.UnblockExpired result)
+            self.old self.new }
         ensures slots { self.new.slots ≡ self.old.slots }
     {
-        Reply::UnblockExpired(self.directory.unblock_expired(now))
+        self.directory.unblock_expired(now)
     }
 
-    // Forgets the cooldowns whose dial moment is at or before the moment.
-    fn forget_cooled(&mut self, now: Duration) -> Reply<C>
-        ensures served { IsServed C.cmp (Command.ForgetCooled now) result self.old self.new }
-        ensures unchanged { was_made result ≡ false → self.new ≡ self.old }
+    /// Forgets the cooldowns whose dial moment is at or before the moment, and says how many.
+    pub fn forget_cooled(&mut self, now: Duration) -> usize
+        ensures served { IsServed C.cmp (Command.ForgetCooled now) (Reply.ForgetCooled result)
+            self.old self.new }
         ensures slots { self.new.slots ≡ self.old.slots }
     {
-        Reply::ForgetCooled(self.directory.forget_cooled(now))
+        self.directory.forget_cooled(now)
     }
 
     /// The directory, what is held, and these replies. Takes no memory.

@@ -118,6 +118,22 @@ impl<C: PublicKey> Slots<C> {
         slot.take()
     }
 
+    /// Takes the slot of the peer out, with the reservation that is in it, if there is one. Takes no
+    /// memory.
+    ///
+    /// # Cost
+    ///
+    /// One search among the slots.
+    pub fn remove(&mut self, peer: &C) -> Option<Reservation<C>>
+        ensures taken { result ≡ held_in C.cmp self.old peer.now }
+        ensures peer { IfSome result (λ metadata. key_of metadata ≡ peer.now) }
+        ensures gone { has_slot C.cmp self.new peer.now ≡ false }
+        ensures held { (q : C) → held_in C.cmp self.new q
+            ≡ (if is_at (C.cmp peer.now) q then None else held_in C.cmp self.old q) }
+    {
+        self.reservations.remove(peer).flatten()
+    }
+
     /// Whom the reservation of the peer is for, if one is held. Takes no memory.
     pub fn held(&self, peer: &C) -> Option<&Metadata<C>>
         ensures { option_map (λ m. m.now) result ≡ held_in C.cmp self.now peer.now }

@@ -9,8 +9,8 @@ use p2p_discovery::discovery::Info;
 use std::alloc::{AllocError, Global};
 use std::time::{Duration, Instant};
 
-// So many keys from a place on, or all where there are fewer.
-fn part<K>(keys: &[K], from: usize, count: usize) -> &[K] {
+/// So many keys from a place on, or all where there are fewer.
+pub(crate) fn part<K>(keys: &[K], from: usize, count: usize) -> &[K] {
     keys.get(from..from.saturating_add(count)).unwrap_or(keys)
 }
 

@@ -42,7 +42,8 @@ fn setup_of<K: TimedKey>(
     })
 }
 
-fn node<K: TimedKey>(
+/// A node of this number.
+pub(crate) fn node<K: TimedKey>(
     alloc: Global,
     number: u64,
     dial_fail_limit: usize,
@@ -145,8 +146,12 @@ pub(crate) fn exchanges<K: TimedKey>(
     times
 }
 
-// The frame of these infos.
-fn frame_of<K: TimedKey>(alloc: Global, keys: &[K], timestamp: u64) -> Result<Bytes, Stop> {
+/// The frame of these infos.
+pub(crate) fn frame_of<K: TimedKey>(
+    alloc: Global,
+    keys: &[K],
+    timestamp: u64,
+) -> Result<Bytes, Stop> {
     let infos = infos_of(alloc, keys, timestamp)?;
     if infos.len() >= 4_294_967_296 {
         return Err(Stop::Words);

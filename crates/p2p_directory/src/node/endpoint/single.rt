@@ -1,5 +1,5 @@
-//! Calls on a single peer, and the number of peers: what [`Endpoint::step`] does of their commands,
-//! with no command made.
+//! Calls that answer a number or a moment alone and need no slot: what [`Endpoint::step`] does of
+//! their commands, with no command made.
 
 ghost use Rattle.std.specs.Prelude.{◌≡◌, false};
 ghost use Rattle.p2p_directory.specs.Run.{was_made};
@@ -27,19 +27,6 @@ impl<C: PublicKey> Endpoint<C> {
         reply
     }
 
-    /// Releases the reservation of the peer, where one is held.
-    pub fn release(&mut self, peer: &C) -> Reply<C>
-        ensures stepped { IsStepped C.cmp (Command.Release peer.now) result
-            (node_of self.old) (node_of self.new) }
-        ensures unchanged { was_made result ≡ false → self.new ≡ self.old }
-        ensures limits { self.new.limits ≡ self.old.limits }
-        ensures verifier { self.new.verifier ≡ self.old.verifier }
-    {
-        let reply = self.server.release(peer);
-        self.server.in_order();
-        reply
-    }
-
     /// Blocks the peer.
     pub fn block(&mut self, peer: &C, now: Duration) -> Reply<C>
         ensures stepped { IsStepped C.cmp (Command.Block peer.now now) result
@@ -51,6 +38,47 @@ impl<C: PublicKey> Endpoint<C> {
         let reply = self.server.block(peer, now);
         self.server.in_order();
         reply
+    }
+
+    /// Ends the blocks that hold until the moment, or until an earlier one, and says whether there
+    /// were any.
+    pub fn unblock_expired(&mut self, now: Duration) -> bool
+        ensures stepped { IsStepped C.cmp (Command.UnblockExpired now) (Reply.UnblockExpired result)
+            (node_of self.old) (node_of self.new) }
+        ensures limits { self.new.limits ≡ self.old.limits }
+        ensures verifier { self.new.verifier ≡ self.old.verifier }
+    {
+        let ended = self.server.unblock_expired(now);
+        self.server.in_order();
+        ended
+    }
+
+    /// Forgets the cooldowns whose dial moment is at or before the moment, and says how many.
+    pub fn forget_cooled(&mut self, now: Duration) -> usize
+        ensures stepped { IsStepped C.cmp (Command.ForgetCooled now) (Reply.ForgetCooled result)
+            (node_of self.old) (node_of self.new) }
+        ensures limits { self.new.limits ≡ self.old.limits }
+        ensures verifier { self.new.verifier ≡ self.old.verifier }
+    {
+        let count = self.server.forget_cooled(now);
+        self.server.in_order();
+        count
+    }
+
+    /// The least moment until which a block holds.
+    pub fn next_unblock(&self) -> Option<Duration>
+        ensures { IsStepped C.cmp Command.NextUnblock (Reply.NextUnblock result)
+            (node_of self.now) (node_of self.now) }
+    {
+        self.server.next_unblock()
+    }
+
+    /// The index of the latest set.
+    pub fn latest_set_index(&self) -> Option<u64>
+        ensures { IsStepped C.cmp Command.LatestSetIndex (Reply.LatestSetIndex result)
+            (node_of self.now) (node_of self.now) }
+    {
+        self.server.latest_set_index()
     }
 
     /// Whether the peer is connected, or `None` where there is no record of it.

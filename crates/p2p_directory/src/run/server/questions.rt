@@ -12,11 +12,12 @@ use std::alloc::AllocError;
 use std::time::Duration;
 
 impl<C: PublicKey> Server<C> {
-    // The least moment until which a block holds.
-    pub(super) fn next_unblock(&self) -> Reply<C>
-        ensures { IsServed C.cmp Command.NextUnblock result self.now self.now }
+    /// The least moment until which a block holds.
+    pub fn next_unblock(&self) -> Option<Duration>
+        ensures { IsServed C.cmp Command.NextUnblock (Reply.NextUnblock result)
+            self.now self.now }
     {
-        Reply::NextUnblock(self.directory.next_unblock())
+        self.directory.next_unblock()
     }
 
     // The peers that are blocked at a moment.
@@ -47,11 +48,12 @@ impl<C: PublicKey> Server<C> {
         }
     }
 
-    // The index of the latest set.
-    pub(super) fn latest_set_index(&self) -> Reply<C>
-        ensures { IsServed C.cmp Command.LatestSetIndex result self.now self.now }
+    /// The index of the latest set.
+    pub fn latest_set_index(&self) -> Option<u64>
+        ensures { IsServed C.cmp Command.LatestSetIndex (Reply.LatestSetIndex result)
+            self.now self.now }
     {
-        Reply::LatestSetIndex(self.directory.latest_set_index())
+        self.directory.latest_set_index()
     }
 
     // The latest set, and all peers of the retained sets.

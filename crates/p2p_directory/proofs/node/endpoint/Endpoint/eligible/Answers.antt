@@ -1,16 +1,10 @@
 use Rattle.std.proofs.Common.{refl}
 use Rattle.p2p_directory.specs.declared.run.commands.Command.TheVariants as command
 use Rattle.p2p_directory.specs.declared.run.commands.Reply.TheVariants as reply
-use Rattle.p2p_directory.specs.Nodes.{made_of}
-use Rattle.p2p_directory.specs.Run.{call_of}
-use Rattle.p2p_directory.proofs.Nodes.Standing.{served, stepped}
+use Rattle.p2p_directory.proofs.Nodes.Standing.{stepped_by}
 use Rattle.p2p_directory.proofs.node.endpoint.Endpoint.eligible.Goals as goal
 
 pub returns : goal.returns
-returns g c = rw (← c.self.view_is) (λ given calls at.
-    let m = made_of g.C.Ord.cmp given in
-    let call = call_of (command.Eligible c.args.peer.now c.args.now) in
-    let r = reply.Eligible c.eligible.result in
-    stepped m calls _ _ _ _ call r refl refl
-    (served m calls _ _ c.self.inside.server c.self.inside.server call r refl c.self.invariant.1 refl c.self.invariant.1
-    refl refl (c.eligible.ensures given.bootstrappers.items given.myself given.cfg calls)) at)
+returns g c = rw (← c.self.view_is)
+    (stepped_by g.C.Ord.cmp (command.Eligible c.args.peer.now c.args.now) (reply.Eligible c.eligible.result) _ _
+    c.self.inside.server c.self.inside.server refl c.self.invariant.1 refl c.self.invariant.1 refl refl c.eligible.ensures)

@@ -1,0 +1,15 @@
+use Rattle.std.proofs.Common.{refl}
+use Rattle.p2p_directory.specs.declared.run.commands.Command.TheVariants as command
+use Rattle.p2p_directory.specs.declared.run.commands.Reply.TheVariants as reply
+use Rattle.p2p_directory.proofs.Nodes.Standing.{stepped_by}
+use Rattle.p2p_directory.proofs.Reservations.Slots.{held_is}
+use Rattle.p2p_directory.proofs.node.endpoint.Endpoint.forget_cooled.Goals as goal
+
+pub invariant_of-self : goal.invariant_of-self
+invariant_of-self g c = (c.self.invariant.0, held_is g.met.C.Ord.total g.met.C.PublicKey.exact c.forget_cooled-count.new.self.slots c.in_order.ensures)
+
+pub returns-clause-stepped : goal.returns-clause-stepped
+returns-clause-stepped g c = rw (← c.self.view_is)
+    (stepped_by g.C.Ord.cmp (command.ForgetCooled c.args.now) (reply.ForgetCooled c.forget_cooled-count.result) _ _
+    c.self.inside.server c.forget_cooled-count.new.self refl c.self.invariant.1 refl
+    (held_is g.met.C.Ord.total g.met.C.PublicKey.exact c.forget_cooled-count.new.self.slots c.in_order.ensures) refl refl c.forget_cooled-count.ensures.served)

@@ -1,0 +1,117 @@
+//! Calls that reserve a peer or release it: what [`Endpoint::step`] does of their commands, with no
+//! command made. A peer has a slot while it is reserved or connected.
+
+ghost use Rattle.std.specs.Prelude.{◌≡◌, true, false, None, OnOk, OnErr};
+ghost use Rattle.p2p_directory.specs.Run.{was_made};
+ghost use Rattle.p2p_directory.specs.Nodes.{IsStepped};
+ghost use Rattle.p2p_directory.specs.Private.Endpoints.{node_of, IsServedBy};
+ghost use Rattle.p2p_directory.specs.Private.Slots.{has_slot, held_in};
+ghost use Rattle.p2p_directory.specs.declared.run.commands.Command.{Command};
+
+use crate::node::endpoint::Endpoint;
+use crate::run::Reply;
+use p2p_discovery::codec::PublicKey;
+use std::alloc::AllocError;
+use std::time::Duration;
+
+impl<C: PublicKey> Endpoint<C> {
+    /// Reserves the peer for a dial, where that is granted.
+    pub fn dial(&mut self, peer: &C, now: Duration, draw: Duration) -> Reply<C>
+        ensures stepped { IsStepped C.cmp (Command.Dial peer.now now draw) result
+            (node_of self.old) (node_of self.new) }
+        ensures unchanged { was_made result ≡ false → node_of self.new ≡ node_of self.old }
+        ensures limits { self.new.limits ≡ self.old.limits }
+        ensures verifier { self.new.verifier ≡ self.old.verifier }
+    {
+        if let Err(AllocError) = self.make_slot(peer) {
+            return Reply::OutOfMemory;
+        }
+        let reply = self.serve_dial(peer, now, draw);
+        self.drop_slot_unless(matches!(reply, Reply::Dial(true)), peer);
+        reply
+    }
+
+    /// Reserves the peer that comes, where that is granted.
+    pub fn listen(&mut self, peer: &C, now: Duration, draw: Duration) -> Reply<C>
+        ensures stepped { IsStepped C.cmp (Command.Listen peer.now now draw) result
+            (node_of self.old) (node_of self.new) }
+        ensures unchanged { was_made result ≡ false → node_of self.new ≡ node_of self.old }
+        ensures limits { self.new.limits ≡ self.old.limits }
+        ensures verifier { self.new.verifier ≡ self.old.verifier }
+    {
+        if let Err(AllocError) = self.make_slot(peer) {
+            return Reply::OutOfMemory;
+        }
+        let reply = self.serve_listen(peer, now, draw);
+        self.drop_slot_unless(matches!(reply, Reply::Listen(true)), peer);
+        reply
+    }
+
+    /// Releases the reservation of the peer, where one is held. Its slot goes.
+    pub fn release(&mut self, peer: &C) -> Reply<C>
+        ensures stepped { IsStepped C.cmp (Command.Release peer.now) result
+            (node_of self.old) (node_of self.new) }
+        ensures unchanged { was_made result ≡ false → node_of self.new ≡ node_of self.old }
+        ensures limits { self.new.limits ≡ self.old.limits }
+        ensures verifier { self.new.verifier ≡ self.old.verifier }
+        ensures gone { has_slot C.cmp self.new.slots peer.now ≡ false }
+    {
+        // For the proof: the slots are in order before, and after.
+        self.server.in_order();
+        let reply = self.server.release_slot(peer);
+        self.server.in_order();
+        reply
+    }
+
+    // Makes a slot for the peer, where there is none.
+    fn make_slot(&mut self, peer: &C) -> Result<(), AllocError>
+        ensures err { OnErr result (self.new ≡ self.old) }
+        ensures room { OnOk result (has_slot C.cmp self.new.slots peer.now ≡ true) }
+        ensures same { node_of self.new ≡ node_of self.old }
+    {
+        // For the proof: the slots are in order before, and after.
+        self.server.in_order();
+        let made = self.server.make_slot(peer);
+        self.server.in_order();
+        made
+    }
+
+    // Reserves the peer for a dial, where that is granted and there is a slot for it.
+    fn serve_dial(&mut self, peer: &C, now: Duration, draw: Duration) -> Reply<C>
+        requires { has_slot C.cmp self.old.slots peer.now ≡ true }
+        ensures served { IsServedBy C.cmp (Command.Dial peer.now now draw) result
+            self.old self.new }
+        ensures unchanged { was_made result ≡ false → self.new ≡ self.old }
+        ensures limits { self.new.limits ≡ self.old.limits }
+        ensures verifier { self.new.verifier ≡ self.old.verifier }
+    {
+        let reply = self.server.dial(peer, now, draw);
+        self.server.in_order();
+        reply
+    }
+
+    // Reserves the peer that comes, where that is granted and there is a slot for it.
+    fn serve_listen(&mut self, peer: &C, now: Duration, draw: Duration) -> Reply<C>
+        requires { has_slot C.cmp self.old.slots peer.now ≡ true }
+        ensures served { IsServedBy C.cmp (Command.Listen peer.now now draw) result
+            self.old self.new }
+        ensures unchanged { was_made result ≡ false → self.new ≡ self.old }
+        ensures limits { self.new.limits ≡ self.old.limits }
+        ensures verifier { self.new.verifier ≡ self.old.verifier }
+    {
+        let reply = self.server.listen(peer, now, draw);
+        self.server.in_order();
+        reply
+    }
+
+    // Takes the slot of the peer out, where it is empty, unless a reservation was just granted.
+    fn drop_slot_unless(&mut self, granted: bool, peer: &C)
+        ensures dropped { granted ≡ false → held_in C.cmp self.old.slots peer.now ≡ None →
+            has_slot C.cmp self.new.slots peer.now ≡ false }
+        ensures same { node_of self.new ≡ node_of self.old }
+    {
+        if !granted {
+            self.drop_room(Some(*peer));
+        }
+    }
+}
