@@ -182,6 +182,64 @@ fn a_node_serves_a_single_peer(rt: HostRuntime) -> Result<(), Fail> {
     Ok(())
 }
 
+// Peer 1 is dialled at 100 with a draw of 10, so it is reservable again at 110, and dialable at 120.
+fn is_dialled_alone(rt: &impl Abort, node: &mut Node<TestKey>) {
+    let (peer, other, hundred) = (TestKey(1), TestKey(2), Duration::from_secs(100));
+    let draw = Duration::from_secs(10);
+    assert!(rt; matches!(node.dial(&other, hundred, draw), Reply::Dial(false)));
+    assert!(rt; matches!(node.dial(&peer, hundred, draw), Reply::Dial(true)));
+    assert!(rt; matches!(node.dial(&peer, hundred, draw), Reply::Dial(false)));
+    assert_eq!(rt; node.status(&peer), Some(Status::Reserved));
+    assert!(rt; matches!(node.release(&peer), Reply::Release));
+    let soon = Duration::from_secs(109);
+    assert!(rt; matches!(node.listen(&peer, soon, draw), Reply::Listen(false)));
+    assert_eq!(rt; node.forget_cooled(Duration::from_secs(119)), 0);
+    assert_eq!(rt; node.forget_cooled(Duration::from_secs(120)), 1);
+    assert!(rt; matches!(node.listen(&peer, soon, draw), Reply::Listen(true)));
+    assert!(rt; matches!(node.release(&peer), Reply::Release));
+}
+
+// Peer 2 is blocked from 100 to 160.
+fn is_blocked_alone(rt: &impl Abort, node: &mut Node<TestKey>) {
+    let end = Duration::from_secs(160);
+    assert_eq!(rt; node.next_unblock(), None);
+    assert!(rt;
+        matches!(
+            node.block(&TestKey(2), Duration::from_secs(100)),
+            Reply::Block(true)
+        )
+    );
+    assert_eq!(rt; node.next_unblock(), Some(end));
+    assert!(rt; !node.unblock_expired(Duration::from_secs(159)));
+    assert!(rt; node.unblock_expired(end));
+    assert_eq!(rt; node.next_unblock(), None);
+}
+
+// The set of 1 and 2 is taken at index 0, and the greeting of 1.
+fn knows_of_the_first(
+    rt: &impl Abort,
+    alloc: Global,
+    node: &mut Node<TestKey>,
+) -> Result<(), Fail> {
+    tracks(rt, alloc, node)?;
+    takes_a_greeting(rt, alloc, node)
+}
+
+#[test]
+fn a_node_serves_calls_without_commands(rt: HostRuntime) -> Result<(), Fail> {
+    let alloc = rt.alloc();
+    let mut node = node(alloc, 32)?;
+    let before = node.latest_set_index();
+    let outcome = knows_of_the_first(&rt, alloc, &mut node);
+    is_dialled_alone(&rt, &mut node);
+    is_blocked_alone(&rt, &mut node);
+    let after = node.latest_set_index();
+    node.finish();
+    outcome?;
+    assert_eq!(rt; (before, after), (None, Some(0)));
+    Ok(())
+}
+
 // A long message is a cut of its frame, which has two owners as long as the caller keeps it.
 fn receives_a_long_message(
     rt: &impl Abort,

@@ -135,21 +135,40 @@ fn a_node_of_many_peers_takes_a_greeting(rt: HostRuntime) -> Result<(), Fail> {
 
 const ROUNDS: u64 = 10_000;
 
+// The peer is listened for and released by commands.
+fn cycles_by_commands(node: &mut Node<TestKey>, peer: TestKey) -> bool {
+    let granted = node.step(Command::Listen {
+        peer,
+        now: hundred(),
+        draw: Duration::ZERO,
+    });
+    let released = node.step(Command::Release(peer));
+    matches!((granted, released), (Reply::Listen(true), Reply::Release))
+}
+
+// The same by calls, after a dial that isn't granted, for the peer's address isn't known.
+fn cycles_by_calls(node: &mut Node<TestKey>, peer: TestKey) -> bool {
+    let refused = node.dial(&peer, hundred(), Duration::ZERO);
+    let granted = node.listen(&peer, hundred(), Duration::ZERO);
+    let released = node.release(&peer);
+    let replies = (refused, granted, released);
+    matches!(
+        replies,
+        (Reply::Dial(false), Reply::Listen(true), Reply::Release)
+    )
+}
+
 // In each round another peer is listened for and released, within memory for a few slots.
 fn listens_and_releases(node: &mut Node<TestKey>) -> u64 {
     let mut done = 0u64;
     for round in 0..ROUNDS {
         let peer = TestKey(10 + round);
-        let granted = node.step(Command::Listen {
-            peer,
-            now: hundred(),
-            draw: Duration::ZERO,
-        });
-        let released = node.step(Command::Release(peer));
-        let forgotten = node.step(Command::ForgetCooled(Duration::MAX));
-        if let (Reply::Listen(true), Reply::Release, Reply::ForgetCooled(_)) = (
-            granted, released, forgotten,
-        ) {
+        let cycled = if round % 2 == 0 {
+            cycles_by_commands(node, peer)
+        } else {
+            cycles_by_calls(node, peer)
+        };
+        if cycled && node.forget_cooled(Duration::MAX) == 1 {
             done = done.saturating_add(1);
         }
     }
