@@ -18,6 +18,7 @@ pub mod Own
 pub mod Bootstrapped
 pub mod Infos
 pub mod Shared
+pub mod Asked
 pub mod Taken
 pub mod Cooled
 pub mod Moved

@@ -4,3 +4,4 @@ pub mod Ends
 pub mod Places
 pub mod Counts
 pub mod Dialling
+pub mod Asked

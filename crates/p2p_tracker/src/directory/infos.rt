@@ -1,21 +1,26 @@
 //! What others are told: infos, and which of them are known.
 
-ghost use Rattle.std.specs.Prelude.{◌≡◌, ◌<◌, ◌+◌, ◌++◌, length, slice_get, None, true};
-ghost use Rattle.std.specs.Prelude.{option_map, option_to_list};
+ghost use Rattle.std.specs.Prelude.{◌≡◌, ◌<◌, ◌≤◌, ◌+◌, ◌++◌, length, slice_get, None, true};
+ghost use Rattle.std.specs.Prelude.{option_map, option_to_list, drop, zip};
 ghost use Rattle.std.specs.Prelude.{IfOk, IfSome, IsOk, OnOk, OnErr};
 ghost use Rattle.std.specs.Option.{option_copied, IsSomeAnd};
 ghost use Rattle.std.specs.Duration.{as_nanos};
 ghost use Rattle.p2p_discovery.specs.Ingress.{takes_none};
 ghost use Rattle.p2p_tracker.specs.Answers.{epoch_millis};
 ghost use Rattle.p2p_tracker.specs.Directory.{shared_at, shared_of, shared_for};
+ghost use Rattle.p2p_tracker.specs.Private.Asked.{shared_of_record, asked_from};
 
 use crate::directory::Directory;
 use crate::directory::records::Records;
+use crate::record::Record;
 use p2p_discovery::codec::PublicKey;
 use p2p_discovery::discovery::{BitVec, Info};
 use p2p_discovery::sets::{BitMap, OrderedSet};
 use std::alloc::{AllocError, Global};
 use std::time::Duration;
+
+// A walk past so many records takes about as long as one search among them.
+const SPARSE: usize = 8;
 
 impl<C: PublicKey> Directory<C> {
     ghost use Rattle.p2p_tracker.specs.Directory.{sharable_in, infos_in, bit_vec_at};
@@ -57,8 +62,10 @@ impl<C: PublicKey> Directory<C> {
     ///
     /// # Cost
     ///
-    /// One pass over the retained sets and one over the primary peers of that one, with one search
-    /// among the records for each whose bit is false.
+    /// One pass over the retained sets. Then, where that set has a primary peer for about 8 records
+    /// or for fewer, one pass over these peers and the records, at most up to the last peer whose
+    /// bit is false; else one pass over the peers, with one search among the records for each whose
+    /// bit is false.
     pub fn infos(&self, bit_vec: &BitVec, now: Duration) -> Result<Option<Vec<Info<C>>>, AllocError>
         ensures infos { IfOk result (λ infos. option_map (λ v. v.items) infos
             ≡ infos_in C.cmp self.now bit_vec.now.index bit_vec.now.bits (as_nanos now)) }
@@ -136,11 +143,61 @@ pub fn shared_for<C: PublicKey>(
         return Ok(None);
     }
     let mut infos = Vec::new(alloc);
-    copy_shared(&mut infos, records, peers, bits, millis)?;
+    if records.len() / SPARSE <= peers.len() {
+        copy_walked(&mut infos, records, peers, bits, millis)?;
+    } else {
+        copy_shared(&mut infos, records, peers, bits, millis)?;
+    }
     Ok(Some(infos))
 }
 
-// Appends copies of the infos of these peers that are shared.
+// Appends copies of the infos of these peers that are shared, by a walk along the records and the
+// peers at once, which are both in order.
+fn copy_walked<C: PublicKey>(
+    infos: &mut Vec<Info<C>>,
+    records: &Records<C>,
+    peers: &OrderedSet<C>,
+    bits: &BitMap,
+    millis: u64,
+) -> Result<(), AllocError>
+    requires { length bits.now ≡ length peers.now }
+    ensures infos { OnOk result (infos.new.items
+        ≡ infos.old.items ++ shared_of C.cmp records.now millis peers.now bits.now) }
+    ensures err { OnErr result
+        (0 < length (shared_of C.cmp records.now millis peers.now bits.now)) }
+{
+    let keys = peers.as_slice();
+    let mut place = 0;
+    for (key, found) in records.iter() {
+        place = first_from(keys, bits, place, key);
+        if place == keys.len() {
+            return Ok(());
+        }
+        if keys[place].cmp(key).is_eq() {
+            copy_info(infos, shared_by(found, millis))?;
+            place += 1;
+        }
+    }
+    Ok(())
+}
+
+// The first place, from that one on, of a peer whose bit is false and that is not below the key.
+fn first_from<C: PublicKey>(peers: &[C], bits: &BitMap, place: usize, key: &C) -> usize
+    requires same { length bits.now ≡ length peers.now }
+    requires within { place ≤ length peers.now }
+    ensures within { result ≤ length peers.now }
+    ensures first { drop result (zip peers.now bits.now)
+        ≡ asked_from C.cmp key.now (drop place (zip peers.now bits.now)) }
+{
+    for at in place..peers.len() {
+        if !bits.get(at as u64) && !peers[at].cmp(key).is_lt() {
+            return at;
+        }
+    }
+    peers.len()
+}
+
+// .. by one search among the records for each whose bit is false.
 fn copy_shared<C: PublicKey>(
     infos: &mut Vec<Info<C>>,
     records: &Records<C>,
@@ -173,7 +230,14 @@ fn shared<'a, C: PublicKey>(
     if known {
         return None;
     }
-    let info = records.get(peer)?.sharable_info()?;
+    shared_by(records.get(peer)?, millis)
+}
+
+// The info of the record that is shared.
+fn shared_by<C: PublicKey>(found: &Record<C>, millis: u64) -> Option<&Info<C>>
+    ensures { option_copied result ≡ shared_of_record millis found.now }
+{
+    let info = found.sharable_info()?;
     if info.timestamp <= millis {
         Some(info)
     } else {

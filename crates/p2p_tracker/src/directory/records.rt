@@ -28,7 +28,7 @@ use p2p_discovery::codec::PublicKey;
 use p2p_discovery::discovery::Info;
 use p2p_discovery::types::Ingress;
 use std::alloc::{AllocError, Global};
-use std::collections::BTreeMap;
+use std::collections::{BTreeMap, btree_map};
 use std::marker::Model;
 use std::time::Duration;
 
@@ -223,6 +223,14 @@ impl<C: PublicKey> Records<C> {
             }
         }
         None
+    }
+
+    /// The records in ascending order of their keys. Takes no memory.
+    pub fn iter(&self) -> btree_map::Iter<'_, C, Record<C>>
+        ensures all { result ≡ self.now }
+        ensures sorted { IsStrictlySortedBy C.cmp (keys_of self.now) }
+    {
+        self.map.iter()
     }
 
     /// How many records there are.
