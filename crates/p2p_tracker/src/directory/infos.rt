@@ -62,10 +62,10 @@ impl<C: PublicKey> Directory<C> {
     ///
     /// # Cost
     ///
-    /// One pass over the retained sets. Then, where that set has a primary peer for about 8 records
-    /// or for fewer, one pass over these peers and the records, at most up to the last peer whose
-    /// bit is false; else one pass over the peers, with one search among the records for each whose
-    /// bit is false.
+    /// One pass over the retained sets, and one over the bits. Then, where there are at most about 8
+    /// records for each false bit, one pass over the primary peers and the records, at most up to
+    /// the last peer whose bit is false; else one pass over the peers, with one search among the
+    /// records for each whose bit is false.
     pub fn infos(&self, bit_vec: &BitVec, now: Duration) -> Result<Option<Vec<Info<C>>>, AllocError>
         ensures infos { IfOk result (λ infos. option_map (λ v. v.items) infos
             ≡ infos_in C.cmp self.now bit_vec.now.index bit_vec.now.bits (as_nanos now)) }
@@ -143,12 +143,23 @@ pub fn shared_for<C: PublicKey>(
         return Ok(None);
     }
     let mut infos = Vec::new(alloc);
-    if records.len() / SPARSE <= peers.len() {
+    if records.len() / SPARSE <= count_unknown(bits) {
         copy_walked(&mut infos, records, peers, bits, millis)?;
     } else {
         copy_shared(&mut infos, records, peers, bits, millis)?;
     }
     Ok(Some(infos))
+}
+
+// How many bits are false.
+fn count_unknown(bits: &BitMap) -> usize {
+    let mut count = 0usize;
+    for place in 0..bits.len() {
+        if !bits.get(place) {
+            count = count.saturating_add(1);
+        }
+    }
+    count
 }
 
 // Appends copies of the infos of these peers that are shared, by a walk along the records and the
