@@ -25,6 +25,8 @@ use std::alloc::{AllocError, Global};
 use std::time::Duration;
 
 /// Answers a reply: a number, or how many bytes were written at the front of the room.
+// Always inlined, so that a reply, which is large, is matched where it lies and not moved first.
+#[inline(always)]
 pub fn tell(alloc: Global, reply: Reply<Key>, out: &mut [u8]) -> u64
     ensures { TellsReply reply out.old out.new result }
 {
