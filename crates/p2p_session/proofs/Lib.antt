@@ -3,3 +3,4 @@ pub mod Unread
 pub mod Heard
 pub mod Rooms
 pub mod Direct
+pub mod Compared

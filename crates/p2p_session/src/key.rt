@@ -1,12 +1,15 @@
 //! Keys and signatures as they stand in bytes.
 
-ghost use Rattle.std.specs.Prelude.{refl, false, Some};
+ghost use Rattle.std.specs.Prelude.{◌≡◌, refl, false, Some};
+ghost use Rattle.std.specs.Cmp.Lexicographic.{slice_cmp};
+ghost use Rattle.std.specs.Ordering.{nat_cmp};
 ghost use Rattle.std.proofs.Common.{lit≤};
 ghost use Rattle.p2p_discovery.specs.Arrays.{array_spelling};
 ghost use Rattle.p2p_discovery.specs.ArraysLaws.{fixed_array, one_array, exact_array};
 ghost use Rattle.p2p_discovery.specs.Fields.{IsSized};
 
 use p2p_discovery::codec::{FixedBytes, PublicKey, read_array, write_array};
+use std::cmp::Ordering;
 
 /// How many bytes a key has. For keys of another size edit this line.
 pub const KEY_SIZE: usize = 32;
@@ -15,8 +18,48 @@ pub const KEY_SIZE: usize = 32;
 pub const SIGNATURE_SIZE: usize = 64;
 
 /// A key: its bytes, by which it is ordered.
-#[derive(Clone, Copy, Debug, PartialEq, Eq, PartialOrd, Ord)]
+#[derive(Clone, Copy, Debug, PartialEq, Eq, PartialOrd)]
 pub struct Key(pub [u8; KEY_SIZE]);
+
+impl Ord for Key {
+    ghost use Rattle.std.proofs.Common.{rules};
+    ghost use Rattle.std.specs.Cmp.Rules.{comparing};
+    ghost use Rattle.std.specs.Cmp.Lexicographic.{slice_cmp, lists_agrees};
+    ghost use Rattle.std.specs.Ordering.{nat_cmp, on};
+
+    ghost cmp = { on (λ key. key.0) (slice_cmp nat_cmp) };
+
+    ghost total = { Prim.search (comparing, rules) };
+
+    ghost matches_partial_cmp = { λ x y. lists_agrees (λ a b. refl) x.0 y.0 };
+
+    ghost matches_eq = { Prim.search (comparing, rules) };
+
+    // Always inlined: a search compares a key with dozens of others.
+    #[inline(always)]
+    fn cmp(&self, other: &Key) -> Ordering {
+        compare(&self.0, &other.0)
+    }
+}
+
+// How many bytes are compared one by one, before all are compared at once. Random keys rarely share
+// more.
+const FRONT: usize = 4;
+
+/// The order of two keys by their bytes: that of the first bytes that differ.
+// Always inlined, for one of the first mostly decides.
+#[inline(always)]
+pub fn compare(a: &[u8; KEY_SIZE], b: &[u8; KEY_SIZE]) -> Ordering
+    ensures { result ≡ slice_cmp nat_cmp a.now b.now }
+{
+    for place in 0..FRONT {
+        let (x, y) = (a[place], b[place]);
+        if x != y {
+            return x.cmp(&y);
+        }
+    }
+    a.cmp(b)
+}
 
 /// A signature: its bytes.
 #[derive(Clone, Copy, Debug, PartialEq, Eq)]

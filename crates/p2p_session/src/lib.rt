@@ -29,7 +29,7 @@ mod answer;
 mod commands;
 mod frames;
 mod given;
-mod key;
+pub mod key;
 pub mod laws;
 mod refusal;
 mod reply;

@@ -10,7 +10,9 @@ ghost use Rattle.p2p_discovery.specs.Fields.{IsSized};
 use p2p_discovery::codec::{
     FixedBytes, PublicKey, TestKey, TestSignature, read_array, write_array,
 };
+use p2p_session::key::compare;
 use std::alloc::{AllocError, Global};
+use std::cmp::Ordering;
 
 /// A key that is made of a number, and signs.
 pub(crate) trait TimedKey: PublicKey {
@@ -39,8 +41,28 @@ impl TimedKey for TestKey {
 }
 
 /// A key of 32 bytes: those of its number, and zeros.
-#[derive(Clone, Copy, PartialEq, Eq, PartialOrd, Ord)]
+#[derive(Clone, Copy, PartialEq, Eq, PartialOrd)]
 pub(crate) struct Key32([u8; 32]);
+
+impl Ord for Key32 {
+    ghost use Rattle.std.proofs.Common.{rules};
+    ghost use Rattle.std.specs.Cmp.Rules.{comparing};
+    ghost use Rattle.std.specs.Cmp.Lexicographic.{slice_cmp, lists_agrees};
+    ghost use Rattle.std.specs.Ordering.{nat_cmp, on};
+
+    ghost cmp = { on (λ key. key.0) (slice_cmp nat_cmp) };
+
+    ghost total = { Prim.search (comparing, rules) };
+
+    ghost matches_partial_cmp = { λ x y. lists_agrees (λ a b. refl) x.0 y.0 };
+
+    ghost matches_eq = { Prim.search (comparing, rules) };
+
+    #[inline(always)]
+    fn cmp(&self, other: &Key32) -> Ordering {
+        compare(&self.0, &other.0)
+    }
+}
 
 /// A signature of 64 bytes. It is right where it begins with the key.
 #[derive(Clone, Copy, PartialEq, Eq)]
