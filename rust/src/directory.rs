@@ -311,6 +311,7 @@ impl Directory {
     /// assert!(directory.dial(&peer, Duration::from_secs(1), Duration::ZERO)?.is_none());
     /// # Ok::<(), OutOfMemory>(())
     /// ```
+    #[inline]
     pub fn dial(
         &mut self,
         peer: &Key,
@@ -346,6 +347,7 @@ impl Directory {
     /// # directory.release(reservation).expect("its own");
     /// # Ok::<(), OutOfMemory>(())
     /// ```
+    #[inline]
     pub fn listen(
         &mut self,
         peer: &Key,
@@ -360,6 +362,7 @@ impl Directory {
         self.granted(peer, false, answer)
     }
 
+    #[inline]
     fn granted(
         &self,
         peer: &Key,
@@ -420,6 +423,7 @@ impl Directory {
     /// # let mut directory = testing::directory();
     /// assert_eq!(directory.connect(&testing::key(1), false), Err(NotReserved));
     /// ```
+    #[inline]
     pub fn connect(&mut self, peer: &Key, dialer: bool) -> Result<(), NotReserved> {
         match self.session.connect(&peer.0, dialer) {
             exports::NOT_RESERVED => Err(NotReserved),
@@ -449,6 +453,7 @@ impl Directory {
     /// directory.release(refused.reservation).expect("its own");
     /// # Ok::<(), OutOfMemory>(())
     /// ```
+    #[inline]
     pub fn release(&mut self, reservation: Reservation) -> Result<(), ReleaseError> {
         if !reservation.is_of(self.id) {
             return Err(ReleaseError { reservation });
@@ -501,6 +506,7 @@ impl Directory {
     /// assert_eq!(directory.next_unblock(), Some(Duration::from_secs(61)));
     /// # Ok::<(), OutOfMemory>(())
     /// ```
+    #[inline]
     pub fn block(&mut self, peer: &Key, now: Duration) -> Result<bool, OutOfMemory> {
         let (seconds, nanos) = parts(now);
         is_true(self.session.block(&peer.0, seconds, nanos))
@@ -516,6 +522,7 @@ impl Directory {
     /// # let mut directory = testing::directory();
     /// assert!(!directory.unblock_expired(Duration::MAX));
     /// ```
+    #[inline]
     pub fn unblock_expired(&mut self, now: Duration) -> bool {
         let (seconds, nanos) = parts(now);
         certain(self.session.unblock_expired(seconds, nanos)) == 1
@@ -531,6 +538,7 @@ impl Directory {
     /// # let mut directory = testing::directory();
     /// assert_eq!(directory.forget_cooled(Duration::MAX), 0);
     /// ```
+    #[inline]
     pub fn forget_cooled(&mut self, now: Duration) -> usize {
         let (seconds, nanos) = parts(now);
         certain(self.session.forget_cooled(seconds, nanos)) as usize
@@ -664,6 +672,7 @@ impl Directory {
     /// assert_eq!(directory.status(&testing::key(1)), None);
     /// ```
     #[must_use]
+    #[inline]
     pub fn status(&self, peer: &Key) -> Option<Status> {
         match self.session.status(&peer.0) {
             exports::NONE => None,
@@ -765,6 +774,7 @@ impl Directory {
     /// assert!(!directory.eligible(&testing::key(9), Duration::ZERO));
     /// ```
     #[must_use]
+    #[inline]
     pub fn eligible(&self, peer: &Key, now: Duration) -> bool {
         let (seconds, nanos) = parts(now);
         certain(self.session.eligible(&peer.0, seconds, nanos)) == 1
@@ -781,6 +791,7 @@ impl Directory {
     /// assert!(!directory.acceptable(&testing::key(1), Duration::ZERO));
     /// ```
     #[must_use]
+    #[inline]
     pub fn acceptable(&self, peer: &Key, now: Duration) -> bool {
         let (seconds, nanos) = parts(now);
         certain(self.session.acceptable(&peer.0, seconds, nanos)) == 1
@@ -819,6 +830,7 @@ impl Directory {
     /// assert_eq!(directory.tracked(), 0);
     /// ```
     #[must_use]
+    #[inline]
     pub fn tracked(&self) -> usize {
         certain(self.session.tracked()) as usize
     }
@@ -881,12 +893,14 @@ pub(crate) struct Limits {
 pub(crate) const OWN: &str = "the library's own answer";
 
 /// A moment as its seconds and nanoseconds.
+#[inline]
 pub(crate) fn parts(moment: Duration) -> (u64, u32) {
     (moment.as_secs(), moment.subsec_nanos())
 }
 
 /// The number that was answered, `None`, or want of memory. No other refusal can come of arguments that
 /// are typed.
+#[inline]
 pub(crate) fn answered(answer: u64) -> Result<Option<u64>, OutOfMemory> {
     match answer {
         exports::MEMORY => Err(OutOfMemory),
@@ -897,6 +911,7 @@ pub(crate) fn answered(answer: u64) -> Result<Option<u64>, OutOfMemory> {
 }
 
 // The number that a call answered that takes no memory.
+#[inline]
 fn certain(answer: u64) -> u64 {
     match answered(answer) {
         Ok(Some(number)) => number,
@@ -904,10 +919,12 @@ fn certain(answer: u64) -> u64 {
     }
 }
 
+#[inline]
 fn is_true(answer: u64) -> Result<bool, OutOfMemory> {
     Ok(answered(answer)? == Some(1))
 }
 
+#[inline]
 fn is_done(answer: u64) -> Result<(), OutOfMemory> {
     answered(answer)?;
     Ok(())

@@ -67,6 +67,7 @@ pub struct ReleaseError {
 }
 
 impl Reservation {
+    #[inline]
     pub(super) fn new(peer: Key, is_dialer: bool, directory: u64) -> Reservation {
         Reservation {
             peer,
@@ -90,6 +91,7 @@ impl Reservation {
     /// # Ok::<(), OutOfMemory>(())
     /// ```
     #[must_use]
+    #[inline]
     pub fn public_key(&self) -> &Key {
         &self.peer
     }
@@ -98,6 +100,7 @@ impl Reservation {
         self.is_dialer
     }
 
+    #[inline]
     pub(super) fn is_of(&self, directory: u64) -> bool {
         self.directory == directory
     }
@@ -113,6 +116,7 @@ impl Metadata {
     /// assert_eq!(Metadata::Listener(Key([2; 32])).public_key(), &Key([2; 32]));
     /// ```
     #[must_use]
+    #[inline]
     pub fn public_key(&self) -> &Key {
         match self {
             Metadata::Dialer(key, _) | Metadata::Listener(key) => key,
