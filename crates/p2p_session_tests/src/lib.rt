@@ -8,6 +8,8 @@ mod frames;
 #[cfg(test)]
 mod given;
 #[cfg(test)]
+mod keys;
+#[cfg(test)]
 mod refused;
 #[cfg(test)]
 mod sets;
