@@ -6,6 +6,7 @@ mod calls;
 mod exchanges;
 mod nodes;
 mod runs;
+mod sessions;
 mod wire;
 
 use crate::keys::{Key32, TimedKey};
@@ -15,12 +16,13 @@ use crate::scenarios::calls::{Between, cycles, statuses, tracks, updates};
 use crate::scenarios::exchanges::{exchanges, receives};
 use crate::scenarios::nodes::{Served, of_a_node};
 use crate::scenarios::runs::{Kind, Made, fill, runs};
+use crate::scenarios::sessions::heard;
 use crate::scenarios::wire::{Way, bits, infos, ingresses, judgements, peers};
 use crate::stop::Stop;
 use crate::times::Times;
 use p2p_discovery::codec::TestKey;
 
-const NAMES: [&str; 46] = [
+const NAMES: [&str; 47] = [
     "track",
     "status",
     "listen",
@@ -61,6 +63,7 @@ const NAMES: [&str; 46] = [
     "node_listen",
     "node_track",
     "node_receive",
+    "session_receive",
     "run_tracks",
     "run_listens",
     "run_cycles",
@@ -156,6 +159,7 @@ fn of_nodes<K: TimedKey>(
         "node_listen" => of_a_node::<K>(rt, count, samples, Served::Listen),
         "node_track" => of_a_node::<K>(rt, count, samples, Served::Track),
         "node_receive" => of_a_node::<K>(rt, count, samples, Served::Receive),
+        "session_receive" => heard::<K>(rt, count, samples),
         _ => Err(Stop::Words),
     }
 }
