@@ -9,11 +9,13 @@ pub(crate) struct Reader<'a> {
 }
 
 impl<'a> Reader<'a> {
+    #[inline]
     pub(crate) fn new(bytes: &'a [u8]) -> Reader<'a> {
         Reader { bytes }
     }
 
     /// The next byte.
+    #[inline]
     pub(crate) fn byte(&mut self) -> Result<u8, CodecError> {
         let (first, rest) = self.bytes.split_first().ok_or(CodecError::EndOfBuffer)?;
         self.bytes = rest;
@@ -21,6 +23,7 @@ impl<'a> Reader<'a> {
     }
 
     /// The next bytes, so many.
+    #[inline]
     pub(crate) fn take(&mut self, count: usize) -> Result<&'a [u8], CodecError> {
         let (taken, rest) = self
             .bytes
@@ -31,6 +34,7 @@ impl<'a> Reader<'a> {
     }
 
     /// The next bytes, as many as an array has.
+    #[inline]
     pub(crate) fn array<const N: usize>(&mut self) -> Result<[u8; N], CodecError> {
         let (taken, rest) = self
             .bytes
@@ -41,11 +45,13 @@ impl<'a> Reader<'a> {
     }
 
     /// A number of 16 bits, the most significant byte first.
+    #[inline]
     pub(crate) fn short(&mut self) -> Result<u16, CodecError> {
         Ok(u16::from_be_bytes(self.array()?))
     }
 
     /// A number of 64 bits, the most significant byte first.
+    #[inline]
     pub(crate) fn number(&mut self) -> Result<u64, CodecError> {
         Ok(u64::from_be_bytes(self.array()?))
     }
@@ -68,6 +74,7 @@ impl<'a> Reader<'a> {
     }
 
     /// Whether nothing is left.
+    #[inline]
     pub(crate) fn is_empty(&self) -> bool {
         self.bytes.is_empty()
     }
