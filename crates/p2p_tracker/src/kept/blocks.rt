@@ -1,23 +1,24 @@
 //! Until when the blocks of peers hold.
 
-ghost use Rattle.std.specs.Prelude.{ℕ, ◌≡◌, ◌≤◌, ◌<◌, [], length, not, true, false, if◌then◌else◌};
+ghost use Rattle.std.specs.Prelude.{◌≡◌, ◌≤◌, ◌<◌, [], ◌∷◌, not, false, if◌then◌else◌};
 ghost use Rattle.std.specs.Prelude.{nat_lt, nat_le, nat_eq};
 ghost use Rattle.std.specs.Prelude.{IfNone, IfOk, IfSome, OnErr, OnOk, Some};
 ghost use Rattle.std.specs.Duration.{as_nanos};
-ghost use Rattle.std.specs.List.{filter, count_by};
-ghost use Rattle.std.specs.List.Sorted.{IsStrictlySortedBy};
+ghost use Rattle.std.specs.List.{filter, count_by, AllByRecursion};
+ghost use Rattle.std.specs.List.Sorted.{IsPermutation, IsStrictlySortedBy};
 ghost use Rattle.std.specs.Map.{keys_of};
 ghost use Rattle.std.specs.BTreeMap.{is_at};
-ghost use Rattle.std.specs.BTreeSet.{contains};
+ghost use Rattle.std.specs.BinaryHeap.{heap_capacity, heap_items, heap_len, IsHeap, KeepsHeap};
 ghost use Rattle.std.specs.Option.{option_map, option_map_or};
 ghost use Rattle.p2p_tracker.specs.Blocks.{in_nanos, is_later, unblock_in};
 ghost use Rattle.p2p_tracker.specs.Lists.{IsLeastOf};
-ghost use Rattle.p2p_tracker.specs.Private.Ends.{end_cmp, AreEnds, AreKept};
+ghost use Rattle.p2p_tracker.specs.Private.Ends.{end_at, end_cmp, AreEnds, AreKept, IsPutOff};
 
 use crate::kept::forget;
 use p2p_discovery::codec::PublicKey;
 use std::alloc::{AllocError, Global};
-use std::collections::{BTreeMap, BTreeSet, btree_map};
+use std::cmp::Reverse;
+use std::collections::{BTreeMap, BinaryHeap, btree_map};
 use std::marker::Model;
 use std::time::Duration;
 
@@ -26,13 +27,16 @@ use std::time::Duration;
 #[derive(Drop)]
 pub struct Blocks<C: PublicKey> {
     moments: BTreeMap<C, Duration>,
-    ends: BTreeSet<(u128, C)>,
+    // For each peer an end that is no later than its moment, the earliest on top. Where it's
+    // earlier, it's put off once it comes there.
+    ends: BinaryHeap<Reverse<(u128, C)>>,
     // The least moment.
     least: Option<Duration>,
 }
 
 impl<C: PublicKey> Model for Blocks<C> {
     ghost use Rattle.std.specs.Prelude.{ℕ, List};
+    ghost use Rattle.std.specs.BinaryHeap.{heap_items};
     ghost use Rattle.std.specs.Duration.{as_nanos};
     ghost use Rattle.std.specs.Option.{option_map};
     ghost use Rattle.p2p_tracker.specs.Blocks.{in_nanos};
@@ -43,7 +47,8 @@ impl<C: PublicKey> Model for Blocks<C> {
     ghost view = { λ b. in_nanos b.moments.entries };
 
     ghost invariant = { λ b.
-        AreKept C.cmp b.ends.keys (in_nanos b.moments.entries) (option_map as_nanos b.least) };
+        AreKept C.cmp (heap_items b.ends) (in_nanos b.moments.entries)
+        (option_map as_nanos b.least) };
 }
 
 impl<C: PublicKey> Blocks<C> {
@@ -53,7 +58,7 @@ impl<C: PublicKey> Blocks<C> {
     {
         Blocks {
             moments: BTreeMap::new(alloc),
-            ends: BTreeSet::new(alloc),
+            ends: BinaryHeap::new(alloc),
             least: None,
         }
     }
@@ -66,8 +71,12 @@ impl<C: PublicKey> Blocks<C> {
     ///
     /// # Cost
     ///
-    /// One search among the blocks and one among the moments, one more there where the peer had
-    /// another moment or memory is refused, and one more of each where that was the least.
+    /// One search among the blocks, and, where the peer had no moment or a later one, one push to a
+    /// heap of moments: constant where none of them is later, and else logarithmic in them. Where
+    /// the peer had the least moment, and gets a later one, one search among the blocks for the
+    /// least anew. Each moment that then comes to the heap's top, and is no longer that of its
+    /// peer, takes a search, a pop and a push more: at most one for each time that a peer was given
+    /// another.
     pub fn put(&mut self, key: C, moment: Duration) -> Result<(), AllocError>
         ensures err { OnErr result (self.new ≡ self.old) }
         ensures ok { OnOk result ((q : C) → unblock_in C.cmp self.new q ≡
@@ -110,8 +119,11 @@ impl<C: PublicKey> Blocks<C> {
     ///
     /// # Cost
     ///
-    /// Constant where there is none. Else for each such peer one removal of the first of the moments
-    /// and one among the blocks, and one search among these for the least that is left.
+    /// Constant where there is none. Else for each such peer one pop from a heap of moments, one
+    /// search and one removal among the blocks, and at the end one search for the least that is
+    /// left. Each moment that comes to the heap's top, and is no longer that of its peer, takes a
+    /// search, a pop and a push more: at most one for each time that [`Blocks::put`] gave a peer
+    /// another.
     pub fn drop_until(&mut self, now: Duration) -> usize
         ensures sorted { IsStrictlySortedBy C.cmp (keys_of self.old) }
         ensures left { self.new ≡ filter (is_later (as_nanos now)) self.old }
@@ -133,14 +145,14 @@ impl<C: PublicKey> Blocks<C> {
 // Gives the key this moment, and sets the least one anew where it is another then.
 fn put_block<C: PublicKey>(
     moments: &mut BTreeMap<C, Duration>,
-    ends: &mut BTreeSet<(u128, C)>,
+    ends: &mut BinaryHeap<Reverse<(u128, C)>>,
     least: &mut Option<Duration>,
     key: C,
     moment: Duration,
 ) -> Result<(), AllocError>
-    requires { AreKept C.cmp ends.old.keys (in_nanos moments.old.entries)
+    requires { AreKept C.cmp (heap_items ends.old) (in_nanos moments.old.entries)
         (option_map as_nanos least.old) }
-    ensures kept { AreKept C.cmp ends.new.keys (in_nanos moments.new.entries)
+    ensures kept { AreKept C.cmp (heap_items ends.new) (in_nanos moments.new.entries)
         (option_map as_nanos least.new) }
     ensures err { OnErr result (moments.new.entries ≡ moments.old.entries) }
     ensures ok { OnOk result ((q : C) → unblock_in C.cmp (in_nanos moments.new.entries) q ≡
@@ -181,70 +193,114 @@ fn are_equal(a: Option<Duration>, b: Option<Duration>) -> bool
     }
 }
 
-// Gives the key this moment in both, and answers the one that it had. Where memory is refused both
-// have the same pairs as before.
+// Gives the key this moment, and answers the one that it had. One that it had until then or earlier
+// has an end, which stays for both.
 fn put_end<C: PublicKey>(
     moments: &mut BTreeMap<C, Duration>,
-    ends: &mut BTreeSet<(u128, C)>,
+    ends: &mut BinaryHeap<Reverse<(u128, C)>>,
     key: C,
     moment: Duration,
 ) -> Result<Option<Duration>, AllocError>
-    requires { AreEnds C.cmp ends.old.keys (in_nanos moments.old.entries) }
+    requires { AreEnds C.cmp (heap_items ends.old) (in_nanos moments.old.entries) }
     ensures before { IfOk result (λ before. option_map as_nanos before ≡
         unblock_in C.cmp (in_nanos moments.old.entries) key) }
-    ensures ends { AreEnds C.cmp ends.new.keys (in_nanos moments.new.entries) }
+    ensures ends { AreEnds C.cmp (heap_items ends.new) (in_nanos moments.new.entries) }
     ensures err { OnErr result (moments.new.entries ≡ moments.old.entries) }
     ensures ok { OnOk result ((q : C) → unblock_in C.cmp (in_nanos moments.new.entries) q ≡
         (if is_at (C.cmp key) q then Some (as_nanos moment)
         else unblock_in C.cmp (in_nanos moments.old.entries) q)) }
 {
-    if let Err(refused) = ends.insert((moment.as_nanos(), key)) {
-        forget(refused);
-        return Err(AllocError);
-    }
+    ends.reserve(1)?;
     match moments.insert(key, moment) {
-        Ok(Some(before)) => {
-            if before.as_nanos() != moment.as_nanos() {
-                ends.remove(&(before.as_nanos(), key));
+        Ok(before) => {
+            if !is_until(before, moment) {
+                push_end(ends, key, moment);
             }
-            Ok(Some(before))
+            Ok(before)
         }
-        Ok(None) => Ok(None),
         Err(refused) => {
-            ends.remove(&(moment.as_nanos(), key));
             forget(refused);
             Err(AllocError)
         }
     }
 }
 
-// The least moment.
+// Adds an end, for which there is room.
+fn push_end<C: PublicKey>(ends: &mut BinaryHeap<Reverse<(u128, C)>>, key: C, moment: Duration)
+    requires { heap_len ends.old < heap_capacity ends.old }
+    ensures added { IsPermutation (end_at (as_nanos moment) key ∷ heap_items ends.old)
+        (heap_items ends.new) }
+    ensures order { KeepsHeap (end_cmp C.cmp) (heap_items ends.old) (heap_items ends.new) }
+{
+    match ends.push(Reverse((moment.as_nanos(), key))) {
+        Ok(()) => {}
+        Err(_) => unreachable!(),
+    }
+}
+
+// The least moment. An end that is earlier than its key's moment is put off until then on the way,
+// and one whose key has none goes.
 fn first_to_end<C: PublicKey>(
     moments: &BTreeMap<C, Duration>,
-    ends: &BTreeSet<(u128, C)>,
+    ends: &mut BinaryHeap<Reverse<(u128, C)>>,
 ) -> Option<Duration>
-    requires { AreEnds C.cmp ends.now.keys (in_nanos moments.now.entries) }
-    ensures { IsLeastOf (unblock_in C.cmp (in_nanos moments.now.entries))
+    requires { AreEnds C.cmp (heap_items ends.old) (in_nanos moments.now.entries) }
+    ensures ends { AreEnds C.cmp (heap_items ends.new) (in_nanos moments.now.entries) }
+    ensures least { IsLeastOf (unblock_in C.cmp (in_nanos moments.now.entries))
         (option_map as_nanos result) }
 {
-    let (_, key) = ends.first()?;
-    let moment = moments.get(key)?;
-    Some(*moment)
+    while let Some(Reverse((end, key))) = ends.peek() {
+        let moment = moments.get(key).copied();
+        if is_end(moment, *end) {
+            return moment;
+        }
+        put_off(ends, moment);
+    }
+    None
+}
+
+// Whether there is a moment, and it is this end's.
+fn is_end(moment: Option<Duration>, end: u128) -> bool
+    ensures { result ≡ option_map_or (nat_eq end) (option_map as_nanos moment) false }
+{
+    match moment {
+        Some(moment) => end == moment.as_nanos(),
+        None => false,
+    }
+}
+
+// Puts the first of the ends off until this moment, or takes it out where there is none.
+fn put_off<C: PublicKey>(ends: &mut BinaryHeap<Reverse<(u128, C)>>, moment: Option<Duration>)
+    requires { 0 < heap_len ends.old }
+    ensures off { IsPutOff (heap_items ends.old) (option_map as_nanos moment)
+        (heap_items ends.new) }
+    ensures order { KeepsHeap (end_cmp C.cmp) (heap_items ends.old) (heap_items ends.new) }
+{
+    let Some(first) = ends.pop() else {
+        unreachable!()
+    };
+    let Reverse((_, key)) = first;
+    if let Some(moment) = moment {
+        push_end(ends, key, moment);
+    }
 }
 
 // Takes the first of the ends, where it is at or before `now`.
-fn take_ended<C: PublicKey>(ends: &mut BTreeSet<(u128, C)>, now: Duration) -> Option<(u128, C)>
-    ensures some { IfSome result (λ end. (end.0 ≤ as_nanos now)
-        × (contains (end_cmp C.cmp) ends.old end ≡ true)
-        × ((e : ℕ × C) → contains (end_cmp C.cmp) ends.new e ≡
-        (if is_at (end_cmp C.cmp end) e then false else contains (end_cmp C.cmp) ends.old e))
-        × (length ends.new.keys < length ends.old.keys)) }
-    ensures none { IfNone result ((e : ℕ × C)
-        → contains (end_cmp C.cmp) ends.old e ≡ true → as_nanos now < e.0) }
-    ensures stay { IfNone result (ends.new.keys ≡ ends.old.keys) }
+fn take_ended<C: PublicKey>(
+    ends: &mut BinaryHeap<Reverse<(u128, C)>>,
+    now: Duration,
+) -> Option<Reverse<(u128, C)>>
+    requires { IsHeap (end_cmp C.cmp) (heap_items ends.old) }
+    ensures order { IsHeap (end_cmp C.cmp) (heap_items ends.new) }
+    ensures some { IfSome result (λ end. (end.0.0 ≤ as_nanos now)
+        × IsPermutation (heap_items ends.old) (end ∷ heap_items ends.new)
+        × (heap_len ends.new < heap_capacity ends.new)) }
+    ensures none { IfNone result
+        (AllByRecursion (λ end. as_nanos now < end.0.0) (heap_items ends.old)) }
+    ensures stay { IfNone result (heap_items ends.new ≡ heap_items ends.old) }
 {
-    match ends.first() {
-        Some((end, _)) if *end <= now.as_nanos() => ends.pop_first(),
+    match ends.peek() {
+        Some(Reverse((end, _))) if *end <= now.as_nanos() => ends.pop(),
         _ => None,
     }
 }
@@ -252,13 +308,13 @@ fn take_ended<C: PublicKey>(ends: &mut BTreeSet<(u128, C)>, now: Duration) -> Op
 // Takes out each block whose moment is at or before `now`, and answers how many there were.
 fn drop_ended<C: PublicKey>(
     moments: &mut BTreeMap<C, Duration>,
-    ends: &mut BTreeSet<(u128, C)>,
+    ends: &mut BinaryHeap<Reverse<(u128, C)>>,
     least: &mut Option<Duration>,
     now: Duration,
 ) -> usize
-    requires { AreKept C.cmp ends.old.keys (in_nanos moments.old.entries)
+    requires { AreKept C.cmp (heap_items ends.old) (in_nanos moments.old.entries)
         (option_map as_nanos least.old) }
-    ensures kept { AreKept C.cmp ends.new.keys (in_nanos moments.new.entries)
+    ensures kept { AreKept C.cmp (heap_items ends.new) (in_nanos moments.new.entries)
         (option_map as_nanos least.new) }
     ensures left { in_nanos moments.new.entries ≡
         filter (is_later (as_nanos now)) (in_nanos moments.old.entries) }
@@ -267,7 +323,7 @@ fn drop_ended<C: PublicKey>(
 {
     // For the proof: the clauses of `len` say that the keys are in order.
     let _most = moments.len();
-    if !has_ended(*least, now) {
+    if !is_until(*least, now) {
         return 0;
     }
     let count = take_each(moments, ends, now);
@@ -275,25 +331,26 @@ fn drop_ended<C: PublicKey>(
     count
 }
 
-// Whether there is a least moment, and it is at or before `now`.
-fn has_ended(least: Option<Duration>, now: Duration) -> bool
+// Whether there is a moment, and it is at or before another.
+fn is_until(moment: Option<Duration>, last: Duration) -> bool
     ensures { result ≡
-        option_map_or (λ m. nat_le m (as_nanos now)) (option_map as_nanos least) false }
+        option_map_or (λ m. nat_le m (as_nanos last)) (option_map as_nanos moment) false }
 {
-    match least {
-        Some(first) => first.as_nanos() <= now.as_nanos(),
+    match moment {
+        Some(moment) => moment.as_nanos() <= last.as_nanos(),
         None => false,
     }
 }
 
-// Takes out each pair whose moment is at or before `now`, and answers how many there were.
+// Takes out each block whose moment is at or before `now`, and answers how many there were. An end
+// whose key has a later moment is put off until then.
 fn take_each<C: PublicKey>(
     moments: &mut BTreeMap<C, Duration>,
-    ends: &mut BTreeSet<(u128, C)>,
+    ends: &mut BinaryHeap<Reverse<(u128, C)>>,
     now: Duration,
 ) -> usize
-    requires { AreEnds C.cmp ends.old.keys (in_nanos moments.old.entries) }
-    ensures ends { AreEnds C.cmp ends.new.keys (in_nanos moments.new.entries) }
+    requires { AreEnds C.cmp (heap_items ends.old) (in_nanos moments.old.entries) }
+    ensures ends { AreEnds C.cmp (heap_items ends.new) (in_nanos moments.new.entries) }
     ensures left { in_nanos moments.new.entries ≡
         filter (is_later (as_nanos now)) (in_nanos moments.old.entries) }
     ensures count { result ≡
@@ -302,8 +359,15 @@ fn take_each<C: PublicKey>(
     let mut count = 0;
     let _most = moments.len();
     while let Some(end) = take_ended(ends, now) {
-        moments.remove(&end.1);
-        count += 1;
+        let Reverse((_, key)) = end;
+        if let Some(moment) = moments.get(&key).copied() {
+            if now.as_nanos() < moment.as_nanos() {
+                push_end(ends, key, moment);
+            } else {
+                moments.remove(&key);
+                count += 1;
+            }
+        }
     }
     count
 }

@@ -7,20 +7,20 @@ use Rattle.p2p_tracker.proofs.SetsAndRecords.Ends.{none_ended, all_left, none_le
 use Rattle.p2p_tracker.proofs.kept.blocks.drop_ended.Goals as goal
 
 -- where none ends, each is later
-later : (g : _) (c : goal.Then-not-has_ended g) (q : g.row.C.Denot) (n : ℕ) →
+later : (g : _) (c : goal.Then-not-is_until g) (q : g.row.C.Denot) (n : ℕ) →
     unblock_in g.C.Ord.cmp (in_nanos c.args.moments.now.entries) q ≡ Some n → as_nanos c.args.now < n
 later g c = none_ended (unblock_in g.C.Ord.cmp (in_nanos c.args.moments.now.entries))
     (option_map as_nanos c.args.least.now) (as_nanos c.args.now) c.requires.first
-    (sym c.has_ended.ensures ∙ c.if-not-has_ended.true)
+    (sym c.is_until.ensures ∙ c.if-not-is_until.true)
 
-pub returns-then-not-has_ended-clause-left : goal.returns-then-not-has_ended-clause-left
-returns-then-not-has_ended-clause-left g c =
+pub returns-then-not-is_until-clause-left : goal.returns-then-not-is_until-clause-left
+returns-then-not-is_until-clause-left g c =
     let es = c.args.moments.now.entries in
     sym (all_left (as_nanos c.args.now) g.met.C.Ord.total (in_nanos es)
     (sorted-in_nanos g.C.Ord.cmp es (in_nanos es) refl c.len-most.ensures.ordered) (later g c))
 
-pub returns-then-not-has_ended-clause-count : goal.returns-then-not-has_ended-clause-count
-returns-then-not-has_ended-clause-count g c =
+pub returns-then-not-is_until-clause-count : goal.returns-then-not-is_until-clause-count
+returns-then-not-is_until-clause-count g c =
     let es = c.args.moments.now.entries in
     sym (none_left (as_nanos c.args.now) g.met.C.Ord.total (in_nanos es)
     (sorted-in_nanos g.C.Ord.cmp es (in_nanos es) refl c.len-most.ensures.ordered) (later g c))
