@@ -7,8 +7,12 @@ use Rattle.std.proofs.lemmas.Grind.{common_steps, flat_map-append}
 use Rattle.std.proofs.Math.Seq.{take-add, take-append-add, drop-append-add, take-append_seam}
 use Rattle.p2p_discovery.specs.ArraysLaws.{array_is}
 use Rattle.p2p_session.specs.declared.key.Key.{Key}
-use Rattle.p2p_session.specs.declared.key.TheConstants.{KEY_SIZE}
-use Rattle.p2p_session.specs.Answers.{key_bytes, keys_bytes, put_at}
+use Rattle.p2p_session.specs.declared.key.Signature.{Signature}
+use Rattle.p2p_session.specs.declared.key.TheConstants.{KEY_SIZE, SIGNATURE_SIZE}
+use Rattle.p2p_discovery.specs.declared.discovery.Info.{Info}
+use Rattle.p2p_discovery.specs.Ingress.{ingress_spelling}
+use Rattle.p2p_discovery.specs.Judgement.{signed_bytes}
+use Rattle.p2p_session.specs.Answers.{key_bytes, keys_bytes, signature_bytes, number, asked_bytes, put_at}
 
 append_assoc : (xs ys zs : List ℕ) → (xs ++ ys) ++ zs ≡ xs ++ (ys ++ zs)
 append_assoc xs ys zs = grind (arith, common_steps)
@@ -85,6 +89,70 @@ module _ {X : Type 0} (f : X → List ℕ) where
               (put_put start front x room (omega (arith, fits, within))),
         )
 
+    -- the same of an item of the list
+    pub room_item : d ≡ get_or xs i d → i < length xs → start + length (flat_map f xs) ≤ length room →
+        at ≡ start + length (flat_map f (take i xs)) → length out ≡ length room →
+        at + length (f d) ≤ length out
+    room_item item h fits is same =
+        subst (λ x. at + length (f x) ≤ length out) (sym item) (room_next h fits is same)
+
+    pub put_item : d ≡ get_or xs i d → (at2 : ℕ) (out2 : List ℕ) → i < length xs →
+        start + length (flat_map f xs) ≤ length room →
+        at ≡ start + length (flat_map f (take i xs)) →
+        out ≡ put_at start (flat_map f (take i xs)) room →
+        at2 ≡ at + length (f d) → out2 ≡ put_at at (f d) out →
+        (at2 ≡ start + length (flat_map f (take (i + 1) xs)))
+        × (out2 ≡ put_at start (flat_map f (take (i + 1) xs)) room)
+    put_item item at2 out2 h fits is before is2 after =
+        put_next at2 out2 h fits is before (is2 ∙ ap (λ x. at + length (f x)) item)
+        (after ∙ ap (λ x. put_at at (f x) out) item)
+
+-- what is put behind what was put before
+put_more : (at r : ℕ) (xs ys out out1 out2 : List ℕ) → at + length xs ≤ length out →
+    out1 ≡ put_at at xs out → r ≡ at + length xs → out2 ≡ put_at r ys out1 →
+    out2 ≡ put_at at (xs ++ ys) out
+put_more at r xs ys out out1 out2 fits before is after =
+    after ∙ ap (λ o. put_at r ys o) before
+    ∙ subst (λ n. put_at n ys (put_at at xs out) ≡ put_at at (xs ++ ys) out) (sym is)
+    (put_put at xs ys out fits)
+
+-- four parts, one behind the other
+put_four : (at a b c : ℕ) (ws xs ys zs out out1 out2 out3 out4 : List ℕ) →
+    at + length (ws ++ (xs ++ (ys ++ zs))) ≤ length out →
+    out1 ≡ put_at at ws out → a ≡ at + length ws → out2 ≡ put_at a xs out1 → b ≡ a + length xs →
+    out3 ≡ put_at b ys out2 → c ≡ b + length ys → out4 ≡ put_at c zs out3 →
+    out4 ≡ put_at at (ws ++ (xs ++ (ys ++ zs))) out
+put_four at a b c ws xs ys zs out out1 out2 out3 out4 fits one is two is2 three is3 four =
+    let size : length (ws ++ (xs ++ (ys ++ zs))) ≡ length ws + (length xs + (length ys + length zs)) =
+    length-append ws (xs ++ (ys ++ zs))
+    ∙ ap (λ n. length ws + n) (length-append xs (ys ++ zs) ∙ ap (λ n. length xs + n) (length-append ys zs)) in
+    let of_two : length (ws ++ xs) ≡ length ws + length xs = length-append ws xs in
+    let of_three : length ((ws ++ xs) ++ ys) ≡ length ws + length xs + length ys =
+    length-append (ws ++ xs) ys ∙ ap (λ n. n + length ys) of_two in
+    let first = put_more at a ws xs out out1 out2 (omega (arith, fits, size)) one is two in
+    let second = put_more at b (ws ++ xs) ys out out2 out3 (omega (arith, fits, size, of_two)) first
+    (omega (arith, is, is2, of_two)) three in
+    put_more at c ((ws ++ xs) ++ ys) zs out out3 out4 (omega (arith, fits, size, of_three)) second
+    (omega (arith, is, is2, is3, of_three)) four
+    ∙ ap (λ l. put_at at l out) (append_assoc (ws ++ xs) ys zs ∙ append_assoc ws xs (ys ++ zs))
+
+-- what is asked of an info, in its four parts
+pub put_asked : (i : Info Key Signature) (at a b c : ℕ) (count signed out out1 out2 out3 out4 : List ℕ) →
+    count ≡ number (length signed) → signed ≡ signed_bytes i.ingress i.timestamp →
+    at + length (asked_bytes i) ≤ length out →
+    out1 ≡ put_at at count out → a ≡ at + length count →
+    out2 ≡ put_at a (key_bytes i.public_key) out1 → b ≡ a + length (key_bytes i.public_key) →
+    out3 ≡ put_at b signed out2 → c ≡ b + length signed →
+    out4 ≡ put_at c (signature_bytes i.signature) out3 → out4 ≡ put_at at (asked_bytes i) out
+put_asked i at a b c count signed out out1 out2 out3 out4 counted same fits one is two is2 three is3 four =
+    let key = key_bytes i.public_key in
+    let signature = signature_bytes i.signature in
+    let all : List ℕ → List ℕ = λ s. number (length s) ++ (key ++ (s ++ signature)) in
+    put_four at a b c (number (length signed)) key signed signature out out1 out2 out3 out4
+    (subst (λ s. at + length (all s) ≤ length out) (sym same) fits)
+    (one ∙ ap (λ l. put_at at l out) counted) (is ∙ ap (λ (l : List ℕ). at + length l) counted) two is2 three is3 four
+    ∙ ap (λ s. put_at at (all s) out) same
+
 -- ---- sizes
 
 pub length_key : (key : Key) → length (key_bytes key) ≡ KEY_SIZE
@@ -97,6 +165,16 @@ length_key key =
       length-replicate {A = ℕ} KEY_SIZE 0,
     )
 
+pub length_signature : (signature : Signature) → length (signature_bytes signature) ≡ SIGNATURE_SIZE
+length_signature signature =
+    let bytes = signature.0 in
+    omega (
+      arith,
+      length-take SIGNATURE_SIZE (bytes ++ replicate SIGNATURE_SIZE 0),
+      length-append bytes (replicate SIGNATURE_SIZE 0),
+      length-replicate {A = ℕ} SIGNATURE_SIZE 0,
+    )
+
 pub length_keys : (keys : List Key) → length (keys_bytes keys) ≡ length keys * KEY_SIZE
 length_keys [] = refl
 length_keys (key ∷ keys) =
@@ -105,6 +183,23 @@ length_keys (key ∷ keys) =
       length-append (key_bytes key) (keys_bytes keys),
       length_key key,
       length_keys keys,
+    )
+
+-- how much is asked of an info
+pub length_asked : (i : Info Key Signature) →
+    length (asked_bytes i) ≡ 8 + (KEY_SIZE + (length (ingress_spelling i.ingress) + 8 + SIGNATURE_SIZE))
+unfolding signed_bytes
+length_asked i =
+    let signed = signed_bytes i.ingress i.timestamp in
+    let key = key_bytes i.public_key in
+    let signature = signature_bytes i.signature in
+    omega (
+      arith,
+      length-append key (signed ++ signature),
+      length-append signed signature,
+      length-append (ingress_spelling i.ingress) (number i.timestamp),
+      length_key i.public_key,
+      length_signature i.signature,
     )
 
 -- the size of one part more, at most the greatest
@@ -139,16 +234,6 @@ keys_next keys bytes key place h before is =
     ∙ ap (λ l. keys_bytes keys ++ l) (append-nil key)
     ∙ ap (λ l. l ++ key) before ∙ ap (λ l. take (place * KEY_SIZE) bytes ++ l) is
     ∙ sym (take-add (place * KEY_SIZE) KEY_SIZE bytes) ∙ ap (λ n. take n bytes) (sym more)
-
--- what was told of the first infos, and the next
-pub told_next : {X : Type 0} (f : X → List ℕ) (xs : List X) (i : ℕ) (x : X) (front bytes more : List ℕ) →
-    i < length xs → get_or xs i x ≡ x → bytes ≡ front ++ flat_map f (take i xs) → more ≡ bytes ++ f x →
-    more ≡ front ++ flat_map f (take (i + 1) xs)
-told_next f xs i x front bytes more h is before after =
-    let next : flat_map f (take (i + 1) xs) ≡ flat_map f (take i xs) ++ f x =
-    one_more f xs i x h ∙ ap (λ y. flat_map f (take i xs) ++ f y) is in
-    after ∙ ap (λ l. l ++ f x) before ∙ append_assoc front (flat_map f (take i xs)) (f x)
-    ∙ ap (λ l. front ++ l) (sym next)
 
 pub map_next : {X Y : Type 0} (f : X → Y) (xs : List X) (i : ℕ) (d : X) → i < length xs →
     map f (take (i + 1) xs) ≡ map f (take i xs) ++ f (get_or xs i d) ∷ []

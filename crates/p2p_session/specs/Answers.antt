@@ -5,7 +5,9 @@ use Rattle.std.specs.Prelude.{Option, Some, None, option_map}
 use Rattle.std.specs.Int.{w32, w64, to_be_bytes}
 use Rattle.std.specs.Duration.{as_nanos}
 use Rattle.p2p_discovery.specs.Arrays.{array_spelling}
+use Rattle.p2p_discovery.specs.declared.discovery.Info.{Info}
 use Rattle.p2p_discovery.specs.Info.{info_spelling, infos_spelling}
+use Rattle.p2p_discovery.specs.Judgement.{signed_bytes}
 use Rattle.p2p_discovery.specs.BitVec.{bit_vec_spelling}
 use Rattle.p2p_tracker.specs.declared.directory.PeerSetUpdate.{PeerSetUpdate}
 use Rattle.p2p_tracker.specs.declared.directory.TrackedPeers.{TrackedPeers}
@@ -34,6 +36,15 @@ signature_bytes signature = array_spelling SIGNATURE_SIZE signature.0
 abbrev pub keys_bytes : List Key → List ℕ
 keys_bytes keys = flat_map key_bytes keys
 
+abbrev pub number : ℕ → List ℕ
+number n = to_be_bytes w64 n
+
+-- an info whose signature is asked about: how long its signed bytes are, its key, the signed bytes,
+-- the signature
+abbrev pub asked_bytes : Info Key Signature → List ℕ
+asked_bytes i = let signed = signed_bytes i.ingress i.timestamp in
+    number (length signed) ++ (key_bytes i.public_key ++ (signed ++ signature_bytes i.signature))
+
 -- the bytes of a part of an answer
 abbrev pub part_bytes : Part → List ℕ
 part_bytes (part.Number n) = to_be_bytes w64 n
@@ -41,6 +52,7 @@ part_bytes (part.Nanos n) = to_be_bytes w32 n
 part_bytes (part.Byte b) = b ∷ []
 part_bytes (part.Keys keys) = keys_bytes keys.now
 part_bytes (part.Bytes bytes) = bytes.now
+part_bytes (part.Asked infos) = flat_map asked_bytes infos.now
 
 abbrev pub parts_bytes : List Part → List ℕ
 parts_bytes parts = flat_map part_bytes parts
@@ -49,9 +61,6 @@ parts_bytes parts = flat_map part_bytes parts
 abbrev pub joined : List (List ℕ) → List ℕ
 joined [] = []
 joined (bytes ∷ more) = bytes ++ joined more
-
-abbrev pub number : ℕ → List ℕ
-number n = to_be_bytes w64 n
 
 -- a moment of so many nanoseconds: its seconds, and its nanoseconds below a second
 abbrev pub moment_bytes : ℕ → List ℕ

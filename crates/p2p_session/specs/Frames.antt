@@ -11,7 +11,7 @@ use Rattle.p2p_discovery.specs.declared.discovery.Payload.{Payload}
 use Rattle.p2p_discovery.specs.declared.discovery.Payload.TheVariants as said
 use Rattle.p2p_discovery.specs.Data.{data_spelling}
 use Rattle.p2p_discovery.specs.Ingress.{ingress_spelling}
-use Rattle.p2p_discovery.specs.Judgement.{Judge, judge_of, judged_before, to_verify, signed_bytes}
+use Rattle.p2p_discovery.specs.Judgement.{Judge, judge_of, judged_before, to_verify}
 use Rattle.p2p_discovery.specs.Payload.{infos_of_payload}
 use Rattle.p2p_discovery.specs.Reading.{whole}
 use Rattle.p2p_tracker.specs.declared.directory.Metadata.{Metadata}
@@ -26,8 +26,7 @@ use Rattle.p2p_session.specs.declared.key.Signature.{Signature}
 use Rattle.p2p_session.specs.declared.refusal.Refusal.{Refusal}
 use Rattle.p2p_session.specs.declared.refusal.Refusal.TheVariants as refusal
 use Rattle.p2p_session.specs.contracts.key.KeyOrd.TheImpl.{ghosts as order}
-use Rattle.p2p_session.specs.Answers.{Answer, refused, number, key_bytes, signature_bytes, Tells}
-use Rattle.p2p_session.specs.Answers.{Refuses}
+use Rattle.p2p_session.specs.Answers.{Answer, refused, number, asked_bytes, Tells, Refuses}
 use Rattle.p2p_session.specs.Answers.Answer.{Bytes}
 use Rattle.p2p_session.specs.Given.{moment_at}
 use Rattle.p2p_session.specs.Views.{View, wire, HasNone}
@@ -131,12 +130,6 @@ ReceivesOf frame seconds nanos verdicts out out2 (Some v) (Some v2) n =
 
 -- ---- what has to be verified
 
--- an info whose signature is asked about: how long its signed bytes are, its key, the signed bytes,
--- the signature
-abbrev pub asked_bytes : Info Key Signature → List ℕ
-asked_bytes i = let signed = signed_bytes i.ingress i.timestamp in
-    number (length signed) ++ (key_bytes i.public_key ++ (signed ++ signature_bytes i.signature))
-
 -- the infos of a payload whose signatures decide
 abbrev pub to_ask : Judge Key Signature → ℕ → Payload Key Signature → List (Info Key Signature)
 to_ask judge now (said.Greeting i) = judged_before judge now (i ∷ [])
@@ -149,15 +142,6 @@ abbrev pub check_bytes : Judge Key Signature → ℕ → Result (Payload Key Sig
 check_bytes judge now (Ok x) =
     number (length (infos_of_payload x.0)) ++ flat_map asked_bytes (to_ask judge now x.0)
 check_bytes judge now (Err fault) = number 0
-
--- what a frame has to be verified of, at a moment that was read, or why nothing is told
-abbrev pub IsAsked : {A : Type 0} → View → List ℕ → Result ℕ Refusal → Result (Vec ℕ A) Refusal → Type 0
-IsAsked v frame (Ok now) (Ok bytes) =
-    bytes.items ≡ check_bytes (judge_of order.cmp wire.verifies v.verifier) now
-    (whole (wire.reading v.limits) frame).outcome
-IsAsked v frame (Ok now) (Err why) = why ≡ refusal.Memory
-IsAsked v frame (Err why) (Ok bytes) = ⊥
-IsAsked v frame (Err why) (Err e) = e ≡ why
 
 abbrev pub ChecksAt : View → List ℕ → Result ℕ Refusal → List ℕ → List ℕ → ℕ → Type 0
 ChecksAt v frame (Ok now) out out2 n = Refuses refusal.Memory out out2 n

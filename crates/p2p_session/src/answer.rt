@@ -1,11 +1,12 @@
 //! Answers, written straight into the host's room: no memory is asked for.
 
-ghost use Rattle.std.specs.Prelude.{◌≡◌, ◌+◌, ◌*◌, ◌≤◌, ◌<◌, ◌^◌, min, length, take};
+ghost use Rattle.std.specs.Prelude.{◌≡◌, ◌+◌, ◌*◌, ◌≤◌, ◌<◌, ◌^◌, min, length, take, flat_map};
 ghost use Rattle.p2p_session.specs.Answers.{key_bytes, keys_bytes, part_bytes, parts_bytes, put_at};
-ghost use Rattle.p2p_session.specs.Answers.{IsAnswered};
+ghost use Rattle.p2p_session.specs.Answers.{IsAnswered, asked_bytes, signature_bytes};
 
-use crate::key::{KEY_SIZE, Key};
-use p2p_discovery::codec::FixedBytes;
+use crate::key::{KEY_SIZE, Key, SIGNATURE_SIZE, Signature};
+use p2p_discovery::codec::{EncodeSize, FixedBytes};
+use p2p_discovery::discovery::Info;
 
 /// A part of an answer.
 #[derive(Clone, Copy)]
@@ -20,7 +21,14 @@ pub enum Part<'a> {
     Keys(&'a [Key]),
     /// These bytes.
     Bytes(&'a [u8]),
+    /// What is asked of these infos, whose signatures decide: of each how long its signed bytes are,
+    /// its key, the signed bytes, and the signature.
+    Asked(&'a [Info<Key>]),
 }
+
+// How many bytes a number has, and so a timestamp where it is signed.
+const NUMBER_SIZE: usize = 8;
+const TIMESTAMP_SIZE: usize = NUMBER_SIZE;
 
 /// The length of no answer is above this.
 const LONGEST: u64 = 1 << 63;
@@ -58,6 +66,7 @@ fn size_of(part: &Part<'_>) -> u64
         Part::Byte(_) => 1,
         Part::Keys(keys) => size_of_keys(keys.len()),
         Part::Bytes(bytes) => (bytes.len() as u64).min(LONGEST),
+        Part::Asked(infos) => size_of_asked(infos),
     }
 }
 
@@ -66,6 +75,26 @@ pub(crate) fn size_of_keys(count: usize) -> u64
     ensures { result ≡ min (count * KEY_SIZE) (2 ^ 63) }
 {
     (count as u64).saturating_mul(KEY_SIZE as u64).min(LONGEST)
+}
+
+// How many bytes are asked of the infos.
+fn size_of_asked(infos: &[Info<Key>]) -> u64
+    ensures { result ≡ min (length (flat_map asked_bytes infos.now)) (2 ^ 63) }
+{
+    let mut size: u64 = 0;
+    for info in infos {
+        size = size.saturating_add(size_asked(info)).min(LONGEST);
+    }
+    size
+}
+
+// How many bytes are asked of the info.
+fn size_asked(info: &Info<Key>) -> u64
+    ensures size { result ≡ length (asked_bytes info.now) }
+    ensures bound { result ≤ 1024 }
+{
+    let signed = info.ingress.encode_size() + TIMESTAMP_SIZE;
+    (NUMBER_SIZE + KEY_SIZE + signed + SIGNATURE_SIZE) as u64
 }
 
 // Writes the parts one after the other.
@@ -91,6 +120,7 @@ fn write(part: &Part<'_>, out: &mut [u8], at: usize) -> usize
         Part::Byte(byte) => put(out, at, &[*byte]),
         Part::Keys(keys) => put_keys(out, at, keys),
         Part::Bytes(bytes) => put(out, at, bytes),
+        Part::Asked(infos) => put_asked(out, at, infos),
     }
 }
 
@@ -116,6 +146,45 @@ fn put_key(out: &mut [u8], at: usize, key: &Key) -> usize
 {
     let end = at + KEY_SIZE;
     key.write_fixed(&mut out[at..end]);
+    end
+}
+
+// Writes what is asked of the infos from a place on, and answers the place behind it.
+fn put_asked(out: &mut [u8], start: usize, infos: &[Info<Key>]) -> usize
+    requires { start + length (flat_map asked_bytes infos.now) ≤ length out.old }
+    ensures bytes { out.new ≡ put_at start (flat_map asked_bytes infos.now) out.old }
+    ensures end { result ≡ start + length (flat_map asked_bytes infos.now) }
+{
+    let mut at = start;
+    for info in infos {
+        at = put_info(out, at, info);
+    }
+    at
+}
+
+// Writes what is asked of the info from a place on, and answers the place behind it.
+fn put_info(out: &mut [u8], at: usize, info: &Info<Key>) -> usize
+    requires { at + length (asked_bytes info.now) ≤ length out.old }
+    ensures bytes { out.new ≡ put_at at (asked_bytes info.now) out.old }
+    ensures end { result ≡ at + length (asked_bytes info.now) }
+{
+    let signed = info.signed();
+    let signed = signed.as_slice();
+    let key_at = put(out, at, &(signed.len() as u64).to_be_bytes());
+    let signed_at = put_key(out, key_at, &info.public_key);
+    let signature_at = put(out, signed_at, signed);
+    put_signature(out, signature_at, &info.signature)
+}
+
+// Writes the signature from a place on, and answers the place behind it.
+#[tactic(auto, using(crate::proofs::Puts::length_signature))]
+fn put_signature(out: &mut [u8], at: usize, signature: &Signature) -> usize
+    requires { at + length (signature_bytes signature.now) ≤ length out.old }
+    ensures bytes { out.new ≡ put_at at (signature_bytes signature.now) out.old }
+    ensures end { result ≡ at + length (signature_bytes signature.now) }
+{
+    let end = at + SIGNATURE_SIZE;
+    signature.write_fixed(&mut out[at..end]);
     end
 }
 

@@ -4,12 +4,12 @@ ghost use Rattle.std.specs.Prelude.{◌≡◌, ◌≤◌, ◌∷◌, ◌++◌, �
 ghost use Rattle.std.specs.Prelude.{take, flat_map};
 ghost use Rattle.p2p_discovery.specs.Data.{data_spelling};
 ghost use Rattle.std.specs.Duration.{as_nanos};
-ghost use Rattle.p2p_session.specs.Answers.{Tells, Refuses, IsAnswered, number};
+ghost use Rattle.p2p_session.specs.Answers.{Tells, Refuses, IsAnswered, number, asked_bytes};
 ghost use Rattle.p2p_session.specs.Answers.Answer.{Bytes as Spelled};
 ghost use Rattle.p2p_session.specs.Given.{moment_at};
 ghost use Rattle.p2p_session.specs.Frames.{received_answer, TellsReceived, fault_bytes, error_bytes};
 ghost use Rattle.p2p_session.specs.Frames.{verdicts_in, MayRefuse, ReceivesAt, HearsAt};
-ghost use Rattle.p2p_session.specs.Frames.{to_ask, asked_bytes, ChecksAt, IsAsked};
+ghost use Rattle.p2p_session.specs.Frames.{to_ask, ChecksAt};
 ghost use Rattle.p2p_session.specs.contracts.key.KeyOrd.TheImpl.{ghosts as order};
 ghost use Rattle.p2p_session.specs.Views.{wire};
 ghost use Rattle.p2p_session.specs.Answers.{part_bytes};
@@ -18,15 +18,16 @@ ghost use Rattle.p2p_discovery.specs.Payload.{infos_of_payload};
 
 use crate::answer::{Part, answer};
 use crate::given::moment;
-use crate::key::{KEY_SIZE, Key, SIGNATURE_SIZE};
+use crate::key::Key;
 use crate::refusal::Refusal;
 use crate::reply::answer_one;
 use bytes::Bytes;
 use p2p_directory::node::{Miscounted, Node, Received};
-use p2p_discovery::codec::{CodecError, FixedBytes, What, Write};
+use p2p_discovery::codec::{CodecError, What, Write};
 use p2p_discovery::data::Data;
 use p2p_discovery::discovery::{Error, Info, InfoVerifier, Payload};
 use std::alloc::{AllocError, Global};
+use std::slice;
 use std::time::Duration;
 
 /// What answers to frames that are applied or refused need at most.
@@ -82,87 +83,58 @@ fn hear(
 pub fn check(alloc: Global, node: &Node<Key>, frame: &[u8], time: (u64, u32), out: &mut [u8]) -> u64
     ensures { ChecksAt node.now frame.now (moment_at time.0 time.1) out.old out.new result }
 {
-    match asked(alloc, node, frame, time) {
-        Ok(bytes) => answer_one(Part::Bytes(&bytes), out),
-        Err(refusal) => refusal.number(),
-    }
-}
-
-// What of a frame has to be verified.
-fn asked(
-    alloc: Global,
-    node: &Node<Key>,
-    frame: &[u8],
-    time: (u64, u32),
-) -> Result<Vec<u8>, Refusal>
-    ensures { IsAsked node.now frame.now (moment_at time.0 time.1) result }
-{
-    let now = moment(time.0, time.1)?;
-    let frame = Bytes::copy_from_slice(alloc, frame)?;
+    let now = match moment(time.0, time.1) {
+        Ok(now) => now,
+        Err(refusal) => return refusal.number(),
+    };
+    let Ok(frame) = Bytes::copy_from_slice(alloc, frame) else {
+        return Refusal::Memory.number();
+    };
     match node.read(frame) {
-        Ok(payload) => Ok(asked_of(alloc, node.verifier(), &payload, now)?),
-        Err(CodecError::Memory) => Err(Refusal::Memory),
-        Err(_) => Ok(0u64.to_be_bytes().as_slice().to_vec(alloc)?),
+        Ok(payload) => tell_asked(node.verifier(), &payload, now, out),
+        Err(CodecError::Memory) => Refusal::Memory.number(),
+        Err(_) => answer_one(Part::Number(0), out),
     }
 }
 
-// What of a payload has to be verified.
-fn asked_of(
-    alloc: Global,
+// Tells what of a payload has to be verified.
+fn tell_asked(
     verifier: &InfoVerifier<Key>,
     payload: &Payload<Key>,
     now: Duration,
-) -> Result<Vec<u8>, AllocError>
-    ensures { IfOk result (λ bytes. bytes.items ≡ number (length (infos_of_payload payload.now))
+    out: &mut [u8],
+) -> u64
+    ensures { IsAnswered (number (length (infos_of_payload payload.now))
         ++ flat_map asked_bytes (to_ask (judge_of order.cmp wire.verifies verifier.now)
-        (as_nanos now) payload.now)) }
+        (as_nanos now) payload.now)) out.old out.new result }
 {
     match payload {
-        Payload::Data(_) | Payload::BitVec(_) => Ok(0u64.to_be_bytes().as_slice().to_vec(alloc)?),
-        Payload::Greeting(info) => {
-            let mut bytes = 1u64.to_be_bytes().as_slice().to_vec(alloc)?;
-            if let Ok(()) = verifier.validate_info_by(now, info, true) {
-                push_asked(&mut bytes, info)?;
-            }
-            Ok(bytes)
-        }
+        Payload::Data(_) | Payload::BitVec(_) => answer_one(Part::Number(0), out),
+        Payload::Greeting(info) => match verifier.validate_info_by(now, info, true) {
+            Ok(()) => tell_first(slice::from_ref(info), 1, out),
+            Err(_) => answer_one(Part::Number(1), out),
+        },
         Payload::Peers(infos) => {
             let infos = infos.as_slice();
             let count = verifier.count_to_verify(now, infos);
-            asked_first(alloc, infos, count)
+            tell_first(infos, count, out)
         }
     }
 }
 
-// The number of infos, and so many of them.
-#[tactic(auto, using(crate::proofs::Puts::told_next))]
-fn asked_first(alloc: Global, infos: &[Info<Key>], count: usize) -> Result<Vec<u8>, AllocError>
+// Tells how many infos there are, and what is asked of the first `count` of them.
+fn tell_first(infos: &[Info<Key>], count: usize, out: &mut [u8]) -> u64
     requires { count ≤ length infos.now }
-    ensures { IfOk result (λ bytes. bytes.items ≡ number (length infos.now)
-        ++ flat_map asked_bytes (take count infos.now)) }
+    ensures { IsAnswered (number (length infos.now) ++ flat_map asked_bytes (take count infos.now))
+        out.old out.new result }
 {
-    let mut bytes = (infos.len() as u64).to_be_bytes().as_slice().to_vec(alloc)?;
-    for place in 0..count {
-        push_asked(&mut bytes, &infos[place])?;
-    }
-    Ok(bytes)
-}
-
-// Appends what is asked of an info: how long its signed bytes are, its key, the signed bytes, and
-// the signature.
-fn push_asked(bytes: &mut Vec<u8>, info: &Info<Key>) -> Result<(), AllocError>
-    ensures { OnOk result (bytes.new.items ≡ bytes.old.items ++ asked_bytes info.now) }
-{
-    let signed = info.signed();
-    let signed = signed.as_slice();
-    let mut key = [0; KEY_SIZE];
-    info.public_key.write_fixed(&mut key);
-    let mut signature = [0; SIGNATURE_SIZE];
-    info.signature.write_fixed(&mut signature);
-    bytes.extend_from_slice(&(signed.len() as u64).to_be_bytes())?;
-    bytes.extend_from_slice(&key)?;
-    bytes.extend_from_slice(signed)?;
-    bytes.extend_from_slice(&signature)
+    answer(
+        &[
+            Part::Number(infos.len() as u64),
+            Part::Asked(&infos[..count]),
+        ],
+        out,
+    )
 }
 
 // What bytes say of signatures.
