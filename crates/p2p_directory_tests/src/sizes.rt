@@ -194,3 +194,39 @@ fn a_node_keeps_no_slot_of_whom_it_released(rt: HostRuntime) -> Result<(), Fail>
     assert_eq!(rt; done?, ROUNDS);
     Ok(())
 }
+
+// In each round one of three peers is blocked anew after its block, of a minute, has ended. Nobody
+// ends blocks.
+fn blocks_anew(directory: &mut Directory<TestKey>) -> Result<u64, AllocError> {
+    let mut taken = 0u64;
+    for round in 0..ROUNDS {
+        let peer = TestKey(10 + round % 3);
+        if directory.block(&peer, Duration::from_secs(round.saturating_mul(30)))? {
+            taken = taken.saturating_add(1);
+        }
+    }
+    Ok(taken)
+}
+
+// The same within memory for a few blocks.
+fn keeps_no_ends(alloc: Global, directory: &mut Directory<TestKey>) -> Result<u64, Fail> {
+    let mut memory = LowMemory::new(alloc)?;
+    memory.limit(alloc, 32_768)?;
+    let taken = blocks_anew(directory);
+    memory.lift();
+    Ok(taken?)
+}
+
+#[test]
+fn blocks_that_are_renewed_keep_no_ends(rt: HostRuntime) -> Result<(), Fail> {
+    let alloc = rt.alloc();
+    let mut directory = directory_from(alloc, &[])?;
+    let taken = keeps_no_ends(alloc, &mut directory)?;
+    assert_eq!(rt; taken, ROUNDS);
+    // Three blocks are left, those of the last rounds: the first of them is of round 9,997.
+    let first = Duration::from_secs(9_997 * 30 + 60);
+    assert_eq!(rt; directory.next_unblock(), Some(first));
+    assert!(rt; directory.unblock_expired(first));
+    assert_eq!(rt; directory.blocked_peers(Duration::ZERO)?.len(), 2);
+    Ok(())
+}

@@ -1,4 +1,5 @@
-//! Frames for a session, whose host judges signatures: what the two calls take without crossing.
+//! Frames for a session, whose host judges signatures: what both calls and the judging between them
+//! take without crossing.
 
 use crate::keys::{TimedKey, keys};
 use crate::made::{NAMESPACE, SETS, own_info};
@@ -7,9 +8,12 @@ use crate::scenarios::exchanges::frame_of;
 use crate::stop::Stop;
 use crate::times::Times;
 use p2p_discovery::codec::Write;
-use p2p_session::{KEY_SIZE, Session};
+use p2p_session::{KEY_SIZE, SIGNATURE_SIZE, Session};
 use std::alloc::{AllocError, Global};
 use std::time::Instant;
+
+// How many bytes a number has.
+const NUMBER: usize = 8;
 
 // How many bytes are asked of an info at most.
 const ASKED: usize = 512;
@@ -59,8 +63,47 @@ fn begin<K: TimedKey>(alloc: Global, session: &mut Session, keys: &[K]) -> Resul
     Ok(())
 }
 
-// Checks frames with the infos of a tenth of the peers, each time with newer ones, and hands them in
-// with verdicts that all are right.
+// Whether the signature of the first info that is asked about begins with its key, as a right one
+// does, and what is asked behind it.
+fn judge_first(asked: &[u8]) -> Option<(bool, &[u8])> {
+    let (length, rest) = asked.split_first_chunk::<NUMBER>()?;
+    let (key, rest) = rest.split_first_chunk::<KEY_SIZE>()?;
+    let (_signed, rest) = rest.split_at_checked(u64::from_be_bytes(*length) as usize)?;
+    let (signature, rest) = rest.split_first_chunk::<SIGNATURE_SIZE>()?;
+    Some((signature.starts_with(key), rest))
+}
+
+// Judges the infos that are asked about, one after the other.
+fn judge_each(asked: &[u8], verdicts: &mut [u8]) {
+    let mut left = asked;
+    for verdict in verdicts {
+        let Some((is_right, rest)) = judge_first(left) else {
+            return;
+        };
+        *verdict = u8::from(is_right);
+        left = rest;
+    }
+}
+
+// Checks a frame, judges what is asked of its infos, and hands it in with these verdicts. Says
+// whether infos were taken.
+fn hear(
+    alloc: Global,
+    session: &mut Session,
+    frame: &[u8],
+    asked: &mut [u8],
+    verdicts: &mut [u8],
+) -> bool {
+    session.check(alloc, frame, 100, 0, asked);
+    if let Some((_count, infos)) = asked.split_first_chunk::<NUMBER>() {
+        judge_each(infos, verdicts);
+    }
+    let mut answer = [0; 16];
+    let length = session.receive(alloc, frame, 100, 0, verdicts, &mut answer);
+    length == 9 && answer[0] == 3
+}
+
+// Hears frames with the infos of a tenth of the peers, each time newer ones.
 fn hear_each<K: TimedKey>(
     rt: &HostRuntime,
     session: &mut Session,
@@ -70,22 +113,20 @@ fn hear_each<K: TimedKey>(
     let alloc = rt.alloc();
     begin(alloc, session, keys)?;
     let few = part(keys, 0, keys.len() / 10);
-    let verdicts = vec![in alloc; 1; few.len()]?;
+    let mut verdicts = vec![in alloc; 0; few.len()]?;
     let mut asked = vec![in alloc; 0; few.len().saturating_mul(ASKED)]?;
-    let mut answer = [0; 16];
     let mut times = Times::new(alloc);
     for sample in 0..samples {
         let frame = frame_of(alloc, few, sample as u64)?;
         let start = Instant::now(rt)?;
-        session.check(alloc, frame.as_slice(), 100, 0, &mut asked);
-        let length = session.receive(alloc, frame.as_slice(), 100, 0, &verdicts, &mut answer);
-        let time = start.elapsed(rt)?;
-        times.count(time, length == 9 && answer[0] == 3)?;
+        let is_taken = hear(alloc, session, frame.as_slice(), &mut asked, &mut verdicts);
+        times.count(start.elapsed(rt)?, is_taken)?;
     }
     Ok(times)
 }
 
-/// Frames with the infos of a tenth of so many peers, that a session checks and takes.
+/// Frames with the infos of a tenth of so many peers, that a session checks, whose infos are judged,
+/// and that it takes.
 pub(crate) fn heard<K: TimedKey>(
     rt: &HostRuntime,
     count: usize,
