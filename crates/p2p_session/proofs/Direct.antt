@@ -4,7 +4,6 @@ use Rattle.p2p_tracker.specs.Calls.{Call}
 use Rattle.p2p_directory.specs.Run.{was_made}
 use Rattle.p2p_directory.specs.Nodes.{AtEach, IsSteppedAt}
 use Rattle.p2p_directory.specs.declared.run.commands.Reply.{Reply}
-use Rattle.p2p_directory.specs.declared.run.commands.Reply.TheVariants as reply
 use Rattle.p2p_session.specs.declared.key.Key.{Key}
 use Rattle.p2p_session.specs.declared.key.Signature.{Signature}
 use Rattle.p2p_session.specs.contracts.key.KeyOrd.TheImpl.{ghosts as order}

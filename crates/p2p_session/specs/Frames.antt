@@ -1,6 +1,6 @@
 -- What a session does with frames, and what it tells of reservations.
 use Rattle.std.specs.Prelude.{◌≡◌, ◌⊎◌, ℕ, ◌<◌, Bool, true, false, not, ◌==◌, List, [], ◌∷◌, ◌++◌}
-use Rattle.std.specs.Prelude.{length, map, flat_map, Option, Some, None, Result, Ok, Err, Vec}
+use Rattle.std.specs.Prelude.{length, map, flat_map, Option, Some, None, Result, Ok, Err}
 use Rattle.p2p_discovery.specs.declared.codec.error.CodecError.{CodecError}
 use Rattle.p2p_discovery.specs.declared.codec.error.CodecError.TheVariants as fault
 use Rattle.p2p_discovery.specs.declared.codec.error.What.TheVariants as what

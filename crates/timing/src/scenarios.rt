@@ -12,7 +12,7 @@ mod wire;
 use crate::keys::{Key32, TimedKey};
 use crate::scenarios::asked::{Question, questions};
 use crate::scenarios::blocks::{Phase, phases};
-use crate::scenarios::calls::{Between, cycles, statuses, tracks, updates};
+use crate::scenarios::calls::{Between, cycles, forgets, inits, statuses, tracks, updates};
 use crate::scenarios::exchanges::{exchanges, receives};
 use crate::scenarios::nodes::{Served, of_a_node};
 use crate::scenarios::runs::{Kind, Made, fill, runs};
@@ -22,7 +22,8 @@ use crate::stop::Stop;
 use crate::times::Times;
 use p2p_discovery::codec::TestKey;
 
-const NAMES: [&str; 47] = [
+const NAMES: [&str; 52] = [
+    "init",
     "track",
     "status",
     "listen",
@@ -37,13 +38,17 @@ const NAMES: [&str; 47] = [
     "blocked_peers",
     "unblock_expired",
     "unblock_idle",
+    "forget_cooled",
     "info",
     "infos",
     "bits",
     "all",
     "get_peer_set",
+    "latest_set_index",
     "latest_update",
+    "tracked",
     "eligible",
+    "acceptable",
     "dialable",
     "encode",
     "decode",
@@ -79,6 +84,7 @@ fn of_calls<K: TimedKey>(
     samples: usize,
 ) -> Result<Times, Stop> {
     match name {
+        "init" => inits::<K>(rt, count, samples),
         "track" => tracks::<K>(rt, count, samples),
         "status" => statuses::<K>(rt, count, samples),
         "listen" => cycles::<K>(rt, count, samples, Between::Listen),
@@ -93,6 +99,7 @@ fn of_calls<K: TimedKey>(
         "blocked_peers" => phases::<K>(rt, count, samples, Phase::BlockedPeers),
         "unblock_expired" => phases::<K>(rt, count, samples, Phase::UnblockExpired),
         "unblock_idle" => phases::<K>(rt, count, samples, Phase::UnblockIdle),
+        "forget_cooled" => forgets::<K>(rt, count, samples),
         _ => of_questions::<K>(rt, name, count, samples),
     }
 }
@@ -110,7 +117,10 @@ fn of_questions<K: TimedKey>(
         "all" => questions::<K>(rt, count, samples, Question::All),
         "get_peer_set" => questions::<K>(rt, count, samples, Question::PeerSet),
         "latest_update" => questions::<K>(rt, count, samples, Question::LatestUpdate),
+        "latest_set_index" => questions::<K>(rt, count, samples, Question::LatestSetIndex),
+        "tracked" => questions::<K>(rt, count, samples, Question::Tracked),
         "eligible" => questions::<K>(rt, count, samples, Question::Eligible),
+        "acceptable" => questions::<K>(rt, count, samples, Question::Acceptable),
         "dialable" => questions::<K>(rt, count, samples, Question::Dialable),
         "run_tracks" => runs::<K>(rt, count, samples, Kind::Tracks),
         "run_listens" => runs::<K>(rt, count, samples, Kind::Listens),

@@ -14,6 +14,9 @@ use std::time::{Duration, Instant};
 // At which second questions are asked.
 const NOW: u64 = 1000;
 
+// How many questions that are answered at once are timed as one.
+const REPEATS: usize = 100;
+
 /// Which question is asked.
 #[derive(Clone, Copy)]
 pub(crate) enum Question {
@@ -29,8 +32,14 @@ pub(crate) enum Question {
     PeerSet,
     /// What is told of the latest set.
     LatestUpdate,
+    /// A hundred times the index of the latest set.
+    LatestSetIndex,
+    /// A hundred times how many peers there is a record of.
+    Tracked,
     /// Whether each peer is eligible.
     Eligible,
+    /// Whether each peer is acceptable.
+    Acceptable,
     /// Who may be dialled.
     Dialable,
 }
@@ -62,7 +71,10 @@ fn ask<K: TimedKey>(
             Some(update) => update.all.primary.len(),
             None => 0,
         }),
+        Question::LatestSetIndex => Ok(indices_told(directory)),
+        Question::Tracked => Ok(counts_told(directory)),
         Question::Eligible => Ok(are_eligible(directory, keys, now)),
+        Question::Acceptable => Ok(are_acceptable(directory, keys, now)),
         Question::Dialable => Ok(directory.dialable(now)?.peers.len()),
     }
 }
@@ -81,6 +93,36 @@ fn are_eligible<K: TimedKey>(directory: &Directory<K>, keys: &[K], now: Duration
     let mut done = 0usize;
     for key in keys {
         if directory.eligible(key, now) {
+            done = done.saturating_add(1);
+        }
+    }
+    done
+}
+
+fn are_acceptable<K: TimedKey>(directory: &Directory<K>, keys: &[K], now: Duration) -> usize {
+    let mut done = 0usize;
+    for key in keys {
+        if directory.acceptable(key, now) {
+            done = done.saturating_add(1);
+        }
+    }
+    done
+}
+
+fn indices_told<K: TimedKey>(directory: &Directory<K>) -> usize {
+    let mut done = 0usize;
+    for _ in 0..REPEATS {
+        if directory.latest_set_index().is_some() {
+            done = done.saturating_add(1);
+        }
+    }
+    done
+}
+
+fn counts_told<K: TimedKey>(directory: &Directory<K>) -> usize {
+    let mut done = 0usize;
+    for _ in 0..REPEATS {
+        if directory.tracked() > 0 {
             done = done.saturating_add(1);
         }
     }

@@ -1,12 +1,14 @@
 //! Calls that change the records: sets, reservations and infos.
 
 use crate::keys::{TimedKey, keys};
-use crate::made::{SETS, directory, full, info_of, known, tracked};
+use crate::made::{SETS, config, directory, full, info_of, known, own_info, tracked};
 use crate::stop::Stop;
 use crate::times::Times;
 use p2p_directory::directory::Directory;
 use p2p_discovery::discovery::Info;
+use p2p_discovery::types::{Ingress, IpAddr, SocketAddr};
 use std::alloc::{AllocError, Global};
+use std::num::NonZeroUsize;
 use std::time::{Duration, Instant};
 
 /// So many keys from a place on, or all where there are fewer.
@@ -118,6 +120,61 @@ pub(crate) fn cycles<K: TimedKey>(
         times.add(start.elapsed(rt)?, done)?;
     }
     Ok(times)
+}
+
+/// The end of the cooldowns of all peers, each of which was released before.
+pub(crate) fn forgets<K: TimedKey>(
+    rt: &HostRuntime,
+    count: usize,
+    samples: usize,
+) -> Result<Times, Stop> {
+    let alloc = rt.alloc();
+    let all: Vec<K> = keys(alloc, 0, count)?;
+    let mut directory = known(alloc, &all)?;
+    let mut times = Times::new(alloc);
+    for sample in 0..samples {
+        let now = Duration::from_secs((sample as u64).saturating_mul(100));
+        for key in &all {
+            cycle(&mut directory, key, now, Between::Listen)?;
+        }
+        let later = now.saturating_add(Duration::from_secs(50));
+        let start = Instant::now(rt)?;
+        let forgotten = directory.forget_cooled(later);
+        times.add(start.elapsed(rt)?, forgotten)?;
+    }
+    Ok(times)
+}
+
+/// New directories with these peers as bootstrappers.
+pub(crate) fn inits<K: TimedKey>(
+    rt: &HostRuntime,
+    count: usize,
+    samples: usize,
+) -> Result<Times, Stop> {
+    let alloc = rt.alloc();
+    let all: Vec<K> = keys(alloc, 0, count)?;
+    let mut times = Times::new(alloc);
+    for _ in 0..samples {
+        let bootstrappers = bootstrappers_of(alloc, &all)?;
+        let config = config(NonZeroUsize::MIN);
+        let start = Instant::now(rt)?;
+        let directory = Directory::init(alloc, bootstrappers, own_info(9), config)?;
+        times.add(start.elapsed(rt)?, directory.tracked())?;
+    }
+    Ok(times)
+}
+
+// Each of the keys with where it can be dialled.
+fn bootstrappers_of<K: TimedKey>(
+    alloc: Global,
+    keys: &[K],
+) -> Result<Vec<(K, Ingress)>, AllocError> {
+    let mut bootstrappers = Vec::with_capacity(alloc, keys.len())?;
+    for key in keys {
+        let ip = IpAddr::V4([1, 2, 3, key.last_byte()]);
+        bootstrappers.push((*key, Ingress::Socket(SocketAddr::new(ip, 8000))))?;
+    }
+    Ok(bootstrappers)
 }
 
 // The infos of the keys in lists of at most so many.

@@ -1,4 +1,4 @@
-use Rattle.std.proofs.Common.{Ok, Some, [], refl, sym, subst}
+use Rattle.std.proofs.Common.{Ok, Some, [], refl, subst}
 use Rattle.std.specs.Duration.{as_nanos}
 use Rattle.p2p_tracker.specs.Calls.Call.{ForgetCooled}
 use Rattle.p2p_directory.specs.declared.run.commands.Reply.TheVariants as reply
