@@ -1,6 +1,6 @@
 -- When blocks end: each block has an end as blocks come and go, and the first end shows the least moment.
 use Rattle.std.proofs.Common.{◌≡◌, ℕ, suc, ◌+◌, ◌≤◌, ◌<◌, Bool, true, false, ◌&&◌, ◌||◌, cond, not}
-use Rattle.std.proofs.Common.{nat_lt, nat_le, nat_eq, List, [], ◌∷◌, filter, length, Option, Some, None, zero}
+use Rattle.std.proofs.Common.{nat_lt, nat_le, nat_eq, List, [], ◌∷◌, filter, length, Option, Some, None}
 use Rattle.std.proofs.Common.{refl, sym, ◌∙◌, ap, get_or, arith}
 use Rattle.std.specs.Prelude.{IsSome, is_some, ◌↔◌}
 use Rattle.std.specs.declared.cmp.Ordering.{Ordering}
@@ -42,15 +42,10 @@ or_yes false b e = e
 
 -- THE FIRST END
 
--- a list without a first element
-pub none_at_all : {X : Type 0} (xs : List X) (n : ℕ) → n ≡ length xs → n ≡ 0 → xs ≡ []
-none_at_all [] n e f = refl
-none_at_all (x ∷ xs) n e f = absurd (omega (arith, e, f))
-
--- .. has no length
-pub none_then : {B : Type 0} (o : Option B) (n : ℕ) → o ≡ None → IsSome o ↔ (0 < n) → n ≡ 0
-none_then o zero e some = refl
-none_then o (suc n) e some = absurd (let f = sym (ap is_some e) ∙ some.1 (omega arith) in cc)
+-- who is first where a list may be empty
+pub none_first : {A B : Type 0} (o : Option B) (xs : List A) → o ≡ None → IsSome o ↔ (0 < length xs) → xs ≡ []
+none_first o [] e some = refl
+none_first o (x ∷ xs) e some = absurd (let f = sym (ap is_some e) ∙ some.1 (omega arith) in cc)
 
 -- two readings of the first element
 pub first_same : {X : Type 0} (xs : List X) (a b : X) → 0 < length xs → a ≡ get_or xs 0 a → b ≡ get_or xs 0 b → a ≡ b
@@ -111,17 +106,13 @@ module _ {C : Type 0} (cmp : C → C → Ordering) where
   )
 
   -- with no end there is no block
-  pub no_ends : (ends : List (Reverse (ℕ × C))) (blocks : List (C × ℕ)) → AreEnds cmp ends blocks → length ends ≡ 0 →
+  pub no_ends : (ends : List (Reverse (ℕ × C))) (blocks : List (C × ℕ)) → AreEnds cmp ends blocks → ends ≡ [] →
       IsLeastOf (unblock_in cmp blocks) None
   no_ends ends blocks are none q = go (unblock_in cmp blocks q) refl
     where
-      nothing : (es : List (Reverse (ℕ × C))) (m : ℕ) → length es ≡ 0 → list_any (covers cmp q m) es ≡ false
-      nothing [] m e = refl
-      nothing (x ∷ es) m e = absurd (omega (arith, e))
-
       go : (o : Option ℕ) → unblock_in cmp blocks q ≡ o → o ≡ None
       go None e = refl
-      go (Some m) e = absurd (let no = sym (nothing ends m none) ∙ are.covered q m e in cc)
+      go (Some m) e = absurd (let no = sym (ap (list_any (covers cmp q m)) none) ∙ are.covered q m e in cc)
 
 -- AS ENDS COME AND GO
 

@@ -1,11 +1,12 @@
-use Rattle.std.proofs.Common.{false, ap, sym, subst, refl, ◌∙◌, nat_eq, arith}
-use Rattle.std.specs.BinaryHeap.{heap_items, heap_len}
+use Rattle.std.proofs.Common.{◌<◌, false, ap, sym, subst, refl, ◌∙◌, nat_eq, arith}
+use Rattle.std.specs.BinaryHeap.{heap_items}
+use Rattle.std.specs.Prelude.{IsSome, ◌↔◌}
 use Rattle.std.specs.Duration.{as_nanos}
 use Rattle.std.specs.Option.{option_map, option_map_or}
 use Rattle.p2p_tracker.specs.Blocks.{in_nanos, unblock_in}
 use Rattle.p2p_tracker.specs.Lists.{IsLeastOf}
 use Rattle.p2p_tracker.specs.Private.Ends.{IsPutOff}
-use Rattle.p2p_tracker.proofs.SetsAndRecords.Ends.{at_end, ends_put_off, fewer_off, first_is_least, had_moment, no_ends, none_then}
+use Rattle.p2p_tracker.proofs.SetsAndRecords.Ends.{at_end, ends_put_off, fewer_off, first_is_least, had_moment, no_ends, none_first}
 use Rattle.p2p_tracker.proofs.kept.blocks.first_to_end.Goals as goal
 
 pub loop-end-init : goal.loop-end-init
@@ -52,5 +53,6 @@ returns-clause-ends g c = c.loop-end.invariant
 
 pub returns-clause-least : goal.returns-clause-least
 returns-clause-least g c = no_ends g.C.Ord.cmp (heap_items c.loop-end.ends) (in_nanos c.args.moments.now.entries)
-    c.loop-end.invariant (sym c.loop-end.ends.data.ok.0
-    ∙ none_then c.peek.result (heap_len c.loop-end.ends) c.in_default.is c.peek.ensures.variant)
+    c.loop-end.invariant
+    (none_first c.peek.result (heap_items c.loop-end.ends) c.in_default.is
+    (subst (λ n. IsSome c.peek.result ↔ (0 < n)) c.loop-end.ends.data.ok.0 c.peek.ensures.variant))

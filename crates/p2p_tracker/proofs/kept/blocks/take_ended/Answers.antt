@@ -1,8 +1,9 @@
 use Rattle.std.proofs.Common.{◌<◌, arith, subst, sym}
-use Rattle.std.specs.BinaryHeap.{heap_items, heap_len}
+use Rattle.std.specs.BinaryHeap.{heap_items}
+use Rattle.std.specs.Prelude.{IsSome, ◌↔◌}
 use Rattle.std.specs.Duration.{as_nanos}
 use Rattle.std.specs.List.{AllByRecursion}
-use Rattle.p2p_tracker.proofs.SetsAndRecords.Ends.{each_later, none_at_all, none_then}
+use Rattle.p2p_tracker.proofs.SetsAndRecords.Ends.{each_later, none_first}
 use Rattle.p2p_tracker.proofs.kept.blocks.take_ended.Goals as goal
 use Rattle.p2p_tracker.proofs.kept.blocks.take_ended.Goals.{in_default-via-in-Some+else-end-as_nanos, in_default-via-in_default}
 
@@ -14,6 +15,6 @@ returns-in_default-clause-none g c =
           (omega (arith, w.as_nanos.ensures, w.if-end-as_nanos.false)) (w.in-Some.ensures.greatest c.requires)
       | in_default-via-in_default w ↦
           subst (AllByRecursion (λ end. as_nanos c.args.now < end.0.0))
-          (sym (none_at_all (heap_items c.args.ends.now) (heap_len c.args.ends.now) c.args.ends.now.data.ok.0
-          (none_then c.peek.result (heap_len c.args.ends.now) w.in_default.is c.peek.ensures.variant))) tt
+          (sym (none_first c.peek.result (heap_items c.args.ends.now) w.in_default.is
+          (subst (λ n. IsSome c.peek.result ↔ (0 < n)) c.args.ends.now.data.ok.0 c.peek.ensures.variant))) tt
     ]
