@@ -28,6 +28,7 @@ pub enum Part<'a> {
 
 // How many bytes a number has, and so a timestamp where it is signed.
 const NUMBER_SIZE: usize = 8;
+
 const TIMESTAMP_SIZE: usize = NUMBER_SIZE;
 
 /// The length of no answer is above this.
