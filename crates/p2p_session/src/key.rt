@@ -1,12 +1,14 @@
 //! Keys and signatures as they stand in bytes.
 
-ghost use Rattle.std.specs.Prelude.{◌≡◌, refl, false, Some};
+ghost use Rattle.std.specs.Prelude.{◌≡◌, ◌≤◌, refl, false, Some, length};
+ghost use Rattle.std.specs.Int.{w32, from_be_bytes};
 ghost use Rattle.std.specs.Cmp.Lexicographic.{slice_cmp};
 ghost use Rattle.std.specs.Ordering.{nat_cmp};
 ghost use Rattle.std.proofs.Common.{lit≤};
 ghost use Rattle.p2p_discovery.specs.Arrays.{array_spelling};
 ghost use Rattle.p2p_discovery.specs.ArraysLaws.{fixed_array, one_array, exact_array};
 ghost use Rattle.p2p_discovery.specs.Fields.{IsSized};
+ghost use Rattle.p2p_discovery.specs.Reading.{IsBytes};
 
 use p2p_discovery::codec::{FixedBytes, PublicKey, read_array, write_array};
 use std::cmp::Ordering;
@@ -42,23 +44,28 @@ impl Ord for Key {
     }
 }
 
-// How many bytes are compared one by one, before all are compared at once. Random keys rarely share
-// more.
-const FRONT: usize = 4;
-
-/// The order of two keys by their bytes: that of the first bytes that differ.
-// Always inlined, for one of the first mostly decides.
+/// The order of two keys by their bytes: that of the first bytes that differ. The first four of each
+/// are compared as one number, for random keys rarely share them.
+// Always inlined, for the first mostly decide.
 #[inline(always)]
 pub fn compare(a: &[u8; KEY_SIZE], b: &[u8; KEY_SIZE]) -> Ordering
     ensures { result ≡ slice_cmp nat_cmp a.now b.now }
 {
-    for place in 0..FRONT {
-        let (x, y) = (a[place], b[place]);
-        if x != y {
-            return x.cmp(&y);
-        }
+    let (x, y) = (front(a), front(b));
+    if x != y {
+        return x.cmp(&y);
     }
     a.cmp(b)
+}
+
+// The first four bytes as a number, the most significant first.
+#[inline(always)]
+fn front(bytes: &[u8; KEY_SIZE]) -> u32
+    ensures number { result ≡ from_be_bytes w32 bytes.now }
+    ensures bytes { IsBytes bytes.now }
+    ensures length { 4 ≤ length bytes.now }
+{
+    u32::from_be_bytes([bytes[0], bytes[1], bytes[2], bytes[3]])
 }
 
 /// A signature: its bytes.
