@@ -1,5 +1,6 @@
 -- What is held, and the commands of a run.
 pub mod Slots
+pub mod Listed
 pub mod Holding
 pub mod Served
 pub mod Told

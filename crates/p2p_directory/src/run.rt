@@ -2,11 +2,11 @@
 
 ghost use Rattle.std.specs.Prelude.{ℕ, ◌≡◌, ◌<◌, ◌-◌, ◌^◌, [], None, true, IfOk, OnOk, OnErr};
 ghost use Rattle.std.specs.Int.NonZero.{non_zero_usize_get};
-ghost use Rattle.std.specs.List.{AllPass};
+ghost use Rattle.std.specs.List.{All, AllPass};
 ghost use Rattle.p2p_tracker.specs.Directory.{bit_vec_at};
 ghost use Rattle.p2p_directory.specs.Held.{held_of};
 ghost use Rattle.p2p_directory.specs.Private.Slots.{has_slot, held_in};
-ghost use Rattle.p2p_directory.specs.Private.Serving.{has_slot_for};
+ghost use Rattle.p2p_directory.specs.Private.Serving.{has_slot_for, reserved_peer, IsAmong};
 ghost use Rattle.p2p_directory.specs.Nodes.{may_reserve};
 ghost use Rattle.p2p_directory.specs.Refinement.{Refines};
 ghost use Rattle.p2p_directory.specs.Run.{settings, call_of, calls_of, world_left, AreAnswers};
@@ -93,8 +93,8 @@ pub(crate) mod slots;
 ///
 /// # Cost
 ///
-/// That of the calls, and for each command a logarithm of how many peers the commands dial or
-/// listen for.
+/// That of the calls, one sort of the peers that the commands dial or listen for, and for each
+/// command that names a peer of these a binary search among them.
 pub fn run<C: PublicKey>(
     alloc: Global,
     bootstrappers: Vec<(C, Ingress)>,
@@ -151,29 +151,33 @@ fn slots_for<C: PublicKey>(alloc: Global, commands: &[Command<C>]) -> Result<Slo
     ensures room { IfOk result (λ slots. AllPass (has_slot_for C.cmp slots) commands.now) }
     ensures empty { IfOk result (λ slots. (q : C) → held_in C.cmp slots q ≡ None) }
 {
-    let mut slots = Slots::new(alloc);
-    for command in commands {
-        if make_first(&mut slots, command).is_err() {
-            slots.close();
-            return Err(AllocError);
-        }
-    }
-    Ok(slots)
+    let peers = reserved_peers(alloc, commands)?;
+    Slots::of_peers(alloc, peers)
 }
 
-// A slot for the peer that the command may be granted a reservation of, if there is one, while
-// nothing is held.
-fn make_first<C: PublicKey>(slots: &mut Slots<C>, command: &Command<C>) -> Result<(), AllocError>
-    requires { (q : C) → held_in C.cmp slots.old q ≡ None }
-    ensures err { OnErr result (slots.new ≡ slots.old) }
-    ensures room { OnOk result (has_slot_for C.cmp slots.new command.now ≡ true) }
-    ensures slots { OnOk result ((q : C) →
-        has_slot C.cmp slots.old q ≡ true → has_slot C.cmp slots.new q ≡ true) }
-    ensures held { (q : C) → held_in C.cmp slots.new q ≡ held_in C.cmp slots.old q }
+// The peers that the commands may be granted a reservation of.
+fn reserved_peers<C: PublicKey>(
+    alloc: Global,
+    commands: &[Command<C>],
+) -> Result<Vec<C>, AllocError>
+    ensures { IfOk result (λ peers. All (IsAmong peers.items) commands.now) }
+{
+    let mut peers = Vec::with_capacity(alloc, commands.len())?;
+    for command in commands {
+        if let Some(peer) = reserved_peer(command) {
+            peers.push_reserved(peer);
+        }
+    }
+    Ok(peers)
+}
+
+// The peer that the command may be granted a reservation of, if there is one.
+fn reserved_peer<C: PublicKey>(command: &Command<C>) -> Option<C>
+    ensures { result ≡ reserved_peer command.now }
 {
     match command {
-        Command::Dial { peer, .. } | Command::Listen { peer, .. } => slots.make_first(*peer),
-        _ => Ok(()),
+        Command::Dial { peer, .. } | Command::Listen { peer, .. } => Some(*peer),
+        _ => None,
     }
 }
 

@@ -18,7 +18,6 @@ use Rattle.std.proofs.lemmas.Map.{NonePasses, lookup-none}
 use Rattle.std.proofs.lemmas.Map.Entries.{none_past_head}
 use Rattle.std.proofs.lemmas.Map.Keys.{sorted_tail, IsDistinct-from_sorted}
 use Rattle.std.proofs.lemmas.Map.Lookups.{CmpEqualImpliesEq}
-use Rattle.std.proofs.lemmas.Map.Views.{tells_apart}
 use Rattle.p2p_tracker.specs.declared.directory.Metadata.{Metadata}
 use Rattle.p2p_tracker.specs.Seen.{key_of}
 use Rattle.p2p_directory.specs.Held.{held_of, all_but}
@@ -124,11 +123,6 @@ module _ {C S : Type 0} {cmp : C → C → Ordering} (total : IsTotalOrder cmp) 
   first_gone slots slots2 (k, None) e empty = sym (ap contents e)
   first_gone slots slots2 (k, Some m) e empty = absurd (let f = sym (ap begins_full e) ∙ empty in cc)
 
-  pub is_empty : (slots slots2 : List (C × Option (Metadata C S))) (slot : C × Option (Metadata C S)) →
-      slots ≡ slot ∷ slots2 → begins_full slots ≡ false → slot.1 ≡ None
-  is_empty slots slots2 (k, None) e empty = refl
-  is_empty slots slots2 (k, Some m) e empty = absurd (let f = sym (ap begins_full e) ∙ empty in cc)
-
   -- what is left when the slot of p goes
   pub slots_without : (slots slots2 : List (C × Option (Metadata C S))) (p : C) → AreSlots cmp slots →
       IsStrictlySortedBy cmp (keys_of slots2) →
@@ -150,16 +144,6 @@ module _ {C S : Type 0} {cmp : C → C → Ordering} (total : IsTotalOrder cmp) 
       go : (b : Bool) → option_flatten (cond b None (slot_of cmp slots q)) ≡ cond b None (held_in cmp slots q)
       go true = refl
       go false = refl
-
-  -- .. and where nothing was in it
-  pub same_without : (slots slots2 : List (C × Option (Metadata C S))) (p : C) →
-      ((q : C) → slot_of cmp slots2 q ≡ cond (is_at (cmp p) q) None (slot_of cmp slots q)) → held_in cmp slots p ≡ None →
-      (q : C) → held_in cmp slots2 q ≡ held_in cmp slots q
-  same_without slots slots2 p is none q = held_without slots slots2 p is q ∙ go (is_at (cmp p) q) refl
-    where
-      go : (b : Bool) → is_at (cmp p) q ≡ b → cond b None (held_in cmp slots q) ≡ held_in cmp slots q
-      go true e = sym (ap (held_in cmp slots) (sym (tells_apart exact p q e)) ∙ none)
-      go false e = refl
 
   -- one less is held where something was in it
   pub one_fewer : (test : C → Bool) (slots : List (C × Option (Metadata C S))) (o : Option (Metadata C S)) →
@@ -208,6 +192,33 @@ module _ {C S : Type 0} {cmp : C → C → Ordering} (total : IsTotalOrder cmp) 
       go ((q, p) ∷ slots) f e =
           let both = ap (option_map (λ (slot : C × Option (Metadata C S)). slot.1)) e in
           let same : p ≡ o = cc in ap is_some (sym same) ∙ f
+
+  -- what is known of the first slot, if there is one
+  abbrev IsFirst : List (C × Option (Metadata C S)) → Option C → Type 0
+  IsFirst slots o = IfSome o (λ peer. (slot : Option (Metadata C S)) × (slice_get slots 0 ≡ Some (peer, slot)))
+
+  pub first_least : (slots : List (C × Option (Metadata C S))) (o : Option C) → BeginFull cmp slots →
+      IsFirst slots o → IfNone o (slots ≡ []) → o ≡ option_map key_of (slice_get (contents slots) 0)
+  first_least slots None full some none = sym (ap (λ ss. option_map key_of (slice_get (contents ss) 0)) none)
+  first_least slots (Some k) full some none = least_is slots k some.0 full some.1
+
+  pub first_held : (slots : List (C × Option (Metadata C S))) (o : Option C) → BeginFull cmp slots →
+      IsFirst slots o → IfSome o (λ peer. is_some (held_of cmp (contents slots) peer) ≡ true)
+  first_held slots None full some = tt
+  first_held slots (Some k) full some = has_one slots k some.0 full some.1 (at slots some.1)
+    where
+      at : (slots : List (C × Option (Metadata C S))) → slice_get slots 0 ≡ Some (k, some.0) →
+          slot_of cmp slots k ≡ Some some.0
+      at [] e = absurd cc
+      at (x ∷ xs) e =
+          let f : x ≡ (k, some.0) = cc in
+          ap (λ (y : C × Option (Metadata C S)). cond (is_at (cmp k) y.0) (Some y.1) (slot_of cmp xs k)) f
+          ∙ ap (λ r. cond (is_eq r) (Some some.0) (slot_of cmp xs k)) (tied_itself total k)
+
+  pub first_none : (slots : List (C × Option (Metadata C S))) (o : Option C) → IfNone o (slots ≡ []) →
+      IfNone o (contents slots ≡ [])
+  first_none slots None none = ap contents none
+  first_none slots (Some k) none = tt
 
   -- WHAT IS HELD, AS A LIST
 
@@ -275,15 +286,6 @@ module _ {C S : Type 0} {cmp : C → C → Ordering} (total : IsTotalOrder cmp) 
       same_held (contents slots2) (contents slots)
       (ordered_contents slots2 are2.ordered (keyed slots2 are2)) (ordered_contents slots are.ordered (keyed slots are))
       (λ q. held_is slots2 are2 q ∙ same q ∙ sym (held_is slots are q))
-
-  -- where nothing was in the slot that goes, what is held is the same
-  pub none_fewer : (slots slots2 : List (C × Option (Metadata C S))) (p : C) (o : Option (Metadata C S)) →
-      AreSlots cmp slots → IsStrictlySortedBy cmp (keys_of slots2) →
-      ((q : C) → slot_of cmp slots2 q ≡ cond (is_at (cmp p) q) None (slot_of cmp slots q)) → o ≡ held_in cmp slots p →
-      IfNone o (contents slots2 ≡ contents slots)
-  none_fewer slots slots2 p None are up is none =
-      same_contents slots slots2 are (slots_without slots slots2 p are up is) (same_without slots slots2 p is (sym none))
-  none_fewer slots slots2 p (Some m) are up is some = tt
 
   -- what is in a slot is of its peer
   pub key_is : (slots : List (C × Option (Metadata C S))) (k : C) (m : Metadata C S) → AreSlots cmp slots →

@@ -1,6 +1,6 @@
 -- A track tears down no more peers than there are records, but for that of the local node.
 use Rattle.std.proofs.Common.{◌≡◌, ◌≤◌, Bool, true, false, List, [], ◌∷◌, length, Option, Some, None}
-use Rattle.std.proofs.Common.{refl, sym, ◌∙◌, ap, arith}
+use Rattle.std.proofs.Common.{refl, sym, ◌∙◌, arith}
 use Rattle.std.specs.Prelude.{not, ◌&&◌}
 use Rattle.std.specs.List.{filter, list_any}
 use Rattle.std.specs.Map.{lookup, keys_of}
@@ -18,7 +18,7 @@ use Rattle.p2p_discovery.specs.Ordered.{has_key}
 use Rattle.p2p_tracker.specs.History.{is_inert}
 use Rattle.p2p_tracker.specs.Record.{is_eligible, is_myself, is_wanted}
 use Rattle.p2p_tracker.specs.Seen.{DirectoryView, RecordView, record_of}
-use Rattle.p2p_tracker.specs.Directory.{AreTornDown, is_connectable, is_torn_down_by, other_keys}
+use Rattle.p2p_tracker.specs.Directory.{AreTornDown, is_torn_down_by, other_keys}
 
 -- what a look-up finds and a test of the values passes is among the keys of those that pass
 found : {K X : Type 0} (test : K → Bool) (p : X → Bool) (es : List (K × X)) (x : X) → lookup test es ≡ Some x → p x ≡ true →

@@ -1,5 +1,6 @@
 -- Serving one command: from wherever the calls accepted before led, the reply is the answer.
-use Rattle.std.specs.Prelude.{◌<◌, ◌^◌, Bool, true, List, Option}
+use Rattle.std.specs.Prelude.{◌<◌, ◌^◌, Bool, true, List, Option, Some, None, IfSome}
+use Rattle.std.specs.List.{Contains}
 use Rattle.std.specs.declared.cmp.Ordering.{Ordering}
 use Rattle.p2p_discovery.specs.declared.discovery.Info.{Info}
 use Rattle.p2p_discovery.specs.declared.types.ingress.Ingress.{Ingress}
@@ -26,6 +27,16 @@ module _ {C S : Type 0} (cmp : C → C → Ordering) where
   has_slot_for slots (command.Dial peer now draw) = has_slot cmp slots peer
   has_slot_for slots (command.Listen peer now draw) = has_slot cmp slots peer
   has_slot_for slots _ = true
+
+-- the peer that the command may be granted a reservation of, if there is one
+abbrev pub reserved_peer : {C S : Type 0} → Command C S → Option C
+reserved_peer (command.Dial peer now draw) = Some peer
+reserved_peer (command.Listen peer now draw) = Some peer
+reserved_peer _ = None
+
+-- .. is one of these
+abbrev pub IsAmong : {C S : Type 0} → List C → Command C S → Type 0
+IsAmong peers x = IfSome (reserved_peer x) (Contains peers)
 
 module _ {C S : Type 0} (s : Settings C S) where
   -- the directory and what is held stand at the point after these calls; the limit is a `usize`

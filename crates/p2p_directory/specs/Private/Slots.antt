@@ -1,10 +1,12 @@
 -- Slots, made beforehand for the reservations of some peers, by what private contracts see of them.
-use Rattle.std.specs.Prelude.{◌≡◌, Bool, true, List, [], ◌∷◌, Option, is_some, IfSome}
-use Rattle.std.specs.List.{filter_map}
-use Rattle.std.specs.List.Sorted.{IsStrictlySortedBy}
+use Rattle.std.specs.Prelude.{◌≡◌, ◌<◌, ◌≤◌, ℕ, Bool, true, List, [], ◌∷◌, length}
+use Rattle.std.specs.Prelude.{Option, is_some, IfSome, Result, MatchResult}
+use Rattle.std.specs.List.{filter_map, HoldsAt}
+use Rattle.std.specs.List.Sorted.{IsStrictlySortedBy, IsPartitionPoint}
 use Rattle.std.specs.Option.{option_flatten}
 use Rattle.std.specs.Map.{lookup, keys_of}
 use Rattle.std.specs.declared.cmp.Ordering.{Ordering}
+use Rattle.std.specs.declared.cmp.Ordering.TheVariants.{Less, Greater}
 use Rattle.std.specs.BTreeMap.{is_at}
 use Rattle.p2p_tracker.specs.declared.directory.Metadata.{Metadata}
 use Rattle.p2p_tracker.specs.Seen.{key_of}
@@ -29,6 +31,13 @@ module _ {C S : Type 0} (cmp : C → C → Ordering) where
   -- what is held in the slot of q, if anything
   abbrev pub held_in : List (C × Option (Metadata C S)) → C → Option (Metadata C S)
   held_in slots q = option_flatten (slot_of slots q)
+
+  -- where the slot of p is, or the place between those of lesser and of greater peers
+  abbrev pub IsPlaceFor : List (C × Option (Metadata C S)) → C → Result ℕ ℕ → Type 0
+  IsPlaceFor slots p r = MatchResult r
+      (λ i. (i < length slots) × HoldsAt (λ slot. slot.0 ≡ p) slots i)
+      (λ i. (i ≤ length slots) × IsPartitionPoint
+      (λ slot. cmp slot.0 p ≡ Less) (λ slot. cmp slot.0 p ≡ Greater) slots i)
 
   -- in the order of their peers, each empty or with a reservation of its peer
   pub record AreSlots (slots : List (C × Option (Metadata C S))) : Type 0 where

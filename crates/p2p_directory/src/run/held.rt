@@ -1,26 +1,24 @@
 //! The reservations that a run leaves.
 
-ghost use Rattle.std.specs.Prelude.{◌≡◌, ◌+◌, [], true, not, None, IfNone, IfSome};
+ghost use Rattle.std.specs.Prelude.{◌≡◌, ◌+◌, [], true, None, IfNone, IfSome};
 ghost use Rattle.std.specs.Prelude.{length, map, is_some, slice_get, if◌then◌else◌};
 ghost use Rattle.std.specs.Option.{option_map};
 ghost use Rattle.std.specs.BTreeMap.{is_at};
 ghost use Rattle.std.specs.List.Sorted.{IsStrictlySortedBy};
 ghost use Rattle.p2p_tracker.specs.Seen.{key_of};
 ghost use Rattle.p2p_directory.specs.Held.{held_of, all_but, AreHeld, ReleasesAll};
-ghost use Rattle.p2p_directory.specs.Private.Slots.{contents, begins_full, held_in};
-ghost use Rattle.p2p_directory.specs.Private.Slots.{AreSlots, BeginFull};
+ghost use Rattle.p2p_directory.specs.Private.Slots.{contents, held_in, AreSlots, BeginFull};
 
-use crate::run::slots::spend_empty;
+use crate::run::slots::{Slots, spend_empty};
 use p2p_discovery::codec::PublicKey;
 use p2p_tracker::directory::{Directory, Reservation};
-use std::collections::BTreeMap;
 use std::marker::Model;
 
 /// The reservations that are held, in ascending order of their peers. A contract sees the list of
 /// what they are for. It must be spent, by [`Held::release_all`] or [`Held::close`].
 pub struct Held<C: PublicKey> {
-    // Those of no value are of peers of whom none is held. The first has one.
-    reservations: BTreeMap<C, Option<Reservation<C>>>,
+    // The empty ones are of peers of whom none is held. The first is not empty.
+    slots: Slots<C>,
 }
 
 impl<C: PublicKey> Model for Held<C> {
@@ -31,19 +29,20 @@ impl<C: PublicKey> Model for Held<C> {
 
     ghost use Rattle.p2p_directory.specs.Private.Slots.{contents, BeginFull};
 
-    ghost view = { λ h. contents h.reservations.entries };
+    ghost view = { λ h. contents h.slots };
 
-    ghost invariant = { λ h. BeginFull C.cmp h.reservations.entries };
+    ghost invariant = { λ h. BeginFull C.cmp h.slots };
 }
 
 impl<C: PublicKey> Held<C> {
     // What is held in these slots.
-    pub(crate) fn new(mut reservations: BTreeMap<C, Option<Reservation<C>>>) -> Self
-        requires { AreSlots C.cmp reservations.entries }
-        ensures { (q : C) → held_of C.cmp result q ≡ held_in C.cmp reservations.entries q }
+    pub(crate) fn new(mut slots: Slots<C>) -> Self
+        ensures { (q : C) → held_of C.cmp result q ≡ held_in C.cmp slots q }
     {
-        drop_empty_first(&mut reservations);
-        Held { reservations }
+        // For the proof: the slots are in order.
+        slots.in_order();
+        drop_empty_first(&mut slots);
+        Held { slots }
     }
 
     /// The least of the peers whose reservations are held, or `None` where none is held. Takes no
@@ -51,17 +50,14 @@ impl<C: PublicKey> Held<C> {
     ///
     /// # Cost
     ///
-    /// Logarithmic in what is held.
+    /// At most logarithmic in what is held.
     pub fn first(&self) -> Option<C>
         ensures least { result ≡ option_map key_of (slice_get self.now 0) }
         ensures ascending { IsStrictlySortedBy C.cmp (map key_of self.now) }
         ensures held { IfSome result (λ peer. is_some (held_of C.cmp self.now peer) ≡ true) }
         ensures none { IfNone result (self.now ≡ []) }
     {
-        match self.reservations.first_key_value() {
-            Some((peer, _)) => Some(*peer),
-            None => None,
-        }
+        self.slots.first()
     }
 
     /// Hands out the reservation of the peer; all others stay. Answers `None`, and changes
@@ -80,8 +76,10 @@ impl<C: PublicKey> Held<C> {
         ensures length { IfSome result (λ _. length self.old ≡ length self.new + 1) }
         ensures absent { IfNone result (self.new ≡ self.old) }
     {
-        let taken = self.reservations.remove(peer).flatten();
-        drop_empty_first(&mut self.reservations);
+        let taken = self.slots.take_out(peer);
+        // For the proof: the slots are in order.
+        self.slots.in_order();
+        drop_empty_first(&mut self.slots);
         taken
     }
 
@@ -100,14 +98,14 @@ impl<C: PublicKey> Held<C> {
         requires { AreHeld C.cmp directory.old (held_of C.cmp self) }
         ensures { ReleasesAll C.cmp self directory.old directory.new }
     {
-        let Held { mut reservations } = self;
-        while let Some((_, slot)) = reservations.pop_first() {
+        let Held { mut slots } = self;
+        while let Some((_, slot)) = slots.pop_first() {
             match slot {
                 Some(reservation) => directory.release(reservation),
                 None => {}
             }
         }
-        reservations.destroy_empty();
+        slots.destroy_empty();
     }
 
     /// Ends it. Takes no memory. What is held goes first, by [`Held::release_all`].
@@ -118,30 +116,20 @@ impl<C: PublicKey> Held<C> {
     pub fn close(self)
         requires { self ≡ [] }
     {
-        let Held { reservations } = self;
-        reservations.destroy_empty();
+        let Held { slots } = self;
+        slots.destroy_empty();
     }
 }
 
 // Takes out the first slots, as long as they are empty.
-fn drop_empty_first<C: PublicKey>(slots: &mut BTreeMap<C, Option<Reservation<C>>>)
-    requires { AreSlots C.cmp slots.old.entries }
-    ensures full { BeginFull C.cmp slots.new.entries }
-    ensures same { contents slots.new.entries ≡ contents slots.old.entries }
+fn drop_empty_first<C: PublicKey>(slots: &mut Slots<C>)
+    requires { AreSlots C.cmp slots.old }
+    ensures full { BeginFull C.cmp slots.new }
+    ensures same { contents slots.new ≡ contents slots.old }
 {
-    while begins_empty(slots) {
+    while slots.begins_empty() {
         if let Some((_, slot)) = slots.pop_first() {
             spend_empty(slot);
         }
-    }
-}
-
-// Whether there is a first slot, and it is empty.
-fn begins_empty<C: PublicKey>(slots: &BTreeMap<C, Option<Reservation<C>>>) -> bool
-    ensures { result ≡ not (begins_full slots.now.entries) }
-{
-    match slots.first_key_value() {
-        Some((_, slot)) => slot.is_none(),
-        None => false,
     }
 }

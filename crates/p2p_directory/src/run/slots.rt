@@ -1,25 +1,39 @@
 //! Slots for the reservations that may be granted: those of a run are made before its first
 //! command, that of a node's command before it.
 
-ghost use Rattle.std.specs.Prelude.{◌≡◌, [], false, true, ◌||◌, if◌then◌else◌};
-ghost use Rattle.std.specs.Prelude.{IfSome, IfNone, OnOk, OnErr, None, Some, option_map};
+ghost use Rattle.std.specs.Prelude.{◌≡◌, ◌∷◌, [], false, true, not, ◌||◌, if◌then◌else◌};
+ghost use Rattle.std.specs.Prelude.{IfSome, IfNone, IfOk, OnOk, OnErr, None, Some, Option};
+ghost use Rattle.std.specs.Prelude.{option_map, slice_get};
 ghost use Rattle.std.specs.BTreeMap.{is_at};
+ghost use Rattle.std.specs.List.{All};
 ghost use Rattle.p2p_tracker.specs.Seen.{key_of};
+ghost use Rattle.p2p_tracker.specs.declared.directory.Metadata.{Metadata};
 ghost use Rattle.p2p_directory.specs.Held.{held_of};
-ghost use Rattle.p2p_directory.specs.Private.Slots.{has_slot, held_in, AreSlots};
+ghost use Rattle.p2p_directory.specs.Private.Slots.{begins_full, has_slot, held_in, AreSlots};
 
 use crate::run::held::Held;
+use listed::Listed;
 use p2p_discovery::codec::PublicKey;
 use p2p_tracker::directory::{Metadata, Reservation};
-use std::alloc::{AllocError, AllocFailed, Global};
-use std::collections::BTreeMap;
+use std::alloc::{AllocError, Global};
 use std::marker::Model;
+use tree::Tree;
+
+mod listed;
+mod tree;
 
 /// A slot for each of some peers, empty or with its reservation. A contract sees the peers and
-/// what is in the slots, in ascending order. It must be spent, by [`Slots::into_held`] or
-/// [`Slots::close`].
+/// what is in the slots, in ascending order. It must be spent, by [`Slots::into_held`],
+/// [`Slots::close`] or [`Slots::destroy_empty`].
 pub struct Slots<C: PublicKey> {
-    reservations: BTreeMap<C, Option<Reservation<C>>>,
+    table: Table<C>,
+}
+
+// A list is sorted once, and a search in it is the fastest; a tree is for slots that are made and
+// taken out one by one.
+enum Table<C: PublicKey> {
+    Listed(Listed<C>),
+    Tree(Tree<C>),
 }
 
 impl<C: PublicKey> Model for Slots<C> {
@@ -28,21 +42,35 @@ impl<C: PublicKey> Model for Slots<C> {
 
     ghost Value = { List (C × Option (Metadata C C.Signature)) };
 
-    ghost use Rattle.p2p_directory.specs.Private.Slots.{AreSlots};
+    ghost use Rattle.p2p_directory.specs.Private.Tables.{slots_in};
 
-    ghost view = { λ s. s.reservations.entries };
-
-    ghost invariant = { λ s. AreSlots C.cmp s.reservations.entries };
+    ghost view = { λ s. slots_in s.table };
 }
 
 impl<C: PublicKey> Slots<C> {
-    /// No slots.
+    /// No slots, to be made and taken out one by one.
     pub fn new(alloc: Global) -> Self
         ensures { result ≡ [] }
     {
         Slots {
-            reservations: BTreeMap::new(alloc),
+            table: Table::Tree(Tree::new(alloc)),
         }
+    }
+
+    /// An empty slot for each of the peers, in whatever order and however often each of them comes.
+    ///
+    /// # Cost
+    ///
+    /// One sort of the peers.
+    pub fn of_peers(alloc: Global, peers: Vec<C>) -> Result<Self, AllocError>
+        ensures slots { IfOk result (λ slots.
+            All (λ q. has_slot C.cmp slots q ≡ true) peers.items) }
+        ensures held { IfOk result (λ slots. (q : C) → held_in C.cmp slots q ≡ None) }
+    {
+        let listed = Listed::of_peers(alloc, peers)?;
+        Ok(Slots {
+            table: Table::Listed(listed),
+        })
     }
 
     /// Makes an empty slot for the peer, where it has none.
@@ -52,37 +80,9 @@ impl<C: PublicKey> Slots<C> {
             has_slot C.cmp self.new q ≡ (is_at (C.cmp peer) q || has_slot C.cmp self.old q)) }
         ensures held { (q : C) → held_in C.cmp self.new q ≡ held_in C.cmp self.old q }
     {
-        if self.reservations.contains_key(&peer) {
-            return Ok(());
-        }
-        match self.reservations.insert(peer, None) {
-            Ok(None) => Ok(()),
-            Ok(Some(_slot)) => unreachable!(),
-            Err(AllocFailed { value: (_, slot) }) => {
-                spend_empty(slot);
-                Err(AllocError)
-            }
-        }
-    }
-
-    /// Makes an empty slot for the peer, where it has none, while nothing is held: one search.
-    pub fn make_first(&mut self, peer: C) -> Result<(), AllocError>
-        requires { (q : C) → held_in C.cmp self.old q ≡ None }
-        ensures err { OnErr result (self.new ≡ self.old) }
-        ensures slots { OnOk result ((q : C) →
-            has_slot C.cmp self.new q ≡ (is_at (C.cmp peer) q || has_slot C.cmp self.old q)) }
-        ensures held { (q : C) → held_in C.cmp self.new q ≡ held_in C.cmp self.old q }
-    {
-        match self.reservations.insert(peer, None) {
-            Ok(Some(slot)) => {
-                spend_empty(slot);
-                Ok(())
-            }
-            Ok(None) => Ok(()),
-            Err(AllocFailed { value: (_, slot) }) => {
-                spend_empty(slot);
-                Err(AllocError)
-            }
+        match &mut self.table {
+            Table::Listed(listed) => listed.make(peer),
+            Table::Tree(tree) => tree.make(peer),
         }
     }
 
@@ -95,11 +95,9 @@ impl<C: PublicKey> Slots<C> {
             then Some reservation
             else held_in C.cmp self.old q) }
     {
-        let peer = *reservation.metadata().public_key();
-        match self.reservations.insert(peer, Some(reservation)) {
-            Ok(Some(slot)) => spend_empty(slot),
-            Ok(None) => unreachable!(),
-            Err(_refused) => unreachable!(),
+        match &mut self.table {
+            Table::Listed(listed) => listed.put(reservation),
+            Table::Tree(tree) => tree.put(reservation),
         }
     }
 
@@ -112,18 +110,36 @@ impl<C: PublicKey> Slots<C> {
             ≡ (if is_at (C.cmp peer.now) q then None else held_in C.cmp self.old q) }
         ensures none { IfNone result (self.new ≡ self.old) }
     {
-        let Some(slot) = self.reservations.get_mut(peer) else {
-            return None;
-        };
-        slot.take()
+        match &mut self.table {
+            Table::Listed(listed) => listed.take(peer),
+            Table::Tree(tree) => tree.take(peer),
+        }
     }
 
-    /// Takes the slot of the peer out, with the reservation that is in it, if there is one. Takes no
-    /// memory.
+    /// Takes the reservation of the peer out. Its slot goes where it is in a tree, and stays,
+    /// empty, where it is listed. Takes no memory.
     ///
     /// # Cost
     ///
     /// One search among the slots.
+    pub fn take_out(&mut self, peer: &C) -> Option<Reservation<C>>
+        ensures taken { result ≡ held_in C.cmp self.old peer.now }
+        ensures peer { IfSome result (λ metadata. key_of metadata ≡ peer.now) }
+        ensures held { (q : C) → held_in C.cmp self.new q
+            ≡ (if is_at (C.cmp peer.now) q then None else held_in C.cmp self.old q) }
+    {
+        match &mut self.table {
+            Table::Listed(listed) => listed.take(peer),
+            Table::Tree(tree) => tree.remove(peer),
+        }
+    }
+
+    /// Takes the slot of the peer out, with the reservation that is in it, if there is one. Takes
+    /// no memory.
+    ///
+    /// # Cost
+    ///
+    /// One search among the slots, and where they are listed a move of those before or after it.
     pub fn remove(&mut self, peer: &C) -> Option<Reservation<C>>
         ensures taken { result ≡ held_in C.cmp self.old peer.now }
         ensures peer { IfSome result (λ metadata. key_of metadata ≡ peer.now) }
@@ -131,16 +147,19 @@ impl<C: PublicKey> Slots<C> {
         ensures held { (q : C) → held_in C.cmp self.new q
             ≡ (if is_at (C.cmp peer.now) q then None else held_in C.cmp self.old q) }
     {
-        self.reservations.remove(peer).flatten()
+        match &mut self.table {
+            Table::Listed(listed) => listed.remove(peer),
+            Table::Tree(tree) => tree.remove(peer),
+        }
     }
 
     /// Whom the reservation of the peer is for, if one is held. Takes no memory.
     pub fn held(&self, peer: &C) -> Option<&Metadata<C>>
         ensures { option_map (λ m. m.now) result ≡ held_in C.cmp self.now peer.now }
     {
-        match self.reservations.get(peer) {
-            Some(Some(reservation)) => Some(reservation.metadata()),
-            Some(None) | None => None,
+        match &self.table {
+            Table::Listed(listed) => listed.held(peer),
+            Table::Tree(tree) => tree.held(peer),
         }
     }
 
@@ -148,28 +167,78 @@ impl<C: PublicKey> Slots<C> {
     ///
     /// # Cost
     ///
-    /// One search among the slots, and one more where it goes.
+    /// One search among the slots, and that of [`Slots::remove`] where it goes.
     pub fn drop_empty(&mut self, peer: &C)
         ensures dropped { held_in C.cmp self.old peer.now ≡ None →
             has_slot C.cmp self.new peer.now ≡ false }
         ensures held { (q : C) → held_in C.cmp self.new q ≡ held_in C.cmp self.old q }
     {
-        remove_empty(&mut self.reservations, peer);
+        match &mut self.table {
+            Table::Listed(listed) => listed.drop_empty(peer),
+            Table::Tree(tree) => tree.drop_empty(peer),
+        }
     }
 
     // For the proof: the slots are in order, and each is of its peer.
     pub fn in_order(&self)
         ensures { AreSlots C.cmp self.now }
     {
-        let _count = self.reservations.len();
+        match &self.table {
+            Table::Listed(listed) => listed.in_order(),
+            Table::Tree(tree) => tree.in_order(),
+        }
+    }
+
+    /// The peer of the first slot, or `None` where there is no slot. Takes no memory.
+    pub fn first(&self) -> Option<C>
+        ensures some { IfSome result (λ peer. (slot : Option (Metadata C C.Signature))
+            × (slice_get self.now 0 ≡ Some (peer, slot))) }
+        ensures none { IfNone result (self.now ≡ []) }
+    {
+        match &self.table {
+            Table::Listed(listed) => listed.first(),
+            Table::Tree(tree) => tree.first(),
+        }
+    }
+
+    /// Whether there is a first slot, and it is empty. Takes no memory.
+    pub fn begins_empty(&self) -> bool
+        ensures { result ≡ not (begins_full self.now) }
+    {
+        match &self.table {
+            Table::Listed(listed) => listed.begins_empty(),
+            Table::Tree(tree) => tree.begins_empty(),
+        }
+    }
+
+    /// Takes the first slot out, with what is in it. Takes no memory.
+    pub fn pop_first(&mut self) -> Option<(C, Option<Reservation<C>>)>
+        ensures first { IfSome result (λ slot. self.old ≡ slot ∷ self.new) }
+        ensures none { IfNone result (self.old ≡ []) }
+        ensures unchanged { IfNone result (self.new ≡ self.old) }
+    {
+        match &mut self.table {
+            Table::Listed(listed) => listed.pop_first(),
+            Table::Tree(tree) => tree.pop_first(),
+        }
+    }
+
+    /// Ends it, where there is no slot.
+    pub fn destroy_empty(self)
+        requires { self ≡ [] }
+    {
+        let Slots { table } = self;
+        match table {
+            Table::Listed(listed) => listed.destroy_empty(),
+            Table::Tree(tree) => tree.destroy_empty(),
+        }
     }
 
     /// What is held. Takes no memory.
     pub fn into_held(self) -> Held<C>
         ensures { (q : C) → held_of C.cmp result q ≡ held_in C.cmp self q }
     {
-        let Slots { reservations } = self;
-        Held::new(reservations)
+        Held::new(self)
     }
 
     /// Ends the slots, where nothing is held in them.
@@ -177,22 +246,6 @@ impl<C: PublicKey> Slots<C> {
         requires { (q : C) → held_in C.cmp self q ≡ None }
     {
         self.into_held().close();
-    }
-}
-
-// Takes the slot of the peer out, where it is empty.
-fn remove_empty<C: PublicKey>(slots: &mut BTreeMap<C, Option<Reservation<C>>>, peer: &C)
-    requires { AreSlots C.cmp slots.old.entries }
-    ensures slots { AreSlots C.cmp slots.new.entries }
-    ensures held { (q : C) →
-        held_in C.cmp slots.new.entries q ≡ held_in C.cmp slots.old.entries q }
-    ensures dropped { held_in C.cmp slots.old.entries peer.now ≡ None →
-        has_slot C.cmp slots.new.entries peer.now ≡ false }
-{
-    if let Some(None) = slots.get(peer) {
-        if let Some(slot) = slots.remove(peer) {
-            spend_empty(slot);
-        }
     }
 }
 

@@ -4,9 +4,9 @@ use Rattle.p2p_directory.proofs.run.held.drop_empty_first.Given as goal
 
 abbrev pub invariant-loop-slots : goal.invariant-loop-slots
 invariant-loop-slots g l = record {
-  slots : AreSlots g.C.Ord.cmp l.slots.entries;
-  same : contents l.slots.entries ≡ contents l.initial.slots.entries;
+  slots : AreSlots g.C.Ord.cmp l.slots;
+  same : contents l.slots ≡ contents l.initial.slots;
 }
 
 abbrev pub decreases-loop-slots : goal.decreases-loop-slots
-decreases-loop-slots g l = length l.slots.entries
+decreases-loop-slots g l = length l.slots

@@ -1,20 +1,24 @@
-use Rattle.p2p_directory.proofs.Reservations.Slots.{least_is, contents_ascend, has_one}
+use Rattle.p2p_directory.proofs.Reservations.Slots.{first_least, first_held, first_none, contents_ascend}
 use Rattle.p2p_directory.proofs.run.held.Held.first.Goals as goal
 
-pub returns-in-Some-clause-least : goal.returns-in-Some-clause-least
-returns-in-Some-clause-least g c =
+pub returns-clause-least : goal.returns-clause-least
+returns-clause-least g c =
     rw (← c.self.view_is)
-    (least_is g.met.C.Ord.total g.met.C.PublicKey.exact c.self.inside.reservations.entries c.in-Some.peer.now
-    c.in-Some.field-0-1.now c.self.invariant c.in-Some.ensures.first)
+    (first_least g.met.C.Ord.total g.met.C.PublicKey.exact c.self.inside.slots c.first.result c.self.invariant
+    c.first.ensures.some c.first.ensures.none)
 
-pub returns-in-Some-clause-ascending : goal.returns-in-Some-clause-ascending
-returns-in-Some-clause-ascending g c =
+pub returns-clause-ascending : goal.returns-clause-ascending
+returns-clause-ascending g c =
     rw (← c.self.view_is)
-    (contents_ascend g.met.C.Ord.total g.met.C.PublicKey.exact c.self.inside.reservations.entries
-    c.self.invariant.slots_are)
+    (contents_ascend g.met.C.Ord.total g.met.C.PublicKey.exact c.self.inside.slots c.self.invariant.slots_are)
 
-pub returns-in-Some-clause-held : goal.returns-in-Some-clause-held
-returns-in-Some-clause-held g c =
+pub returns-clause-held : goal.returns-clause-held
+returns-clause-held g c =
     rw (← c.self.view_is)
-    (has_one g.met.C.Ord.total g.met.C.PublicKey.exact c.self.inside.reservations.entries c.in-Some.peer.now
-    c.in-Some.field-0-1.now c.self.invariant c.in-Some.ensures.first c.in-Some.ensures.value)
+    (first_held g.met.C.Ord.total g.met.C.PublicKey.exact c.self.inside.slots c.first.result c.self.invariant
+    c.first.ensures.some)
+
+pub returns-clause-none : goal.returns-clause-none
+returns-clause-none g c =
+    rw (← c.self.view_is)
+    (first_none g.met.C.Ord.total g.met.C.PublicKey.exact c.self.inside.slots c.first.result c.first.ensures.none)

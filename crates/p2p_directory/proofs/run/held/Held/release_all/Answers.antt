@@ -1,12 +1,13 @@
-use Rattle.std.proofs.Common.{Some, refl, ap, sym, ◌∙◌}
+use Rattle.std.proofs.Common.{Some, refl, ap, sym, subst, ◌∙◌}
 use Rattle.std.specs.Prelude.{is_some}
 use Rattle.std.specs.Option.{option_flatten}
+use Rattle.p2p_tracker.specs.Directory.{IsBusy}
 use Rattle.p2p_tracker.specs.Seen.{record_of}
-use Rattle.p2p_tracker.proofs.SetsAndRecords.Ends.{none_first}
 use Rattle.p2p_directory.specs.Held.{held_of, after_release}
 use Rattle.p2p_directory.specs.Private.Slots.{held_in}
 use Rattle.p2p_directory.proofs.Reservations.Holding.{held_by_release, given_back}
-use Rattle.p2p_directory.proofs.Reservations.Slots.{held_is, held_without, slots_without, key_is}
+use Rattle.p2p_directory.proofs.Reservations.Listed.{first_found, slots_popped, held_popped, held_untouched}
+use Rattle.p2p_directory.proofs.Reservations.Slots.{held_is, key_is}
 use Rattle.p2p_directory.proofs.run.held.Held.release_all.Goals as goal
 
 pub loop-slot-init : goal.loop-slot-init
@@ -15,13 +16,51 @@ loop-slot-init g c =
     record {
       slots = c.self.invariant.slots_are;
       agree = λ q. ap is_some (sym (held_is g.met.C.Ord.total g.met.C.PublicKey.exact
-          c.self.inside.reservations.entries c.self.invariant.slots_are q)
+          c.self.inside.slots c.self.invariant.slots_are q)
           ∙ ap (λ ms. held_of cmp ms q) c.self.view_is) ∙ c.requires q;
       config = refl;
       sets = refl;
       blocks = refl;
       cooldowns = refl;
       records = λ q. refl;
+    }
+
+pub release-requires : goal.release-requires
+release-requires g c =
+    let cmp = g.C.Ord.cmp in
+    let total = g.met.C.Ord.total in
+    let exact = g.met.C.PublicKey.exact in
+    let old = c.loop-slot.slots in
+    let peer = c.in-Some.field-0-0 in
+    let m = c.in-Some-slot.reservation in
+    let at = first_found total exact (peer, c.in-Some.slot) old c.pop_first.new.self c.loop-slot.invariant.slots
+    c.in-Some.ensures.first ∙ ap Some c.in-Some-slot.is in
+    subst (IsBusy cmp c.loop-slot.directory) (sym (key_is total exact old peer m c.loop-slot.invariant.slots at))
+    (sym (c.loop-slot.invariant.agree peer) ∙ ap (λ o. is_some (option_flatten o)) at)
+
+-- an empty slot goes
+pub loop-slot-preserved : goal.loop-slot-preserved
+loop-slot-preserved g c =
+    let cmp = g.C.Ord.cmp in
+    let total = g.met.C.Ord.total in
+    let exact = g.met.C.PublicKey.exact in
+    let old = c.loop-slot.slots in
+    let new = c.pop_first.new.self in
+    let peer = c.in-Some.field-0-0 in
+    let first = c.in-Some.ensures.first in
+    let at = first_found total exact (peer, c.in-Some.slot) old new c.loop-slot.invariant.slots first
+    ∙ ap Some c.in-None.is in
+    let same = held_untouched total exact old new peer
+    (held_popped total exact (peer, c.in-Some.slot) old new c.loop-slot.invariant.slots first) (ap option_flatten at) in
+    record {
+      slots = slots_popped total exact (peer, c.in-Some.slot) old new c.loop-slot.invariant.slots first;
+      agree = λ q. ap is_some (same q) ∙ c.loop-slot.invariant.agree q;
+      config = c.loop-slot.invariant.config;
+      sets = c.loop-slot.invariant.sets;
+      blocks = c.loop-slot.invariant.blocks;
+      cooldowns = c.loop-slot.invariant.cooldowns;
+      records = λ q. ap (λ o. after_release o (record_of cmp c.loop-slot.directory q)) (same q)
+          ∙ c.loop-slot.invariant.records q;
     }
 
 pub loop-slot-preserved-in-Some-slot : goal.loop-slot-preserved-in-Some-slot
@@ -31,16 +70,17 @@ loop-slot-preserved-in-Some-slot g c =
     let exact = g.met.C.PublicKey.exact in
     let d = c.loop-slot.directory in
     let d2 = c.release.new.self in
-    let old = c.loop-slot.reservations.entries in
-    let new = c.pop_first.new.self.entries in
+    let old = c.loop-slot.slots in
+    let new = c.pop_first.new.self in
     let peer = c.in-Some.field-0-0 in
     let m = c.in-Some-slot.reservation in
-    let at = c.in-Some.ensures.value ∙ ap Some c.in-Some-slot.is in
+    let first = c.in-Some.ensures.first in
+    let at = first_found total exact (peer, c.in-Some.slot) old new c.loop-slot.invariant.slots first
+    ∙ ap Some c.in-Some-slot.is in
     let change = rw (key_is total exact old peer m c.loop-slot.invariant.slots at) at c.release.ensures.released in
-    let left = held_without total exact old new peer c.in-Some.ensures.updates.0 in
+    let left = held_popped total exact (peer, c.in-Some.slot) old new c.loop-slot.invariant.slots first in
     record {
-      slots = slots_without total exact old new peer c.loop-slot.invariant.slots c.pop_first.ensures.ordered
-          c.in-Some.ensures.updates.0;
+      slots = slots_popped total exact (peer, c.in-Some.slot) old new c.loop-slot.invariant.slots first;
       agree = held_by_release cmp d d2 peer m (held_in cmp old) (held_in cmp new) c.loop-slot.invariant.agree change left;
       config = change.config ∙ c.loop-slot.invariant.config;
       sets = change.sets ∙ c.loop-slot.invariant.sets;
@@ -54,9 +94,8 @@ loop-slot-preserved-in-Some-slot g c =
 pub returns : goal.returns
 returns g c =
     let cmp = g.C.Ord.cmp in
-    let slots = c.self.inside.reservations.entries in
-    let none = none_first c.pop_first.result c.loop-slot.reservations.entries c.in_default.is
-    c.pop_first.ensures.variant in
+    let slots = c.self.inside.slots in
+    let none = c.in_default.ensures.none in
     record {
       config = c.loop-slot.invariant.config;
       sets = c.loop-slot.invariant.sets;

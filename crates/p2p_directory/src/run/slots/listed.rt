@@ -1,0 +1,250 @@
+//! Slots that are listed: those of a run, made at once before its first command.
+
+ghost use Rattle.std.specs.Prelude.{◌≡◌, ◌∷◌, [], false, true, not, ◌||◌, if◌then◌else◌};
+ghost use Rattle.std.specs.Prelude.{IfSome, IfNone, IfOk, IfErr, OnOk, OnErr, None, Some, Option};
+ghost use Rattle.std.specs.Prelude.{option_map, slice_get};
+ghost use Rattle.std.specs.BTreeMap.{is_at};
+ghost use Rattle.std.specs.List.{All};
+ghost use Rattle.std.specs.List.Sorted.{IsStrictlySortedBy};
+ghost use Rattle.std.specs.Map.{keys_of, set_value};
+ghost use Rattle.p2p_tracker.specs.Seen.{key_of};
+ghost use Rattle.p2p_tracker.specs.declared.directory.Metadata.{Metadata};
+ghost use Rattle.p2p_directory.specs.Private.Slots.{begins_full, has_slot, held_in, slot_of};
+ghost use Rattle.p2p_directory.specs.Private.Slots.{AreSlots, IsPlaceFor};
+
+use super::spend_empty;
+use p2p_discovery::codec::PublicKey;
+use p2p_discovery::sets::OrderedSet;
+use p2p_tracker::directory::{Metadata, Reservation};
+use std::alloc::{AllocError, AllocFailed, Global};
+use std::collections::VecDeque;
+use std::marker::Model;
+use std::mem;
+
+/// A slot for each of some peers, empty or with its reservation. A contract sees the peers and
+/// what is in the slots, in ascending order. It must be spent, by [`Listed::destroy_empty`].
+pub struct Listed<C: PublicKey> {
+    rows: VecDeque<(C, Option<Reservation<C>>)>,
+}
+
+impl<C: PublicKey> Model for Listed<C> {
+    ghost use Rattle.std.specs.Prelude.{List, Option};
+    ghost use Rattle.p2p_tracker.specs.declared.directory.Metadata.{Metadata};
+
+    ghost Value = { List (C × Option (Metadata C C.Signature)) };
+
+    ghost use Rattle.p2p_directory.specs.Private.Slots.{AreSlots};
+
+    ghost view = { λ s. s.rows.items };
+
+    ghost invariant = { λ s. AreSlots C.cmp s.rows.items };
+}
+
+impl<C: PublicKey> Listed<C> {
+    /// An empty slot for each of the peers, in whatever order and however often each of them comes.
+    ///
+    /// # Cost
+    ///
+    /// One sort of the peers.
+    pub fn of_peers(alloc: Global, peers: Vec<C>) -> Result<Self, AllocError>
+        ensures slots { IfOk result (λ slots.
+            All (λ q. has_slot C.cmp slots q ≡ true) peers.items) }
+        ensures held { IfOk result (λ slots. (q : C) → held_in C.cmp slots q ≡ None) }
+    {
+        let set = OrderedSet::from_vec_dedup(peers);
+        let sorted = set.as_slice();
+        let mut rows = VecDeque::with_capacity(alloc, sorted.len())?;
+        for peer in sorted {
+            rows.push_back_reserved((*peer, None));
+        }
+        Ok(Listed { rows })
+    }
+
+    /// Makes an empty slot for the peer, where it has none.
+    ///
+    /// # Cost
+    ///
+    /// One search, and where a slot is made a move of those before or after it.
+    pub fn make(&mut self, peer: C) -> Result<(), AllocError>
+        ensures err { OnErr result (self.new ≡ self.old) }
+        ensures slots { OnOk result ((q : C) →
+            has_slot C.cmp self.new q ≡ (is_at (C.cmp peer) q || has_slot C.cmp self.old q)) }
+        ensures held { (q : C) → held_in C.cmp self.new q ≡ held_in C.cmp self.old q }
+    {
+        let Err(place) = place_of(&self.rows, &peer) else {
+            return Ok(());
+        };
+        match self.rows.insert(place, (peer, None)) {
+            Ok(()) => Ok(()),
+            Err(AllocFailed { value: (_, slot) }) => {
+                spend_empty(slot);
+                Err(AllocError)
+            }
+        }
+    }
+
+    /// Puts a reservation into the slot of its peer. Takes no memory.
+    pub fn put(&mut self, reservation: Reservation<C>)
+        requires slot { has_slot C.cmp self.old (key_of reservation) ≡ true }
+        requires empty { held_in C.cmp self.old (key_of reservation) ≡ None }
+        ensures slots { (q : C) → has_slot C.cmp self.new q ≡ has_slot C.cmp self.old q }
+        ensures held { (q : C) → held_in C.cmp self.new q ≡ (if is_at (C.cmp (key_of reservation)) q
+            then Some reservation
+            else held_in C.cmp self.old q) }
+    {
+        let peer = *reservation.metadata().public_key();
+        match exchange(&mut self.rows, &peer, Some(reservation)) {
+            Ok(slot) => spend_empty(slot),
+            Err(_refused) => unreachable!(),
+        }
+    }
+
+    /// Takes the reservation of the peer out of its slot, which stays. Takes no memory.
+    pub fn take(&mut self, peer: &C) -> Option<Reservation<C>>
+        ensures taken { result ≡ held_in C.cmp self.old peer.now }
+        ensures peer { IfSome result (λ metadata. key_of metadata ≡ peer.now) }
+        ensures slots { (q : C) → has_slot C.cmp self.new q ≡ has_slot C.cmp self.old q }
+        ensures held { (q : C) → held_in C.cmp self.new q
+            ≡ (if is_at (C.cmp peer.now) q then None else held_in C.cmp self.old q) }
+        ensures none { IfNone result (self.new ≡ self.old) }
+    {
+        match exchange(&mut self.rows, peer, None) {
+            Ok(slot) => slot,
+            Err(none) => {
+                spend_empty(none);
+                None
+            }
+        }
+    }
+
+    /// Takes the slot of the peer out, with the reservation that is in it, if there is one. Takes
+    /// no memory.
+    ///
+    /// # Cost
+    ///
+    /// One search, and where there is a slot a move of those before or after it.
+    pub fn remove(&mut self, peer: &C) -> Option<Reservation<C>>
+        ensures taken { result ≡ held_in C.cmp self.old peer.now }
+        ensures peer { IfSome result (λ metadata. key_of metadata ≡ peer.now) }
+        ensures gone { has_slot C.cmp self.new peer.now ≡ false }
+        ensures held { (q : C) → held_in C.cmp self.new q
+            ≡ (if is_at (C.cmp peer.now) q then None else held_in C.cmp self.old q) }
+    {
+        match place_of(&self.rows, peer) {
+            Ok(place) => match self.rows.remove(place) {
+                Some((_, slot)) => slot,
+                None => unreachable!(),
+            },
+            Err(_) => None,
+        }
+    }
+
+    /// Whom the reservation of the peer is for, if one is held. Takes no memory.
+    pub fn held(&self, peer: &C) -> Option<&Metadata<C>>
+        ensures { option_map (λ m. m.now) result ≡ held_in C.cmp self.now peer.now }
+    {
+        match place_of(&self.rows, peer) {
+            Ok(place) => match &self.rows[place].1 {
+                Some(reservation) => Some(reservation.metadata()),
+                None => None,
+            },
+            Err(_) => None,
+        }
+    }
+
+    /// Takes the slot of the peer out, where it is empty. Takes no memory.
+    ///
+    /// # Cost
+    ///
+    /// That of [`Listed::remove`], and a search more.
+    pub fn drop_empty(&mut self, peer: &C)
+        ensures dropped { held_in C.cmp self.old peer.now ≡ None →
+            has_slot C.cmp self.new peer.now ≡ false }
+        ensures held { (q : C) → held_in C.cmp self.new q ≡ held_in C.cmp self.old q }
+    {
+        if self.held(peer).is_none() {
+            spend_empty(self.remove(peer));
+        }
+    }
+
+    // For the proof: the slots are in order, and each is of its peer.
+    pub fn in_order(&self)
+        ensures { AreSlots C.cmp self.now }
+    {
+        let _count = self.rows.len();
+    }
+
+    /// The peer of the first slot, or `None` where there is no slot. Takes no memory.
+    pub fn first(&self) -> Option<C>
+        ensures some { IfSome result (λ peer. (slot : Option (Metadata C C.Signature))
+            × (slice_get self.now 0 ≡ Some (peer, slot))) }
+        ensures none { IfNone result (self.now ≡ []) }
+    {
+        match self.rows.front() {
+            Some(row) => Some(row.0),
+            None => None,
+        }
+    }
+
+    /// Whether there is a first slot, and it is empty. Takes no memory.
+    pub fn begins_empty(&self) -> bool
+        ensures { result ≡ not (begins_full self.now) }
+    {
+        match self.rows.front() {
+            Some(row) => row.1.is_none(),
+            None => false,
+        }
+    }
+
+    /// Takes the first slot out, with what is in it. Takes no memory.
+    pub fn pop_first(&mut self) -> Option<(C, Option<Reservation<C>>)>
+        ensures first { IfSome result (λ slot. self.old ≡ slot ∷ self.new) }
+        ensures none { IfNone result (self.old ≡ []) }
+        ensures unchanged { IfNone result (self.new ≡ self.old) }
+    {
+        self.rows.pop_front()
+    }
+
+    /// Ends it, where there is no slot.
+    pub fn destroy_empty(self)
+        requires { self ≡ [] }
+    {
+        let Listed { rows } = self;
+        rows.destroy_empty();
+    }
+}
+
+// Where the slot of the peer is, or where it would come.
+fn place_of<C: PublicKey>(
+    rows: &VecDeque<(C, Option<Reservation<C>>)>,
+    peer: &C,
+) -> Result<usize, usize>
+    requires { IsStrictlySortedBy C.cmp (keys_of rows.now.items) }
+    ensures { IsPlaceFor C.cmp rows.now.items peer.now result }
+{
+    rows.binary_search_by(|row| row.0.cmp(peer))
+}
+
+// Puts this into the slot of the peer, and hands out what was in it; or hands it back, where the
+// peer has no slot.
+fn exchange<C: PublicKey>(
+    rows: &mut VecDeque<(C, Option<Reservation<C>>)>,
+    peer: &C,
+    slot: Option<Reservation<C>>,
+) -> Result<Option<Reservation<C>>, Option<Reservation<C>>>
+    requires { IsStrictlySortedBy C.cmp (keys_of rows.old.items) }
+    ensures was { IfOk result (λ was. slot_of C.cmp rows.old.items peer.now ≡ Some was) }
+    ensures is { OnOk result (
+        rows.new.items ≡ set_value (is_at (C.cmp peer.now)) rows.old.items slot) }
+    ensures none { OnErr result (slot_of C.cmp rows.old.items peer.now ≡ None) }
+    ensures unchanged { OnErr result (rows.new.items ≡ rows.old.items) }
+    ensures back { IfErr result (λ back. back ≡ slot) }
+{
+    match place_of(rows, peer) {
+        Ok(place) => match rows.get_mut(place) {
+            Some(row) => Ok(mem::replace(&mut row.1, slot)),
+            None => unreachable!(),
+        },
+        Err(_) => Err(slot),
+    }
+}

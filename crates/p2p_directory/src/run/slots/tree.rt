@@ -1,0 +1,199 @@
+//! Slots that are made and taken out one by one: those of a node.
+
+ghost use Rattle.std.specs.Prelude.{◌≡◌, ◌∷◌, [], false, true, not, ◌||◌, if◌then◌else◌};
+ghost use Rattle.std.specs.Prelude.{IfSome, IfNone, OnOk, OnErr, None, Some, Option};
+ghost use Rattle.std.specs.Prelude.{option_map, slice_get};
+ghost use Rattle.std.specs.BTreeMap.{is_at};
+ghost use Rattle.p2p_tracker.specs.Seen.{key_of};
+ghost use Rattle.p2p_tracker.specs.declared.directory.Metadata.{Metadata};
+ghost use Rattle.p2p_directory.specs.Private.Slots.{begins_full, has_slot, held_in, AreSlots};
+
+use super::spend_empty;
+use p2p_discovery::codec::PublicKey;
+use p2p_tracker::directory::{Metadata, Reservation};
+use std::alloc::{AllocError, AllocFailed, Global};
+use std::collections::BTreeMap;
+use std::marker::Model;
+
+/// A slot for each of some peers, empty or with its reservation. A contract sees the peers and
+/// what is in the slots, in ascending order. It must be spent, by [`Tree::destroy_empty`].
+pub struct Tree<C: PublicKey> {
+    reservations: BTreeMap<C, Option<Reservation<C>>>,
+}
+
+impl<C: PublicKey> Model for Tree<C> {
+    ghost use Rattle.std.specs.Prelude.{List, Option};
+    ghost use Rattle.p2p_tracker.specs.declared.directory.Metadata.{Metadata};
+
+    ghost Value = { List (C × Option (Metadata C C.Signature)) };
+
+    ghost use Rattle.p2p_directory.specs.Private.Slots.{AreSlots};
+
+    ghost view = { λ s. s.reservations.entries };
+
+    ghost invariant = { λ s. AreSlots C.cmp s.reservations.entries };
+}
+
+impl<C: PublicKey> Tree<C> {
+    /// No slots.
+    pub fn new(alloc: Global) -> Self
+        ensures { result ≡ [] }
+    {
+        Tree {
+            reservations: BTreeMap::new(alloc),
+        }
+    }
+
+    /// Makes an empty slot for the peer, where it has none.
+    pub fn make(&mut self, peer: C) -> Result<(), AllocError>
+        ensures err { OnErr result (self.new ≡ self.old) }
+        ensures slots { OnOk result ((q : C) →
+            has_slot C.cmp self.new q ≡ (is_at (C.cmp peer) q || has_slot C.cmp self.old q)) }
+        ensures held { (q : C) → held_in C.cmp self.new q ≡ held_in C.cmp self.old q }
+    {
+        if self.reservations.contains_key(&peer) {
+            return Ok(());
+        }
+        match self.reservations.insert(peer, None) {
+            Ok(None) => Ok(()),
+            Ok(Some(_slot)) => unreachable!(),
+            Err(AllocFailed { value: (_, slot) }) => {
+                spend_empty(slot);
+                Err(AllocError)
+            }
+        }
+    }
+
+    /// Puts a reservation into the slot of its peer. Takes no memory.
+    pub fn put(&mut self, reservation: Reservation<C>)
+        requires slot { has_slot C.cmp self.old (key_of reservation) ≡ true }
+        requires empty { held_in C.cmp self.old (key_of reservation) ≡ None }
+        ensures slots { (q : C) → has_slot C.cmp self.new q ≡ has_slot C.cmp self.old q }
+        ensures held { (q : C) → held_in C.cmp self.new q ≡ (if is_at (C.cmp (key_of reservation)) q
+            then Some reservation
+            else held_in C.cmp self.old q) }
+    {
+        let peer = *reservation.metadata().public_key();
+        match self.reservations.insert(peer, Some(reservation)) {
+            Ok(Some(slot)) => spend_empty(slot),
+            Ok(None) => unreachable!(),
+            Err(_refused) => unreachable!(),
+        }
+    }
+
+    /// Takes the reservation of the peer out of its slot, which stays. Takes no memory.
+    pub fn take(&mut self, peer: &C) -> Option<Reservation<C>>
+        ensures taken { result ≡ held_in C.cmp self.old peer.now }
+        ensures peer { IfSome result (λ metadata. key_of metadata ≡ peer.now) }
+        ensures slots { (q : C) → has_slot C.cmp self.new q ≡ has_slot C.cmp self.old q }
+        ensures held { (q : C) → held_in C.cmp self.new q
+            ≡ (if is_at (C.cmp peer.now) q then None else held_in C.cmp self.old q) }
+        ensures none { IfNone result (self.new ≡ self.old) }
+    {
+        let Some(slot) = self.reservations.get_mut(peer) else {
+            return None;
+        };
+        slot.take()
+    }
+
+    /// Takes the slot of the peer out, with the reservation that is in it, if there is one. Takes
+    /// no memory.
+    ///
+    /// # Cost
+    ///
+    /// One search among the slots.
+    pub fn remove(&mut self, peer: &C) -> Option<Reservation<C>>
+        ensures taken { result ≡ held_in C.cmp self.old peer.now }
+        ensures peer { IfSome result (λ metadata. key_of metadata ≡ peer.now) }
+        ensures gone { has_slot C.cmp self.new peer.now ≡ false }
+        ensures held { (q : C) → held_in C.cmp self.new q
+            ≡ (if is_at (C.cmp peer.now) q then None else held_in C.cmp self.old q) }
+    {
+        self.reservations.remove(peer).flatten()
+    }
+
+    /// Whom the reservation of the peer is for, if one is held. Takes no memory.
+    pub fn held(&self, peer: &C) -> Option<&Metadata<C>>
+        ensures { option_map (λ m. m.now) result ≡ held_in C.cmp self.now peer.now }
+    {
+        match self.reservations.get(peer) {
+            Some(Some(reservation)) => Some(reservation.metadata()),
+            Some(None) | None => None,
+        }
+    }
+
+    /// Takes the slot of the peer out, where it is empty. Takes no memory.
+    ///
+    /// # Cost
+    ///
+    /// One search among the slots, and one more where it goes.
+    pub fn drop_empty(&mut self, peer: &C)
+        ensures dropped { held_in C.cmp self.old peer.now ≡ None →
+            has_slot C.cmp self.new peer.now ≡ false }
+        ensures held { (q : C) → held_in C.cmp self.new q ≡ held_in C.cmp self.old q }
+    {
+        remove_empty(&mut self.reservations, peer);
+    }
+
+    // For the proof: the slots are in order, and each is of its peer.
+    pub fn in_order(&self)
+        ensures { AreSlots C.cmp self.now }
+    {
+        let _count = self.reservations.len();
+    }
+
+    /// The peer of the first slot, or `None` where there is no slot. Takes no memory.
+    pub fn first(&self) -> Option<C>
+        ensures some { IfSome result (λ peer. (slot : Option (Metadata C C.Signature))
+            × (slice_get self.now 0 ≡ Some (peer, slot))) }
+        ensures none { IfNone result (self.now ≡ []) }
+    {
+        match self.reservations.first_key_value() {
+            Some((peer, _)) => Some(*peer),
+            None => None,
+        }
+    }
+
+    /// Whether there is a first slot, and it is empty. Takes no memory.
+    pub fn begins_empty(&self) -> bool
+        ensures { result ≡ not (begins_full self.now) }
+    {
+        match self.reservations.first_key_value() {
+            Some((_, slot)) => slot.is_none(),
+            None => false,
+        }
+    }
+
+    /// Takes the first slot out, with what is in it. Takes no memory.
+    pub fn pop_first(&mut self) -> Option<(C, Option<Reservation<C>>)>
+        ensures first { IfSome result (λ slot. self.old ≡ slot ∷ self.new) }
+        ensures none { IfNone result (self.old ≡ []) }
+        ensures unchanged { IfNone result (self.new ≡ self.old) }
+    {
+        self.reservations.pop_first()
+    }
+
+    /// Ends it, where there is no slot.
+    pub fn destroy_empty(self)
+        requires { self ≡ [] }
+    {
+        let Tree { reservations } = self;
+        reservations.destroy_empty();
+    }
+}
+
+// Takes the slot of the peer out, where it is empty.
+fn remove_empty<C: PublicKey>(slots: &mut BTreeMap<C, Option<Reservation<C>>>, peer: &C)
+    requires { AreSlots C.cmp slots.old.entries }
+    ensures slots { AreSlots C.cmp slots.new.entries }
+    ensures held { (q : C) →
+        held_in C.cmp slots.new.entries q ≡ held_in C.cmp slots.old.entries q }
+    ensures dropped { held_in C.cmp slots.old.entries peer.now ≡ None →
+        has_slot C.cmp slots.new.entries peer.now ≡ false }
+{
+    if let Some(None) = slots.get(peer) {
+        if let Some(slot) = slots.remove(peer) {
+            spend_empty(slot);
+        }
+    }
+}
