@@ -22,3 +22,4 @@ pub mod Asked
 pub mod Taken
 pub mod Cooled
 pub mod Moved
+pub mod Walked

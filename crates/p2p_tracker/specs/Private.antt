@@ -5,3 +5,4 @@ pub mod Places
 pub mod Counts
 pub mod Dialling
 pub mod Asked
+pub mod Walked

@@ -240,11 +240,12 @@ impl<C: PublicKey> Directory<C> {
     ///
     /// Constant where the index is not above. Else one search of the new set's primary peers for
     /// each of its secondary ones; one search among the records for each peer of the new set, and one
-    /// among the kept moments for each that has no record yet; one search among the records for each
-    /// peer of the set that goes, and one more for each record that goes with it; one search among
-    /// the places for each primary peer of the new set; and for the set that goes a walk along the
-    /// places, or where there are many for each of its primary peers, one search among them for each
-    /// of these, and one more for each that has no place left; and one sort of the answer.
+    /// among the kept moments for each that has no record yet; one search among the places for each
+    /// primary peer of the new set. For the set that goes, and each role of its peers: two walks along
+    /// the records, or where there are more than about five for each of the peers, one search among
+    /// them for each, and one more for each record that goes with it; a walk along the places, or
+    /// where there are many for each of its primary peers, one search among them for each of these,
+    /// and one more for each that has no place left; and one sort of the answer.
     pub fn track(
         &mut self,
         index: u64,

@@ -211,3 +211,55 @@ fn tracks_sets_of_thousands_of_peers(rt: HostRuntime) -> Result<(), Fail> {
     assert_status(&rt, &directory, 9_000, None);
     Ok(())
 }
+
+// Tracks a set while a peer is reserved, whose connection alone has to end.
+fn tears_down_one(
+    rt: &impl Abort,
+    directory: &mut Directory<TestKey>,
+    key: u64,
+    index: u64,
+    next: TrackedPeers<TestKey>,
+) -> Result<(), AllocError> {
+    match directory.listen(&TestKey(key), seconds(100), Duration::ZERO)? {
+        Some(reservation) => {
+            let torn = directory.track(index, next);
+            assert_status(rt, directory, key, Some(Status::Reserved));
+            directory.release(reservation);
+            assert!(rt; are_peers(torn?, &[key]), "set {index}");
+            assert_status(rt, directory, key, None);
+            Ok(())
+        }
+        None => panic!(rt; "a tracked peer is granted a reservation"),
+    }
+}
+
+// Of three peers beside two hundred records one stays, who is in both sets; then all go.
+fn a_small_set_goes_and_a_large_one(
+    rt: &impl Abort,
+    alloc: Global,
+    directory: &mut Directory<TestKey>,
+) -> Result<(), AllocError> {
+    assert_torn(rt, alloc, directory, 0, (&[1, 2, 3], &[]), &[])?;
+    let primary = OrderedSet::from_iter_dedup(alloc, (100..300).map(TestKey))?;
+    let secondary = OrderedSet::from_iter_dedup(alloc, [2, 350].into_iter().map(TestKey))?;
+    let torn = directory.track(1, TrackedPeers::new(primary, secondary))?;
+    assert!(rt; are_peers(torn, &[]));
+    tears_down_one(rt, directory, 3, 2, tracked(alloc, &[101], &[5])?)?;
+    assert_status(rt, directory, 1, None);
+    assert_status(rt, directory, 2, Some(Status::Inert));
+    tears_down_one(rt, directory, 150, 3, tracked(alloc, &[6], &[])?)?;
+    assert_status(rt, directory, 2, None);
+    assert_status(rt, directory, 100, None);
+    assert_status(rt, directory, 101, Some(Status::Inert));
+    assert_status(rt, directory, 299, None);
+    assert_status(rt, directory, 350, None);
+    Ok(())
+}
+
+#[test]
+fn a_set_goes_beside_few_records_and_many(rt: HostRuntime) -> Result<(), Fail> {
+    let alloc = rt.alloc();
+    let mut directory = directory_of(alloc, NonZeroUsize::MIN.saturating_add(1))?;
+    a_small_set_goes_and_a_large_one(&rt, alloc, &mut directory)?;
+    Ok(())
+}

@@ -20,6 +20,7 @@ use Rattle.p2p_tracker.specs.Seen.{RecordView}
 use Rattle.p2p_tracker.specs.Directory.{shared_at, sharable_of_record}
 use Rattle.p2p_tracker.specs.Private.Asked.{shared_of_record, asked_from}
 use Rattle.p2p_tracker.proofs.SetsAndRecords.Shared.{chosen_from, chosen_behind, next_place}
+use Rattle.p2p_tracker.proofs.SetsAndRecords.Walked.{behind_equal, behind_greater}
 
 -- THE PEERS THAT ARE LEFT
 
@@ -170,21 +171,13 @@ module _ {C S : Type 0} {cmp : C → C → Ordering} (total : IsTotalOrder cmp) 
         here (q, true) less = refl
         here (q, false) less = ap by_found (lookup_tail (is_at (cmp q)) e es (apart q less))
 
-    behind_equal : (q : C) → cmp q e.0 ≡ Equal → (qs : List C) → AllByRecursion (λ y. cmp q y ≡ Less) qs → AllByRecursion (λ y. cmp e.0 y ≡ Less) qs
-    behind_equal q equal [] all = tt
-    behind_equal q equal (y ∷ qs) all = (sym (total.congr q e.0 y equal) ∙ all.0, behind_equal q equal qs all.1)
-
-    behind_greater : (q : C) → cmp e.0 q ≡ Less → (qs : List C) → AllByRecursion (λ y. cmp q y ≡ Less) qs → AllByRecursion (λ y. cmp e.0 y ≡ Less) qs
-    behind_greater q less [] all = tt
-    behind_greater q less (y ∷ qs) all = (total.trans e.0 q y less all.0, behind_greater q less qs all.1)
-
     -- where the first peer is that of the first record
     met : (q : C) (b : Bool) (rest : List (C × Bool)) → IsStrictlySortedBy cmp (keys_of ((q, b) ∷ rest)) → b ≡ false → cmp q e.0 ≡ Equal →
         told (e ∷ es) ((q, b) ∷ rest) ≡ option_to_list (shared_of_record millis e.1) ++ told es rest
     met q b rest up unset equal =
         ap (λ b. told (e ∷ es) ((q, b) ∷ rest)) unset
         ∙ (λ i. cons_option (by_found (lookup_head (is_at (cmp q)) e es (ap is_eq equal) i))
-        (past rest (behind_equal q equal (keys_of rest) (sorted_head cmp q (keys_of rest) up)) i))
+        (past rest (behind_equal total e.0 q equal (keys_of rest) (sorted_head cmp q (keys_of rest) up)) i))
         ∙ joined (shared_of_record millis e.1) (told es rest)
       where
         joined : (o : Option (Info C S)) (xs : List (Info C S)) → cons_option o xs ≡ option_to_list o ++ xs
@@ -196,7 +189,7 @@ module _ {C S : Type 0} {cmp : C → C → Ordering} (total : IsTotalOrder cmp) 
         told (e ∷ es) ((q, b) ∷ rest) ≡ told es ((q, b) ∷ rest)
     missed q b rest up greater =
         let less : cmp e.0 q ≡ Less = total.antisymm e.0 q ∙ ap ordering_reverse greater in
-        past ((q, b) ∷ rest) (less, behind_greater q less (keys_of rest) (sorted_head cmp q (keys_of rest) up))
+        past ((q, b) ∷ rest) (less, behind_greater total e.0 q less (keys_of rest) (sorted_head cmp q (keys_of rest) up))
 
   -- with no records nothing is shared
   pub none_left : (ps : List (C × Bool)) → told [] ps ≡ []

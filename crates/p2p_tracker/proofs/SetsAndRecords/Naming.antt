@@ -68,6 +68,13 @@ sorted_take cmp zero keys up = tt
 sorted_take cmp (suc i) [] up = tt
 sorted_take cmp (suc i) (x ∷ keys) up = (all_take (λ y. cmp x y ≡ Less) i keys up.0, sorted_take cmp i keys up.1)
 
+-- .. and so are the others
+pub sorted_drop : {C : Type 0} (cmp : C → C → Ordering) (i : ℕ) (keys : List C) → IsStrictlySortedBy cmp keys → IsStrictlySortedBy cmp (drop i keys)
+unfolding IsStrictlySortedBy
+sorted_drop cmp zero keys up = up
+sorted_drop cmp (suc i) [] up = up
+sorted_drop cmp (suc i) (x ∷ keys) up = sorted_drop cmp i keys up.1
+
 -- what is true of each of two lists is true of both
 pub all_joined : {A : Type 0} (P : A → Type 0) (xs ys : List A) → AllByRecursion P xs → AllByRecursion P ys → AllByRecursion P (xs ++ ys)
 all_joined P [] ys h k = k

@@ -34,6 +34,7 @@ use std::time::Duration;
 
 pub mod counts;
 mod listing;
+mod walks;
 
 /// The records of peers. A contract sees the list of keys with their records, in ascending order.
 #[derive(Drop)]

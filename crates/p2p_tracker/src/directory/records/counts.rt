@@ -20,7 +20,7 @@ ghost use Rattle.p2p_tracker.specs.Private.Window.{plain_set, set_with_bits};
 ghost use Rattle.p2p_tracker.specs.Private.Counts.{IsOfMap, record_joining, record_leaving};
 ghost use Rattle.p2p_tracker.specs.Private.Counts.{is_torn_down_leaving, IsRestored};
 
-use crate::directory::records::Records;
+use crate::directory::records::{Records, walks};
 use crate::kept::cooldowns::Cooldowns;
 use crate::kept::{PeerSet, forget};
 use crate::record::{Record, Role};
@@ -28,6 +28,9 @@ use p2p_discovery::codec::PublicKey;
 use p2p_discovery::sets::{OrderedSet, SetError};
 use std::alloc::AllocError;
 use std::collections::btree_map::Entry;
+
+// A walk past so many records takes about as long as one search.
+const SPARSE: usize = 5;
 
 impl<C: PublicKey> Records<C> {
     // Counts one set of the peer more, in a new record with its moments where it has none, and says
@@ -247,6 +250,30 @@ impl<C: PublicKey> Records<C> {
         let _after = self.map.len();
     }
 
+    // Counts one set of each peer less, takes out the records that are deletable then, and adds to a
+    // list the peers whose connections have to end: by a walk along the records and the peers, or by
+    // one search for each peer where there are few.
+    fn leave_role(&mut self, peers: &OrderedSet<C>, role: Role, torn: &mut Vec<C>)
+        requires room { length torn.old.items + length peers.now ≤ vec_capacity torn.old }
+        ensures records { (q : C) → record_at C.cmp self.new q ≡
+            (if has_key C.cmp peers.now q then one_set_less role (record_at C.cmp self.old q)
+            else record_at C.cmp self.old q) }
+        ensures torn { torn.new.items ≡ torn.old.items ++
+            filter (λ q. option_map_or (is_torn_down_without role)
+            (record_at C.cmp self.old q) false) peers.now }
+        ensures capacity { vec_capacity torn.new ≡ vec_capacity torn.old }
+        ensures length { length torn.new.items ≤ length torn.old.items + length peers.now }
+        ensures sorted { IsStrictlySortedBy C.cmp peers.now }
+    {
+        let keys = peers.as_slice();
+        if self.map.len() / SPARSE <= keys.len() {
+            walks::list_torn(&self.map, peers, role, torn);
+            walks::leave_walked(&mut self.map, peers, role);
+        } else {
+            self.leave_each(keys, role, torn);
+        }
+    }
+
     /// Counts a set that goes for each of its peers, and takes out the records that are deletable
     /// then. Answers the peers whose connections have to end, in the list that is handed in: there
     /// is room in it for all peers of the set.
@@ -260,8 +287,8 @@ impl<C: PublicKey> Records<C> {
         ensures members { (q : C) → has_key C.cmp result q ≡
             is_torn_down_leaving C.cmp (plain_set set.now) q (record_at C.cmp self.old q) }
     {
-        self.leave_each(set.primary().ordered().as_slice(), Role::Primary, &mut torn);
-        self.leave_each(set.secondary().as_slice(), Role::Secondary, &mut torn);
+        self.leave_role(set.primary().ordered(), Role::Primary, &mut torn);
+        self.leave_role(set.secondary(), Role::Secondary, &mut torn);
         ordered(torn)
     }
 }

@@ -1,7 +1,6 @@
-use Rattle.std.proofs.Common.{◌≡◌, ◌+◌, ◌≤◌, ◌∷◌, List, length, filter, ap, sym, ◌∙◌, arith}
+use Rattle.std.proofs.Common.{◌≡◌, ◌+◌, length, filter, ap, sym, ◌∙◌, arith}
 use Rattle.std.specs.Duration.{as_nanos}
 use Rattle.std.proofs.lemmas.List.Sums.{count_by-le-length, length-filter}
-use Rattle.p2p_tracker.specs.Calls.{Cooldown}
 use Rattle.p2p_tracker.specs.Cooldowns.{cooldown_view, cooldowns_view, has_cooled}
 use Rattle.p2p_tracker.specs.Private.Counts.{cleared_at}
 use Rattle.p2p_tracker.specs.Seen.{record_at}

@@ -1,4 +1,4 @@
-use Rattle.std.proofs.Common.{◌≡◌, None, length, ap, sym, ◌∙◌}
+use Rattle.std.proofs.Common.{◌≡◌, None, ap, sym, ◌∙◌}
 use Rattle.std.specs.Duration.{as_nanos}
 use Rattle.std.specs.Option.{option_map}
 use Rattle.p2p_tracker.specs.Cooldowns.{cooldown_in, unless_cooled}

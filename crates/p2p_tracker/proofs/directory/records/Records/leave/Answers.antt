@@ -36,23 +36,21 @@ ordered-requires-2 g c =
     let exact = g.met.C.PublicKey.exact in
     let ps = keys_of c.args.set.now.primary in
     let ss = c.args.set.now.secondary in
-    let is_p : c.as_slice.result.now ≡ ps = c.as_slice.ensures.all ∙ c.ordered.ensures ∙ ap keys_of c.primary.ensures.bits in
-    let is_s : c.as_slice-2.result.now ≡ ss = c.as_slice-2.ensures.all ∙ c.secondary.ensures in
+    let is_p : c.ordered.result.now ≡ ps = c.ordered.ensures ∙ ap keys_of c.primary.ensures.bits in
+    let is_s : c.secondary.result.now ≡ ss = c.secondary.ensures in
     let test : g.row.C.Denot → Bool = λ q. option_map_or (is_torn_down_without Primary) (record_at cmp c.args.self.now q) false in
-    let later : g.row.C.Denot → Bool = λ q. option_map_or (is_torn_down_without Secondary) (record_at cmp c.leave_each.new.self q) false in
-    let items = both test later ps ss c.as_slice.result.now c.as_slice-2.result.now c.args.torn.items
-    c.leave_each.new.torn.items c.leave_each-2.new.torn.items c.requires.empty is_p is_s
-    c.leave_each.ensures.torn c.leave_each-2.ensures.torn in
+    let later : g.row.C.Denot → Bool = λ q. option_map_or (is_torn_down_without Secondary) (record_at cmp c.leave_role.new.self q) false in
+    let items = both test later ps ss c.ordered.result.now c.secondary.result.now c.args.torn.items
+    c.leave_role.new.torn.items c.leave_role-2.new.torn.items c.requires.empty is_p is_s
+    c.leave_role.ensures.torn c.leave_role-2.ensures.torn in
     subst (IsDistinct (eq_by_cmp cmp)) (sym items)
     (distinct_both g.met.C.Ord.total (filter test ps) (filter later ss)
     (IsDistinct-from_sorted cmp _
     (IsStrictlySortedBy-filter cmp test ps
-    (subst (IsStrictlySortedBy cmp) is_p
-    (subst (IsStrictlySortedBy cmp) (sym c.as_slice.ensures.all) c.as_slice.ensures.sorted))))
+    (subst (IsStrictlySortedBy cmp) is_p c.leave_role.ensures.sorted)))
     (IsDistinct-from_sorted cmp _
     (IsStrictlySortedBy-filter cmp later ss
-    (subst (IsStrictlySortedBy cmp) is_s
-    (subst (IsStrictlySortedBy cmp) (sym c.as_slice-2.ensures.all) c.as_slice-2.ensures.sorted))))
+    (subst (IsStrictlySortedBy cmp) is_s c.leave_role-2.ensures.sorted)))
     (λ q h. names-filter exact later ss q ∙ fails (later q) (has_key cmp ss q)
     (c.primary.ensures.disjoint q
     (passes (test q) (has_key cmp ps q) (sym (names-filter exact test ps q) ∙ h)))))
@@ -79,16 +77,16 @@ returns-clause-members g c = λ q.
     let exact = g.met.C.PublicKey.exact in
     let ps = keys_of c.args.set.now.primary in
     let ss = c.args.set.now.secondary in
-    let is_p : c.as_slice.result.now ≡ ps = c.as_slice.ensures.all ∙ c.ordered.ensures ∙ ap keys_of c.primary.ensures.bits in
-    let is_s : c.as_slice-2.result.now ≡ ss = c.as_slice-2.ensures.all ∙ c.secondary.ensures in
+    let is_p : c.ordered.result.now ≡ ps = c.ordered.ensures ∙ ap keys_of c.primary.ensures.bits in
+    let is_s : c.secondary.result.now ≡ ss = c.secondary.ensures in
     let test : g.row.C.Denot → Bool = λ p. option_map_or (is_torn_down_without Primary) (record_at cmp c.args.self.now p) false in
-    let later : g.row.C.Denot → Bool = λ p. option_map_or (is_torn_down_without Secondary) (record_at cmp c.leave_each.new.self p) false in
-    let items = both test later ps ss c.as_slice.result.now c.as_slice-2.result.now c.args.torn.items
-    c.leave_each.new.torn.items c.leave_each-2.new.torn.items c.requires.empty is_p is_s
-    c.leave_each.ensures.torn c.leave_each-2.ensures.torn in
+    let later : g.row.C.Denot → Bool = λ p. option_map_or (is_torn_down_without Secondary) (record_at cmp c.leave_role.new.self p) false in
+    let items = both test later ps ss c.ordered.result.now c.secondary.result.now c.args.torn.items
+    c.leave_role.new.torn.items c.leave_role-2.new.torn.items c.requires.empty is_p is_s
+    c.leave_role.ensures.torn c.leave_role-2.ensures.torn in
     let old = record_at cmp c.args.self.now q in
-    let same : has_key cmp ss q ≡ true → record_at cmp c.leave_each.new.self q ≡ old =
-    λ h. c.leave_each.ensures.records q ∙ ap (λ b. cond b (one_set_less Primary old) old)
+    let same : has_key cmp ss q ≡ true → record_at cmp c.leave_role.new.self q ≡ old =
+    λ h. c.leave_role.ensures.records q ∙ ap (λ b. cond b (one_set_less Primary old) old)
     (ap (λ ks. has_key cmp ks q) is_p ∙ excludes (has_key cmp ps q) (has_key cmp ss q) (c.primary.ensures.disjoint q) h) in
     c.ordered-2.ensures.members q
     ∙ ap (λ ks. has_key cmp ks q) items
