@@ -5,21 +5,18 @@ use Rattle.std.specs.Prelude.{[], map, filter, slice_get, Option, Some, None, un
 use Rattle.std.specs.Prelude.{◌==◌, length, zip, filter_map, nat_le}
 use Rattle.std.specs.List.{last_or}
 use Rattle.std.specs.Option.{option_map, option_map_or, option_and_then}
-use Rattle.std.specs.Duration.{as_nanos}
-use Rattle.std.specs.Int.NonZero.{non_zero_usize_get}
-use Rattle.std.specs.Map.{lookup, keys_of}
+use Rattle.std.specs.Map.{keys_of}
 use Rattle.std.specs.BTreeMap.{is_at}
 use Rattle.std.specs.declared.cmp.Ordering.{Ordering}
 use Rattle.p2p_discovery.specs.declared.discovery.Info.{Info}
 use Rattle.p2p_discovery.specs.declared.discovery.BitVec.{BitVec}
 use Rattle.p2p_discovery.specs.declared.types.ingress.Ingress.{Ingress}
-use Rattle.p2p_tracker.specs.Seen.{DirectoryView, ConfigView, record_at, record_of, unblock_of, cooldown_of, peers_of, set_in, key_of}
+use Rattle.p2p_tracker.specs.Seen.{DirectoryView, record_at, record_of, unblock_of, cooldown_of, peers_of, set_in, key_of}
 use Rattle.p2p_tracker.specs.declared.record.Address.{Address}
 use Rattle.p2p_tracker.specs.declared.record.Address.TheVariants.{Myself, Bootstrapper}
 use Rattle.p2p_tracker.specs.declared.record.Status.{Status}
 use Rattle.p2p_tracker.specs.declared.record.Status.TheVariants.{Inert, Active}
 use Rattle.p2p_tracker.specs.declared.record.Role.TheVariants.{Primary, Secondary}
-use Rattle.p2p_tracker.specs.declared.directory.Config.{Config}
 use Rattle.p2p_tracker.specs.declared.directory.TrackedPeers.{TrackedPeers}
 use Rattle.p2p_tracker.specs.declared.directory.PeerSetUpdate.{PeerSetUpdate}
 use Rattle.p2p_tracker.specs.declared.directory.Metadata.{Metadata}
@@ -38,8 +35,7 @@ use Rattle.p2p_tracker.specs.Record.{with_cooldown}
 use Rattle.p2p_tracker.specs.Moments.{moments_after}
 use Rattle.p2p_tracker.specs.PeerSets.{set_count, set_with}
 use Rattle.p2p_tracker.specs.Lists.{Lists, IsLeastOf}
-use Rattle.p2p_tracker.specs.Blocks.{unblock_in}
-use Rattle.p2p_tracker.specs.Cooldowns.{unless_cooled, cooldown_in}
+use Rattle.p2p_tracker.specs.Cooldowns.{unless_cooled}
 
 -- the peers of the retained set with an index, if there is one
 abbrev pub peer_set_in : {C S : Type 0} → DirectoryView C S → ℕ → Option (TrackedPeers C S)

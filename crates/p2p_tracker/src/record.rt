@@ -20,6 +20,7 @@ ghost use Rattle.p2p_tracker.specs.Record.{ingress_of, dial_view, dial_status, i
 ghost use Rattle.p2p_tracker.specs.Private.Counts.{with_one_more, with_one_less};
 ghost use Rattle.p2p_tracker.specs.Private.Counts.{is_torn_down_without};
 
+use crate::kept::Place;
 use p2p_discovery::codec::PublicKey;
 use p2p_discovery::discovery::Info;
 use p2p_discovery::types::Ingress;
@@ -105,6 +106,8 @@ impl<C: PublicKey> Dialable<C> {
 
 /// What is known of one peer: its address, its connection, in how many retained sets it is, and
 /// when it may be reserved and dialled again.
+///
+/// Beside that it keeps where the peer stands in its latest primary set, which no contract sees.
 #[derive(Drop)]
 pub struct Record<C: PublicKey> {
     address: Address<C>,
@@ -114,6 +117,7 @@ pub struct Record<C: PublicKey> {
     persistent: bool,
     next_reservable_at: Duration,
     next_dial_at: Duration,
+    latest: Option<Place>,
 }
 
 impl<C: PublicKey> Model for Record<C> {
@@ -167,6 +171,7 @@ impl<C: PublicKey> Record<C> {
             persistent,
             next_reservable_at: Duration::ZERO,
             next_dial_at: Duration::ZERO,
+            latest: None,
         }
     }
 
@@ -540,6 +545,20 @@ impl<C: PublicKey> Record<C> {
     {
         self.next_reservable_at = reservable;
         self.next_dial_at = dial;
+    }
+
+    // Where the peer stands in its latest primary set, if that is known.
+    pub(crate) fn latest(&self) -> Option<Place> {
+        self.latest
+    }
+
+    // Keeps where the peer stands in its latest primary set, and answers where it stood before.
+    pub(crate) fn replace_latest(&mut self, latest: Place) -> Option<Place>
+        ensures { self.new ≡ self.old }
+    {
+        let before = self.latest;
+        self.latest = Some(latest);
+        before
     }
 
     /// What is known of the peer's address.

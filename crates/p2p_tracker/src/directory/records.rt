@@ -12,7 +12,7 @@ ghost use Rattle.p2p_tracker.specs.History.{is_inert, is_reserved};
 ghost use Rattle.p2p_tracker.specs.Record.{may_come, reserved_record, with_cooldown};
 ghost use Rattle.p2p_tracker.specs.Moments.{moments_after};
 ghost use Rattle.p2p_tracker.specs.Cooldowns.{cooldown_in};
-ghost use Rattle.p2p_tracker.specs.Private.Counts.{IsGranted};
+ghost use Rattle.p2p_tracker.specs.Private.Counts.{IsGranted, primary_count};
 ghost use Rattle.p2p_tracker.specs.Private.Dialling.{dialled_of, dialled_in};
 ghost use Rattle.p2p_tracker.specs.Directory.{has_status, is_busy, is_known};
 ghost use Rattle.p2p_tracker.specs.Seen.{key_of, record_at};
@@ -150,7 +150,7 @@ impl<C: PublicKey> Records<C> {
     }
 
     /// Ends the reservation of its peer, and takes out the record where it is deletable then. Says
-    /// whether the peer's info is known, and not wanted.
+    /// what the sets have to know of it.
     pub fn release(&mut self, metadata: &Metadata<C>, limit: usize) -> Known
         requires { is_busy (record_at C.cmp self.old (key_of metadata.now)) ≡ true }
         ensures change { ChangesAt C.cmp self.old self.new (key_of metadata.now)
@@ -159,14 +159,19 @@ impl<C: PublicKey> Records<C> {
             is_known limit (record_at C.cmp self.old (key_of metadata.now)) }
         ensures after { result.after ≡
             is_known limit (record_at C.cmp self.new (key_of metadata.now)) }
+        ensures sets { result.sets ≡ primary_count (record_at C.cmp self.old (key_of metadata.now)) }
     {
         let peer = *metadata.public_key();
         let mut known = Known {
             before: false,
             after: false,
+            sets: 0,
+            latest: None,
         };
         if let Some(found) = self.map.get_mut(&peer) {
             known.before = !found.want(limit);
+            known.sets = found.primary_sets();
+            known.latest = found.latest();
             release_record(found, metadata);
             if found.deletable() {
                 forget(self.map.remove(&peer));
@@ -177,13 +182,14 @@ impl<C: PublicKey> Records<C> {
         known
     }
 
-    /// Connects the peer, as its dialer or not. Says whether its info is known, and not wanted.
+    /// Connects the peer, as its dialer or not. Says what the sets have to know of it.
     pub fn connect(&mut self, peer: &C, dialer: bool, limit: usize) -> Known
         requires { has_status is_reserved (record_at C.cmp self.old peer.now) ≡ true }
         ensures change { ChangesAt C.cmp self.old self.new peer.now
             (option_map (connected_record dialer)) }
         ensures before { result.before ≡ is_known limit (record_at C.cmp self.old peer.now) }
         ensures after { result.after ≡ is_known limit (record_at C.cmp self.new peer.now) }
+        ensures sets { result.sets ≡ primary_count (record_at C.cmp self.old peer.now) }
     {
         match self.map.get_mut(peer) {
             Some(found) => {
@@ -192,17 +198,21 @@ impl<C: PublicKey> Records<C> {
                 Known {
                     before,
                     after: !found.want(limit),
+                    sets: found.primary_sets(),
+                    latest: found.latest(),
                 }
             }
             None => Known {
                 before: false,
                 after: false,
+                sets: 0,
+                latest: None,
             },
         }
     }
 
-    /// Offers an info to the record of its peer. Where it is taken, says whether the peer's info is
-    /// known, and not wanted; else nothing has changed.
+    /// Offers an info to the record of its peer. Where it is taken, says what the sets have to know
+    /// of the peer; else nothing has changed.
     pub fn update(&mut self, info: Info<C>, limit: usize) -> Option<Known>
         ensures change { ChangesAt C.cmp self.old self.new info.public_key
             (option_map (updated_record (info ∷ []))) }
@@ -210,6 +220,8 @@ impl<C: PublicKey> Records<C> {
             known.before ≡ is_known limit (record_at C.cmp self.old info.public_key)) }
         ensures after { IfSome result (λ known.
             known.after ≡ is_known limit (record_at C.cmp self.new info.public_key)) }
+        ensures sets { IfSome result (λ known.
+            known.sets ≡ primary_count (record_at C.cmp self.old info.public_key)) }
         ensures none { IfNone result ((q : C) →
             record_at C.cmp self.new q ≡ record_at C.cmp self.old q) }
     {
@@ -220,6 +232,8 @@ impl<C: PublicKey> Records<C> {
                 return Some(Known {
                     before,
                     after: !found.want(limit),
+                    sets: found.primary_sets(),
+                    latest: found.latest(),
                 });
             }
         }

@@ -1,9 +1,9 @@
 //! What changes when a set comes or goes.
 
-ghost use Rattle.std.specs.Prelude.{◌≡◌, ◌≤◌, ◌++◌, ◌∷◌, [], true, OnOk, OnErr, vec_capacity};
+ghost use Rattle.std.specs.Prelude.{◌≡◌, ◌≤◌, ◌++◌, ◌∷◌, [], OnOk, OnErr, vec_capacity};
 ghost use Rattle.std.specs.List.Sorted.{IsStrictlySortedBy};
 ghost use Rattle.p2p_tracker.specs.declared.record.Role.{Role};
-ghost use Rattle.p2p_tracker.specs.PeerSets.{latest_index, is_above, AreRolesDisjoint};
+ghost use Rattle.p2p_tracker.specs.PeerSets.{AreRolesDisjoint};
 ghost use Rattle.p2p_tracker.specs.Directory.{is_known};
 ghost use Rattle.p2p_tracker.specs.Seen.{record_at};
 ghost use Rattle.p2p_tracker.specs.Cooldowns.{cooldown_in};
@@ -28,7 +28,6 @@ pub fn add<C: PublicKey>(
     mut set: PeerSet<C>,
     limit: usize,
 ) -> Result<(), AllocError>
-    requires { is_above set.index (latest_index (plain_sets sets.old)) ≡ true }
     ensures disjoint { OnOk result (AreRolesDisjoint C.cmp (plain_set set)) }
     ensures ok { OnOk result (sets.new ≡ sets.old ++
         set_with_bits (λ q. is_known limit (record_at C.cmp records.old q)) (plain_set set) ∷ []) }
