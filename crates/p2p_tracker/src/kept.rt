@@ -60,6 +60,14 @@ pub struct Place {
     pub at: usize,
 }
 
+impl Place {
+    /// Where none is known: no list is so long.
+    pub const NOWHERE: Place = Place {
+        set: u64::MAX,
+        at: usize::MAX,
+    };
+}
+
 /// What a change of one peer's record leaves to be done in the sets.
 #[derive(Clone, Copy)]
 pub struct Known {
@@ -70,7 +78,7 @@ pub struct Known {
     /// In how many of the sets the peer is primary.
     pub sets: usize,
     /// Where it stands in the latest of them, if that is known.
-    pub latest: Option<Place>,
+    pub latest: Place,
 }
 
 /// A retained set: its index, its primary peers, each with a bit, and those of its secondary peers
@@ -83,7 +91,7 @@ pub struct PeerSet<C: PublicKey> {
     index: u64,
     primary: BitSet<C>,
     secondary: OrderedSet<C>,
-    earlier: Vec<Option<Place>>,
+    earlier: Vec<Place>,
 }
 
 impl<C: PublicKey> Model for PeerSet<C> {
@@ -120,7 +128,7 @@ impl<C: PublicKey> PeerSet<C> {
     {
         let secondary = secondary.difference(&primary)?;
         let mut earlier = Vec::new(alloc);
-        earlier.resize(primary.len(), None)?;
+        earlier.resize(primary.len(), Place::NOWHERE)?;
         let primary = BitSet::new(alloc, primary)?;
         Ok(PeerSet {
             index,
@@ -161,7 +169,7 @@ impl<C: PublicKey> PeerSet<C> {
     }
 
     /// Keeps where the primary peer at a place was before.
-    pub fn set_earlier(&mut self, place: usize, earlier: Option<Place>)
+    pub fn set_earlier(&mut self, place: usize, earlier: Place)
         ensures { self.new ≡ self.old }
     {
         if let Some(kept) = self.earlier.get_mut(place) {
@@ -170,10 +178,10 @@ impl<C: PublicKey> PeerSet<C> {
     }
 
     // Where the primary peer at a place was before, if that is known.
-    fn earlier(&self, place: usize) -> Option<Place> {
+    fn earlier(&self, place: usize) -> Place {
         match self.earlier.get(place) {
             Some(earlier) => *earlier,
-            None => None,
+            None => Place::NOWHERE,
         }
     }
 
@@ -374,8 +382,7 @@ fn set_bits<C: PublicKey>(sets: &mut VecDeque<PeerSet<C>>, peer: &C, known: Know
     let mut next = known.latest;
     let mut end = sets.len();
     for _met in 0..known.sets {
-        let Some(place) = next else { return false };
-        let Some((found, earlier)) = set_bit_before(sets, end, &place, peer, known.after) else {
+        let Some((found, earlier)) = set_bit_before(sets, end, &next, peer, known.after) else {
             return false;
         };
         next = earlier;
@@ -392,7 +399,7 @@ fn set_bit_before<C: PublicKey>(
     place: &Place,
     peer: &C,
     known: bool,
-) -> Option<(usize, Option<Place>)>
+) -> Option<(usize, Place)>
     ensures none { IfNone result (sets.new.items ≡ sets.old.items) }
     ensures some { IfSome result (λ met. IsChangedAt (has_primary C.cmp peer.now)
         (with_bit_of C.cmp peer.now known) end met.0 sets.old.items sets.new.items) }

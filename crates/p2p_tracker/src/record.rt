@@ -117,7 +117,7 @@ pub struct Record<C: PublicKey> {
     persistent: bool,
     next_reservable_at: Duration,
     next_dial_at: Duration,
-    latest: Option<Place>,
+    latest: Place,
 }
 
 impl<C: PublicKey> Model for Record<C> {
@@ -171,7 +171,7 @@ impl<C: PublicKey> Record<C> {
             persistent,
             next_reservable_at: Duration::ZERO,
             next_dial_at: Duration::ZERO,
-            latest: None,
+            latest: Place::NOWHERE,
         }
     }
 
@@ -548,16 +548,17 @@ impl<C: PublicKey> Record<C> {
     }
 
     // Where the peer stands in its latest primary set, if that is known.
-    pub(crate) fn latest(&self) -> Option<Place> {
+    pub(crate) fn latest(&self) -> Place {
         self.latest
     }
 
-    // Keeps where the peer stands in its latest primary set, and answers where it stood before.
-    pub(crate) fn replace_latest(&mut self, latest: Place) -> Option<Place>
+    // Keeps where the peer stands in its latest primary set, and answers where it stood before, if
+    // that is known.
+    pub(crate) fn replace_latest(&mut self, latest: Place) -> Place
         ensures { self.new ≡ self.old }
     {
         let before = self.latest;
-        self.latest = Some(latest);
+        self.latest = latest;
         before
     }
 

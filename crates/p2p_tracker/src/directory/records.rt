@@ -22,7 +22,7 @@ ghost use Rattle.p2p_tracker.specs.Directory.{connected_record, updated_record, 
 
 use crate::directory::{Config, Metadata};
 use crate::kept::cooldowns::Cooldowns;
-use crate::kept::{Known, forget, put};
+use crate::kept::{Known, Place, forget, put};
 use crate::record::{DialStatus, Record, ReserveResult, next_moments};
 use p2p_discovery::codec::PublicKey;
 use p2p_discovery::discovery::Info;
@@ -166,7 +166,7 @@ impl<C: PublicKey> Records<C> {
             before: false,
             after: false,
             sets: 0,
-            latest: None,
+            latest: Place::NOWHERE,
         };
         if let Some(found) = self.map.get_mut(&peer) {
             known.before = !found.want(limit);
@@ -206,7 +206,7 @@ impl<C: PublicKey> Records<C> {
                 before: false,
                 after: false,
                 sets: 0,
-                latest: None,
+                latest: Place::NOWHERE,
             },
         }
     }

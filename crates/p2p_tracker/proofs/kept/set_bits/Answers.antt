@@ -10,12 +10,7 @@ loop-met-init g c = not_walked (has_primary g.C.Ord.cmp c.args.peer.now) (with_b
 
 pub returns-in_default-clause-some : goal.returns-in_default-clause-some
 returns-in_default-clause-some g c =
-    (walked_so_far (bit_kept g.met.C.Ord.total c.args.peer.now c.args.known.after) c.loop-met.end c.loop-met._met
-    c.args.sets.now.items c.loop-met.sets.items c.loop-met.invariant).again
-
-pub returns-in_default-set_bit_before-clause-some : goal.returns-in_default-set_bit_before-clause-some
-returns-in_default-set_bit_before-clause-some g c =
-    ap (map (with_bit_of g.C.Ord.cmp c.args.peer.now c.args.known.after)) c.in_default-set_bit_before.ensures.none
+    ap (map (with_bit_of g.C.Ord.cmp c.args.peer.now c.args.known.after)) c.in_default.ensures.none
     ∙ (walked_so_far (bit_kept g.met.C.Ord.total c.args.peer.now c.args.known.after) c.loop-met.end c.loop-met._met
     c.args.sets.now.items c.loop-met.sets.items c.loop-met.invariant).again
 
@@ -23,7 +18,7 @@ pub loop-met-preserved : goal.loop-met-preserved
 loop-met-preserved g c =
     walked_on (bit_kept g.met.C.Ord.total c.args.peer.now c.args.known.after)
     (bit_again g.met.C.Ord.total c.args.peer.now c.args.known.after) c.loop-met.end c.loop-met._met _
-    c.args.sets.now.items c.loop-met.sets.items _ c.loop-met.invariant c.in-Some-set_bit_before.ensures.some
+    c.args.sets.now.items c.loop-met.sets.items _ c.loop-met.invariant c.in-Some.ensures.some
 
 pub returns-clause-some : goal.returns-clause-some
 returns-clause-some g c =

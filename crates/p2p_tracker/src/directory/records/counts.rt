@@ -38,7 +38,7 @@ struct Joined {
     // Whether its info is known, and not wanted.
     known: bool,
     // Where it stood before in its latest primary set, if that is known.
-    earlier: Option<Place>,
+    earlier: Place,
 }
 
 impl<C: PublicKey> Records<C> {
@@ -317,17 +317,13 @@ impl<C: PublicKey> Records<C> {
 }
 
 // Counts one set more, keeps the place in it, if there is one, and answers the one before.
-fn count_joined<C: PublicKey>(
-    found: &mut Record<C>,
-    role: Role,
-    place: Option<Place>,
-) -> Option<Place>
+fn count_joined<C: PublicKey>(found: &mut Record<C>, role: Role, place: Option<Place>) -> Place
     ensures { found.new ≡ with_one_more role found.old }
 {
     found.count_more(role);
     match place {
         Some(place) => found.replace_latest(place),
-        None => None,
+        None => found.latest(),
     }
 }
 
