@@ -127,7 +127,7 @@ impl<C: PublicKey> PeerSet<C> {
             set ≡ set_with_bits (λ q. false) (set_of C.cmp index primary secondary)) }
     {
         let secondary = secondary.difference(&primary)?;
-        let mut earlier = Vec::new(alloc);
+        let mut earlier = Vec::with_capacity(alloc, primary.len())?;
         earlier.resize(primary.len(), Place::NOWHERE)?;
         let primary = BitSet::new(alloc, primary)?;
         Ok(PeerSet {

@@ -60,8 +60,7 @@ static CALLS: [Call; 31] = [
         said: "Some([2, 3])",
         blocks: 13,
     },
-    // Of records two nodes (144 each) and one with edges (152), of places the same (61, 61 and 69),
-    // three lists and the bits.
+    // Of records two nodes (155 each) and one with edges (163), three lists and the bits.
     Call {
         prepared: NEW,
         deed: Deed::Left(Given::Track(
