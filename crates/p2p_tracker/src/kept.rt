@@ -220,8 +220,8 @@ impl<C: PublicKey> PeerSet<C> {
     }
 }
 
-/// The retained sets. A contract sees the list of them, with a bit beside each primary peer, in
-/// ascending order of their indices.
+/// The retained sets. A contract sees the list of them, with a bit beside each primary peer, in the
+/// order in which they came, which is that of their indices.
 #[derive(Drop)]
 pub struct Window<C: PublicKey> {
     sets: VecDeque<PeerSet<C>>,
@@ -392,7 +392,8 @@ fn set_bits<C: PublicKey>(sets: &mut VecDeque<PeerSet<C>>, peer: &C, known: Know
 }
 
 // Sets the peer's bit at a place, where that is in one of the sets before the end and the peer is
-// there. Answers where the set stands, and where the peer was before.
+// there. Answers where the set stands, and where the peer was before. The set is found by its index:
+// should the indices not ascend, it may not be found.
 fn set_bit_before<C: PublicKey>(
     sets: &mut VecDeque<PeerSet<C>>,
     end: usize,

@@ -19,9 +19,8 @@ module _ {A : Type 0} (test : A → Bool) (change : A → A) where
   IsWalkedTo (suc end) n (x ∷ old) (y ∷ new) = (y ≡ x) × IsWalkedTo end n old new
   IsWalkedTo (suc end) n _ _ = ⊥
 
-module _ {A : Type 0} (test : A → Bool) (change : A → A) where
   -- before the first step
-  pub not_walked : (xs : List A) (end : ℕ) → end ≡ length xs → IsWalkedTo test change end 0 xs xs
+  pub not_walked : (xs : List A) (end : ℕ) → end ≡ length xs → IsWalkedTo end 0 xs xs
   not_walked [] zero e = record { few = omega arith; again = refl; all = λ _. refl }
   not_walked [] (suc end) e = absurd (omega (arith, e))
   not_walked (x ∷ xs) zero e = absurd (omega (arith, e))
