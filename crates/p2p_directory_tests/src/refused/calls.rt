@@ -53,14 +53,15 @@ const KNOWN: &[Deed] = &[
 ];
 
 static CALLS: [Call; 31] = [
-    // Lists of a secondary peer (3) and of five torn down (3), bits (2), a second place (5).
+    // Lists of a secondary peer (3) and of five torn down (3), bits (2), places of two (3).
     Call {
         prepared: KNOWN,
         deed: Deed::Left(Given::Track(1, &[1, 7], &[11])),
         said: "Some([2, 3])",
         blocks: 13,
     },
-    // Of records two nodes (155 each) and one with edges (163), three lists and the bits.
+    // Of records two nodes (159 each) and one with edges (167), the places of 20 (21), two lists and
+    // the bits.
     Call {
         prepared: NEW,
         deed: Deed::Left(Given::Track(
@@ -71,7 +72,7 @@ static CALLS: [Call; 31] = [
             &[30, 31, 32, 33],
         )),
         said: "Some([])",
-        blocks: 596,
+        blocks: 530,
     },
     // A node each of the slots (72) and of the moments of grants (39).
     Call {
