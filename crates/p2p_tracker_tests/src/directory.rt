@@ -3,7 +3,7 @@
 ghost use Rattle.std.specs.Prelude.{◌<◌};
 ghost use Rattle.std.specs.Int.NonZero.{non_zero_usize_get};
 
-use crate::fixtures::{config, info, tracked};
+use crate::fixtures::{config, has_bits, info, tracked};
 use p2p_discovery::codec::{TestKey, TestSignature};
 use p2p_discovery::discovery::Info;
 use p2p_discovery::sets::BitMap;
@@ -48,21 +48,6 @@ fn directory_with(
     config.max_sets = max_sets;
     config.dial_fail_limit = limit;
     Directory::init(alloc, Vec::new(alloc), info(9), config)
-}
-
-// Whether the set at a place has this index and these bits.
-fn has_bits(
-    alloc: Global,
-    directory: &Directory<TestKey>,
-    place: usize,
-    index: u64,
-    bits: &[bool],
-) -> Result<bool, AllocError> {
-    let bits = BitMap::from_bools(alloc, bits)?;
-    match directory.get_random_bit_vec(place)? {
-        Some(found) => Ok(found.index == index && found.bits == bits),
-        None => Ok(false),
-    }
 }
 
 // Whether the peers are just those with these keys, in their order.

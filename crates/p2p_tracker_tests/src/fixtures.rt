@@ -5,7 +5,7 @@ ghost use Rattle.std.specs.Int.NonZero.{non_zero_usize_get};
 
 use p2p_discovery::codec::{TestKey, TestSignature};
 use p2p_discovery::discovery::Info;
-use p2p_discovery::sets::OrderedSet;
+use p2p_discovery::sets::{BitMap, OrderedSet};
 use p2p_discovery::types::{Ingress, IpAddr, SocketAddr};
 use p2p_tracker::directory::{Config, Directory, TrackedPeers};
 use std::alloc::{AllocError, Global};
@@ -87,4 +87,19 @@ pub fn directory_from(
     peers: &[(u64, u16)],
 ) -> Result<Directory<TestKey>, AllocError> {
     Directory::init(alloc, bootstrappers_of(alloc, peers)?, info(9), config())
+}
+
+/// Whether the set at a place has this index and these bits.
+pub fn has_bits(
+    alloc: Global,
+    directory: &Directory<TestKey>,
+    place: usize,
+    index: u64,
+    bits: &[bool],
+) -> Result<bool, AllocError> {
+    let bits = BitMap::from_bools(alloc, bits)?;
+    match directory.get_random_bit_vec(place)? {
+        Some(found) => Ok(found.index == index && found.bits == bits),
+        None => Ok(false),
+    }
 }

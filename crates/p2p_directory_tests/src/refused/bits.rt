@@ -4,8 +4,7 @@ use crate::refused::{Scenario, blocks_of};
 use low_memory::LowMemory;
 use p2p_directory::directory::{Config, Directory};
 use p2p_discovery::codec::TestKey;
-use p2p_discovery::sets::BitMap;
-use p2p_tracker_tests::fixtures::{config, info, infos_of, tracked};
+use p2p_tracker_tests::fixtures::{config, has_bits, info, infos_of, tracked};
 use std::alloc::{AllocError, Global};
 use std::num::NonZeroUsize;
 use std::process::Abort;
@@ -39,11 +38,10 @@ fn assert_bits(
     told: Told<'_>,
 ) -> Result<(), AllocError> {
     for (place, index, bits) in told {
-        let bits = BitMap::from_bools(alloc, bits)?;
-        match directory.get_random_bit_vec(*place)? {
-            Some(found) => assert!(rt; found.index == *index && found.bits == bits),
-            None => panic!(rt; "set {index} is retained"),
-        }
+        assert!(rt;
+            has_bits(alloc, directory, *place, *index, bits)?,
+            "set {index} at {place}: {bits:?}"
+        );
     }
     Ok(())
 }

@@ -7,7 +7,7 @@ use Rattle.std.specs.declared.cmp.Ordering.{Ordering}
 use Rattle.std.specs.Option.{option_map, option_map_or}
 use Rattle.std.specs.List.{count_by}
 use Rattle.std.specs.BTreeMap.{is_at}
-use Rattle.std.proofs.lemmas.List.Sums.{sum_by-append}
+use Rattle.std.proofs.lemmas.List.Sums.{sum_by-append, sum_by-cons}
 use Rattle.std.proofs.lemmas.Bool.Decides.{nat_tests}
 use Rattle.p2p_discovery.specs.declared.discovery.Info.{Info}
 use Rattle.p2p_discovery.specs.declared.types.ingress.Ingress.{Ingress}
@@ -33,7 +33,7 @@ use Rattle.p2p_tracker.proofs.SetsAndRecords.Counting.{one, at_counts, at_its_co
 -- COUNTS OF SETS
 
 pub count_cons : {X : Type 0} (f : X → Bool) (x : X) (xs : List X) → count_by f (x ∷ xs) ≡ one (f x) + count_by f xs
-count_cons f x xs = let e = sum_by-append (λ y. cond {A = ℕ} (f y) 1 0) (x ∷ []) xs in omega (arith, e)
+count_cons f x xs = sum_by-cons (λ y. one (f y)) x xs
 
 count_push : {X : Type 0} (f : X → Bool) (xs : List X) (x : X) → count_by f (xs ++ x ∷ []) ≡ count_by f xs + one (f x)
 count_push f xs x = sum_by-append (λ y. cond {A = ℕ} (f y) 1 0) xs (x ∷ []) ∙ ap (λ m. count_by f xs + m) (omega arith)

@@ -1,10 +1,11 @@
 -- A walk from the end of a list to its front, which changes some of what passes a test.
-use Rattle.std.proofs.Common.{◌≡◌, ℕ, zero, suc, ◌<◌, ◌≤◌, ◌+◌, Bool, true, false, cond, List, [], ◌∷◌}
+use Rattle.std.proofs.Common.{◌≡◌, ℕ, zero, suc, ◌<◌, ◌≤◌, ◌+◌, Bool, true, false, List, [], ◌∷◌}
 use Rattle.std.proofs.Common.{map, length, get_or, sym, ap, refl, subst, ◌∙◌, arith}
 use Rattle.std.specs.Prelude.{slice_set}
 use Rattle.std.specs.List.{count_by}
-use Rattle.std.proofs.lemmas.List.Sums.{sum_by-cons}
 use Rattle.p2p_tracker.specs.Private.Window.{IsChangedAt}
+use Rattle.p2p_tracker.proofs.SetsAndRecords.Counting.{one}
+use Rattle.p2p_tracker.proofs.SetsAndRecords.Consistent.{count_cons}
 
 module _ {A : Type 0} (test : A → Bool) (change : A → A) where
   -- so many of those that pass the test were changed, each once, and nothing else
@@ -26,26 +27,19 @@ module _ {A : Type 0} (test : A → Bool) (change : A → A) where
   not_walked (x ∷ xs) zero e = absurd (omega (arith, e))
   not_walked (x ∷ xs) (suc end) e = (refl, not_walked xs end (omega (arith, e)))
 
-abbrev one : Bool → ℕ
-one b = cond b 1 0
-
-counted : {A : Type 0} (test : A → Bool) (x : A) (xs : List A) →
-    count_by test (x ∷ xs) ≡ one (test x) + count_by test xs
-counted test x xs = sum_by-cons (λ y. one (test y)) x xs
-
 module _ {A : Type 0} {test : A → Bool} {change : A → A}
     (keeps : (x : A) → test x ≡ false → change x ≡ x) where
   one_passed : (b : Bool) (x y : A) (n : ℕ) (old new : List A) → test x ≡ b → y ≡ x →
       IsWalked test change n old new → IsWalked test change n (x ∷ old) (y ∷ new)
   one_passed true x y n old new passes same h = record {
-    few = omega (arith, h.few, ap one passes, counted test x old);
+    few = omega (arith, h.few, ap one passes, count_cons test x old);
     again = λ i. change (same i) ∷ h.again i;
-    all = λ e. absurd (omega (arith, h.few, e, ap one passes, counted test x old));
+    all = λ e. absurd (omega (arith, h.few, e, ap one passes, count_cons test x old));
   }
   one_passed false x y n old new fails same h = record {
-    few = omega (arith, h.few, ap one fails, counted test x old);
+    few = omega (arith, h.few, ap one fails, count_cons test x old);
     again = λ i. change (same i) ∷ h.again i;
-    all = λ e. λ i. (same ∙ sym (keeps x fails)) i ∷ h.all (omega (arith, e, ap one fails, counted test x old)) i;
+    all = λ e. λ i. (same ∙ sym (keeps x fails)) i ∷ h.all (omega (arith, e, ap one fails, count_cons test x old)) i;
   }
 
   -- at any step
@@ -64,9 +58,9 @@ module _ {A : Type 0} {test : A → Bool} {change : A → A}
   one_changed again x y z n old new passes is same h =
       let here : one (test x) ≡ one true = ap (λ w. one (test w)) (sym (is ∙ same)) ∙ ap one passes in
       record {
-        few = omega (arith, h.few, here, counted test x old);
+        few = omega (arith, h.few, here, count_cons test x old);
         again = λ i. (again z ∙ ap change (is ∙ same)) i ∷ h.again i;
-        all = λ e. λ i. change ((is ∙ same) i) ∷ h.all (omega (arith, e, here, counted test x old)) i;
+        all = λ e. λ i. change ((is ∙ same) i) ∷ h.all (omega (arith, e, here, count_cons test x old)) i;
       }
 
   -- one step more

@@ -2,13 +2,14 @@
 use Rattle.std.proofs.Common.{◌≡◌, ℕ, zero, suc, ◌<◌, ◌≤◌, ◌+◌, Bool, true, false, cond, List, []}
 use Rattle.std.proofs.Common.{◌∷◌, ◌++◌, map, take, drop, length, get_or, Option, Some, None, sym}
 use Rattle.std.proofs.Common.{ap, refl, ◌∙◌, arith}
-use Rattle.std.specs.Prelude.{◌==◌, ◌||◌, find, slice_get}
+use Rattle.std.specs.Prelude.{◌==◌, find, slice_get}
 use mathlib.Core.Bool.{true≢false}
 use Rattle.std.specs.declared.cmp.Ordering.{Ordering}
 use Rattle.std.specs.declared.cmp.Ordering.TheVariants.{Less}
 use Rattle.std.specs.Option.{option_map, option_map_or}
 use Rattle.std.specs.List.{last_or, count_by}
-use Rattle.std.proofs.lemmas.List.Sums.{sum_by-cons}
+use Rattle.std.proofs.lemmas.List.Folds.{list_any_at}
+use Rattle.std.proofs.lemmas.Bool.{or_parts}
 use Rattle.p2p_tracker.specs.declared.record.Role.TheVariants.{Primary}
 use Rattle.std.specs.List.Sorted.{IsStrictlySortedBy}
 use Rattle.std.specs.Map.{keys_of, values_of, set_value}
@@ -26,6 +27,8 @@ use Rattle.p2p_discovery.specs.Ordered.{has_key}
 use Rattle.p2p_discovery.specs.BitSets.{with_bit, unset}
 use Rattle.p2p_tracker.specs.PeerSets.{latest_index, set_with, set_count}
 use Rattle.p2p_tracker.specs.Calls.{SetAt}
+use Rattle.p2p_tracker.proofs.SetsAndRecords.Counting.{one}
+use Rattle.p2p_tracker.proofs.SetsAndRecords.Consistent.{count_cons}
 use Rattle.p2p_tracker.specs.Private.Window.{SetWithBits, plain_set, plain_sets, set_with_bits, sets_with_bits, bits_with, with_bit_of, has_primary, set_at}
 
 next : (i : ℕ) → suc i ≡ i + 1
@@ -110,16 +113,10 @@ module _ {C : Type 0} where
 -- COUNTS
 
 module _ {C : Type 0} (cmp : C → C → Ordering) (p : C) where
-  abbrev is_primary : SetAt C → ℕ
-  is_primary set = cond (has_key cmp set.primary p) 1 0
-
-  abbrev has_bit : SetWithBits C → ℕ
-  has_bit set = cond (has_primary cmp p set) 1 0
-
   plain_counted : (sets : List (SetWithBits C)) → set_count cmp Primary p (plain_sets sets) ≡ count_by (has_primary cmp p) sets
   plain_counted [] = refl
-  plain_counted (x ∷ sets) = sum_by-cons is_primary (plain_set x) (plain_sets sets)
-      ∙ ap (λ n. has_bit x + n) (plain_counted sets) ∙ sym (sum_by-cons has_bit x sets)
+  plain_counted (x ∷ sets) = count_cons (λ (set : SetAt C). has_key cmp set.primary p) (plain_set x) (plain_sets sets)
+      ∙ ap (λ n. one (has_primary cmp p x) + n) (plain_counted sets) ∙ sym (count_cons (has_primary cmp p) x sets)
 
   -- what a record counts is how many sets have p as primary
   pub primary_counted : (sets : List (SetWithBits C)) (n m : ℕ) → n ≡ m → m ≡ set_count cmp Primary p (plain_sets sets) →
@@ -258,22 +255,13 @@ place_seen {C} {cmp} exact p ks i e = go (slice_get ks i) refl e
     go None f e = absurd (true≢false (sym e))
     go (Some q) f e = (slice_get_within ks i q f, sym (tells_apart exact q p e) ∙ sym (get_or_from_slice_get ks i q p f))
 
-or_true : (b : Bool) → (b || true) ≡ true
-or_true true = refl
-or_true false = refl
-
 -- .. which a list of them has
 pub has_key_at : {C : Type 0} {cmp : C → C → Ordering} → IsTotalOrder cmp → (p : C) (ks : List C) (i : ℕ) → i < length ks →
     p ≡ get_or ks i p → has_key cmp ks p ≡ true
-has_key_at o p [] i low is = absurd (omega (arith, low))
-has_key_at {cmp = cmp} o p (k ∷ ks) zero low is = ap (λ b. b || has_key cmp ks p) (ap (λ k. is_at (cmp k) p) (sym is) ∙ ap is_eq (tied_itself o p))
-has_key_at {cmp = cmp} o p (k ∷ ks) (suc i) low is = ap (λ b. is_at (cmp k) p || b) (has_key_at o p ks i (omega (arith, low)) is) ∙ or_true (is_at (cmp k) p)
+has_key_at {cmp = cmp} o p ks i low is =
+    list_any_at (λ k. is_at (cmp k) p) ks i p low (ap (λ k. is_at (cmp k) p) (sym is) ∙ ap is_eq (tied_itself o p))
 
 -- WRITTEN TWICE, OR BESIDE NOBODY
-
-neither : (a b : Bool) → (a || b) ≡ false → (a ≡ false) × (b ≡ false)
-neither true b e = absurd (true≢false e)
-neither false b e = (refl, e)
 
 module _ {C : Type 0} {cmp : C → C → Ordering} (o : IsTotalOrder cmp) (p : C) (b : Bool) where
   bits_again : (es : List (C × Bool)) → bits_with cmp p b (bits_with cmp p b es) ≡ bits_with cmp p b es
@@ -290,7 +278,7 @@ module _ {C : Type 0} {cmp : C → C → Ordering} (o : IsTotalOrder cmp) (p : C
       go : (es : List (C × Bool)) → has_key cmp (keys_of es) p ≡ false → bits_with cmp p b es ≡ es
       go [] none = refl
       go (e ∷ es) none =
-          let parts = neither (is_at (cmp e.0) p) (has_key cmp (keys_of es) p) none in
+          let parts = or_parts (is_at (cmp e.0) p) (has_key cmp (keys_of es) p) none in
           λ i. (e.0, cond (((eq_by_cmp_equiv o).symm p e.0 ∙ parts.0) i) b e.1) ∷ go es parts.1 i
 
   pub bit_again : (x : SetWithBits C) → with_bit_of cmp p b (with_bit_of cmp p b x) ≡ with_bit_of cmp p b x
