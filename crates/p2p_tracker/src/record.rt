@@ -107,17 +107,19 @@ impl<C: PublicKey> Dialable<C> {
 /// What is known of one peer: its address, its connection, in how many retained sets it is, and
 /// when it may be reserved and dialled again.
 ///
-/// Beside that it keeps where the peer stands in its latest primary set, which no contract sees.
+/// Beside that it keeps where the peer stands in the last set that was counted for it as primary,
+/// also one that was refused then, which no contract sees.
 #[derive(Drop)]
 pub struct Record<C: PublicKey> {
-    address: Address<C>,
+    // What most calls look at stands together, for fields lie in this order.
     status: Status,
+    persistent: bool,
     primary_sets: usize,
     secondary_sets: usize,
-    persistent: bool,
     next_reservable_at: Duration,
     next_dial_at: Duration,
     latest: Place,
+    address: Address<C>,
 }
 
 impl<C: PublicKey> Model for Record<C> {
@@ -547,13 +549,13 @@ impl<C: PublicKey> Record<C> {
         self.next_dial_at = dial;
     }
 
-    // Where the peer stands in its latest primary set, if that is known.
+    // Where the peer stands in the last set that was counted for it as primary, if that is known.
     pub(crate) fn latest(&self) -> Place {
         self.latest
     }
 
-    // Keeps where the peer stands in its latest primary set, and answers where it stood before, if
-    // that is known.
+    // Keeps where the peer stands in a set that is counted for it as primary, and answers where it
+    // stood before, if that is known.
     pub(crate) fn replace_latest(&mut self, latest: Place) -> Place
         ensures { self.new ≡ self.old }
     {

@@ -60,7 +60,7 @@ static CALLS: [Call; 31] = [
         said: "Some([2, 3])",
         blocks: 13,
     },
-    // Of records two nodes (159 each) and one with edges (167), the places of 20 (21), two lists and
+    // Of records two nodes (151 each) and one with edges (159), the places of 20 (21), two lists and
     // the bits.
     Call {
         prepared: NEW,
@@ -72,7 +72,7 @@ static CALLS: [Call; 31] = [
             &[30, 31, 32, 33],
         )),
         said: "Some([])",
-        blocks: 530,
+        blocks: 506,
     },
     // A node each of the slots (72) and of the moments of grants (39).
     Call {
@@ -115,14 +115,15 @@ static CALLS: [Call; 31] = [
         said: "granted",
         blocks: 0,
     },
-    // A node each of the blocks (24) and of their order (32).
+    // A node of the blocks (24), and room for their ends (at most 32).
     Call {
         prepared: NEW,
         deed: Deed::Left(Given::Block(1, 100)),
         said: "true",
         blocks: 57,
     },
-    // Of both a second node (24 and 32) and one with edges (32 and 40).
+    // A second node of the blocks (24), one with edges (32), and more room for their ends (at most
+    // 72).
     Call {
         prepared: &[
             Deed::Left(Given::Track(0, &[1, 2], &[])),

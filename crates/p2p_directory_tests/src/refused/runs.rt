@@ -27,7 +27,7 @@ struct Row {
 
 // The worked rows 7, 9, 12, 14 and 19, with moments in whole seconds.
 static ROWS_OF_ONE: [Row; 5] = [
-    // A node of records (159), a window of four sets (29), 5 replies (8 each), lists.
+    // A node of records (151), a window of four sets (29), 5 replies (8 each), lists.
     Row {
         more: 0,
         commands: &[
@@ -37,9 +37,9 @@ static ROWS_OF_ONE: [Row; 5] = [
             Given::Bits(0),
             Given::Tracked,
         ],
-        blocks: 248,
+        blocks: 240,
     },
-    // Node and window as before (188), what a grant takes (111), 6 replies.
+    // Node and window as before (180), what a grant takes (111), 6 replies.
     Row {
         more: 0,
         commands: &[
@@ -50,9 +50,9 @@ static ROWS_OF_ONE: [Row; 5] = [
             Given::Dialable(115),
             Given::Dial(1, 115),
         ],
-        blocks: 359,
+        blocks: 351,
     },
-    // Node and window (188), what a grant (111) and a block (56) take, 13 replies, lists.
+    // Node and window (180), what a grant (111) and a block (at most 56) take, 13 replies, lists.
     Row {
         more: 0,
         commands: &[
@@ -70,9 +70,9 @@ static ROWS_OF_ONE: [Row; 5] = [
             Given::Status(1),
             Given::BlockedPeers(170),
         ],
-        blocks: 479,
+        blocks: 471,
     },
-    // Node and window (188), what a grant takes (111), 15 replies.
+    // Node and window (180), what a grant takes (111), 15 replies.
     Row {
         more: 0,
         commands: &[
@@ -92,9 +92,9 @@ static ROWS_OF_ONE: [Row; 5] = [
             Given::Update(&[(1, 1_002, 8004)]),
             Given::Bits(0),
         ],
-        blocks: 429,
+        blocks: 421,
     },
-    // Node and window (188), what a grant takes (111), 10 replies, lists.
+    // Node and window (180), what a grant takes (111), 10 replies, lists.
     Row {
         more: 1,
         commands: &[
@@ -109,7 +109,7 @@ static ROWS_OF_ONE: [Row; 5] = [
             Given::Track(2, &[], &[]),
             Given::Track(3, &[], &[]),
         ],
-        blocks: 413,
+        blocks: 405,
     },
 ];
 
@@ -250,7 +250,7 @@ struct PairRow {
 }
 
 static ROWS_OF_TWO: [PairRow; 1] = [
-    // Node and window of both (188 each), what a grant takes (111), 12 replies (9 each) of the
+    // Node and window of both (180 each), what a grant takes (111), 12 replies (9 each) of the
     // network and as many of the pair, both setups and endpoints (88), frames, infos.
     PairRow {
         deeds: &[
@@ -267,7 +267,7 @@ static ROWS_OF_TWO: [PairRow; 1] = [
             Deed::Left(Given::Bits(0)),
             Deed::Exchange(Side::Left, 0, 70, 100),
         ],
-        blocks: 825,
+        blocks: 809,
     },
 ];
 

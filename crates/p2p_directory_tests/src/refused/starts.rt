@@ -130,9 +130,9 @@ impl Scenario for Made<'_> {
     }
 }
 
-// How many blocks each takes at most: of records two nodes (159 each) and one with edges (167), and
+// How many blocks each takes at most: of records two nodes (151 each) and one with edges (159), and
 // for a node the spelling of its own info (3) with what shares it (3).
-static STARTS: [(Start, usize); 2] = [(Start::Directory, 487), (Start::Node, 493)];
+static STARTS: [(Start, usize); 2] = [(Start::Directory, 463), (Start::Node, 469)];
 
 #[test]
 fn a_start_is_refused_or_whole(rt: HostRuntime) -> Result<(), Fail> {
