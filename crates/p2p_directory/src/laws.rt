@@ -65,8 +65,8 @@ pub fn recomputed_is_one_step<C: PublicKey>()
 /// the accepted calls make. Where the directory refines that world, as the clause `directory` of
 /// [`run`](crate::run::run) says of the one that it hands back, each answer by what is kept, in the
 /// words of the calls of [`Directory`](p2p_tracker::directory::Directory), is that of the world: those
-/// of each question, who is granted, whether a block has ended, and how many cooldowns. The limit of failures fits
-/// `usize`, as in each `Config`.
+/// of each question, who is granted, whether a block has ended, and how many cooldowns. The limit of
+/// failures fits `usize`, as in each `Config`.
 pub fn refined_answers<C: PublicKey>()
     ensures { (s : Settings C C.Signature) → s.cmp ≡ C.cmp → s.dial_fail_limit < 2 ^ 64 →
         (cs : List (Call C C.Signature)) (d : DirectoryView C C.Signature) →

@@ -154,7 +154,8 @@ impl<C: PublicKey> Node<C> {
     ///
     /// # Cost
     ///
-    /// That of the call. For a `Dial`, a `Listen` and a `Release` also some searches in what is held.
+    /// That of the call. For a `Dial`, a `Listen` and a `Release` also some searches in what is held,
+    /// and for a `Connect` one of the records, as [`Node::connect`] says.
     pub fn step(&mut self, command: Command<C>) -> Reply<C>
         ensures stepped { IsStepped C.cmp command result self.old self.new }
         ensures unchanged { was_made result ≡ false → self.new ≡ self.old }
@@ -187,10 +188,11 @@ impl<C: PublicKey> Node<C> {
     ///
     /// # Cost
     ///
-    /// That of [`Directory::dial`], and a search or two in what is held; where it isn't granted two
-    /// more.
+    /// That of [`Directory::dial`], and three searches in what is held where it is granted; else two
+    /// where one is held of the peer already, and four where none is.
     pub fn dial(&mut self, peer: &C, now: Duration, draw: Duration) -> Reply<C>
-        ensures stepped { IsStepped C.cmp (Command.Dial peer.now now draw) result self.old self.new }
+        ensures stepped { IsStepped C.cmp (Command.Dial peer.now now draw) result
+            self.old self.new }
         ensures unchanged { was_made result ≡ false → self.new ≡ self.old }
         ensures limits { self.new.limits ≡ self.old.limits }
         ensures verifier { self.new.verifier ≡ self.old.verifier }
@@ -204,10 +206,11 @@ impl<C: PublicKey> Node<C> {
     ///
     /// # Cost
     ///
-    /// That of [`Directory::listen`], and a search or two in what is held; where it isn't granted two
-    /// more.
+    /// That of [`Directory::listen`], and three searches in what is held where it is granted; else
+    /// two where one is held of the peer already, and four where none is.
     pub fn listen(&mut self, peer: &C, now: Duration, draw: Duration) -> Reply<C>
-        ensures stepped { IsStepped C.cmp (Command.Listen peer.now now draw) result self.old self.new }
+        ensures stepped { IsStepped C.cmp (Command.Listen peer.now now draw) result
+            self.old self.new }
         ensures unchanged { was_made result ≡ false → self.new ≡ self.old }
         ensures limits { self.new.limits ≡ self.old.limits }
         ensures verifier { self.new.verifier ≡ self.old.verifier }
@@ -222,7 +225,8 @@ impl<C: PublicKey> Node<C> {
     ///
     /// That of two calls of the directory, its `status` and its `connect`.
     pub fn connect(&mut self, peer: &C, dialer: bool) -> Reply<C>
-        ensures stepped { IsStepped C.cmp (Command.Connect peer.now dialer) result self.old self.new }
+        ensures stepped { IsStepped C.cmp (Command.Connect peer.now dialer) result
+            self.old self.new }
         ensures unchanged { was_made result ≡ false → self.new ≡ self.old }
         ensures limits { self.new.limits ≡ self.old.limits }
         ensures verifier { self.new.verifier ≡ self.old.verifier }
@@ -325,7 +329,8 @@ impl<C: PublicKey> Node<C> {
     ///
     /// That of [`Directory::status`].
     pub fn status(&self, peer: &C) -> Option<Status>
-        ensures { IsStepped C.cmp (Command.Status peer.now) (Reply.Status result) self.now self.now }
+        ensures { IsStepped C.cmp (Command.Status peer.now) (Reply.Status result)
+            self.now self.now }
     {
         self.endpoint.status(peer)
     }
@@ -338,7 +343,8 @@ impl<C: PublicKey> Node<C> {
     ///
     /// That of [`Directory::eligible`].
     pub fn eligible(&self, peer: &C, now: Duration) -> bool
-        ensures { IsStepped C.cmp (Command.Eligible peer.now now) (Reply.Eligible result) self.now self.now }
+        ensures { IsStepped C.cmp (Command.Eligible peer.now now) (Reply.Eligible result)
+            self.now self.now }
     {
         self.endpoint.eligible(peer, now)
     }
@@ -351,7 +357,8 @@ impl<C: PublicKey> Node<C> {
     ///
     /// That of [`Directory::acceptable`].
     pub fn acceptable(&self, peer: &C, now: Duration) -> bool
-        ensures { IsStepped C.cmp (Command.Acceptable peer.now now) (Reply.Acceptable result) self.now self.now }
+        ensures { IsStepped C.cmp (Command.Acceptable peer.now now) (Reply.Acceptable result)
+            self.now self.now }
     {
         self.endpoint.acceptable(peer, now)
     }
@@ -472,12 +479,13 @@ impl<C: PublicKey> Node<C> {
         ensures counted { let node = standing_of C.cmp (wire_of C.SIZE C.spelled C.value
             C.Signature.SIZE C.Signature.spelled C.Signature.value C.verifies) self.old in
             IfOk result (λ r. are_miscounted (wire_of C.SIZE C.spelled C.value
-            C.Signature.SIZE C.Signature.spelled C.Signature.value C.verifies) node frame verdicts.now ≡ true
-            → IsWantOfMemory r) }
+            C.Signature.SIZE C.Signature.spelled C.Signature.value C.verifies)
+            node frame verdicts.now ≡ true → IsWantOfMemory r) }
         ensures err { let node = standing_of C.cmp (wire_of C.SIZE C.spelled C.value
             C.Signature.SIZE C.Signature.spelled C.Signature.value C.verifies) self.old in
             OnErr result (are_miscounted (wire_of C.SIZE C.spelled C.value
-            C.Signature.SIZE C.Signature.spelled C.Signature.value C.verifies) node frame verdicts.now ≡ true) }
+            C.Signature.SIZE C.Signature.spelled C.Signature.value C.verifies)
+            node frame verdicts.now ≡ true) }
         ensures err_same { OnErr result (self.new ≡ self.old) }
     {
         self.endpoint.answer_by(frame, now, verdicts)
@@ -530,7 +538,8 @@ impl<C: PublicKey> Node<C> {
     ///
     /// # Cost
     ///
-    /// One search for each reservation that is held.
+    /// Constant; of a node of a pair or a network that was run one step more for each peer of whom
+    /// none is held before the first of whom one is.
     pub fn parts(self) -> (Directory<C>, Held<C>)
         ensures directory { result.0 ≡ self.directory }
         ensures held { (q : C) → held_of C.cmp result.1 q ≡ held_of C.cmp self.held q }

@@ -93,8 +93,8 @@ pub(crate) mod slots;
 ///
 /// # Cost
 ///
-/// That of the calls, one sort of the peers that the commands dial or listen for, and for each
-/// command that names a peer of these a binary search among them.
+/// That of the calls, one sort of the peers that the commands dial or listen for, a binary search
+/// among them for each grant and each `Release`, and for a `Connect` one more of the records.
 pub fn run<C: PublicKey>(
     alloc: Global,
     bootstrappers: Vec<(C, Ingress)>,
@@ -120,8 +120,9 @@ pub fn run<C: PublicKey>(
         (p : C) → RunKeepsCooldown s p 0 None (calls_of commands.items) run.replies.items) }
     ensures blocks { IfOk result (λ run. let s = settings C.cmp bootstrappers.items myself cfg in
         (p : C) → RunKeepsBlocks s p 0 [] (calls_of commands.items) run.replies.items) }
-    ensures last_block { IfOk result (λ run. let s = settings C.cmp bootstrappers.items myself cfg in
-        (p : C) → KeepLastBlock s p None (calls_of commands.items) run.replies.items) }
+    ensures last_block { IfOk result (λ run.
+        let s = settings C.cmp bootstrappers.items myself cfg in (p : C) →
+        KeepLastBlock s p None (calls_of commands.items) run.replies.items) }
     ensures dials { IfOk result (λ run. let s = settings C.cmp bootstrappers.items myself cfg in
         KeepDialable s (calls_of commands.items) run.replies.items) }
     ensures isolation { IfOk result (λ run. let s = settings C.cmp bootstrappers.items myself cfg in

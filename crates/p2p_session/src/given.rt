@@ -85,7 +85,7 @@ pub fn infos(alloc: Global, bytes: &[u8]) -> Result<Vec<Info<Key>>, Refusal>
     }
 }
 
-/// The greatest number of bits that may be asked about: no set has more peers.
+/// The greatest number of bits that may be asked about: a frame spells no more.
 const GREATEST_BITS: u64 = 0xffff_ffff;
 
 /// The bits that these bytes spell, at most as many as the greatest `u32`.

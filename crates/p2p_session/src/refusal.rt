@@ -27,7 +27,7 @@ pub enum Refusal {
     BadKeys,
     /// The bytes spell no info, no list of infos, or no bootstrappers.
     BadInfo,
-    /// The bytes spell no bits that the node takes.
+    /// The bytes spell no bits with their index, or more of them than the greatest `u32`.
     BadBits,
     /// The nanoseconds of a moment are a second or more.
     BadMoment,

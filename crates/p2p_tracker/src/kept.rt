@@ -221,7 +221,7 @@ impl<C: PublicKey> PeerSet<C> {
 }
 
 /// The retained sets. A contract sees the list of them, with a bit beside each primary peer, in the
-/// order in which they came, which is that of their indices.
+/// order in which they came. `Directory::track` pushes none whose index isn't above the latest.
 #[derive(Drop)]
 pub struct Window<C: PublicKey> {
     sets: VecDeque<PeerSet<C>>,

@@ -235,6 +235,6 @@ left_out :
     (left_for setup 1
     (Dial 2 0 0 ∷ Dial 1 0 0 ∷ Update (info 2 5 ∷ info 1 6 ∷ []) ∷ UnblockExpired 7 ∷ Block 2 0 ∷ track 0
     (2 ∷ []) ∷ []) ≡ Dial 1 0 0 ∷ Update (info 1 6 ∷ []) ∷ UnblockExpired 7 ∷ track 0 (2 ∷ []) ∷ [])
-    -- a call on a single other peer that only asks: the spec leaves it out
+    -- a call on a single other peer that only asks is left out
     × (left_for setup 1 (Ask (StatusOf 2) ∷ Ask (StatusOf 1) ∷ []) ≡ Ask (StatusOf 1) ∷ [])
 left_out = (refl, refl)

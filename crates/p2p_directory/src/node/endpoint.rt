@@ -252,12 +252,13 @@ impl<C: PublicKey> Endpoint<C> {
         ensures counted { let node = standing_of C.cmp (wire_of C.SIZE C.spelled C.value
             C.Signature.SIZE C.Signature.spelled C.Signature.value C.verifies) (node_of self.old) in
             IfOk result (λ r. are_miscounted (wire_of C.SIZE C.spelled C.value
-            C.Signature.SIZE C.Signature.spelled C.Signature.value C.verifies) node frame verdicts.now ≡ true
-            → IsWantOfMemory r) }
+            C.Signature.SIZE C.Signature.spelled C.Signature.value C.verifies)
+            node frame verdicts.now ≡ true → IsWantOfMemory r) }
         ensures err { let node = standing_of C.cmp (wire_of C.SIZE C.spelled C.value
             C.Signature.SIZE C.Signature.spelled C.Signature.value C.verifies) (node_of self.old) in
             OnErr result (are_miscounted (wire_of C.SIZE C.spelled C.value
-            C.Signature.SIZE C.Signature.spelled C.Signature.value C.verifies) node frame verdicts.now ≡ true) }
+            C.Signature.SIZE C.Signature.spelled C.Signature.value C.verifies)
+            node frame verdicts.now ≡ true) }
         ensures err_same { OnErr result (self.new ≡ self.old) }
         ensures slots { self.new.slots ≡ self.old.slots }
     {
@@ -304,7 +305,8 @@ impl<C: PublicKey> Endpoint<C> {
         ensures seen { let o = answered_by (wire_of C.SIZE C.spelled C.value
             C.Signature.SIZE C.Signature.spelled C.Signature.value C.verifies) verdicts.now
             (standing_of C.cmp (wire_of C.SIZE C.spelled C.value
-            C.Signature.SIZE C.Signature.spelled C.Signature.value C.verifies) (node_of self.old)) (as_nanos now) payload in
+            C.Signature.SIZE C.Signature.spelled C.Signature.value C.verifies) (node_of self.old))
+            (as_nanos now) payload in
             IfOk result (λ r.
             Answers C.cmp (takes_room o.answer) o r (node_of self.old) (node_of self.new)) }
         ensures unchanged { IfOk result (λ r. applies r ≡ false → self.new ≡ self.old) }
@@ -436,9 +438,9 @@ impl<C: PublicKey> Endpoint<C> {
     fn take_by(&mut self, infos: Infos<C>, now: Duration, verdicts: &[bool]) -> Received
         ensures unchanged { applies result ≡ false → self.new ≡ self.old }
         ensures seen { Answers C.cmp false (taken (wire_of C.SIZE C.spelled C.value
-            C.Signature.SIZE C.Signature.spelled C.Signature.value C.verifies) infos (list_refusal_by
-            (judge_of C.cmp C.verifies self.old.verifier) verdicts.now (as_nanos now) infos))
-            result (node_of self.old) (node_of self.new) }
+            C.Signature.SIZE C.Signature.spelled C.Signature.value C.verifies) infos
+            (list_refusal_by (judge_of C.cmp C.verifies self.old.verifier) verdicts.now
+            (as_nanos now) infos)) result (node_of self.old) (node_of self.new) }
         ensures slots { self.new.slots ≡ self.old.slots }
     {
         if let Err(error) = self.verifier.validate_by(now, infos.as_slice(), verdicts) {

@@ -58,8 +58,8 @@ impl<C: PublicKey> fmt::Debug for Exchanged<C> {
 ///   set. The fault is `InvalidLength` of their number.
 /// - `Malformed`: the replier retains a set of the index, with another number of primary peers.
 /// - `ReplyRefused`: the asker's limits do not admit the infos that
-///   [`infos`](p2p_tracker::directory::Directory::infos) of the replier gives for the bits. The fault is
-///   `InvalidLength` of their number.
+///   [`infos`](p2p_tracker::directory::Directory::infos) of the replier gives for the bits. The fault
+///   is `InvalidLength` of their number.
 /// - `Invalid`: the asker refuses the infos, by
 ///   [`validate`](p2p_discovery::discovery::InfoVerifier::validate), for the first reason.
 /// - `Applied`: the asker applied the infos, also where there are none, by

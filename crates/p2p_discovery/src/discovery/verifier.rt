@@ -93,8 +93,8 @@ impl<C: PublicKey> InfoVerifier<C> {
     ///
     /// Those of [`InfoVerifier::validate_info`], in the same order.
     pub fn validate_info_by(&self, now: Duration, info: &Info<C>, right: bool) -> Result<(), Error>
-        ensures { result
-            ≡ judged (refusal_if (judge_of C.cmp C.verifies self.now) right (as_nanos now) info.now) }
+        ensures { result ≡ judged
+            (refusal_if (judge_of C.cmp C.verifies self.now) right (as_nanos now) info.now) }
     {
         self.validate_unsigned(now, info)?;
         if !right {
@@ -105,8 +105,8 @@ impl<C: PublicKey> InfoVerifier<C> {
 
     // Whether the info is fine at a moment, if its signature is right.
     fn validate_unsigned(&self, now: Duration, info: &Info<C>) -> Result<(), Error>
-        ensures { result
-            ≡ judged (refusal_if (judge_of C.cmp C.verifies self.now) true (as_nanos now) info.now) }
+        ensures { result ≡ judged
+            (refusal_if (judge_of C.cmp C.verifies self.now) true (as_nanos now) info.now) }
     {
         if let Ordering::Equal = self.me.cmp(&info.public_key) {
             return Err(Error::ReceivedSelf);

@@ -34,7 +34,8 @@ impl<C: PublicKey> Directory<C> {
         ensures granted { IfOk result (λ granted. granted ≡ true →
             Reserves C.cmp self.old self.new peer.now (as_nanos now) (as_nanos draw)) }
         ensures is_busy { IfOk result (λ granted. granted ≡ true → IsBusy C.cmp self.new peer.now) }
-        ensures is_reserved { IfOk result (λ granted. granted ≡ true → IsReserved C.cmp self.new peer.now) }
+        ensures is_reserved { IfOk result (λ granted. granted ≡ true →
+            IsReserved C.cmp self.new peer.now) }
         ensures busy { StayBusy C.cmp self.old self.new }
         ensures reserved { StayReserved C.cmp self.old self.new }
     {

@@ -159,7 +159,8 @@ impl<C: PublicKey> Records<C> {
             is_known limit (record_at C.cmp self.old (key_of metadata.now)) }
         ensures after { result.after ≡
             is_known limit (record_at C.cmp self.new (key_of metadata.now)) }
-        ensures sets { result.sets ≡ primary_count (record_at C.cmp self.old (key_of metadata.now)) }
+        ensures sets { result.sets ≡
+            primary_count (record_at C.cmp self.old (key_of metadata.now)) }
     {
         let peer = *metadata.public_key();
         let mut known = Known {

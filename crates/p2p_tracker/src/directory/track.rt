@@ -19,8 +19,8 @@ use p2p_discovery::codec::PublicKey;
 use p2p_discovery::sets::OrderedSet;
 use std::alloc::AllocError;
 
-/// Counts a set for its peers, sets its bits, and adds it as the latest, or leaves all as it was
-/// where memory is refused.
+/// Counts a set for its peers, sets its bits, and adds it as the latest. Where memory is refused all
+/// is as it was, but for the places that records keep.
 pub fn add<C: PublicKey>(
     sets: &mut Window<C>,
     records: &mut Records<C>,

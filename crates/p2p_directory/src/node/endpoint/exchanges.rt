@@ -93,7 +93,7 @@ impl<C: PublicKey> Endpoint<C> {
         }
     }
 
-    // RepliesToBits to bits with a frame of the infos for them.
+    // Replies to bits with a frame of the infos for them.
     fn reply_with(&self, bits: &BitVec, now: Duration) -> Result<Bytes, Exchanged<C>>
         requires { length bits.now.bits < 2 ^ 32 }
         ensures { RepliesToBits C.IsValue C.Signature.IsValue

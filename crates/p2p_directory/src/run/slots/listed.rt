@@ -1,4 +1,4 @@
-//! Slots that are listed: those of a run, made at once before its first command.
+//! Slots that are listed: those of [`run`](crate::run::run), made at once before its first command.
 
 ghost use Rattle.std.specs.Prelude.{◌≡◌, ◌∷◌, [], false, true, not, ◌||◌, if◌then◌else◌};
 ghost use Rattle.std.specs.Prelude.{IfSome, IfNone, IfOk, IfErr, OnOk, OnErr, None, Some, Option};

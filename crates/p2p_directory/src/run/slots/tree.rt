@@ -1,4 +1,5 @@
-//! Slots that are made and taken out one by one: those of a node.
+//! Slots that are made and taken out one by one: those of a node, and of a pair or a network that
+//! is run.
 
 ghost use Rattle.std.specs.Prelude.{◌≡◌, ◌∷◌, [], false, true, not, ◌||◌, if◌then◌else◌};
 ghost use Rattle.std.specs.Prelude.{IfSome, IfNone, OnOk, OnErr, None, Some, Option};

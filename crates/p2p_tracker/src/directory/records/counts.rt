@@ -37,7 +37,7 @@ const SPARSE: usize = 5;
 struct Joined {
     // Whether its info is known, and not wanted.
     known: bool,
-    // Where it stood before in its latest primary set, if that is known.
+    // Where the peer stood in the last set that was counted for it as primary, if that is known.
     earlier: Place,
 }
 
@@ -234,8 +234,9 @@ impl<C: PublicKey> Records<C> {
         Ok(())
     }
 
-    /// Counts a set that comes for each of its peers and sets its bits, or leaves all records as
-    /// they were where memory is refused. A peer that has no record gets one, with its moments.
+    /// Counts a set that comes for each of its peers and sets its bits. A peer that has no record
+    /// gets one, with its moments. Where memory is refused all records are as they were, but for the
+    /// place that they keep.
     pub fn join(
         &mut self,
         set: &mut PeerSet<C>,
