@@ -68,5 +68,7 @@ fn valgrind_finds_nothing() {
             .unwrap();
         let told = String::from_utf8_lossy(&done.stderr);
         assert!(done.status.success(), "{name}: {told}");
+        let ran = String::from_utf8_lossy(&done.stdout);
+        assert!(ran.contains("1 passed"), "no test is called {name}: {ran}");
     }
 }

@@ -1,0 +1,26 @@
+#!/bin/sh
+# Builds the archive that the Rust crate links, crates/p2p_session_c/out/libp2p_session_c.a, and puts the
+# toolchain's heap beside it. By hand it proves what `rt check` has not proved yet, which may take an hour.
+# With --after-ci it takes the libraries that `rt ci` left, so that p2p_session_c alone is proved again.
+set -eu
+cd "$(dirname "$0")/.."
+kit=$(dirname "$(rt doc)")
+folder=crates/p2p_session_c
+below='p2p_discovery p2p_tracker p2p_directory p2p_session'
+if [ "${1:-}" = --after-ci ]; then
+    set -- --crate-name p2p_session_c src/lib.rt --crate-type staticlib -L "dependency=$kit/rlibs"
+    for name in $below; do
+        library=crates/$name/out/rlib/$name.rlib
+        [ -d "$library" ] || { echo "there is no $library: run rt ci first" >&2; exit 1; }
+        set -- "$@" -L "dependency=../$name/out/rlib"
+    done
+    set -- "$@" --extern p2p_session=../p2p_session/out/rlib/p2p_session.rlib --links p2p_session_c=
+    set -- "$@" --antt-project "$kit/rattle/logic/antt-project.json" --logic-built "$kit/logic_built"
+    set -- "$@" --jobs "$(nproc)" --toolchain "$kit/toolchain" --backend llvm
+    mkdir -p "$folder/out"
+    (cd "$folder" && "$kit/bin/rattle" build "$@" -o out/libp2p_session_c.a)
+else
+    (cd "$folder" && rt lib)
+fi
+cp "$kit/c/liblibc_c.a" "$folder/out/"
+echo "built $folder/out/libp2p_session_c.a"
