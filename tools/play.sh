@@ -17,9 +17,9 @@ assert_played() {
     ended=0
     "$play" "$@" <"$input" >replies.txt || ended=$?
     if [ "$ended" != "$status" ] || ! cmp -s "$replies" replies.txt; then
-    echo "$name: status $ended, wanted $status"
-    diff "$replies" replies.txt || true
-    exit 1
+        echo "$name: status $ended, wanted $status"
+        diff "$replies" replies.txt || true
+        exit 1
     fi
 }
 
