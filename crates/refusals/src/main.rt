@@ -45,9 +45,10 @@ fn main(rt: HostRuntime) -> ExitCode {
         None => Ok(false),
     };
     let is_written = rt.stdout().write_all(text.as_str().as_bytes()).is_ok();
-    ExitCode::from(match is_good {
-        Ok(true) if is_written => 0,
+    let status = match is_good {
+        Ok(is_good) if is_good && is_written => 0,
         Ok(_) => 1,
         Err(AllocError) => 3,
-    })
+    };
+    ExitCode::from(status)
 }
