@@ -77,11 +77,11 @@ fn a_record_is_reserved_connected_and_released(rt: HostRuntime) {
     let mut record: Record<TestKey> = Record::bootstrapper(ingress(8001));
     assert!(rt; record.acceptable());
     assert_eq!(rt; reserve(&mut record), ReserveResult::Reserved);
-    assert!(rt; record.status() == Status::Reserved);
     assert_eq!(rt; reserve(&mut record), ReserveResult::Unavailable);
+    assert!(rt; record.status() == Status::Reserved);
     record.connect();
-    assert!(rt; record.status() == Status::Active);
     assert!(rt; record.eligible() && !record.acceptable() && !record.needs_teardown());
+    assert!(rt; record.status() == Status::Active);
     record.release();
     assert_eq!(rt; record.status(), Status::Inert);
     assert_eq!(rt; reserve(&mut record), ReserveResult::RateLimited);
@@ -101,6 +101,7 @@ fn a_cooldown_is_told_and_set(rt: HostRuntime) {
     assert_eq!(rt; record.cooldown(), (Duration::ZERO, Duration::ZERO));
     assert_eq!(rt; reserve(&mut record), ReserveResult::Reserved);
     assert_eq!(rt; record.cooldown(), (seconds(110), seconds(114)));
+    assert!(rt; record.status() == Status::Reserved);
     record.release();
     record.set_cooldown(seconds(7), seconds(8));
     assert_eq!(rt; record.cooldown(), (seconds(7), seconds(8)));
