@@ -1,9 +1,6 @@
-//! What a directory answers, as text that is to be compared.
+//! What a directory answers, as text that is to be compared, and the marks.
 
-use lines::Line;
 use p2p_directory::directory::Directory;
-use p2p_directory::node::Node;
-use p2p_directory::run::Command;
 use p2p_discovery::codec::TestKey;
 use p2p_discovery::discovery::BitVec;
 use p2p_discovery::sets::BitMap;
@@ -11,8 +8,16 @@ use std::alloc::{AllocError, Global};
 use std::fmt::Write;
 use std::time::Duration;
 
+// A request of just so many bytes is a mark.
+const MARK: usize = 1_234_577;
+
+/// Requests a mark: what is requested from now on is counted, or is no longer.
+pub fn mark(alloc: Global) {
+    let _mark: Result<Vec<u8>, AllocError> = Vec::with_capacity(alloc, MARK);
+}
+
 // The peers with keys below this are asked for.
-const KEYS: u64 = 48;
+const KEYS: u64 = 20;
 
 // In seconds: before, between and after the moments of cooldowns and blocks.
 static MOMENTS: [u64; 8] = [0, 59, 60, 100, 105, 110, 160, 1_000];
@@ -82,8 +87,8 @@ fn tells_of_sets(
     )
 }
 
-// What a directory answers to each question.
-pub(crate) fn tells(
+/// What a directory answers to each question.
+pub fn tells(
     text: &mut String,
     alloc: Global,
     directory: &Directory<TestKey>,
@@ -93,20 +98,22 @@ pub(crate) fn tells(
     tells_of_sets(text, alloc, directory)
 }
 
-// .. then who is released, and how many cooldowns are forgotten at each moment.
-pub(crate) fn tells_all(
+/// The same as a text of its own.
+pub fn words_of(alloc: Global, directory: &Directory<TestKey>) -> Result<String, AllocError> {
+    let mut words = String::new(alloc);
+    tells(&mut words, alloc, directory)?;
+    Ok(words)
+}
+
+/// Says whether two texts are the same.
+pub fn compares(
     text: &mut String,
-    alloc: Global,
-    node: &mut Node<TestKey>,
-) -> Result<(), AllocError> {
-    tells(text, alloc, node.directory())?;
-    for key in 0..KEYS {
-        let released = node.step(Command::Release(TestKey(key)));
-        write!(text, "{}\n", Line(&released))?;
-    }
-    for moment in MOMENTS {
-        let forgotten = node.step(Command::ForgetCooled(seconds(moment)));
-        write!(text, "{}\n", Line(&forgotten))?;
-    }
-    tells(text, alloc, node.directory())
+    what: &'static str,
+    one: &String,
+    other: &String,
+) -> Result<bool, AllocError> {
+    let is_same = one.as_str() == other.as_str();
+    let told = if is_same { "the same" } else { "not the same" };
+    write!(text, "{what}: {told}\n")?;
+    Ok(is_same)
 }
