@@ -271,7 +271,7 @@ impl fmt::Display for Line<'_, Reply<TestKey>> {
 impl fmt::Display for Line<'_, Received> {
     fn fmt<W: fmt::Write>(&self, f: &mut fmt::Formatter<W>) -> fmt::Result {
         match self.0 {
-            Received::Data(data) => write!(f, "{}", Line(data)),
+            Received::Data(data) => write!(f, "Data({})", Line(data)),
             Received::Greeted => f.write_str("Greeted"),
             Received::Reply(frame) => write!(f, "Reply({})", Hex(frame.as_slice())),
             Received::Applied(count) => write!(f, "Applied({count})"),
