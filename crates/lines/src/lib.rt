@@ -1,4 +1,4 @@
-//! The printed forms of values, and commands as one types them.
+//! The printed forms of values.
 #![tactic(auto)]
 
 ghost use Rattle.std.specs.Prelude.{Some};
@@ -19,10 +19,8 @@ use p2p_discovery::types::{Address, Ingress, IpAddr, SocketAddr};
 use std::fmt;
 use std::net::{Ipv4Addr, Ipv6Addr};
 use std::time::Duration;
-pub use typed::Typed;
 
 mod expected;
-mod typed;
 
 /// A value in its printed form.
 #[derive(Drop)]
@@ -52,7 +50,7 @@ struct Keys<'a>(&'a [TestKey]);
 
 /// Truth values as a digit each, and no values as a hyphen.
 #[derive(Drop)]
-pub(crate) struct Bits<'a>(pub(crate) &'a BitMap);
+struct Bits<'a>(&'a BitMap);
 
 impl fmt::Display for Bits<'_> {
     ghost output = { λ b. Some (bits_text b.0.now) };
@@ -273,7 +271,7 @@ impl fmt::Display for Line<'_, Reply<TestKey>> {
 impl fmt::Display for Line<'_, Received> {
     fn fmt<W: fmt::Write>(&self, f: &mut fmt::Formatter<W>) -> fmt::Result {
         match self.0 {
-            Received::Data(data) => write!(f, "{}", Line(data)),
+            Received::Data(data) => write!(f, "Data({})", Line(data)),
             Received::Greeted => f.write_str("Greeted"),
             Received::Reply(frame) => write!(f, "Reply({})", Hex(frame.as_slice())),
             Received::Applied(count) => write!(f, "Applied({count})"),

@@ -1,11 +1,12 @@
 //! What the documents of the most used calls of a node point to as their examples.
 
-use crate::node::{greeting, node, track};
+use crate::fixtures::{info, node, track};
 use bytes::Bytes;
 use p2p_directory::node::{Node, Received};
 use p2p_directory::record::Status;
 use p2p_directory::run::{Command, Reply};
-use p2p_discovery::codec::TestKey;
+use p2p_discovery::codec::{TestKey, Write};
+use std::alloc::Global;
 use std::test::Fail;
 use std::time::Duration;
 
@@ -30,19 +31,25 @@ fn admit(node: &mut Node<TestKey>, peer: TestKey, now: Duration, draw: Duration)
     }
 }
 
+// The frame of a greeting by peer 1.
+fn greeting(alloc: Global) -> Result<Bytes, Fail> {
+    let mut bytes = [1].as_slice().to_vec(alloc)?;
+    bytes.extend_from_slice(info(1, 5).encode(alloc)?.as_slice())?;
+    Ok(Bytes::from_vec(bytes)?)
+}
+
 #[test]
 fn a_peer_is_admitted_and_answered(rt: HostRuntime) -> Result<(), Fail> {
     let alloc = rt.alloc();
-    let set = track(alloc, 0)?;
-    let greets = greeting(alloc, 1, 5)?;
-    let asks = Bytes::from_vec([2, 0, 2, 0].as_slice().to_vec(alloc)?)?;
+    let set = track(alloc, &[1, 2])?;
+    let greets = greeting(alloc)?;
     let now = Duration::from_secs(100);
-    let mut node = node(alloc, 32)?;
+    let mut node = node(alloc, 9, 32)?;
     let is_taken = matches!(node.step(set), Reply::Track(Some(_)));
     let is_in = admit(&mut node, TestKey(1), now, Duration::ZERO);
     let is_out = !admit(&mut node, TestKey(3), now, Duration::ZERO);
     let greeted = answer(&mut node, greets, now).is_none();
-    let told = answer(&mut node, asks, now);
+    let told = answer(&mut node, Bytes::from_static(b"\x02\0\x02\0"), now);
     let status = node.directory().status(&TestKey(1));
     node.finish();
     assert!(rt; is_taken && is_in && is_out && greeted);

@@ -1,4 +1,4 @@
-//! Tests of runs, nodes and networks by their public calls, and of want of memory.
+//! Tests of runs, nodes and networks by those of their calls that no script and no export makes.
 //!
 //! They stand apart from the library so that it is proved once, and its must-fail edits wait for
 //! no test.
@@ -7,14 +7,12 @@
 #[cfg(test)]
 mod examples;
 #[cfg(test)]
+mod fixtures;
+#[cfg(test)]
+mod held;
+#[cfg(test)]
 mod network;
 #[cfg(test)]
 mod node;
 #[cfg(test)]
-mod pair;
-#[cfg(test)]
-mod refused;
-#[cfg(test)]
 mod run;
-#[cfg(test)]
-mod sizes;

@@ -1,11 +1,10 @@
 //! What each call leaves where memory is refused.
 
-use crate::data::buffers;
 use bytes::Bytes;
 use low_memory::{LowMemory, STEP};
 use p2p_discovery::codec::{CodecError, RangeCfg, Read, TestKey, Write};
-use p2p_discovery::data::{Data, EncodedData};
-use p2p_discovery::discovery::{Info, Infos, Payload, PayloadConfig};
+use p2p_discovery::data::Data;
+use p2p_discovery::discovery::{Info, Infos};
 use p2p_discovery::types::{Address, Hostname, Ingress, IpAddr, SocketAddr};
 use std::alloc::{AllocError, Global};
 use std::process::Abort;
@@ -255,46 +254,6 @@ fn reads_sockets_with_no_memory(rt: HostRuntime) -> Result<(), Fail> {
     Ok(())
 }
 
-/// Makes a frame at a budget: refused, it hands back the buffers that it was given. Whether it was.
-fn frames_within(
-    rt: &impl Abort,
-    alloc: Global,
-    memory: &mut LowMemory,
-    step: usize,
-) -> Result<bool, Fail> {
-    let message = buffers(alloc, &[b"hello ", b"world", b"!"])?;
-    let same = buffers(alloc, &[b"hello ", b"world", b"!"])?;
-    memory.limit(alloc, step.saturating_mul(STEP))?;
-    let encoded = EncodedData::new(alloc, 12345, message);
-    memory.lift();
-    match encoded {
-        Ok(encoded) => {
-            assert_eq!(rt; encoded.payload.len(), 4, "step {step}");
-            Ok(false)
-        }
-        Err(back) => {
-            assert_eq!(rt; back, same, "step {step}");
-            Ok(true)
-        }
-    }
-}
-
-// The bytes of the header (2) and what shares them (3); the queue has room for four.
-const FRAME_BLOCKS: usize = 6;
-
-#[test]
-fn frames_are_refused(rt: HostRuntime) -> Result<(), Fail> {
-    let alloc = rt.alloc();
-    let mut memory = LowMemory::new(alloc)?;
-    let mut tally = low_memory::Tally::EMPTY;
-    for step in 0..STEPS {
-        tally.count(frames_within(&rt, alloc, &mut memory, step)?);
-    }
-    let blocks = tally.blocks();
-    assert!(rt; blocks > 0 && blocks <= FRAME_BLOCKS, "{blocks} blocks");
-    Ok(())
-}
-
 /// The message was read and the next byte is left. Where memory was refused, all is.
 fn assert_message(
     rt: &impl Abort,
@@ -353,77 +312,6 @@ fn messages_are_refused(rt: HostRuntime) -> Result<(), Fail> {
     }
     tally.is_mixed(&rt);
     Ok(())
-}
-
-/// Reads a frame at each budget: where that is refused, the buffer is as it was, and the same bytes
-/// are read afterwards.
-fn refused_at_each_budget<T: Read>(
-    rt: &impl Abort,
-    alloc: Global,
-    memory: &mut LowMemory,
-    frame: &[u8],
-    cfg: &T::Cfg,
-) -> Result<Tally, Fail> {
-    let mut tally = Tally::EMPTY;
-    for step in 0..STEPS {
-        let mut buf = Bytes::copy_from_slice(alloc, frame)?;
-        memory.limit(alloc, step.saturating_mul(STEP))?;
-        let fault = T::read_cfg(alloc, &mut buf, cfg).err();
-        memory.lift();
-        tally.count(fault.is_some());
-        if let Some(error) = fault {
-            assert_eq!(rt; error, CodecError::Memory, "step {step}");
-            assert_eq!(rt; buf.as_slice(), frame, "step {step}");
-            assert!(rt; T::decode_cfg(alloc, buf, cfg).is_ok(), "step {step}");
-        }
-    }
-    Ok(tally)
-}
-
-/// A frame of an info that has a name.
-fn named_info(alloc: Global) -> Result<Vec<u8>, Fail> {
-    let key = TestKey(1);
-    let ingress = named_ingress(&Hostname::new(alloc, NAME)?)?;
-    let named = Info::sign(key, b"rows", ingress, 1, |namespace, message| {
-        key.sign(namespace, message)
-    });
-    let mut peers = b"\x03\x01".as_slice().to_vec(alloc)?;
-    peers.extend_from_slice(named.encode(alloc)?.as_slice())?;
-    Ok(peers)
-}
-
-/// A frame of a hundred bits.
-fn hundred_bits(alloc: Global) -> Result<Vec<u8>, AllocError> {
-    let mut bits = b"\x02\x05\x64".as_slice().to_vec(alloc)?;
-    bits.extend_from_slice(&[0; 13])?;
-    Ok(bits)
-}
-
-/// Each growth of the payload of a frame is refused at some budget, and none at another.
-fn is_refused_somewhere(
-    rt: &impl Abort,
-    alloc: Global,
-    memory: &mut LowMemory,
-    frame: Vec<u8>,
-) -> Result<(), Fail> {
-    let limits = PayloadConfig {
-        max_bit_vec: 100,
-        max_peers: 2,
-        max_data_length: 0,
-    };
-    let tally = refused_at_each_budget::<Payload<TestKey>>(rt, alloc, memory, &frame, &limits)?;
-    tally.is_mixed(rt);
-    Ok(())
-}
-
-/// A frame of infos, of which one has a name, and a frame of bits: each growth is refused at some
-/// budget, and then the buffer is as it was; the same bytes read again give the payload.
-#[test]
-fn payloads_are_refused(rt: HostRuntime) -> Result<(), Fail> {
-    let alloc = rt.alloc();
-    let mut memory = LowMemory::new(alloc)?;
-    is_refused_somewhere(&rt, alloc, &mut memory, named_info(alloc)?)?;
-    is_refused_somewhere(&rt, alloc, &mut memory, hundred_bits(alloc)?)
 }
 
 /// Signing and judging take no memory, and no room is asked for infos that can't be there.

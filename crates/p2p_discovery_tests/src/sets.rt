@@ -83,25 +83,6 @@ fn the_difference_leaves_out_the_peers_of_another_set(rt: HostRuntime) -> Result
 }
 
 #[test]
-fn a_set_is_whole_or_refused_for_memory(rt: HostRuntime) -> Result<(), Fail> {
-    let alloc = rt.alloc();
-    let whole = OrderedSet::from_iter_dedup(alloc, (0..150).map(TestKey))?;
-    let mut memory = LowMemory::new(alloc)?;
-    let mut tally = Tally::EMPTY;
-    for step in 0..STEPS {
-        memory.limit(alloc, step.saturating_mul(STEP))?;
-        let made = OrderedSet::from_iter_dedup(alloc, (0..150).map(TestKey));
-        memory.lift();
-        tally.count(made.is_err());
-        if let Ok(set) = made {
-            assert_eq!(rt; set.as_slice(), whole.as_slice(), "step {step}");
-        }
-    }
-    tally.is_mixed(&rt);
-    Ok(())
-}
-
-#[test]
 fn a_copy_is_whole_or_refused_for_memory(rt: HostRuntime) -> Result<(), Fail> {
     let alloc = rt.alloc();
     let whole = OrderedSet::from_iter_dedup(alloc, (0..150).map(TestKey))?;

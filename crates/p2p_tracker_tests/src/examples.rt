@@ -1,6 +1,6 @@
 //! What the documents of the most used calls point to as their examples.
 
-use crate::fixtures::{bootstrappers_of, config, info, tracked};
+use crate::fixtures::{directory_from, tracked};
 use p2p_discovery::codec::TestKey;
 use p2p_discovery::types::Ingress;
 use p2p_tracker::directory::{Directory, Metadata, TrackedPeers};
@@ -65,25 +65,15 @@ fn dial(
 #[test]
 fn a_set_is_tracked_and_its_peers_are_met(rt: HostRuntime) -> Result<(), Fail> {
     let alloc = rt.alloc();
-    let known = bootstrappers_of(alloc, &[(3, 8003), (4, 0)])?;
-    let mut directory = Directory::init(alloc, known, info(9), config())?;
-    assert_eq!(rt;
-        track_set(&mut directory, 0, tracked(alloc, &[1, 2], &[])?)?,
-        0
-    );
-    assert_eq!(rt;
-        track_set(&mut directory, 0, tracked(alloc, &[3], &[])?)?,
-        0
-    );
+    let mut directory = directory_from(alloc, &[(3, 8003), (4, 0)])?;
+    assert_eq!(rt; track_set(&mut directory, 0, tracked(alloc, &[1, 2])?)?, 0);
+    assert_eq!(rt; track_set(&mut directory, 0, tracked(alloc, &[3])?)?, 0);
     let now = Duration::from_secs(100);
     let draw = Duration::ZERO;
     assert!(rt; accept(&mut directory, &TestKey(1), now, draw)?);
     assert!(rt; !accept(&mut directory, &TestKey(1), now, draw)?);
     assert!(rt; !accept(&mut directory, &TestKey(5), now, draw)?);
-    assert_eq!(rt;
-        track_set(&mut directory, 1, tracked(alloc, &[3, 4], &[])?)?,
-        0
-    );
+    assert_eq!(rt; track_set(&mut directory, 1, tracked(alloc, &[3, 4])?)?, 0);
     assert!(rt; dial(&mut directory, &TestKey(3), now, draw)?);
     assert!(rt; !dial(&mut directory, &TestKey(4), now, draw)?);
     assert!(rt; !dial(&mut directory, &TestKey(1), now, draw)?);

@@ -106,6 +106,3 @@ fn play_file<W: Write>(rt: &HostRuntime, mode: Mode, name: &str, out: &mut W) ->
     }
     Ok(tally.is_good())
 }
-
-#[cfg(test)]
-mod tests;

@@ -93,28 +93,34 @@ pub fn run_rows<W: Write>(alloc: Global, words: &[String], out: &mut W) -> u8
         "3" => frames::encoded_data(alloc, out),
         "4" => frames::payloads(alloc, out),
         "5" => frames::odd_numbers(alloc, out),
-        "6" => directory::teardown(alloc, out),
-        "7" => directory::knowledge(alloc, out),
-        "8" => directory::cooldown(alloc, out),
-        "9" => directory::dialling::dial_before_listed(alloc, out),
-        "10" => directory::dialling::jitter_and_last_moment(alloc, out),
-        "11" => directory::blocks::block_of_no_time(alloc, out),
-        "12" => directory::blocks::block_over_rebirth(alloc, out),
-        "13" => directory::dialling::failed_dials(alloc, out),
-        "14" => directory::dialling::newest_info(alloc, out),
-        "15" => directory::gossip::infos_for_bits(alloc, out),
+        "6" => directory::print_row(alloc, &directory::TEARDOWN, out),
+        "7" => directory::print_row(alloc, &directory::KNOWLEDGE, out),
+        "8" => directory::print_row(alloc, &directory::COOLDOWN, out),
+        "9" => directory::print_row(alloc, &directory::dialling::DIAL_BEFORE_LISTED, out),
+        "10" => directory::print_row(alloc, &directory::dialling::JITTER_AND_LAST_MOMENT, out),
+        "11" => directory::print_row(alloc, &directory::blocks::BLOCK_OF_NO_TIME, out),
+        "12" => directory::print_row(alloc, &directory::blocks::BLOCK_OVER_REBIRTH, out),
+        "13" => failed_dials(alloc, out),
+        "14" => directory::print_row(alloc, &directory::dialling::NEWEST_INFO, out),
+        "15" => directory::print_row(alloc, &directory::gossip::INFOS_FOR_BITS, out),
         "16" => pair::exchanges(alloc, out),
         "17" => sizes::gossip_sizes(out),
-        "18" => directory::peer_sets::greatest_index(alloc, out),
-        "19" => directory::peer_sets::roles(alloc, out),
-        "20" => directory::blocks::query_after_a_block(alloc, out),
+        "18" => directory::print_row(alloc, &directory::peer_sets::GREATEST_INDEX, out),
+        "19" => directory::print_row(alloc, &directory::peer_sets::ROLES, out),
+        "20" => directory::print_row(alloc, &directory::blocks::QUERY_AFTER_A_BLOCK, out),
         "21" => sizes::sizes(out),
         "22" => addresses::valid_addresses(alloc, out),
         "23" => judged::judged_infos(alloc, out),
-        "24" => directory::forgotten_cooldown(alloc, out),
+        "24" => directory::print_row(alloc, &directory::FORGOTTEN_COOLDOWN, out),
         _ => return no_such_row(out),
     };
     status_after(ended, out)
+}
+
+// Dials that fail, and again with no failure allowed.
+fn failed_dials<W: Write>(alloc: Global, out: &mut W) -> Result<(), Stop> {
+    directory::print_row(alloc, &directory::dialling::FAILED_DIALS, out)?;
+    directory::print_row(alloc, &directory::dialling::NO_FAILURE_ALLOWED, out)
 }
 
 // The exit status of a row that ended so.

@@ -3,11 +3,11 @@
 ghost use Rattle.std.specs.Prelude.{◌<◌, ◌-◌, ◌^◌};
 ghost use Rattle.std.specs.Int.NonZero.{non_zero_usize_get};
 
-use crate::row::setting::{At, Step, config, own_info};
+use crate::row::setting::{At, Setting, Step, USUAL, own_info};
 use crate::row::{Stop, print};
 use lines::Line;
 use p2p_directory::directory::Config;
-use p2p_directory::run::{Reply, run};
+use p2p_directory::run::{Command, Reply, run};
 use p2p_discovery::codec::TestKey;
 use std::alloc::{AllocError, Global};
 use std::io::Write;
@@ -18,9 +18,19 @@ pub mod dialling;
 pub mod gossip;
 pub mod peer_sets;
 
+/// What is done to a directory of a setting: what is prepared is replied, too, and not printed.
+#[derive(Clone, Copy)]
+pub struct Row {
+    pub setting: Setting,
+    pub prepared: &'static [Step],
+    pub steps: &'static [Step],
+}
+
 /// A reserved peer is torn down with the last set that names it, and its release ends its record.
-pub fn teardown<W: Write>(alloc: Global, out: &mut W) -> Result<(), Stop> {
-    let steps = [
+pub static TEARDOWN: Row = Row {
+    setting: USUAL,
+    prepared: &[],
+    steps: &[
         Step::Track(0, &[1]),
         Step::Listen(1, At(100, 0)),
         Step::Track(0, &[2]),
@@ -30,25 +40,27 @@ pub fn teardown<W: Write>(alloc: Global, out: &mut W) -> Result<(), Stop> {
         Step::Status(1),
         Step::Track(2, &[1]),
         Step::Listen(1, At(105, 0)),
-    ];
-    print_replies(alloc, config(), &[], &steps, out)
-}
+    ],
+};
 
 /// A new set is counted before the oldest goes, so what is known of a peer that both have stays.
-pub fn knowledge<W: Write>(alloc: Global, out: &mut W) -> Result<(), Stop> {
-    let steps = [
+pub static KNOWLEDGE: Row = Row {
+    setting: USUAL,
+    prepared: &[],
+    steps: &[
         Step::Track(0, &[1]),
         Step::Update(&[(1, 1_000)]),
         Step::Track(1, &[1, 2]),
         Step::Bits(0),
         Step::Tracked,
-    ];
-    print_replies(alloc, config(), &[], &steps, out)
-}
+    ],
+};
 
 /// A peer is reserved again after the cooldown, also where its record is made anew.
-pub fn cooldown<W: Write>(alloc: Global, out: &mut W) -> Result<(), Stop> {
-    let steps = [
+pub static COOLDOWN: Row = Row {
+    setting: USUAL,
+    prepared: &[],
+    steps: &[
         Step::Track(0, &[1]),
         Step::Listen(1, At(100, 0)),
         Step::Release(1),
@@ -58,13 +70,14 @@ pub fn cooldown<W: Write>(alloc: Global, out: &mut W) -> Result<(), Stop> {
         Step::Track(1, &[2]),
         Step::Track(2, &[1]),
         Step::Listen(1, At(111, 0)),
-    ];
-    print_replies(alloc, config(), &[], &steps, out)
-}
+    ],
+};
 
 /// A cooldown outlives the record of its peer, until it is forgotten from its dial moment on.
-pub fn forgotten_cooldown<W: Write>(alloc: Global, out: &mut W) -> Result<(), Stop> {
-    let steps = [
+pub static FORGOTTEN_COOLDOWN: Row = Row {
+    setting: USUAL,
+    prepared: &[],
+    steps: &[
         Step::Track(0, &[1]),
         Step::ListenDrawn(1, At(100, 0), At(4, 0)),
         Step::Release(1),
@@ -78,53 +91,51 @@ pub fn forgotten_cooldown<W: Write>(alloc: Global, out: &mut W) -> Result<(), St
         Step::ForgetCooled(At(114, 0)),
         Step::ForgetCooled(At(114, 0)),
         Step::Listen(1, At(105, 0)),
-    ];
-    print_replies(alloc, config(), &[], &steps, out)
+    ],
+};
+
+/// Does what is prepared and then the steps, and prints a line for the reply to each step.
+pub fn print_row<W: Write>(alloc: Global, row: &Row, out: &mut W) -> Result<(), Stop> {
+    let commands = commands(alloc, row)?;
+    let replies = replies(alloc, row.setting.config(), commands)?;
+    print_replies(row.prepared.len(), replies.as_slice(), out)
 }
 
-// Runs what is prepared and then the steps under a configuration, and prints a line for the reply
-// to each step.
+// A line for each reply from a place on.
 fn print_replies<W: Write>(
-    alloc: Global,
-    cfg: Config,
-    prepared: &[Step],
-    steps: &[Step],
+    first: usize,
+    replies: &[Reply<TestKey>],
     out: &mut W,
-) -> Result<(), Stop>
-    requires { non_zero_usize_get cfg.max_sets < 2 ^ 64 - 1 }
-{
-    let replies = replies(alloc, cfg, prepared, steps)?;
+) -> Result<(), Stop> {
     for (place, reply) in replies.iter().enumerate() {
         if let Reply::OutOfMemory = reply {
             return Err(Stop::Memory);
         }
-        if place >= prepared.len() {
+        if place >= first {
             print(out, &Line(reply))?;
         }
     }
     Ok(())
 }
 
-// The replies to what is prepared and to the steps. What is held in the end is released.
+fn commands(alloc: Global, row: &Row) -> Result<Vec<Command<TestKey>>, AllocError> {
+    let mut commands = Vec::new(alloc);
+    for step in row.prepared.iter().chain(row.steps) {
+        commands.push(step.command(alloc)?)?;
+    }
+    Ok(commands)
+}
+
+// The replies to the commands. What is held in the end is released.
 fn replies(
     alloc: Global,
     cfg: Config,
-    prepared: &[Step],
-    steps: &[Step],
+    commands: Vec<Command<TestKey>>,
 ) -> Result<Vec<Reply<TestKey>>, AllocError>
     requires { non_zero_usize_get cfg.max_sets < 2 ^ 64 - 1 }
 {
-    let count = prepared.len().saturating_add(steps.len());
-    let mut commands = Vec::with_capacity(alloc, count)?;
-    for step in prepared.iter().chain(steps) {
-        commands.push(step.command(alloc)?)?;
-    }
-    let bootstrappers = Vec::new(alloc);
-    let mut left = run(alloc, bootstrappers, own_info(), cfg, commands)?;
+    let mut left = run(alloc, Vec::new(alloc), own_info(), cfg, commands)?;
     let replies = replace(&mut left.replies, Vec::new(alloc));
     left.finish();
     Ok(replies)
 }
-
-#[cfg(test)]
-mod tests;

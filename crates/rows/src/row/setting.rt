@@ -1,6 +1,6 @@
 //! The setting that the worked rows share.
 
-ghost use Rattle.std.specs.Prelude.{◌≡◌};
+ghost use Rattle.std.specs.Prelude.{◌≡◌, ◌+◌};
 ghost use Rattle.std.specs.Int.NonZero.{non_zero_usize_get};
 
 use p2p_directory::directory::{Config, TrackedPeers};
@@ -44,20 +44,6 @@ fn signed(key: TestKey, namespace: &[u8], ingress: Ingress, timestamp: u64) -> I
     })
 }
 
-/// One retained set, a cooldown of 10 seconds and blocks of 60, everything allowed.
-pub fn config() -> Config
-    ensures { non_zero_usize_get result.max_sets ≡ 1 }
-{
-    Config {
-        allow_private_ips: true,
-        allow_dns: true,
-        max_sets: NonZeroUsize::MIN,
-        dial_fail_limit: 1,
-        peer_connection_cooldown: Duration::from_secs(10),
-        block_duration: Duration::from_secs(60),
-    }
-}
-
 /// A moment or a draw: seconds, and nanoseconds below a second, since the epoch or as a length.
 #[derive(Clone, Copy)]
 pub struct At(pub u64, pub u32);
@@ -70,6 +56,40 @@ impl At {
     pub fn moment(self) -> Duration {
         let At(seconds, nanoseconds) = self;
         Duration::from_secs(seconds).saturating_add(Duration::from_nanos(u64::from(nanoseconds)))
+    }
+}
+
+/// What of its configuration a row sets: how many sets more than one are retained, how many dials
+/// may fail, and how long cooldowns and blocks are. Everything is allowed.
+#[derive(Clone, Copy)]
+pub struct Setting {
+    pub more_sets: u8,
+    pub dial_fail_limit: usize,
+    pub cooldown: At,
+    pub block: At,
+}
+
+/// One retained set, a cooldown of 10 seconds and blocks of 60.
+pub const USUAL: Setting = Setting {
+    more_sets: 0,
+    dial_fail_limit: 1,
+    cooldown: At(10, 0),
+    block: At(60, 0),
+};
+
+impl Setting {
+    /// The configuration.
+    pub fn config(self) -> Config
+        ensures { non_zero_usize_get result.max_sets ≡ 1 + self.more_sets }
+    {
+        Config {
+            allow_private_ips: true,
+            allow_dns: true,
+            max_sets: NonZeroUsize::MIN.saturating_add(self.more_sets as usize),
+            dial_fail_limit: self.dial_fail_limit,
+            peer_connection_cooldown: self.cooldown.moment(),
+            block_duration: self.block.moment(),
+        }
     }
 }
 
@@ -126,8 +146,6 @@ pub enum Step {
     Bits(usize),
     /// `eligible` of a peer at a moment.
     Eligible(u64, At),
-    /// `acceptable` of a peer at a moment.
-    Acceptable(u64, At),
     /// `dialable` at a moment.
     Dialable(At),
     /// `tracked`.
@@ -137,35 +155,48 @@ pub enum Step {
 impl Step {
     /// The command that the step stands for.
     pub fn command(self, alloc: Global) -> Result<Command<TestKey>, AllocError> {
-        Ok(match self {
-            Step::Track(index, primary) => track(alloc, index, primary, &[])?,
-            Step::TrackRoles(index, primary, other) => track(alloc, index, primary, other)?,
+        match self {
+            Step::Track(index, primary) => track(alloc, index, primary, &[]),
+            Step::TrackRoles(index, primary, secondary) => track(alloc, index, primary, secondary),
+            Step::Update(told) => Ok(Command::UpdatePeers(signed_infos(alloc, told)?)),
+            Step::UpdateAt(told) => Ok(Command::UpdatePeers(signed_infos_at(alloc, told)?)),
+            Step::Infos(index, bits, at) => infos(alloc, index, bits, at),
+            other => Ok(other.of_one_peer()),
+        }
+    }
+
+    // The command, which names one peer; another has no list.
+    fn of_one_peer(self) -> Command<TestKey> {
+        match self {
             Step::Dial(peer, at) => dial(peer, at, NO_DRAW),
             Step::DialDrawn(peer, at, draw) => dial(peer, at, draw),
             Step::Listen(peer, at) => listen(peer, at, NO_DRAW),
             Step::ListenDrawn(peer, at, draw) => listen(peer, at, draw),
             Step::Connect(peer, dialer) => connect(peer, dialer),
             Step::Release(peer) => Command::Release(TestKey(peer)),
-            Step::Update(infos) => Command::UpdatePeers(signed_infos(alloc, infos)?),
-            Step::UpdateAt(infos) => Command::UpdatePeers(signed_infos_at(alloc, infos)?),
             Step::Block(peer, at) => block(peer, at),
+            Step::Status(peer) => Command::Status(TestKey(peer)),
+            Step::Info(peer) => Command::Info(TestKey(peer)),
+            Step::Eligible(peer, at) => eligible(peer, at),
+            other => other.of_nobody(),
+        }
+    }
+
+    // The command, which names no peer.
+    fn of_nobody(self) -> Command<TestKey> {
+        match self {
             Step::UnblockExpired(at) => Command::UnblockExpired(at.moment()),
             Step::ForgetCooled(at) => Command::ForgetCooled(at.moment()),
             Step::NextUnblock => Command::NextUnblock,
             Step::BlockedPeers(at) => Command::BlockedPeers(at.moment()),
-            Step::Status(peer) => Command::Status(TestKey(peer)),
             Step::PeerSet(index) => Command::GetPeerSet(index),
             Step::LatestSetIndex => Command::LatestSetIndex,
             Step::LatestUpdate => Command::LatestUpdate,
             Step::All => Command::All,
-            Step::Info(peer) => Command::Info(TestKey(peer)),
-            Step::Infos(index, bits, at) => infos(alloc, index, bits, at)?,
             Step::Bits(place) => Command::GetRandomBitVec(place),
-            Step::Eligible(peer, at) => eligible(peer, at),
-            Step::Acceptable(peer, at) => acceptable(peer, at),
             Step::Dialable(at) => Command::Dialable(at.moment()),
-            Step::Tracked => Command::Tracked,
-        })
+            _ => Command::Tracked,
+        }
     }
 }
 
@@ -175,9 +206,11 @@ fn track(
     primary: &[u64],
     secondary: &[u64],
 ) -> Result<Command<TestKey>, AllocError> {
+    let primary = peers(alloc, primary)?;
+    let secondary = peers(alloc, secondary)?;
     Ok(Command::Track {
         index,
-        peers: TrackedPeers::new(peers(alloc, primary)?, peers(alloc, secondary)?),
+        peers: TrackedPeers::new(primary, secondary),
     })
 }
 
@@ -223,13 +256,6 @@ fn infos(alloc: Global, index: u64, bits: &[bool], at: At) -> Result<Command<Tes
 
 fn eligible(peer: u64, at: At) -> Command<TestKey> {
     Command::Eligible {
-        peer: TestKey(peer),
-        now: at.moment(),
-    }
-}
-
-fn acceptable(peer: u64, at: At) -> Command<TestKey> {
-    Command::Acceptable {
         peer: TestKey(peer),
         now: at.moment(),
     }

@@ -1,15 +1,13 @@
 //! Rows about what a directory tells other nodes.
 
-use crate::row::Stop;
-use crate::row::directory::print_replies;
-use crate::row::setting::{At, Step, config};
-use std::alloc::Global;
-use std::io::Write;
+use crate::row::directory::Row;
+use crate::row::setting::{At, Step, USUAL};
 
 /// To one who knows some bits the other infos are told that may be: the own one and those of
 /// connected peers, not above the present millisecond.
-pub fn infos_for_bits<W: Write>(alloc: Global, out: &mut W) -> Result<(), Stop> {
-    let prepared = [
+pub static INFOS_FOR_BITS: Row = Row {
+    setting: USUAL,
+    prepared: &[
         Step::Track(5, &[1, 2, 3, 9]),
         Step::Listen(1, At(50, 0)),
         Step::Connect(1, false),
@@ -17,13 +15,12 @@ pub fn infos_for_bits<W: Write>(alloc: Global, out: &mut W) -> Result<(), Stop> 
         Step::Connect(2, false),
         Step::Listen(3, At(50, 0)),
         Step::Update(&[(1, 100_000), (2, 100_001), (3, 50_000)]),
-    ];
-    let steps = [
+    ],
+    steps: &[
         Step::Infos(4, &[false, false, false, false], At(100, 0)),
         Step::Infos(5, &[false, false, false], At(100, 0)),
         Step::Infos(5, &[false, false, false, false], At(100, 0)),
         Step::Infos(5, &[true, false, false, true], At(100, 999_999)),
         Step::Infos(5, &[true, false, false, true], At(100, 1_000_000)),
-    ];
-    print_replies(alloc, config(), &prepared, &steps, out)
-}
+    ],
+};
