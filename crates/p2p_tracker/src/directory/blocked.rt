@@ -97,7 +97,10 @@ impl<C: PublicKey> Directory<C> {
     pub fn next_unblock(&self) -> Option<Duration>
         ensures { IsLeastOf (unblock_of C.cmp self.now) (option_map as_nanos result) }
     {
-        self.blocks.least()
+        match self.blocks.least() {
+            Some((moment, _)) => Some(moment),
+            None => None,
+        }
     }
 
     /// The peers that are blocked at the moment `now`, a time since the epoch: those whose block

@@ -1,24 +1,23 @@
 //! Until when the blocks of peers hold.
 
-ghost use Rattle.std.specs.Prelude.{◌≡◌, ◌≤◌, ◌<◌, [], ◌∷◌, not, false, if◌then◌else◌};
-ghost use Rattle.std.specs.Prelude.{nat_lt, nat_le, nat_eq};
-ghost use Rattle.std.specs.Prelude.{IfNone, IfOk, IfSome, OnErr, OnOk, Some};
+ghost use Rattle.std.specs.Prelude.{ℕ, ◌≡◌, ◌≤◌, ◌<◌, [], length, not, true, false, if◌then◌else◌};
+ghost use Rattle.std.specs.Prelude.{nat_le, IfNone, IfSome, IsSome, OnErr, OnOk, Some};
 ghost use Rattle.std.specs.Duration.{as_nanos};
-ghost use Rattle.std.specs.List.{filter, count_by, AllByRecursion};
-ghost use Rattle.std.specs.List.Sorted.{IsPermutation, IsStrictlySortedBy};
+ghost use Rattle.std.specs.List.{filter, count_by};
+ghost use Rattle.std.specs.List.Sorted.{IsStrictlySortedBy};
 ghost use Rattle.std.specs.Map.{keys_of};
 ghost use Rattle.std.specs.BTreeMap.{is_at};
-ghost use Rattle.std.specs.BinaryHeap.{heap_capacity, heap_items, heap_len, IsHeap, KeepsHeap};
+ghost use Rattle.std.specs.BTreeSet.{contains};
 ghost use Rattle.std.specs.Option.{option_map, option_map_or};
+ghost use Rattle.std.specs.Ordering.{is_gt};
 ghost use Rattle.p2p_tracker.specs.Blocks.{in_nanos, is_later, unblock_in};
-ghost use Rattle.p2p_tracker.specs.Lists.{IsLeastOf};
-ghost use Rattle.p2p_tracker.specs.Private.Ends.{end_at, end_cmp, AreEnds, AreKept, IsPutOff};
+ghost use Rattle.p2p_tracker.specs.Private.Ends.{end_cmp, end_in_nanos, IsFirstOf, AreEnds, AreKept};
 
 use crate::kept::forget;
 use p2p_discovery::codec::PublicKey;
 use std::alloc::{AllocError, Global};
-use std::cmp::Reverse;
-use std::collections::{BTreeMap, BinaryHeap, btree_map};
+use std::cmp::Ordering;
+use std::collections::{BTreeMap, BTreeSet, btree_map};
 use std::marker::Model;
 use std::time::Duration;
 
@@ -27,28 +26,23 @@ use std::time::Duration;
 #[derive(Drop)]
 pub struct Blocks<C: PublicKey> {
     moments: BTreeMap<C, Duration>,
-    // For each peer an end that is no later than its moment, the earliest on top. Where it's
-    // earlier, it's put off once it comes there.
-    ends: BinaryHeap<Reverse<(u128, C)>>,
-    // The least moment.
-    least: Option<Duration>,
+    // Exactly the same pairs in order of their moments, in nanoseconds, and of keys where these are equal.
+    ends: BTreeSet<(u128, C)>,
+    // The first of them.
+    first: Option<(Duration, C)>,
 }
 
 impl<C: PublicKey> Model for Blocks<C> {
     ghost use Rattle.std.specs.Prelude.{ℕ, List};
-    ghost use Rattle.std.specs.BinaryHeap.{heap_items};
-    ghost use Rattle.std.specs.Duration.{as_nanos};
-    ghost use Rattle.std.specs.Option.{option_map};
     ghost use Rattle.p2p_tracker.specs.Blocks.{in_nanos};
-    ghost use Rattle.p2p_tracker.specs.Private.Ends.{AreKept};
+    ghost use Rattle.p2p_tracker.specs.Private.Ends.{AreKept, end_in_nanos};
 
     ghost Value = { List (C × ℕ) };
 
     ghost view = { λ b. in_nanos b.moments.entries };
 
     ghost invariant = { λ b.
-        AreKept C.cmp (heap_items b.ends) (in_nanos b.moments.entries)
-        (option_map as_nanos b.least) };
+        AreKept C.cmp b.ends.keys (in_nanos b.moments.entries) (end_in_nanos b.first) };
 }
 
 impl<C: PublicKey> Blocks<C> {
@@ -58,8 +52,8 @@ impl<C: PublicKey> Blocks<C> {
     {
         Blocks {
             moments: BTreeMap::new(alloc),
-            ends: BinaryHeap::new(alloc),
-            least: None,
+            ends: BTreeSet::new(alloc),
+            first: None,
         }
     }
 
@@ -71,12 +65,9 @@ impl<C: PublicKey> Blocks<C> {
     ///
     /// # Cost
     ///
-    /// One search among the blocks, and, where the peer had no moment or a later one, one push to a
-    /// heap of moments: constant where none of them is later, and else logarithmic in them. Where
-    /// the peer had the least moment, and gets a later one, one search among the blocks for the
-    /// least anew. Each moment that then comes to the heap's top, and is no longer that of its
-    /// peer, takes a search, a pop and a push more: at most one for each time that a peer was given
-    /// another.
+    /// One search among the blocks and one among their moments, one more there where the peer had
+    /// another moment or memory is refused, and one more of each where its block was the first to
+    /// end, or is now.
     pub fn put(&mut self, key: C, moment: Duration) -> Result<(), AllocError>
         ensures err { OnErr result (self.new ≡ self.old) }
         ensures ok { OnOk result ((q : C) → unblock_in C.cmp self.new q ≡
@@ -86,7 +77,7 @@ impl<C: PublicKey> Blocks<C> {
         put_block(
             &mut self.moments,
             &mut self.ends,
-            &mut self.least,
+            &mut self.first,
             key,
             moment,
         )
@@ -103,15 +94,16 @@ impl<C: PublicKey> Blocks<C> {
         self.moments.get(key).copied()
     }
 
-    /// The least moment, or `None` where there is no block. Takes no memory.
+    /// The least moment, with the least key of those that have it, or `None` where there is no block.
+    /// Takes no memory.
     ///
     /// # Cost
     ///
     /// Constant.
-    pub fn least(&self) -> Option<Duration>
-        ensures { IsLeastOf (unblock_in C.cmp self.now) (option_map as_nanos result) }
+    pub fn least(&self) -> Option<(Duration, C)>
+        ensures { IsFirstOf C.cmp (unblock_in C.cmp self.now) (end_in_nanos result) }
     {
-        self.least
+        self.first
     }
 
     /// Takes out each peer whose moment is at or before `now`, a time since the epoch, and answers
@@ -119,18 +111,15 @@ impl<C: PublicKey> Blocks<C> {
     ///
     /// # Cost
     ///
-    /// Constant where there is none. Else for each such peer one pop from a heap of moments, one
-    /// search and one removal among the blocks, and at the end one search for the least that is
-    /// left. Each moment that comes to the heap's top, and is no longer that of its peer, takes a
-    /// search, a pop and a push more: at most one for each time that [`Blocks::put`] gave a peer
-    /// another.
+    /// Constant where there is none. Else for each such peer one removal of the first of the moments
+    /// and one among the blocks, and one search among these for the least that is left.
     pub fn drop_until(&mut self, now: Duration) -> usize
         ensures sorted { IsStrictlySortedBy C.cmp (keys_of self.old) }
         ensures left { self.new ≡ filter (is_later (as_nanos now)) self.old }
         ensures count { result ≡ count_by (λ e. not (is_later (as_nanos now) e)) self.old }
     {
         let _moments = self.moments.len();
-        drop_ended(&mut self.moments, &mut self.ends, &mut self.least, now)
+        drop_ended(&mut self.moments, &mut self.ends, &mut self.first, now)
     }
 
     /// The peers in ascending order of their keys, each with its moment. Takes no memory.
@@ -142,165 +131,107 @@ impl<C: PublicKey> Blocks<C> {
     }
 }
 
-// Gives the key this moment, and sets the least one anew where it is another then.
+// Gives the key this moment, and looks for the first end anew where it may be another then.
 fn put_block<C: PublicKey>(
     moments: &mut BTreeMap<C, Duration>,
-    ends: &mut BinaryHeap<Reverse<(u128, C)>>,
-    least: &mut Option<Duration>,
+    ends: &mut BTreeSet<(u128, C)>,
+    first: &mut Option<(Duration, C)>,
     key: C,
     moment: Duration,
 ) -> Result<(), AllocError>
-    requires { AreKept C.cmp (heap_items ends.old) (in_nanos moments.old.entries)
-        (option_map as_nanos least.old) }
-    ensures kept { AreKept C.cmp (heap_items ends.new) (in_nanos moments.new.entries)
-        (option_map as_nanos least.new) }
+    requires { AreKept C.cmp ends.old.keys (in_nanos moments.old.entries) (end_in_nanos first.old) }
+    ensures kept { AreKept C.cmp ends.new.keys (in_nanos moments.new.entries)
+        (end_in_nanos first.new) }
     ensures err { OnErr result (moments.new.entries ≡ moments.old.entries) }
     ensures ok { OnOk result ((q : C) → unblock_in C.cmp (in_nanos moments.new.entries) q ≡
         (if is_at (C.cmp key) q then Some (as_nanos moment)
         else unblock_in C.cmp (in_nanos moments.old.entries) q)) }
 {
-    let before = put_end(moments, ends, key, moment)?;
-    if !is_before(*least, moment) {
-        *least = Some(moment);
-        return Ok(());
+    put_end(moments, ends, key, moment)?;
+    if !stays_first(first, &key, moment) {
+        *first = first_to_end(moments, ends);
     }
-    if !are_equal(before, *least) {
-        return Ok(());
-    }
-    *least = first_to_end(moments, ends);
     Ok(())
 }
 
-// Whether there is a least moment, and it is before another.
-fn is_before(least: Option<Duration>, moment: Duration) -> bool
-    ensures { result ≡
-        option_map_or (λ m. nat_lt m (as_nanos moment)) (option_map as_nanos least) false }
+// Whether the first of the ends is another key's, and not behind that of the key at this moment.
+fn stays_first<C: PublicKey>(first: &Option<(Duration, C)>, key: &C, moment: Duration) -> bool
+    ensures behind { result ≡ true → IfSome (end_in_nanos first.now)
+        (λ e. (is_at (C.cmp key.now) e.1 ≡ false)
+        × (is_gt (end_cmp C.cmp e (as_nanos moment, key.now)) ≡ false)) }
+    ensures some { result ≡ true → IsSome (end_in_nanos first.now) }
 {
-    match least {
-        Some(first) => first.as_nanos() < moment.as_nanos(),
+    match first {
+        Some((end, peer)) => match key.cmp(peer) {
+            Ordering::Less => end.as_nanos() < moment.as_nanos(),
+            Ordering::Equal => false,
+            Ordering::Greater => end.as_nanos() <= moment.as_nanos(),
+        },
         None => false,
     }
 }
 
-// Whether there are two moments, and they are equal.
-fn are_equal(a: Option<Duration>, b: Option<Duration>) -> bool
-    ensures { result ≡ option_map_or (λ m. option_map_or (nat_eq m) (option_map as_nanos b) false)
-        (option_map as_nanos a) false }
-{
-    match (a, b) {
-        (Some(a), Some(b)) => a.as_nanos() == b.as_nanos(),
-        _ => false,
-    }
-}
-
-// Gives the key this moment, and answers the one that it had. One that it had until then or earlier
-// has an end, which stays for both.
+// Gives the key this moment in both. Where memory is refused both have the same pairs as before.
 fn put_end<C: PublicKey>(
     moments: &mut BTreeMap<C, Duration>,
-    ends: &mut BinaryHeap<Reverse<(u128, C)>>,
+    ends: &mut BTreeSet<(u128, C)>,
     key: C,
     moment: Duration,
-) -> Result<Option<Duration>, AllocError>
-    requires { AreEnds C.cmp (heap_items ends.old) (in_nanos moments.old.entries) }
-    ensures before { IfOk result (λ before. option_map as_nanos before ≡
-        unblock_in C.cmp (in_nanos moments.old.entries) key) }
-    ensures ends { AreEnds C.cmp (heap_items ends.new) (in_nanos moments.new.entries) }
+) -> Result<(), AllocError>
+    requires { AreEnds C.cmp ends.old.keys (in_nanos moments.old.entries) }
+    ensures ends { AreEnds C.cmp ends.new.keys (in_nanos moments.new.entries) }
     ensures err { OnErr result (moments.new.entries ≡ moments.old.entries) }
     ensures ok { OnOk result ((q : C) → unblock_in C.cmp (in_nanos moments.new.entries) q ≡
         (if is_at (C.cmp key) q then Some (as_nanos moment)
         else unblock_in C.cmp (in_nanos moments.old.entries) q)) }
 {
-    ends.reserve(1)?;
+    if let Err(refused) = ends.insert((moment.as_nanos(), key)) {
+        forget(refused);
+        return Err(AllocError);
+    }
     match moments.insert(key, moment) {
-        Ok(before) => {
-            if !is_until(before, moment) {
-                push_end(ends, key, moment);
+        Ok(Some(before)) => {
+            if before.as_nanos() != moment.as_nanos() {
+                ends.remove(&(before.as_nanos(), key));
             }
-            Ok(before)
+            Ok(())
         }
+        Ok(None) => Ok(()),
         Err(refused) => {
+            ends.remove(&(moment.as_nanos(), key));
             forget(refused);
             Err(AllocError)
         }
     }
 }
 
-// Adds an end, for which there is room.
-fn push_end<C: PublicKey>(ends: &mut BinaryHeap<Reverse<(u128, C)>>, key: C, moment: Duration)
-    requires { heap_len ends.old < heap_capacity ends.old }
-    ensures added { IsPermutation (end_at (as_nanos moment) key ∷ heap_items ends.old)
-        (heap_items ends.new) }
-    ensures order { KeepsHeap (end_cmp C.cmp) (heap_items ends.old) (heap_items ends.new) }
-{
-    match ends.push(Reverse((moment.as_nanos(), key))) {
-        Ok(()) => {}
-        Err(_) => unreachable!(),
-    }
-}
-
-// The least moment. An end that is earlier than its key's moment is put off until then on the way,
-// and one whose key has none goes.
+// The first of the ends, with its moment as it was given.
 fn first_to_end<C: PublicKey>(
     moments: &BTreeMap<C, Duration>,
-    ends: &mut BinaryHeap<Reverse<(u128, C)>>,
-) -> Option<Duration>
-    requires { AreEnds C.cmp (heap_items ends.old) (in_nanos moments.now.entries) }
-    ensures ends { AreEnds C.cmp (heap_items ends.new) (in_nanos moments.now.entries) }
-    ensures least { IsLeastOf (unblock_in C.cmp (in_nanos moments.now.entries))
-        (option_map as_nanos result) }
+    ends: &BTreeSet<(u128, C)>,
+) -> Option<(Duration, C)>
+    requires { AreEnds C.cmp ends.now.keys (in_nanos moments.now.entries) }
+    ensures { IsFirstOf C.cmp (unblock_in C.cmp (in_nanos moments.now.entries))
+        (end_in_nanos result) }
 {
-    while let Some(Reverse((end, key))) = ends.peek() {
-        let moment = moments.get(key).copied();
-        if is_end(moment, *end) {
-            return moment;
-        }
-        put_off(ends, moment);
-    }
-    None
-}
-
-// Whether there is a moment, and it is this end's.
-fn is_end(moment: Option<Duration>, end: u128) -> bool
-    ensures { result ≡ option_map_or (nat_eq end) (option_map as_nanos moment) false }
-{
-    match moment {
-        Some(moment) => end == moment.as_nanos(),
-        None => false,
-    }
-}
-
-// Puts the first of the ends off until this moment, or takes it out where there is none.
-fn put_off<C: PublicKey>(ends: &mut BinaryHeap<Reverse<(u128, C)>>, moment: Option<Duration>)
-    requires { 0 < heap_len ends.old }
-    ensures off { IsPutOff (heap_items ends.old) (option_map as_nanos moment)
-        (heap_items ends.new) }
-    ensures order { KeepsHeap (end_cmp C.cmp) (heap_items ends.old) (heap_items ends.new) }
-{
-    let Some(first) = ends.pop() else {
-        unreachable!()
-    };
-    let Reverse((_, key)) = first;
-    if let Some(moment) = moment {
-        push_end(ends, key, moment);
-    }
+    let (_, key) = ends.first()?;
+    let moment = moments.get(key)?;
+    Some((*moment, *key))
 }
 
 // Takes the first of the ends, where it is at or before `now`.
-fn take_ended<C: PublicKey>(
-    ends: &mut BinaryHeap<Reverse<(u128, C)>>,
-    now: Duration,
-) -> Option<Reverse<(u128, C)>>
-    requires { IsHeap (end_cmp C.cmp) (heap_items ends.old) }
-    ensures order { IsHeap (end_cmp C.cmp) (heap_items ends.new) }
-    ensures some { IfSome result (λ end. (end.0.0 ≤ as_nanos now)
-        × IsPermutation (heap_items ends.old) (end ∷ heap_items ends.new)
-        × (heap_len ends.new < heap_capacity ends.new)) }
-    ensures none { IfNone result
-        (AllByRecursion (λ end. as_nanos now < end.0.0) (heap_items ends.old)) }
-    ensures stay { IfNone result (heap_items ends.new ≡ heap_items ends.old) }
+fn take_ended<C: PublicKey>(ends: &mut BTreeSet<(u128, C)>, now: Duration) -> Option<(u128, C)>
+    ensures some { IfSome result (λ end. (end.0 ≤ as_nanos now)
+        × (contains (end_cmp C.cmp) ends.old end ≡ true)
+        × ((e : ℕ × C) → contains (end_cmp C.cmp) ends.new e ≡
+        (if is_at (end_cmp C.cmp end) e then false else contains (end_cmp C.cmp) ends.old e))
+        × (length ends.new.keys < length ends.old.keys)) }
+    ensures none { IfNone result ((e : ℕ × C)
+        → contains (end_cmp C.cmp) ends.old e ≡ true → as_nanos now < e.0) }
+    ensures stay { IfNone result (ends.new.keys ≡ ends.old.keys) }
 {
-    match ends.peek() {
-        Some(Reverse((end, _))) if *end <= now.as_nanos() => ends.pop(),
+    match ends.first() {
+        Some((end, _)) if *end <= now.as_nanos() => ends.pop_first(),
         _ => None,
     }
 }
@@ -308,14 +239,13 @@ fn take_ended<C: PublicKey>(
 // Takes out each block whose moment is at or before `now`, and answers how many there were.
 fn drop_ended<C: PublicKey>(
     moments: &mut BTreeMap<C, Duration>,
-    ends: &mut BinaryHeap<Reverse<(u128, C)>>,
-    least: &mut Option<Duration>,
+    ends: &mut BTreeSet<(u128, C)>,
+    first: &mut Option<(Duration, C)>,
     now: Duration,
 ) -> usize
-    requires { AreKept C.cmp (heap_items ends.old) (in_nanos moments.old.entries)
-        (option_map as_nanos least.old) }
-    ensures kept { AreKept C.cmp (heap_items ends.new) (in_nanos moments.new.entries)
-        (option_map as_nanos least.new) }
+    requires { AreKept C.cmp ends.old.keys (in_nanos moments.old.entries) (end_in_nanos first.old) }
+    ensures kept { AreKept C.cmp ends.new.keys (in_nanos moments.new.entries)
+        (end_in_nanos first.new) }
     ensures left { in_nanos moments.new.entries ≡
         filter (is_later (as_nanos now)) (in_nanos moments.old.entries) }
     ensures count { result ≡
@@ -323,34 +253,33 @@ fn drop_ended<C: PublicKey>(
 {
     // For the proof: the clauses of `len` say that the keys are in order.
     let _most = moments.len();
-    if !is_until(*least, now) {
+    if !has_ended(first, now) {
         return 0;
     }
     let count = take_each(moments, ends, now);
-    *least = first_to_end(moments, ends);
+    *first = first_to_end(moments, ends);
     count
 }
 
-// Whether there is a moment, and it is at or before another.
-fn is_until(moment: Option<Duration>, last: Duration) -> bool
+// Whether there is a first end, and it is at or before `now`.
+fn has_ended<C: PublicKey>(first: &Option<(Duration, C)>, now: Duration) -> bool
     ensures { result ≡
-        option_map_or (λ m. nat_le m (as_nanos last)) (option_map as_nanos moment) false }
+        option_map_or (λ e. nat_le e.0 (as_nanos now)) (end_in_nanos first.now) false }
 {
-    match moment {
-        Some(moment) => moment.as_nanos() <= last.as_nanos(),
+    match first {
+        Some((end, _)) => end.as_nanos() <= now.as_nanos(),
         None => false,
     }
 }
 
-// Takes out each block whose moment is at or before `now`, and answers how many there were. An end
-// whose key has a later moment is put off until then.
+// Takes out each pair whose moment is at or before `now`, and answers how many there were.
 fn take_each<C: PublicKey>(
     moments: &mut BTreeMap<C, Duration>,
-    ends: &mut BinaryHeap<Reverse<(u128, C)>>,
+    ends: &mut BTreeSet<(u128, C)>,
     now: Duration,
 ) -> usize
-    requires { AreEnds C.cmp (heap_items ends.old) (in_nanos moments.old.entries) }
-    ensures ends { AreEnds C.cmp (heap_items ends.new) (in_nanos moments.new.entries) }
+    requires { AreEnds C.cmp ends.old.keys (in_nanos moments.old.entries) }
+    ensures ends { AreEnds C.cmp ends.new.keys (in_nanos moments.new.entries) }
     ensures left { in_nanos moments.new.entries ≡
         filter (is_later (as_nanos now)) (in_nanos moments.old.entries) }
     ensures count { result ≡
@@ -359,15 +288,8 @@ fn take_each<C: PublicKey>(
     let mut count = 0;
     let _most = moments.len();
     while let Some(end) = take_ended(ends, now) {
-        let Reverse((_, key)) = end;
-        if let Some(moment) = moments.get(&key).copied() {
-            if now.as_nanos() < moment.as_nanos() {
-                push_end(ends, key, moment);
-            } else {
-                moments.remove(&key);
-                count += 1;
-            }
-        }
+        moments.remove(&end.1);
+        count += 1;
     }
     count
 }

@@ -1,58 +1,38 @@
-use Rattle.std.proofs.Common.{◌<◌, false, ap, sym, subst, refl, ◌∙◌, nat_eq, arith}
-use Rattle.std.specs.BinaryHeap.{heap_items}
-use Rattle.std.specs.Prelude.{IsSome, ◌↔◌}
+use Rattle.std.proofs.Common.{◌≡◌, ap, sym, ◌∙◌}
+use Rattle.std.specs.BTreeMap.{is_at}
 use Rattle.std.specs.Duration.{as_nanos}
-use Rattle.std.specs.Option.{option_map, option_map_or}
+use Rattle.std.specs.Option.{option_map, option_copied}
 use Rattle.p2p_tracker.specs.Blocks.{in_nanos, unblock_in}
-use Rattle.p2p_tracker.specs.Lists.{IsLeastOf}
-use Rattle.p2p_tracker.specs.Private.Ends.{IsPutOff}
-use Rattle.p2p_tracker.proofs.SetsAndRecords.Ends.{at_end, ends_put_off, fewer_off, first_is_least, had_moment, no_ends, none_first}
+use Rattle.p2p_tracker.proofs.SetsAndRecords.Blocks.{lookup-in_nanos}
+use Rattle.p2p_tracker.proofs.SetsAndRecords.Ends.{end_is, no_ends, none_first, first_is_first}
 use Rattle.p2p_tracker.proofs.kept.blocks.first_to_end.Goals as goal
 
-pub loop-end-init : goal.loop-end-init
-loop-end-init g c = c.requires
+pub returns-in_err-key : goal.returns-in_err-key
+returns-in_err-key g c =
+    let es = c.args.moments.now.entries in
+    let none = none_first c.first.result c.args.ends.now.keys c.in_err-key.was c.first.ensures.variant in
+    let bs = no_ends g.met.C.Ord.total c.args.ends.now.keys (in_nanos es) c.requires none in
+    rw c.from_residual.ensures (λ q. ap (λ ds. unblock_in g.C.Ord.cmp ds q) bs)
 
-pub returns-then-is_end-clause-ends : goal.returns-then-is_end-clause-ends
-returns-then-is_end-clause-ends g c = c.loop-end.invariant
+pub returns-in_err-moment : goal.returns-in_err-moment
+returns-in_err-moment g c =
+    let es = c.args.moments.now.entries in
+    let e = c.in_ok-key.field-0.now in
+    let found = end_is g.met.C.PublicKey.exact c.args.ends.now.keys (in_nanos es) e c.requires
+    c.in_ok-key.ensures.member in
+    let seen = lookup-in_nanos (is_at (g.C.Ord.cmp e.1)) es
+    ∙ ap (option_map as_nanos) (sym c.get.ensures.value ∙ ap option_copied c.in_err-moment.was) in
+    absurd (let both = sym found ∙ seen in cc)
 
-pub returns-then-is_end-clause-least : goal.returns-then-is_end-clause-least
-returns-then-is_end-clause-least g c =
+pub returns : goal.returns
+returns g c =
     let cmp = g.C.Ord.cmp in
     let es = c.args.moments.now.entries in
-    let x = c.in-Some.field-0.now in
-    let had = had_moment cmp es x.0.1 c.copied-moment.result (c.copied-moment.ensures ∙ c.get.ensures.value) in
-    let at = at_end x.0.0 (option_map as_nanos c.copied-moment.result) (sym c.is_end.ensures ∙ c.if-is_end.true) in
-    subst (IsLeastOf (unblock_in cmp (in_nanos es))) (sym at)
-    (first_is_least cmp x (heap_items c.loop-end.ends) (in_nanos es) c.loop-end.invariant
-    (c.in-Some.ensures.greatest c.loop-end.invariant.order) (sym had ∙ at))
-
-pub loop-end-smaller : goal.loop-end-smaller
-loop-end-smaller g c =
-    let cmp = g.C.Ord.cmp in
-    let es = c.args.moments.now.entries in
-    let x = c.in-Some.field-0.now in
-    let had = had_moment cmp es x.0.1 c.copied-moment.result (c.copied-moment.ensures ∙ c.get.ensures.value) in
-    fewer_off (unblock_in cmp (in_nanos es)) (heap_items c.loop-end.ends) (heap_items c.put_off.new.ends) x
-    (omega (arith, c.in-Some.ensures.variant.0 refl, c.loop-end.ends.data.ok.0)) c.in-Some.ensures.lookup
-    (subst (λ o. IsPutOff (heap_items c.loop-end.ends) o (heap_items c.put_off.new.ends)) had c.put_off.ensures.off)
-    (ap (λ o. option_map_or (nat_eq x.0.0) o false) (sym had) ∙ sym c.is_end.ensures ∙ c.if-is_end.false)
-
-pub loop-end-preserved : goal.loop-end-preserved
-loop-end-preserved g c =
-    let cmp = g.C.Ord.cmp in
-    let es = c.args.moments.now.entries in
-    let x = c.in-Some.field-0.now in
-    let had = had_moment cmp es x.0.1 c.copied-moment.result (c.copied-moment.ensures ∙ c.get.ensures.value) in
-    ends_put_off g.met.C.PublicKey.exact (heap_items c.loop-end.ends) (heap_items c.put_off.new.ends) (in_nanos es) x
-    c.loop-end.invariant (omega (arith, c.in-Some.ensures.variant.0 refl, c.loop-end.ends.data.ok.0)) c.in-Some.ensures.lookup
-    (subst (λ o. IsPutOff (heap_items c.loop-end.ends) o (heap_items c.put_off.new.ends)) had c.put_off.ensures.off)
-    c.put_off.ensures.order
-
-pub returns-clause-ends : goal.returns-clause-ends
-returns-clause-ends g c = c.loop-end.invariant
-
-pub returns-clause-least : goal.returns-clause-least
-returns-clause-least g c = no_ends g.C.Ord.cmp (heap_items c.loop-end.ends) (in_nanos c.args.moments.now.entries)
-    c.loop-end.invariant
-    (none_first c.peek.result (heap_items c.loop-end.ends) c.in_default.is
-    (subst (λ n. IsSome c.peek.result ↔ (0 < n)) c.loop-end.ends.data.ok.0 c.peek.ensures.variant))
+    let e = c.in_ok-key.field-0.now in
+    let found = end_is g.met.C.PublicKey.exact c.args.ends.now.keys (in_nanos es) e c.requires
+    c.in_ok-key.ensures.member in
+    let seen = lookup-in_nanos (is_at (cmp e.1)) es
+    ∙ ap (option_map as_nanos) (sym c.get.ensures.value ∙ ap option_copied c.in_ok-moment.was) in
+    let both : e.0 ≡ as_nanos c.in_ok-moment.moment.now = let f = sym found ∙ seen in cc in
+    rw both at (first_is_first g.met.C.PublicKey.exact c.args.ends.now.keys (in_nanos es) e c.requires
+    c.in_ok-key.ensures.member c.in_ok-key.ensures.least)

@@ -1,9 +1,8 @@
-use Rattle.std.proofs.Common.{◌<◌, arith, subst, sym}
-use Rattle.std.specs.BinaryHeap.{heap_items}
-use Rattle.std.specs.Prelude.{IsSome, ◌↔◌}
-use Rattle.std.specs.Duration.{as_nanos}
-use Rattle.std.specs.List.{AllByRecursion}
-use Rattle.p2p_tracker.proofs.SetsAndRecords.Ends.{each_later, none_first}
+use Rattle.std.proofs.Common.{ap, sym, ◌∙◌, arith}
+use Rattle.std.specs.List.{list_any}
+use Rattle.std.specs.BTreeMap.{is_at}
+use Rattle.p2p_tracker.specs.Private.Ends.{end_cmp}
+use Rattle.p2p_tracker.proofs.SetsAndRecords.Ends.{none_first, not_before}
 use Rattle.p2p_tracker.proofs.kept.blocks.take_ended.Goals as goal
 use Rattle.p2p_tracker.proofs.kept.blocks.take_ended.Goals.{in_default-via-in-Some+else-end-as_nanos, in_default-via-in_default}
 
@@ -11,10 +10,9 @@ pub returns-in_default-clause-none : goal.returns-in_default-clause-none
 returns-in_default-clause-none g c =
     elim c.in_default.branch [
       | in_default-via-in-Some+else-end-as_nanos w ↦
-          each_later g.C.Ord.cmp (as_nanos c.args.now) w.in-Some.field-0.now (heap_items c.args.ends.now)
-          (omega (arith, w.as_nanos.ensures, w.if-end-as_nanos.false)) (w.in-Some.ensures.greatest c.requires)
-      | in_default-via-in_default w ↦
-          subst (AllByRecursion (λ end. as_nanos c.args.now < end.0.0))
-          (sym (none_first c.peek.result (heap_items c.args.ends.now) w.in_default.is
-          (subst (λ n. IsSome c.peek.result ↔ (0 < n)) c.args.ends.now.data.ok.0 c.peek.ensures.variant))) tt
+          λ e has. (let low = not_before g.C.Ord.cmp w.in-Some.field-0.now e (w.in-Some.ensures.least e has) in
+          omega (arith, w.as_nanos.ensures, w.if-end-as_nanos.false, low))
+      | in_default-via-in_default w ↦ λ e has. absurd (let none =
+          none_first c.first.result c.args.ends.now.keys w.in_default.is c.first.ensures.variant in let f =
+          sym (ap (list_any (is_at (end_cmp g.C.Ord.cmp e))) none) ∙ has in cc)
     ]
