@@ -31,7 +31,7 @@ fn accept(
 ) -> Result<bool, AllocError> {
     match directory.listen(peer, now, draw)? {
         Some(reservation) => {
-            directory.connect(peer, false);
+            directory.connect(reservation.metadata().public_key(), false);
             // .. the connection, up to its end ..
             directory.release(reservation);
             Ok(true)
