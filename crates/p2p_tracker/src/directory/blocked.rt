@@ -44,11 +44,9 @@ impl<C: PublicKey> Directory<C> {
     /// # Cost
     ///
     /// Constant for the local node, and for another peer one search among the blocks. Where the
-    /// block is taken one more, and one push to a heap of moments where none was kept of the peer:
-    /// constant where no block holds longer, and else logarithmic in the blocks. Where an ended
-    /// block is replaced whose moment was the least, one more search for the least anew. Each
-    /// moment that then comes to the heap's top, and was replaced, takes a search, a pop and a push
-    /// more, once.
+    /// block is taken one more among the blocks, and one among their moments, or two where an ended
+    /// block is replaced; and where the block is then the first to end, or the one that it replaces
+    /// was, one more of each.
     pub fn block(&mut self, peer: &C, now: Duration) -> Result<bool, AllocError>
         ensures err { OnErr result (self.new ≡ self.old) }
         ensures untaken { may_block C.cmp self.old (as_nanos now) peer.now ≡ false →
@@ -74,10 +72,8 @@ impl<C: PublicKey> Directory<C> {
     ///
     /// # Cost
     ///
-    /// Constant where none ends. Else for each block that ends one pop from a heap of moments, one
-    /// search and one removal among the blocks, and at the end one search for the least that is
-    /// left. Each moment that comes to the heap's top, and was replaced by [`Directory::block`],
-    /// takes a search, a pop and a push more, once.
+    /// Constant where none ends. Else for each block that ends one removal of the first of their
+    /// moments and one among the blocks, and at the end one search for the least that is left.
     pub fn unblock_expired(&mut self, now: Duration) -> bool
         ensures answer { IsAnyUntil (unblock_of C.cmp self.old) (as_nanos now) result }
         ensures ended { EndsBlocks C.cmp self.old self.new (as_nanos now) }

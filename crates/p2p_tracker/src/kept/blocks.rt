@@ -112,7 +112,7 @@ impl<C: PublicKey> Blocks<C> {
     /// # Cost
     ///
     /// Constant where there is none. Else for each such peer one removal of the first of the moments
-    /// and one among the blocks, and one search among these for the least that is left.
+    /// and one among the blocks, and at the end one search for the least that is left.
     pub fn drop_until(&mut self, now: Duration) -> usize
         ensures sorted { IsStrictlySortedBy C.cmp (keys_of self.old) }
         ensures left { self.new ≡ filter (is_later (as_nanos now)) self.old }
