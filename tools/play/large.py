@@ -51,9 +51,9 @@ def records():
     return script
 
 
-def blocks():
+def blocks(count=120_000):
     script = Script()
-    many = range(10, 120_010)
+    many = range(10, 10 + count)
     for key in many:
         script.add(f'block {key} 100', 'true')
     script.add('blocked_peers 100', keys(many))
