@@ -5,6 +5,7 @@
 //! and are not refused.
 
 mod asked;
+mod bits;
 mod bounds;
 mod changes;
 mod frames;

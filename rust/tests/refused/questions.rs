@@ -2,7 +2,7 @@
 
 use crate::state::{State, seconds, set, text};
 use p2p_directory::testing::key;
-use p2p_directory::{BitVec, Directory, NotReserved, OutOfMemory, TrackedPeers};
+use p2p_directory::{BitVec, Directory, NotReserved, OutOfMemory};
 use std::fmt::Debug;
 
 // The peers with numbers below this are asked for.
@@ -106,7 +106,7 @@ pub struct Quiet {
     pub answer: fn() -> String,
 }
 
-/// Questions, and calls that change nothing or take no memory to do so.
+/// Questions, and calls that change nothing or take no memory to do so, in whatever state.
 pub const QUIET: &[Quiet] = &[
     Quiet {
         name: "status",
@@ -139,28 +139,8 @@ pub const QUIET: &[Quiet] = &[
         answer: || text(5),
     },
     Quiet {
-        name: "track an empty set that isn't above the latest",
-        call: |state| quiet(state.directory_mut().track(0, TrackedPeers::default())),
-        answer: || text(None::<()>),
-    },
-    Quiet {
-        name: "dial one that isn't in a set",
-        call: |state| quiet(state.dial(7, seconds(100))),
-        answer: || text(false),
-    },
-    Quiet {
-        name: "listen to one that is blocked",
-        call: |state| quiet(state.listen(6, seconds(100))),
-        answer: || text(false),
-    },
-    Quiet {
         name: "block the own key",
         call: |state| quiet(state.directory_mut().block(&key(9), seconds(100))),
-        answer: || text(false),
-    },
-    Quiet {
-        name: "block one that is blocked",
-        call: |state| quiet(state.directory_mut().block(&key(6), seconds(100))),
         answer: || text(false),
     },
     Quiet {
