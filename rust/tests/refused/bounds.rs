@@ -10,6 +10,12 @@ use std::time::Duration;
 
 const ROUNDS: u16 = 10_000;
 
+// How many reservations a node has room for at first, and which request of the next one is the first for its slot, and
+// for the moments of its grant.
+const FULL: u16 = 15;
+const SLOT: u64 = 1;
+const MOMENT: u64 = 3;
+
 // More than a node keeps of a few reservations or blocks.
 const FEW: usize = 1 << 16;
 
@@ -44,7 +50,7 @@ fn a_node_keeps_nothing_of_whom_it_released() {
     assert_eq!(held(), before);
 }
 
-// .. also where a stranger is turned away, and where memory is refused to a listener.
+// .. also where a stranger is turned away.
 #[test]
 fn a_node_keeps_nothing_of_whom_it_turned_away() {
     let mut state = many();
@@ -55,12 +61,29 @@ fn a_node_keeps_nothing_of_whom_it_turned_away() {
         assert_eq!(state.listen(number, now), Ok(false), "{number}");
         assert_eq!(state.dial(number, now), Ok(false), "{number}");
     }
-    for number in 10..10 + ROUNDS {
-        let listen = || state.listen(number, seconds(100));
-        let (answer, asked) = while_refused(Refused::From(1), listen);
-        assert_eq!(answer, Err(OutOfMemory), "{number}: {asked:?}");
-    }
     assert_eq!(held(), before);
+}
+
+fn refuses_listener(state: &mut State, number: u16, plan: Refused) {
+    let listen = || state.listen(number, seconds(100));
+    let (answer, asked) = while_refused(plan, listen);
+    assert_eq!(answer, Err(OutOfMemory), "{number}: {asked:?}");
+}
+
+// .. and where memory is refused to listeners: first to their slots, then to their moments, while the room for slots
+// that the first of these took is kept.
+#[test]
+fn a_node_keeps_nothing_of_whom_it_refused_for_memory() {
+    let mut state = (10..10 + FULL).fold(many(), State::listened);
+    for place in [SLOT, MOMENT] {
+        refuses_listener(&mut state, 10 + FULL, Refused::Only(place));
+        let before = held();
+        for number in 11 + FULL..10 + ROUNDS {
+            refuses_listener(&mut state, number, Refused::From(1));
+        }
+        assert_eq!(held(), before);
+    }
+    assert_eq!(state.listen(10 + FULL, seconds(100)), Ok(true));
 }
 
 // In each round one of three peers is blocked anew after its block, of a minute, has ended. Nobody ends blocks.
@@ -168,9 +191,10 @@ fn with_changes(frame: &[u8]) -> Vec<Vec<u8>> {
     changed
 }
 
-// So many bytes of memory for each byte of a frame, and so many beside them, are always enough.
+// So many bytes of memory for each byte of a frame are always enough, with those of what shares the copy of a frame, and
+// of the least room for bits and infos.
 const BYTES_FOR_EACH: usize = 8;
-const BYTES_BESIDE: usize = 0;
+const BYTES_BESIDE: usize = 48;
 
 #[test]
 fn a_short_frame_takes_little_memory() {
