@@ -58,3 +58,5 @@ pub use sets::{DuplicateKey, OrderedSet, TrackedPeers};
 
 #[cfg(test)]
 mod hostile;
+#[cfg(test)]
+mod session_tests;

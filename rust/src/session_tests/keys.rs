@@ -1,0 +1,28 @@
+//! The order of keys.
+
+use super::given::{asked, session};
+use crate::key::KEY_SIZE;
+
+// The keys of a set that was given these, in whatever order the session keeps them.
+fn kept(given: &[[u8; KEY_SIZE]]) -> Vec<u8> {
+    let session = session(1);
+    assert_eq!(session.track(0, &given.concat(), &[], &mut []), 0);
+    asked(|room| session.get_peer_set(0, room))[8..].to_vec()
+}
+
+// At each place: a key whose byte there is less than that of another comes before it, though all of its bytes behind
+// are greater.
+#[test]
+fn the_first_bytes_that_differ_decide() {
+    let mut less = [9; KEY_SIZE];
+    let mut greater = [7; KEY_SIZE];
+    for place in 0..KEY_SIZE {
+        less[place] = 7;
+        greater[place] = 8;
+        let sorted = [less, greater].concat();
+        assert_eq!(kept(&[less, greater]), sorted, "at {place}");
+        assert_eq!(kept(&[greater, less]), sorted, "at {place}");
+        assert_eq!(kept(&[less, less]), less, "at {place}");
+        greater[place] = 7;
+    }
+}

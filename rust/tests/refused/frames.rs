@@ -1,0 +1,278 @@
+//! Frames of each kind, and each refusal of them: with ample memory first what `check` asks for, then what `receive`
+//! does.
+
+use crate::Case;
+use crate::state::{State, empty, known, named_info, new, said, seconds, text};
+use p2p_directory::testing::{NAMESPACE, info, key, setup};
+use p2p_directory::{
+    CodecError, Data, Error, Info, OutOfMemory, Payload, Received, Signature, What,
+};
+
+fn greeting(state: &mut State, info: Info, now: u64) -> Result<String, OutOfMemory> {
+    said(state.receives(Payload::Greeting(info), now))
+}
+
+fn infos(state: &mut State, infos: &[Info], now: u64) -> Result<String, OutOfMemory> {
+    said(state.receives(Payload::Peers(infos.to_vec()), now))
+}
+
+fn frame(state: &mut State, frame: &[u8]) -> Result<String, OutOfMemory> {
+    said(state.receive(frame, seconds(100)))
+}
+
+// An info whose signature isn't right.
+fn forged(number: u16) -> Info {
+    let ingress = info(number, 0).ingress;
+    Info::sign(key(number), NAMESPACE, ingress, 2000, |_, _| {
+        Signature([7; 64])
+    })
+}
+
+// A node that judges one info at a time.
+fn one_at_a_time() -> State {
+    let mut setup = setup(9);
+    setup.peer_gossip_max_count = 1;
+    State::of(setup).tracks(0, &[1, 2], &[])
+}
+
+fn invalid(error: Error) -> String {
+    text(Received::Invalid(error))
+}
+
+fn fault(fault: CodecError) -> String {
+    text(Received::Codec(fault))
+}
+
+pub const FRAMES: &[Case] = &[
+    Case {
+        name: "a greeting from a name",
+        prepared: new,
+        call: |state| greeting(state, named_info(2, 1000, "a.b"), 100),
+        answer: || text(Received::Greeted),
+        requests: 8,
+        // A list of one info (144), and the name; before that the copy of the frame.
+        bytes: 160,
+    },
+    Case {
+        name: "a greeting from a socket",
+        prepared: new,
+        call: |state| greeting(state, info(1, 1000), 100),
+        answer: || text(Received::Greeted),
+        requests: 6,
+        // A list of one info (144), and the verdict; before that the copy of the frame.
+        bytes: 160,
+    },
+    Case {
+        name: "a greeting of the own key",
+        prepared: new,
+        call: |state| greeting(state, info(9, 1000), 100),
+        answer: || invalid(Error::ReceivedSelf),
+        requests: 5,
+        // The copy of the frame, with what shares it.
+        bytes: 144,
+    },
+    Case {
+        name: "a greeting from the future",
+        prepared: new,
+        call: |state| greeting(state, info(1, 130_001), 100),
+        answer: || invalid(Error::SynchronyBound),
+        requests: 5,
+        // The copy of the frame, with what shares it.
+        bytes: 144,
+    },
+    Case {
+        name: "a greeting whose signature isn't right",
+        prepared: new,
+        call: |state| greeting(state, forged(1), 100),
+        answer: || invalid(Error::InvalidSignature),
+        requests: 5,
+        // The copy of the frame, with what shares it.
+        bytes: 144,
+    },
+    Case {
+        name: "bits, which are replied to",
+        prepared: known,
+        call: |state| frame(state, &[2, 0, 4, 0b10]),
+        answer: || {
+            let reply = Payload::Peers(vec![info(1, 1000)]).encode();
+            text(Received::Reply(reply))
+        },
+        requests: 9,
+        // Room for four infos (576), the reply (108), what shares it, and the bits.
+        bytes: 736,
+    },
+    Case {
+        name: "bits of an unknown set",
+        prepared: known,
+        call: |state| frame(state, &[2, 7, 0]),
+        answer: || text(Received::Reply(vec![3, 0])),
+        requests: 6,
+        // The reply of no infos and what shares it.
+        bytes: 48,
+    },
+    Case {
+        name: "bits of another number",
+        prepared: known,
+        call: |state| frame(state, &[2, 0, 3, 0]),
+        answer: || text(Received::Malformed),
+        requests: 6,
+        // The copy of the frame with what shares it, and the bits.
+        bytes: 48,
+    },
+    Case {
+        name: "infos, which are applied",
+        prepared: known,
+        call: |state| infos(state, &[info(1, 2000), info(3, 2000)], 100),
+        answer: || text(Received::Applied(2)),
+        requests: 7,
+        // A list of two infos (288), the copy of the frame (214), what shares it, the verdicts.
+        bytes: 544,
+    },
+    Case {
+        name: "infos at names",
+        prepared: known,
+        call: |state| {
+            let named = [named_info(3, 2000, "c.d"), named_info(5, 2000, "e.f")];
+            infos(state, &named, 100)
+        },
+        answer: || text(Received::Applied(2)),
+        requests: 11,
+        // As before, and two names.
+        bytes: 544,
+    },
+    Case {
+        name: "no infos",
+        prepared: known,
+        call: |state| infos(state, &[], 100),
+        answer: || text(Received::Applied(0)),
+        requests: 4,
+        // The copy of the frame, with what shares it.
+        bytes: 48,
+    },
+    Case {
+        name: "infos with one of the own key",
+        prepared: known,
+        call: |state| infos(state, &[info(1, 2000), info(9, 2000)], 100),
+        answer: || invalid(Error::ReceivedSelf),
+        requests: 7,
+        // As of two infos.
+        bytes: 544,
+    },
+    Case {
+        name: "infos with one from the future",
+        prepared: known,
+        call: |state| infos(state, &[info(1, 2000), info(3, 130_001)], 100),
+        answer: || invalid(Error::SynchronyBound),
+        requests: 7,
+        // As of two infos.
+        bytes: 544,
+    },
+    Case {
+        name: "infos with one whose signature isn't right",
+        prepared: known,
+        call: |state| infos(state, &[info(1, 2000), forged(3)], 100),
+        answer: || invalid(Error::InvalidSignature),
+        requests: 7,
+        // As of two infos.
+        bytes: 544,
+    },
+    Case {
+        name: "infos that are too many",
+        prepared: one_at_a_time,
+        call: |state| infos(state, &[info(1, 2000), info(2, 2000)], 100),
+        answer: || invalid(Error::TooManyPeers(2)),
+        requests: 7,
+        // As of two infos.
+        bytes: 544,
+    },
+    Case {
+        name: "data",
+        prepared: known,
+        call: |state| frame(state, b"\0\x01\x05hello"),
+        answer: || {
+            text(Received::Data(Data {
+                channel: 1,
+                message: b"hello".to_vec(),
+            }))
+        },
+        requests: 6,
+        // The copy of the frame and the spelling of the answer, each with what shares it.
+        bytes: 80,
+    },
+    Case {
+        name: "a frame of another prefix",
+        prepared: known,
+        call: |state| frame(state, &[4, 0, 1]),
+        answer: || fault(CodecError::InvalidEnum(4)),
+        requests: 4,
+        // The copy of the frame, with what shares it.
+        bytes: 48,
+    },
+    Case {
+        name: "a frame that ends too early",
+        prepared: known,
+        call: |state| frame(state, &[2, 0, 9, 0]),
+        answer: || fault(CodecError::EndOfBuffer),
+        requests: 4,
+        // The copy of the frame, with what shares it.
+        bytes: 48,
+    },
+    Case {
+        name: "a frame with bytes behind its value",
+        prepared: known,
+        call: |state| frame(state, &[2, 0, 4, 0, 0]),
+        answer: || fault(CodecError::ExtraData(1)),
+        requests: 6,
+        // The copy of the frame with what shares it, and the bits.
+        bytes: 48,
+    },
+    Case {
+        name: "a frame of too many bits",
+        prepared: known,
+        call: |state| frame(state, &[2, 0, 0x81, 0x08, 0]),
+        answer: || fault(CodecError::InvalidLength(1025)),
+        requests: 4,
+        // The copy of the frame, with what shares it.
+        bytes: 48,
+    },
+    Case {
+        name: "a frame with a padded number",
+        prepared: known,
+        call: |state| frame(state, &[2, 0x80, 0, 0]),
+        answer: || fault(CodecError::InvalidVarint(10)),
+        requests: 4,
+        // The copy of the frame, with what shares it.
+        bytes: 48,
+    },
+    Case {
+        name: "a frame with padding bits",
+        prepared: known,
+        call: |state| frame(state, &[2, 0, 4, 0x10]),
+        answer: || fault(CodecError::Invalid(What::Padding)),
+        requests: 4,
+        // The copy of the frame, with what shares it.
+        bytes: 48,
+    },
+    Case {
+        name: "a greeting from no name",
+        prepared: empty,
+        call: |state| frame(state, &[1, 1, 1, b'-', 0, 80]),
+        answer: || fault(CodecError::Invalid(What::Hostname)),
+        requests: 4,
+        // The copy of the frame, with what shares it.
+        bytes: 48,
+    },
+    Case {
+        name: "infos of which the second ends too early",
+        prepared: known,
+        call: |state| {
+            let two = vec![info(1, 2000), named_info(3, 2000, "c.d")];
+            let whole = Payload::Peers(two).encode();
+            frame(state, &whole[..whole.len() - 1])
+        },
+        answer: || fault(CodecError::EndOfBuffer),
+        requests: 8,
+        // As of two infos, and the verdicts aren't asked for.
+        bytes: 544,
+    },
+];

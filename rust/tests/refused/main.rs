@@ -1,0 +1,131 @@
+//! Each request for memory refused in turn: what is answered then, what stands afterwards, and how much a call takes.
+//!
+//! The library's memory comes from a heap of this test (`heap`). For N counted upwards until nothing is refused, the
+//! Nth request of a call is refused, once alone and once with all later ones. Buffers of this crate itself are Rust's,
+//! and are not refused.
+
+mod asked;
+mod bits;
+mod bounds;
+mod changes;
+mod frames;
+mod heap;
+mod questions;
+mod state;
+
+use crate::asked::QUESTIONS;
+use crate::changes::CHANGES;
+use crate::frames::FRAMES;
+use crate::heap::{Refused, held, while_refused};
+use crate::questions::{QUIET, quiet_answers, told, told_at_the_end};
+use crate::state::{State, known};
+use p2p_directory::OutOfMemory;
+
+/// A call, in a state.
+struct Case {
+    name: &'static str,
+    prepared: fn() -> State,
+    call: fn(&mut State) -> Result<String, OutOfMemory>,
+    /// What it answers with ample memory.
+    answer: fn() -> String,
+    /// How many requests it makes then.
+    requests: u64,
+    /// How many bytes it takes at most, at a time.
+    bytes: usize,
+}
+
+impl Case {
+    // What is answered to each question after the call, and at the end, with ample memory.
+    fn made(&self) -> [Vec<String>; 2] {
+        let Case { name, bytes, .. } = self;
+        let mut state = (self.prepared)();
+        let (answer, asked) = while_refused(Refused::None, || (self.call)(&mut state));
+        assert_eq!(answer, Ok((self.answer)()), "{name}");
+        assert_eq!(asked.requests, self.requests, "{name}: {asked:?}");
+        assert!(asked.bytes <= *bytes, "{name}: {asked:?}");
+        [told(&state), told_at_the_end(state)]
+    }
+
+    // What the calls that take no memory answer in the state, with ample memory.
+    fn quiet(&self) -> Vec<String> {
+        quiet_answers(&mut (self.prepared)())
+    }
+
+    // Whether a request was refused. Then nothing has changed, and the call made again answers as if it were the first.
+    fn is_refused(&self, plan: Refused, after: &[Vec<String>; 2]) -> bool {
+        let name = self.name;
+        let mut state = (self.prepared)();
+        let before = told(&state);
+        let (answer, asked) = while_refused(plan, || (self.call)(&mut state));
+        if asked.refused == 0 {
+            assert_eq!(answer, Ok((self.answer)()), "{name}: {plan:?}");
+            return false;
+        }
+        assert_eq!(answer, Err(OutOfMemory), "{name}: {plan:?}");
+        assert_eq!(told(&state), before, "{name}: {plan:?}");
+        let again = (self.call)(&mut state);
+        assert_eq!(again, Ok((self.answer)()), "{name}: {plan:?}");
+        assert_eq!(told(&state), after[0], "{name}: {plan:?}");
+        assert_eq!(told_at_the_end(state), after[1], "{name}: {plan:?}");
+        true
+    }
+
+    // After the refusal calls that take no memory answer as ever, with none left.
+    fn is_quiet(&self, plan: Refused, quiet: &[String]) {
+        let name = self.name;
+        let mut state = (self.prepared)();
+        let (answer, _asked) = while_refused(plan, || (self.call)(&mut state));
+        assert_eq!(answer, Err(OutOfMemory), "{name}: {plan:?}");
+        let (answers, asked) = while_refused(Refused::From(1), || quiet_answers(&mut state));
+        assert_eq!(answers, quiet, "{name}: {plan:?}");
+        assert_eq!(asked.requests, 0, "{name}: {plan:?}");
+    }
+
+    // Each request refused in turn, by such plans. How many there were.
+    fn refuses(&self, plan: fn(u64) -> Refused) -> u64 {
+        let (after, quiet) = (self.made(), self.quiet());
+        let before = held();
+        for place in 1.. {
+            let is_refused = self.is_refused(plan(place), &after);
+            assert_eq!(held(), before, "{}: leaked at {place}", self.name);
+            if !is_refused {
+                return place - 1;
+            }
+            self.is_quiet(plan(place), &quiet);
+        }
+        unreachable!("some place is the last")
+    }
+}
+
+fn refuse_each(cases: &[Case]) {
+    for case in cases {
+        for plan in [Refused::Only, Refused::From] {
+            assert_eq!(case.refuses(plan), case.requests, "{}", case.name);
+        }
+    }
+}
+
+#[test]
+fn changes_are_made_or_refused() {
+    refuse_each(CHANGES);
+}
+
+#[test]
+fn questions_are_answered_or_refused() {
+    refuse_each(QUESTIONS);
+}
+
+#[test]
+fn frames_are_taken_or_refused() {
+    refuse_each(FRAMES);
+}
+
+#[test]
+fn calls_that_take_no_memory_answer_with_none_left() {
+    let mut state = known();
+    for quiet in QUIET {
+        let (answer, asked) = while_refused(Refused::From(1), || (quiet.call)(&mut state));
+        assert_eq!(answer, (quiet.answer)(), "{}", quiet.name);
+        assert_eq!(asked.requests, 0, "{}", quiet.name);
+    }
+}
