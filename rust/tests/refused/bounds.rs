@@ -17,7 +17,7 @@ const SLOT: u64 = 1;
 const MOMENT: u64 = 3;
 
 // More than a node keeps of a few reservations or blocks.
-const FEW: usize = 1 << 16;
+const FEW: usize = 4_096;
 
 // A node of so many primary peers, from 10 on.
 fn many() -> State {

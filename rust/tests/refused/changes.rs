@@ -73,7 +73,7 @@ pub const CHANGES: &[Case] = &[
         call: |state| tracked(state, 7, &[1, 2], &[3]),
         answer: nobody,
         requests: 6,
-        // The window (448), the lists of keys with room for four links (128), the bits.
+        // The window (448), the lists of keys (96), that of secondary peers that aren't primary (128), links, bits.
         bytes: 688,
     },
     Case {

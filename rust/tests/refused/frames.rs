@@ -272,7 +272,7 @@ pub const FRAMES: &[Case] = &[
         },
         answer: || fault(CodecError::EndOfBuffer),
         requests: 8,
-        // As of two infos, and the verdicts aren't asked for.
+        // As of two infos, with a name and without verdicts.
         bytes: 544,
     },
 ];
