@@ -43,23 +43,26 @@ impl Tally {
     }
 }
 
-/// What was read is the value, and the buffer is empty. Where memory was refused, it is as before.
-fn assert_read<T: PartialEq + Drop>(
+/// Whether memory was refused, and the buffer is as before; else what was read is the value, and the
+/// buffer is empty.
+fn is_unread<T: PartialEq + Drop>(
     rt: &impl Abort,
     value: &T,
     frame: &[u8],
     read: Result<T, CodecError>,
     buf: &Bytes,
     step: usize,
-) {
+) -> bool {
     match read {
         Ok(read) => {
             assert!(rt; read == *value, "step {step}");
             assert!(rt; buf.is_empty(), "step {step}");
+            false
         }
         Err(error) => {
             assert_eq!(rt; error, CodecError::Memory, "step {step}");
             assert_eq!(rt; buf.as_slice(), frame, "step {step}");
+            true
         }
     }
 }
@@ -100,7 +103,7 @@ fn is_unencoded(
 }
 
 /// Reads a frame at a budget: the answer is the same or `Memory`, and then the buffer is too.
-/// Whether memory was refused to decoding, and whether to encoding.
+/// Whether memory was refused to reading, to decoding, and to encoding.
 fn reads_within<T: Read<Cfg = ()> + Write + PartialEq>(
     rt: &impl Abort,
     alloc: Global,
@@ -108,7 +111,7 @@ fn reads_within<T: Read<Cfg = ()> + Write + PartialEq>(
     value: &T,
     frame: &[u8],
     step: usize,
-) -> Result<(bool, bool), Fail>
+) -> Result<(bool, bool, bool), Fail>
     requires { T.CanSpell value.now }
 {
     let mut buf = Bytes::copy_from_slice(alloc, frame)?;
@@ -118,9 +121,9 @@ fn reads_within<T: Read<Cfg = ()> + Write + PartialEq>(
     let decoded = T::decode(alloc, whole);
     let encoded = value.encode(alloc);
     memory.lift();
-    assert_read(rt, value, frame, read, &buf, step);
+    let unread = is_unread(rt, value, frame, read, &buf, step);
     let undecoded = is_undecoded(rt, value, decoded, step);
-    Ok((undecoded, is_unencoded(rt, frame, encoded, step)))
+    Ok((unread, undecoded, is_unencoded(rt, frame, encoded, step)))
 }
 
 /// .. at each budget.
@@ -133,13 +136,16 @@ fn reads_at_each_budget<T: Read<Cfg = ()> + Write + PartialEq>(
     requires { T.CanSpell value.now }
 {
     let frame = value.encode(alloc)?;
-    let mut tally = Tally::EMPTY;
+    let (mut read, mut decoded, mut encoded) = (Tally::EMPTY, Tally::EMPTY, Tally::EMPTY);
     for step in 0..STEPS {
         let refused = reads_within(rt, alloc, memory, value, frame.as_slice(), step)?;
-        tally.count(refused.0);
-        tally.count(refused.1);
+        read.count(refused.0);
+        decoded.count(refused.1);
+        encoded.count(refused.2);
     }
-    tally.is_mixed(rt);
+    read.is_mixed(rt);
+    decoded.is_mixed(rt);
+    encoded.is_mixed(rt);
     Ok(())
 }
 

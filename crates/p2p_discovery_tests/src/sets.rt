@@ -33,11 +33,8 @@ fn holds_each_item_once_in_order(rt: HostRuntime) -> Result<(), Fail> {
     assert_eq!(rt; set.iter().next(), Some(&TestKey(1)));
     let copy = set.clone()?;
     assert_eq!(rt; copy.as_slice(), set.as_slice());
-    let mut last = None;
-    for key in &set {
-        last = Some(*key);
-    }
-    assert_eq!(rt; last, Some(TestKey(3)));
+    let walked: Vec<TestKey> = set.iter().copied().collect(alloc)?;
+    assert_eq!(rt; walked.as_slice(), set.as_slice());
     if set.len() > 1 {
         assert_eq!(rt; set[1], TestKey(2));
     }

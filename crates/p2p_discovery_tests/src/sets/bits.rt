@@ -62,11 +62,14 @@ fn changes_the_bit_of_a_peer(rt: HostRuntime) -> Result<(), Fail> {
 fn walks_the_peers_of_bits_in_order(rt: HostRuntime) -> Result<(), Fail> {
     let set = three(rt.alloc())?;
     assert_eq!(rt; set.ordered().position(&TestKey(3)), Some(2));
-    let mut last = None;
+    let mut walked = Vec::new(rt.alloc());
     for peer in &set {
-        last = Some(*peer);
+        walked.push(*peer)?;
     }
-    assert_eq!(rt; last, Some(TestKey(3)));
+    assert_eq!(rt;
+        walked.as_slice(),
+        [TestKey(1), TestKey(2), TestKey(3)].as_slice()
+    );
     if set.len() > 1 {
         assert_eq!(rt; set[1], TestKey(2));
     }
