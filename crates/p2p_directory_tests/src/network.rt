@@ -6,7 +6,7 @@ ghost use Rattle.std.specs.List.{All};
 
 use crate::fixtures::{listen, setup, track};
 use p2p_directory::node::{
-    Exchanged, Network, NetworkCommand, NetworkReply, NetworkRun, run_network,
+    Exchanged, Network, NetworkCommand, NetworkReply, NetworkRun, Setup, run_network,
 };
 use p2p_directory::record::Status;
 use p2p_directory::run::Reply;
