@@ -173,20 +173,30 @@ def blocks_that_end_together():
 
 def blocks_of_nobody():
     script = Script()
-    for key in range(10, 10_010):
+    many = range(10, 10_010)
+    for key in many:
         script.add(f'block {key} 100', 'true')
-    for line, reply in [('tracked', 0), ('unblock_expired 159', 'false'), ('unblock_expired 160', 'true'),
+    for line, reply in [('tracked', 0), ('blocked_peers 100', keys(many)), ('unblock_expired 159', 'false'),
+                        ('blocked_peers 159', keys(many)), ('unblock_expired 160', 'true'),
                         ('unblock_expired 160', 'false'), ('next_unblock', 'None'), ('blocked_peers 100', '[]')]:
         script.add(line, reply)
     return script
 
 
 def infos_of_nobody():
+    """Infos of strangers change no answer."""
     script = Script()
     script.add('track 0 1', 'Some([])')
+    script.add('block 2 100', 'true')
+    questions = [('tracked', 1), ('bits 0', bits(0, [False])), ('status 1', 'Inert'), ('status 10', 'None'),
+                 ('all', '[1] / []'), ('latest_update', 'Some(0, [1] / [], [1] / [])'), ('get_peer_set 0', 'Some([1] / [])'),
+                 ('latest_set_index', 'Some(0)'), ('info 10', 'None'), ('infos 0 0 100', 'Some([])'),
+                 ('eligible 10 100', 'false'), ('acceptable 1 100', 'true'), ('dialable 100', '[] None'),
+                 ('blocked_peers 100', '[2]'), ('next_unblock', 'Some(160.000000000)'), ('ask 0', '02000100')]
+    for line, reply in questions:
+        script.add(line, reply)
     script.update(range(10, 10_010), 1000, 8000)
-    for line, reply in [('tracked', 1), ('bits 0', bits(0, [False])), ('status 10', 'None'),
-                        ('track 1 10', 'Some([])'), ('bits 0', bits(1, [False]))]:
+    for line, reply in [*questions, ('track 1 10', 'Some([])'), ('bits 0', bits(1, [False]))]:
         script.add(line, reply)
     return script
 
@@ -229,8 +239,10 @@ def rounds_of_blocks():
 
 
 def greeting(frame):
-    """A node of many peers takes a greeting."""
+    """A node of no peers takes a greeting, and one of many."""
     script = Script()
+    script.add(f'receive {frame} 100', 'Greeted')
+    script.add('tracked', 0)
     script.add(f'track 0 {numbers(range(10, 12_010))}', 'Some([])')
     script.add(f'receive {frame} 100', 'Greeted')
     script.add('bits 0', bits(0, [True] + [False] * 11_999))
@@ -239,10 +251,10 @@ def greeting(frame):
 
 def exchange():
     """The right node knows all and is connected with all; then the left one asks it, twice."""
-    limits = 'max_bit_vec=10000 max_peers=10000 gossip=10000'
+    limits = 'max_bit_vec=25000 max_peers=25000 gossip=25000'
     script = Script(limits)
     script.node('b', f'own=8 own_at=1.2.3.4:8008 {limits}')
-    many = range(10, 10_010)
+    many = range(10, 25_010)
     for name in 'ab':
         script.add(f'{name}: track 0 {numbers(many)}', 'Some([])')
     script.add('b: update ' + ','.join(f'{key}@{key}' for key in many), 'done')
@@ -252,7 +264,7 @@ def exchange():
     infos = ', '.join(told(key, key, 8000 + key) for key in many)
     script.add('a: exchange b 0 100 100', f'Applied([{infos}])')
     script.add('a: exchange b 0 100 100', 'Applied([])')
-    script.add('a: bits 0', bits(0, [True] * 10_000))
+    script.add('a: bits 0', bits(0, [True] * 25_000))
     return script
 
 
@@ -273,6 +285,105 @@ def network():
     return script
 
 
+def few_wanted():
+    """All peers but one are known to who asks, so each that is wanted is searched."""
+    script = Script()
+    many = range(10, 12_010)
+    script.add(f'track 0 {numbers(many)}', 'Some([])')
+    script.update(many, 1000, 8000)
+    for key in many:
+        script.add(f'listen {key} 100', 'granted')
+        script.add(f'connect {key} false', 'done')
+    known = ''.join('0' if key == 5_000 else '1' for key in many)
+    script.add(f'infos 0 {known} 100', f'Some([{told(5_000, 1000, 8000)}])')
+    return script
+
+
+def many_sets():
+    """Sets at places and with indices of each size, up to more than a thousand of them."""
+    script = Script('max_sets=2000')
+    script.node('b', 'own=8 own_at=1.2.3.4:8008 max_sets=2000')
+    for index in [0, 1, 2, 7, 8, 255, 256, *range(1_000, 2_500), 1 << 32, (1 << 32) + 1, (1 << 64) - 1]:
+        for name in 'ab':
+            script.add(f'{name}: track {index} 8,9', 'Some([])')
+    script.add('latest_set_index', f'Some({(1 << 64) - 1})')
+    # A node wants the info of the other, and knows its own.
+    for place, index in [(1, 1), (4, 8), (17, 1_010), (1_200, 2_193), (1_508, (1 << 32) + 1), (1_509, (1 << 64) - 1)]:
+        script.add(f'a: bits {place}', bits(index, [False, True]))
+    script.add('a: ask 4', '02080202')
+    script.add('a: exchange b 1509 100 100', f'Applied([{told(8, 0, 8008)}])')
+    script.add('a: exchange b 4 100 100', 'Applied([])')
+    script.add('a: bits 1200', bits(2_193, [True, True]))
+    script.add('a: bits 1510', 'None')
+    return script
+
+
+def peers_of_sets():
+    """A set with more secondary than primary peers goes; one of 2,000 peers is told of."""
+    script = Script()
+    script.add('track 0 1 / ' + numbers(range(10, 40)), 'Some([])')
+    script.add('listen 10 100', 'granted')
+    script.add(f'track 1 {numbers(range(100, 2_100))}', 'Some([10])')
+    script.add('release 10', 'done')
+    whole = keys(range(100, 2_100)) + ' / []'
+    script.add('get_peer_set 1', f'Some({whole})')
+    script.add('latest_update', f'Some(1, {whole}, {whole})')
+    script.add('tracked', 2_000)
+    return script
+
+
+def bootstrappers():
+    many = range(100, 140)
+    script = Script('boot=' + ','.join(f'{key}@1.2.3.4:8000' for key in many))
+    script.add('tracked', 40)
+    script.add('dialable 100', keys(many) + ' None')
+    script.add('dial 139 100 100000', 'granted')
+    script.add('release 139', 'done')
+    # The draw counts as the cooldown at most.
+    script.add('dialable 119.999999999', keys(range(100, 139)) + ' Some(120.000000000)')
+    script.add('dialable 120', keys(many) + ' None')
+    return script
+
+
+def long_name():
+    name = '.'.join(['a' * 63, 'b' * 63, 'c' * 63, 'd' * 61])
+    script = Script()
+    script.add('track 0 1', 'Some([])')
+    script.add(f'update 1@1000@~{name}:80', 'done')
+    script.add('dialable 100', '[1] None')
+    script.add('dial 1 100', 'granted')
+    script.add('connect 1 true', 'done')
+    script.add('info 1', f'Info(1, 1000, ~{name}:80)')
+    script.add('infos 0 0 100', f'Some([Info(1, 1000, ~{name}:80)])')
+    return script
+
+
+def slots():
+    script = Script()
+    many = range(10, 100_010)
+    script.add(f'track 0 {numbers(many)}', 'Some([])')
+    for key in many:
+        script.add(f'listen {key} 100', 'granted')
+    script.add('track 1 -', f'Some({keys(many)})')
+    script.add('tracked', 100_000)
+    for key in many:
+        script.add(f'release {key}', 'done')
+    script.add('tracked', 0)
+    return script
+
+
+def nodes():
+    """A thousand nodes, of which the last is called; one with no room for anything is asked."""
+    script = Script('max_bit_vec=0 max_peers=0 max_data_length=0 gossip=0')
+    for key in range(1_000):
+        script.node(f'n{key}', f'own={key} own_at=1.2.3.4:8000')
+    script.add('n999: track 0 1', 'Some([])')
+    script.add('n999: tracked', 1)
+    script.add('n998: tracked', 0)
+    script.add('n999: exchange a 0 100 100', 'AskRefused(InvalidLength(1))')
+    return script
+
+
 def values(info):
     """Payloads of many bits, bytes and infos are read, and written as they were."""
     script = Script()
@@ -288,7 +399,8 @@ def all_of(greets, info):
     """Each script by its name. A greeting is given as a frame, and an info as it is spelled."""
     without = [records, blocks, dialable, dialled, held, sets, roles, small_set_goes_and_large_one,
                blocks_that_end_in_turn, blocks_that_end_together, blocks_of_nobody, infos_of_nobody,
-               cooldowns, rounds, rounds_of_blocks, exchange, network]
+               cooldowns, rounds, rounds_of_blocks, exchange, network, few_wanted, many_sets, peers_of_sets,
+               bootstrappers, long_name, slots, nodes]
     scripts = {make.__name__: make() for make in without}
     scripts['greeting'] = greeting(greets)
     scripts['values'] = values(info)
