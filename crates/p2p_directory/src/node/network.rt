@@ -311,12 +311,15 @@ impl<C: PublicKey> Network<C> {
     {
         let Network { ends, room: _ } = self;
         let mut ends = ends;
-        match (ends.pop(), ends.pop()) {
-            (Some(right), Some(left)) => {
-                ends.destroy_empty();
-                (Node { endpoint: left }, Node { endpoint: right })
-            }
-            (_right, _left) => unreachable!(),
+        match ends.pop() {
+            Some(right) => match ends.pop() {
+                Some(left) => {
+                    ends.destroy_empty();
+                    (Node { endpoint: left }, Node { endpoint: right })
+                }
+                None => unreachable!(),
+            },
+            None => unreachable!(),
         }
     }
 }

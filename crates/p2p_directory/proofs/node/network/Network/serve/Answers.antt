@@ -135,3 +135,27 @@ returns-in-Ask-clause-seen g c = rw (← c.self.view_is, c.in-Ask.is) (
     command.Ask c.in-Ask.node c.in-Ask.place in
     subst (λ es. IsServedAmong g.C.Ord.cmp wire x c.ask.result (nodes_of es) (nodes_of es))
     c.deref.ensures.value c.ask.ensures.seen)
+
+pub invariant_of-self : goal.invariant_of-self
+invariant_of-self g c =
+    let same = with_items_is c.self.inside.ends c.step.new.ends
+    (omega (arith, c.step.auto.ends, c.deref_mut.ensures.len)) in (
+      c.self.invariant.0,
+      omega (arith, ap length same, c.step.auto.ends, c.deref_mut.ensures.len, c.self.invariant.1),
+    )
+
+pub invariant_of-self-in-Frame : goal.invariant_of-self-in-Frame
+invariant_of-self-in-Frame g c =
+    let same = with_items_is c.self.inside.ends c.receive.new.ends
+    (omega (arith, c.receive.auto.ends, c.deref_mut-in-Frame.ensures.len)) in (
+      c.self.invariant.0,
+      omega (arith, ap length same, c.receive.auto.ends, c.deref_mut-in-Frame.ensures.len, c.self.invariant.1),
+    )
+
+pub invariant_of-self-in-Exchange : goal.invariant_of-self-in-Exchange
+invariant_of-self-in-Exchange g c =
+    let same = with_items_is c.self.inside.ends c.exchange.new.ends
+    (omega (arith, c.exchange.auto.ends, c.deref_mut-in-Exchange.ensures.len)) in (
+      c.self.invariant.0,
+      omega (arith, ap length same, c.exchange.auto.ends, c.deref_mut-in-Exchange.ensures.len, c.self.invariant.1),
+    )
