@@ -200,8 +200,8 @@ impl Node {
     ///
     /// The closure says of a key, the namespace, signed bytes and a signature whether the signature is
     /// right. It is asked once for each info whose signature decides, in the order of the frame, and before
-    /// anything changes: so it may take its time, and none is asked behind the first info that is refused
-    /// for something else.
+    /// anything changes. It is asked nothing behind the first info that is refused, for its signature or for
+    /// something else.
     ///
     /// # Examples
     ///
@@ -221,7 +221,7 @@ impl Node {
         &mut self,
         frame: &[u8],
         now: Duration,
-        verify: impl Fn(&Key, &[u8], &[u8], &Signature) -> bool,
+        verify: impl FnMut(&Key, &[u8], &[u8], &Signature) -> bool,
     ) -> Received {
         let Node {
             directory,
@@ -251,11 +251,11 @@ impl Node {
     }
 }
 
-// What the closure says of each info whose signature decides, and false of the others.
+// What the closure says of each info whose signature decides, up to the first false, and false of the others.
 fn judge(
     items: &[u8],
     namespace: &[u8],
-    verify: impl Fn(&Key, &[u8], &[u8], &Signature) -> bool,
+    mut verify: impl FnMut(&Key, &[u8], &[u8], &Signature) -> bool,
     verdicts: &mut Vec<u8>,
 ) -> Result<(), CodecError> {
     let mut reader = Reader::new(items);
@@ -266,7 +266,11 @@ fn judge(
         let key = Key(reader.array()?);
         let message = reader.take(length)?;
         let signature = Signature(reader.array()?);
-        verdicts.push(verify(&key, namespace, message, &signature).into());
+        let is_right = verify(&key, namespace, message, &signature);
+        verdicts.push(is_right.into());
+        if !is_right {
+            break;
+        }
     }
     verdicts.resize(count, 0);
     Ok(())

@@ -4,7 +4,6 @@ use p2p_directory::testing::{self, info, key, setup, verify};
 use p2p_directory::{
     BitVec, Data, Error, Node, OrderedSet, Payload, Received, Reservation, Signature,
 };
-use std::cell::RefCell;
 use std::time::Duration;
 
 fn node(number: u16, numbers: &[u16]) -> Node {
@@ -119,14 +118,28 @@ fn signatures_are_asked_for_in_order_and_no_more_than_decide() {
     let mut node = node(9, &[1, 2, 3]);
     let infos = vec![info(1, 0), info(2, 0), info(9, 0), info(3, 0)];
     let frame = Payload::Peers(infos).encode();
-    let asked = RefCell::new(Vec::new());
+    let mut asked = Vec::new();
     let answer = node.receive(&frame, seconds(1), |key, namespace, message, signature| {
         assert_eq!(namespace, testing::NAMESPACE);
-        asked.borrow_mut().push(*key);
+        asked.push(*key);
         verify(key, namespace, message, signature)
     });
     assert_eq!(answer, Received::Invalid(Error::ReceivedSelf));
-    assert_eq!(asked.into_inner(), [key(1), key(2)]);
+    assert_eq!(asked, [key(1), key(2)]);
+}
+
+#[test]
+fn no_signature_is_asked_for_behind_one_that_is_not_right() {
+    let mut node = node(9, &[1, 2, 3]);
+    let frame = Payload::Peers(vec![info(1, 0), info(2, 0), info(3, 0)]).encode();
+    let mut asked = Vec::new();
+    let answer = node.receive(&frame, seconds(1), |key, _, _, _| {
+        asked.push(*key);
+        false
+    });
+    assert_eq!(answer, Received::Invalid(Error::InvalidSignature));
+    assert_eq!(asked, [key(1)]);
+    assert_eq!(bits(&node), [false, false, false]);
 }
 
 #[test]
