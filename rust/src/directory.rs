@@ -10,13 +10,14 @@ use crate::sets::{OrderedSet, TrackedPeers};
 use std::cell::RefCell;
 use std::fmt;
 use std::num::NonZeroUsize;
-use std::sync::atomic::{AtomicU64, Ordering};
 use std::time::Duration;
 
+mod held;
 mod questions;
 mod reservation;
 
-pub use reservation::{Metadata, ReleaseError, Reservation};
+use held::Held;
+pub use reservation::{ConnectError, Metadata, ReleaseError, Reservation};
 
 /// How a directory behaves.
 ///
@@ -150,9 +151,7 @@ pub struct Dialable {
 /// # Ok::<(), Box<dyn std::error::Error>>(())
 /// ```
 pub struct Directory {
-    session: Session,
-    // Which directory of the process it is: a reservation belongs to one.
-    id: u64,
+    held: Held,
     // In which infos are signed.
     namespace: Vec<u8>,
     // What is handed in, and what comes out.
@@ -163,8 +162,6 @@ pub struct Directory {
 /// How many bytes what comes out has room for at first: enough for what a call that changes something
 /// answers, but for a track.
 const FIRST_ROOM: usize = 512;
-
-static NEXT_ID: AtomicU64 = AtomicU64::new(0);
 
 impl Directory {
     /// A directory that retains no set and blocks nobody. A later bootstrapper of a key replaces an
@@ -244,8 +241,7 @@ impl Directory {
             answer => is_done(answer)?,
         };
         Ok(Directory {
-            session,
-            id: NEXT_ID.fetch_add(1, Ordering::Relaxed),
+            held: Held::new(session)?,
             namespace: limits.namespace,
             input: RefCell::new(Vec::new()),
             output: RefCell::new(vec![0; FIRST_ROOM]),
@@ -281,12 +277,13 @@ impl Directory {
         let split = keys.len();
         peers.secondary.write(keys);
         let (primary, secondary) = keys.split_at(split);
-        let room = self.session.track_room() as usize;
+        let session = self.held.session();
+        let room = session.track_room() as usize;
         let torn = self.output.get_mut();
         if torn.len() < room {
             torn.resize(room, 0);
         }
-        let answer = self.session.track(index, primary, secondary, torn);
+        let answer = session.track(index, primary, secondary, torn);
         let length = answered(answer)?;
         Ok(length.map(|length| OrderedSet::read(&torn[..length as usize])))
     }
@@ -320,10 +317,10 @@ impl Directory {
     ) -> Result<Option<Reservation>, OutOfMemory> {
         let (seconds, nanos) = parts(now);
         let (draw_seconds, draw_nanos) = parts(draw);
-        let answer = self
-            .session
-            .dial(&peer.0, seconds, nanos, draw_seconds, draw_nanos);
-        self.granted(peer, true, answer)
+        let is_granted = self
+            .held
+            .grant(|session| session.dial(&peer.0, seconds, nanos, draw_seconds, draw_nanos))?;
+        Ok(is_granted.then(|| Reservation::new(*peer, true, self.held.origin())))
     }
 
     /// Reserves the peer for a connection that it asks for at the moment `now`, where that is allowed: it
@@ -356,20 +353,10 @@ impl Directory {
     ) -> Result<Option<Reservation>, OutOfMemory> {
         let (seconds, nanos) = parts(now);
         let (draw_seconds, draw_nanos) = parts(draw);
-        let answer = self
-            .session
-            .listen(&peer.0, seconds, nanos, draw_seconds, draw_nanos);
-        self.granted(peer, false, answer)
-    }
-
-    #[inline]
-    fn granted(
-        &self,
-        peer: &Key,
-        is_dialer: bool,
-        answer: u64,
-    ) -> Result<Option<Reservation>, OutOfMemory> {
-        Ok(is_true(answer)?.then(|| Reservation::new(*peer, is_dialer, self.id)))
+        let is_granted = self
+            .held
+            .grant(|session| session.listen(&peer.0, seconds, nanos, draw_seconds, draw_nanos))?;
+        Ok(is_granted.then(|| Reservation::new(*peer, false, self.held.origin())))
     }
 
     /// Whom a reservation is for, and in which direction: with the very address that is to be dialled.
@@ -394,7 +381,7 @@ impl Directory {
     /// ```
     pub fn metadata(&self, reservation: &Reservation) -> Result<Option<Metadata>, OutOfMemory> {
         let peer = *reservation.public_key();
-        if !reservation.is_of(self.id) {
+        if !reservation.is_of(self.held.origin()) {
             return Ok(None);
         }
         if !reservation.is_dialer() {
@@ -425,13 +412,41 @@ impl Directory {
     /// ```
     #[inline]
     pub fn connect(&mut self, peer: &Key, dialer: bool) -> Result<(), NotReserved> {
-        match self.session.connect(&peer.0, dialer) {
+        match self.session().connect(&peer.0, dialer) {
             exports::NOT_RESERVED => Err(NotReserved),
             answer => {
                 certain(answer);
                 Ok(())
             }
         }
+    }
+
+    /// Connects the peer of a reservation, as its dialer where [`Directory::dial`] granted it.
+    ///
+    /// # Errors
+    ///
+    /// [`ConnectError`]; then nothing has changed.
+    ///
+    /// # Examples
+    ///
+    /// ```
+    /// # use p2p_directory::*; use std::time::Duration;
+    /// # let mut directory = testing::directory();
+    /// # let (peer, now) = (testing::key(1), Duration::from_secs(1));
+    /// # directory.track(0, OrderedSet::from_iter_dedup([peer]).into())?;
+    /// let reservation = directory.listen(&peer, now, Duration::ZERO)?.expect("in a set");
+    /// directory.connect_reserved(&reservation)?;
+    /// assert_eq!(directory.status(&peer), Some(Status::Active));
+    /// assert_eq!(directory.connect_reserved(&reservation), Err(ConnectError::NotReserved));
+    /// # directory.release(reservation).expect("its own");
+    /// # Ok::<(), Box<dyn std::error::Error>>(())
+    /// ```
+    #[inline]
+    pub fn connect_reserved(&mut self, reservation: &Reservation) -> Result<(), ConnectError> {
+        if !reservation.is_of(self.held.origin()) {
+            return Err(ConnectError::OfAnotherDirectory);
+        }
+        Ok(self.connect(reservation.public_key(), reservation.is_dialer())?)
     }
 
     /// Ends a reservation, and the connection that was made of it. A dialer's counts as one more failure
@@ -455,10 +470,10 @@ impl Directory {
     /// ```
     #[inline]
     pub fn release(&mut self, reservation: Reservation) -> Result<(), ReleaseError> {
-        if !reservation.is_of(self.id) {
+        if !reservation.is_of(self.held.origin()) {
             return Err(ReleaseError { reservation });
         }
-        certain(self.session.release(&reservation.public_key().0));
+        self.held.release(&reservation.into_peer());
         Ok(())
     }
 
@@ -485,7 +500,7 @@ impl Directory {
         let spelled = self.input.get_mut();
         spelled.clear();
         write_infos(spelled, infos);
-        is_done(self.session.update_peers(spelled))
+        is_done(self.held.session().update_peers(spelled))
     }
 
     /// Blocks the peer from the moment `now` on, whether there is a record of it or not. False, and nothing
@@ -509,7 +524,7 @@ impl Directory {
     #[inline]
     pub fn block(&mut self, peer: &Key, now: Duration) -> Result<bool, OutOfMemory> {
         let (seconds, nanos) = parts(now);
-        is_true(self.session.block(&peer.0, seconds, nanos))
+        is_true(self.session().block(&peer.0, seconds, nanos))
     }
 
     /// Ends the blocks that hold until the moment `now` or an earlier one, and answers whether there were
@@ -525,7 +540,7 @@ impl Directory {
     #[inline]
     pub fn unblock_expired(&mut self, now: Duration) -> bool {
         let (seconds, nanos) = parts(now);
-        certain(self.session.unblock_expired(seconds, nanos)) == 1
+        certain(self.session().unblock_expired(seconds, nanos)) == 1
     }
 
     /// Forgets the cooldown of each peer whose dial moment is at or before `now`, and answers how many
@@ -541,11 +556,13 @@ impl Directory {
     #[inline]
     pub fn forget_cooled(&mut self, now: Duration) -> usize {
         let (seconds, nanos) = parts(now);
-        certain(self.session.forget_cooled(seconds, nanos)) as usize
+        certain(self.session().forget_cooled(seconds, nanos)) as usize
     }
 
+    // The session: all that was dropped is released before.
+    #[inline]
     pub(crate) fn session(&self) -> &Session {
-        &self.session
+        self.held.session()
     }
 
     pub(crate) fn namespace(&self) -> &[u8] {
@@ -560,7 +577,7 @@ impl Directory {
     ) -> Result<Option<T>, OutOfMemory> {
         let mut out = self.output.borrow_mut();
         loop {
-            let Some(length) = answered(ask(&self.session, &mut out))? else {
+            let Some(length) = answered(ask(self.session(), &mut out))? else {
                 return Ok(None);
             };
             let length = length as usize;

@@ -1,5 +1,6 @@
 //! What calls are refused with.
 
+use std::collections::TryReserveError;
 use std::error;
 use std::fmt;
 
@@ -169,6 +170,12 @@ impl error::Error for SetupError {}
 impl error::Error for NotReserved {}
 impl error::Error for Error {}
 impl error::Error for CodecError {}
+
+impl From<TryReserveError> for OutOfMemory {
+    fn from(_refused: TryReserveError) -> OutOfMemory {
+        OutOfMemory
+    }
+}
 
 impl From<OutOfMemory> for SetupError {
     fn from(_refused: OutOfMemory) -> SetupError {

@@ -21,7 +21,8 @@
 //! let now = Duration::from_secs(100);
 //! for peer in directory.dialable(now)?.peers {
 //!     if let Some(reservation) = directory.dial(&peer, now, Duration::ZERO)? {
-//!         directory.connect(&peer, true)?;
+//!         // A reservation that an error drops is given back.
+//!         directory.connect_reserved(&reservation)?;
 //!         // .. the connection ..
 //!         directory.release(reservation)?;
 //!     }
@@ -46,7 +47,8 @@ mod sets;
 pub mod testing;
 
 pub use directory::{
-    Config, Dialable, Directory, Metadata, PeerSetUpdate, ReleaseError, Reservation, Status,
+    Config, ConnectError, Dialable, Directory, Metadata, PeerSetUpdate, ReleaseError, Reservation,
+    Status,
 };
 pub use error::{CodecError, Error, NotReserved, OutOfMemory, SetupError, What};
 pub use info::Info;

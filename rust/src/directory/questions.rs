@@ -141,7 +141,7 @@ impl Directory {
     #[must_use]
     #[inline]
     pub fn status(&self, peer: &Key) -> Option<Status> {
-        match self.session.status(&peer.0) {
+        match self.session().status(&peer.0) {
             exports::NONE => None,
             answer => Some(match certain(answer) {
                 0 => Status::Inert,
@@ -244,7 +244,7 @@ impl Directory {
     #[inline]
     pub fn eligible(&self, peer: &Key, now: Duration) -> bool {
         let (seconds, nanos) = parts(now);
-        certain(self.session.eligible(&peer.0, seconds, nanos)) == 1
+        certain(self.session().eligible(&peer.0, seconds, nanos)) == 1
     }
 
     /// Whether a connection of the peer may be accepted at the moment `now`: it is eligible, and neither
@@ -261,7 +261,7 @@ impl Directory {
     #[inline]
     pub fn acceptable(&self, peer: &Key, now: Duration) -> bool {
         let (seconds, nanos) = parts(now);
-        certain(self.session.acceptable(&peer.0, seconds, nanos)) == 1
+        certain(self.session().acceptable(&peer.0, seconds, nanos)) == 1
     }
 
     /// Who may be dialled at the moment `now`, and when to ask again.
@@ -299,7 +299,7 @@ impl Directory {
     #[must_use]
     #[inline]
     pub fn tracked(&self) -> usize {
-        certain(self.session.tracked()) as usize
+        certain(self.session().tracked()) as usize
     }
 }
 
