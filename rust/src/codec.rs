@@ -73,13 +73,8 @@ impl<'a> Reader<'a> {
         Ok(Duration::new(seconds, nanos))
     }
 
-    /// Whether nothing is left.
-    #[inline]
-    pub(crate) fn is_empty(&self) -> bool {
-        self.bytes.is_empty()
-    }
-
     /// What is left.
+    #[inline]
     pub(crate) fn rest(self) -> &'a [u8] {
         self.bytes
     }

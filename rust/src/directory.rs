@@ -565,6 +565,11 @@ impl Directory {
         self.held.session()
     }
 
+    // Which directory of the process it is.
+    pub(crate) fn id(&self) -> u64 {
+        self.held.origin().id()
+    }
+
     pub(crate) fn namespace(&self) -> &[u8] {
         &self.namespace
     }

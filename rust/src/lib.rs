@@ -41,10 +41,12 @@ mod exports;
 mod info;
 mod ingress;
 mod key;
+mod memory;
 mod node;
 mod payload;
 mod sets;
 pub mod testing;
+mod verification;
 
 pub use directory::{
     Config, ConnectError, Dialable, Directory, Metadata, PeerSetUpdate, ReleaseError, Reservation,
@@ -57,6 +59,7 @@ pub use key::{KEY_SIZE, Key, SIGNATURE_SIZE, Signature};
 pub use node::{Node, Received, Setup};
 pub use payload::{BitVec, Data, Payload, PayloadConfig};
 pub use sets::{DuplicateKey, OrderedSet, TrackedPeers};
+pub use verification::{Judged, Question, Questions, QuestionsIter, ReceiveError, WrongVerdicts};
 
 #[cfg(test)]
 mod hostile;

@@ -6,7 +6,9 @@ use crate::error::{CodecError, Error, OutOfMemory, SetupError, What};
 use crate::info::Info;
 use crate::ingress::Ingress;
 use crate::key::{Key, Signature};
+use crate::memory::lengthen;
 use crate::payload::{Data, PayloadConfig};
+use crate::verification::{Judged, Question, Questions, ReceiveError, read_told};
 use std::time::Duration;
 
 /// What a node is made from.
@@ -201,7 +203,8 @@ impl Node {
     /// The closure says of a key, the namespace, signed bytes and a signature whether the signature is
     /// right. It is asked once for each info whose signature decides, in the order of the frame, and before
     /// anything changes. It is asked nothing behind the first info that is refused, for its signature or for
-    /// something else.
+    /// something else. Where the node has something else to do while signatures are verified, there are
+    /// [`Node::check`] and [`Node::receive_judged`].
     ///
     /// # Examples
     ///
@@ -223,56 +226,154 @@ impl Node {
         now: Duration,
         verify: impl FnMut(&Key, &[u8], &[u8], &Signature) -> bool,
     ) -> Received {
+        self.try_receive(frame, now, verify)
+            .unwrap_or(Received::Memory)
+    }
+
+    fn try_receive(
+        &mut self,
+        frame: &[u8],
+        now: Duration,
+        verify: impl FnMut(&Key, &[u8], &[u8], &Signature) -> bool,
+    ) -> Result<Received, OutOfMemory> {
         let Node {
             directory,
             verdicts,
             answer,
         } = self;
-        let (seconds, nanos) = parts(now);
-        let checked = directory.question(
-            |session, out| session.check(frame, seconds, nanos, out),
-            |items| judge(items, directory.namespace(), verify, verdicts).expect(OWN),
-        );
-        if checked.is_err() {
-            return Received::Memory;
+        let namespace = directory.namespace();
+        told(directory, frame, now, |told| {
+            judge(told, namespace, verify, verdicts)
+        })?;
+        received(directory, answer, frame, now, verdicts)
+    }
+
+    /// What has to be verified of a frame that came at the moment `now`, before [`Node::receive_judged`] takes it:
+    /// the two are [`Node::receive`], with as much time and as many threads between them as signatures want. Nothing
+    /// changes, and nothing is kept: a frame that is not taken afterwards may be forgotten.
+    ///
+    /// # Errors
+    ///
+    /// [`OutOfMemory`].
+    ///
+    /// # Examples
+    ///
+    /// ```
+    /// # use p2p_directory::*; use std::time::Duration;
+    /// # let mut node = Node::new(testing::setup(9)).unwrap();
+    /// let frame = Payload::Peers(vec![testing::info(1, 0), testing::info(2, 0)]).encode();
+    /// let questions = node.check(&frame, Duration::from_secs(1))?;
+    /// let verdicts: Vec<bool> = questions
+    ///     .iter()
+    ///     .map(|asked| {
+    ///         let Question { public_key, message, signature } = asked;
+    ///         testing::verify(&public_key, questions.namespace(), message, &signature)
+    ///     })
+    ///     .collect();
+    /// let judged = questions.judged(verdicts)?;
+    /// assert_eq!(node.receive_judged(judged).unwrap(), Received::Applied(2));
+    /// # Ok::<(), Box<dyn std::error::Error>>(())
+    /// ```
+    pub fn check<'f>(&self, frame: &'f [u8], now: Duration) -> Result<Questions<'f>, OutOfMemory> {
+        let Node { directory, .. } = self;
+        let (id, namespace) = (directory.id(), directory.namespace());
+        told(directory, frame, now, |told| {
+            Questions::new(frame, now, id, namespace, told)
+        })
+    }
+
+    /// Takes a frame whose signatures are verified, at the moment at which it was checked, and answers it as
+    /// [`Node::receive`] does. An info that [`Node::check`] did not ask about is never applied.
+    ///
+    /// # Errors
+    ///
+    /// Gives the frame back where another node checked it; then nothing has changed.
+    ///
+    /// # Examples
+    ///
+    /// ```
+    /// # use p2p_directory::*; use std::time::Duration;
+    /// # let mut node = Node::new(testing::setup(9)).unwrap();
+    /// let frame = Payload::Greeting(testing::info(1, 1000)).encode();
+    /// let judged = node.check(&frame, Duration::from_secs(1))?.judged([true])?;
+    /// assert_eq!(node.receive_judged(judged).unwrap(), Received::Greeted);
+    /// # Ok::<(), Box<dyn std::error::Error>>(())
+    /// ```
+    pub fn receive_judged<'f>(&mut self, judged: Judged<'f>) -> Result<Received, ReceiveError<'f>> {
+        let Node {
+            directory, answer, ..
+        } = self;
+        if judged.node != directory.id() {
+            return Err(ReceiveError { judged });
         }
-        loop {
-            let session = directory.session();
-            let Ok(length) = answered(session.receive(frame, seconds, nanos, verdicts, answer))
-            else {
-                return Received::Memory;
-            };
-            let length = length.expect(OWN) as usize;
-            if length <= answer.len() {
-                return read_received(&answer[..length]).expect(OWN);
-            }
-            answer.resize(length, 0);
+        let Judged {
+            frame,
+            now,
+            verdicts,
+            ..
+        } = judged;
+        let received = received(directory, answer, frame, now, &verdicts);
+        Ok(received.unwrap_or(Received::Memory))
+    }
+}
+
+// Reads what the library asks of a frame.
+fn told<T>(
+    directory: &Directory,
+    frame: &[u8],
+    now: Duration,
+    read: impl FnOnce(&[u8]) -> Result<T, OutOfMemory>,
+) -> Result<T, OutOfMemory> {
+    let (seconds, nanos) = parts(now);
+    let told = directory.question(
+        |session, out| session.check(frame, seconds, nanos, out),
+        read,
+    )?;
+    told.expect(OWN)
+}
+
+// What the library answers to a frame by these verdicts.
+fn received(
+    directory: &Directory,
+    answer: &mut Vec<u8>,
+    frame: &[u8],
+    now: Duration,
+    verdicts: &[u8],
+) -> Result<Received, OutOfMemory> {
+    let (seconds, nanos) = parts(now);
+    loop {
+        let session = directory.session();
+        let length = answered(session.receive(frame, seconds, nanos, verdicts, answer))?;
+        let length = length.expect(OWN) as usize;
+        if length <= answer.len() {
+            return Ok(read_received(&answer[..length]).expect(OWN));
         }
+        lengthen(answer, length)?;
     }
 }
 
 // What the closure says of each info whose signature decides, up to the first false, and false of the others.
 fn judge(
-    items: &[u8],
+    told: &[u8],
     namespace: &[u8],
     mut verify: impl FnMut(&Key, &[u8], &[u8], &Signature) -> bool,
     verdicts: &mut Vec<u8>,
-) -> Result<(), CodecError> {
-    let mut reader = Reader::new(items);
-    let count = reader.number()? as usize;
+) -> Result<(), OutOfMemory> {
+    let (infos, questions) = read_told(told).expect(OWN);
     verdicts.clear();
-    while !reader.is_empty() {
-        let length = reader.number()? as usize;
-        let key = Key(reader.array()?);
-        let message = reader.take(length)?;
-        let signature = Signature(reader.array()?);
-        let is_right = verify(&key, namespace, message, &signature);
-        verdicts.push(is_right.into());
+    lengthen(verdicts, infos)?;
+    for (verdict, asked) in verdicts.iter_mut().zip(questions) {
+        let Question {
+            public_key,
+            message,
+            signature,
+        } = asked;
+        let is_right = verify(&public_key, namespace, message, &signature);
+        *verdict = is_right.into();
         if !is_right {
             break;
         }
     }
-    verdicts.resize(count, 0);
     Ok(())
 }
 
