@@ -1,10 +1,12 @@
 //! The directory of peers.
 
-use crate::error::{NotReserved, OutOfMemory, SetupError};
+use crate::codec::{ReadError, Reader};
+use crate::error::{CodecError, NotReserved, OutOfMemory, SetupError};
 use crate::exports::{self, Session};
-use crate::info::{Info, write_infos};
+use crate::info::{Info, try_write_infos};
 use crate::ingress::Ingress;
-use crate::key::Key;
+use crate::key::{KEY_SIZE, Key};
+use crate::memory::{give_back_large, lengthen, zeros};
 use crate::payload::PayloadConfig;
 use crate::sets::{OrderedSet, TrackedPeers};
 use std::cell::RefCell;
@@ -211,12 +213,16 @@ impl Directory {
         cfg: &Config,
         limits: Limits,
     ) -> Result<Directory, SetupError> {
-        let session = Session::new();
+        let session = Session::new().ok_or(OutOfMemory)?;
         let mut spelled = Vec::new();
         for (key, ingress) in bootstrappers {
+            let size = KEY_SIZE + Ingress::MAX_ENCODE_SIZE;
+            spelled.try_reserve(size).map_err(OutOfMemory::from)?;
             spelled.extend_from_slice(&key.0);
             ingress.write(&mut spelled);
         }
+        let mut own = Vec::new();
+        myself.try_write(&mut own)?;
         let answer = session.init(
             cfg.allow_private_ips,
             cfg.allow_dns,
@@ -234,17 +240,18 @@ impl Directory {
             limits.synchrony_bound.subsec_nanos(),
             &limits.namespace,
             &spelled,
-            &myself.encode(),
+            &own,
         );
         match answer {
             exports::BAD_SETTING => return Err(SetupError::Setting),
             answer => is_done(answer)?,
         };
+        let output = zeros(FIRST_ROOM)?;
         Ok(Directory {
             held: Held::new(session)?,
             namespace: limits.namespace,
             input: RefCell::new(Vec::new()),
-            output: RefCell::new(vec![0; FIRST_ROOM]),
+            output: RefCell::new(output),
         })
     }
 
@@ -271,21 +278,31 @@ impl Directory {
         index: u64,
         peers: TrackedPeers,
     ) -> Result<Option<OrderedSet>, OutOfMemory> {
+        let torn = self.try_track(index, &peers);
+        give_back_large(self.input.get_mut());
+        give_back_large(self.output.get_mut());
+        torn
+    }
+
+    fn try_track(
+        &mut self,
+        index: u64,
+        peers: &TrackedPeers,
+    ) -> Result<Option<OrderedSet>, OutOfMemory> {
         let keys = self.input.get_mut();
         keys.clear();
-        peers.primary.write(keys);
+        peers.primary.write(keys)?;
         let split = keys.len();
-        peers.secondary.write(keys);
+        peers.secondary.write(keys)?;
         let (primary, secondary) = keys.split_at(split);
         let session = self.held.session();
-        let room = session.track_room() as usize;
-        let torn = self.output.get_mut();
-        if torn.len() < room {
-            torn.resize(room, 0);
-        }
-        let answer = session.track(index, primary, secondary, torn);
-        let length = answered(answer)?;
-        Ok(length.map(|length| OrderedSet::read(&torn[..length as usize])))
+        let out = self.output.get_mut();
+        lengthen(out, session.track_room() as usize)?;
+        // Whose connection has to end is held: so nothing is asked for once the set is taken.
+        let mut torn = Vec::new();
+        torn.try_reserve_exact(self.held.count())?;
+        let length = answered(session.track(index, primary, secondary, out))?;
+        Ok(length.map(|length| OrderedSet::read_into(torn, &out[..length as usize])))
     }
 
     /// Reserves the peer for a dial at the moment `now`, where that is allowed: it has a record, is
@@ -390,8 +407,11 @@ impl Directory {
         self.question(
             |session, out| session.reservation(&peer.0, out),
             |bytes| {
-                let ingress = Ingress::decode(&bytes[1..]).expect(OWN);
-                Metadata::Dialer(peer, ingress)
+                let mut reader = Reader::new(bytes);
+                match reader.byte()? {
+                    1 => Ok(Metadata::Dialer(peer, Ingress::read(&mut reader)?)),
+                    other => unknown(other.into()),
+                }
             },
         )
     }
@@ -414,10 +434,8 @@ impl Directory {
     pub fn connect(&mut self, peer: &Key, dialer: bool) -> Result<(), NotReserved> {
         match self.session().connect(&peer.0, dialer) {
             exports::NOT_RESERVED => Err(NotReserved),
-            answer => {
-                certain(answer);
-                Ok(())
-            }
+            1 => Ok(()),
+            other => unknown(other),
         }
     }
 
@@ -499,8 +517,10 @@ impl Directory {
     pub fn update_peers(&mut self, infos: &[Info]) -> Result<(), OutOfMemory> {
         let spelled = self.input.get_mut();
         spelled.clear();
-        write_infos(spelled, infos);
-        is_done(self.held.session().update_peers(spelled))
+        let is_taken = try_write_infos(spelled, infos)
+            .and_then(|()| is_done(self.held.session().update_peers(spelled)));
+        give_back_large(spelled);
+        is_taken
     }
 
     /// Blocks the peer from the moment `now` on, whether there is a record of it or not. False, and nothing
@@ -540,7 +560,7 @@ impl Directory {
     #[inline]
     pub fn unblock_expired(&mut self, now: Duration) -> bool {
         let (seconds, nanos) = parts(now);
-        certain(self.session().unblock_expired(seconds, nanos)) == 1
+        is_certain(self.session().unblock_expired(seconds, nanos))
     }
 
     /// Forgets the cooldown of each peer whose dial moment is at or before `now`, and answers how many
@@ -578,28 +598,44 @@ impl Directory {
     pub(crate) fn question<T>(
         &self,
         ask: impl Fn(&Session, &mut [u8]) -> u64,
-        read: impl FnOnce(&[u8]) -> T,
+        read: impl FnOnce(&[u8]) -> Result<T, ReadError>,
     ) -> Result<Option<T>, OutOfMemory> {
         let mut out = self.output.borrow_mut();
+        let answer = self.asked(&mut out, ask).and_then(|length| {
+            let answer = length.map(|length| own(read(&out[..length])));
+            answer.transpose()
+        });
+        give_back_large(&mut out);
+        answer
+    }
+
+    // How long the answer is, which stands in front.
+    fn asked(
+        &self,
+        out: &mut Vec<u8>,
+        ask: impl Fn(&Session, &mut [u8]) -> u64,
+    ) -> Result<Option<usize>, OutOfMemory> {
         loop {
-            let Some(length) = answered(ask(self.session(), &mut out))? else {
+            let Some(length) = answered(ask(self.session(), out))? else {
                 return Ok(None);
             };
             let length = length as usize;
             if length <= out.len() {
-                return Ok(Some(read(&out[..length])));
+                return Ok(Some(length));
             }
-            out.resize(length, 0);
+            lengthen(out, length.max(FIRST_ROOM))?;
         }
     }
 
-    // A question that takes no memory.
+    // A question that takes no memory, for its answer is short.
     fn certain_question<T>(
         &self,
-        ask: impl Fn(&Session, &mut [u8]) -> u64,
-        read: impl FnOnce(&[u8]) -> T,
+        ask: impl FnOnce(&Session, &mut [u8]) -> u64,
+        read: impl FnOnce(&[u8]) -> Result<T, CodecError>,
     ) -> Option<T> {
-        self.question(ask, read).expect(OWN)
+        let mut out = [0; 16];
+        let length = answered(ask(self.session(), &mut out)).expect(OWN)?;
+        Some(read(&out[..length as usize]).expect(OWN))
     }
 }
 
@@ -623,6 +659,20 @@ pub(crate) struct Limits {
 /// Why what the library answers can be read.
 pub(crate) const OWN: &str = "the library's own answer";
 
+/// What is read of the library's own answer, unless memory is refused.
+pub(crate) fn own<T>(read: Result<T, ReadError>) -> Result<T, OutOfMemory> {
+    read.map_err(|error| match error {
+        ReadError::Memory => OutOfMemory,
+        ReadError::Codec(fault) => panic!("{OWN} can't be read: {fault}"),
+    })
+}
+
+/// The library answered something that no version of it known here does: another archive is linked.
+#[cold]
+pub(crate) fn unknown(answer: u64) -> ! {
+    panic!("p2p_session answered {answer:#x}")
+}
+
 /// A moment as its seconds and nanoseconds.
 #[inline]
 pub(crate) fn parts(moment: Duration) -> (u64, u32) {
@@ -636,7 +686,7 @@ pub(crate) fn answered(answer: u64) -> Result<Option<u64>, OutOfMemory> {
     match answer {
         exports::MEMORY => Err(OutOfMemory),
         exports::NONE => Ok(None),
-        exports::BAD_VERDICTS.. => panic!("p2p_session refused with {}", u64::MAX - answer),
+        exports::BAD_VERDICTS.. => unknown(answer),
         number => Ok(Some(number)),
     }
 }
@@ -646,17 +696,33 @@ pub(crate) fn answered(answer: u64) -> Result<Option<u64>, OutOfMemory> {
 fn certain(answer: u64) -> u64 {
     match answered(answer) {
         Ok(Some(number)) => number,
-        _ => panic!("p2p_session answered {answer:#x}"),
+        Ok(None) | Err(OutOfMemory) => unknown(answer),
     }
 }
 
 #[inline]
 fn is_true(answer: u64) -> Result<bool, OutOfMemory> {
-    Ok(answered(answer)? == Some(1))
+    match answered(answer)? {
+        Some(0) => Ok(false),
+        Some(1) => Ok(true),
+        Some(_) | None => unknown(answer),
+    }
+}
+
+// Whether a call says yes that takes no memory.
+#[inline]
+fn is_certain(answer: u64) -> bool {
+    match answer {
+        0 => false,
+        1 => true,
+        other => unknown(other),
+    }
 }
 
 #[inline]
 fn is_done(answer: u64) -> Result<(), OutOfMemory> {
-    answered(answer)?;
-    Ok(())
+    match answered(answer)? {
+        Some(1) => Ok(()),
+        Some(_) | None => unknown(answer),
+    }
 }

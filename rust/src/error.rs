@@ -4,7 +4,7 @@ use std::collections::TryReserveError;
 use std::error;
 use std::fmt;
 
-/// Memory was refused, and nothing has changed: the call is as not made.
+/// Memory was refused, by the library's heap or by Rust's, and nothing has changed: the call is as not made.
 ///
 /// # Examples
 ///

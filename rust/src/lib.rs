@@ -9,6 +9,16 @@
 //!
 //! Names and shapes are those of the discovery directory of `commonware-p2p` where they can be.
 //!
+//! # Memory
+//!
+//! A call that answers [`OutOfMemory`], [`SetupError::OutOfMemory`] or [`Received::Memory`] does so whether the
+//! library's memory is refused or the crate's own, and is as not made then. Calls that can't answer it take none, but
+//! for those that make or copy a value: `clone`, `encode`, `decode`, [`Info::sign`], [`Info::signed_bytes`],
+//! [`Hostname::new`], [`OrderedSet::from_iter_dedup`] and formatting abort the program where memory is refused, as
+//! collections of the standard library do.
+//!
+//! Buffers are kept between calls, each up to 64 KiB.
+//!
 //! # Examples
 //!
 //! ```
@@ -30,12 +40,15 @@
 //! # Ok::<(), Box<dyn std::error::Error>>(())
 //! ```
 
+#![deny(unsafe_code)]
+
 #[cfg(not(target_pointer_width = "64"))]
 compile_error!("the library is built for targets whose `usize` has 64 bits");
 
 mod codec;
 mod directory;
 mod error;
+#[allow(unsafe_code)]
 #[rustfmt::skip]
 mod exports;
 mod info;

@@ -1,12 +1,12 @@
 //! A node: a directory that judges what it is told by frames, and answers them.
 
-use crate::codec::Reader;
-use crate::directory::{Config, Directory, Limits, OWN, answered, parts};
+use crate::codec::{ReadError, Reader};
+use crate::directory::{Config, Directory, Limits, OWN, answered, own, parts, unknown};
 use crate::error::{CodecError, Error, OutOfMemory, SetupError, What};
 use crate::info::Info;
 use crate::ingress::Ingress;
 use crate::key::{Key, Signature};
-use crate::memory::lengthen;
+use crate::memory::{copied, give_back_large, lengthen, zeros};
 use crate::payload::{Data, PayloadConfig};
 use crate::verification::{Judged, Question, Questions, ReceiveError, read_told};
 use std::time::Duration;
@@ -138,10 +138,11 @@ impl Node {
             synchrony_bound,
             namespace,
         };
+        let answer = zeros(FIRST_ROOM)?;
         Ok(Node {
             directory: Directory::with_limits(&bootstrappers, &myself, &cfg, limits)?,
             verdicts: Vec::new(),
-            answer: vec![0; FIRST_ROOM],
+            answer,
         })
     }
 
@@ -194,7 +195,7 @@ impl Node {
     pub fn ask(&self, place: usize) -> Result<Option<Vec<u8>>, OutOfMemory> {
         self.directory.question(
             |session, out| session.ask(place as u64, out),
-            <[u8]>::to_vec,
+            |frame| Ok(copied(frame)?),
         )
     }
 
@@ -226,8 +227,9 @@ impl Node {
         now: Duration,
         verify: impl FnMut(&Key, &[u8], &[u8], &Signature) -> bool,
     ) -> Received {
-        self.try_receive(frame, now, verify)
-            .unwrap_or(Received::Memory)
+        let received = self.try_receive(frame, now, verify);
+        give_back_large(&mut self.verdicts);
+        received.unwrap_or(Received::Memory)
     }
 
     fn try_receive(
@@ -322,14 +324,14 @@ fn told<T>(
     directory: &Directory,
     frame: &[u8],
     now: Duration,
-    read: impl FnOnce(&[u8]) -> Result<T, OutOfMemory>,
+    read: impl FnOnce(&[u8]) -> Result<T, ReadError>,
 ) -> Result<T, OutOfMemory> {
     let (seconds, nanos) = parts(now);
     let told = directory.question(
         |session, out| session.check(frame, seconds, nanos, out),
         read,
     )?;
-    told.expect(OWN)
+    Ok(told.expect(OWN))
 }
 
 // What the library answers to a frame by these verdicts.
@@ -340,13 +342,30 @@ fn received(
     now: Duration,
     verdicts: &[u8],
 ) -> Result<Received, OutOfMemory> {
+    let received = answer_of(directory, answer, frame, now, verdicts)
+        .and_then(|length| own(read_received(&answer[..length])));
+    give_back_large(answer);
+    received
+}
+
+// How long the answer is, which stands in front. What changes something is answered in the first room, so no memory is
+// asked for afterwards.
+fn answer_of(
+    directory: &Directory,
+    answer: &mut Vec<u8>,
+    frame: &[u8],
+    now: Duration,
+    verdicts: &[u8],
+) -> Result<usize, OutOfMemory> {
     let (seconds, nanos) = parts(now);
+    // A message is spelled as it came.
+    lengthen(answer, frame.len().max(FIRST_ROOM))?;
     loop {
         let session = directory.session();
         let length = answered(session.receive(frame, seconds, nanos, verdicts, answer))?;
         let length = length.expect(OWN) as usize;
         if length <= answer.len() {
-            return Ok(read_received(&answer[..length]).expect(OWN));
+            return Ok(length);
         }
         lengthen(answer, length)?;
     }
@@ -358,8 +377,8 @@ fn judge(
     namespace: &[u8],
     mut verify: impl FnMut(&Key, &[u8], &[u8], &Signature) -> bool,
     verdicts: &mut Vec<u8>,
-) -> Result<(), OutOfMemory> {
-    let (infos, questions) = read_told(told).expect(OWN);
+) -> Result<(), ReadError> {
+    let (infos, questions) = read_told(told)?;
     verdicts.clear();
     lengthen(verdicts, infos)?;
     for (verdict, asked) in verdicts.iter_mut().zip(questions) {
@@ -377,16 +396,17 @@ fn judge(
     Ok(())
 }
 
-fn read_received(bytes: &[u8]) -> Result<Received, CodecError> {
+fn read_received(bytes: &[u8]) -> Result<Received, ReadError> {
     let mut reader = Reader::new(bytes);
     Ok(match reader.byte()? {
         0 => Received::Data(Data::read(&mut reader, u64::MAX)?),
         1 => Received::Greeted,
-        2 => Received::Reply(reader.rest().to_vec()),
+        2 => Received::Reply(copied(reader.rest())?),
         3 => Received::Applied(reader.number()? as usize),
         4 => Received::Codec(read_fault(&mut reader)?),
         5 => Received::Malformed,
-        _ => Received::Invalid(read_error(&mut reader)?),
+        6 => Received::Invalid(read_error(&mut reader)?),
+        other => unknown(other.into()),
     })
 }
 
@@ -400,7 +420,8 @@ fn read_fault(reader: &mut Reader<'_>) -> Result<CodecError, CodecError> {
         5 => CodecError::Invalid(What::Hostname),
         6 => CodecError::Invalid(What::Padding),
         7 => CodecError::Invalid(What::Key),
-        _ => CodecError::Invalid(What::Signature),
+        8 => CodecError::Invalid(What::Signature),
+        other => unknown(other.into()),
     })
 }
 
@@ -409,6 +430,7 @@ fn read_error(reader: &mut Reader<'_>) -> Result<Error, CodecError> {
         0 => Error::TooManyPeers(reader.number()?),
         1 => Error::ReceivedSelf,
         2 => Error::InvalidSignature,
-        _ => Error::SynchronyBound,
+        3 => Error::SynchronyBound,
+        other => unknown(other.into()),
     })
 }

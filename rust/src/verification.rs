@@ -1,8 +1,8 @@
 //! The signatures of a frame, verified while its node does something else.
 
-use crate::codec::Reader;
+use crate::codec::{ReadError, Reader};
 use crate::directory::OWN;
-use crate::error::{CodecError, OutOfMemory};
+use crate::error::CodecError;
 use crate::key::{Key, Signature};
 use crate::memory::zeros;
 use std::error;
@@ -195,8 +195,8 @@ impl<'f> Questions<'f> {
         node: u64,
         namespace: &[u8],
         told: &[u8],
-    ) -> Result<Questions<'f>, OutOfMemory> {
-        let (infos, asked) = read_told(told).expect(OWN);
+    ) -> Result<Questions<'f>, ReadError> {
+        let (infos, asked) = read_told(told)?;
         let mut bytes = Vec::new();
         bytes.try_reserve_exact(namespace.len() + asked.0.len())?;
         bytes.extend_from_slice(namespace);

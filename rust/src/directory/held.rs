@@ -152,8 +152,14 @@ impl Held {
         self.origin.slot.count.store(0, Ordering::Relaxed);
         for peer in left.peers.drain(..) {
             self.count.set(self.count.get() - 1);
-            super::certain(self.session.release(&peer.0));
+            release(&self.session, &peer);
         }
+    }
+
+    /// How many reservations were granted and not released.
+    #[inline]
+    pub(super) fn count(&self) -> usize {
+        self.count.get()
     }
 
     /// Asks for a grant, with room for its reservation to be dropped.
@@ -180,8 +186,16 @@ impl Held {
     /// Releases one that is this session's, and was not dropped.
     #[inline]
     pub(super) fn release(&self, peer: &Key) {
-        super::certain(self.session().release(&peer.0));
+        release(self.session(), peer);
         self.count.set(self.count.get() - 1);
+    }
+}
+
+#[inline]
+fn release(session: &Session, peer: &Key) {
+    match session.release(&peer.0) {
+        1 => {}
+        other => super::unknown(other),
     }
 }
 

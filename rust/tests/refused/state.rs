@@ -90,7 +90,7 @@ impl State {
         self.node().directory()
     }
 
-    fn node_mut(&mut self) -> &mut Node {
+    pub fn node_mut(&mut self) -> &mut Node {
         self.node.as_mut().expect("there is a node")
     }
 
