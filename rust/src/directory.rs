@@ -1,12 +1,13 @@
 //! The directory of peers.
 
+use crate::answer::{OWN, Room, answered, certain, is_certain, is_done, is_true, unknown};
 use crate::codec::{ReadError, Reader};
 use crate::error::{CodecError, NotReserved, OutOfMemory, SetupError};
 use crate::exports::{self, Session};
 use crate::info::{Info, try_write_infos};
 use crate::ingress::Ingress;
 use crate::key::{KEY_SIZE, Key};
-use crate::memory::{give_back_large, lengthen, zeros};
+use crate::memory::give_back_large;
 use crate::payload::PayloadConfig;
 use crate::sets::{OrderedSet, TrackedPeers};
 use std::cell::RefCell;
@@ -158,7 +159,7 @@ pub struct Directory {
     namespace: Vec<u8>,
     // What is handed in, and what comes out.
     input: RefCell<Vec<u8>>,
-    output: RefCell<Vec<u8>>,
+    output: RefCell<Room>,
 }
 
 /// How many bytes what comes out has room for at first: enough for what a call that changes something
@@ -246,7 +247,7 @@ impl Directory {
             exports::BAD_SETTING => return Err(SetupError::Setting),
             answer => is_done(answer)?,
         };
-        let output = zeros(FIRST_ROOM)?;
+        let output = Room::new(FIRST_ROOM)?;
         Ok(Directory {
             held: Held::new(session)?,
             namespace: limits.namespace,
@@ -280,7 +281,7 @@ impl Directory {
     ) -> Result<Option<OrderedSet>, OutOfMemory> {
         let torn = self.try_track(index, &peers);
         give_back_large(self.input.get_mut());
-        give_back_large(self.output.get_mut());
+        self.output.get_mut().give_back();
         torn
     }
 
@@ -297,7 +298,7 @@ impl Directory {
         let (primary, secondary) = keys.split_at(split);
         let session = self.held.session();
         let out = self.output.get_mut();
-        lengthen(out, session.track_room() as usize)?;
+        let out = out.least(session.track_room() as usize)?;
         // Whose connection has to end is held: so nothing is asked for once the set is taken.
         let mut torn = Vec::new();
         torn.try_reserve_exact(self.held.count())?;
@@ -594,37 +595,25 @@ impl Directory {
         &self.namespace
     }
 
-    // Asks, with more room where what comes out has too little, and reads what came out.
-    pub(crate) fn question<T>(
+    // Asks with at least so much room, and reads what came out.
+    pub(crate) fn question_in<T>(
+        &self,
+        room: usize,
+        ask: impl Fn(&Session, &mut [u8]) -> u64,
+        read: impl FnOnce(&[u8]) -> Result<T, ReadError>,
+    ) -> Result<Option<T>, OutOfMemory> {
+        let session = self.session();
+        let mut out = self.output.borrow_mut();
+        out.asked(room, |out| ask(session, out), read)
+    }
+
+    // Asks, and reads what came out.
+    fn question<T>(
         &self,
         ask: impl Fn(&Session, &mut [u8]) -> u64,
         read: impl FnOnce(&[u8]) -> Result<T, ReadError>,
     ) -> Result<Option<T>, OutOfMemory> {
-        let mut out = self.output.borrow_mut();
-        let answer = self.asked(&mut out, ask).and_then(|length| {
-            let answer = length.map(|length| own(read(&out[..length])));
-            answer.transpose()
-        });
-        give_back_large(&mut out);
-        answer
-    }
-
-    // How long the answer is, which stands in front.
-    fn asked(
-        &self,
-        out: &mut Vec<u8>,
-        ask: impl Fn(&Session, &mut [u8]) -> u64,
-    ) -> Result<Option<usize>, OutOfMemory> {
-        loop {
-            let Some(length) = answered(ask(self.session(), out))? else {
-                return Ok(None);
-            };
-            let length = length as usize;
-            if length <= out.len() {
-                return Ok(Some(length));
-            }
-            lengthen(out, length.max(FIRST_ROOM))?;
-        }
+        self.question_in(0, ask, read)
     }
 
     // A question that takes no memory, for its answer is short.
@@ -656,73 +645,8 @@ pub(crate) struct Limits {
     pub(crate) namespace: Vec<u8>,
 }
 
-/// Why what the library answers can be read.
-pub(crate) const OWN: &str = "the library's own answer";
-
-/// What is read of the library's own answer, unless memory is refused.
-pub(crate) fn own<T>(read: Result<T, ReadError>) -> Result<T, OutOfMemory> {
-    read.map_err(|error| match error {
-        ReadError::Memory => OutOfMemory,
-        ReadError::Codec(fault) => panic!("{OWN} can't be read: {fault}"),
-    })
-}
-
-/// The library answered something that no version of it known here does: another archive is linked.
-#[cold]
-pub(crate) fn unknown(answer: u64) -> ! {
-    panic!("p2p_session answered {answer:#x}")
-}
-
 /// A moment as its seconds and nanoseconds.
 #[inline]
 pub(crate) fn parts(moment: Duration) -> (u64, u32) {
     (moment.as_secs(), moment.subsec_nanos())
-}
-
-/// The number that was answered, `None`, or want of memory. No other refusal can come of arguments that
-/// are typed.
-#[inline]
-pub(crate) fn answered(answer: u64) -> Result<Option<u64>, OutOfMemory> {
-    match answer {
-        exports::MEMORY => Err(OutOfMemory),
-        exports::NONE => Ok(None),
-        exports::BAD_VERDICTS.. => unknown(answer),
-        number => Ok(Some(number)),
-    }
-}
-
-// The number that a call answered that takes no memory.
-#[inline]
-fn certain(answer: u64) -> u64 {
-    match answered(answer) {
-        Ok(Some(number)) => number,
-        Ok(None) | Err(OutOfMemory) => unknown(answer),
-    }
-}
-
-#[inline]
-fn is_true(answer: u64) -> Result<bool, OutOfMemory> {
-    match answered(answer)? {
-        Some(0) => Ok(false),
-        Some(1) => Ok(true),
-        Some(_) | None => unknown(answer),
-    }
-}
-
-// Whether a call says yes that takes no memory.
-#[inline]
-fn is_certain(answer: u64) -> bool {
-    match answer {
-        0 => false,
-        1 => true,
-        other => unknown(other),
-    }
-}
-
-#[inline]
-fn is_done(answer: u64) -> Result<(), OutOfMemory> {
-    match answered(answer)? {
-        Some(1) => Ok(()),
-        Some(_) | None => unknown(answer),
-    }
 }

@@ -5,6 +5,9 @@ use crate::error::{CodecError, OutOfMemory};
 use crate::ingress::Ingress;
 use crate::key::{KEY_SIZE, Key, SIGNATURE_SIZE, Signature};
 
+/// How many bytes the spelling of an info has at least: of the shortest name, in one byte, and a timestamp of one byte.
+pub(crate) const MIN_INFO_SIZE: usize = 5 + 1 + KEY_SIZE + SIGNATURE_SIZE;
+
 /// What a peer says of itself: where it can be dialled, since when, and its signature over both.
 ///
 /// # Examples
@@ -162,9 +165,14 @@ impl Info {
 
     /// Appends the spelling, unless memory is refused.
     pub(crate) fn try_write(&self, out: &mut Vec<u8>) -> Result<(), OutOfMemory> {
-        out.try_reserve(Info::max_encode_size())?;
+        out.try_reserve(self.max_size())?;
         self.write(out);
         Ok(())
+    }
+
+    // How long the spelling is at most: its timestamp may be shorter.
+    fn max_size(&self) -> usize {
+        self.ingress.max_size() + MAX_VARINT_SIZE + KEY_SIZE + SIGNATURE_SIZE
     }
 
     pub(crate) fn write(&self, out: &mut Vec<u8>) {
@@ -200,9 +208,10 @@ pub(crate) fn write_infos(out: &mut Vec<u8>, infos: &[Info]) {
 
 /// Appends the spelling of a list of infos, unless memory is refused.
 pub(crate) fn try_write_infos(out: &mut Vec<u8>, infos: &[Info]) -> Result<(), OutOfMemory> {
-    out.try_reserve(MAX_VARINT_SIZE)?;
-    write_varint(out, infos.len() as u64);
-    infos.iter().try_for_each(|info| info.try_write(out))
+    let size: usize = infos.iter().map(Info::max_size).sum();
+    out.try_reserve_exact(MAX_VARINT_SIZE + size)?;
+    write_infos(out, infos);
+    Ok(())
 }
 
 /// Reads a list of infos, at most so many. Room is made for what is there, not for what is announced.

@@ -229,6 +229,14 @@ impl Ingress {
         Ok(ingress)
     }
 
+    /// How long the spelling is at most.
+    pub(crate) fn max_size(&self) -> usize {
+        match self {
+            Ingress::Socket(_) => 1 + 1 + 16 + 2,
+            Ingress::Dns { host, .. } => 1 + 5 + host.0.len() + 2,
+        }
+    }
+
     pub(crate) fn write(&self, out: &mut Vec<u8>) {
         match self {
             Ingress::Socket(socket) => {

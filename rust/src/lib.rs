@@ -45,6 +45,7 @@
 #[cfg(not(target_pointer_width = "64"))]
 compile_error!("the library is built for targets whose `usize` has 64 bits");
 
+mod answer;
 mod codec;
 mod directory;
 mod error;

@@ -1,13 +1,14 @@
 //! A node: a directory that judges what it is told by frames, and answers them.
 
+use crate::answer::{OWN, Room, unknown};
 use crate::codec::{ReadError, Reader};
-use crate::directory::{Config, Directory, Limits, OWN, answered, own, parts, unknown};
+use crate::directory::{Config, Directory, Limits, parts};
 use crate::error::{CodecError, Error, OutOfMemory, SetupError, What};
 use crate::info::Info;
 use crate::ingress::Ingress;
 use crate::key::{Key, Signature};
-use crate::memory::{copied, give_back_large, lengthen, zeros};
-use crate::payload::{Data, PayloadConfig};
+use crate::memory::{copied, give_back_large, lengthen};
+use crate::payload::{Data, Payload, PayloadConfig};
 use crate::verification::{Judged, Question, Questions, ReceiveError, read_told};
 use std::time::Duration;
 
@@ -98,7 +99,7 @@ pub struct Node {
     // What was judged of the infos of a frame.
     verdicts: Vec<u8>,
     // What the answer to a frame has room for.
-    answer: Vec<u8>,
+    answer: Room,
 }
 
 /// How many bytes an answer has room for at first: enough for each that changes something.
@@ -138,7 +139,7 @@ impl Node {
             synchrony_bound,
             namespace,
         };
-        let answer = zeros(FIRST_ROOM)?;
+        let answer = Room::new(FIRST_ROOM)?;
         Ok(Node {
             directory: Directory::with_limits(&bootstrappers, &myself, &cfg, limits)?,
             verdicts: Vec::new(),
@@ -193,7 +194,8 @@ impl Node {
     /// assert_eq!(node.ask(0), Ok(None));
     /// ```
     pub fn ask(&self, place: usize) -> Result<Option<Vec<u8>>, OutOfMemory> {
-        self.directory.question(
+        self.directory.question_in(
+            0,
             |session, out| session.ask(place as u64, out),
             |frame| Ok(copied(frame)?),
         )
@@ -327,48 +329,31 @@ fn told<T>(
     read: impl FnOnce(&[u8]) -> Result<T, ReadError>,
 ) -> Result<T, OutOfMemory> {
     let (seconds, nanos) = parts(now);
-    let told = directory.question(
+    let told = directory.question_in(
+        Payload::room_to_check(frame),
         |session, out| session.check(frame, seconds, nanos, out),
         read,
     )?;
     Ok(told.expect(OWN))
 }
 
-// What the library answers to a frame by these verdicts.
+// What the library answers to a frame by these verdicts. What changes something is answered in the first room, so no
+// memory is asked for afterwards.
 fn received(
     directory: &Directory,
-    answer: &mut Vec<u8>,
+    answer: &mut Room,
     frame: &[u8],
     now: Duration,
     verdicts: &[u8],
 ) -> Result<Received, OutOfMemory> {
-    let received = answer_of(directory, answer, frame, now, verdicts)
-        .and_then(|length| own(read_received(&answer[..length])));
-    give_back_large(answer);
-    received
-}
-
-// How long the answer is, which stands in front. What changes something is answered in the first room, so no memory is
-// asked for afterwards.
-fn answer_of(
-    directory: &Directory,
-    answer: &mut Vec<u8>,
-    frame: &[u8],
-    now: Duration,
-    verdicts: &[u8],
-) -> Result<usize, OutOfMemory> {
     let (seconds, nanos) = parts(now);
-    // A message is spelled as it came.
-    lengthen(answer, frame.len().max(FIRST_ROOM))?;
-    loop {
-        let session = directory.session();
-        let length = answered(session.receive(frame, seconds, nanos, verdicts, answer))?;
-        let length = length.expect(OWN) as usize;
-        if length <= answer.len() {
-            return Ok(length);
-        }
-        lengthen(answer, length)?;
-    }
+    let session = directory.session();
+    let received = answer.asked(
+        Payload::room_to_receive(frame),
+        |out| session.receive(frame, seconds, nanos, verdicts, out),
+        read_received,
+    )?;
+    Ok(received.expect(OWN))
 }
 
 // What the closure says of each info whose signature decides, up to the first false, and false of the others.

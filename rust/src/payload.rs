@@ -2,7 +2,7 @@
 
 use crate::codec::{MAX_VARINT_SIZE, ReadError, Reader, write_varint};
 use crate::error::{CodecError, OutOfMemory, What};
-use crate::info::{Info, read_infos, write_infos};
+use crate::info::{Info, MIN_INFO_SIZE, read_infos, write_infos};
 use crate::memory::copied;
 
 const DATA_PREFIX: u8 = 0;
@@ -118,7 +118,12 @@ impl BitVec {
         let bytes = reader.take(count.div_ceil(8) as usize)?;
         let mut bits = Vec::new();
         bits.try_reserve_exact(count as usize)?;
-        bits.extend((0..count as usize).map(|place| is_set(bytes, place)));
+        bits.resize(count as usize, false);
+        for (bits, byte) in bits.chunks_mut(8).zip(bytes) {
+            for (place, bit) in bits.iter_mut().enumerate() {
+                *bit = byte >> place & 1 == 1;
+            }
+        }
         let unused = count as usize..8 * bytes.len();
         if unused.into_iter().any(|place| is_set(bytes, place)) {
             return Err(CodecError::Invalid(What::Padding).into());
@@ -199,6 +204,23 @@ impl Payload {
         let payload = Payload::read(&mut reader, limits).map_err(ReadError::fault)?;
         reader.end()?;
         Ok(payload)
+    }
+
+    /// How long at most what has to be verified of a frame is, as the library tells it: where the frame has infos, each
+    /// is told with its length, and with its timestamp in eight bytes in place of one at least.
+    pub(crate) fn room_to_check(frame: &[u8]) -> usize {
+        match frame.first() {
+            Some(&PEERS_PREFIX) => frame.len() + frame.len() / MIN_INFO_SIZE * 15 + 8,
+            _ => 0,
+        }
+    }
+
+    /// How long the answer to a frame is that has a message: it is spelled as it came.
+    pub(crate) fn room_to_receive(frame: &[u8]) -> usize {
+        match frame.first() {
+            Some(&DATA_PREFIX) => frame.len(),
+            _ => 0,
+        }
     }
 
     fn read(reader: &mut Reader<'_>, limits: &PayloadConfig) -> Result<Payload, ReadError> {

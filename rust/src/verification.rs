@@ -1,7 +1,7 @@
 //! The signatures of a frame, verified while its node does something else.
 
+use crate::answer::OWN;
 use crate::codec::{ReadError, Reader};
-use crate::directory::OWN;
 use crate::error::CodecError;
 use crate::key::{Key, Signature};
 use crate::memory::zeros;

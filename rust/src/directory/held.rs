@@ -1,5 +1,6 @@
 //! A session with what is held of its grants: reservations that were dropped are released before the next call.
 
+use crate::answer::{is_true, unknown};
 use crate::error::OutOfMemory;
 use crate::exports::Session;
 use crate::key::Key;
@@ -169,7 +170,7 @@ impl Held {
         if self.count.get() == self.room {
             self.make_room()?;
         }
-        let is_granted = super::is_true(ask(&self.session))?;
+        let is_granted = is_true(ask(&self.session))?;
         self.count.set(self.count.get() + usize::from(is_granted));
         Ok(is_granted)
     }
@@ -195,7 +196,7 @@ impl Held {
 fn release(session: &Session, peer: &Key) {
     match session.release(&peer.0) {
         1 => {}
-        other => super::unknown(other),
+        other => unknown(other),
     }
 }
 

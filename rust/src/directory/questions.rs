@@ -1,6 +1,7 @@
 //! What a directory answers of how it stands. None of these calls changes anything.
 
-use super::{Dialable, Directory, OWN, PeerSetUpdate, Status, certain, is_certain, parts, unknown};
+use super::{Dialable, Directory, PeerSetUpdate, Status, parts};
+use crate::answer::{OWN, certain, is_certain, unknown};
 use crate::codec::{ReadError, Reader};
 use crate::error::OutOfMemory;
 use crate::exports::{self, Session};

@@ -164,7 +164,7 @@ fn dropping_takes_no_memory() {
 fn infos_are_offered_or_refused() {
     let _alone = alone();
     let infos = vec![info(3, 2000), named_info(5, 2000, "c.d"), info(1, 2000)];
-    // There is room for the first of them.
+    // The spelling of them all.
     refuse_each(
         1,
         || introduced().tracks(1, &[1, 3, 5], &[]),
