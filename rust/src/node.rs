@@ -96,6 +96,8 @@ pub enum Received {
 #[derive(Debug)]
 pub struct Node {
     directory: Directory,
+    // Which directory was made with the limits of this node.
+    id: u64,
     // What was judged of the infos of a frame.
     verdicts: Vec<u8>,
     // What the answer to a frame has room for.
@@ -140,8 +142,10 @@ impl Node {
             namespace,
         };
         let answer = Room::new(FIRST_ROOM)?;
+        let directory = Directory::with_limits(&bootstrappers, &myself, &cfg, limits)?;
         Ok(Node {
-            directory: Directory::with_limits(&bootstrappers, &myself, &cfg, limits)?,
+            id: directory.id(),
+            directory,
             verdicts: Vec::new(),
             answer,
         })
@@ -162,6 +166,9 @@ impl Node {
     }
 
     /// The directory, to make calls that change it.
+    ///
+    /// It has the limits and the namespace of the node, and no other directory has them: where another is put in its
+    /// place, by `mem::swap` or an assignment, the node takes no frame any more, but panics.
     ///
     /// # Examples
     ///
@@ -185,6 +192,10 @@ impl Node {
     ///
     /// [`OutOfMemory`].
     ///
+    /// # Panics
+    ///
+    /// Where another directory was put in the place of the node's own.
+    ///
     /// # Examples
     ///
     /// ```
@@ -194,6 +205,7 @@ impl Node {
     /// assert_eq!(node.ask(0), Ok(None));
     /// ```
     pub fn ask(&self, place: usize) -> Result<Option<Vec<u8>>, OutOfMemory> {
+        self.expect_own_directory();
         self.directory.question_in(
             0,
             |session, out| session.ask(place as u64, out),
@@ -208,6 +220,11 @@ impl Node {
     /// anything changes. It is asked nothing behind the first info that is refused, for its signature or for
     /// something else. Where the node has something else to do while signatures are verified, there are
     /// [`Node::check`] and [`Node::receive_judged`].
+    ///
+    /// # Panics
+    ///
+    /// Where the closure does, and nothing has changed then; and where another directory was put in the place of the
+    /// node's own.
     ///
     /// # Examples
     ///
@@ -229,9 +246,20 @@ impl Node {
         now: Duration,
         verify: impl FnMut(&Key, &[u8], &[u8], &Signature) -> bool,
     ) -> Received {
+        self.expect_own_directory();
         let received = self.try_receive(frame, now, verify);
         give_back_large(&mut self.verdicts);
         received.unwrap_or(Received::Memory)
+    }
+
+    // Frames are read under the limits that the directory was made with. They can't be given to another one, and a
+    // host that hands `&mut Directory` on should go on doing so: so what can't be refused there is refused here.
+    fn expect_own_directory(&self) {
+        assert_eq!(
+            self.directory.id(),
+            self.id,
+            "another directory is in the place of the node's own"
+        );
     }
 
     fn try_receive(
@@ -244,6 +272,7 @@ impl Node {
             directory,
             verdicts,
             answer,
+            ..
         } = self;
         let namespace = directory.namespace();
         told(directory, frame, now, |told| {
@@ -259,6 +288,10 @@ impl Node {
     /// # Errors
     ///
     /// [`OutOfMemory`].
+    ///
+    /// # Panics
+    ///
+    /// Where another directory was put in the place of the node's own.
     ///
     /// # Examples
     ///
@@ -279,10 +312,10 @@ impl Node {
     /// # Ok::<(), Box<dyn std::error::Error>>(())
     /// ```
     pub fn check<'f>(&self, frame: &'f [u8], now: Duration) -> Result<Questions<'f>, OutOfMemory> {
-        let Node { directory, .. } = self;
-        let (id, namespace) = (directory.id(), directory.namespace());
+        self.expect_own_directory();
+        let Node { directory, id, .. } = self;
         told(directory, frame, now, |told| {
-            Questions::new(frame, now, id, namespace, told)
+            Questions::new(frame, now, *id, directory.namespace(), told)
         })
     }
 
@@ -292,6 +325,10 @@ impl Node {
     /// # Errors
     ///
     /// Gives the frame back where another node checked it; then nothing has changed.
+    ///
+    /// # Panics
+    ///
+    /// Where another directory was put in the place of the node's own.
     ///
     /// # Examples
     ///
@@ -304,12 +341,13 @@ impl Node {
     /// # Ok::<(), Box<dyn std::error::Error>>(())
     /// ```
     pub fn receive_judged<'f>(&mut self, judged: Judged<'f>) -> Result<Received, ReceiveError<'f>> {
+        self.expect_own_directory();
+        if judged.node != self.id {
+            return Err(ReceiveError { judged });
+        }
         let Node {
             directory, answer, ..
         } = self;
-        if judged.node != directory.id() {
-            return Err(ReceiveError { judged });
-        }
         let Judged {
             frame,
             now,
