@@ -215,15 +215,10 @@ impl Directory {
         limits: Limits,
     ) -> Result<Directory, SetupError> {
         let session = Session::new().ok_or(OutOfMemory)?;
-        let mut spelled = Vec::new();
-        for (key, ingress) in bootstrappers {
-            let size = KEY_SIZE + Ingress::MAX_ENCODE_SIZE;
-            spelled.try_reserve(size).map_err(OutOfMemory::from)?;
-            spelled.extend_from_slice(&key.0);
-            ingress.write(&mut spelled);
-        }
+        let spelled = spelled(bootstrappers)?;
         let mut own = Vec::new();
         myself.try_write(&mut own)?;
+        let output = Room::new(FIRST_ROOM)?;
         let answer = session.init(
             cfg.allow_private_ips,
             cfg.allow_dns,
@@ -247,7 +242,6 @@ impl Directory {
             exports::BAD_SETTING => return Err(SetupError::Setting),
             answer => is_done(answer)?,
         };
-        let output = Room::new(FIRST_ROOM)?;
         Ok(Directory {
             held: Held::new(session)?,
             namespace: limits.namespace,
@@ -635,6 +629,21 @@ impl fmt::Debug for Directory {
             .field("latest_set_index", &self.latest_set_index())
             .finish_non_exhaustive()
     }
+}
+
+// Their keys and ingresses, one after the other.
+fn spelled(bootstrappers: &[(Key, Ingress)]) -> Result<Vec<u8>, OutOfMemory> {
+    let sizes = bootstrappers.iter();
+    let size: usize = sizes
+        .map(|(_, ingress)| KEY_SIZE + ingress.max_size())
+        .sum();
+    let mut spelled = Vec::new();
+    spelled.try_reserve_exact(size)?;
+    for (key, ingress) in bootstrappers {
+        spelled.extend_from_slice(&key.0);
+        ingress.write(&mut spelled);
+    }
+    Ok(spelled)
 }
 
 /// What a node has besides its directory's configuration.

@@ -109,11 +109,11 @@ fn a_directory_is_made_or_refused() {
         assert_eq!(made.err(), Some(SetupError::OutOfMemory), "{place}");
         None
     });
-    // The session, bootstrappers (twice), the own info, the room of answers, the list of slots, and a slot.
-    assert_eq!(made, Some((1 + 7, 2)));
+    // The session, bootstrappers, the own info, the room of answers, the list of slots, and a slot.
+    assert_eq!(made, Some((1 + 6, 2)));
     drop(kept);
     // A node has more room for answers, and finds a slot.
-    refuse_each(6, State::nothing, setup, State::make);
+    refuse_each(5, State::nothing, setup, State::make);
 }
 
 #[test]
@@ -233,7 +233,7 @@ fn frames_are_taken_or_refused() {
     };
     refuse_each(1, known, data(100), take);
     refuse_each(0, known, vec![4], take);
-    // In two steps: the questions, a verdict for each info, and the verdicts are taken as they are.
+    // In two steps: the questions and a verdict for each info.
     refuse_each(
         2,
         known,
