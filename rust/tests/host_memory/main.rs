@@ -161,6 +161,25 @@ fn dropping_takes_no_memory() {
 }
 
 #[test]
+fn there_is_room_for_as_many_as_are_held() {
+    let _alone = alone();
+    let mut state = new();
+    let directory = state.directory_mut();
+    let mut listen = |round: u32| {
+        let now = NOW + round * Duration::from_secs(10);
+        let held = directory.listen(&key(1), now, Duration::ZERO);
+        let held = held.expect("memory").expect("its cooldown is over");
+        match round % 2 {
+            0 => drop(held),
+            _ => directory.release(held).expect("its own"),
+        }
+    };
+    listen(0);
+    let ((), refused) = while_refused(Refused::From(1), || (1..20).for_each(listen));
+    assert_eq!(refused, 0);
+}
+
+#[test]
 fn infos_are_offered_or_refused() {
     let _alone = alone();
     let infos = vec![info(3, 2000), named_info(5, 2000, "c.d"), info(1, 2000)];
