@@ -32,13 +32,16 @@ fn connected(number: u16, other: u16, known: u16) -> Result<Connected, Box<dyn E
     directory.update_peers(&[info(known, 1000)])?;
     for peer in [other, known] {
         let granted = directory.listen(&key(peer), NOW, Duration::ZERO)?;
-        held.push(granted.ok_or("the peer may not come")?);
-        directory.connect(&key(peer), false)?;
+        let reservation = granted.ok_or("the peer may not come")?;
+        // What an error drops is given back, this one and those before it.
+        directory.connect_reserved(&reservation)?;
+        held.push(reservation);
     }
     Ok(Connected { node, held })
 }
 
-/// Greets, asks once, answers what comes, ends its connections, and says whose infos it knows.
+/// Greets, asks once, answers what comes, ends its connections, and says whose infos it knows. Where it fails, its
+/// connections end all the same, for reservations that are dropped are given back.
 fn talk(
     number: u16,
     connected: Connected,

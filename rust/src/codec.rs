@@ -1,7 +1,48 @@
 //! How numbers, lengths and moments are spelled, and read again: docs/FORMATS.md of the repository.
 
-use crate::error::CodecError;
+use crate::error::{CodecError, OutOfMemory};
+use std::alloc::{Layout, handle_alloc_error};
+use std::collections::TryReserveError;
 use std::time::Duration;
+
+/// How many bytes a number in groups of seven bits has at most.
+pub(crate) const MAX_VARINT_SIZE: usize = 10;
+
+/// Why a value is not read.
+#[derive(Debug)]
+pub(crate) enum ReadError {
+    Codec(CodecError),
+    Memory,
+}
+
+impl ReadError {
+    /// The fault, for calls that can't answer that memory is wanted: where it is, the program is aborted, as Rust's
+    /// collections do.
+    pub(crate) fn fault(self) -> CodecError {
+        match self {
+            ReadError::Codec(fault) => fault,
+            ReadError::Memory => handle_alloc_error(Layout::new::<u8>()),
+        }
+    }
+}
+
+impl From<CodecError> for ReadError {
+    fn from(fault: CodecError) -> ReadError {
+        ReadError::Codec(fault)
+    }
+}
+
+impl From<OutOfMemory> for ReadError {
+    fn from(_refused: OutOfMemory) -> ReadError {
+        ReadError::Memory
+    }
+}
+
+impl From<TryReserveError> for ReadError {
+    fn from(_refused: TryReserveError) -> ReadError {
+        ReadError::Memory
+    }
+}
 
 /// What is left of some bytes.
 pub(crate) struct Reader<'a> {
@@ -73,13 +114,8 @@ impl<'a> Reader<'a> {
         Ok(Duration::new(seconds, nanos))
     }
 
-    /// Whether nothing is left.
-    #[inline]
-    pub(crate) fn is_empty(&self) -> bool {
-        self.bytes.is_empty()
-    }
-
     /// What is left.
+    #[inline]
     pub(crate) fn rest(self) -> &'a [u8] {
         self.bytes
     }

@@ -1,22 +1,26 @@
 //! The directory of peers.
 
-use crate::error::{NotReserved, OutOfMemory, SetupError};
+use crate::answer::{OWN, Room, answered, certain, is_certain, is_done, is_true, unknown};
+use crate::codec::{ReadError, Reader};
+use crate::error::{CodecError, NotReserved, OutOfMemory, SetupError};
 use crate::exports::{self, Session};
-use crate::info::{Info, write_infos};
+use crate::info::{Info, try_write_infos};
 use crate::ingress::Ingress;
-use crate::key::Key;
+use crate::key::{KEY_SIZE, Key};
+use crate::memory::give_back_large;
 use crate::payload::PayloadConfig;
 use crate::sets::{OrderedSet, TrackedPeers};
 use std::cell::RefCell;
 use std::fmt;
 use std::num::NonZeroUsize;
-use std::sync::atomic::{AtomicU64, Ordering};
 use std::time::Duration;
 
+mod held;
 mod questions;
 mod reservation;
 
-pub use reservation::{Metadata, ReleaseError, Reservation};
+use held::Held;
+pub use reservation::{ConnectError, Metadata, ReleaseError, Reservation};
 
 /// How a directory behaves.
 ///
@@ -150,21 +154,17 @@ pub struct Dialable {
 /// # Ok::<(), Box<dyn std::error::Error>>(())
 /// ```
 pub struct Directory {
-    session: Session,
-    // Which directory of the process it is: a reservation belongs to one.
-    id: u64,
+    held: Held,
     // In which infos are signed.
     namespace: Vec<u8>,
     // What is handed in, and what comes out.
     input: RefCell<Vec<u8>>,
-    output: RefCell<Vec<u8>>,
+    output: RefCell<Room>,
 }
 
 /// How many bytes what comes out has room for at first: enough for what a call that changes something
 /// answers, but for a track.
 const FIRST_ROOM: usize = 512;
-
-static NEXT_ID: AtomicU64 = AtomicU64::new(0);
 
 impl Directory {
     /// A directory that retains no set and blocks nobody. A later bootstrapper of a key replaces an
@@ -214,12 +214,11 @@ impl Directory {
         cfg: &Config,
         limits: Limits,
     ) -> Result<Directory, SetupError> {
-        let session = Session::new();
-        let mut spelled = Vec::new();
-        for (key, ingress) in bootstrappers {
-            spelled.extend_from_slice(&key.0);
-            ingress.write(&mut spelled);
-        }
+        let session = Session::new().ok_or(OutOfMemory)?;
+        let spelled = spelled(bootstrappers)?;
+        let mut own = Vec::new();
+        myself.try_write(&mut own)?;
+        let output = Room::new(FIRST_ROOM)?;
         let answer = session.init(
             cfg.allow_private_ips,
             cfg.allow_dns,
@@ -237,18 +236,17 @@ impl Directory {
             limits.synchrony_bound.subsec_nanos(),
             &limits.namespace,
             &spelled,
-            &myself.encode(),
+            &own,
         );
         match answer {
             exports::BAD_SETTING => return Err(SetupError::Setting),
             answer => is_done(answer)?,
         };
         Ok(Directory {
-            session,
-            id: NEXT_ID.fetch_add(1, Ordering::Relaxed),
+            held: Held::new(session)?,
             namespace: limits.namespace,
             input: RefCell::new(Vec::new()),
-            output: RefCell::new(vec![0; FIRST_ROOM]),
+            output: RefCell::new(output),
         })
     }
 
@@ -275,20 +273,31 @@ impl Directory {
         index: u64,
         peers: TrackedPeers,
     ) -> Result<Option<OrderedSet>, OutOfMemory> {
+        let torn = self.try_track(index, &peers);
+        give_back_large(self.input.get_mut());
+        self.output.get_mut().give_back();
+        torn
+    }
+
+    fn try_track(
+        &mut self,
+        index: u64,
+        peers: &TrackedPeers,
+    ) -> Result<Option<OrderedSet>, OutOfMemory> {
         let keys = self.input.get_mut();
         keys.clear();
-        peers.primary.write(keys);
+        peers.primary.write(keys)?;
         let split = keys.len();
-        peers.secondary.write(keys);
+        peers.secondary.write(keys)?;
         let (primary, secondary) = keys.split_at(split);
-        let room = self.session.track_room() as usize;
-        let torn = self.output.get_mut();
-        if torn.len() < room {
-            torn.resize(room, 0);
-        }
-        let answer = self.session.track(index, primary, secondary, torn);
-        let length = answered(answer)?;
-        Ok(length.map(|length| OrderedSet::read(&torn[..length as usize])))
+        let session = self.held.session();
+        let out = self.output.get_mut();
+        let out = out.least(session.track_room() as usize)?;
+        // Whose connection has to end is held: so nothing is asked for once the set is taken.
+        let mut torn = Vec::new();
+        torn.try_reserve_exact(self.held.count())?;
+        let length = answered(session.track(index, primary, secondary, out))?;
+        Ok(length.map(|length| OrderedSet::read_into(torn, &out[..length as usize])))
     }
 
     /// Reserves the peer for a dial at the moment `now`, where that is allowed: it has a record, is
@@ -320,10 +329,10 @@ impl Directory {
     ) -> Result<Option<Reservation>, OutOfMemory> {
         let (seconds, nanos) = parts(now);
         let (draw_seconds, draw_nanos) = parts(draw);
-        let answer = self
-            .session
-            .dial(&peer.0, seconds, nanos, draw_seconds, draw_nanos);
-        self.granted(peer, true, answer)
+        let is_granted = self
+            .held
+            .grant(|session| session.dial(&peer.0, seconds, nanos, draw_seconds, draw_nanos))?;
+        Ok(is_granted.then(|| Reservation::new(*peer, true, self.held.origin())))
     }
 
     /// Reserves the peer for a connection that it asks for at the moment `now`, where that is allowed: it
@@ -356,20 +365,10 @@ impl Directory {
     ) -> Result<Option<Reservation>, OutOfMemory> {
         let (seconds, nanos) = parts(now);
         let (draw_seconds, draw_nanos) = parts(draw);
-        let answer = self
-            .session
-            .listen(&peer.0, seconds, nanos, draw_seconds, draw_nanos);
-        self.granted(peer, false, answer)
-    }
-
-    #[inline]
-    fn granted(
-        &self,
-        peer: &Key,
-        is_dialer: bool,
-        answer: u64,
-    ) -> Result<Option<Reservation>, OutOfMemory> {
-        Ok(is_true(answer)?.then(|| Reservation::new(*peer, is_dialer, self.id)))
+        let is_granted = self
+            .held
+            .grant(|session| session.listen(&peer.0, seconds, nanos, draw_seconds, draw_nanos))?;
+        Ok(is_granted.then(|| Reservation::new(*peer, false, self.held.origin())))
     }
 
     /// Whom a reservation is for, and in which direction: with the very address that is to be dialled.
@@ -394,7 +393,7 @@ impl Directory {
     /// ```
     pub fn metadata(&self, reservation: &Reservation) -> Result<Option<Metadata>, OutOfMemory> {
         let peer = *reservation.public_key();
-        if !reservation.is_of(self.id) {
+        if !reservation.is_of(self.held.origin()) {
             return Ok(None);
         }
         if !reservation.is_dialer() {
@@ -403,8 +402,11 @@ impl Directory {
         self.question(
             |session, out| session.reservation(&peer.0, out),
             |bytes| {
-                let ingress = Ingress::decode(&bytes[1..]).expect(OWN);
-                Metadata::Dialer(peer, ingress)
+                let mut reader = Reader::new(bytes);
+                match reader.byte()? {
+                    1 => Ok(Metadata::Dialer(peer, Ingress::read(&mut reader)?)),
+                    other => unknown(other.into()),
+                }
             },
         )
     }
@@ -425,13 +427,39 @@ impl Directory {
     /// ```
     #[inline]
     pub fn connect(&mut self, peer: &Key, dialer: bool) -> Result<(), NotReserved> {
-        match self.session.connect(&peer.0, dialer) {
+        match self.session().connect(&peer.0, dialer) {
             exports::NOT_RESERVED => Err(NotReserved),
-            answer => {
-                certain(answer);
-                Ok(())
-            }
+            1 => Ok(()),
+            other => unknown(other),
         }
+    }
+
+    /// Connects the peer of a reservation, as its dialer where [`Directory::dial`] granted it.
+    ///
+    /// # Errors
+    ///
+    /// [`ConnectError`]; then nothing has changed.
+    ///
+    /// # Examples
+    ///
+    /// ```
+    /// # use p2p_directory::*; use std::time::Duration;
+    /// # let mut directory = testing::directory();
+    /// # let (peer, now) = (testing::key(1), Duration::from_secs(1));
+    /// # directory.track(0, OrderedSet::from_iter_dedup([peer]).into())?;
+    /// let reservation = directory.listen(&peer, now, Duration::ZERO)?.expect("in a set");
+    /// directory.connect_reserved(&reservation)?;
+    /// assert_eq!(directory.status(&peer), Some(Status::Active));
+    /// assert_eq!(directory.connect_reserved(&reservation), Err(ConnectError::NotReserved));
+    /// # directory.release(reservation).expect("its own");
+    /// # Ok::<(), Box<dyn std::error::Error>>(())
+    /// ```
+    #[inline]
+    pub fn connect_reserved(&mut self, reservation: &Reservation) -> Result<(), ConnectError> {
+        if !reservation.is_of(self.held.origin()) {
+            return Err(ConnectError::OfAnotherDirectory);
+        }
+        Ok(self.connect(reservation.public_key(), reservation.is_dialer())?)
     }
 
     /// Ends a reservation, and the connection that was made of it. A dialer's counts as one more failure
@@ -455,10 +483,10 @@ impl Directory {
     /// ```
     #[inline]
     pub fn release(&mut self, reservation: Reservation) -> Result<(), ReleaseError> {
-        if !reservation.is_of(self.id) {
+        if !reservation.is_of(self.held.origin()) {
             return Err(ReleaseError { reservation });
         }
-        certain(self.session.release(&reservation.public_key().0));
+        self.held.release(&reservation.into_peer());
         Ok(())
     }
 
@@ -484,8 +512,10 @@ impl Directory {
     pub fn update_peers(&mut self, infos: &[Info]) -> Result<(), OutOfMemory> {
         let spelled = self.input.get_mut();
         spelled.clear();
-        write_infos(spelled, infos);
-        is_done(self.session.update_peers(spelled))
+        let is_taken = try_write_infos(spelled, infos)
+            .and_then(|()| is_done(self.held.session().update_peers(spelled)));
+        give_back_large(spelled);
+        is_taken
     }
 
     /// Blocks the peer from the moment `now` on, whether there is a record of it or not. False, and nothing
@@ -509,7 +539,7 @@ impl Directory {
     #[inline]
     pub fn block(&mut self, peer: &Key, now: Duration) -> Result<bool, OutOfMemory> {
         let (seconds, nanos) = parts(now);
-        is_true(self.session.block(&peer.0, seconds, nanos))
+        is_true(self.session().block(&peer.0, seconds, nanos))
     }
 
     /// Ends the blocks that hold until the moment `now` or an earlier one, and answers whether there were
@@ -525,7 +555,7 @@ impl Directory {
     #[inline]
     pub fn unblock_expired(&mut self, now: Duration) -> bool {
         let (seconds, nanos) = parts(now);
-        certain(self.session.unblock_expired(seconds, nanos)) == 1
+        is_certain(self.session().unblock_expired(seconds, nanos))
     }
 
     /// Forgets the cooldown of each peer whose dial moment is at or before `now`, and answers how many
@@ -541,43 +571,54 @@ impl Directory {
     #[inline]
     pub fn forget_cooled(&mut self, now: Duration) -> usize {
         let (seconds, nanos) = parts(now);
-        certain(self.session.forget_cooled(seconds, nanos)) as usize
+        certain(self.session().forget_cooled(seconds, nanos)) as usize
     }
 
+    // The session: all that was dropped is released before.
+    #[inline]
     pub(crate) fn session(&self) -> &Session {
-        &self.session
+        self.held.session()
+    }
+
+    // Which directory of the process it is.
+    pub(crate) fn id(&self) -> u64 {
+        self.held.origin().id()
     }
 
     pub(crate) fn namespace(&self) -> &[u8] {
         &self.namespace
     }
 
-    // Asks, with more room where what comes out has too little, and reads what came out.
-    pub(crate) fn question<T>(
+    // Asks with at least so much room, and reads what came out.
+    pub(crate) fn question_in<T>(
         &self,
+        room: usize,
         ask: impl Fn(&Session, &mut [u8]) -> u64,
-        read: impl FnOnce(&[u8]) -> T,
+        read: impl FnOnce(&[u8]) -> Result<T, ReadError>,
     ) -> Result<Option<T>, OutOfMemory> {
+        let session = self.session();
         let mut out = self.output.borrow_mut();
-        loop {
-            let Some(length) = answered(ask(&self.session, &mut out))? else {
-                return Ok(None);
-            };
-            let length = length as usize;
-            if length <= out.len() {
-                return Ok(Some(read(&out[..length])));
-            }
-            out.resize(length, 0);
-        }
+        out.asked(room, |out| ask(session, out), read)
     }
 
-    // A question that takes no memory.
-    fn certain_question<T>(
+    // Asks, and reads what came out.
+    fn question<T>(
         &self,
         ask: impl Fn(&Session, &mut [u8]) -> u64,
-        read: impl FnOnce(&[u8]) -> T,
+        read: impl FnOnce(&[u8]) -> Result<T, ReadError>,
+    ) -> Result<Option<T>, OutOfMemory> {
+        self.question_in(0, ask, read)
+    }
+
+    // A question that takes no memory, for its answer is short.
+    fn certain_question<T>(
+        &self,
+        ask: impl FnOnce(&Session, &mut [u8]) -> u64,
+        read: impl FnOnce(&[u8]) -> Result<T, CodecError>,
     ) -> Option<T> {
-        self.question(ask, read).expect(OWN)
+        let mut out = [0; 16];
+        let length = answered(ask(self.session(), &mut out)).expect(OWN)?;
+        Some(read(&out[..length as usize]).expect(OWN))
     }
 }
 
@@ -590,6 +631,21 @@ impl fmt::Debug for Directory {
     }
 }
 
+// Their keys and ingresses, one after the other.
+fn spelled(bootstrappers: &[(Key, Ingress)]) -> Result<Vec<u8>, OutOfMemory> {
+    let sizes = bootstrappers.iter();
+    let size: usize = sizes
+        .map(|(_, ingress)| KEY_SIZE + ingress.max_size())
+        .sum();
+    let mut spelled = Vec::new();
+    spelled.try_reserve_exact(size)?;
+    for (key, ingress) in bootstrappers {
+        spelled.extend_from_slice(&key.0);
+        ingress.write(&mut spelled);
+    }
+    Ok(spelled)
+}
+
 /// What a node has besides its directory's configuration.
 pub(crate) struct Limits {
     pub(crate) payload: PayloadConfig,
@@ -598,43 +654,8 @@ pub(crate) struct Limits {
     pub(crate) namespace: Vec<u8>,
 }
 
-/// Why what the library answers can be read.
-pub(crate) const OWN: &str = "the library's own answer";
-
 /// A moment as its seconds and nanoseconds.
 #[inline]
 pub(crate) fn parts(moment: Duration) -> (u64, u32) {
     (moment.as_secs(), moment.subsec_nanos())
-}
-
-/// The number that was answered, `None`, or want of memory. No other refusal can come of arguments that
-/// are typed.
-#[inline]
-pub(crate) fn answered(answer: u64) -> Result<Option<u64>, OutOfMemory> {
-    match answer {
-        exports::MEMORY => Err(OutOfMemory),
-        exports::NONE => Ok(None),
-        exports::BAD_VERDICTS.. => panic!("p2p_session refused with {}", u64::MAX - answer),
-        number => Ok(Some(number)),
-    }
-}
-
-// The number that a call answered that takes no memory.
-#[inline]
-fn certain(answer: u64) -> u64 {
-    match answered(answer) {
-        Ok(Some(number)) => number,
-        _ => panic!("p2p_session answered {answer:#x}"),
-    }
-}
-
-#[inline]
-fn is_true(answer: u64) -> Result<bool, OutOfMemory> {
-    Ok(answered(answer)? == Some(1))
-}
-
-#[inline]
-fn is_done(answer: u64) -> Result<(), OutOfMemory> {
-    answered(answer)?;
-    Ok(())
 }

@@ -1,9 +1,10 @@
 //! What calls are refused with.
 
+use std::collections::TryReserveError;
 use std::error;
 use std::fmt;
 
-/// Memory was refused, and nothing has changed: the call is as not made.
+/// Memory was refused, by the library's heap or by Rust's, and nothing has changed: the call is as not made.
 ///
 /// # Examples
 ///
@@ -169,6 +170,12 @@ impl error::Error for SetupError {}
 impl error::Error for NotReserved {}
 impl error::Error for Error {}
 impl error::Error for CodecError {}
+
+impl From<TryReserveError> for OutOfMemory {
+    fn from(_refused: TryReserveError) -> OutOfMemory {
+        OutOfMemory
+    }
+}
 
 impl From<OutOfMemory> for SetupError {
     fn from(_refused: OutOfMemory) -> SetupError {

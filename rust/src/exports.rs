@@ -11,7 +11,7 @@
 
 #![allow(dead_code)]
 
-use std::alloc::{Layout, alloc, dealloc, handle_alloc_error};
+use std::alloc::{Layout, alloc, dealloc};
 
 /// The room of a session.
 #[repr(C)]
@@ -238,17 +238,17 @@ pub struct Session {
 unsafe impl Send for Session {}
 
 impl Session {
-    /// A session with no node.
-    pub fn new() -> Session {
+    /// A session with no node, or `None` where memory is refused.
+    pub fn new() -> Option<Session> {
         let layout = layout();
         // SAFETY: the size isn't 0.
         let at = unsafe { alloc(layout) }.cast::<Handle>();
         if at.is_null() {
-            handle_alloc_error(layout);
+            return None;
         }
         // SAFETY: the room has this size and alignment.
         unsafe { p2p_session_new(at) };
-        Session { at }
+        Some(Session { at })
     }
 
     /// Makes the node, which a session has once: 1. max_sets is at least 1 and below UINT64_MAX,

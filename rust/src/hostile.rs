@@ -62,7 +62,7 @@ impl Draws {
 }
 
 fn session() -> Session {
-    let session = Session::new();
+    let session = Session::new().expect("memory for a session");
     assert_eq!(session.tracked(), exports::NO_NODE);
     let myself = testing::info(9, 0).encode();
     let init = |max_sets, myself: &[u8]| {
@@ -173,7 +173,7 @@ fn request(session: &Session, draws: &mut Draws, out: &mut [u8]) -> (u64, u64) {
 // The bytes, or where these happen to spell infos others that don't.
 fn no_infos(bytes: Vec<u8>) -> Vec<u8> {
     let mut reader = Reader::new(&bytes);
-    match read_infos(&mut reader, u64::MAX).and_then(|_| reader.end()) {
+    match read_infos(&mut reader, u64::MAX).and_then(|_| Ok(reader.end()?)) {
         Ok(()) => vec![1],
         Err(_) => bytes,
     }
@@ -181,7 +181,7 @@ fn no_infos(bytes: Vec<u8>) -> Vec<u8> {
 
 fn no_bits(bytes: Vec<u8>) -> Vec<u8> {
     let mut reader = Reader::new(&bytes);
-    match BitVec::read(&mut reader, u64::from(u32::MAX)).and_then(|_| reader.end()) {
+    match BitVec::read(&mut reader, u64::from(u32::MAX)).and_then(|_| Ok(reader.end()?)) {
         Ok(()) => vec![1],
         Err(_) => bytes,
     }

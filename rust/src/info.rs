@@ -1,9 +1,12 @@
 //! What peers say of themselves, signed.
 
-use crate::codec::{Reader, write_varint};
-use crate::error::CodecError;
+use crate::codec::{MAX_VARINT_SIZE, ReadError, Reader, write_varint};
+use crate::error::{CodecError, OutOfMemory};
 use crate::ingress::Ingress;
 use crate::key::{KEY_SIZE, Key, SIGNATURE_SIZE, Signature};
+
+/// How many bytes the spelling of an info has at least: of the shortest name, in one byte, and a timestamp of one byte.
+pub(crate) const MIN_INFO_SIZE: usize = 5 + 1 + KEY_SIZE + SIGNATURE_SIZE;
 
 /// What a peer says of itself: where it can be dialled, since when, and its signature over both.
 ///
@@ -155,9 +158,21 @@ impl Info {
     /// ```
     pub fn decode(bytes: &[u8]) -> Result<Info, CodecError> {
         let mut reader = Reader::new(bytes);
-        let info = Info::read(&mut reader)?;
+        let info = Info::read(&mut reader).map_err(ReadError::fault)?;
         reader.end()?;
         Ok(info)
+    }
+
+    /// Appends the spelling, unless memory is refused.
+    pub(crate) fn try_write(&self, out: &mut Vec<u8>) -> Result<(), OutOfMemory> {
+        out.try_reserve(self.max_size())?;
+        self.write(out);
+        Ok(())
+    }
+
+    // How long the spelling is at most: its timestamp may be shorter.
+    fn max_size(&self) -> usize {
+        self.ingress.max_size() + MAX_VARINT_SIZE + KEY_SIZE + SIGNATURE_SIZE
     }
 
     pub(crate) fn write(&self, out: &mut Vec<u8>) {
@@ -167,7 +182,7 @@ impl Info {
         out.extend_from_slice(&self.signature.0);
     }
 
-    pub(crate) fn read(reader: &mut Reader<'_>) -> Result<Info, CodecError> {
+    pub(crate) fn read(reader: &mut Reader<'_>) -> Result<Info, ReadError> {
         Ok(Info {
             ingress: Ingress::read(reader)?,
             timestamp: reader.varint()?,
@@ -191,11 +206,25 @@ pub(crate) fn write_infos(out: &mut Vec<u8>, infos: &[Info]) {
     }
 }
 
-/// Reads a list of infos, at most so many.
-pub(crate) fn read_infos(reader: &mut Reader<'_>, most: u64) -> Result<Vec<Info>, CodecError> {
+/// Appends the spelling of a list of infos, unless memory is refused.
+pub(crate) fn try_write_infos(out: &mut Vec<u8>, infos: &[Info]) -> Result<(), OutOfMemory> {
+    let size: usize = infos.iter().map(Info::max_size).sum();
+    out.try_reserve_exact(MAX_VARINT_SIZE + size)?;
+    write_infos(out, infos);
+    Ok(())
+}
+
+/// Reads a list of infos, at most so many. Room is made for what is there, not for what is announced.
+pub(crate) fn read_infos(reader: &mut Reader<'_>, most: u64) -> Result<Vec<Info>, ReadError> {
     let count = reader.length()?;
     if count > most {
-        return Err(CodecError::InvalidLength(count));
+        return Err(CodecError::InvalidLength(count).into());
     }
-    (0..count).map(|_| Info::read(reader)).collect()
+    let mut infos = Vec::new();
+    for _ in 0..count {
+        let info = Info::read(reader)?;
+        infos.try_reserve(1)?;
+        infos.push(info);
+    }
+    Ok(infos)
 }

@@ -1,6 +1,6 @@
 //! Where a peer can be dialled.
 
-use crate::codec::{Reader, write_varint};
+use crate::codec::{ReadError, Reader, write_varint};
 use crate::error::{CodecError, What};
 use std::fmt;
 use std::net::{IpAddr, SocketAddr};
@@ -59,7 +59,7 @@ impl Hostname {
     /// ```
     pub fn new(text: &str) -> Result<Hostname, CodecError> {
         judge_length(text.len() as u64)?;
-        read_text(text.as_bytes())
+        read_text(text.as_bytes()).map_err(ReadError::fault)
     }
 
     /// The text.
@@ -81,7 +81,7 @@ impl Hostname {
         out.extend_from_slice(self.0.as_bytes());
     }
 
-    pub(crate) fn read(reader: &mut Reader<'_>) -> Result<Hostname, CodecError> {
+    pub(crate) fn read(reader: &mut Reader<'_>) -> Result<Hostname, ReadError> {
         let length = reader.length()?;
         judge_length(length)?;
         read_text(reader.take(length as usize)?)
@@ -101,12 +101,15 @@ fn judge_length(length: u64) -> Result<(), CodecError> {
     Ok(())
 }
 
-fn read_text(text: &[u8]) -> Result<Hostname, CodecError> {
+fn read_text(text: &[u8]) -> Result<Hostname, ReadError> {
     if !text.split(|byte| *byte == b'.').all(is_label) {
-        return Err(CodecError::Invalid(What::Hostname));
+        return Err(CodecError::Invalid(What::Hostname).into());
     }
     let text = std::str::from_utf8(text).map_err(|_| CodecError::Invalid(What::Hostname))?;
-    Ok(Hostname(text.to_owned()))
+    let mut name = String::new();
+    name.try_reserve_exact(text.len())?;
+    name.push_str(text);
+    Ok(Hostname(name))
 }
 
 fn is_label(label: &[u8]) -> bool {
@@ -221,9 +224,17 @@ impl Ingress {
     /// ```
     pub fn decode(bytes: &[u8]) -> Result<Ingress, CodecError> {
         let mut reader = Reader::new(bytes);
-        let ingress = Ingress::read(&mut reader)?;
+        let ingress = Ingress::read(&mut reader).map_err(ReadError::fault)?;
         reader.end()?;
         Ok(ingress)
+    }
+
+    /// How long the spelling is at most.
+    pub(crate) fn max_size(&self) -> usize {
+        match self {
+            Ingress::Socket(_) => 1 + 1 + 16 + 2,
+            Ingress::Dns { host, .. } => 1 + 5 + host.0.len() + 2,
+        }
     }
 
     pub(crate) fn write(&self, out: &mut Vec<u8>) {
@@ -249,7 +260,7 @@ impl Ingress {
         out.extend_from_slice(&self.port().to_be_bytes());
     }
 
-    pub(crate) fn read(reader: &mut Reader<'_>) -> Result<Ingress, CodecError> {
+    pub(crate) fn read(reader: &mut Reader<'_>) -> Result<Ingress, ReadError> {
         match reader.byte()? {
             SOCKET_PREFIX => Ok(Ingress::Socket(read_socket(reader)?)),
             DNS_PREFIX => {
@@ -257,7 +268,7 @@ impl Ingress {
                 let port = reader.short()?;
                 Ok(Ingress::Dns { host, port })
             }
-            other => Err(CodecError::InvalidEnum(other)),
+            other => Err(CodecError::InvalidEnum(other).into()),
         }
     }
 }

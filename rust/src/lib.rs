@@ -9,6 +9,16 @@
 //!
 //! Names and shapes are those of the discovery directory of `commonware-p2p` where they can be.
 //!
+//! # Memory
+//!
+//! A call that answers [`OutOfMemory`], [`SetupError::OutOfMemory`] or [`Received::Memory`] does so whether the
+//! library's memory is refused or the crate's own, and is as not made then. Calls that can't answer it take none, but
+//! for those that make or copy a value: `clone`, `encode`, `decode`, [`Info::sign`], [`Info::signed_bytes`],
+//! [`Hostname::new`], [`OrderedSet::from_iter_dedup`] and formatting abort the program where memory is refused, as
+//! collections of the standard library do.
+//!
+//! Buffers are kept between calls, each up to 64 KiB.
+//!
 //! # Examples
 //!
 //! ```
@@ -21,7 +31,8 @@
 //! let now = Duration::from_secs(100);
 //! for peer in directory.dialable(now)?.peers {
 //!     if let Some(reservation) = directory.dial(&peer, now, Duration::ZERO)? {
-//!         directory.connect(&peer, true)?;
+//!         // A reservation that an error drops is given back.
+//!         directory.connect_reserved(&reservation)?;
 //!         // .. the connection ..
 //!         directory.release(reservation)?;
 //!     }
@@ -29,24 +40,31 @@
 //! # Ok::<(), Box<dyn std::error::Error>>(())
 //! ```
 
+#![deny(unsafe_code)]
+
 #[cfg(not(target_pointer_width = "64"))]
 compile_error!("the library is built for targets whose `usize` has 64 bits");
 
+mod answer;
 mod codec;
 mod directory;
 mod error;
+#[allow(unsafe_code)]
 #[rustfmt::skip]
 mod exports;
 mod info;
 mod ingress;
 mod key;
+mod memory;
 mod node;
 mod payload;
 mod sets;
 pub mod testing;
+mod verification;
 
 pub use directory::{
-    Config, Dialable, Directory, Metadata, PeerSetUpdate, ReleaseError, Reservation, Status,
+    Config, ConnectError, Dialable, Directory, Metadata, PeerSetUpdate, ReleaseError, Reservation,
+    Status,
 };
 pub use error::{CodecError, Error, NotReserved, OutOfMemory, SetupError, What};
 pub use info::Info;
@@ -55,6 +73,7 @@ pub use key::{KEY_SIZE, Key, SIGNATURE_SIZE, Signature};
 pub use node::{Node, Received, Setup};
 pub use payload::{BitVec, Data, Payload, PayloadConfig};
 pub use sets::{DuplicateKey, OrderedSet, TrackedPeers};
+pub use verification::{Judged, Question, Questions, QuestionsIter, ReceiveError, WrongVerdicts};
 
 #[cfg(test)]
 mod hostile;

@@ -1,12 +1,15 @@
 //! A node: a directory that judges what it is told by frames, and answers them.
 
-use crate::codec::Reader;
-use crate::directory::{Config, Directory, Limits, OWN, answered, parts};
+use crate::answer::{OWN, Room, unknown};
+use crate::codec::{ReadError, Reader};
+use crate::directory::{Config, Directory, Limits, parts};
 use crate::error::{CodecError, Error, OutOfMemory, SetupError, What};
 use crate::info::Info;
 use crate::ingress::Ingress;
 use crate::key::{Key, Signature};
-use crate::payload::{Data, PayloadConfig};
+use crate::memory::{copied, give_back_large, lengthen};
+use crate::payload::{Data, Payload, PayloadConfig};
+use crate::verification::{Judged, Question, Questions, ReceiveError, read_told};
 use std::time::Duration;
 
 /// What a node is made from.
@@ -93,10 +96,12 @@ pub enum Received {
 #[derive(Debug)]
 pub struct Node {
     directory: Directory,
+    // Which directory was made with the limits of this node.
+    id: u64,
     // What was judged of the infos of a frame.
     verdicts: Vec<u8>,
     // What the answer to a frame has room for.
-    answer: Vec<u8>,
+    answer: Room,
 }
 
 /// How many bytes an answer has room for at first: enough for each that changes something.
@@ -136,10 +141,13 @@ impl Node {
             synchrony_bound,
             namespace,
         };
+        let answer = Room::new(FIRST_ROOM)?;
+        let directory = Directory::with_limits(&bootstrappers, &myself, &cfg, limits)?;
         Ok(Node {
-            directory: Directory::with_limits(&bootstrappers, &myself, &cfg, limits)?,
+            id: directory.id(),
+            directory,
             verdicts: Vec::new(),
-            answer: vec![0; FIRST_ROOM],
+            answer,
         })
     }
 
@@ -158,6 +166,9 @@ impl Node {
     }
 
     /// The directory, to make calls that change it.
+    ///
+    /// It has the limits and the namespace of the node, and no other directory has them: where another is put in its
+    /// place, by `mem::swap` or an assignment, the node takes no frame any more, but panics.
     ///
     /// # Examples
     ///
@@ -181,6 +192,10 @@ impl Node {
     ///
     /// [`OutOfMemory`].
     ///
+    /// # Panics
+    ///
+    /// Where another directory was put in the place of the node's own.
+    ///
     /// # Examples
     ///
     /// ```
@@ -190,9 +205,11 @@ impl Node {
     /// assert_eq!(node.ask(0), Ok(None));
     /// ```
     pub fn ask(&self, place: usize) -> Result<Option<Vec<u8>>, OutOfMemory> {
-        self.directory.question(
+        self.expect_own_directory();
+        self.directory.question_in(
+            0,
             |session, out| session.ask(place as u64, out),
-            <[u8]>::to_vec,
+            |frame| Ok(copied(frame)?),
         )
     }
 
@@ -200,8 +217,14 @@ impl Node {
     ///
     /// The closure says of a key, the namespace, signed bytes and a signature whether the signature is
     /// right. It is asked once for each info whose signature decides, in the order of the frame, and before
-    /// anything changes: so it may take its time, and none is asked behind the first info that is refused
-    /// for something else.
+    /// anything changes. It is asked nothing behind the first info that is refused, for its signature or for
+    /// something else. Where the node has something else to do while signatures are verified, there are
+    /// [`Node::check`] and [`Node::receive_judged`].
+    ///
+    /// # Panics
+    ///
+    /// Where the closure does, and nothing has changed then; and where another directory was put in the place of the
+    /// node's own.
     ///
     /// # Examples
     ///
@@ -221,67 +244,192 @@ impl Node {
         &mut self,
         frame: &[u8],
         now: Duration,
-        verify: impl Fn(&Key, &[u8], &[u8], &Signature) -> bool,
+        verify: impl FnMut(&Key, &[u8], &[u8], &Signature) -> bool,
     ) -> Received {
+        self.expect_own_directory();
+        let received = self.try_receive(frame, now, verify);
+        give_back_large(&mut self.verdicts);
+        received.unwrap_or(Received::Memory)
+    }
+
+    // Frames are read under the limits that the directory was made with. They can't be given to another one, and a
+    // host that hands `&mut Directory` on should go on doing so: so what can't be refused there is refused here.
+    fn expect_own_directory(&self) {
+        assert_eq!(
+            self.directory.id(),
+            self.id,
+            "another directory is in the place of the node's own"
+        );
+    }
+
+    fn try_receive(
+        &mut self,
+        frame: &[u8],
+        now: Duration,
+        verify: impl FnMut(&Key, &[u8], &[u8], &Signature) -> bool,
+    ) -> Result<Received, OutOfMemory> {
         let Node {
             directory,
             verdicts,
             answer,
+            ..
         } = self;
-        let (seconds, nanos) = parts(now);
-        let checked = directory.question(
-            |session, out| session.check(frame, seconds, nanos, out),
-            |items| judge(items, directory.namespace(), verify, verdicts).expect(OWN),
-        );
-        if checked.is_err() {
-            return Received::Memory;
+        let namespace = directory.namespace();
+        told(directory, frame, now, |told| {
+            judge(told, namespace, verify, verdicts)
+        })?;
+        received(directory, answer, frame, now, verdicts)
+    }
+
+    /// What has to be verified of a frame that came at the moment `now`, before [`Node::receive_judged`] takes it:
+    /// the two are [`Node::receive`], with as much time and as many threads between them as signatures want. Nothing
+    /// changes, and nothing is kept: a frame that is not taken afterwards may be forgotten.
+    ///
+    /// # Errors
+    ///
+    /// [`OutOfMemory`].
+    ///
+    /// # Panics
+    ///
+    /// Where another directory was put in the place of the node's own.
+    ///
+    /// # Examples
+    ///
+    /// ```
+    /// # use p2p_directory::*; use std::time::Duration;
+    /// # let mut node = Node::new(testing::setup(9)).unwrap();
+    /// let frame = Payload::Peers(vec![testing::info(1, 0), testing::info(2, 0)]).encode();
+    /// let questions = node.check(&frame, Duration::from_secs(1))?;
+    /// let verdicts: Vec<bool> = questions
+    ///     .iter()
+    ///     .map(|asked| {
+    ///         let Question { public_key, message, signature } = asked;
+    ///         testing::verify(&public_key, questions.namespace(), message, &signature)
+    ///     })
+    ///     .collect();
+    /// let judged = questions.judged(verdicts)?;
+    /// assert_eq!(node.receive_judged(judged).unwrap(), Received::Applied(2));
+    /// # Ok::<(), Box<dyn std::error::Error>>(())
+    /// ```
+    pub fn check<'f>(&self, frame: &'f [u8], now: Duration) -> Result<Questions<'f>, OutOfMemory> {
+        self.expect_own_directory();
+        let Node { directory, id, .. } = self;
+        told(directory, frame, now, |told| {
+            Questions::new(frame, now, *id, directory.namespace(), told)
+        })
+    }
+
+    /// Takes a frame whose signatures are verified, at the moment at which it was checked, and answers it as
+    /// [`Node::receive`] does. An info that [`Node::check`] did not ask about is never applied.
+    ///
+    /// # Errors
+    ///
+    /// Gives the frame back where another node checked it; then nothing has changed.
+    ///
+    /// # Panics
+    ///
+    /// Where another directory was put in the place of the node's own.
+    ///
+    /// # Examples
+    ///
+    /// ```
+    /// # use p2p_directory::*; use std::time::Duration;
+    /// # let mut node = Node::new(testing::setup(9)).unwrap();
+    /// let frame = Payload::Greeting(testing::info(1, 1000)).encode();
+    /// let judged = node.check(&frame, Duration::from_secs(1))?.judged([true])?;
+    /// assert_eq!(node.receive_judged(judged).unwrap(), Received::Greeted);
+    /// # Ok::<(), Box<dyn std::error::Error>>(())
+    /// ```
+    pub fn receive_judged<'f>(&mut self, judged: Judged<'f>) -> Result<Received, ReceiveError<'f>> {
+        self.expect_own_directory();
+        if judged.node != self.id {
+            return Err(ReceiveError { judged });
         }
-        loop {
-            let session = directory.session();
-            let Ok(length) = answered(session.receive(frame, seconds, nanos, verdicts, answer))
-            else {
-                return Received::Memory;
-            };
-            let length = length.expect(OWN) as usize;
-            if length <= answer.len() {
-                return read_received(&answer[..length]).expect(OWN);
-            }
-            answer.resize(length, 0);
-        }
+        let Node {
+            directory, answer, ..
+        } = self;
+        let Judged {
+            frame,
+            now,
+            verdicts,
+            ..
+        } = judged;
+        let received = received(directory, answer, frame, now, &verdicts);
+        Ok(received.unwrap_or(Received::Memory))
     }
 }
 
-// What the closure says of each info whose signature decides, and false of the others.
+// Reads what the library asks of a frame.
+fn told<T>(
+    directory: &Directory,
+    frame: &[u8],
+    now: Duration,
+    read: impl FnOnce(&[u8]) -> Result<T, ReadError>,
+) -> Result<T, OutOfMemory> {
+    let (seconds, nanos) = parts(now);
+    let told = directory.question_in(
+        Payload::room_to_check(frame),
+        |session, out| session.check(frame, seconds, nanos, out),
+        read,
+    )?;
+    Ok(told.expect(OWN))
+}
+
+// What the library answers to a frame by these verdicts. What changes something is answered in the first room, so no
+// memory is asked for afterwards.
+fn received(
+    directory: &Directory,
+    answer: &mut Room,
+    frame: &[u8],
+    now: Duration,
+    verdicts: &[u8],
+) -> Result<Received, OutOfMemory> {
+    let (seconds, nanos) = parts(now);
+    let session = directory.session();
+    let received = answer.asked(
+        Payload::room_to_receive(frame),
+        |out| session.receive(frame, seconds, nanos, verdicts, out),
+        read_received,
+    )?;
+    Ok(received.expect(OWN))
+}
+
+// What the closure says of each info whose signature decides, up to the first false, and false of the others.
 fn judge(
-    items: &[u8],
+    told: &[u8],
     namespace: &[u8],
-    verify: impl Fn(&Key, &[u8], &[u8], &Signature) -> bool,
+    mut verify: impl FnMut(&Key, &[u8], &[u8], &Signature) -> bool,
     verdicts: &mut Vec<u8>,
-) -> Result<(), CodecError> {
-    let mut reader = Reader::new(items);
-    let count = reader.number()? as usize;
+) -> Result<(), ReadError> {
+    let (infos, questions) = read_told(told)?;
     verdicts.clear();
-    while !reader.is_empty() {
-        let length = reader.number()? as usize;
-        let key = Key(reader.array()?);
-        let message = reader.take(length)?;
-        let signature = Signature(reader.array()?);
-        verdicts.push(verify(&key, namespace, message, &signature).into());
+    lengthen(verdicts, infos)?;
+    for (verdict, asked) in verdicts.iter_mut().zip(questions) {
+        let Question {
+            public_key,
+            message,
+            signature,
+        } = asked;
+        let is_right = verify(&public_key, namespace, message, &signature);
+        *verdict = is_right.into();
+        if !is_right {
+            break;
+        }
     }
-    verdicts.resize(count, 0);
     Ok(())
 }
 
-fn read_received(bytes: &[u8]) -> Result<Received, CodecError> {
+fn read_received(bytes: &[u8]) -> Result<Received, ReadError> {
     let mut reader = Reader::new(bytes);
     Ok(match reader.byte()? {
         0 => Received::Data(Data::read(&mut reader, u64::MAX)?),
         1 => Received::Greeted,
-        2 => Received::Reply(reader.rest().to_vec()),
+        2 => Received::Reply(copied(reader.rest())?),
         3 => Received::Applied(reader.number()? as usize),
         4 => Received::Codec(read_fault(&mut reader)?),
         5 => Received::Malformed,
-        _ => Received::Invalid(read_error(&mut reader)?),
+        6 => Received::Invalid(read_error(&mut reader)?),
+        other => unknown(other.into()),
     })
 }
 
@@ -295,7 +443,8 @@ fn read_fault(reader: &mut Reader<'_>) -> Result<CodecError, CodecError> {
         5 => CodecError::Invalid(What::Hostname),
         6 => CodecError::Invalid(What::Padding),
         7 => CodecError::Invalid(What::Key),
-        _ => CodecError::Invalid(What::Signature),
+        8 => CodecError::Invalid(What::Signature),
+        other => unknown(other.into()),
     })
 }
 
@@ -304,6 +453,7 @@ fn read_error(reader: &mut Reader<'_>) -> Result<Error, CodecError> {
         0 => Error::TooManyPeers(reader.number()?),
         1 => Error::ReceivedSelf,
         2 => Error::InvalidSignature,
-        _ => Error::SynchronyBound,
+        3 => Error::SynchronyBound,
+        other => unknown(other.into()),
     })
 }

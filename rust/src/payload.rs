@@ -1,8 +1,9 @@
 //! What peers send each other.
 
-use crate::codec::{Reader, write_varint};
-use crate::error::{CodecError, What};
-use crate::info::{Info, read_infos, write_infos};
+use crate::codec::{MAX_VARINT_SIZE, ReadError, Reader, write_varint};
+use crate::error::{CodecError, OutOfMemory, What};
+use crate::info::{Info, MIN_INFO_SIZE, read_infos, write_infos};
+use crate::memory::copied;
 
 const DATA_PREFIX: u8 = 0;
 const GREETING_PREFIX: u8 = 1;
@@ -91,7 +92,14 @@ pub enum Payload {
 }
 
 impl BitVec {
-    pub(crate) fn write(&self, out: &mut Vec<u8>) {
+    /// Appends the spelling, unless memory is refused.
+    pub(crate) fn try_write(&self, out: &mut Vec<u8>) -> Result<(), OutOfMemory> {
+        out.try_reserve(2 * MAX_VARINT_SIZE + self.bits.len().div_ceil(8))?;
+        self.write(out);
+        Ok(())
+    }
+
+    fn write(&self, out: &mut Vec<u8>) {
         write_varint(out, self.index);
         write_varint(out, self.bits.len() as u64);
         let bytes = self.bits.chunks(8).map(|bits| {
@@ -101,31 +109,37 @@ impl BitVec {
         out.extend(bytes);
     }
 
-    pub(crate) fn read(reader: &mut Reader<'_>, most: u64) -> Result<BitVec, CodecError> {
+    pub(crate) fn read(reader: &mut Reader<'_>, most: u64) -> Result<BitVec, ReadError> {
         let index = reader.varint()?;
         let count = reader.varint()?;
         if count > most {
-            return Err(CodecError::InvalidLength(count));
+            return Err(CodecError::InvalidLength(count).into());
         }
         let bytes = reader.take(count.div_ceil(8) as usize)?;
-        let bits = (0..count as usize).map(|place| is_set(bytes, place));
-        let bits = bits.collect();
+        let mut bits = Vec::new();
+        bits.try_reserve_exact(count as usize)?;
+        bits.resize(count as usize, false);
+        for (bits, byte) in bits.chunks_mut(8).zip(bytes) {
+            for (place, bit) in bits.iter_mut().enumerate() {
+                *bit = byte >> place & 1 == 1;
+            }
+        }
         let unused = count as usize..8 * bytes.len();
         if unused.into_iter().any(|place| is_set(bytes, place)) {
-            return Err(CodecError::Invalid(What::Padding));
+            return Err(CodecError::Invalid(What::Padding).into());
         }
         Ok(BitVec { index, bits })
     }
 }
 
 impl Data {
-    pub(crate) fn read(reader: &mut Reader<'_>, most: u64) -> Result<Data, CodecError> {
+    pub(crate) fn read(reader: &mut Reader<'_>, most: u64) -> Result<Data, ReadError> {
         let channel = reader.varint()?;
         let length = reader.length()?;
         if length > most {
-            return Err(CodecError::InvalidLength(length));
+            return Err(CodecError::InvalidLength(length).into());
         }
-        let message = reader.take(length as usize)?.to_vec();
+        let message = copied(reader.take(length as usize)?)?;
         Ok(Data { channel, message })
     }
 
@@ -187,15 +201,36 @@ impl Payload {
     /// ```
     pub fn decode(frame: &[u8], limits: &PayloadConfig) -> Result<Payload, CodecError> {
         let mut reader = Reader::new(frame);
-        let payload = match reader.byte()? {
-            DATA_PREFIX => Payload::Data(Data::read(&mut reader, limits.max_data_length as u64)?),
-            GREETING_PREFIX => Payload::Greeting(Info::read(&mut reader)?),
-            BIT_VEC_PREFIX => Payload::BitVec(BitVec::read(&mut reader, limits.max_bit_vec)?),
-            PEERS_PREFIX => Payload::Peers(read_infos(&mut reader, limits.max_peers as u64)?),
-            other => return Err(CodecError::InvalidEnum(other)),
-        };
+        let payload = Payload::read(&mut reader, limits).map_err(ReadError::fault)?;
         reader.end()?;
         Ok(payload)
+    }
+
+    /// How long at most what has to be verified of a frame is, as the library tells it: where the frame has infos, each
+    /// is told with its length, and with its timestamp in eight bytes in place of one at least.
+    pub(crate) fn room_to_check(frame: &[u8]) -> usize {
+        match frame.first() {
+            Some(&PEERS_PREFIX) => frame.len() + frame.len() / MIN_INFO_SIZE * 15 + 8,
+            _ => 0,
+        }
+    }
+
+    /// How long the answer to a frame is that has a message: it is spelled as it came.
+    pub(crate) fn room_to_receive(frame: &[u8]) -> usize {
+        match frame.first() {
+            Some(&DATA_PREFIX) => frame.len(),
+            _ => 0,
+        }
+    }
+
+    fn read(reader: &mut Reader<'_>, limits: &PayloadConfig) -> Result<Payload, ReadError> {
+        Ok(match reader.byte()? {
+            DATA_PREFIX => Payload::Data(Data::read(reader, limits.max_data_length as u64)?),
+            GREETING_PREFIX => Payload::Greeting(Info::read(reader)?),
+            BIT_VEC_PREFIX => Payload::BitVec(BitVec::read(reader, limits.max_bit_vec)?),
+            PEERS_PREFIX => Payload::Peers(read_infos(reader, limits.max_peers as u64)?),
+            other => return Err(CodecError::InvalidEnum(other).into()),
+        })
     }
 }
 

@@ -1,5 +1,6 @@
 //! Sorted sets of keys, and the peers of a set by role.
 
+use crate::error::OutOfMemory;
 use crate::key::{KEY_SIZE, Key};
 use std::error;
 use std::fmt;
@@ -32,7 +33,7 @@ pub struct OrderedSet(Vec<Key>);
 pub struct DuplicateKey;
 
 impl OrderedSet {
-    /// The set of these keys, each once.
+    /// The set of these keys, each once. Where memory is refused, the program is aborted.
     ///
     /// # Examples
     ///
@@ -62,17 +63,38 @@ impl OrderedSet {
         self.0.binary_search(key).ok()
     }
 
-    pub(crate) fn write(&self, out: &mut Vec<u8>) {
+    pub(crate) fn write(&self, out: &mut Vec<u8>) -> Result<(), OutOfMemory> {
+        out.try_reserve(self.0.len() * KEY_SIZE)?;
         for key in &self.0 {
             out.extend_from_slice(&key.0);
         }
+        Ok(())
     }
 
     // The keys that stand one after the other, which are sorted and distinct.
-    pub(crate) fn read(bytes: &[u8]) -> OrderedSet {
-        let (keys, _none) = bytes.as_chunks::<KEY_SIZE>();
-        OrderedSet(keys.iter().map(|key| Key(*key)).collect())
+    pub(crate) fn read(bytes: &[u8]) -> Result<OrderedSet, OutOfMemory> {
+        read_keys(bytes).map(OrderedSet)
     }
+
+    // Likewise, in the room of a list that has nothing in it yet.
+    pub(crate) fn read_into(mut room: Vec<Key>, bytes: &[u8]) -> OrderedSet {
+        room.extend(keys_of(bytes));
+        OrderedSet(room)
+    }
+}
+
+fn keys_of(bytes: &[u8]) -> impl ExactSizeIterator<Item = Key> {
+    let (keys, _none) = bytes.as_chunks::<KEY_SIZE>();
+    keys.iter().map(|key| Key(*key))
+}
+
+/// The keys that stand one after the other.
+pub(crate) fn read_keys(bytes: &[u8]) -> Result<Vec<Key>, OutOfMemory> {
+    let spelled = keys_of(bytes);
+    let mut keys = Vec::new();
+    keys.try_reserve_exact(spelled.len())?;
+    keys.extend(spelled);
+    Ok(keys)
 }
 
 impl Deref for OrderedSet {

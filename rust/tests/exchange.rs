@@ -4,7 +4,8 @@ use p2p_directory::testing::{self, info, key, setup, verify};
 use p2p_directory::{
     BitVec, Data, Error, Node, OrderedSet, Payload, Received, Reservation, Signature,
 };
-use std::cell::RefCell;
+use std::mem;
+use std::panic::{AssertUnwindSafe, catch_unwind};
 use std::time::Duration;
 
 fn node(number: u16, numbers: &[u16]) -> Node {
@@ -119,14 +120,28 @@ fn signatures_are_asked_for_in_order_and_no_more_than_decide() {
     let mut node = node(9, &[1, 2, 3]);
     let infos = vec![info(1, 0), info(2, 0), info(9, 0), info(3, 0)];
     let frame = Payload::Peers(infos).encode();
-    let asked = RefCell::new(Vec::new());
+    let mut asked = Vec::new();
     let answer = node.receive(&frame, seconds(1), |key, namespace, message, signature| {
         assert_eq!(namespace, testing::NAMESPACE);
-        asked.borrow_mut().push(*key);
+        asked.push(*key);
         verify(key, namespace, message, signature)
     });
     assert_eq!(answer, Received::Invalid(Error::ReceivedSelf));
-    assert_eq!(asked.into_inner(), [key(1), key(2)]);
+    assert_eq!(asked, [key(1), key(2)]);
+}
+
+#[test]
+fn no_signature_is_asked_for_behind_one_that_is_not_right() {
+    let mut node = node(9, &[1, 2, 3]);
+    let frame = Payload::Peers(vec![info(1, 0), info(2, 0), info(3, 0)]).encode();
+    let mut asked = Vec::new();
+    let answer = node.receive(&frame, seconds(1), |key, _, _, _| {
+        asked.push(*key);
+        false
+    });
+    assert_eq!(answer, Received::Invalid(Error::InvalidSignature));
+    assert_eq!(asked, [key(1)]);
+    assert_eq!(bits(&node), [false, false, false]);
 }
 
 #[test]
@@ -175,4 +190,42 @@ fn bits_beyond_the_limit_of_frames_may_be_asked_for() {
     };
     let infos = node.directory().infos(&bits, seconds(1));
     assert_eq!(infos.unwrap(), Some(Vec::new()));
+}
+
+#[test]
+fn a_node_takes_no_frame_for_another_directory() {
+    let (mut one, mut other) = (node(9, &[1, 2]), testing::directory());
+    let greeting = Payload::Greeting(info(1, 0)).encode();
+    let judged = one.check(&greeting, seconds(1)).unwrap();
+    let judged = judged.judged([true]).unwrap();
+    mem::swap(one.directory_mut(), &mut other);
+    let receives = catch_unwind(AssertUnwindSafe(|| {
+        one.receive(&greeting, seconds(1), |_, _, _, _| true)
+    }));
+    let checks = catch_unwind(AssertUnwindSafe(|| {
+        one.check(&greeting, seconds(1)).is_ok()
+    }));
+    let asks = catch_unwind(AssertUnwindSafe(|| one.ask(0)));
+    assert!(receives.is_err() && checks.is_err() && asks.is_err());
+    assert_eq!(one.directory().tracked(), 0);
+    mem::swap(one.directory_mut(), &mut other);
+    assert_eq!(one.receive_judged(judged).unwrap(), Received::Greeted);
+    assert_eq!(bits(&one), [true, false]);
+}
+
+#[test]
+fn a_closure_that_panics_changes_nothing() {
+    let mut node = node(9, &[1, 2]);
+    let frame = Payload::Peers(vec![info(1, 0), info(2, 0)]).encode();
+    let panicked = catch_unwind(AssertUnwindSafe(|| {
+        node.receive(&frame, seconds(1), |signer, _, _, _| {
+            assert_ne!(*signer, key(2));
+            true
+        })
+    }));
+    assert!(panicked.is_err());
+    assert_eq!(bits(&node), [false, false]);
+    let again = node.receive(&frame, seconds(1), verify);
+    assert_eq!(again, Received::Applied(2));
+    assert_eq!(bits(&node), [true, true]);
 }

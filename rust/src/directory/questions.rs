@@ -1,13 +1,15 @@
 //! What a directory answers of how it stands. None of these calls changes anything.
 
-use super::{Dialable, Directory, OWN, PeerSetUpdate, Status, certain, parts};
-use crate::codec::Reader;
-use crate::error::{CodecError, OutOfMemory};
+use super::{Dialable, Directory, PeerSetUpdate, Status, parts};
+use crate::answer::{OWN, certain, is_certain, unknown};
+use crate::codec::{ReadError, Reader};
+use crate::error::OutOfMemory;
 use crate::exports::{self, Session};
 use crate::info::{Info, read_infos};
 use crate::key::{KEY_SIZE, Key};
+use crate::memory::give_back_large;
 use crate::payload::BitVec;
-use crate::sets::{OrderedSet, TrackedPeers};
+use crate::sets::{OrderedSet, TrackedPeers, read_keys};
 use std::time::Duration;
 
 impl Directory {
@@ -23,9 +25,7 @@ impl Directory {
     /// ```
     #[must_use]
     pub fn next_unblock(&self) -> Option<Duration> {
-        self.certain_question(Session::next_unblock, |bytes| {
-            Reader::new(bytes).moment().expect(OWN)
-        })
+        self.certain_question(Session::next_unblock, |bytes| Reader::new(bytes).moment())
     }
 
     /// The peers that are blocked at the moment `now`.
@@ -46,7 +46,7 @@ impl Directory {
         let (seconds, nanos) = parts(now);
         let blocked = self.question(
             |session, out| session.blocked_peers(seconds, nanos, out),
-            OrderedSet::read,
+            |bytes| Ok(OrderedSet::read(bytes)?),
         )?;
         Ok(blocked.expect(OWN))
     }
@@ -68,10 +68,7 @@ impl Directory {
     /// # Ok::<(), OutOfMemory>(())
     /// ```
     pub fn get_peer_set(&self, index: u64) -> Result<Option<TrackedPeers>, OutOfMemory> {
-        self.question(
-            |session, out| session.get_peer_set(index, out),
-            |bytes| read_peers(bytes).expect(OWN),
-        )
+        self.question(|session, out| session.get_peer_set(index, out), read_peers)
     }
 
     /// What is told of the latest set, or `None` where none was taken.
@@ -89,9 +86,7 @@ impl Directory {
     /// # Ok::<(), OutOfMemory>(())
     /// ```
     pub fn latest_update(&self) -> Result<Option<PeerSetUpdate>, OutOfMemory> {
-        self.question(Session::latest_update, |bytes| {
-            read_update(bytes).expect(OWN)
-        })
+        self.question(Session::latest_update, read_update)
     }
 
     /// The index of the latest set, or `None` where none was taken.
@@ -106,7 +101,7 @@ impl Directory {
     #[must_use]
     pub fn latest_set_index(&self) -> Option<u64> {
         self.certain_question(Session::latest_set_index, |bytes| {
-            Reader::new(bytes).number().expect(OWN)
+            Reader::new(bytes).number()
         })
     }
 
@@ -125,7 +120,7 @@ impl Directory {
     /// # Ok::<(), OutOfMemory>(())
     /// ```
     pub fn all(&self) -> Result<TrackedPeers, OutOfMemory> {
-        let all = self.question(Session::all, |bytes| read_peers(bytes).expect(OWN))?;
+        let all = self.question(Session::all, read_peers)?;
         Ok(all.expect(OWN))
     }
 
@@ -141,13 +136,12 @@ impl Directory {
     #[must_use]
     #[inline]
     pub fn status(&self, peer: &Key) -> Option<Status> {
-        match self.session.status(&peer.0) {
+        match self.session().status(&peer.0) {
             exports::NONE => None,
-            answer => Some(match certain(answer) {
-                0 => Status::Inert,
-                1 => Status::Reserved,
-                _ => Status::Active,
-            }),
+            0 => Some(Status::Inert),
+            1 => Some(Status::Reserved),
+            2 => Some(Status::Active),
+            other => unknown(other),
         }
     }
 
@@ -169,7 +163,7 @@ impl Directory {
     pub fn info(&self, peer: &Key) -> Result<Option<Info>, OutOfMemory> {
         self.question(
             |session, out| session.info(&peer.0, out),
-            |bytes| Info::decode(bytes).expect(OWN),
+            |bytes| Info::read(&mut Reader::new(bytes)),
         )
     }
 
@@ -199,11 +193,14 @@ impl Directory {
         let (seconds, nanos) = parts(now);
         let mut spelled = self.input.borrow_mut();
         spelled.clear();
-        bit_vec.write(&mut spelled);
-        self.question(
-            |session, out| session.infos(&spelled, seconds, nanos, out),
-            |bytes| read_infos(&mut Reader::new(bytes), u64::MAX).expect(OWN),
-        )
+        let infos = bit_vec.try_write(&mut spelled).and_then(|()| {
+            self.question(
+                |session, out| session.infos(&spelled, seconds, nanos, out),
+                |bytes| read_infos(&mut Reader::new(bytes), u64::MAX),
+            )
+        });
+        give_back_large(&mut spelled);
+        infos
     }
 
     /// The bits of the retained set at a place, counted from 0 in order of index, for each primary peer
@@ -226,7 +223,7 @@ impl Directory {
     pub fn get_random_bit_vec(&self, place: usize) -> Result<Option<BitVec>, OutOfMemory> {
         self.question(
             |session, out| session.get_random_bit_vec(place as u64, out),
-            |bytes| BitVec::read(&mut Reader::new(bytes), u64::MAX).expect(OWN),
+            |bytes| BitVec::read(&mut Reader::new(bytes), u64::MAX),
         )
     }
 
@@ -244,7 +241,7 @@ impl Directory {
     #[inline]
     pub fn eligible(&self, peer: &Key, now: Duration) -> bool {
         let (seconds, nanos) = parts(now);
-        certain(self.session.eligible(&peer.0, seconds, nanos)) == 1
+        is_certain(self.session().eligible(&peer.0, seconds, nanos))
     }
 
     /// Whether a connection of the peer may be accepted at the moment `now`: it is eligible, and neither
@@ -261,7 +258,7 @@ impl Directory {
     #[inline]
     pub fn acceptable(&self, peer: &Key, now: Duration) -> bool {
         let (seconds, nanos) = parts(now);
-        certain(self.session.acceptable(&peer.0, seconds, nanos)) == 1
+        is_certain(self.session().acceptable(&peer.0, seconds, nanos))
     }
 
     /// Who may be dialled at the moment `now`, and when to ask again.
@@ -282,7 +279,7 @@ impl Directory {
         let (seconds, nanos) = parts(now);
         let dialable = self.question(
             |session, out| session.dialable(seconds, nanos, out),
-            |bytes| read_dialable(bytes).expect(OWN),
+            read_dialable,
         )?;
         Ok(dialable.expect(OWN))
     }
@@ -299,44 +296,45 @@ impl Directory {
     #[must_use]
     #[inline]
     pub fn tracked(&self) -> usize {
-        certain(self.session.tracked()) as usize
+        certain(self.session().tracked()) as usize
     }
 }
 
-fn read_peers(bytes: &[u8]) -> Result<TrackedPeers, CodecError> {
+fn read_peers(bytes: &[u8]) -> Result<TrackedPeers, ReadError> {
     let mut reader = Reader::new(bytes);
     let primary = reader.number()?;
-    let primary = read_keys(&mut reader, primary)?;
-    Ok(TrackedPeers::new(primary, OrderedSet::read(reader.rest())))
+    let primary = read_set(&mut reader, primary)?;
+    let secondary = OrderedSet::read(reader.rest())?;
+    Ok(TrackedPeers::new(primary, secondary))
 }
 
-fn read_update(bytes: &[u8]) -> Result<PeerSetUpdate, CodecError> {
+fn read_update(bytes: &[u8]) -> Result<PeerSetUpdate, ReadError> {
     let mut reader = Reader::new(bytes);
     let index = reader.number()?;
     let (primary, secondary, all) = (reader.number()?, reader.number()?, reader.number()?);
     let latest = TrackedPeers::new(
-        read_keys(&mut reader, primary)?,
-        read_keys(&mut reader, secondary)?,
+        read_set(&mut reader, primary)?,
+        read_set(&mut reader, secondary)?,
     );
-    let all = TrackedPeers::new(
-        read_keys(&mut reader, all)?,
-        OrderedSet::read(reader.rest()),
-    );
+    let all = read_set(&mut reader, all)?;
+    let all = TrackedPeers::new(all, OrderedSet::read(reader.rest())?);
     Ok(PeerSetUpdate { index, latest, all })
 }
 
-fn read_dialable(bytes: &[u8]) -> Result<Dialable, CodecError> {
+fn read_dialable(bytes: &[u8]) -> Result<Dialable, ReadError> {
     let mut reader = Reader::new(bytes);
     let next_query_at = match reader.byte()? {
         0 => None,
-        _ => Some(reader.moment()?),
+        1 => Some(reader.moment()?),
+        other => unknown(other.into()),
     };
     Ok(Dialable {
-        peers: OrderedSet::read(reader.rest()).into_iter().collect(),
+        peers: read_keys(reader.rest())?,
         next_query_at,
     })
 }
 
-fn read_keys(reader: &mut Reader<'_>, count: u64) -> Result<OrderedSet, CodecError> {
-    Ok(OrderedSet::read(reader.take(count as usize * KEY_SIZE)?))
+fn read_set(reader: &mut Reader<'_>, count: u64) -> Result<OrderedSet, ReadError> {
+    let keys = reader.take(count as usize * KEY_SIZE)?;
+    Ok(OrderedSet::read(keys)?)
 }

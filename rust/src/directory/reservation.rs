@@ -1,14 +1,19 @@
 //! The leave to connect with a peer.
 
+use super::held::Origin;
+use crate::error::NotReserved;
 use crate::ingress::Ingress;
 use crate::key::Key;
 use std::error;
 use std::fmt;
+use std::mem;
 
 /// The leave to connect with a peer, made by [`Directory::dial`](crate::Directory::dial) and
-/// [`Directory::listen`](crate::Directory::listen). It has to be given back, by
-/// [`Directory::release`](crate::Directory::release): the peer stays reserved, and can't be reserved again,
-/// until then.
+/// [`Directory::listen`](crate::Directory::listen). While it is held, the peer can't be reserved again.
+///
+/// [`Directory::release`](crate::Directory::release) gives it back at once. One that is dropped, on whatever
+/// thread, gives itself back: the next call of its directory, a question or not, first releases it. Dropping
+/// takes no memory, and does nothing where the directory is gone.
 ///
 /// # Examples
 ///
@@ -20,14 +25,19 @@ use std::fmt;
 /// let reservation = directory.listen(&peer, now, Duration::ZERO)?.expect("in a set");
 /// assert!(directory.listen(&peer, now, Duration::ZERO)?.is_none());
 /// directory.release(reservation).expect("its own");
+///
+/// // After its cooldown it comes again, and this time the reservation is dropped.
+/// let later = Duration::from_secs(11);
+/// let reservation = directory.listen(&peer, later, Duration::ZERO)?.expect("not reserved");
+/// drop(reservation);
+/// assert_eq!(directory.status(&peer), Some(Status::Inert));
 /// # Ok::<(), OutOfMemory>(())
 /// ```
-#[derive(Debug)]
-#[must_use = "a reservation has to be given back, by `Directory::release`"]
+#[must_use = "a reservation that is dropped is released by the next call of its directory"]
 pub struct Reservation {
     peer: Key,
     is_dialer: bool,
-    directory: u64,
+    origin: Origin,
 }
 
 /// Whom a reservation is for, and in which direction.
@@ -46,7 +56,8 @@ pub enum Metadata {
     Listener(Key),
 }
 
-/// A reservation is of another directory: it is given back, and nothing has changed.
+/// A reservation is of another directory: it is given back, and nothing has changed. Whoever drops this error
+/// drops the reservation, which then is released at its own directory.
 ///
 /// # Examples
 ///
@@ -66,13 +77,36 @@ pub struct ReleaseError {
     pub reservation: Reservation,
 }
 
+/// Why a reservation was not connected, and nothing has changed.
+///
+/// # Examples
+///
+/// ```
+/// # use p2p_directory::*; use std::time::Duration;
+/// # let (mut directory, mut other) = (testing::directory(), testing::directory());
+/// # let (peer, now) = (testing::key(1), Duration::from_secs(1));
+/// # directory.track(0, OrderedSet::from_iter_dedup([peer]).into())?;
+/// let reservation = directory.listen(&peer, now, Duration::ZERO)?.expect("in a set");
+/// let refused = other.connect_reserved(&reservation).unwrap_err();
+/// assert_eq!(refused, ConnectError::OfAnotherDirectory);
+/// assert_eq!(refused.to_string(), "the reservation is of another directory");
+/// # Ok::<(), OutOfMemory>(())
+/// ```
+#[derive(Clone, Copy, Debug, PartialEq, Eq)]
+pub enum ConnectError {
+    /// The reservation is of another directory.
+    OfAnotherDirectory,
+    /// The peer is connected already.
+    NotReserved,
+}
+
 impl Reservation {
     #[inline]
-    pub(super) fn new(peer: Key, is_dialer: bool, directory: u64) -> Reservation {
+    pub(super) fn new(peer: Key, is_dialer: bool, origin: Origin) -> Reservation {
         Reservation {
             peer,
             is_dialer,
-            directory,
+            origin,
         }
     }
 
@@ -101,8 +135,33 @@ impl Reservation {
     }
 
     #[inline]
-    pub(super) fn is_of(&self, directory: u64) -> bool {
-        self.directory == directory
+    pub(super) fn is_of(&self, directory: Origin) -> bool {
+        self.origin.id() == directory.id()
+    }
+
+    /// Whose it is, without giving it back.
+    #[inline]
+    pub(super) fn into_peer(self) -> Key {
+        let peer = self.peer;
+        // It holds nothing but what is copied.
+        mem::forget(self);
+        peer
+    }
+}
+
+impl Drop for Reservation {
+    fn drop(&mut self) {
+        self.origin.leave(self.peer);
+    }
+}
+
+impl fmt::Debug for Reservation {
+    fn fmt(&self, f: &mut fmt::Formatter<'_>) -> fmt::Result {
+        f.debug_struct("Reservation")
+            .field("peer", &self.peer)
+            .field("is_dialer", &self.is_dialer)
+            .field("directory", &self.origin.id())
+            .finish()
     }
 }
 
@@ -124,10 +183,28 @@ impl Metadata {
     }
 }
 
+const OF_ANOTHER: &str = "the reservation is of another directory";
+
 impl fmt::Display for ReleaseError {
     fn fmt(&self, f: &mut fmt::Formatter<'_>) -> fmt::Result {
-        f.write_str("the reservation is of another directory")
+        f.write_str(OF_ANOTHER)
+    }
+}
+
+impl fmt::Display for ConnectError {
+    fn fmt(&self, f: &mut fmt::Formatter<'_>) -> fmt::Result {
+        match self {
+            ConnectError::OfAnotherDirectory => f.write_str(OF_ANOTHER),
+            ConnectError::NotReserved => NotReserved.fmt(f),
+        }
     }
 }
 
 impl error::Error for ReleaseError {}
+impl error::Error for ConnectError {}
+
+impl From<NotReserved> for ConnectError {
+    fn from(_refused: NotReserved) -> ConnectError {
+        ConnectError::NotReserved
+    }
+}

@@ -82,7 +82,7 @@ pub(super) fn init(session: &Session, given: &Given<'_>) -> u64 {
 
 /// A session whose node has this key, and its info with timestamp 0.
 pub(super) fn session(byte: u8) -> Session {
-    let session = Session::new();
+    let session = Session::new().expect("memory for a session");
     assert_eq!(init(&session, &given(&info(byte, 0))), 1);
     session
 }

@@ -10,7 +10,7 @@ const SECOND: u32 = 1_000_000_000;
 
 #[test]
 fn a_node_is_made_once() {
-    let session = Session::new();
+    let session = Session::new().expect("memory for a session");
     let own = info(9, 0);
     assert_eq!(session.tracked(), NO_NODE);
     assert_eq!(init(&session, &given(&[])), BAD_INFO);
@@ -73,7 +73,7 @@ fn what_a_node_cant_be_made_from_is_named() {
             BAD_INFO,
         ),
     ];
-    let session = Session::new();
+    let session = Session::new().expect("memory for a session");
     for (place, (given, refusal)) in wrong.into_iter().enumerate() {
         assert_eq!(init(&session, &given), refusal, "at {place}");
         assert_eq!(session.tracked(), NO_NODE, "at {place}");
@@ -91,7 +91,7 @@ fn what_a_node_cant_be_made_from_is_named() {
 fn bootstrappers_are_tracked() {
     let own = info(9, 0);
     let at = |byte: u8| [&key(byte)[..], &info(byte, 0)[..8]].concat();
-    let session = Session::new();
+    let session = Session::new().expect("memory for a session");
     let bootstrappers = [at(1), at(2), at(1), at(9)].concat();
     let given = Given {
         bootstrappers: &bootstrappers,
@@ -141,7 +141,7 @@ fn answers(session: &Session, bytes: &[u8], nanos: u32) -> Vec<(&'static str, u6
 // .. whether or not anything else is wrong.
 #[test]
 fn each_call_wants_a_node() {
-    let session = Session::new();
+    let session = Session::new().expect("memory for a session");
     for (bytes, nanos) in [(&key(1)[..], 0), (b"short", 0), (&key(1), SECOND)] {
         for (call, answer) in answers(&session, bytes, nanos) {
             assert_eq!(answer, NO_NODE, "{call} of {bytes:?}, {nanos}");

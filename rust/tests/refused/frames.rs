@@ -129,6 +129,18 @@ pub const FRAMES: &[Case] = &[
         bytes: 544,
     },
     Case {
+        name: "infos, which are applied in two steps",
+        prepared: known,
+        call: |state| {
+            let payload = Payload::Peers(vec![info(1, 2000), info(3, 2000)]);
+            said(state.receive_judged(&payload, 100, &[true; 2]))
+        },
+        answer: || text(Received::Applied(2)),
+        requests: 7,
+        // As at once.
+        bytes: 544,
+    },
+    Case {
         name: "infos at names",
         prepared: known,
         call: |state| {

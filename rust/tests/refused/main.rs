@@ -1,8 +1,8 @@
 //! Each request for memory refused in turn: what is answered then, what stands afterwards, and how much a call takes.
 //!
 //! The library's memory comes from a heap of this test (`heap`). For N counted upwards until nothing is refused, the
-//! Nth request of a call is refused, once alone and once with all later ones. Buffers of this crate itself are Rust's,
-//! and are not refused.
+//! Nth request of a call is refused, once alone and once with all later ones. Buffers of this crate itself are Rust's:
+//! `tests/host_memory` refuses those.
 
 mod asked;
 mod bits;

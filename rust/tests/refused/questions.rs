@@ -203,6 +203,14 @@ pub const QUIET: &[Quiet] = &[
         call: |state| text(state.directory().next_unblock()),
         answer: || text(Some(seconds(160))),
     },
+    Quiet {
+        name: "status of one that was dropped",
+        call: |state| {
+            state.drops(3);
+            text(state.directory().status(&key(3)))
+        },
+        answer: || text(Some(p2p_directory::Status::Inert)),
+    },
 ];
 
 /// What the calls that take no memory answer, one after the other.

@@ -90,7 +90,7 @@ impl State {
         self.node().directory()
     }
 
-    fn node_mut(&mut self) -> &mut Node {
+    pub fn node_mut(&mut self) -> &mut Node {
         self.node.as_mut().expect("there is a node")
     }
 
@@ -137,10 +137,32 @@ impl State {
         true
     }
 
+    /// Drops the reservation of a peer.
+    pub fn drops(&mut self, number: u16) {
+        self.held.retain(|held| *held.public_key() != key(number));
+    }
+
     pub fn receive(&mut self, frame: &[u8], now: Duration) -> Result<Received, OutOfMemory> {
         match self.node_mut().receive(frame, now, verify) {
             Received::Memory => Err(OutOfMemory),
             received => Ok(received),
+        }
+    }
+
+    /// In two steps, with these verdicts.
+    pub fn receive_judged(
+        &mut self,
+        payload: &Payload,
+        now: u64,
+        verdicts: &[bool],
+    ) -> Result<Received, OutOfMemory> {
+        let frame = payload.encode();
+        let questions = self.node().check(&frame, seconds(now))?;
+        let judged = questions.judged(verdicts.iter().copied());
+        let judged = judged.expect("a verdict for each");
+        match self.node_mut().receive_judged(judged) {
+            Ok(Received::Memory) => Err(OutOfMemory),
+            received => Ok(received.expect("this node checked it")),
         }
     }
 
