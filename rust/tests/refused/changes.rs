@@ -225,35 +225,17 @@ pub const CHANGES: &[Case] = &[
         call: |state| block(state, 1, 100),
         answer: || text(true),
         requests: 2,
-        // A node of blocks (728), and room for four ends (192).
-        bytes: 928,
-    },
-    Case {
-        name: "block a fifth",
-        prepared: || blocking(4),
-        call: |state| block(state, 25, 100),
-        answer: || text(true),
-        requests: 1,
-        // Room for eight ends.
-        bytes: 384,
+        // A node of blocks (728), and one of their ends (736).
+        bytes: 1472,
     },
     Case {
         name: "block a sixteenth",
         prepared: || blocking(15),
         call: |state| block(state, 25, 100),
         answer: || text(true),
-        requests: 2,
-        // A second node of blocks (728), and one with edges (856).
-        bytes: 1584,
-    },
-    Case {
-        name: "block a seventeenth",
-        prepared: || blocking(16),
-        call: |state| block(state, 40, 100),
-        answer: || text(true),
-        requests: 1,
-        // Room for 32 ends.
-        bytes: 1536,
+        requests: 4,
+        // Of blocks a second node (728) and one with edges (856), and of their ends likewise (736, 864).
+        bytes: 3184,
     },
     Case {
         name: "block one that is blocked",
@@ -273,12 +255,12 @@ pub const CHANGES: &[Case] = &[
     },
     Case {
         name: "block one whose block is over, where there is no room for another end",
-        prepared: || blocking(4),
+        prepared: || blocking(15),
         call: |state| block(state, 10, 200),
         answer: || text(true),
-        requests: 1,
-        // Room for eight ends, of which none is used.
-        bytes: 384,
+        requests: 2,
+        // Two more nodes of ends, the new one beside the old.
+        bytes: 1600,
     },
     Case {
         name: "update_peers at a socket and at a name",
