@@ -5,7 +5,7 @@
 set -eu
 for wanted in "$@"; do
     command -v "${wanted%%:*}" > /dev/null || {
-        echo "${wanted%%:*} is not installed (Debian's package ${wanted##*:}): install it, or set SKIP_HOST=1" >&2
+        echo "${wanted%%:*} is not installed (Debian's package ${wanted##*:}): install it, or set SKIP_HOST=1 for the gates" >&2
         exit 1
     }
 done

@@ -344,15 +344,15 @@ def declare(put, names, exports):
     room = 'How many bytes of room a session takes. The room begins at a multiple of 16.'
     made = 'Makes a session with no node in the room. It takes no memory.'
     ended = 'Ends the session, and gives back all that it holds. The room is the host\'s again.'
-    all_ = [('size', [], 'usize', '', room), ('new', [at], None, '', made)] + exports + [('free', [at], None, '', ended)]
-    put(f"include/{names['prefix']}.h", header(names, all_))
-    put('rust/src/exports.rs', rust_exports(names['prefix'], all_, exports))
+    calls = [('size', [], 'usize', '', room), ('new', [at], None, '', made)] + exports + [('free', [at], None, '', ended)]
+    put(f"include/{names['prefix']}.h", header(names, calls))
+    put('rust/src/exports.rs', rust_exports(names['prefix'], calls, exports))
 
 
-def rust_exports(prefix, all_, exports):
+def rust_exports(prefix, calls, exports):
     """The declarations in Rust, and a safe call of each that is a method."""
     rust = []
-    for method, params, result, _, _ in all_:
+    for method, params, result, _, _ in calls:
         rust_params = []
         for p in params:
             if p.kind == 'at':
@@ -410,11 +410,11 @@ def c_nullable(answer, name, declared, passed):
     return f'{head}\n{{\n    uint8_t none = 0;\n    {call}\n}}\n#define {name} {name}_nullable\n'
 
 
-def header(names, all_):
+def header(names, calls):
     """The header for C and C++."""
     prefix, upper = names['prefix'], names['prefix'].upper()
     declarations, nullable = [], []
-    for method, params, result, _, doc in all_:
+    for method, params, result, _, doc in calls:
         name, answer = f'{prefix}_{method}', C_TYPE.get(result, 'void')
         declared, passed = c_params(prefix, params)
         declarations.append(c_declaration(doc, f'{answer} {name}', declared))
