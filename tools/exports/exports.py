@@ -230,8 +230,21 @@ read, written nor moved while a session is in it; new comes before each other ca
 call at a time is made on a session, on whatever thread; a slice is its first byte and its length, points to that many
 initialised bytes, and overlaps neither another slice that is written nor the room."""
 
-C_TYPE = {'u8': 'uint8_t', 'u16': 'uint16_t', 'u32': 'uint32_t', 'u64': 'uint64_t', 'usize': 'size_t', 'bool': '_Bool',
+C_TYPE = {'u8': 'uint8_t', 'u16': 'uint16_t', 'u32': 'uint32_t', 'u64': 'uint64_t', 'usize': 'size_t', 'bool': 'bool',
           'i8': 'int8_t', 'i16': 'int16_t', 'i32': 'int32_t', 'i64': 'int64_t', 'isize': 'ptrdiff_t'}
+
+# Names of the table that are words of C or C++, and what the header says in their place.
+C_NAME = {'namespace': 'signing_namespace'}
+C_WORDS = set("""alignas alignof and and_eq asm auto bitand bitor bool break case catch char class compl concept const continue
+co_await co_return co_yield decltype default delete do double else enum explicit export extern false float for friend goto if
+inline int long mutable namespace new noexcept not not_eq nullptr operator or or_eq private protected public register requires
+restrict return short signed sizeof static struct switch template this thread_local throw true try typedef typeid typename
+union unsigned using virtual void volatile wchar_t while xor xor_eq""".split())
+
+# The least stack of a thread with which tools/host_stack.c passed. glibc grants no less.
+STACK = 16384
+STACK_MEASURED = """That is measured, not proved: threads with half as much, the least that glibc grants, run examples/session.c and
+calls with 1,000 peers (tools/host_stack.c)."""
 
 
 def wrapped(text, before, width=100):
@@ -327,41 +340,97 @@ def main():
 
 def declare(put, names, exports):
     """What C and Rust declare. A `Global` is passed as nothing, and a slice as a pointer and a length."""
-    prefix = names['prefix']
-    c, rust = [], []
+    at = Param('at', '*mut Handle')
     room = 'How many bytes of room a session takes. The room begins at a multiple of 16.'
     made = 'Makes a session with no node in the room. It takes no memory.'
     ended = 'Ends the session, and gives back all that it holds. The room is the host\'s again.'
-    for method, params, result, _, doc in [('size', [], 'usize', '', room), ('new', [Param('at', '*mut Handle')], None, '', made)] + exports + \
-            [('free', [Param('at', '*mut Handle')], None, '', ended)]:
-        c_params, rust_params = [], []
+    calls = [('size', [], 'usize', '', room), ('new', [at], None, '', made)] + exports + [('free', [at], None, '', ended)]
+    put(f"include/{names['prefix']}.h", header(names, calls))
+    put('rust/src/exports.rs', rust_exports(names['prefix'], calls, exports))
+
+
+def rust_exports(prefix, calls, exports):
+    """The declarations in Rust, and a safe call of each that is a method."""
+    rust = []
+    for method, params, result, _, _ in calls:
+        rust_params = []
         for p in params:
             if p.kind == 'at':
-                c_params.append(f'struct {prefix} *at')
                 rust_params.append('at: *mut Handle')
             elif p.kind in ('shr', 'mut'):
-                const, pointer = ('const ', '*const') if p.kind == 'shr' else ('', '*mut')
-                c_params += [f'{const}{C_TYPE[p.item]} *{p.name}', f'size_t {p.name}_length']
+                pointer = '*const' if p.kind == 'shr' else '*mut'
                 rust_params += [f'{p.name}: {pointer} {p.item}', f'{p.name}_length: usize']
             elif p.kind != 'alloc':
-                c_params.append(f'{C_TYPE[p.text]} {p.name}')
                 rust_params.append(f'{p.name}: {p.text}')
-        c.append(f"{wrapped(doc, '// ')}\n{C_TYPE.get(result, 'void')} {prefix}_{method}({', '.join(c_params) or 'void'});\n")
         one = f"    fn {prefix}_{method}({', '.join(rust_params)}){f' -> {result}' if result else ''};"
         if len(one) > 100:
             inner = ''.join(f'        {p},\n' for p in rust_params)
             one = f"    fn {prefix}_{method}(\n{inner}    ){f' -> {result}' if result else ''};"
         rust.append(f"{one}\n")
-    numbers = [(name, i) for i, name in enumerate(REFUSALS)]
-    c_numbers = ''.join(f"#define {prefix.upper()}_{name} (UINT64_MAX{f' - {i}' if i else ''})\n" for name, i in numbers)
-    rust_numbers = ''.join(f"pub const {name}: u64 = u64::MAX{f' - {i}' if i else ''};\n" for name, i in numbers)
+    numbers = ''.join(f"pub const {name}: u64 = u64::MAX{f' - {i}' if i else ''};\n" for i, name in enumerate(REFUSALS))
     head = 'Written by tools/exports.sh from tools/exports/session.table.'
-    put(f'include/{prefix}.h', f"// {head}\n//\n{wrapped(HOST, '// ')}\n//\n// docs/FORMATS.md says how what is passed is spelled, and what the answers are.\n"
-        f'#pragma once\n#include <stddef.h>\n#include <stdint.h>\n\nstruct {prefix};\n\n// Why a call is refused, or has no answer: nothing has changed then, and nothing was written.\n'
-        + c_numbers + '\n' + '\n'.join(c))
-    put('rust/src/exports.rs', RUST_HEAD.format(head=head, host=wrapped(HOST, '//! '), numbers=rust_numbers)
-        + 'unsafe extern "C" {\n' + '\n'.join(rust) + '}\n\n' + RUST_SESSION.replace('PREFIX', prefix)
-        + '\n'.join(safe(prefix, *export) for export in exports) + '}\n' + RUST_DROP.replace('PREFIX', prefix))
+    return (RUST_HEAD.format(head=head, host=wrapped(HOST, '//! '), numbers=numbers)
+            + 'unsafe extern "C" {\n' + '\n'.join(rust) + '}\n\n' + RUST_SESSION.replace('PREFIX', prefix)
+            + '\n'.join(safe(prefix, *export) for export in exports) + '}\n' + RUST_DROP.replace('PREFIX', prefix))
+
+
+def c_params(prefix, params):
+    """What C hands over for the parameters: how each is declared, and how it is passed on where slices may be null."""
+    declared, passed = [], []
+    for p in params:
+        name = C_NAME.get(p.name, p.name)
+        assert name not in C_WORDS, name
+        if p.kind == 'at':
+            declared.append(f'struct {prefix} *{name}')
+            passed.append(name)
+        elif p.kind in ('shr', 'mut'):
+            declared += [f"{'const ' if p.kind == 'shr' else ''}{C_TYPE[p.item]} *{name}", f'size_t {name}_length']
+            passed += [f'{name}_length == 0 ? &none : {name}', f'{name}_length']
+        elif p.kind != 'alloc':
+            declared.append(f'{C_TYPE[p.text]} {name}')
+            passed.append(name)
+    return declared, passed
+
+
+def c_declaration(doc, start, items):
+    """A declaration below its comment, with one parameter a line where they don't fit on one."""
+    one = f"{start}({', '.join(items) or 'void'});"
+    if len(one) > 80:
+        one = f'{start}(\n    ' + ',\n    '.join(items) + ');'
+    return f"{wrapped(doc, '// ')}\n{one}\n"
+
+
+def c_nullable(answer, name, declared, passed):
+    """A call that takes null pointers for slices of no bytes, and to which the export's name leads from here on."""
+    def listed(start, items, end):
+        text = f"{start}({', '.join(item.replace(' ', '~') for item in items)}){end}"
+        return wrapped(text, '        ').strip().replace('~', ' ')
+    head = listed(f'static inline {answer} {name}_nullable', declared, '')
+    call = listed(f'return {name}', passed, ';')
+    return f'{head}\n{{\n    uint8_t none = 0;\n    {call}\n}}\n#define {name} {name}_nullable\n'
+
+
+def header(names, calls):
+    """The header for C and C++."""
+    prefix, upper = names['prefix'], names['prefix'].upper()
+    declarations, nullable = [], []
+    for method, params, result, _, doc in calls:
+        name, answer = f'{prefix}_{method}', C_TYPE.get(result, 'void')
+        declared, passed = c_params(prefix, params)
+        declarations.append(c_declaration(doc, f'{answer} {name}', declared))
+        items = {p.item for p in params if p.kind in ('shr', 'mut')}
+        assert items <= {'u8'}, f'{name}: a byte in place of a null pointer fits no other slice'
+        if items:
+            nullable.append(c_nullable(answer, name, declared, passed))
+    sizes = open(os.path.join(HERE, '../../crates', names['lib'], 'src/key.rt')).read()
+    size = lambda name: re.search(rf'pub const {name}: usize = (\d+);', sizes).group(1)
+    numbers = ''.join(f"#define {upper}_{name} (UINT64_MAX{f' - {i}' if i else ''})\n" for i, name in enumerate(REFUSALS))
+    filled = {'NAME': upper, 'KEY_SIZE': size('KEY_SIZE'), 'SIGNATURE_SIZE': size('SIGNATURE_SIZE'), 'STACK': str(2 * STACK),
+              'MEASURED': wrapped(STACK_MEASURED, '//   '), 'REFUSALS': numbers, 'LAST': f'{upper}_{REFUSALS[-1]}',
+              'DECLARATIONS': '\n'.join(declarations), 'NULLABLE': '\n'.join(nullable)}
+    text = open(os.path.join(HERE, 'template/header.h.in')).read()
+    text = re.sub(r'@([A-Z]+)@', lambda found: names[found.group(1).lower()], text)
+    return re.sub(r'#([A-Z_]+)#', lambda found: filled[found.group(1)], text)
 
 
 RUST_HEAD = """//! {head}

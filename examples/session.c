@@ -1,0 +1,204 @@
+// A node in C: it tracks a set of two peers, lets one of them come, asks for the infos of both, and takes them from a
+// frame whose signatures it verifies. C11 and C++17. tools/host_c.sh builds and runs it over the archive.
+#include "p2p_session.h"
+
+#include <inttypes.h>
+#include <stdio.h>
+#include <stdlib.h>
+#include <string.h>
+
+enum { KEY = P2P_SESSION_KEY_SIZE, SIGNATURE = P2P_SESSION_SIGNATURE_SIZE };
+// A socket address of version 4 with its prefixes, and what a signature of an info is over.
+enum { INGRESS = 8, SIGNED = INGRESS + 8, INFO = INGRESS + 1 + KEY + SIGNATURE };
+
+static const uint8_t NET[] = {'n', 'e', 't'};
+static const uint64_t NOW = 100;
+
+// Ends the program where a call answers something else.
+static void expect(const char *call, uint64_t answer, uint64_t expected) {
+    if (answer == expected)
+        return;
+    fprintf(stderr, "%s answers %" PRIu64 ", not %" PRIu64 "\n", call, answer, expected);
+    exit(1);
+}
+
+static void expect_bytes(const char *call, const uint8_t *bytes, const uint8_t *expected, size_t length) {
+    if (memcmp(bytes, expected, length) == 0)
+        return;
+    fprintf(stderr, "%s writes other bytes\n", call);
+    exit(1);
+}
+
+static void print_bytes(const char *name, const uint8_t *bytes, uint64_t length) {
+    printf("%s: ", name);
+    for (uint64_t i = 0; i < length; i++)
+        printf("%02x", bytes[i]);
+    printf("\n");
+}
+
+static uint64_t read_number(const uint8_t *bytes) {
+    uint64_t number = 0;
+    for (int i = 0; i < 8; i++)
+        number = number << 8 | bytes[i];
+    return number;
+}
+
+// The scheme of this example: a sum, which is no protection at all. A host has its own.
+static void sign(const uint8_t *key, const uint8_t *message, uint64_t length, uint8_t *signature) {
+    uint8_t sum = key[0];
+    for (size_t i = 0; i < sizeof NET; i++)
+        sum = (uint8_t)(sum * 31 + NET[i]);
+    for (uint64_t i = 0; i < length; i++)
+        sum = (uint8_t)(sum * 31 + message[i]);
+    memset(signature, sum, SIGNATURE);
+}
+
+// Spells the info of the key whose bytes are all `number`, at 1.2.3.4:8000 and a timestamp below 128.
+static void spell_info(uint8_t number, uint8_t timestamp, uint8_t *info) {
+    const uint8_t message[SIGNED] = {0, 4, 1, 2, 3, 4, 0x1f, 0x40, 0, 0, 0, 0, 0, 0, 0, timestamp};
+    memcpy(info, message, INGRESS);
+    info[INGRESS] = timestamp;
+    memset(info + INGRESS + 1, number, KEY);
+    sign(info + INGRESS + 1, message, SIGNED, info + INGRESS + 1 + KEY);
+}
+
+// A session with a node whose key has bytes 9, or null where memory is refused.
+static struct p2p_session *make_node(void) {
+    size_t size = p2p_session_size();
+    size += (P2P_SESSION_ALIGNMENT - size % P2P_SESSION_ALIGNMENT) % P2P_SESSION_ALIGNMENT;
+    struct p2p_session *session = (struct p2p_session *)aligned_alloc(P2P_SESSION_ALIGNMENT, size);
+    if (session == NULL)
+        return NULL;
+    p2p_session_new(session);
+    expect("tracked without a node", p2p_session_tracked(session), P2P_SESSION_NO_NODE);
+
+    uint8_t myself[INFO];
+    spell_info(9, 0, myself);
+    uint64_t made = p2p_session_init(session,
+        true,       // allow_private_ips
+        true,       // allow_dns
+        1,          // max_sets
+        1,          // dial_fail_limit
+        10, 0,      // cooldown
+        60, 0,      // block
+        1024,       // max_bit_vec
+        256,        // max_peers
+        4096,       // max_data_length
+        256,        // peer_gossip_max_count
+        30, 0,      // synchrony bound
+        NET, sizeof NET,
+        NULL, 0,    // bootstrappers
+        myself, sizeof myself);
+    expect("init", made, 1);
+    return session;
+}
+
+// Tracks a set without secondary peers, with room for whom it may tear down.
+static uint64_t track(struct p2p_session *session, uint64_t index, const uint8_t *primary, size_t length) {
+    uint64_t room = p2p_session_track_room(session);
+    uint8_t *torn = (uint8_t *)calloc(room, 1);
+    if (torn == NULL)
+        exit(3);
+    uint64_t answer = p2p_session_track(session, index, primary, length, NULL, 0, torn, room);
+    free(torn);
+    return answer;
+}
+
+// Tracks the peers whose keys have bytes 1 and 2, and connects the first, which comes.
+static void track_and_connect(struct p2p_session *session) {
+    uint8_t peers[2 * KEY];
+    memset(peers, 1, KEY);
+    memset(peers + KEY, 2, KEY);
+    expect("track", track(session, 0, peers, sizeof peers), 0);
+    expect("track of an index that is not above", track(session, 0, NULL, 0), P2P_SESSION_NONE);
+    expect("track without room", p2p_session_track(session, 1, NULL, 0, NULL, 0, NULL, 0), P2P_SESSION_NO_ROOM);
+    expect("tracked", p2p_session_tracked(session), 2);
+
+    expect("listen", p2p_session_listen(session, peers, KEY, NOW, 0, 0, 0), 1);
+    expect("listen again", p2p_session_listen(session, peers, KEY, NOW, 0, 0, 0), 0);
+    expect("listen without a key", p2p_session_listen(session, NULL, 0, NOW, 0, 0, 0), P2P_SESSION_BAD_KEY);
+    expect("connect", p2p_session_connect(session, peers, KEY, false), 1);
+    expect("status", p2p_session_status(session, peers, KEY), 2);
+}
+
+// Asks for what is wanted of the set: first how long the frame is, then for the frame.
+static void ask(struct p2p_session *session, const uint8_t *expected, size_t length) {
+    uint8_t frame[16];
+    expect("ask for a length", p2p_session_ask(session, 0, NULL, 0), length);
+    expect("ask", p2p_session_ask(session, 0, frame, sizeof frame), length);
+    expect_bytes("ask", frame, expected, length);
+    print_bytes("ask", frame, length);
+}
+
+// Verifies what has to be verified of a frame, up to the first signature that isn't right. Answers how many infos the
+// frame has; a verdict stands for each of them, 0 where none is wanted.
+static uint64_t judge(struct p2p_session *session, const uint8_t *frame, size_t length, uint8_t *verdicts) {
+    uint8_t asked[8 + 2 * (8 + KEY + SIGNED + SIGNATURE)];
+    uint64_t end = p2p_session_check(session, frame, length, NOW, 0, asked, sizeof asked);
+    if (P2P_SESSION_IS_REFUSAL(end) || end > sizeof asked)
+        exit(1);
+    uint64_t count = read_number(asked), judged = 0;
+    memset(verdicts, 0, count);
+    for (uint64_t place = 8; place < end; judged++) {
+        uint64_t message_length = read_number(asked + place);
+        const uint8_t *key = asked + place + 8, *message = key + KEY, *signature = message + message_length;
+        uint8_t right[SIGNATURE];
+        sign(key, message, message_length, right);
+        verdicts[judged] = memcmp(signature, right, SIGNATURE) == 0;
+        if (!verdicts[judged])
+            break;
+        place += 8 + KEY + message_length + SIGNATURE;
+    }
+    printf("%" PRIu64 " of %" PRIu64 " signatures are right\n", judged, count);
+    return count;
+}
+
+// Takes a frame, with the verdicts on its signatures, and expects this answer.
+static void receive(struct p2p_session *session, const uint8_t *frame, size_t length, const uint8_t *expected,
+    size_t expected_length) {
+    uint8_t verdicts[2], answer[P2P_SESSION_RECEIVE_ROOM];
+    uint64_t count = judge(session, frame, length, verdicts);
+    const uint8_t *told = count == 0 ? NULL : verdicts;
+    expect("receive without room", p2p_session_receive(session, frame, length, NOW, 0, told, count, NULL, 0),
+        P2P_SESSION_NO_ROOM);
+    expect("receive", p2p_session_receive(session, frame, length, NOW, 0, told, count, answer, sizeof answer),
+        expected_length);
+    expect_bytes("receive", answer, expected, expected_length);
+    print_bytes("receive", answer, expected_length);
+}
+
+int main(void) {
+    struct p2p_session *session = make_node();
+    if (session == NULL)
+        return 3;
+    track_and_connect(session);
+    // The bits of set 0: of its two peers no info is known.
+    const uint8_t nothing_known[] = {2, 0, 2, 0};
+    ask(session, nothing_known, sizeof nothing_known);
+
+    // No frame: it ends too early.
+    const uint8_t too_short[] = {4, 0};
+    receive(session, NULL, 0, too_short, sizeof too_short);
+    // The infos of both peers, first with a bad signature of the second.
+    uint8_t frame[2 + 2 * INFO] = {3, 2};
+    spell_info(1, 10, frame + 2);
+    spell_info(2, 20, frame + 2 + INFO);
+    frame[sizeof frame - 1] ^= 1;
+    const uint8_t bad_signature[] = {6, 2};
+    receive(session, frame, sizeof frame, bad_signature, sizeof bad_signature);
+    ask(session, nothing_known, sizeof nothing_known);
+    frame[sizeof frame - 1] ^= 1;
+    const uint8_t applied[] = {3, 0, 0, 0, 0, 0, 0, 0, 2};
+    receive(session, frame, sizeof frame, applied, sizeof applied);
+    const uint8_t both_known[] = {2, 0, 2, 3};
+    ask(session, both_known, sizeof both_known);
+
+    uint8_t peer[KEY];
+    memset(peer, 1, KEY);
+    expect("release", p2p_session_release(session, peer, KEY), 1);
+    expect("release again", p2p_session_release(session, peer, KEY), P2P_SESSION_NOT_HELD);
+    expect("status after the release", p2p_session_status(session, peer, KEY), 0);
+    p2p_session_free(session);
+    free(session);
+    return 0;
+}

@@ -1,0 +1,37 @@
+#!/bin/sh
+# Compiles examples/session.c as C11 and as C++17 without a warning, links it with the archive and runs both, also under
+# valgrind. Then runs it where an export that is handed a null pointer ends the program, and, with calls for 1,000 peers,
+# in threads with half of the stack that the header tells of.
+#
+# usage: tools/host_c.sh [FOLDER], the folder with libp2p_session_c.a and liblibc_c.a, by default the one in which
+# tools/archive.sh leaves them
+set -eu
+cd "$(dirname "$0")/.."
+archives=${1:-crates/p2p_session_c/out}
+tools/installed.sh cc:gcc g++ valgrind
+folder=$(mktemp -d)
+trap 'rm -rf "$folder"' EXIT
+
+strict='-g -Wall -Wextra -pedantic -Werror'
+linked="-L $archives -lp2p_session_c -llibc_c"
+# shellcheck disable=SC2086 # lists of words
+compile() {
+    cc -std=c11 $strict -I include examples/session.c $linked -o "$folder/c11"
+    g++ -std=c++17 $strict -I include -x c++ examples/session.c -x none $linked -o "$folder/c++17"
+    sed '/^static inline/,$!s/);$/) __attribute__((nonnull));/' include/p2p_session.h > "$folder/p2p_session.h"
+    cc -std=c11 $strict -fsanitize=nonnull-attribute -fsanitize-undefined-trap-on-error -I "$folder" examples/session.c \
+        $linked -o "$folder/nonnull"
+    cc -std=c11 $strict -I include -D main=session_main -c examples/session.c -o "$folder/session.o"
+    cc -std=c11 $strict -I include tools/host_stack.c "$folder/session.o" $linked -pthread -o "$folder/stack"
+}
+
+compile
+for language in c11 c++17; do
+    echo "examples/session.c as $language:"
+    "$folder/$language"
+    valgrind --quiet --error-exitcode=9 --leak-check=full --errors-for-leak-kinds=definite,indirect \
+        "$folder/$language" > "$folder/lines"
+done
+"$folder/nonnull" > "$folder/lines" || { echo 'an export is handed a null pointer' >&2; exit 1; }
+"$folder/stack" > "$folder/lines"
+grep 'bytes of stack' "$folder/lines"
