@@ -1,4 +1,4 @@
-//! The keys that calls are timed with: of 8 bytes, and of 32 with a signature of 64.
+//! The keys that calls are timed with: of 32 bytes, with a signature of 64.
 
 ghost use Rattle.std.specs.Prelude.{◌≡◌, ◌==◌, take, refl, Some, IfOk, length};
 ghost use Rattle.std.proofs.Common.{lit≤};
@@ -7,38 +7,10 @@ ghost use Rattle.p2p_discovery.specs.Arrays.{array_spelling};
 ghost use Rattle.p2p_discovery.specs.ArraysLaws.{fixed_array, one_array, exact_array};
 ghost use Rattle.p2p_discovery.specs.Fields.{IsSized};
 
-use p2p_discovery::codec::{
-    FixedBytes, PublicKey, TestKey, TestSignature, read_array, write_array,
-};
+use p2p_discovery::codec::{FixedBytes, PublicKey, read_array, write_array};
 use p2p_session::key::compare;
 use std::alloc::{AllocError, Global};
 use std::cmp::Ordering;
-
-/// A key that is made of a number, and signs.
-pub(crate) trait TimedKey: PublicKey {
-    /// The key of a number.
-    fn numbered(number: u64) -> Self;
-
-    /// The last byte of the number.
-    fn last_byte(&self) -> u8;
-
-    /// The signature of this key over the namespace and the message.
-    fn sign_with(&self, namespace: &[u8], message: &[u8]) -> Self::Signature;
-}
-
-impl TimedKey for TestKey {
-    fn numbered(number: u64) -> TestKey {
-        TestKey(number)
-    }
-
-    fn last_byte(&self) -> u8 {
-        (self.0 % 256) as u8
-    }
-
-    fn sign_with(&self, namespace: &[u8], message: &[u8]) -> TestSignature {
-        self.sign(namespace, message)
-    }
-}
 
 /// A key of 32 bytes: those of its number, and zeros.
 #[derive(Clone, Copy, PartialEq, Eq, PartialOrd)]
@@ -133,18 +105,21 @@ impl PublicKey for Key32 {
         (λ _. refl) (λ _. refl) };
 }
 
-impl TimedKey for Key32 {
-    fn numbered(number: u64) -> Key32 {
+impl Key32 {
+    /// The key of a number.
+    pub(crate) fn numbered(number: u64) -> Key32 {
         let mut bytes = [0; 32];
         bytes[..8].copy_from_slice(&number.to_be_bytes());
         Key32(bytes)
     }
 
-    fn last_byte(&self) -> u8 {
+    /// The last byte of the number.
+    pub(crate) fn last_byte(&self) -> u8 {
         self.0[7]
     }
 
-    fn sign_with(&self, _namespace: &[u8], _message: &[u8]) -> Signature64 {
+    /// The signature of this key.
+    pub(crate) fn sign(&self) -> Signature64 {
         let mut bytes = [0; 64];
         bytes[..32].copy_from_slice(&self.0);
         Signature64(bytes)
@@ -162,17 +137,13 @@ fn mixed(number: u64) -> u64 {
     z ^ (z >> 31)
 }
 
-/// As many keys, in no order, from a number on.
-pub(crate) fn keys<K: TimedKey>(
-    alloc: Global,
-    from: usize,
-    count: usize,
-) -> Result<Vec<K>, AllocError>
+/// As many keys, in no order.
+pub(crate) fn keys(alloc: Global, count: usize) -> Result<Vec<Key32>, AllocError>
     ensures { IfOk result (λ keys. length keys.items ≡ count) }
 {
     let mut keys = Vec::with_capacity(alloc, count)?;
     for place in 0..count {
-        keys.push(K::numbered(mixed(from.saturating_add(place) as u64)))?;
+        keys.push(Key32::numbered(mixed(place as u64)))?;
     }
     Ok(keys)
 }

@@ -1,12 +1,13 @@
-//! What calls are timed on: directories, sets and infos.
+//! What calls are timed on: infos, sets, nodes.
 
-ghost use Rattle.std.specs.Prelude.{◌≡◌, ◌<◌, ◌^◌};
+ghost use Rattle.std.specs.Prelude.{◌≡◌, ◌<◌, ◌^◌, IfOk};
 ghost use Rattle.std.specs.Int.NonZero.{non_zero_usize_get};
 
-use crate::keys::TimedKey;
-use p2p_directory::directory::{Config, Directory, TrackedPeers};
-use p2p_discovery::discovery::{BitVec, Info};
-use p2p_discovery::sets::{BitMap, OrderedSet};
+use crate::keys::Key32;
+use p2p_directory::directory::{Config, TrackedPeers};
+use p2p_directory::node::{Node, Setup};
+use p2p_discovery::discovery::{Info, PayloadConfig};
+use p2p_discovery::sets::OrderedSet;
 use p2p_discovery::types::{Ingress, IpAddr, SocketAddr};
 use std::alloc::{AllocError, Global};
 use std::num::NonZeroUsize;
@@ -15,48 +16,40 @@ use std::time::Duration;
 /// In which namespace infos are signed.
 pub(crate) const NAMESPACE: &[u8] = b"rows";
 
-/// How many sets are retained where nothing else is said.
+/// How many sets are retained.
 pub(crate) const SETS: usize = 4;
 
-/// A configuration that retains as many sets.
-pub(crate) fn config(max_sets: NonZeroUsize) -> Config
-    ensures { result.max_sets ≡ max_sets }
+/// A configuration that retains four sets.
+pub(crate) fn config() -> Config
+    ensures { non_zero_usize_get result.max_sets ≡ 4 }
 {
     Config {
         allow_private_ips: true,
         allow_dns: true,
-        max_sets,
+        max_sets: NonZeroUsize::MIN.saturating_add(3),
         dial_fail_limit: 1,
         peer_connection_cooldown: Duration::from_secs(10),
         block_duration: Duration::from_secs(60),
     }
 }
 
-/// An info of the key, signed.
-pub(crate) fn info<K: TimedKey>(key: K, ingress: Ingress, timestamp: u64) -> Info<K> {
-    Info::sign(key, NAMESPACE, ingress, timestamp, |namespace, message| {
-        key.sign_with(namespace, message)
-    })
+/// Where peers can be dialled: this last byte stands in the address.
+pub(crate) fn ingress(last: u8) -> Ingress {
+    Ingress::Socket(SocketAddr::new(IpAddr::V4([1, 2, 3, last]), 8000))
 }
 
-/// The info of the local node.
-pub(crate) fn own_info<K: TimedKey>(number: u64) -> Info<K> {
-    let ingress = Ingress::Socket(SocketAddr::new(IpAddr::V4([8, 8, 8, 8]), 9000));
-    info(K::numbered(number), ingress, 0)
-}
-
-/// The info of a peer.
-pub(crate) fn info_of<K: TimedKey>(key: K, timestamp: u64) -> Info<K> {
-    let ip = IpAddr::V4([1, 2, 3, key.last_byte()]);
-    info(key, Ingress::Socket(SocketAddr::new(ip, 8000)), timestamp)
+/// The info of a key, signed.
+pub(crate) fn info_of(key: Key32, timestamp: u64) -> Info<Key32> {
+    let ingress = ingress(key.last_byte());
+    Info::sign(key, NAMESPACE, ingress, timestamp, |_, _| key.sign())
 }
 
 /// The infos of peers.
-pub(crate) fn infos_of<K: TimedKey>(
+pub(crate) fn infos_of(
     alloc: Global,
-    keys: &[K],
+    keys: &[Key32],
     timestamp: u64,
-) -> Result<Vec<Info<K>>, AllocError> {
+) -> Result<Vec<Info<Key32>>, AllocError> {
     let mut infos = Vec::with_capacity(alloc, keys.len())?;
     for key in keys {
         infos.push(info_of(*key, timestamp))?;
@@ -64,45 +57,46 @@ pub(crate) fn infos_of<K: TimedKey>(
     Ok(infos)
 }
 
-/// A directory with no set, which retains as many.
-pub(crate) fn directory<K: TimedKey>(alloc: Global, sets: usize) -> Result<Directory<K>, AllocError>
-    requires { sets < 1000 }
-{
-    let config = config(NonZeroUsize::new(sets).unwrap_or(NonZeroUsize::MIN));
-    Directory::init(alloc, Vec::new(alloc), own_info(9), config)
-}
-
 /// Primary peers alone.
-pub(crate) fn tracked<K: TimedKey>(
-    alloc: Global,
-    keys: &[K],
-) -> Result<TrackedPeers<K>, AllocError> {
+pub(crate) fn tracked(alloc: Global, keys: &[Key32]) -> Result<TrackedPeers<Key32>, AllocError> {
     let primary = OrderedSet::from_iter_dedup(alloc, keys.iter().copied())?;
-    let nobody: Vec<K> = Vec::new(alloc);
+    let nobody: Vec<Key32> = Vec::new(alloc);
     let secondary = OrderedSet::from_iter_dedup(alloc, nobody.into_iter())?;
     Ok(TrackedPeers::new(primary, secondary))
 }
 
-/// A directory whose sets all name these peers.
-pub(crate) fn full<K: TimedKey>(alloc: Global, keys: &[K]) -> Result<Directory<K>, AllocError> {
-    let mut directory = directory(alloc, SETS)?;
-    for index in 0..SETS {
-        directory.track(index as u64, tracked(alloc, keys)?)?;
-    }
-    Ok(directory)
-}
-
-/// A directory whose sets all name these peers, and that knows their infos.
-pub(crate) fn known<K: TimedKey>(alloc: Global, keys: &[K]) -> Result<Directory<K>, AllocError> {
-    let mut directory = full(alloc, keys)?;
-    directory.update_peers(infos_of(alloc, keys, 1000)?);
-    Ok(directory)
-}
-
-/// Bits of the last set, none of which is set.
-pub(crate) fn no_bits(alloc: Global, count: usize) -> Result<BitVec, AllocError> {
-    Ok(BitVec {
-        index: 3,
-        bits: BitMap::zeroes(alloc, count as u64)?,
+fn setup(
+    alloc: Global,
+    number: u64,
+    dial_fail_limit: usize,
+    count: usize,
+) -> Result<Setup<Key32>, AllocError>
+    ensures sets { IfOk result (λ setup. non_zero_usize_get setup.cfg.max_sets ≡ 4) }
+    ensures bits { IfOk result (λ setup. setup.payload.max_bit_vec < 2 ^ 32) }
+{
+    let mut cfg = config();
+    cfg.dial_fail_limit = dial_fail_limit;
+    Ok(Setup {
+        bootstrappers: Vec::new(alloc),
+        myself: info_of(Key32::numbered(number), 0),
+        cfg,
+        payload: PayloadConfig {
+            max_bit_vec: 1_000_000,
+            max_peers: 1_000_000,
+            max_data_length: 1_000_000,
+        },
+        peer_gossip_max_count: count,
+        synchrony_bound: Duration::from_secs(30),
+        namespace: NAMESPACE.to_vec(alloc)?,
     })
+}
+
+/// A node of this number, which takes so many infos at a time.
+pub(crate) fn node(
+    alloc: Global,
+    number: u64,
+    dial_fail_limit: usize,
+    count: usize,
+) -> Result<Node<Key32>, AllocError> {
+    Node::new(alloc, setup(alloc, number, dial_fail_limit, count)?)
 }

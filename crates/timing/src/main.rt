@@ -1,20 +1,17 @@
-//! Times calls of a directory, of nodes and of the codecs.
+//! Times what no export reaches: calls of nodes without crossing, exchanges, runs and codecs.
 //!
-//! - `timing SCENARIO N SAMPLES` times one call as often, with so many peers, and prints its least
-//!   nanoseconds, those in the middle, and how much was done; with a further word `32` the keys have
-//!   32 bytes in place of 8.
-//! - `timing times` prints how some calls grow with sets and with blocks.
-//! - With no word the same calls are made with few peers and no time is printed.
+//! - `timing SCENARIO N SAMPLES` times one call as often, with so many peers whose keys have 32
+//!   bytes, and prints its least nanoseconds, those in the middle, and how much was done. A further
+//!   word `32` changes nothing.
+//! - With no word the same calls are made with few peers, and what was done is printed.
+//!
+//! What is called from Rust is timed by the benchmark of the Rust crate, which takes the same words.
 #![tactic(auto)]
 
-use crate::growth::{FEW, MANY};
-use crate::keys::Key32;
 use crate::stop::Stop;
-use p2p_discovery::codec::TestKey;
 use std::env;
 use std::process::ExitCode;
 
-mod growth;
 mod keys;
 mod made;
 mod scenarios;
@@ -24,26 +21,9 @@ mod times;
 fn measure(rt: &HostRuntime) -> Result<(), Stop> {
     let words: Vec<String> = env::args(rt)?.skip(1).collect(rt.alloc())?;
     match words.as_slice() {
-        [] => {
-            growth::measure(rt, &FEW, false)?;
-            scenarios::measure_few(rt)
-        }
-        [word] => {
-            if word.as_str() == "times" {
-                growth::measure(rt, &MANY, true)
-            } else {
-                Err(Stop::Words)
-            }
-        }
-        [name, count, samples] => {
-            scenarios::measure::<TestKey>(rt, name.as_str(), count.as_str(), samples.as_str())
-        }
-        [name, count, samples, bytes] => {
-            if bytes.as_str() == "32" {
-                scenarios::measure::<Key32>(rt, name.as_str(), count.as_str(), samples.as_str())
-            } else {
-                Err(Stop::Words)
-            }
+        [] => scenarios::measure_few(rt),
+        [name, count, samples] | [name, count, samples, _] => {
+            scenarios::measure(rt, name.as_str(), count.as_str(), samples.as_str())
         }
         _ => Err(Stop::Words),
     }

@@ -1,6 +1,6 @@
 //! The times of some calls, and how many did what was wanted.
 
-ghost use Rattle.std.specs.Prelude.{◌≡◌, ◌+◌, ◌-◌, ◌^◌, OnOk, if◌then◌else◌, length, min};
+ghost use Rattle.std.specs.Prelude.{◌≡◌, ◌+◌, ◌-◌, ◌^◌, OnOk, length, min};
 
 use std::alloc::{AllocError, Global};
 use std::time::Duration;
@@ -19,20 +19,6 @@ impl Times {
             nanos: Vec::new(alloc),
             done: 0,
         }
-    }
-
-    /// One more time, of a call that did what was wanted or not.
-    pub(crate) fn count(&mut self, time: Duration, done: bool) -> Result<(), AllocError>
-        ensures times { OnOk result (length self.new.nanos.items ≡
-            length self.old.nanos.items + 1) }
-        ensures done { OnOk result (self.new.done ≡
-            (if done then min (self.old.done + 1) (2 ^ 64 - 1) else self.old.done)) }
-    {
-        self.nanos.push(nanos_of(time))?;
-        if done {
-            self.done = self.done.saturating_add(1);
-        }
-        Ok(())
     }
 
     /// One more time, of calls of which so many did what was wanted.

@@ -1,37 +1,97 @@
-//! Calls of a node that a host in Rust makes, too: what they take without crossing.
+//! Calls of nodes without crossing, and exchanges.
 
-use crate::keys::{TimedKey, keys};
-use crate::made::{SETS, tracked};
-use crate::scenarios::calls::part;
-use crate::scenarios::exchanges::{frame_of, node};
+ghost use Rattle.std.specs.Prelude.{◌≡◌, ◌<◌, ◌^◌};
+
+use crate::keys::{Key32, keys};
+use crate::made::{SETS, infos_of, node, tracked};
 use crate::stop::Stop;
 use crate::times::Times;
-use p2p_directory::node::{Node, Received};
-use p2p_directory::run::Reply;
+use bytes::Bytes;
+use p2p_directory::directory::TrackedPeers;
+use p2p_directory::node::{Exchanged, Node, Received, exchange};
+use p2p_directory::run::{Command, Reply};
+use p2p_discovery::codec::Write;
+use p2p_discovery::discovery::{Infos, Payload};
+use std::alloc::{AllocError, Global};
 use std::time::{Duration, Instant};
 
 /// Which call of a node is timed.
 #[derive(Clone, Copy)]
-pub(crate) enum Served {
+pub(crate) enum Call {
     /// The status of each peer.
     Status,
     /// Each peer listened for and released.
     Listen,
     /// A set of which a quarter is new.
     Track,
-    /// A frame with the infos of a tenth of the peers, each time with newer ones.
+    /// A frame with the infos of all peers, each time newer ones.
     Receive,
+    /// An exchange of the infos of all peers, each time newer ones.
+    Exchange,
 }
 
-// Sets of all these peers, as many as are retained.
-fn fill<K: TimedKey>(rt: &HostRuntime, node: &mut Node<K>, keys: &[K]) -> Result<(), Stop> {
-    for index in 0..SETS {
-        let _ = node.track(index as u64, tracked(rt.alloc(), keys)?);
+/// One call that is ready to be made.
+#[derive(Drop)]
+enum Ready {
+    Status,
+    Listen(Duration),
+    Track(u64, TrackedPeers<Key32>),
+    Receive(Bytes),
+    Exchange,
+}
+
+/// A node that asks, and one that replies. All calls but exchanges are of the first.
+struct Nodes {
+    asker: Node<Key32>,
+    replier: Node<Key32>,
+}
+
+// The frame of these infos.
+fn frame_of(alloc: Global, keys: &[Key32], timestamp: u64) -> Result<Bytes, Stop> {
+    let infos = infos_of(alloc, keys, timestamp)?;
+    if infos.len() >= 4_294_967_296 {
+        return Err(Stop::Words);
     }
-    Ok(())
+    let payload = Payload::Peers(Infos::from_vec(infos));
+    Ok(payload.encode(alloc)?)
 }
 
-fn statuses<K: TimedKey>(node: &Node<K>, keys: &[K]) -> usize {
+// The set at an index, of which a quarter is new; of all keys there are 64 times as many as in a set.
+fn set_at(alloc: Global, keys: &[Key32], index: usize) -> Result<TrackedPeers<Key32>, AllocError> {
+    let count = keys.len() / 64;
+    let span = keys.len().saturating_sub(count).max(1);
+    let from = (index.saturating_mul(count) / 4) % span;
+    tracked(
+        alloc,
+        keys.get(from..from.saturating_add(count)).unwrap_or(keys),
+    )
+}
+
+// Makes a call ready.
+fn make_ready(
+    alloc: Global,
+    replier: &mut Node<Key32>,
+    keys: &[Key32],
+    sample: usize,
+    call: Call,
+) -> Result<Ready, Stop> {
+    let number = sample as u64;
+    match call {
+        Call::Status => Ok(Ready::Status),
+        Call::Listen => {
+            let seconds = number.saturating_mul(11).saturating_add(100);
+            Ok(Ready::Listen(Duration::from_secs(seconds)))
+        }
+        Call::Track => Ok(Ready::Track(number, set_at(alloc, keys, sample)?)),
+        Call::Receive => Ok(Ready::Receive(frame_of(alloc, keys, number)?)),
+        Call::Exchange => {
+            replier.step(Command::UpdatePeers(infos_of(alloc, keys, number)?));
+            Ok(Ready::Exchange)
+        }
+    }
+}
+
+fn statuses(node: &Node<Key32>, keys: &[Key32]) -> usize {
     let mut done = 0usize;
     for key in keys {
         if node.status(key).is_some() {
@@ -41,7 +101,7 @@ fn statuses<K: TimedKey>(node: &Node<K>, keys: &[K]) -> usize {
     done
 }
 
-fn cycles<K: TimedKey>(node: &mut Node<K>, keys: &[K], now: Duration) -> usize {
+fn cycles(node: &mut Node<Key32>, keys: &[Key32], now: Duration) -> usize {
     let mut done = 0usize;
     for key in keys {
         if let Reply::Listen(true) = node.listen(key, now, Duration::ZERO) {
@@ -52,94 +112,101 @@ fn cycles<K: TimedKey>(node: &mut Node<K>, keys: &[K], now: Duration) -> usize {
     done
 }
 
-// Serves the peers, one after the other, once for each sample.
-fn serve_each<K: TimedKey>(
+// Exchanges the infos of the last set, and says how many came.
+fn exchanged(asker: &mut Node<Key32>, replier: &mut Node<Key32>) -> usize {
+    let now = Duration::from_secs(1_000_000);
+    match exchange(asker, replier, 3, now, now) {
+        Exchanged::Applied(infos) => infos.len(),
+        _ => 0,
+    }
+}
+
+// Makes a call, and says how much it did.
+fn make(nodes: &mut Nodes, keys: &[Key32], ready: Ready) -> usize {
+    let Nodes { asker, replier } = nodes;
+    match ready {
+        Ready::Status => statuses(asker, keys),
+        Ready::Listen(now) => cycles(asker, keys, now),
+        Ready::Track(index, peers) => {
+            usize::from(matches!(asker.track(index, peers), Reply::Track(Some(_))))
+        }
+        Ready::Receive(frame) => {
+            let answer = asker.receive(frame, Duration::from_secs(100));
+            usize::from(matches!(answer, Received::Applied(_)))
+        }
+        Ready::Exchange => exchanged(asker, replier),
+    }
+}
+
+// Sets of all these peers on both sides, as many as are retained; the replier is connected with each.
+fn fill(alloc: Global, nodes: &mut Nodes, keys: &[Key32]) -> Result<(), Stop> {
+    let Nodes { asker, replier } = nodes;
+    for index in 0..SETS {
+        let _ = asker.track(index as u64, tracked(alloc, keys)?);
+        let _ = replier.track(index as u64, tracked(alloc, keys)?);
+    }
+    for key in keys {
+        let _ = replier.listen(key, Duration::from_secs(100), Duration::ZERO);
+        let _ = replier.connect(key, false);
+    }
+    Ok(())
+}
+
+// Makes the call so many times.
+fn time_each(
     rt: &HostRuntime,
-    node: &mut Node<K>,
-    keys: &[K],
+    nodes: &mut Nodes,
+    keys: &[Key32],
     samples: usize,
-    served: Served,
+    call: Call,
 ) -> Result<Times, Stop> {
     let mut times = Times::new(rt.alloc());
-    let mut now = Duration::from_secs(100);
-    for _ in 0..samples {
-        now = now.saturating_add(Duration::from_secs(11));
+    for sample in 0..samples {
+        let ready = make_ready(rt.alloc(), &mut nodes.replier, keys, sample, call)?;
         let start = Instant::now(rt)?;
-        let done = match served {
-            Served::Status => statuses(node, keys),
-            _ => cycles(node, keys, now),
-        };
+        let done = make(nodes, keys, ready);
         times.add(start.elapsed(rt)?, done)?;
     }
     Ok(times)
 }
 
-fn track_each<K: TimedKey>(
+fn time(
     rt: &HostRuntime,
-    node: &mut Node<K>,
+    nodes: &mut Nodes,
     count: usize,
     samples: usize,
+    call: Call,
 ) -> Result<Times, Stop> {
-    let alloc = rt.alloc();
-    let all: Vec<K> = keys(alloc, 0, count.saturating_mul(64))?;
-    let span = all.len().saturating_sub(count).max(1);
-    let mut times = Times::new(alloc);
-    for index in 0..samples {
-        let from = (index.saturating_mul(count) / 4) % span;
-        let peers = tracked(alloc, part(&all, from, count))?;
-        let start = Instant::now(rt)?;
-        let taken = matches!(node.track(index as u64, peers), Reply::Track(Some(_)));
-        times.count(start.elapsed(rt)?, taken)?;
+    if let Call::Track = call {
+        let all = keys(rt.alloc(), count.saturating_mul(64))?;
+        return time_each(rt, nodes, &all, samples, call);
     }
-    Ok(times)
+    let all = keys(rt.alloc(), count)?;
+    fill(rt.alloc(), nodes, &all)?;
+    time_each(rt, nodes, &all, samples, call)
 }
 
-fn receive_each<K: TimedKey>(
-    rt: &HostRuntime,
-    node: &mut Node<K>,
-    keys: &[K],
-    samples: usize,
-) -> Result<Times, Stop> {
-    let alloc = rt.alloc();
-    let few = part(keys, 0, keys.len() / 10);
-    let mut times = Times::new(alloc);
-    for sample in 0..samples {
-        let frame = frame_of(alloc, few, sample as u64)?;
-        let start = Instant::now(rt)?;
-        let answer = node.receive(frame, Duration::from_secs(100));
-        let time = start.elapsed(rt)?;
-        times.count(time, matches!(&answer, Received::Applied(_)))?;
-    }
-    Ok(times)
-}
-
-fn serve<K: TimedKey>(
-    rt: &HostRuntime,
-    node: &mut Node<K>,
-    count: usize,
-    samples: usize,
-    served: Served,
-) -> Result<Times, Stop> {
-    if let Served::Track = served {
-        return track_each(rt, node, count, samples);
-    }
-    let all: Vec<K> = keys(rt.alloc(), 0, count)?;
-    fill(rt, node, &all)?;
-    match served {
-        Served::Receive => receive_each(rt, node, &all, samples),
-        _ => serve_each(rt, node, &all, samples, served),
-    }
-}
-
-/// Calls of a node with so many peers in four sets.
-pub(crate) fn of_a_node<K: TimedKey>(
+/// Calls of nodes with so many peers in four sets.
+pub(crate) fn of_nodes(
     rt: &HostRuntime,
     count: usize,
     samples: usize,
-    served: Served,
+    call: Call,
 ) -> Result<Times, Stop> {
-    let mut node: Node<K> = node(rt.alloc(), 9, 1, count)?;
-    let times = serve(rt, &mut node, count, samples, served);
-    node.finish();
+    // Where each dial counts as one too many, the infos of all peers are always wanted.
+    let limit = usize::from(!matches!(call, Call::Exchange));
+    let asker = node(rt.alloc(), 9, limit, count)?;
+    let replier = match node(rt.alloc(), 8, 1, count) {
+        Ok(replier) => replier,
+        Err(AllocError) => {
+            asker.finish();
+            return Err(Stop::Memory);
+        }
+    };
+    let mut nodes = Nodes { asker, replier };
+    let times = time(rt, &mut nodes, count, samples, call);
+    let Nodes { asker, replier } = nodes;
+    asker.finish();
+    replier.finish();
     times
 }

@@ -1,12 +1,11 @@
-//! Lists of commands, and what is kept.
+//! Lists of commands.
 
-use crate::keys::{TimedKey, keys};
-use crate::made::{SETS, config, full, known, own_info, tracked};
+use crate::keys::{Key32, keys};
+use crate::made::{SETS, config, info_of, tracked};
 use crate::stop::Stop;
 use crate::times::Times;
 use p2p_directory::run::{Command, run};
 use std::alloc::Global;
-use std::num::NonZeroUsize;
 use std::time::{Duration, Instant};
 
 /// What the commands are, behind those that track the sets.
@@ -22,7 +21,7 @@ pub(crate) enum Kind {
     Whole,
 }
 
-fn commands<K: TimedKey>(alloc: Global, keys: &[K], kind: Kind) -> Result<Vec<Command<K>>, Stop> {
+fn commands(alloc: Global, keys: &[Key32], kind: Kind) -> Result<Vec<Command<Key32>>, Stop> {
     let mut commands = Vec::new(alloc);
     for index in 0..SETS {
         commands.push(Command::Track {
@@ -47,16 +46,16 @@ fn commands<K: TimedKey>(alloc: Global, keys: &[K], kind: Kind) -> Result<Vec<Co
 }
 
 // Serves the commands, with the end of the run or without.
-fn serve<K: TimedKey>(
+fn serve(
     rt: &HostRuntime,
-    commands: Vec<Command<K>>,
+    commands: Vec<Command<Key32>>,
     kind: Kind,
     times: &mut Times,
 ) -> Result<(), Stop> {
     let alloc = rt.alloc();
-    let config = config(NonZeroUsize::MIN.saturating_add(3));
+    let myself = info_of(Key32::numbered(9), 0);
     let start = Instant::now(rt)?;
-    let run = run(alloc, Vec::new(alloc), own_info(9), config, commands)?;
+    let run = run(alloc, Vec::new(alloc), myself, config(), commands)?;
     let served = start.elapsed(rt);
     let done = run.replies.len();
     run.finish();
@@ -69,42 +68,17 @@ fn serve<K: TimedKey>(
 }
 
 /// Runs of commands.
-pub(crate) fn runs<K: TimedKey>(
+pub(crate) fn runs(
     rt: &HostRuntime,
     count: usize,
     samples: usize,
     kind: Kind,
 ) -> Result<Times, Stop> {
     let alloc = rt.alloc();
-    let all: Vec<K> = keys(alloc, 0, count)?;
+    let all: Vec<Key32> = keys(alloc, count)?;
     let mut times = Times::new(alloc);
     for _ in 0..samples {
         serve(rt, commands(alloc, &all, kind)?, kind, &mut times)?;
     }
-    Ok(times)
-}
-
-/// What is made, so that its memory may be read from outside.
-#[derive(Clone, Copy)]
-pub(crate) enum Made {
-    /// Keys alone.
-    Keys,
-    /// A directory.
-    Peers,
-    /// A directory that knows all infos.
-    Infos,
-}
-
-/// Makes what is wanted, in no time that is told.
-pub(crate) fn fill<K: TimedKey>(rt: &HostRuntime, count: usize, what: Made) -> Result<Times, Stop> {
-    let alloc = rt.alloc();
-    let all: Vec<K> = keys(alloc, 0, count)?;
-    let done = match what {
-        Made::Keys => all.len(),
-        Made::Peers => full(alloc, &all)?.tracked(),
-        Made::Infos => known(alloc, &all)?.tracked(),
-    };
-    let mut times = Times::new(alloc);
-    times.add(Duration::ZERO, done)?;
     Ok(times)
 }

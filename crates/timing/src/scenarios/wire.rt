@@ -3,14 +3,15 @@
 ghost use Rattle.std.specs.Prelude.{◌≡◌};
 ghost use Rattle.p2p_discovery.specs.Payload.{CanSpell};
 
-use crate::keys::{TimedKey, keys};
-use crate::made::{NAMESPACE, infos_of, no_bits};
+use crate::keys::{Key32, keys};
+use crate::made::{NAMESPACE, infos_of, ingress};
 use crate::stop::Stop;
 use crate::times::Times;
 use bytes::Bytes;
 use p2p_discovery::codec::{Read, Write as _};
-use p2p_discovery::discovery::{Info, Infos, Payload, PayloadConfig};
-use p2p_discovery::types::{Hostname, Ingress, IpAddr, SocketAddr};
+use p2p_discovery::discovery::{BitVec, Info, Infos, Payload, PayloadConfig};
+use p2p_discovery::sets::BitMap;
+use p2p_discovery::types::{Hostname, Ingress};
 use std::alloc::Global;
 use std::time::{Duration, Instant};
 
@@ -33,8 +34,7 @@ fn addresses(alloc: Global, count: usize, are_names: bool) -> Result<Vec<Ingress
                 Err(_) => return Err(Stop::Memory),
             }
         } else {
-            let ip = IpAddr::V4([1, 2, 3, (place % 256) as u8]);
-            all.push(Ingress::Socket(SocketAddr::new(ip, 8000)))?;
+            all.push(ingress((place % 256) as u8))?;
         }
     }
     Ok(all)
@@ -48,15 +48,38 @@ fn encode_addresses(alloc: Global, all: &[Ingress]) -> Result<Vec<Bytes>, Stop> 
     Ok(frames)
 }
 
-fn decode_addresses(alloc: Global, frames: &[Bytes]) -> Result<Vec<Ingress>, Stop> {
+fn encode_infos(alloc: Global, all: &[Info<Key32>]) -> Result<Vec<Bytes>, Stop> {
+    let mut frames = Vec::with_capacity(alloc, all.len())?;
+    for info in all {
+        frames.push(info.encode(alloc)?)?;
+    }
+    Ok(frames)
+}
+
+fn decode_each<T: Read<Cfg = ()> + Drop>(alloc: Global, frames: &[Bytes]) -> Result<Vec<T>, Stop> {
     let mut all = Vec::with_capacity(alloc, frames.len())?;
     for frame in frames {
-        match Ingress::decode(alloc, frame.clone()?) {
-            Ok(ingress) => all.push(ingress)?,
+        match T::decode(alloc, frame.clone()?) {
+            Ok(value) => all.push(value)?,
             Err(_) => return Err(Stop::Memory),
         }
     }
     Ok(all)
+}
+
+// Reads these values, each by itself.
+fn decodings<T: Read<Cfg = ()> + Drop>(
+    rt: &HostRuntime,
+    frames: &[Bytes],
+    samples: usize,
+) -> Result<Times, Stop> {
+    let mut times = Times::new(rt.alloc());
+    for _ in 0..samples {
+        let start = Instant::now(rt)?;
+        let read: Vec<T> = decode_each(rt.alloc(), frames)?;
+        times.add(start.elapsed(rt)?, read.len())?;
+    }
+    Ok(times)
 }
 
 /// Addresses, each by itself.
@@ -69,67 +92,35 @@ pub(crate) fn ingresses(
 ) -> Result<Times, Stop> {
     let alloc = rt.alloc();
     let all = addresses(alloc, count, are_names)?;
-    let frames = encode_addresses(alloc, &all)?;
+    if let Way::Decode = way {
+        return decodings::<Ingress>(rt, &encode_addresses(alloc, &all)?, samples);
+    }
     let mut times = Times::new(alloc);
     for _ in 0..samples {
         let start = Instant::now(rt)?;
-        match way {
-            Way::Encode => {
-                let written = encode_addresses(alloc, &all)?;
-                times.add(start.elapsed(rt)?, written.len())?;
-            }
-            Way::Decode => {
-                let read = decode_addresses(alloc, &frames)?;
-                times.add(start.elapsed(rt)?, read.len())?;
-            }
-        }
+        let written = encode_addresses(alloc, &all)?;
+        times.add(start.elapsed(rt)?, written.len())?;
     }
     Ok(times)
 }
 
-fn encode_infos<K: TimedKey>(alloc: Global, all: &[Info<K>]) -> Result<Vec<Bytes>, Stop> {
-    let mut frames = Vec::with_capacity(alloc, all.len())?;
-    for info in all {
-        frames.push(info.encode(alloc)?)?;
-    }
-    Ok(frames)
-}
-
-fn decode_infos<K: TimedKey>(alloc: Global, frames: &[Bytes]) -> Result<Vec<Info<K>>, Stop> {
-    let mut all = Vec::with_capacity(alloc, frames.len())?;
-    for frame in frames {
-        match Info::<K>::decode(alloc, frame.clone()?) {
-            Ok(info) => all.push(info)?,
-            Err(_) => return Err(Stop::Memory),
-        }
-    }
-    Ok(all)
-}
-
 /// Infos, each by itself.
-pub(crate) fn infos<K: TimedKey>(
+pub(crate) fn infos(
     rt: &HostRuntime,
     count: usize,
     samples: usize,
     way: Way,
 ) -> Result<Times, Stop> {
     let alloc = rt.alloc();
-    let all: Vec<K> = keys(alloc, 0, count)?;
-    let infos = infos_of(alloc, &all, 1000)?;
-    let frames = encode_infos(alloc, &infos)?;
+    let infos = infos_of(alloc, &keys(alloc, count)?, 1000)?;
+    if let Way::Decode = way {
+        return decodings::<Info<Key32>>(rt, &encode_infos(alloc, &infos)?, samples);
+    }
     let mut times = Times::new(alloc);
     for _ in 0..samples {
         let start = Instant::now(rt)?;
-        match way {
-            Way::Encode => {
-                let written = encode_infos(alloc, &infos)?;
-                times.add(start.elapsed(rt)?, written.len())?;
-            }
-            Way::Decode => {
-                let read = decode_infos::<K>(alloc, &frames)?;
-                times.add(start.elapsed(rt)?, read.len())?;
-            }
-        }
+        let written = encode_infos(alloc, &infos)?;
+        times.add(start.elapsed(rt)?, written.len())?;
     }
     Ok(times)
 }
@@ -142,9 +133,9 @@ const WIDE: PayloadConfig = PayloadConfig {
 };
 
 // One payload.
-fn payload<K: TimedKey>(
+fn payload(
     rt: &HostRuntime,
-    payload: Payload<K>,
+    payload: Payload<Key32>,
     samples: usize,
     way: Way,
 ) -> Result<Times, Stop>
@@ -161,8 +152,8 @@ fn payload<K: TimedKey>(
                 times.add(start.elapsed(rt)?, written.len())?;
             }
             Way::Decode => {
-                let read = Payload::<K>::decode_cfg(alloc, frame.clone()?, &WIDE);
-                times.count(start.elapsed(rt)?, read.is_ok())?;
+                let read = Payload::<Key32>::decode_cfg(alloc, frame.clone()?, &WIDE);
+                times.add(start.elapsed(rt)?, usize::from(read.is_ok()))?;
             }
         }
     }
@@ -170,15 +161,14 @@ fn payload<K: TimedKey>(
 }
 
 /// A payload of infos.
-pub(crate) fn peers<K: TimedKey>(
+pub(crate) fn peers(
     rt: &HostRuntime,
     count: usize,
     samples: usize,
     way: Way,
 ) -> Result<Times, Stop> {
     let alloc = rt.alloc();
-    let all: Vec<K> = keys(alloc, 0, count)?;
-    let infos = infos_of(alloc, &all, 1000)?;
+    let infos = infos_of(alloc, &keys(alloc, count)?, 1000)?;
     if infos.len() >= 4_294_967_296 {
         return Err(Stop::Words);
     }
@@ -186,28 +176,23 @@ pub(crate) fn peers<K: TimedKey>(
 }
 
 /// A payload of bits.
-pub(crate) fn bits<K: TimedKey>(
+pub(crate) fn bits(
     rt: &HostRuntime,
     count: usize,
     samples: usize,
     way: Way,
 ) -> Result<Times, Stop> {
-    let bits = no_bits(rt.alloc(), count)?;
-    payload::<K>(rt, Payload::BitVec(bits), samples, way)
+    let bits = BitMap::zeroes(rt.alloc(), count as u64)?;
+    payload(rt, Payload::BitVec(BitVec { index: 3, bits }), samples, way)
 }
 
 /// The judgement of a list of infos.
-pub(crate) fn judgements<K: TimedKey>(
-    rt: &HostRuntime,
-    count: usize,
-    samples: usize,
-) -> Result<Times, Stop> {
+pub(crate) fn judgements(rt: &HostRuntime, count: usize, samples: usize) -> Result<Times, Stop> {
     let alloc = rt.alloc();
-    let all: Vec<K> = keys(alloc, 0, count)?;
-    let infos = infos_of(alloc, &all, 1000)?;
+    let infos = infos_of(alloc, &keys(alloc, count)?, 1000)?;
     let namespace = NAMESPACE.to_vec(alloc)?;
     let bound = Duration::from_secs(30);
-    let verifier = Info::<K>::verifier(K::numbered(9), count, bound, namespace);
+    let verifier = Info::<Key32>::verifier(Key32::numbered(9), count, bound, namespace);
     let now = Duration::from_secs(100);
     let mut times = Times::new(alloc);
     for _ in 0..samples {
