@@ -3,4 +3,4 @@ use Rattle.timing.proofs.scenarios.wire.payload.Given as goal
 
 -- the payload is the one that was given
 abbrev pub invariant-loop : goal.invariant-loop
-invariant-loop g l = CanSpell l.payload
+invariant-loop l = CanSpell l.payload
