@@ -223,7 +223,10 @@ impl Draws {
             let step = calls.len();
             let next = match calls.last() {
                 Some(Call::Dial(peer, ..) | Call::Listen(peer, ..)) if self.truth() => {
-                    Call::Connect(*peer, self.truth())
+                    match self.truth() {
+                        true => Call::Connect(*peer, self.truth()),
+                        false => Call::ConnectReserved(*peer),
+                    }
                 }
                 _ if self.below(5) < 3 => self.change(step),
                 _ => self.question(step),
