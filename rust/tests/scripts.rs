@@ -1,7 +1,8 @@
 //! The scripts of `play`, all of them, through this crate.
 //!
 //! A frame with infos has other bytes here: its keys and signatures are widened before it is played. Left out are
-//! values that this crate doesn't read by themselves, each kind by its name.
+//! values that this crate doesn't read by themselves, each kind by its name. `tests/typed/edges.txt` has lines at the edges of
+//! what can be typed, with what `play` replied to them.
 
 #[path = "../examples/play/player/mod.rs"]
 mod player;
@@ -31,40 +32,40 @@ const LEFT_OUT: [(&str, usize); 5] = [
 /// How many lines of each command are played at least, and how many that can't be read.
 const PLAYED: [(&str, usize); 31] = [
     ("acceptable", 22),
-    ("all", 16),
+    ("all", 17),
     ("ask", 22),
     ("bits", 137),
-    ("block", 40),
-    ("blocked_peers", 18),
+    ("block", 42),
+    ("blocked_peers", 19),
     ("connect", 69),
-    ("decode", 18),
-    ("dial", 74),
-    ("dialable", 44),
+    ("decode", 26),
+    ("dial", 78),
+    ("dialable", 47),
     ("eligible", 33),
-    ("error", 16),
-    ("exchange", 48),
-    ("forget_cooled", 9),
-    ("frame", 6),
-    ("get_peer_set", 19),
-    ("info", 39),
-    ("infos", 9),
+    ("error", 77),
+    ("exchange", 49),
+    ("forget_cooled", 10),
+    ("frame", 9),
+    ("get_peer_set", 20),
+    ("info", 40),
+    ("infos", 10),
     ("latest_set_index", 12),
-    ("latest_update", 11),
-    ("listen", 113),
-    ("next_unblock", 23),
-    ("node", 125),
-    ("receive", 40),
-    ("recode", 2),
-    ("release", 80),
-    ("status", 55),
-    ("track", 191),
-    ("tracked", 18),
-    ("unblock_expired", 24),
-    ("update", 79),
+    ("latest_update", 12),
+    ("listen", 116),
+    ("next_unblock", 24),
+    ("node", 129),
+    ("receive", 44),
+    ("recode", 3),
+    ("release", 81),
+    ("status", 57),
+    ("track", 196),
+    ("tracked", 20),
+    ("unblock_expired", 25),
+    ("update", 83),
 ];
 
 /// How many replies are compared at least.
-const COMPARED: u64 = 1_266;
+const COMPARED: u64 = 1_384;
 
 /// How many lines there are of a kind or of a command.
 type Counts = BTreeMap<String, usize>;
@@ -187,7 +188,8 @@ fn narrow_signature(key: u64, namespace: &[u8], message: &[u8]) -> u64 {
 }
 
 fn scripts() -> Vec<PathBuf> {
-    let folders = ["examples", "crates/play/data"].map(|name| Path::new(ROOT).join(name));
+    let folders = ["examples", "crates/play/data", "rust/tests/typed"];
+    let folders = folders.map(|name| Path::new(ROOT).join(name));
     let entries = folders
         .iter()
         .flat_map(|folder| fs::read_dir(folder).expect("a folder of scripts"));
