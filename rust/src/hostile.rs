@@ -155,7 +155,20 @@ fn request(session: &Session, draws: &mut Draws, out: &mut [u8]) -> (u64, u64) {
         14 => (session.eligible(&wrong, 1, 0), exports::BAD_KEY),
         15 => (session.acceptable(&key, 1, nanos), exports::BAD_MOMENT),
         16 => (session.dialable(1, nanos, out), exports::BAD_MOMENT),
-        17 => {
+        _ => request_with_lists(session, draws, nanos, out),
+    }
+}
+
+// Likewise, of a call that takes keys, infos, bits or a frame.
+fn request_with_lists(
+    session: &Session,
+    draws: &mut Draws,
+    nanos: u32,
+    out: &mut [u8],
+) -> (u64, u64) {
+    let key = testing::key(1).0;
+    match draws.below(7) {
+        0 => {
             let count = 1 + draws.below(KEY_SIZE as u64 - 1);
             let keys = draws.bytes(3 * KEY_SIZE as u64 + count);
             let (primary, secondary) = match draws.below(2) {
@@ -164,19 +177,19 @@ fn request(session: &Session, draws: &mut Draws, out: &mut [u8]) -> (u64, u64) {
             };
             (session.track(7, primary, secondary, out), exports::BAD_KEYS)
         }
-        18 => (session.track(7, &key, &key, &mut []), exports::NO_ROOM),
-        19 => {
+        1 => (session.track(7, &key, &key, &mut []), exports::NO_ROOM),
+        2 => {
             let count = draws.below(200);
             let bytes = no_infos(draws.bytes(count));
             (session.update_peers(&bytes), exports::BAD_INFO)
         }
-        20 => {
+        3 => {
             let count = draws.below(40);
             let bytes = no_bits(draws.bytes(count));
             (session.infos(&bytes, 1, 0, out), exports::BAD_BITS)
         }
-        21 => (session.check(&key, 1, nanos, out), exports::BAD_MOMENT),
-        22 => {
+        4 => (session.check(&key, 1, nanos, out), exports::BAD_MOMENT),
+        5 => {
             let frame = Payload::Greeting(testing::info(1, 0)).encode();
             let count = draws.below(5);
             let verdicts = draws.bytes(count + u64::from(count == 1));

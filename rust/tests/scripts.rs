@@ -1,8 +1,8 @@
 //! The scripts of `play`, all of them, through this crate.
 //!
 //! A frame with infos has other bytes here: its keys and signatures are widened before it is played. Left out are
-//! values that this crate doesn't read by themselves, each kind by its name. `tests/typed/edges.txt` has lines at the edges of
-//! what can be typed, with what `play` replied to them.
+//! values that this crate doesn't read by themselves, each kind by its name. `tests/typed/edges.txt` has lines at the
+//! edges of what can be typed, with what `play` replied to them.
 
 #[path = "../examples/play/player/mod.rs"]
 mod player;
