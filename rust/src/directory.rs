@@ -153,6 +153,20 @@ pub struct Dialable {
 /// assert_eq!(directory.status(&peer), Some(Status::Inert));
 /// # Ok::<(), Box<dyn std::error::Error>>(())
 /// ```
+///
+/// It can be sent to another thread:
+///
+/// ```
+/// fn is_sent<T: Send>() {}
+/// is_sent::<p2p_directory::Directory>();
+/// ```
+///
+/// and not be shared with one:
+///
+/// ```compile_fail,E0277
+/// fn is_shared<T: Sync>() {}
+/// is_shared::<p2p_directory::Directory>();
+/// ```
 pub struct Directory {
     held: Held,
     // In which infos are signed.

@@ -1,14 +1,19 @@
 //! Requests that are no commands: what can't be read is refused by a number with a name, nothing changes, and
-//! what comes out stays as it was.
+//! what comes out stays as it was. Spoilt frames: the library and this crate's own decoder read the same of each, or
+//! name the same fault.
 
 use crate::codec::Reader;
 use crate::directory::Directory;
 use crate::error::CodecError;
 use crate::exports::{self, Session};
 use crate::info::{Info, read_infos};
-use crate::key::KEY_SIZE;
-use crate::payload::{BitVec, Payload, PayloadConfig};
+use crate::ingress::{Hostname, Ingress};
+use crate::key::{KEY_SIZE, Key};
+use crate::payload::{BitVec, Data, Payload, PayloadConfig};
 use crate::testing;
+use std::collections::BTreeSet;
+use std::net::{Ipv6Addr, SocketAddr};
+use std::slice;
 use std::time::Duration;
 
 const REQUESTS: u32 = 100_000;
@@ -45,12 +50,21 @@ impl Draws {
         self.bytes(count)
     }
 
-    // A frame with some bytes changed, left out or put in.
+    // Any byte, or one that names, numbers and prefixes have.
+    fn byte(&mut self) -> u8 {
+        const TELLING: &[u8] = b"a-.Z9\x00\x01\x02\x03\x04\x06\x7f\x80\xff";
+        match self.below(2) {
+            0 => self.number() as u8,
+            _ => TELLING[self.below(TELLING.len() as u64) as usize],
+        }
+    }
+
+    // A frame with up to three bytes changed, left out or put in.
     fn spoilt(&mut self, frame: &[u8]) -> Vec<u8> {
         let mut frame = frame.to_vec();
-        for _ in 0..=self.below(3) {
+        for _ in 0..self.below(4) {
             let place = self.below(frame.len() as u64 + 1) as usize;
-            let byte = self.number() as u8;
+            let byte = self.byte();
             match self.below(3) {
                 0 if place < frame.len() => frame[place] = byte,
                 1 if place < frame.len() => drop(frame.remove(place)),
@@ -61,31 +75,33 @@ impl Draws {
     }
 }
 
+fn init(session: &Session, max_sets: u64, bootstrappers: &[u8], myself: &[u8]) -> u64 {
+    session.init(
+        true,
+        true,
+        max_sets,
+        1,
+        10,
+        0,
+        60,
+        0,
+        LIMITS.max_bit_vec,
+        LIMITS.max_peers as u64,
+        LIMITS.max_data_length as u64,
+        4,
+        30,
+        0,
+        testing::NAMESPACE,
+        bootstrappers,
+        myself,
+    )
+}
+
 fn session() -> Session {
     let session = Session::new().expect("memory for a session");
     assert_eq!(session.tracked(), exports::NO_NODE);
     let myself = testing::info(9, 0).encode();
-    let init = |max_sets, myself: &[u8]| {
-        session.init(
-            true,
-            true,
-            max_sets,
-            1,
-            10,
-            0,
-            60,
-            0,
-            LIMITS.max_bit_vec,
-            LIMITS.max_peers as u64,
-            LIMITS.max_data_length as u64,
-            4,
-            30,
-            0,
-            testing::NAMESPACE,
-            &[],
-            myself,
-        )
-    };
+    let init = |max_sets, myself: &[u8]| init(&session, max_sets, &[], myself);
     assert_eq!(init(0, &myself), exports::BAD_SETTING);
     assert_eq!(init(u64::MAX, &myself), exports::BAD_SETTING);
     assert_eq!(init(1, &myself[1..]), exports::BAD_INFO);
@@ -97,7 +113,7 @@ fn session() -> Session {
 // What is seen of a session.
 fn seen(session: &Session) -> Vec<u8> {
     let mut seen = Vec::new();
-    let mut out = [0; 512];
+    let mut out = [0; 4096];
     for length in [
         session.all(&mut out),
         session.latest_update(&mut out),
@@ -139,24 +155,41 @@ fn request(session: &Session, draws: &mut Draws, out: &mut [u8]) -> (u64, u64) {
         14 => (session.eligible(&wrong, 1, 0), exports::BAD_KEY),
         15 => (session.acceptable(&key, 1, nanos), exports::BAD_MOMENT),
         16 => (session.dialable(1, nanos, out), exports::BAD_MOMENT),
-        17 => {
+        _ => request_with_lists(session, draws, nanos, out),
+    }
+}
+
+// Likewise, of a call that takes keys, infos, bits or a frame.
+fn request_with_lists(
+    session: &Session,
+    draws: &mut Draws,
+    nanos: u32,
+    out: &mut [u8],
+) -> (u64, u64) {
+    let key = testing::key(1).0;
+    match draws.below(7) {
+        0 => {
             let count = 1 + draws.below(KEY_SIZE as u64 - 1);
             let keys = draws.bytes(3 * KEY_SIZE as u64 + count);
-            (session.track(7, &key, &keys, out), exports::BAD_KEYS)
+            let (primary, secondary) = match draws.below(2) {
+                0 => (&key[..], &keys[..]),
+                _ => (&keys[..], &key[..]),
+            };
+            (session.track(7, primary, secondary, out), exports::BAD_KEYS)
         }
-        18 => (session.track(7, &key, &key, &mut []), exports::NO_ROOM),
-        19 => {
+        1 => (session.track(7, &key, &key, &mut []), exports::NO_ROOM),
+        2 => {
             let count = draws.below(200);
             let bytes = no_infos(draws.bytes(count));
             (session.update_peers(&bytes), exports::BAD_INFO)
         }
-        20 => {
+        3 => {
             let count = draws.below(40);
             let bytes = no_bits(draws.bytes(count));
             (session.infos(&bytes, 1, 0, out), exports::BAD_BITS)
         }
-        21 => (session.check(&key, 1, nanos, out), exports::BAD_MOMENT),
-        22 => {
+        4 => (session.check(&key, 1, nanos, out), exports::BAD_MOMENT),
+        5 => {
             let frame = Payload::Greeting(testing::info(1, 0)).encode();
             let count = draws.below(5);
             let verdicts = draws.bytes(count + u64::from(count == 1));
@@ -206,6 +239,45 @@ fn requests_that_are_no_commands_change_nothing() {
     assert_eq!(seen(&session), before);
 }
 
+// The keys of bootstrappers that stand one after the other with their ingresses, or `None` where they don't.
+fn bootstrappers(bytes: &[u8]) -> Option<BTreeSet<Key>> {
+    let mut keys = BTreeSet::new();
+    let mut rest = bytes;
+    while !rest.is_empty() {
+        let mut reader = Reader::new(rest);
+        keys.insert(Key(reader.array().ok()?));
+        Ingress::read(&mut reader).ok()?;
+        rest = reader.rest();
+    }
+    Some(keys)
+}
+
+#[test]
+fn spoilt_bootstrappers_make_a_node_or_none() {
+    let myself = testing::info(9, 0).encode();
+    let infos = [testing::info(1, 0), named(3), testing::info(9, 0)];
+    let spelled = infos.map(|info| [&info.public_key.0[..], &info.ingress.encode()].concat());
+    let spelled = spelled.concat();
+    let mut draws = Draws(11);
+    let mut made = 0;
+    for _ in 0..REQUESTS / 10 {
+        let spoilt = draws.spoilt(&spelled);
+        let session = Session::new().expect("memory for a session");
+        let answer = init(&session, 1, &spoilt, &myself);
+        let Some(mut keys) = bootstrappers(&spoilt) else {
+            assert_eq!(
+                (answer, session.tracked()),
+                (exports::BAD_INFO, exports::NO_NODE)
+            );
+            continue;
+        };
+        keys.remove(&testing::key(9));
+        assert_eq!((answer, session.tracked()), (1, keys.len() as u64));
+        made += 1;
+    }
+    assert!((REQUESTS / 40..REQUESTS / 10).contains(&made), "{made}");
+}
+
 // The form of a fault in an answer to a frame.
 fn fault_bytes(fault: CodecError) -> Vec<u8> {
     use crate::error::What;
@@ -233,23 +305,156 @@ fn has_this_fault(session: &Session, frame: &[u8], fault: CodecError) {
     assert_eq!(out[..8], [0; 8]);
 }
 
-#[test]
-fn spoilt_frames_are_refused_with_the_fault_that_both_decoders_name() {
+// The index of the retained set, and how many peers it has: the keys from 1.
+const INDEX: u64 = 300;
+const PEERS: u16 = 19;
+
+// Who may be told of: the own key, and who is connected.
+const SHARED: [u16; 4] = [2, 9, 11, 19];
+
+// How far ahead a timestamp may be, in milliseconds: the bound behind the moment of each call.
+const LATEST: u64 = 31_000;
+
+// A session that has a set, and infos of its peers, at timestamp 7.
+fn informed() -> Session {
     let session = session();
-    let frames = [
+    let peers: Vec<u8> = (1..=PEERS)
+        .flat_map(|number| testing::key(number).0)
+        .collect();
+    assert_eq!(session.track(INDEX, &peers, &[], &mut [0; 1024]), 0);
+    for number in SHARED.into_iter().filter(|number| *number != 9) {
+        let key = testing::key(number).0;
+        assert_eq!(session.listen(&key, 1, 0, 0, 0), 1);
+        assert_eq!(session.connect(&key, false), 1);
+    }
+    let mut infos = vec![PEERS as u8];
+    infos.extend((1..=PEERS).flat_map(|number| testing::info(number, 7).encode()));
+    assert_eq!(session.update_peers(&infos), 1);
+    session
+}
+
+// What is answered with enough room, at 1 second.
+fn answer(ask: impl FnOnce(&mut [u8]) -> u64) -> Vec<u8> {
+    let mut out = [0; 4096];
+    let length = ask(&mut out) as usize;
+    out[..length].to_vec()
+}
+
+// What has to be asked about these infos: their number, and those up to the first that is refused anyway.
+fn questions(infos: &[Info]) -> Vec<u8> {
+    let mut asked = (infos.len() as u64).to_be_bytes().to_vec();
+    for info in infos.iter().take_while(|info| refusal(info) == 2) {
+        let message = info.signed_bytes();
+        asked.extend((message.len() as u64).to_be_bytes());
+        asked.extend(info.public_key.0);
+        asked.extend(message);
+        asked.extend(info.signature.0);
+    }
+    asked
+}
+
+// Why an info whose signature isn't right is refused.
+fn refusal(info: &Info) -> u8 {
+    match info.public_key {
+        own if own == testing::key(9) => 1,
+        _ if info.timestamp > LATEST => 3,
+        _ => 2,
+    }
+}
+
+// The answer to infos whose signatures are not right.
+fn refused(infos: &[Info]) -> Vec<u8> {
+    match infos.first() {
+        Some(info) => vec![6, refusal(info)],
+        None => [&[3][..], &[0; 8]].concat(),
+    }
+}
+
+// The answer to bits.
+fn replied(bits: &BitVec) -> Vec<u8> {
+    if bits.index != INDEX {
+        return vec![2, 3, 0];
+    }
+    if bits.bits.len() != usize::from(PEERS) {
+        return vec![5];
+    }
+    let told = SHARED
+        .into_iter()
+        .filter(|number| !bits.bits[usize::from(*number) - 1]);
+    let infos = told.map(|number| testing::info(number, if number == 9 { 0 } else { 7 }));
+    let reply = Payload::Peers(infos.collect());
+    [vec![2], reply.encode()].concat()
+}
+
+// The library reads of the frame what this crate's own decoder reads of it.
+fn is_read_alike(session: &Session, frame: &[u8], payload: &Payload) {
+    assert_eq!(payload.encode(), frame);
+    let (infos, wanted) = match payload {
+        Payload::Data(data) => {
+            let answer = answer(|out| session.receive(frame, 1, 0, &[], out));
+            let mut reader = Reader::new(&answer[1..]);
+            let told = Data::read(&mut reader, u64::MAX).expect("a message");
+            assert_eq!((answer[0], &told, reader.rest()), (0, data, &[][..]));
+            return;
+        }
+        Payload::BitVec(bits) => (&[][..], replied(bits)),
+        Payload::Greeting(info) => (slice::from_ref(info), refused(slice::from_ref(info))),
+        Payload::Peers(infos) => (&infos[..], refused(infos)),
+    };
+    let asked = answer(|out| session.check(frame, 1, 0, out));
+    assert_eq!(asked, questions(infos));
+    let wrong = vec![0; infos.len()];
+    let received = answer(|out| session.receive(frame, 1, 0, &wrong, out));
+    assert_eq!(received, wanted);
+}
+
+// An info at this ingress.
+fn info_at(number: u16, ingress: Ingress) -> Info {
+    Info::sign(
+        testing::key(number),
+        testing::NAMESPACE,
+        ingress,
+        300,
+        |namespace, message| testing::sign(&testing::key(number), namespace, message),
+    )
+}
+
+// An info at a name.
+fn named(number: u16) -> Info {
+    let host = Hostname::new("node-1.a.example").expect("a name");
+    info_at(number, Ingress::Dns { host, port: 80 })
+}
+
+// A frame of each kind, and of each kind of address.
+fn seeds() -> [Vec<u8>; 8] {
+    let version_6 = Ingress::from(SocketAddr::from((Ipv6Addr::LOCALHOST, 80)));
+    let bits = |bits: Vec<bool>| BitVec { index: INDEX, bits };
+    [
         Payload::Greeting(testing::info(1, 1000)),
+        Payload::Greeting(named(3)),
+        Payload::Greeting(info_at(4, version_6.clone())),
         Payload::Peers([1, 2].map(|number| testing::info(number, 7)).to_vec()),
-        Payload::BitVec(BitVec {
-            index: 300,
-            bits: vec![true; 19],
+        Payload::Peers(vec![named(3), info_at(5, version_6), named(9)]),
+        Payload::BitVec(bits(vec![true; usize::from(PEERS)])),
+        Payload::BitVec(bits((0..PEERS).map(|place| place % 3 == 0).collect())),
+        Payload::Data(Data {
+            channel: 300,
+            message: b"twelve bytes".to_vec(),
         }),
     ]
-    .map(|payload| payload.encode());
+    .map(|payload| payload.encode())
+}
+
+#[test]
+fn both_decoders_read_the_same_of_spoilt_frames() {
+    let session = informed();
+    let frames = seeds();
     let before = seen(&session);
     let mut draws = Draws(7);
     let mut refused = 0;
+    let mut read = [0; 4];
     for _ in 0..REQUESTS {
-        let chosen = draws.below(4) as usize;
+        let chosen = draws.below(frames.len() as u64 + 1) as usize;
         let frame = match frames.get(chosen) {
             Some(frame) => draws.spoilt(frame),
             None => {
@@ -257,12 +462,19 @@ fn spoilt_frames_are_refused_with_the_fault_that_both_decoders_name() {
                 draws.bytes(count)
             }
         };
-        if let Err(fault) = Payload::decode(&frame, &LIMITS) {
-            has_this_fault(&session, &frame, fault);
-            refused += 1;
+        match Payload::decode(&frame, &LIMITS) {
+            Ok(payload) => {
+                is_read_alike(&session, &frame, &payload);
+                read[usize::from(frame[0])] += 1;
+            }
+            Err(fault) => {
+                has_this_fault(&session, &frame, fault);
+                refused += 1;
+            }
         }
     }
     assert!(refused > REQUESTS / 4);
+    assert!(read.iter().all(|count| *count > REQUESTS / 40), "{read:?}");
     assert_eq!(seen(&session), before);
 }
 

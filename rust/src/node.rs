@@ -93,6 +93,18 @@ pub enum Received {
 /// assert_eq!(asker.directory().dialable(now)?.peers, [two]);
 /// # Ok::<(), Box<dyn std::error::Error>>(())
 /// ```
+///
+/// As its directory it can be sent to another thread, and not be shared with one:
+///
+/// ```
+/// fn is_sent<T: Send>() {}
+/// is_sent::<p2p_directory::Node>();
+/// ```
+///
+/// ```compile_fail,E0277
+/// fn is_shared<T: Sync>() {}
+/// is_shared::<p2p_directory::Node>();
+/// ```
 #[derive(Debug)]
 pub struct Node {
     directory: Directory,

@@ -376,3 +376,26 @@ fn a_directory_goes_to_another_thread() {
     directory.release(listened.unwrap()).unwrap();
     assert_eq!(directory.tracked(), 2);
 }
+
+// A cooldown of 10.3 and blocks of 60.7 seconds, each to the nanosecond.
+#[test]
+fn settings_below_a_second_count() {
+    let cfg = Config {
+        peer_connection_cooldown: Duration::new(10, 300_000_000),
+        block_duration: Duration::new(60, 700_000_000),
+        ..config()
+    };
+    let mut directory = Directory::init(Vec::new(), info(9, 0), cfg).unwrap();
+    track(&mut directory, 0, &[1]);
+    let held = listen(&mut directory, 1, seconds(100)).unwrap();
+    directory.release(held).unwrap();
+    assert!(listen(&mut directory, 1, Duration::new(110, 299_999_999)).is_none());
+    let held = listen(&mut directory, 1, Duration::new(110, 300_000_000)).unwrap();
+    directory.release(held).unwrap();
+
+    assert!(directory.block(&key(1), seconds(100)).unwrap());
+    let end = Duration::new(160, 700_000_000);
+    assert_eq!(directory.next_unblock(), Some(end));
+    assert!(!directory.eligible(&key(1), end - Duration::from_nanos(1)));
+    assert!(directory.eligible(&key(1), end));
+}

@@ -2,7 +2,7 @@
 
 use p2p_directory::testing::{self, info, key, setup, verify};
 use p2p_directory::{
-    BitVec, Data, Error, Node, OrderedSet, Payload, Received, Reservation, Signature,
+    BitVec, Data, Error, Node, OrderedSet, Payload, Received, Reservation, Setup, Signature,
 };
 use std::mem;
 use std::panic::{AssertUnwindSafe, catch_unwind};
@@ -228,4 +228,19 @@ fn a_closure_that_panics_changes_nothing() {
     let again = node.receive(&frame, seconds(1), verify);
     assert_eq!(again, Received::Applied(2));
     assert_eq!(bits(&node), [true, true]);
+}
+
+// A bound of 1.002 seconds admits timestamps so far ahead, and none that is a millisecond later.
+#[test]
+fn a_bound_below_a_second_counts() {
+    let bound = Duration::new(1, 2_000_000);
+    let setup = Setup {
+        synchrony_bound: bound,
+        ..setup(9)
+    };
+    let mut node = Node::new(setup).unwrap();
+    let greeting = |timestamp| Payload::Greeting(info(1, timestamp)).encode();
+    let mut received = |timestamp| node.receive(&greeting(timestamp), seconds(100), verify);
+    assert_eq!(received(101_003), Received::Invalid(Error::SynchronyBound));
+    assert_eq!(received(101_002), Received::Greeted);
 }

@@ -265,6 +265,40 @@ fn test_dial_failure_and_dial_success() {
     assert_eq!(bits(&directory), "1");
 }
 
+// The end of a dialled connection is a failure: the first again after a dial that succeeded, else the second.
+#[test]
+fn a_dial_that_succeeds_takes_back_the_failures_before() {
+    for (is_dialer, known) in [(true, "1"), (false, "0")] {
+        let cfg = Config {
+            dial_fail_limit: 2,
+            peer_connection_cooldown: Duration::ZERO,
+            ..config()
+        };
+        let mut directory = Directory::init(Vec::new(), info(9, 0), cfg).unwrap();
+        track(&mut directory, 0, &[1]);
+        directory.update_peers(&[info(1, 1000)]).unwrap();
+        let failed = dial(&mut directory, 1, NOW).unwrap();
+        directory.release(failed).unwrap();
+        let held = dial(&mut directory, 1, NOW).unwrap();
+        directory.connect(&key(1), is_dialer).unwrap();
+        directory.release(held).unwrap();
+        assert_eq!(bits(&directory), known);
+    }
+}
+
+#[test]
+fn a_dial_of_an_address_that_was_replaced_is_no_failure() {
+    for (port, known) in [(8001, "0"), (8002, "1")] {
+        let mut directory = quick();
+        track(&mut directory, 0, &[1]);
+        directory.update_peers(&[info(1, 1000)]).unwrap();
+        let held = dial(&mut directory, 1, NOW).unwrap();
+        directory.update_peers(&[info_at(1, 1001, port)]).unwrap();
+        directory.release(held).unwrap();
+        assert_eq!(bits(&directory), known);
+    }
+}
+
 #[test]
 fn test_want_logic_with_min_fails() {
     let cfg = Config {
