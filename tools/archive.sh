@@ -8,7 +8,8 @@ kit=$(dirname "$(rt doc)")
 folder=crates/p2p_session_c
 below='p2p_discovery p2p_tracker p2p_directory p2p_session'
 if [ "${1:-}" = --after-ci ]; then
-    set -- --crate-name p2p_session_c src/lib.rt --crate-type staticlib -L "dependency=$kit/rlibs"
+    set -- --crate-name p2p_session_c src/lib.rt --crate-type staticlib
+    set -- "$@" --extern "std=$kit/rlibs/std.rlib" -L "dependency=$kit/rlibs"
     for name in $below; do
         library=crates/$name/out/rlib/$name.rlib
         [ -d "$library" ] || { echo "there is no $library: run rt ci first" >&2; exit 1; }
