@@ -1,6 +1,6 @@
 //! The setting that the worked rows share.
 
-ghost use Rattle.std.specs.Prelude.{◌≡◌, ◌+◌};
+ghost use Rattle.std.specs.Prelude.{◌≡◌, ◌<◌, ◌+◌, ◌-◌, ◌^◌};
 ghost use Rattle.std.specs.Int.NonZero.{non_zero_usize_get};
 
 use p2p_directory::directory::{Config, TrackedPeers};
@@ -80,7 +80,8 @@ pub const USUAL: Setting = Setting {
 impl Setting {
     /// The configuration.
     pub fn config(self) -> Config
-        ensures { non_zero_usize_get result.max_sets ≡ 1 + self.more_sets }
+        ensures sets { non_zero_usize_get result.max_sets ≡ 1 + self.more_sets }
+        ensures few { non_zero_usize_get result.max_sets < 2 ^ 64 - 1 }
     {
         Config {
             allow_private_ips: true,
