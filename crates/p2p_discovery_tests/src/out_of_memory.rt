@@ -117,9 +117,10 @@ fn reads_within<T: Read<Cfg = ()> + Write + PartialEq>(
     let mut buf = Bytes::copy_from_slice(alloc, frame)?;
     let whole = Bytes::copy_from_slice(alloc, frame)?;
     memory.limit(alloc, step.saturating_mul(STEP))?;
+    // First, for decoding gives a buffer back of just the size that encoding asks for.
+    let encoded = value.encode(alloc);
     let read = T::read_cfg(alloc, &mut buf, &());
     let decoded = T::decode(alloc, whole);
-    let encoded = value.encode(alloc);
     memory.lift();
     let unread = is_unread(rt, value, frame, read, &buf, step);
     let undecoded = is_undecoded(rt, value, decoded, step);
