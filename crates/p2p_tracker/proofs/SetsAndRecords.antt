@@ -5,12 +5,16 @@ pub mod Listing
 pub mod Blocks
 pub mod Ends
 pub mod Cooldowns
+pub mod Places
+pub mod Merged
+pub mod Searches
 pub mod Walks
 pub mod Dialables
 pub mod Counting
 pub mod Consistent
 pub mod Retained
 pub mod Windows
+pub mod Indexed
 pub mod Changes
 pub mod Own
 pub mod Bootstrapped

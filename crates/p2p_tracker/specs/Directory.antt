@@ -288,6 +288,10 @@ module _ {C S : Type 0} (cmp : C → C → Ordering) where
   IsNumberCooledIn d now n =
       (ps : List C) × Lists cmp (is_cooled_in d now) ps × (n ≡ length ps)
 
+  -- the dial moment that is kept of q, if one is
+  abbrev pub dial_moment_in : DirectoryView C S → C → Option ℕ
+  dial_moment_in d q = option_map (λ c. c.dial_at) (cooldown_of cmp d q)
+
   -- the moments of each such peer are forgotten, those of its record are the epoch, and all else
   -- stays
   pub record ForgetsCooled (old new : DirectoryView C S) (now : ℕ) : Type 0 where

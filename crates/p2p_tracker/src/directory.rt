@@ -240,10 +240,11 @@ impl<C: PublicKey> Directory<C> {
     ///
     /// Constant where the index is not above. Else one search of the new set's primary peers for
     /// each of its secondary ones; one search among the records for each peer of the new set, and one
-    /// among the kept moments for each that has no record yet. For the set that goes, and each role of
-    /// its peers: two walks along the records, or where there are more than about five for each of the
-    /// peers, one search among them for each, and one more for each record that goes with it; and one
-    /// sort of the answer.
+    /// among the kept moments for each that has no record yet; two walks along the places of the
+    /// primary peers of all retained sets, and one more where a set goes. For the set that goes, and
+    /// each role of its peers: two walks along the records, or where there are more than about five
+    /// for each of the peers, one search among them for each, and one more for each record that goes
+    /// with it; and one sort of the answer.
     pub fn track(
         &mut self,
         index: u64,
@@ -397,10 +398,8 @@ impl<C: PublicKey> Directory<C> {
     /// # Cost
     ///
     /// One search among the records, and one more where the record goes. Where the peer's info
-    /// comes to be wanted or not, for each retained set that has the peer as primary the search of
-    /// that set by its index, and one bit. Where a set of the peer was refused for memory, one search
-    /// in the primary peers of each retained set instead, until those that had the peer then are
-    /// gone.
+    /// comes to be wanted or not, one search among the places, and for each retained set that has
+    /// the peer as primary the search of that set by its index, and one bit.
     pub fn release(&mut self, reservation: Reservation<C>)
         requires { IsBusy C.cmp self.old (key_of reservation) }
         ensures released { Releases C.cmp self.old self.new reservation }
@@ -425,9 +424,9 @@ impl<C: PublicKey> Directory<C> {
     ///
     /// # Cost
     ///
-    /// One search among the records. Where the peer's info comes to be wanted or not, for each
-    /// retained set that has the peer as primary the search of that set by its index, and one bit;
-    /// after a set of the peer was refused for memory as for [`Directory::release`].
+    /// One search among the records. Where the peer's info comes to be wanted or not, one among the
+    /// places, and for each retained set that has the peer as primary the search of that set by its
+    /// index, and one bit.
     pub fn connect(&mut self, peer: &C, dialer: bool)
         requires { IsReserved C.cmp self.old peer.now }
         ensures connected { Connects C.cmp self.old self.new peer.now dialer }
@@ -448,8 +447,8 @@ impl<C: PublicKey> Directory<C> {
     /// # Cost
     ///
     /// For each info one search among the records, and where the peer's info comes to be wanted or
-    /// not, for each retained set that has the peer as primary the search of that set by its index,
-    /// and one bit; after a set of the peer was refused for memory as for [`Directory::release`].
+    /// not one among the places, and for each retained set that has the peer as primary the search
+    /// of that set by its index, and one bit.
     pub fn update_peers(&mut self, infos: Vec<Info<C>>)
         ensures updated { Updates C.cmp self.old self.new infos.items }
         ensures busy { StayBusy C.cmp self.old self.new }

@@ -2,13 +2,11 @@
 
 ghost use Rattle.std.specs.Prelude.{◌≡◌, ◌++◌, ◌∷◌, [], true, false, not, map, length, slice_get};
 ghost use Rattle.std.specs.Prelude.{IfNone, IfSome, IfOk, IfErr, OnErr, OnOk, None, Some};
-ghost use Rattle.std.specs.Prelude.{◌<◌, get_or, slice_set};
+ghost use Rattle.std.specs.Prelude.{◌<◌, ◌≤◌, get_or};
 ghost use Rattle.std.specs.Prelude.{option_to_list, if◌then◌else◌};
 ghost use Rattle.std.specs.BTreeMap.{is_at, get};
 ghost use Rattle.std.specs.List.{filter, count_by, last_or};
 ghost use Rattle.std.specs.Option.{option_copied};
-ghost use Rattle.std.specs.List.Sorted.{IsStrictlySortedBy};
-ghost use Rattle.std.specs.Map.{keys_of};
 ghost use Rattle.p2p_discovery.specs.BitSets.{with_bit};
 ghost use Rattle.p2p_tracker.specs.PeerSets.{set_of, latest_index, is_above};
 ghost use Rattle.p2p_discovery.specs.Ordered.{has_key};
@@ -16,8 +14,12 @@ ghost use Rattle.p2p_tracker.specs.PeerSets.{AreRolesDisjoint};
 ghost use Rattle.p2p_tracker.specs.Private.Counts.{leaving_count};
 ghost use Rattle.p2p_tracker.specs.Private.Window.{SetWithBits, plain_set, plain_sets};
 ghost use Rattle.p2p_tracker.specs.Private.Window.{set_with_bits, set_at, has_primary};
-ghost use Rattle.p2p_tracker.specs.Private.Window.{is_primary_at, with_bit_of, IsChangedAt};
+ghost use Rattle.p2p_tracker.specs.Private.Window.{with_bit_of, IsAscending};
+ghost use Rattle.p2p_tracker.specs.Private.Places.{IsIndexed, AreEarlier, bit_at, with_bits_at};
+ghost use Rattle.p2p_tracker.specs.Private.Places.{walk};
+ghost use Rattle.p2p_tracker.specs.Private.Places.{indices, has_index};
 
+use crate::kept::places::{Links, Place, Places};
 use p2p_discovery::codec::PublicKey;
 use p2p_discovery::sets::{BitSet, OrderedSet, SetError};
 use std::alloc::{AllocError, Global};
@@ -26,6 +28,7 @@ use std::marker::Model;
 
 pub mod blocks;
 pub mod cooldowns;
+pub mod places;
 
 /// Lets a value go. Its drop, which branches on what it holds, stands here and not in the caller.
 pub fn forget<T: Drop>(_value: T) {}
@@ -53,45 +56,20 @@ pub fn put<C: PublicKey, V: Drop>(
     }
 }
 
-/// Where a primary peer stands: the index of a set, and the place in its list.
-#[derive(Clone, Copy, Drop)]
-pub struct Place {
-    pub set: u64,
-    pub at: usize,
-}
-
-impl Place {
-    /// Where none is known: no list is so long.
-    pub const NOWHERE: Place = Place {
-        set: u64::MAX,
-        at: usize::MAX,
-    };
-}
-
-/// What a change of one peer's record leaves to be done in the sets.
+/// Whether a peer's info is known, and not wanted, before a change and after it.
 #[derive(Clone, Copy)]
 pub struct Known {
-    /// Whether the peer's info was known, and not wanted, before the change.
     pub before: bool,
-    /// .. and after it.
     pub after: bool,
-    /// In how many of the sets the peer is primary.
-    pub sets: usize,
-    /// Where it stands in the latest of them, if that is known.
-    pub latest: Place,
 }
 
 /// A retained set: its index, its primary peers, each with a bit, and those of its secondary peers
 /// that are not primary. The bit says whether the peer's info is known and not wanted.
-///
-/// Beside each primary peer stands where it was in the latest set before this one, if that is
-/// known. A contract doesn't see it: whoever goes by it looks whether the peer is there.
 #[derive(Drop)]
 pub struct PeerSet<C: PublicKey> {
     index: u64,
     primary: BitSet<C>,
     secondary: OrderedSet<C>,
-    earlier: Vec<Place>,
 }
 
 impl<C: PublicKey> Model for PeerSet<C> {
@@ -127,14 +105,11 @@ impl<C: PublicKey> PeerSet<C> {
             set ≡ set_with_bits (λ q. false) (set_of C.cmp index primary secondary)) }
     {
         let secondary = secondary.difference(&primary)?;
-        let mut earlier = Vec::with_capacity(alloc, primary.len())?;
-        earlier.resize(primary.len(), Place::NOWHERE)?;
         let primary = BitSet::new(alloc, primary)?;
         Ok(PeerSet {
             index,
             primary,
             secondary,
-            earlier,
         })
     }
 
@@ -167,73 +142,27 @@ impl<C: PublicKey> PeerSet<C> {
     {
         self.primary.update_at(place, known);
     }
-
-    /// Keeps where the primary peer at a place was before.
-    pub fn set_earlier(&mut self, place: usize, earlier: Place)
-        ensures { self.new ≡ self.old }
-    {
-        if let Some(kept) = self.earlier.get_mut(place) {
-            *kept = earlier;
-        }
-    }
-
-    // Where the primary peer at a place was before, if that is known.
-    fn earlier(&self, place: usize) -> Place {
-        match self.earlier.get(place) {
-            Some(earlier) => *earlier,
-            None => Place::NOWHERE,
-        }
-    }
-
-    // Sets the peer's bit, if it is primary: the list is searched.
-    fn set_bit_of(&mut self, peer: &C, known: bool)
-        ensures { self.new ≡ with_bit_of C.cmp peer.now known self.old }
-    {
-        // For the proof: the clauses of `as_slice` say that the peers are in order.
-        let _peers = self.primary.ordered().as_slice();
-        self.primary.update(peer, known);
-    }
-
-    // Whether the peer is the primary peer at a place.
-    fn is_primary_at(&self, place: usize, peer: &C) -> bool
-        ensures answer { result ≡ is_primary_at C.cmp peer.now place self.now }
-        ensures sorted { IsStrictlySortedBy C.cmp (keys_of self.now.primary) }
-    {
-        match self.primary.ordered().as_slice().get(place) {
-            Some(found) => found.cmp(peer).is_eq(),
-            None => false,
-        }
-    }
-
-    // Sets the peer's bit where it is the primary peer at a place, and says whether it is.
-    fn set_bit_at(&mut self, place: usize, peer: &C, known: bool) -> bool
-        ensures answer { result ≡ is_primary_at C.cmp peer.now place self.old }
-        ensures met { result ≡ true → (has_primary C.cmp peer.now self.old ≡ true)
-            × (self.new ≡ with_bit_of C.cmp peer.now known self.old) }
-        ensures other { result ≡ false → self.new ≡ self.old }
-    {
-        let is_there = self.is_primary_at(place, peer);
-        if is_there {
-            self.primary.update_at(place, known);
-        }
-        is_there
-    }
 }
 
-/// The retained sets. A contract sees the list of them, with a bit beside each primary peer, in the
-/// order in which they came. `Directory::track` pushes none whose index isn't above the latest.
+/// The retained sets. A contract sees the list of them, with a bit beside each primary peer, in
+/// ascending order of their indices.
 #[derive(Drop)]
 pub struct Window<C: PublicKey> {
     sets: VecDeque<PeerSet<C>>,
+    links: VecDeque<Links>,
+    places: Places<C>,
 }
 
 impl<C: PublicKey> Model for Window<C> {
     ghost use Rattle.std.specs.Prelude.{List};
     ghost use Rattle.p2p_tracker.specs.Private.Window.{SetWithBits};
+    ghost use Rattle.p2p_tracker.specs.Private.Places.{IsIndexed};
 
     ghost Value = { List (SetWithBits C) };
 
     ghost view = { λ w. w.sets.items };
+
+    ghost invariant = { λ w. IsIndexed C.cmp w.places w.links.items w.sets.items };
 }
 
 impl<C: PublicKey> Window<C> {
@@ -243,6 +172,8 @@ impl<C: PublicKey> Window<C> {
     {
         Window {
             sets: VecDeque::new(alloc),
+            links: VecDeque::new(alloc),
+            places: Places::new(alloc),
         }
     }
 
@@ -315,23 +246,49 @@ impl<C: PublicKey> Window<C> {
 
     /// Takes in a set as the latest. Where memory is refused all is as it was, and the set comes
     /// back.
+    ///
+    /// # Conditions
+    ///
+    /// Its index is above the latest.
+    ///
+    /// # Cost
+    ///
+    /// Two walks along the places of the primary peers of all retained sets, and along those of the
+    /// set at once.
     pub fn push(&mut self, set: PeerSet<C>) -> Result<(), PeerSet<C>>
+        requires { is_above set.index (latest_index (plain_sets self.old)) ≡ true }
         ensures ok { OnOk result (self.new ≡ self.old ++ set ∷ []) }
         ensures err { OnErr result (self.new ≡ self.old) }
         ensures back { IfErr result (λ back. back ≡ set) }
     {
-        match self.sets.push_back(set) {
-            Ok(()) => Ok(()),
-            Err(refused) => Err(refused.value),
-        }
+        push_set(&mut self.sets, &mut self.links, &mut self.places, set)
     }
 
     /// Takes out the set with the least index. Takes no memory.
+    ///
+    /// # Cost
+    ///
+    /// A walk along the places of the primary peers of all retained sets.
     pub fn pop_first(&mut self) -> Option<PeerSet<C>>
         ensures sets { self.old ≡ option_to_list result ++ self.new }
         ensures none { IfNone result (length self.old ≡ 0) }
     {
-        self.sets.pop_front()
+        pop_set(&mut self.sets, &mut self.links, &mut self.places)
+    }
+
+    /// Sets the peer's bit in every set that has it as primary, and answers in how many. Takes no
+    /// memory.
+    ///
+    /// # Cost
+    ///
+    /// One search among the places, and for each set that has the peer as primary the search of
+    /// that set by its index, and one bit, and one such search more. No other set is looked at, and
+    /// no list of peers is searched.
+    pub fn refresh(&mut self, peer: &C, known: bool) -> usize
+        ensures sets { self.new ≡ map (with_bit_of C.cmp peer.now known) self.old }
+        ensures count { result ≡ count_by (has_primary C.cmp peer.now) self.old }
+    {
+        refresh_places(&mut self.sets, &self.links, &self.places, peer, known)
     }
 
     /// Sets the peer's bit in every set that has it as primary, where it was another before. Takes
@@ -339,20 +296,17 @@ impl<C: PublicKey> Window<C> {
     ///
     /// # Conditions
     ///
-    /// The bits are what they were before, and the peer is primary in as many sets as is said.
+    /// The bits are what they were before.
     ///
     /// # Cost
     ///
-    /// Constant where the bit stays. Else for each set that has the peer as primary the search of
-    /// that set by its index, and one bit. Where these don't lead from one to the next, which is so
-    /// after a set of the peer was refused for memory, a search in the primary peers of each set.
+    /// Constant where the bit stays, else that of [`Window::refresh`].
     pub fn renew(&mut self, peer: &C, known: Known)
-        requires same { map (with_bit_of C.cmp peer.now known.before) self.old ≡ self.old }
-        requires count { known.sets ≡ count_by (has_primary C.cmp peer.now) self.old }
+        requires { map (with_bit_of C.cmp peer.now known.before) self.old ≡ self.old }
         ensures { self.new ≡ map (with_bit_of C.cmp peer.now known.after) self.old }
     {
-        if known.before != known.after && !set_bits(&mut self.sets, peer, known) {
-            set_each_bit(&mut self.sets, peer, known.after);
+        if known.before != known.after {
+            self.refresh(peer, known.after);
         }
     }
 }
@@ -370,60 +324,123 @@ fn set_with_index<C: PublicKey>(sets: &VecDeque<PeerSet<C>>, index: u64) -> Opti
     None
 }
 
-// Sets the peer's bit in each set that a walk meets, from the latest to those before, and says
-// whether these are all that have it as primary.
-fn set_bits<C: PublicKey>(sets: &mut VecDeque<PeerSet<C>>, peer: &C, known: Known) -> bool
-    requires { known.sets ≡ count_by (has_primary C.cmp peer.now) sets.old.items }
-    ensures some { map (with_bit_of C.cmp peer.now known.after) sets.new.items ≡
-        map (with_bit_of C.cmp peer.now known.after) sets.old.items }
-    ensures all { result ≡ true →
-        sets.new.items ≡ map (with_bit_of C.cmp peer.now known.after) sets.old.items }
+// Takes in a set as the latest with the places of its primary peers, or leaves all as it was.
+fn push_set<C: PublicKey>(
+    sets: &mut VecDeque<PeerSet<C>>,
+    links: &mut VecDeque<Links>,
+    places: &mut Places<C>,
+    set: PeerSet<C>,
+) -> Result<(), PeerSet<C>>
+    requires indexed { IsIndexed C.cmp places.old links.old.items sets.old.items }
+    requires above { is_above set.index (latest_index (plain_sets sets.old.items)) ≡ true }
+    ensures indexed { IsIndexed C.cmp places.new links.new.items sets.new.items }
+    ensures ok { OnOk result (sets.new.items ≡ sets.old.items ++ set ∷ []) }
+    ensures err { OnErr result (sets.new.items ≡ sets.old.items) }
+    ensures back { IfErr result (λ back. back ≡ set) }
 {
-    let mut next = known.latest;
-    let mut end = sets.len();
-    for _met in 0..known.sets {
-        let Some((found, earlier)) = set_bit_before(sets, end, &next, peer, known.after) else {
-            return false;
-        };
-        next = earlier;
-        end = found;
+    if sets.try_reserve(1).is_err() {
+        return Err(set);
     }
-    true
+    if links.try_reserve(1).is_err() {
+        return Err(set);
+    }
+    match places.add_each(set.primary.ordered().as_slice(), set.index) {
+        Ok(older) => {
+            links.push_back_reserved(older);
+            sets.push_back_reserved(set);
+            Ok(())
+        }
+        Err(_) => Err(set),
+    }
 }
 
-// Sets the peer's bit at a place, where that is in one of the sets before the end and the peer is
-// there. Answers where the set stands, and where the peer was before. The set is found by its index:
-// should the indices not ascend, it may not be found.
-fn set_bit_before<C: PublicKey>(
+// Takes out the first set with the places of its primary peers.
+fn pop_set<C: PublicKey>(
     sets: &mut VecDeque<PeerSet<C>>,
-    end: usize,
-    place: &Place,
+    links: &mut VecDeque<Links>,
+    places: &mut Places<C>,
+) -> Option<PeerSet<C>>
+    requires { IsIndexed C.cmp places.old links.old.items sets.old.items }
+    ensures indexed { IsIndexed C.cmp places.new links.new.items sets.new.items }
+    ensures sets { sets.old.items ≡ option_to_list result ++ sets.new.items }
+    ensures none { IfNone result (length sets.old.items ≡ 0) }
+{
+    let oldest = sets.pop_front()?;
+    forget(links.pop_front());
+    places.remove_set(oldest.index);
+    Some(oldest)
+}
+
+// Sets the bit at each place of the peer, and answers how many there are.
+fn refresh_places<C: PublicKey>(
+    sets: &mut VecDeque<PeerSet<C>>,
+    links: &VecDeque<Links>,
+    places: &Places<C>,
     peer: &C,
     known: bool,
-) -> Option<(usize, Place)>
-    ensures none { IfNone result (sets.new.items ≡ sets.old.items) }
-    ensures some { IfSome result (λ met. IsChangedAt (has_primary C.cmp peer.now)
-        (with_bit_of C.cmp peer.now known) end met.0 sets.old.items sets.new.items) }
+) -> usize
+    requires { IsIndexed C.cmp places.now links.now.items sets.old.items }
+    ensures sets { sets.new.items ≡ map (with_bit_of C.cmp peer.now known) sets.old.items }
+    ensures count { result ≡ count_by (has_primary C.cmp peer.now) sets.old.items }
 {
-    let Ok(found) = sets.binary_search_by_key(&place.set, |set| set.index()) else {
-        return None;
-    };
-    if end <= found {
-        return None;
+    set_bits(sets, links, places.get(peer), known)
+}
+
+// Sets the bit at each place that a walk meets, and answers how many there are.
+fn set_bits<C: PublicKey>(
+    sets: &mut VecDeque<PeerSet<C>>,
+    links: &VecDeque<Links>,
+    latest: Option<Place>,
+    known: bool,
+) -> usize
+    requires ascending { IsAscending sets.old.items }
+    requires earlier { AreEarlier (indices sets.old.items) links.now.items }
+    requires few { length (walk (indices sets.old.items) links.now.items latest) ≤
+        length sets.old.items }
+    ensures sets { sets.new.items ≡
+        with_bits_at known (walk (indices sets.old.items) links.now.items latest) sets.old.items }
+    ensures count { result ≡ length (walk (indices sets.old.items) links.now.items latest) }
+{
+    let mut next = latest;
+    for count in 0..sets.len() {
+        let Some(place) = next else { return count };
+        let Some(found) = set_bit_at(sets, &place, known) else {
+            return count
+        };
+        next = link_at(links, found, place.at);
     }
-    let set = sets.get_mut(found)?;
-    if set.set_bit_at(place.at, peer, known) {
-        Some((found, set.earlier(place.at)))
-    } else {
-        None
+    sets.len()
+}
+
+// What stands beside a peer of one of the sets.
+fn link_at(links: &VecDeque<Links>, found: usize, at: usize) -> Option<Place>
+    ensures { result ≡ get_or (get_or links.now.items found []) at None }
+{
+    match links.get(found) {
+        Some(older) => older.get(at),
+        None => None,
     }
 }
 
-// Sets the peer's bit in every set that has it as primary.
-fn set_each_bit<C: PublicKey>(sets: &mut VecDeque<PeerSet<C>>, peer: &C, known: bool)
-    ensures { sets.new.items ≡ map (with_bit_of C.cmp peer.now known) sets.old.items }
+// Sets the bit at a place, in the set with its index, and answers where that set is.
+fn set_bit_at<C: PublicKey>(
+    sets: &mut VecDeque<PeerSet<C>>,
+    place: &Place,
+    known: bool,
+) -> Option<usize>
+    requires { IsAscending sets.old.items }
+    ensures sets { sets.new.items ≡ map (bit_at known place.now) sets.old.items }
+    ensures some { IfSome result (λ found. (found < length sets.old.items)
+        × (get_or (indices sets.old.items) found 0 ≡ place.now.set)) }
+    ensures none { IfNone result (has_index (indices sets.old.items) place.now.set ≡ false) }
 {
-    for place in 0..sets.len() {
-        sets[place].set_bit_of(peer, known);
+    match sets.binary_search_by_key(&place.set, |set| set.index()) {
+        Ok(found) => {
+            if let Some(set) = sets.get_mut(found) {
+                set.set_bit(place.at, known);
+            }
+            Some(found)
+        }
+        Err(_) => None,
     }
 }

@@ -20,7 +20,6 @@ ghost use Rattle.p2p_tracker.specs.Record.{ingress_of, dial_view, dial_status, i
 ghost use Rattle.p2p_tracker.specs.Private.Counts.{with_one_more, with_one_less};
 ghost use Rattle.p2p_tracker.specs.Private.Counts.{is_torn_down_without};
 
-use crate::kept::Place;
 use p2p_discovery::codec::PublicKey;
 use p2p_discovery::discovery::Info;
 use p2p_discovery::types::Ingress;
@@ -106,9 +105,6 @@ impl<C: PublicKey> Dialable<C> {
 
 /// What is known of one peer: its address, its connection, in how many retained sets it is, and
 /// when it may be reserved and dialled again.
-///
-/// Beside that it keeps where the peer stands in the last set that was counted for it as primary,
-/// also one that was refused then, which no contract sees.
 #[derive(Drop)]
 pub struct Record<C: PublicKey> {
     // What most calls look at stands together, for fields lie in this order.
@@ -118,7 +114,6 @@ pub struct Record<C: PublicKey> {
     secondary_sets: usize,
     next_reservable_at: Duration,
     next_dial_at: Duration,
-    latest: Place,
     address: Address<C>,
 }
 
@@ -173,7 +168,6 @@ impl<C: PublicKey> Record<C> {
             persistent,
             next_reservable_at: Duration::ZERO,
             next_dial_at: Duration::ZERO,
-            latest: Place::NOWHERE,
         }
     }
 
@@ -547,21 +541,6 @@ impl<C: PublicKey> Record<C> {
     {
         self.next_reservable_at = reservable;
         self.next_dial_at = dial;
-    }
-
-    // Where the peer stands in the last set that was counted for it as primary, if that is known.
-    pub(crate) fn latest(&self) -> Place {
-        self.latest
-    }
-
-    // Keeps where the peer stands in a set that is counted for it as primary, and answers where it
-    // stood before, if that is known.
-    pub(crate) fn replace_latest(&mut self, latest: Place) -> Place
-        ensures { self.new ≡ self.old }
-    {
-        let before = self.latest;
-        self.latest = latest;
-        before
     }
 
     /// What is known of the peer's address.

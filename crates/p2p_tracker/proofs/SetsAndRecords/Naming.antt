@@ -11,7 +11,7 @@ use Rattle.std.specs.List.Sorted.{IsStrictlySortedBy}
 use Rattle.std.specs.List.{filter, AllByRecursion, IsDistinct}
 use Rattle.std.specs.Ordering.{is_eq, eq_by_cmp}
 use Rattle.std.proofs.lemmas.Cmp.{tied_itself, eq_by_cmp_equiv}
-use Rattle.std.proofs.lemmas.List.{length-take, get_or-take, get_or_default, take-append-drop}
+use Rattle.std.proofs.lemmas.List.{length-take, get_or-take, get_or_default, take-append-drop, drop_more}
 use Rattle.std.proofs.lemmas.List.Folds.{list_any_none, list_any_more, list_any-append}
 use Rattle.std.proofs.lemmas.Map.Keys.{Less-from_sorted}
 use Rattle.std.proofs.lemmas.Map.Lookups.{CmpEqualImpliesEq}
@@ -47,7 +47,7 @@ module _ {C : Type 0} {cmp : C → C → Ordering} (o : IsTotalOrder cmp) (exact
         (λ same. subst (λ k. has_key cmp (take i keys) k ≡ false) (tells_apart exact key q same) not_yet) f new
         now old d e)
 
-or_true_right : (a b : Bool) → b ≡ true → (a || b) ≡ true
+pub or_true_right : (a b : Bool) → b ≡ true → (a || b) ≡ true
 or_true_right true b e = refl
 or_true_right false b e = e
 
@@ -74,6 +74,11 @@ unfolding IsStrictlySortedBy
 sorted_drop cmp zero keys up = up
 sorted_drop cmp (suc i) [] up = up
 sorted_drop cmp (suc i) (x ∷ keys) up = sorted_drop cmp i keys up.1
+
+-- the first of those that are left
+pub first_left : {A : Type 0} (xs : List A) (i : ℕ) (x : A) → i < length xs → x ≡ get_or xs i x →
+    drop i xs ≡ x ∷ drop (i + 1) xs
+first_left xs i x low is = drop_more xs i x low ∙ ap (λ y. y ∷ drop (i + 1) xs) (sym is)
 
 -- what is true of each of two lists is true of both
 pub all_joined : {A : Type 0} (P : A → Type 0) (xs ys : List A) → AllByRecursion P xs → AllByRecursion P ys → AllByRecursion P (xs ++ ys)

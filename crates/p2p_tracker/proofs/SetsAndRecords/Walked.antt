@@ -29,7 +29,7 @@ module _ {C : Type 0} {cmp : C → C → Ordering} (total : IsTotalOrder cmp) (k
       ap (λ o. cond (is_lt o) (q ∷ above cmp key qs) (above cmp key qs)) h.0
       ∙ ap (λ rest. q ∷ rest) (all_above qs h.1)
 
-  none_is_it : (qs : List C) → AllByRecursion (λ q. cmp key q ≡ Less) qs → has_key cmp qs key ≡ false
+  pub none_is_it : (qs : List C) → AllByRecursion (λ q. cmp key q ≡ Less) qs → has_key cmp qs key ≡ false
   none_is_it [] h = refl
   none_is_it (q ∷ qs) h =
       ap (λ o. is_eq o || has_key cmp qs key) (total.antisymm q key ∙ ap ordering_reverse h.0)
@@ -49,6 +49,15 @@ module _ {C : Type 0} {cmp : C → C → Ordering} (total : IsTotalOrder cmp) (k
   module _ (keys : List C) (i : ℕ) (q : C) (low : i < length keys) (is : q ≡ get_or keys i q) where
     here : drop i keys ≡ q ∷ drop (i + 1) keys
     here = drop_more keys i q low ∙ ap (λ x. x ∷ drop (i + 1) keys) (sym is)
+
+    -- a key before the one is passed
+    pub less_rest : cmp q key ≡ Less → above cmp key (drop i keys) ≡ above cmp key (drop (i + 1) keys)
+    less_rest less = ap (above cmp key) here
+        ∙ ap (λ o. cond (is_lt o) (q ∷ above cmp key (drop (i + 1) keys)) (above cmp key (drop (i + 1) keys)))
+        (total.antisymm key q ∙ ap ordering_reverse less)
+
+    pub less_met : cmp q key ≡ Less → has_key cmp (drop i keys) key ≡ has_key cmp (drop (i + 1) keys) key
+    less_met less = ap (λ ks. has_key cmp ks key) here ∙ ap (λ o. is_eq o || has_key cmp (drop (i + 1) keys) key) less
 
     module _ (up : IsStrictlySortedBy cmp keys) where
       behind : AllByRecursion (λ y. cmp q y ≡ Less) (drop (i + 1) keys)
@@ -83,7 +92,7 @@ nothing_changed left true = refl
 nothing_changed left false = refl
 
 -- no entry behind a key has it
-none_behind : {C V : Type 0} {cmp : C → C → Ordering} → IsTotalOrder cmp → (k : C) (es : List (C × V)) →
+pub none_behind : {C V : Type 0} {cmp : C → C → Ordering} → IsTotalOrder cmp → (k : C) (es : List (C × V)) →
     IsStrictlySortedBy cmp (keys_of es) → AllByRecursion (λ y. cmp k y ≡ Less) (keys_of es) → lookup (is_at (cmp k)) es ≡ None
 none_behind total k [] up all = refl
 none_behind {cmp = cmp} total k (e ∷ es) up all = lookup-none (is_at (cmp k)) (e ∷ es) (none_below_head total k e es up all.0)

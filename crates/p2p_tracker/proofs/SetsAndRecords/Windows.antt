@@ -1,35 +1,25 @@
--- Retained sets with their bits: what a new bit leaves.
+-- Retained sets with their bits: what a new bit leaves, and that their indices ascend.
 use Rattle.std.proofs.Common.{◌≡◌, ℕ, zero, suc, ◌<◌, ◌≤◌, ◌+◌, Bool, true, false, cond, List, []}
 use Rattle.std.proofs.Common.{◌∷◌, ◌++◌, map, take, drop, length, get_or, Option, Some, None, sym}
-use Rattle.std.proofs.Common.{ap, refl, ◌∙◌, arith}
-use Rattle.std.specs.Prelude.{◌==◌, find, slice_get}
-use mathlib.Core.Bool.{true≢false}
+use Rattle.std.proofs.Common.{ap, refl, subst, ◌∙◌, arith}
+use Rattle.std.specs.Prelude.{◌==◌, nat_lt, nat_eq, find, slice_get}
 use Rattle.std.specs.declared.cmp.Ordering.{Ordering}
-use Rattle.std.specs.declared.cmp.Ordering.TheVariants.{Less}
-use Rattle.std.specs.Option.{option_map, option_map_or}
-use Rattle.std.specs.List.{last_or, count_by}
-use Rattle.std.proofs.lemmas.List.Folds.{list_any_at}
-use Rattle.std.proofs.lemmas.Bool.{or_parts}
-use Rattle.p2p_tracker.specs.declared.record.Role.TheVariants.{Primary}
+use Rattle.std.specs.declared.cmp.Ordering.TheVariants.{Less, Equal, Greater}
+use Rattle.std.specs.Ordering.{nat_cmp}
+use Rattle.std.specs.Cmp.{nat_cmp_total}
+use Rattle.std.specs.Option.{option_map}
+use Rattle.std.specs.List.{last_or, AllByRecursion}
 use Rattle.std.specs.List.Sorted.{IsStrictlySortedBy}
-use Rattle.std.specs.Map.{keys_of, values_of, set_value}
-use Rattle.std.specs.Ordering.{is_eq, ordering_reverse}
-use Rattle.std.specs.Cmp.{IsTotalOrder}
+use Rattle.std.specs.Map.{keys_of, values_of}
 use Rattle.std.specs.BTreeMap.{is_at}
-use Rattle.std.proofs.lemmas.Option.{slice_get-map, slice_get_within, get_or_from_slice_get}
-use Rattle.std.proofs.lemmas.Map.Views.{tells_apart}
+use Rattle.std.proofs.lemmas.List.{map-append}
+use Rattle.std.proofs.lemmas.Option.{slice_get-map}
 use Rattle.std.proofs.lemmas.Map.{NonePasses}
-use Rattle.std.proofs.lemmas.Cmp.{tied_itself, eq_by_cmp_equiv}
-use Rattle.std.proofs.lemmas.Map.Entries.{none_past_head, length-keys_of}
-use Rattle.std.proofs.lemmas.Map.Keys.{sorted_tail, Less-from_sorted, IsDistinct-from_sorted}
-use Rattle.std.proofs.lemmas.Map.Lookups.{CmpEqualImpliesEq}
-use Rattle.p2p_discovery.specs.Ordered.{has_key}
 use Rattle.p2p_discovery.specs.BitSets.{with_bit, unset}
-use Rattle.p2p_tracker.specs.PeerSets.{latest_index, set_with, set_count}
+use Rattle.p2p_tracker.specs.PeerSets.{latest_index, is_above, set_with}
+use Rattle.p2p_tracker.proofs.SetsAndRecords.Naming.{all_joined}
 use Rattle.p2p_tracker.specs.Calls.{SetAt}
-use Rattle.p2p_tracker.proofs.SetsAndRecords.Counting.{one}
-use Rattle.p2p_tracker.proofs.SetsAndRecords.Consistent.{count_cons}
-use Rattle.p2p_tracker.specs.Private.Window.{SetWithBits, plain_set, plain_sets, set_with_bits, sets_with_bits, bits_with, with_bit_of, has_primary, set_at}
+use Rattle.p2p_tracker.specs.Private.Window.{SetWithBits, plain_set, plain_sets, set_with_bits, sets_with_bits, bits_with, with_bit_of, IsAscending, set_at}
 
 next : (i : ℕ) → suc i ≡ i + 1
 next i = omega arith
@@ -99,6 +89,28 @@ module _ {C : Type 0} (cmp : C → C → Ordering) where
 
 -- INDICES
 
+-- no set ascends
+pub none_ascends : (C : Type 0) → IsAscending {C = C} []
+unfolding IsStrictlySortedBy
+none_ascends C = tt
+
+-- each number is below one that is above the last of ascending ones
+all_below : (n x : ℕ) (ns : List ℕ) → IsStrictlySortedBy nat_cmp (x ∷ ns) →
+    is_above n (last_or (Some x) ns) ≡ true → AllByRecursion (λ y. nat_cmp y n ≡ Less) (x ∷ ns)
+unfolding IsStrictlySortedBy
+all_below n x [] up above = (less x n above, tt)
+  where
+    less : (x n : ℕ) → nat_lt x n ≡ true → nat_cmp x n ≡ Less
+    less x n e = ap (λ b. cond b Less (cond (nat_eq x n) Equal Greater)) e
+all_below n x (y ∷ ns) up above =
+    let rest = all_below n y ns up.1 above in
+    (nat_cmp_total.trans x y n up.0.0 rest.0, rest)
+
+pushed : (n : ℕ) (ns : List ℕ) → IsStrictlySortedBy nat_cmp ns → AllByRecursion (λ y. nat_cmp y n ≡ Less) ns → IsStrictlySortedBy nat_cmp (ns ++ n ∷ [])
+unfolding IsStrictlySortedBy
+pushed n [] up below = (tt, tt)
+pushed n (x ∷ ns) up below = (all_joined (λ y. nat_cmp x y ≡ Less) ns (n ∷ []) up.0 (below.0, tt), pushed n ns up.1 below.1)
+
 module _ {C : Type 0} where
   -- the index of the latest set
   last_index : (o : Option (SetWithBits C)) (sets : List (SetWithBits C)) →
@@ -110,18 +122,30 @@ module _ {C : Type 0} where
   pub latest_plain : (sets : List (SetWithBits C)) → latest_index (plain_sets sets) ≡ option_map (λ set. set.index) (last_or None sets)
   latest_plain sets = last_index None sets
 
--- COUNTS
+  -- a set whose index is above the latest ascends
+  pub ascending_push : (sets : List (SetWithBits C)) (set : SetWithBits C) → IsAscending sets →
+      is_above set.index (latest_index (plain_sets sets)) ≡ true → IsAscending (sets ++ set ∷ [])
+  ascending_push [] set up above = pushed set.index [] up tt
+  ascending_push (x ∷ sets) set up above =
+      subst (IsStrictlySortedBy nat_cmp) (sym (map-append (λ (y : SetWithBits C). y.index) (x ∷ sets) (set ∷ [])))
+      (pushed set.index (map (λ y. y.index) (x ∷ sets)) up
+      (all_below set.index x.index (map (λ y. y.index) sets) up
+      (ap (is_above set.index) (indices (Some x) sets) ∙ above)))
+    where
+      indices : (o : Option (SetWithBits C)) (sets : List (SetWithBits C)) →
+          last_or (option_map (λ y. y.index) o) (map (λ y. y.index) sets) ≡ option_map (λ y. y.index) (last_or (option_map plain_set o) (plain_sets sets))
+      indices None [] = refl
+      indices (Some x) [] = refl
+      indices o (x ∷ sets) = indices (Some x) sets
 
-module _ {C : Type 0} (cmp : C → C → Ordering) (p : C) where
-  plain_counted : (sets : List (SetWithBits C)) → set_count cmp Primary p (plain_sets sets) ≡ count_by (has_primary cmp p) sets
-  plain_counted [] = refl
-  plain_counted (x ∷ sets) = count_cons (λ (set : SetAt C). has_key cmp set.primary p) (plain_set x) (plain_sets sets)
-      ∙ ap (λ n. one (has_primary cmp p x) + n) (plain_counted sets) ∙ sym (count_cons (has_primary cmp p) x sets)
-
-  -- what a record counts is how many sets have p as primary
-  pub primary_counted : (sets : List (SetWithBits C)) (n m : ℕ) → n ≡ m → m ≡ set_count cmp Primary p (plain_sets sets) →
-      n ≡ count_by (has_primary cmp p) sets
-  primary_counted sets n m is counts = is ∙ counts ∙ plain_counted sets
+  -- new bits leave the indices
+  pub ascending_with_bit : (cmp : C → C → Ordering) (p : C) (b : Bool) (old new : List (SetWithBits C)) →
+      new ≡ map (with_bit_of cmp p b) old → IsAscending old → IsAscending new
+  ascending_with_bit cmp p b old new e up = subst IsAscending (sym e) (subst (IsStrictlySortedBy nat_cmp) (sym (go old)) up)
+    where
+      go : (sets : List (SetWithBits C)) → map (λ y. y.index) (map (with_bit_of cmp p b) sets) ≡ map (λ y. y.index) sets
+      go [] = refl
+      go (x ∷ sets) = ap (λ ns. x.index ∷ ns) (go sets)
 
 -- ONE AFTER THE OTHER
 
@@ -203,83 +227,3 @@ module _ {C : Type 0} where
           last_or (option_map plain_set o) (plain_sets window) ≡ option_map plain_set (last_or o window)
       go o [] = refl
       go o (x ∷ window) = go (Some x) window
-
--- THE BIT OF ONE OF ORDERED PEERS
-
-module _ {C : Type 0} {cmp : C → C → Ordering} (o : IsTotalOrder cmp) (p : C) (b : Bool) where
-  -- no peer behind p is p
-  behind_others : (e : C × Bool) (es : List (C × Bool)) → IsStrictlySortedBy cmp (keys_of (e ∷ es)) → is_at (cmp p) e.0 ≡ true →
-      bits_with cmp p b es ≡ es
-  behind_others e es up here = bits_without cmp p b es (none_past_head (eq_by_cmp_equiv o) p e es
-      (IsDistinct-from_sorted cmp (keys_of (e ∷ es)) up) here)
-
-  -- written where a search finds p
-  pub bit_searched : (es : List (C × Bool)) → IsStrictlySortedBy cmp (keys_of es) →
-      set_value (is_at (cmp p)) es b ≡ bits_with cmp p b es
-  bit_searched [] up = refl
-  bit_searched (e ∷ es) up = go (is_at (cmp p) e.0) refl (bit_searched es (sorted_tail cmp e.0 (keys_of es) up))
-    where
-      go : (here : Bool) → is_at (cmp p) e.0 ≡ here → set_value (is_at (cmp p)) es b ≡ bits_with cmp p b es →
-          cond here ((e.0, b) ∷ es) (e ∷ set_value (is_at (cmp p)) es b) ≡ (e.0, cond here b e.1) ∷ bits_with cmp p b es
-      go true here rest = λ i. (e.0, b) ∷ sym (behind_others e es up here) i
-      go false here rest = λ i. e ∷ rest i
-
-  -- written at the place of p
-  pub bit_placed : CmpEqualImpliesEq cmp → (es : List (C × Bool)) (i : ℕ) → IsStrictlySortedBy cmp (keys_of es) → i < length es →
-      p ≡ get_or (keys_of es) i p → with_bit es i b ≡ bits_with cmp p b es
-  bit_placed exact [] i up low is = absurd (omega (arith, low))
-  bit_placed exact (e ∷ es) zero up low is =
-      let here : is_at (cmp p) e.0 ≡ true = ap (λ k. is_at (cmp p) k) (sym is) ∙ ap is_eq (tied_itself o p) in
-      λ i. (e.0, cond (sym here i) b e.1) ∷ sym (behind_others e es up here) i
-  bit_placed exact (e ∷ es) (suc i) up low is = go (is_at (cmp p) e.0) refl
-      (bit_placed exact es i (sorted_tail cmp e.0 (keys_of es) up) (omega (arith, low)) is)
-    where
-      go : (here : Bool) → is_at (cmp p) e.0 ≡ here → with_bit es i b ≡ bits_with cmp p b es →
-          e ∷ with_bit es i b ≡ (e.0, cond here b e.1) ∷ bits_with cmp p b es
-      go false here rest = λ j. e ∷ rest j
-      go true here rest = absurd (true≢false (sym here ∙ below))
-        where
-          below : is_at (cmp p) e.0 ≡ false
-          below =
-              let less : cmp e.0 (get_or (keys_of es) i p) ≡ Less = Less-from_sorted cmp (keys_of (e ∷ es)) 0 (suc i) p up (omega arith)
-              (omega (arith, low, length-keys_of es)) in
-              ap is_eq (o.antisymm p e.0 ∙ ap ordering_reverse (ap (cmp e.0) is ∙ less))
-
--- .. where a look at the place finds p
-pub place_seen : {C : Type 0} {cmp : C → C → Ordering} → CmpEqualImpliesEq cmp → (p : C) (ks : List C) (i : ℕ) →
-    option_map_or (λ q. is_at (cmp q) p) (slice_get ks i) false ≡ true → (i < length ks) × (p ≡ get_or ks i p)
-place_seen {C} {cmp} exact p ks i e = go (slice_get ks i) refl e
-  where
-    go : (o : Option C) → slice_get ks i ≡ o → option_map_or (λ q. is_at (cmp q) p) o false ≡ true →
-        (i < length ks) × (p ≡ get_or ks i p)
-    go None f e = absurd (true≢false (sym e))
-    go (Some q) f e = (slice_get_within ks i q f, sym (tells_apart exact q p e) ∙ sym (get_or_from_slice_get ks i q p f))
-
--- .. which a list of them has
-pub has_key_at : {C : Type 0} {cmp : C → C → Ordering} → IsTotalOrder cmp → (p : C) (ks : List C) (i : ℕ) → i < length ks →
-    p ≡ get_or ks i p → has_key cmp ks p ≡ true
-has_key_at {cmp = cmp} o p ks i low is =
-    list_any_at (λ k. is_at (cmp k) p) ks i p low (ap (λ k. is_at (cmp k) p) (sym is) ∙ ap is_eq (tied_itself o p))
-
--- WRITTEN TWICE, OR BESIDE NOBODY
-
-module _ {C : Type 0} {cmp : C → C → Ordering} (o : IsTotalOrder cmp) (p : C) (b : Bool) where
-  bits_again : (es : List (C × Bool)) → bits_with cmp p b (bits_with cmp p b es) ≡ bits_with cmp p b es
-  bits_again [] = refl
-  bits_again (e ∷ es) = λ i. (e.0, twice (is_at (cmp p) e.0) i) ∷ bits_again es i
-    where
-      twice : (here : Bool) → cond here b (cond here b e.1) ≡ cond here b e.1
-      twice true = refl
-      twice false = refl
-
-  pub bit_kept : (x : SetWithBits C) → has_primary cmp p x ≡ false → with_bit_of cmp p b x ≡ x
-  bit_kept x none = λ i. record x { primary = go x.primary none i }
-    where
-      go : (es : List (C × Bool)) → has_key cmp (keys_of es) p ≡ false → bits_with cmp p b es ≡ es
-      go [] none = refl
-      go (e ∷ es) none =
-          let parts = or_parts (is_at (cmp e.0) p) (has_key cmp (keys_of es) p) none in
-          λ i. (e.0, cond (((eq_by_cmp_equiv o).symm p e.0 ∙ parts.0) i) b e.1) ∷ go es parts.1 i
-
-  pub bit_again : (x : SetWithBits C) → with_bit_of cmp p b (with_bit_of cmp p b x) ≡ with_bit_of cmp p b x
-  bit_again x = λ i. record x { primary = bits_again x.primary i }

@@ -56,10 +56,6 @@ module _ {C S : Type 0} where
   with_one_less Primary r = with_counts (r.primary_sets - 1) r.secondary_sets r
   with_one_less Secondary r = with_counts r.primary_sets (r.secondary_sets - 1) r
 
-  -- how many primary sets what is kept of a peer counts
-  abbrev pub primary_count : Option (RecordView C S) → ℕ
-  primary_count o = option_map_or (λ r. r.primary_sets) o 0
-
   -- its connection has to end once one set of the role less has its peer
   unfoldable pub is_torn_down_without : Role → RecordView C S → Bool
   is_torn_down_without role r =
@@ -135,15 +131,10 @@ module _ {C S : Type 0} (cmp : C → C → Ordering) where
 
   -- BETWEEN CALLS
 
-  -- each record counts the sets that have its peer as primary, and a peer with no record is in none
-  abbrev pub ArePrimaryCounted : List (SetAt C) → (C → Option (RecordView C S)) → Type 0
-  ArePrimaryCounted sets record_at =
-      (q : C) → primary_count (record_at q) ≡ set_count cmp Primary q sets
-
   -- the counts of a record are those of the sets, and a peer with no record is in none
   abbrev pub AreCounted : List (SetAt C) → C → Option (RecordView C S) → Type 0
   AreCounted sets q o =
-      (primary_count o ≡ set_count cmp Primary q sets)
+      (option_map_or (λ r. r.primary_sets) o 0 ≡ set_count cmp Primary q sets)
       × (option_map_or (λ r. r.secondary_sets) o 0 ≡ set_count cmp Secondary q sets)
 
   -- no record is deletable, and its counts are those of the retained sets, of which there are at

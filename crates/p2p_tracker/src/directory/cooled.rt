@@ -1,6 +1,6 @@
 //! Cooldowns that are forgotten.
 
-ghost use Rattle.std.specs.Prelude.{◌≡◌, ◌∷◌, [], length, if◌then◌else◌};
+ghost use Rattle.std.specs.Prelude.{◌≡◌, ◌∷◌, [], Some, length, if◌then◌else◌};
 ghost use Rattle.std.specs.Option.{option_map};
 ghost use Rattle.std.specs.List.{filter};
 ghost use Rattle.std.specs.Duration.{as_nanos};
@@ -9,16 +9,19 @@ ghost use Rattle.p2p_tracker.specs.Seen.{record_at};
 ghost use Rattle.p2p_tracker.specs.Cooldowns.{cooldown_in, cooldown_view, has_cooled};
 ghost use Rattle.p2p_tracker.specs.Cooldowns.{unless_cooled};
 ghost use Rattle.p2p_tracker.specs.Private.Counts.{AreCooled, cleared_at};
+ghost use Rattle.p2p_tracker.specs.Private.Dialling.{least_by};
 
 use crate::directory::Directory;
 use crate::directory::records::Records;
+use crate::directory::records::listing::earliest;
 use crate::kept::cooldowns::Cooldowns;
 use p2p_discovery::codec::PublicKey;
 use std::time::Duration;
 
 impl<C: PublicKey> Directory<C> {
     ghost use Rattle.p2p_tracker.specs.Directory.{StayBusy, StayReserved};
-    ghost use Rattle.p2p_tracker.specs.Directory.{IsNumberCooledIn, ForgetsCooled};
+    ghost use Rattle.p2p_tracker.specs.Directory.{IsNumberCooledIn, ForgetsCooled, dial_moment_in};
+    ghost use Rattle.p2p_tracker.specs.Lists.{IsLeastOf};
 
     /// Forgets the moments of each peer whose dial moment is at or before `now`, a time since the
     /// epoch, and answers how many there were: such a peer is reservable and dialable from the
@@ -38,6 +41,31 @@ impl<C: PublicKey> Directory<C> {
         let _kept = self.cooldowns.len();
         forget_each(&mut self.records, &mut self.cooldowns, now)
     }
+
+    /// The least time since the epoch at which [`Directory::forget_cooled`] forgets something, or
+    /// `None` if no moments are kept: the least of the dial moments. Takes no memory.
+    ///
+    /// # Cost
+    ///
+    /// One pass over the kept moments.
+    pub fn next_cooled(&self) -> Option<Duration>
+        ensures { IsLeastOf (dial_moment_in C.cmp self.now) (option_map as_nanos result) }
+    {
+        // For the proof: the clauses of `len` say that the keys are in order.
+        let _kept = self.cooldowns.len();
+        next_dial(&self.cooldowns)
+    }
+}
+
+// The least of the dial moments.
+fn next_dial<C: PublicKey>(cooldowns: &Cooldowns<C>) -> Option<Duration>
+    ensures { option_map as_nanos result ≡ least_by (λ e. Some e.1.dial_at) cooldowns.now }
+{
+    let mut next = None;
+    for (_, moments) in cooldowns.iter() {
+        next = Some(earliest(next, moments.1));
+    }
+    next
 }
 
 // Forgets the moments of each peer whose dial moment is at or before `now`, in its record too, and

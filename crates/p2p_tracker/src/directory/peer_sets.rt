@@ -1,6 +1,6 @@
 //! Questions about the retained sets.
 
-ghost use Rattle.std.specs.Prelude.{◌≡◌, true, IfOk, OnErr};
+ghost use Rattle.std.specs.Prelude.{◌≡◌, true, IfOk, OnErr, length};
 ghost use Rattle.std.specs.Option.{IsSomeAnd};
 ghost use Rattle.p2p_tracker.specs.PeerSets.{latest_index, has_peers, set_with};
 ghost use Rattle.p2p_tracker.specs.Seen.{peers_of};
@@ -68,6 +68,18 @@ impl<C: PublicKey> Directory<C> {
         ensures { result ≡ latest_index self.now.sets }
     {
         self.sets.latest_index()
+    }
+
+    /// How many peer sets are retained: at most [`Config::max_sets`](crate::directory::Config). Takes
+    /// no memory.
+    ///
+    /// # Cost
+    ///
+    /// Constant.
+    pub fn retained(&self) -> usize
+        ensures { result ≡ length self.now.sets }
+    {
+        self.sets.len()
     }
 
     /// The peers of all retained sets, by role: one that is primary in some set is primary only.

@@ -12,7 +12,7 @@ ghost use Rattle.p2p_tracker.specs.History.{is_inert, is_reserved};
 ghost use Rattle.p2p_tracker.specs.Record.{may_come, reserved_record, with_cooldown};
 ghost use Rattle.p2p_tracker.specs.Moments.{moments_after};
 ghost use Rattle.p2p_tracker.specs.Cooldowns.{cooldown_in};
-ghost use Rattle.p2p_tracker.specs.Private.Counts.{IsGranted, primary_count};
+ghost use Rattle.p2p_tracker.specs.Private.Counts.{IsGranted};
 ghost use Rattle.p2p_tracker.specs.Private.Dialling.{dialled_of, dialled_in};
 ghost use Rattle.p2p_tracker.specs.Directory.{has_status, is_busy, is_known};
 ghost use Rattle.p2p_tracker.specs.Seen.{key_of, record_at};
@@ -22,7 +22,7 @@ ghost use Rattle.p2p_tracker.specs.Directory.{connected_record, updated_record, 
 
 use crate::directory::{Config, Metadata};
 use crate::kept::cooldowns::Cooldowns;
-use crate::kept::{Known, Place, forget, put};
+use crate::kept::{Known, forget, put};
 use crate::record::{DialStatus, Record, ReserveResult, next_moments};
 use p2p_discovery::codec::PublicKey;
 use p2p_discovery::discovery::Info;
@@ -33,7 +33,7 @@ use std::marker::Model;
 use std::time::Duration;
 
 pub mod counts;
-mod listing;
+pub(crate) mod listing;
 mod walks;
 
 /// The records of peers. A contract sees the list of keys with their records, in ascending order.
@@ -159,20 +159,14 @@ impl<C: PublicKey> Records<C> {
             is_known limit (record_at C.cmp self.old (key_of metadata.now)) }
         ensures after { result.after ≡
             is_known limit (record_at C.cmp self.new (key_of metadata.now)) }
-        ensures sets { result.sets ≡
-            primary_count (record_at C.cmp self.old (key_of metadata.now)) }
     {
         let peer = *metadata.public_key();
         let mut known = Known {
             before: false,
             after: false,
-            sets: 0,
-            latest: Place::NOWHERE,
         };
         if let Some(found) = self.map.get_mut(&peer) {
             known.before = !found.want(limit);
-            known.sets = found.primary_sets();
-            known.latest = found.latest();
             release_record(found, metadata);
             if found.deletable() {
                 forget(self.map.remove(&peer));
@@ -190,7 +184,6 @@ impl<C: PublicKey> Records<C> {
             (option_map (connected_record dialer)) }
         ensures before { result.before ≡ is_known limit (record_at C.cmp self.old peer.now) }
         ensures after { result.after ≡ is_known limit (record_at C.cmp self.new peer.now) }
-        ensures sets { result.sets ≡ primary_count (record_at C.cmp self.old peer.now) }
     {
         match self.map.get_mut(peer) {
             Some(found) => {
@@ -199,15 +192,11 @@ impl<C: PublicKey> Records<C> {
                 Known {
                     before,
                     after: !found.want(limit),
-                    sets: found.primary_sets(),
-                    latest: found.latest(),
                 }
             }
             None => Known {
                 before: false,
                 after: false,
-                sets: 0,
-                latest: Place::NOWHERE,
             },
         }
     }
@@ -221,8 +210,6 @@ impl<C: PublicKey> Records<C> {
             known.before ≡ is_known limit (record_at C.cmp self.old info.public_key)) }
         ensures after { IfSome result (λ known.
             known.after ≡ is_known limit (record_at C.cmp self.new info.public_key)) }
-        ensures sets { IfSome result (λ known.
-            known.sets ≡ primary_count (record_at C.cmp self.old info.public_key)) }
         ensures none { IfNone result ((q : C) →
             record_at C.cmp self.new q ≡ record_at C.cmp self.old q) }
     {
@@ -233,8 +220,6 @@ impl<C: PublicKey> Records<C> {
                 return Some(Known {
                     before,
                     after: !found.want(limit),
-                    sets: found.primary_sets(),
-                    latest: found.latest(),
                 });
             }
         }

@@ -1,9 +1,9 @@
 //! What changes when a set comes or goes.
 
-ghost use Rattle.std.specs.Prelude.{◌≡◌, ◌≤◌, ◌++◌, ◌∷◌, [], OnOk, OnErr, vec_capacity};
+ghost use Rattle.std.specs.Prelude.{◌≡◌, ◌≤◌, ◌++◌, ◌∷◌, [], true, OnOk, OnErr, vec_capacity};
 ghost use Rattle.std.specs.List.Sorted.{IsStrictlySortedBy};
 ghost use Rattle.p2p_tracker.specs.declared.record.Role.{Role};
-ghost use Rattle.p2p_tracker.specs.PeerSets.{AreRolesDisjoint};
+ghost use Rattle.p2p_tracker.specs.PeerSets.{latest_index, is_above, AreRolesDisjoint};
 ghost use Rattle.p2p_tracker.specs.Directory.{is_known};
 ghost use Rattle.p2p_tracker.specs.Seen.{record_at};
 ghost use Rattle.p2p_tracker.specs.Cooldowns.{cooldown_in};
@@ -20,7 +20,7 @@ use p2p_discovery::sets::OrderedSet;
 use std::alloc::AllocError;
 
 /// Counts a set for its peers, sets its bits, and adds it as the latest. Where memory is refused all
-/// is as it was, but for the places that records keep.
+/// is as it was.
 pub fn add<C: PublicKey>(
     sets: &mut Window<C>,
     records: &mut Records<C>,
@@ -28,6 +28,7 @@ pub fn add<C: PublicKey>(
     mut set: PeerSet<C>,
     limit: usize,
 ) -> Result<(), AllocError>
+    requires { is_above set.index (latest_index (plain_sets sets.old)) ≡ true }
     ensures disjoint { OnOk result (AreRolesDisjoint C.cmp (plain_set set)) }
     ensures ok { OnOk result (sets.new ≡ sets.old ++
         set_with_bits (λ q. is_known limit (record_at C.cmp records.old q)) (plain_set set) ∷ []) }

@@ -5,7 +5,7 @@ ghost use Rattle.std.specs.Option.{option_map};
 ghost use Rattle.p2p_tracker.specs.Directory.{infos_of, updated_record, ChangesAt};
 ghost use Rattle.p2p_tracker.specs.Seen.{record_at};
 ghost use Rattle.p2p_tracker.specs.Private.Window.{plain_sets};
-ghost use Rattle.p2p_tracker.specs.Private.Counts.{AreMarked, ArePrimaryCounted};
+ghost use Rattle.p2p_tracker.specs.Private.Counts.{AreMarked};
 
 use crate::directory::records::Records;
 use crate::kept::Window;
@@ -19,8 +19,7 @@ pub fn update_each<C: PublicKey>(
     infos: Vec<Info<C>>,
     limit: usize,
 )
-    requires bits { AreMarked C.cmp limit sets.old (record_at C.cmp records.old) }
-    requires counts { ArePrimaryCounted C.cmp (plain_sets sets.old) (record_at C.cmp records.old) }
+    requires { AreMarked C.cmp limit sets.old (record_at C.cmp records.old) }
     ensures sets { plain_sets sets.new ≡ plain_sets sets.old }
     ensures records { (q : C) → record_at C.cmp records.new q ≡
         option_map (updated_record (infos_of C.cmp infos.items q)) (record_at C.cmp records.old q) }
@@ -38,8 +37,7 @@ fn update_one<C: PublicKey>(
     info: Info<C>,
     limit: usize,
 )
-    requires bits { AreMarked C.cmp limit sets.old (record_at C.cmp records.old) }
-    requires counts { ArePrimaryCounted C.cmp (plain_sets sets.old) (record_at C.cmp records.old) }
+    requires { AreMarked C.cmp limit sets.old (record_at C.cmp records.old) }
     ensures sets { plain_sets sets.new ≡ plain_sets sets.old }
     ensures records { ChangesAt C.cmp records.old records.new info.public_key
         (option_map (updated_record (info ∷ []))) }

@@ -1,9 +1,12 @@
-use Rattle.p2p_tracker.specs.Private.Window.{has_primary, with_bit_of}
-use Rattle.p2p_tracker.proofs.SetsAndRecords.Walks.{IsWalkedTo}
+use Rattle.std.proofs.Common.{◌≡◌, ◌+◌, length}
+use Rattle.p2p_tracker.specs.Private.Places.{with_bits_at, walk, indices}
 use Rattle.p2p_tracker.proofs.kept.set_bits.Given as goal
 
--- so many sets of the peer have the bit, and none before the end was touched
-abbrev pub invariant-loop-met : goal.invariant-loop-met
-invariant-loop-met g l =
-    IsWalkedTo (has_primary g.C.Ord.cmp l.peer) (with_bit_of g.C.Ord.cmp l.peer l.known.after) l.end l._met
-    l.fn.sets.items l.sets.items
+-- with the bits that are still to be written all are, and with the places that are still to be met all are met
+abbrev pub invariant-loop-count : goal.invariant-loop-count
+invariant-loop-count g l =
+    (with_bits_at l.known (walk (indices l.fn.sets.items) l.links.items l.next) l.sets.items
+    ≡ with_bits_at l.known (walk (indices l.fn.sets.items) l.links.items l.fn.latest) l.fn.sets.items)
+    × (l.count + length (walk (indices l.fn.sets.items) l.links.items l.next)
+    ≡ length (walk (indices l.fn.sets.items) l.links.items l.fn.latest))
+    × (indices l.sets.items ≡ indices l.fn.sets.items)

@@ -10,7 +10,7 @@ ghost use Rattle.std.specs.Map.{keys_of};
 ghost use Rattle.p2p_tracker.specs.declared.record.Role.{Role};
 ghost use Rattle.p2p_tracker.specs.declared.record.Role.TheVariants.{Primary, Secondary};
 ghost use Rattle.p2p_tracker.specs.Private.Counts.{one_set_more, one_set_less};
-ghost use Rattle.p2p_tracker.specs.Private.Counts.{is_torn_down_without, with_one_more};
+ghost use Rattle.p2p_tracker.specs.Private.Counts.{is_torn_down_without};
 ghost use Rattle.p2p_tracker.specs.PeerSets.{AreRolesDisjoint};
 ghost use Rattle.p2p_discovery.specs.Ordered.{has_key};
 ghost use Rattle.p2p_tracker.specs.Directory.{is_known, ChangesAt};
@@ -22,7 +22,7 @@ ghost use Rattle.p2p_tracker.specs.Private.Counts.{is_torn_down_leaving, IsResto
 
 use crate::directory::records::{Records, walks};
 use crate::kept::cooldowns::Cooldowns;
-use crate::kept::{PeerSet, Place, forget};
+use crate::kept::{PeerSet, forget};
 use crate::record::{Record, Role};
 use p2p_discovery::codec::PublicKey;
 use p2p_discovery::sets::{OrderedSet, SetError};
@@ -32,49 +32,33 @@ use std::collections::btree_map::Entry;
 // A walk past so many records takes about as long as one search.
 const SPARSE: usize = 5;
 
-// What is known of a peer that a set comes for.
-#[derive(Clone, Copy)]
-struct Joined {
-    // Whether its info is known, and not wanted.
-    known: bool,
-    // Where the peer stood in the last set that was counted for it as primary, if that is known.
-    earlier: Place,
-}
-
 impl<C: PublicKey> Records<C> {
-    // Counts one set of the peer more, in a new record with its moments where it has none, and keeps
-    // its place in the set, if it has one.
+    // Counts one set of the peer more, in a new record with its moments where it has none, and says
+    // whether the peer's info is known, and not wanted.
     fn join_one(
         &mut self,
         peer: &C,
         role: Role,
-        place: Option<Place>,
         limit: usize,
         cooldowns: &Cooldowns<C>,
-    ) -> Result<Joined, AllocError>
+    ) -> Result<bool, AllocError>
         ensures ok { OnOk result (ChangesAt C.cmp self.old self.new peer.now
             (one_set_more role (cooldown_in C.cmp cooldowns.now peer.now))) }
-        ensures known { IfOk result (λ joined.
-            joined.known ≡ is_known limit (record_at C.cmp self.old peer.now)) }
+        ensures known { IfOk result (λ known.
+            known ≡ is_known limit (record_at C.cmp self.old peer.now)) }
         ensures err { OnErr result (self.new ≡ self.old) }
     {
         match self.map.entry(*peer) {
             Ok(Entry::Occupied(entry)) => {
                 let found = entry.into_mut();
-                let earlier = count_joined(found, role, place);
-                Ok(Joined {
-                    known: !found.want(limit),
-                    earlier,
-                })
+                found.count_more(role);
+                Ok(!found.want(limit))
             }
             Ok(Entry::Vacant(entry)) => {
                 let mut record = Record::cooled(cooldowns.get(peer));
-                let earlier = count_joined(&mut record, role, place);
+                record.count_more(role);
                 entry.insert(record);
-                Ok(Joined {
-                    known: false,
-                    earlier,
-                })
+                Ok(false)
             }
             Err(refused) => {
                 forget(refused);
@@ -152,7 +136,7 @@ impl<C: PublicKey> Records<C> {
             record_at C.cmp self.new q ≡ record_at C.cmp self.old q) }
     {
         for (place, peer) in peers.iter().enumerate() {
-            if let Err(refused) = self.join_one(peer, Role::Secondary, None, limit, cooldowns) {
+            if let Err(refused) = self.join_one(peer, Role::Secondary, limit, cooldowns) {
                 self.undo_each(&peers[..place], Role::Secondary);
                 return Err(refused);
             }
@@ -161,7 +145,7 @@ impl<C: PublicKey> Records<C> {
     }
 
     // Counts one set of each primary peer more and sets its bit, or leaves all records as they
-    // were, but for the place that they keep.
+    // were.
     fn join_primary(
         &mut self,
         set: &mut PeerSet<C>,
@@ -186,15 +170,8 @@ impl<C: PublicKey> Records<C> {
         let _peers = set.primary().ordered().as_slice();
         for place in 0..set.primary().len() {
             let peer = set.primary()[place];
-            let here = Place {
-                set: set.index(),
-                at: place,
-            };
-            match self.join_one(&peer, Role::Primary, Some(here), limit, cooldowns) {
-                Ok(joined) => {
-                    set.set_bit(place, joined.known);
-                    set.set_earlier(place, joined.earlier);
-                }
+            match self.join_one(&peer, Role::Primary, limit, cooldowns) {
+                Ok(known) => set.set_bit(place, known),
                 Err(refused) => {
                     self.undo_each(&set.primary().ordered().as_slice()[..place], Role::Primary);
                     return Err(refused);
@@ -234,9 +211,8 @@ impl<C: PublicKey> Records<C> {
         Ok(())
     }
 
-    /// Counts a set that comes for each of its peers and sets its bits. A peer that has no record
-    /// gets one, with its moments. Where memory is refused all records are as they were, but for the
-    /// place that they keep.
+    /// Counts a set that comes for each of its peers and sets its bits, or leaves all records as
+    /// they were where memory is refused. A peer that has no record gets one, with its moments.
     pub fn join(
         &mut self,
         set: &mut PeerSet<C>,
@@ -314,17 +290,6 @@ impl<C: PublicKey> Records<C> {
         self.leave_role(set.primary().ordered(), Role::Primary, &mut torn);
         self.leave_role(set.secondary(), Role::Secondary, &mut torn);
         ordered(torn)
-    }
-}
-
-// Counts one set more, keeps the place in it, if there is one, and answers the one before.
-fn count_joined<C: PublicKey>(found: &mut Record<C>, role: Role, place: Option<Place>) -> Place
-    ensures { found.new ≡ with_one_more role found.old }
-{
-    found.count_more(role);
-    match place {
-        Some(place) => found.replace_latest(place),
-        None => found.latest(),
     }
 }
 

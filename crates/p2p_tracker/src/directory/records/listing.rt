@@ -132,8 +132,8 @@ fn note<C: PublicKey>(
     Ok(())
 }
 
-// The lesser of two moments.
-fn earliest(known: Option<Duration>, moment: Duration) -> Duration
+/// The lesser of two moments.
+pub fn earliest(known: Option<Duration>, moment: Duration) -> Duration
     ensures { Some (as_nanos result) ≡
         earliest (option_map as_nanos known) (Some (as_nanos moment)) }
 {

@@ -9,20 +9,14 @@ use Rattle.p2p_tracker.specs.Cooldowns.{cooldown_in}
 use Rattle.p2p_tracker.proofs.SetsAndRecords.Cooled.{cooled_at, connect_keeps}
 use Rattle.p2p_tracker.proofs.SetsAndRecords.Changes.{changed_at, kept_connected, changes_view}
 use Rattle.p2p_tracker.proofs.SetsAndRecords.Changes.{status_after_change, others_status, marked_again}
-use Rattle.p2p_tracker.proofs.SetsAndRecords.Windows.{primary_counted}
 use Rattle.p2p_tracker.proofs.directory.Directory.connect.Goals as goal
 
-pub renew-requires-clause-same : goal.renew-requires-clause-same
-renew-requires-clause-same g c =
+pub renew-requires : goal.renew-requires
+renew-requires g c =
     let cmp = g.C.Ord.cmp in
     marked_again cmp g.met.C.PublicKey.exact c.self.inside.config.dial_fail_limit c.self.inside.sets
     (record_at cmp c.self.inside.records) c.args.peer.now c.connect-known.result.before
     c.self.invariant.whole.bits c.connect-known.ensures.before
-
-pub renew-requires-clause-count : goal.renew-requires-clause-count
-renew-requires-clause-count g c =
-    primary_counted g.C.Ord.cmp c.args.peer.now c.self.inside.sets _ _ c.connect-known.ensures.sets
-    (c.self.invariant.whole.counts.counts c.args.peer.now).0
 
 pub invariant_of-self : goal.invariant_of-self
 invariant_of-self g c =

@@ -1,23 +1,21 @@
 use Rattle.std.proofs.Common.{◌≡◌, map, not, ◌∙◌, ap, sym, subst}
-use Rattle.std.specs.List.{count_by}
 use Rattle.std.specs.Int.NonZero.{non_zero_usize_get}
 use Rattle.p2p_tracker.specs.History.{is_inert, is_reserved}
 use Rattle.p2p_tracker.specs.Directory.{kept_after_release}
 use Rattle.p2p_tracker.specs.Seen.{config_view, record_at, key_of}
-use Rattle.p2p_tracker.specs.Private.Window.{with_bit_of, has_primary}
+use Rattle.p2p_tracker.specs.Private.Window.{with_bit_of}
 use Rattle.p2p_tracker.specs.Cooldowns.{cooldown_in}
 use Rattle.p2p_tracker.proofs.SetsAndRecords.Cooled.{cooled_at, release_keeps}
 use Rattle.p2p_tracker.proofs.SetsAndRecords.Changes.{changed_at, kept_released, changes_view}
 use Rattle.p2p_tracker.proofs.SetsAndRecords.Changes.{others_status, marked_again}
-use Rattle.p2p_tracker.proofs.SetsAndRecords.Windows.{primary_counted}
 use Rattle.p2p_tracker.proofs.directory.Directory.release.Goals as goal
 
 -- the peer whose bits are set anew is that of the reservation
 of_peer : {C : Type 0} {key peer : C} {A : Type 0} {new : A} (f : C → A) → new ≡ f key → key ≡ peer → new ≡ f peer
 of_peer f is same = is ∙ ap f same
 
-pub renew-requires-clause-same : goal.renew-requires-clause-same
-renew-requires-clause-same g c =
+pub renew-requires : goal.renew-requires
+renew-requires g c =
     let cmp = g.C.Ord.cmp in
     let m = c.reservation.inside.metadata in
     let sets = c.self.inside.sets in
@@ -26,14 +24,6 @@ renew-requires-clause-same g c =
     (marked_again cmp g.met.C.PublicKey.exact c.self.inside.config.dial_fail_limit sets
     (record_at cmp c.self.inside.records) (key_of m) b c.self.invariant.whole.bits
     c.release-known.ensures.before)
-
-pub renew-requires-clause-count : goal.renew-requires-clause-count
-renew-requires-clause-count g c =
-    let cmp = g.C.Ord.cmp in
-    let sets = c.self.inside.sets in
-    let p = key_of c.reservation.inside.metadata in
-    primary_counted cmp p sets _ _ c.release-known.ensures.sets (c.self.invariant.whole.counts.counts p).0
-    ∙ ap (λ key. count_by (has_primary cmp key) sets) (sym c.public_key.ensures)
 
 pub invariant_of-self : goal.invariant_of-self
 invariant_of-self g c =

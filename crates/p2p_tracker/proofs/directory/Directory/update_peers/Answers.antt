@@ -13,11 +13,8 @@ use Rattle.p2p_tracker.proofs.SetsAndRecords.Cooled.{cooled_each, update_keeps}
 use Rattle.p2p_tracker.proofs.SetsAndRecords.Changes.{IsKept, changed_with_bits, each_sound, kept_updated}
 use Rattle.p2p_tracker.proofs.directory.Directory.update_peers.Goals as goal
 
-pub update_each-requires-clause-bits : goal.update_each-requires-clause-bits
-update_each-requires-clause-bits g c = c.self.invariant.whole.bits
-
-pub update_each-requires-clause-counts : goal.update_each-requires-clause-counts
-update_each-requires-clause-counts g c = λ q. (c.self.invariant.whole.counts.counts q).0
+pub update_each-requires : goal.update_each-requires
+update_each-requires g c = c.self.invariant.whole.bits
 
 pub invariant_of-self : goal.invariant_of-self
 invariant_of-self g c =

@@ -1,13 +1,10 @@
-use Rattle.std.proofs.Common.{◌≡◌, ◌∷◌, [], List, Option, Some, None, sym, ◌∙◌, ap, refl}
+use Rattle.std.proofs.Common.{◌∷◌, [], sym, ◌∙◌, ap, refl}
 use Rattle.std.specs.Option.{option_map}
 use Rattle.std.specs.BTreeMap.{is_at}
 use Rattle.std.proofs.lemmas.List.Elements.{filter-append}
 use Rattle.p2p_discovery.specs.declared.discovery.Info.{Info}
 use Rattle.p2p_tracker.specs.Directory.{infos_of, updated_record}
-use Rattle.p2p_tracker.specs.Seen.{RecordView, record_at}
-use Rattle.p2p_tracker.specs.PeerSets.{set_count}
-use Rattle.p2p_tracker.specs.Private.Counts.{primary_count}
-use Rattle.p2p_tracker.specs.declared.record.Role.TheVariants.{Primary}
+use Rattle.p2p_tracker.specs.Seen.{record_at}
 use Rattle.p2p_tracker.proofs.SetsAndRecords.Changes.{updated_more, updated_none}
 use Rattle.p2p_tracker.proofs.SetsAndRecords.Moved.{item_moved, all_moved}
 use Rattle.p2p_tracker.proofs.directory.update.update_each.Goals as goal
@@ -17,25 +14,11 @@ loop-info-init g c = record {
   rest = c.into_iter-info-iterator.ensures.into_iter_gives.0;
   sets = refl;
   records = λ q. updated_none (record_at g.C.Ord.cmp c.args.records.now q);
-  bits = c.requires.bits;
+  bits = c.requires;
 }
 
-pub update_one-requires-clause-bits : goal.update_one-requires-clause-bits
-update_one-requires-clause-bits g c = c.loop-info.invariant.bits
-
--- infos leave the counts
-same_count : {C S : Type 0} (infos : List (Info C S)) (o : Option (RecordView C S)) →
-    primary_count (option_map (updated_record infos) o) ≡ primary_count o
-same_count infos None = refl
-same_count infos (Some r) = refl
-
-pub update_one-requires-clause-counts : goal.update_one-requires-clause-counts
-update_one-requires-clause-counts g c = λ q.
-    let cmp = g.C.Ord.cmp in
-    let kept = c.loop-info.invariant in
-    ap primary_count (kept.records q)
-    ∙ same_count (infos_of cmp c.loop-info.yielded q) (record_at cmp c.args.records.now q) ∙ c.requires.counts q
-    ∙ ap (set_count cmp Primary q) (sym kept.sets)
+pub update_one-requires : goal.update_one-requires
+update_one-requires g c = c.loop-info.invariant.bits
 
 pub loop-info-preserved : goal.loop-info-preserved
 loop-info-preserved g c =

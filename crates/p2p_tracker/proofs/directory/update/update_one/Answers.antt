@@ -4,20 +4,15 @@ use Rattle.p2p_tracker.specs.Directory.{is_known, updated_record}
 use Rattle.p2p_tracker.specs.Seen.{record_at}
 use Rattle.p2p_tracker.specs.Private.Window.{plain_sets}
 use Rattle.p2p_tracker.proofs.SetsAndRecords.Changes.{bits_anew, bits_same, known_anew, marked_again}
-use Rattle.p2p_tracker.proofs.SetsAndRecords.Windows.{plain_with_bit, primary_counted}
+use Rattle.p2p_tracker.proofs.SetsAndRecords.Windows.{plain_with_bit}
 use Rattle.p2p_tracker.proofs.directory.update.update_one.Goals as goal
 
-pub renew-requires-clause-same : goal.renew-requires-clause-same
-renew-requires-clause-same g c =
+pub renew-requires : goal.renew-requires
+renew-requires g c =
     let cmp = g.C.Ord.cmp in
     marked_again cmp g.met.C.PublicKey.exact c.args.limit c.args.sets.now
-    (record_at cmp c.args.records.now) c.args.info.public_key c.in-Some.known.before c.requires.bits
+    (record_at cmp c.args.records.now) c.args.info.public_key c.in-Some.known.before c.requires
     c.in-Some.ensures.before
-
-pub renew-requires-clause-count : goal.renew-requires-clause-count
-renew-requires-clause-count g c =
-    primary_counted g.C.Ord.cmp c.args.info.public_key c.args.sets.now _ _ (c.in-Some.ensures.sets)
-    (c.requires.counts c.args.info.public_key)
 
 pub returns-in-Some-clause-sets : goal.returns-in-Some-clause-sets
 returns-in-Some-clause-sets g c =
@@ -31,7 +26,7 @@ returns-in-Some-clause-bits g c =
     let new = record_at cmp c.update.new.self in
     let p = c.args.info.public_key in
     bits_anew cmp c.args.limit c.args.sets.now c.renew.new.self old new p c.in-Some.known.after
-    c.requires.bits
+    c.requires
     (known_anew cmp g.met.C.PublicKey.exact c.args.limit old new p
     (option_map (updated_record (c.args.info ∷ []))) c.in-Some.known.after c.update.ensures.change
     c.in-Some.ensures.after) c.renew.ensures
@@ -40,5 +35,5 @@ pub returns-in_default-clause-bits : goal.returns-in_default-clause-bits
 returns-in_default-clause-bits g c =
     let cmp = g.C.Ord.cmp in
     bits_same cmp c.args.limit c.args.sets.now (record_at cmp c.args.records.now)
-    (record_at cmp c.update.new.self) c.requires.bits
+    (record_at cmp c.update.new.self) c.requires
     (λ q. ap (is_known c.args.limit) (c.in_default.ensures.none q))

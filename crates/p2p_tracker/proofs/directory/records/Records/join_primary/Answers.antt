@@ -60,7 +60,7 @@ loop-place-preserved g c =
     let set : SetWithBits g.row.C.Denot = c.args.set.now in
     let more : g.row.C.Denot → _ = λ q. one_set_more Primary (cooldown_in cmp c.args.cooldowns.now q) in
     let first = not_yet g.met.C.Ord.total g.met.C.PublicKey.exact (keys_of was) i x low_keys is up in
-    let knows : c.in-Ok.joined.known ≡ known x =
+    let knows : c.in-Ok.known ≡ known x =
     c.in-Ok.ensures.known
     ∙ ap (is_known c.args.limit)
     (c.loop-place.invariant.records x ∙ ap (λ b. cond b (more x (old x)) (old x)) first) in
@@ -71,8 +71,8 @@ loop-place-preserved g c =
           (changed_here g.met.C.PublicKey.exact x q more (record_at cmp c.join_one.new.self q)
           (record_at cmp c.loop-place.self q) (c.in-Ok.ensures.ok q)) (c.loop-place.invariant.records q);
       set =
-          c.set_earlier.ensures ∙ c.set_bit.ensures
-          ∙ ap (λ (s : SetWithBits g.row.C.Denot). record s { primary = with_bit s.primary i c.in-Ok.joined.known }) c.loop-place.invariant.set
+          c.set_bit.ensures
+          ∙ ap (λ (s : SetWithBits g.row.C.Denot). record s { primary = with_bit s.primary i c.in-Ok.known }) c.loop-place.invariant.set
           ∙ ap (λ b. record set { primary = with_bit (map (λ q. (q, known q)) (take i (keys_of was)) ++ drop i was) i b }) knows
           ∙ ap (λ es. record set { primary = es }) (bits_more known was i x low is);
     }
