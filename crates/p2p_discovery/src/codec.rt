@@ -1,6 +1,6 @@
 //! Values as bytes, and bytes as values.
 //!
-//! docs/FORMATS.md says how each value is spelled.
+//! docs/FORMATS.md says how each value is encoded.
 
 mod counted;
 mod decode;

@@ -1,6 +1,6 @@
 //! Messages on channels, and the frames that carry them.
 //!
-//! docs/FORMATS.md says how they are spelled.
+//! docs/FORMATS.md says how they are encoded.
 
 ghost use Rattle.std.specs.Prelude.{◌≡◌, ℕ, ◌+◌, ◌-◌, ◌<◌, ◌≤◌, ◌^◌, ◌++◌, ◌∷◌, List, length};
 ghost use Rattle.std.specs.Prelude.{IfOk, IfErr};
@@ -18,8 +18,8 @@ use std::collections::VecDeque;
 
 /// A message on a channel.
 ///
-/// It is read under a limit for the length of the message. A message that is read shares the
-/// memory of the buffer that it is read from, which a test shows and no contract claims.
+/// It is decoded under a limit for the length of the message. A decoded message shares the memory
+/// of the buffer that it is read from, which a test shows and no contract claims.
 #[derive(Debug, PartialEq, Drop)]
 pub struct Data {
     /// The channel that the message is sent on.
@@ -77,8 +77,8 @@ pub const DATA_PREFIX: u8 = 0;
 
 const _: () = prove!(DATA_PREFIX == 0);
 
-/// How many bytes a data frame is longer than its message at most: 1 of the prefix, 10 of the
-/// channel and 5 of the length.
+/// By how many bytes a data frame exceeds its message at most: 1 of the prefix, 10 of the channel
+/// and 5 of the length.
 pub const MAX_PAYLOAD_OVERHEAD: u32 = 1 + 10 + 5;
 
 const _: () = prove!(MAX_PAYLOAD_OVERHEAD == 16);
@@ -87,15 +87,15 @@ const _: () = prove!(MAX_PAYLOAD_OVERHEAD == 16);
 pub trait Upgrader {
     ghost MAX_SIZE: { ℕ };
 
-    /// The greatest number of bytes of a frame.
+    /// The maximum number of bytes of a frame.
     const MAX_SIZE: u32;
 }
 
-/// The greatest message that a frame of this carrier holds with certainty.
+/// The longest message that always fits a frame of this carrier.
 ///
 /// # Conditions
 ///
-/// A frame may have [`MAX_PAYLOAD_OVERHEAD`] bytes at least.
+/// A frame may have at least [`MAX_PAYLOAD_OVERHEAD`] bytes.
 pub const fn max_size<U: Upgrader>() -> u32
     requires { 16 ≤ U.MAX_SIZE }
     ensures { result ≡ U.MAX_SIZE - 16 }
@@ -113,8 +113,8 @@ pub struct EncodedData {
 }
 
 impl EncodedData {
-    /// Puts one header buffer before the buffers of the message, which stay as they are. Joined,
-    /// the frame is the payload of data. The bytes in the buffers are neither read nor copied.
+    /// Puts one header buffer before the buffers of the message, which are unchanged. Joined, the
+    /// frame is the payload of data. The bytes in the buffers are neither read nor copied.
     ///
     /// # Conditions
     ///
@@ -122,12 +122,12 @@ impl EncodedData {
     ///
     /// # Errors
     ///
-    /// The buffers that were handed in, where memory is refused.
+    /// The buffers that were passed in, if allocation fails.
     ///
     /// # Cost
     ///
-    /// A look at the length of each buffer, one small buffer for the header, and room for one more
-    /// place in the list.
+    /// One look at the length of each buffer, one small buffer for the header, and capacity for one
+    /// more element of the list.
     #[tactic(auto, using(crate::specs::DataLaws::frame_is, crate::specs::DataLaws::frame_short))]
     pub fn new(
         alloc: Global,

@@ -1,6 +1,6 @@
 //! What peers say of themselves, and to each other.
 //!
-//! docs/FORMATS.md says how it is spelled.
+//! docs/FORMATS.md says how it is encoded.
 
 ghost use Rattle.std.specs.Prelude.{◌≡◌, true, IfOk, IsOk};
 ghost use Rattle.p2p_discovery.specs.Ingress.{takes_none};
@@ -24,10 +24,10 @@ use std::alloc::AllocError;
 use thiserror::Error;
 pub use verifier::InfoVerifier;
 
-/// Where a peer says that it is reached, signed by it.
+/// Where a peer says that it can be reached, signed by it.
 #[derive(Debug, Drop)]
 pub struct Info<C: PublicKey> {
-    /// Where the peer is reached.
+    /// Where the peer can be reached.
     pub ingress: Ingress,
     /// When the peer signed this, in epoch milliseconds.
     pub timestamp: u64,
@@ -38,11 +38,11 @@ pub struct Info<C: PublicKey> {
 }
 
 impl<C: PublicKey> Info<C> {
-    /// An equal info. It takes no memory where the info has a socket address.
+    /// An equal info. It doesn't allocate if the info has a socket address.
     ///
     /// # Errors
     ///
-    /// `AllocError` where memory for a name is refused.
+    /// `AllocError` if the allocation for a name fails.
     pub fn clone(&self) -> Result<Info<C>, AllocError>
         ensures equal { IfOk result (λ copy. copy ≡ self.now) }
         ensures socket { takes_none self.now.ingress ≡ true → IsOk result }
@@ -56,7 +56,7 @@ impl<C: PublicKey> Info<C> {
     }
 }
 
-/// Which infos a peer knows: a bit for each primary peer of the set with this index.
+/// Which infos a peer knows: one bit for each primary peer of the set with this index.
 #[derive(Debug, PartialEq, Eq, Drop)]
 pub struct BitVec {
     /// The index of the set.
@@ -68,11 +68,11 @@ pub struct BitVec {
 /// The limits under which payloads are read.
 #[derive(Clone, Copy)]
 pub struct PayloadConfig {
-    /// The greatest number of bits.
+    /// The maximum number of bits.
     pub max_bit_vec: u64,
-    /// The greatest number of infos.
+    /// The maximum number of infos.
     pub max_peers: usize,
-    /// The greatest length of a message, in bytes.
+    /// The maximum length of a message, in bytes.
     pub max_data_length: usize,
 }
 
@@ -95,13 +95,13 @@ pub enum Error {
     /// A list of so many infos is too long.
     #[error("too many peers: {0}")]
     TooManyPeers(usize),
-    /// An info has the own key.
+    /// An info has the local key.
     #[error("received self")]
     ReceivedSelf,
-    /// A signature isn't right.
+    /// A signature is invalid.
     #[error("invalid signature")]
     InvalidSignature,
-    /// A timestamp lies too far ahead.
+    /// A timestamp is too far in the future.
     #[error("synchrony bound violated")]
     SynchronyBound,
 }

@@ -43,21 +43,21 @@ impl<P: PublicKey> Model for OrderedSet<P> {
 /// Why a list of peers is no set.
 #[derive(Clone, Copy, Debug, PartialEq, Eq, Error)]
 pub enum SetError {
-    /// A peer stands in the list more than once.
+    /// A peer is in the list more than once.
     #[error("duplicate")]
     Duplicate,
 }
 
 impl<P: PublicKey> OrderedSet<P> {
-    /// The set of the items, in whatever order and however often each of them comes.
+    /// The set of the items, which may come in any order and may repeat.
     ///
     /// # Conditions
     ///
-    /// The iterator ends, as those of lists, slices and ranges do.
+    /// The iterator terminates, as those of lists, slices and ranges do.
     ///
     /// # Errors
     ///
-    /// `AllocError` where memory is refused.
+    /// `AllocError` if allocation fails.
     ///
     /// # Cost
     ///
@@ -76,8 +76,8 @@ impl<P: PublicKey> OrderedSet<P> {
         Ok(OrderedSet::from_vec_dedup(items))
     }
 
-    /// The set of the items, in whatever order and however often each of them comes, sorted in
-    /// place: it takes no memory.
+    /// The set of the items, which may come in any order and may repeat, sorted in place: it
+    /// doesn't allocate.
     ///
     /// # Cost
     ///
@@ -91,11 +91,11 @@ impl<P: PublicKey> OrderedSet<P> {
         OrderedSet { items }
     }
 
-    /// The set of the items, sorted in place: it takes no memory.
+    /// The set of the items, sorted in place: it doesn't allocate.
     ///
     /// # Errors
     ///
-    /// `SetError::Duplicate` exactly where an item comes more than once.
+    /// `SetError::Duplicate` exactly if an item occurs more than once.
     ///
     /// # Cost
     ///
@@ -128,8 +128,8 @@ impl<P: PublicKey> OrderedSet<P> {
         self.items.is_empty()
     }
 
-    /// The place of the peer, counted from 0, or `None` where it is not in the set. It takes no
-    /// memory.
+    /// The position of the peer, counted from 0, or `None` if it is not in the set. It doesn't
+    /// allocate.
     ///
     /// # Cost
     ///
@@ -165,7 +165,7 @@ impl<P: PublicKey> OrderedSet<P> {
     ///
     /// # Errors
     ///
-    /// `AllocError` where memory is refused.
+    /// `AllocError` if allocation fails.
     ///
     /// # Cost
     ///
@@ -178,11 +178,11 @@ impl<P: PublicKey> OrderedSet<P> {
         Ok(OrderedSet { items })
     }
 
-    /// An equal set. It takes no memory where the set is empty.
+    /// An equal set. It doesn't allocate if the set is empty.
     ///
     /// # Errors
     ///
-    /// `AllocError` where memory is refused.
+    /// `AllocError` if allocation fails.
     ///
     /// # Cost
     ///

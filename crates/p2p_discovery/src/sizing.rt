@@ -1,6 +1,6 @@
 //! Sizes of messages and of sets of peers, for configurations.
 //!
-//! No call here takes memory.
+//! No call here allocates.
 
 ghost use Rattle.std.specs.Prelude.{◌≡◌, ◌≢◌, ℕ, ◌+◌, ◌*◌, ◌<◌, ◌≤◌, ◌^◌, List, All, length};
 ghost use Rattle.std.specs.Int.NonZero.{non_zero_usize_get};
@@ -13,7 +13,7 @@ use crate::codec::PublicKey;
 use std::cmp::Ordering;
 use std::num::NonZeroUsize;
 
-/// The greatest of the sizes, or 0 where there are none: the least limit that admits each message.
+/// The maximum of the sizes, or 0 if there are none: the smallest limit that allows each message.
 ///
 /// # Conditions
 ///
@@ -30,9 +30,9 @@ pub fn max_message_size(payloads: &[usize]) -> u32
     payloads.iter().copied().max().unwrap_or(0) as u32
 }
 
-/// How many peers a set drawn from the participants may have, where the local one counts in each:
-/// their number, and one more where the local one is not among them. A participant that comes
-/// twice counts twice.
+/// How many peers a set drawn from the participants may have, if each set includes the local one:
+/// their number, and one more if the local one is not among them. A participant that occurs twice
+/// counts twice.
 ///
 /// # Conditions
 ///
@@ -55,7 +55,7 @@ pub fn peer_set_limit<P: PublicKey>(participants: &[P], local: &P) -> NonZeroUsi
     }
 }
 
-/// A bound on the peers that are retained: so many sets of so many peers, and the persistent ones.
+/// A bound on the number of retained peers: so many sets of so many peers, and the persistent ones.
 ///
 /// # Conditions
 ///
@@ -75,7 +75,7 @@ pub fn max_retained_peers(
         .saturating_add(persistent_peers)
 }
 
-/// The number of peers in either role or named by the extension, each counted once.
+/// The number of peers in either role or in the extension, each counted once.
 ///
 /// # Conditions
 ///
@@ -99,7 +99,7 @@ pub fn peer_set_size<P: PublicKey>(primary: &[P], secondary: &[P], extension: Op
     }
 }
 
-// The number of members of either list: those of both are met by going over both at once.
+// The number of members of either list, counted in one pass over both at once.
 fn union_size<P: PublicKey>(primary: &[P], secondary: &[P]) -> usize
     requires primary { IsStrictlySortedBy P.cmp primary.now }
     requires secondary { IsStrictlySortedBy P.cmp secondary.now }

@@ -7,6 +7,7 @@
 
 mod frames;
 mod given;
+mod networks;
 mod pairs;
 mod runs;
 mod starts;
@@ -33,6 +34,7 @@ fn is_as_before(alloc: Global, name: &str, text: &mut String) -> Result<bool, Al
         "encoded" => frames::encoded(alloc, text),
         "exchange" => pairs::exchanged(alloc, text),
         "pair16a" => pairs::run_of_two(alloc, text),
+        "network" => networks::three(alloc, text),
         _ => runs::row_called(alloc, name, text),
     }
 }

@@ -23,6 +23,7 @@ use Rattle.std.proofs.lemmas.Map.Steps.{set_value_same}
 use Rattle.std.proofs.lemmas.Map.Views.{tells_apart}
 use Rattle.p2p_tracker.specs.declared.directory.Metadata.{Metadata}
 use Rattle.p2p_tracker.specs.Seen.{key_of}
+use Rattle.p2p_tracker.proofs.SetsAndRecords.Searches.{itself, found_at, missing, none_there, not_falling}
 use Rattle.p2p_directory.specs.Private.Slots.{contents, slot_of, has_slot, held_in, AreSlots, IsPlaceFor}
 use Rattle.p2p_directory.proofs.Reservations.Slots.{same_contents, slots_after, slots_without, held_without}
 
@@ -31,91 +32,14 @@ pub first_is : {X : Type 0} (xs : List X) (x : X) → x ≡ get_or xs 0 x → 0 
 first_is [] x e low = absurd (omega arith)
 first_is (y ∷ ys) x e low = ap Some (sym e)
 
-module _ {C : Type 0} {cmp : C → C → Ordering} (total : IsTotalOrder cmp) where
-  itself : (p k : C) → k ≡ p → is_at (cmp p) k ≡ true
-  itself p k e = ap (is_at (cmp p)) e ∙ ap is_eq (tied_itself total p)
-
-  lesser : (p k : C) → cmp k p ≡ Less → is_at (cmp p) k ≡ false
-  lesser p k e = ap is_eq (total.antisymm p k ∙ ap ordering_reverse e)
-
-  greater : (p k : C) → cmp k p ≡ Greater → is_at (cmp p) k ≡ false
-  greater p k e = ap is_eq (total.antisymm p k ∙ ap ordering_reverse e)
-
 module _ {C S : Type 0} {cmp : C → C → Ordering} (total : IsTotalOrder cmp) where
   -- WHERE A SEARCH FINDS THE SLOT
-
-  -- the first peer is before that of a later slot
-  before : (x : C × Option (Metadata C S)) (xs : List (C × Option (Metadata C S))) (i : ℕ) (p : C) (d : C × Option (Metadata C S)) →
-      IsStrictlySortedBy cmp (keys_of (x ∷ xs)) → i < length xs → (get_or xs i d).0 ≡ p → is_at (cmp p) x.0 ≡ false
-  before x xs i p d up low e =
-      let key : get_or (keys_of xs) i p ≡ p = get_or-map (λ (slot : C × Option (Metadata C S)). slot.0) xs i d p low ∙ e in
-      lesser total p x.0 (sym (ap (cmp x.0) key)
-      ∙ Less-from_sorted cmp (keys_of (x ∷ xs)) 0 (suc i) p up (omega arith) (omega (arith, length-keys_of xs, low)))
-
-  pub found_at : (xs : List (C × Option (Metadata C S))) (i : ℕ) (p : C) (d : C × Option (Metadata C S)) →
-      IsStrictlySortedBy cmp (keys_of xs) → i < length xs → (get_or xs i d).0 ≡ p →
-      slot_of cmp xs p ≡ Some (get_or xs i d).1
-  found_at [] i p d up low e = absurd (omega arith)
-  found_at (x ∷ xs) zero p d up low e = ap (λ b. cond b (Some x.1) (slot_of cmp xs p)) (itself total p x.0 e)
-  found_at (x ∷ xs) (suc i) p d up low e =
-      ap (λ b. cond b (Some x.1) (slot_of cmp xs p)) (before x xs i p d up (omega arith) e)
-      ∙ found_at xs i p d (sorted_tail cmp x.0 (keys_of xs) up) (omega arith) e
 
   pub read_at : (xs : List (C × Option (Metadata C S))) (i : ℕ) (p : C) (row : C × Option (Metadata C S)) →
       IsStrictlySortedBy cmp (keys_of xs) → i < length xs → (get_or xs i row).0 ≡ p → row ≡ get_or xs i row →
       row.1 ≡ held_in cmp xs p
   read_at xs i p row up low e is =
-      ap (λ (slot : C × Option (Metadata C S)). slot.1) is ∙ sym (ap option_flatten (found_at xs i p row up low e))
-
-  pub written_at : (xs : List (C × Option (Metadata C S))) (i : ℕ) (p : C) (d : C × Option (Metadata C S)) (o : Option (Metadata C S)) →
-      IsStrictlySortedBy cmp (keys_of xs) → i < length xs → (get_or xs i d).0 ≡ p →
-      slice_set xs i ((get_or xs i d).0, o) ≡ set_value (is_at (cmp p)) xs o
-  written_at [] i p d o up low e = absurd (omega arith)
-  written_at (x ∷ xs) zero p d o up low e =
-      sym (ap (λ b. cond b ((x.0, o) ∷ xs) (x ∷ set_value (is_at (cmp p)) xs o)) (itself total p x.0 e))
-  written_at (x ∷ xs) (suc i) p d o up low e =
-      ap (λ ys. x ∷ ys) (written_at xs i p d o (sorted_tail cmp x.0 (keys_of xs) up) (omega arith) e)
-      ∙ sym (ap (λ b. cond b ((x.0, o) ∷ xs) (x ∷ set_value (is_at (cmp p)) xs o)) (before x xs i p d up (omega arith) e))
-
-  pub removed_at : (xs : List (C × Option (Metadata C S))) (i : ℕ) (p : C) (d : C × Option (Metadata C S)) →
-      IsStrictlySortedBy cmp (keys_of xs) → i < length xs → (get_or xs i d).0 ≡ p →
-      remove xs i ≡ remove_entry (is_at (cmp p)) xs
-  removed_at [] i p d up low e = absurd (omega arith)
-  removed_at (x ∷ xs) zero p d up low e =
-      sym (ap (λ b. cond b xs (x ∷ remove_entry (is_at (cmp p)) xs)) (itself total p x.0 e))
-  removed_at (x ∷ xs) (suc i) p d up low e =
-      ap (λ ys. x ∷ ys) (removed_at xs i p d (sorted_tail cmp x.0 (keys_of xs) up) (omega arith) e)
-      ∙ sym (ap (λ b. cond b xs (x ∷ remove_entry (is_at (cmp p)) xs)) (before x xs i p d up (omega arith) e))
-
-  -- .. and where it finds none
-  nobody : (xs : List (C × Option (Metadata C S))) (p : C) →
-      ((k : ℕ) (d : C × Option (Metadata C S)) → k < length xs → is_at (cmp p) (get_or xs k d).0 ≡ false) →
-      NonePasses (is_at (cmp p)) xs
-  nobody [] p none = tt
-  nobody (x ∷ xs) p none = (none 0 x (omega arith), nobody xs p (λ k d low. none (suc k) d (omega (arith, low))))
-
-  none_there : (xs : List (C × Option (Metadata C S))) (i : ℕ) (p : C) →
-      IsPartitionPoint (λ (slot : C × Option (Metadata C S)). cmp slot.0 p ≡ Less) (λ slot. cmp slot.0 p ≡ Greater) xs i →
-      NonePasses (is_at (cmp p)) xs
-  none_there xs i p parts = nobody xs p (λ k d low. elim (cases_lt k i) [
-    | inl below ↦ lesser total p (get_or xs k d).0 (parts.0 k d (omega (arith, below)) below)
-    | inr from ↦ greater total p (get_or xs k d).0 (parts.1 k d from low)
-  ])
-
-  pub missing : (xs : List (C × Option (Metadata C S))) (i : ℕ) (p : C) →
-      IsPartitionPoint (λ (slot : C × Option (Metadata C S)). cmp slot.0 p ≡ Less) (λ slot. cmp slot.0 p ≡ Greater) xs i →
-      slot_of cmp xs p ≡ None
-  missing xs i p parts = lookup-none (is_at (cmp p)) xs (none_there xs i p parts)
-
-  -- keys that rise strictly do not fall
-  not_falling : (xs : List (C × Option (Metadata C S))) → IsStrictlySortedBy cmp (keys_of xs) →
-      IsSortedBy (λ (a b : C × Option (Metadata C S)). is_lt (cmp a.0 b.0)) xs
-  not_falling xs up k d low high =
-      let key = λ (i : ℕ) (below : i < length xs). get_or-map (λ (slot : C × Option (Metadata C S)). slot.0) xs i d d.0 below in
-      let less = Less-from_sorted cmp (keys_of xs) k (k + 1) d.0 up (omega arith) (omega (arith, length-keys_of xs, high)) in
-      ap is_lt (total.antisymm (get_or xs (k + 1) d).0 (get_or xs k d).0
-      ∙ ap ordering_reverse (ap (λ a. cmp a (get_or xs (k + 1) d).0) (sym (key k (omega arith)))
-      ∙ ap (cmp (get_or (keys_of xs) k d.0)) (sym (key (k + 1) high)) ∙ less))
+      ap (λ (slot : C × Option (Metadata C S)). slot.1) is ∙ sym (ap option_flatten (found_at total xs i p row up low e))
 
   -- what a binary search answers
   pub place_is : CmpEqualImpliesEq cmp → (xs : List (C × Option (Metadata C S))) (p : C) (n : ℕ) → n ≡ length xs →
@@ -125,7 +49,7 @@ module _ {C S : Type 0} {cmp : C → C → Ordering} (total : IsTotalOrder cmp) 
   place_is exact xs p n is (Ok i) bound found up = (omega (arith, bound, is), λ d. exact (get_or xs i d).0 p (found d))
   place_is exact xs p n is (Err i) bound found up = (
     omega (arith, bound, is),
-    found (searchable_from_sorted total (λ (slot : C × Option (Metadata C S)). slot.0) xs p (not_falling xs up)),
+    found (searchable_from_sorted total (λ (slot : C × Option (Metadata C S)). slot.0) xs p (not_falling total xs up)),
   )
 
   -- A SLOT COMES

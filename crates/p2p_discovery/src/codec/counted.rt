@@ -1,4 +1,4 @@
-//! Bytes behind their length, and the limit of a length.
+//! Bytes after their length, and the limit of a length.
 
 ghost use Rattle.std.specs.Prelude.{◌≡◌, ◌+◌, ◌<◌, ◌≤◌, ◌^◌, ◌++◌, length, true, IfOk};
 ghost use Rattle.p2p_discovery.specs.Reading.{Gives, is_within};
@@ -8,7 +8,7 @@ use crate::codec::{CodecError, EncodeSize, RangeCfg, Read, Reader, Write};
 use bytes::BytesMut;
 use std::alloc::Global;
 
-// Reads a length, which the limit has to allow.
+// Reads a length, which must be within the limit.
 #[tactic(auto, unfolding(crate::specs::Counted::length_at))]
 pub(crate) fn read_length(
     alloc: Global,

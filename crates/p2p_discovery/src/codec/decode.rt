@@ -1,4 +1,4 @@
-//! How values are read from bytes.
+//! How values are decoded from bytes.
 
 ghost use Rattle.std.specs.Prelude.{◌≡◌, ℕ, List, ◌++◌, [], IfOk, OnErr};
 ghost use Rattle.p2p_discovery.specs.Reading.{Reading, Lawful, Gives, Leaves, whole};
@@ -7,26 +7,26 @@ use crate::codec::{CodecError, EncodeSize, Reader};
 use bytes::Bytes;
 use std::alloc::Global;
 
-/// A value that is read by its spelling.
+/// A value that is decoded from its encoding.
 ///
-/// A type writes [`Read::read`]; callers have the other calls. Each refusal is the first fault
-/// from left to right, and `Memory` is answered only where memory was asked for and refused.
+/// A type implements [`Read::read`]; callers use the other calls. Each error is the first from left
+/// to right. `Memory` is returned only if an allocation was attempted and failed.
 pub trait Read: EncodeSize + Drop + Sized {
-    /// The limits under which a value is read.
+    /// The limits under which a value is decoded.
     type Cfg;
 
-    // The value keeps to the limits.
+    // The value is within the limits.
     ghost Admits: { Self.Cfg → Self → Type 0 };
 
-    // What reading gives: the value and the bytes behind it, or the first fault.
+    // What decoding gives: the value and the bytes after it, or the first error.
     ghost reading: { Self.Cfg → List ℕ → Reading Self };
 
-    /// Reads the value at the reader's place, which is then behind it.
+    /// Decodes the value at the reader's position, which is then after it.
     ///
     /// # Errors
     ///
-    /// The first fault from left to right, or `Memory` where memory was asked for and refused. The
-    /// reader's place is left open.
+    /// The first error from left to right, or `Memory` if an allocation was attempted and failed.
+    /// The reader's position is then unspecified.
     ///
     /// # Cost
     ///
@@ -34,12 +34,12 @@ pub trait Read: EncodeSize + Drop + Sized {
     fn read(alloc: Global, reader: &mut Reader<'_>, cfg: &Self::Cfg) -> Result<Self, CodecError>
         ensures { Gives result reader.new (reading cfg.now reader.old) };
 
-    /// Reads the value that the buffer begins with, and leaves exactly the rest. It succeeds
-    /// where a front of the buffer spells a value that the limits admit, and only there.
+    /// Decodes the value that the buffer begins with, and leaves exactly the rest. It succeeds if,
+    /// and only if, a prefix of the buffer is the encoding of a value within the limits.
     ///
     /// # Errors
     ///
-    /// Those of [`Read::read`]. The buffer is as it was.
+    /// Those of [`Read::read`]. The buffer is unchanged.
     ///
     /// # Cost
     ///
@@ -60,12 +60,12 @@ pub trait Read: EncodeSize + Drop + Sized {
         Ok(value)
     }
 
-    /// Reads the value that all of the bytes spell. It succeeds where they are the spelling of a
-    /// value that the limits admit, and only there.
+    /// Decodes the value that all of the bytes encode. It succeeds if, and only if, they are the
+    /// encoding of a value within the limits.
     ///
     /// # Errors
     ///
-    /// Those of [`Read::read`]; once the value was read, `ExtraData(n)` of a rest of n bytes.
+    /// Those of [`Read::read`]; after the value was decoded, `ExtraData(n)` if n bytes are left.
     ///
     /// # Cost
     ///
@@ -107,7 +107,7 @@ pub trait Read: EncodeSize + Drop + Sized {
         Self::decode_cfg(alloc, buf, &())
     }
 
-    // Law: exactly the spellings of admitted values are read.
+    // Law: exactly the encodings of values within the limits are decoded.
     ghost lawful: { (cfg : Self.Cfg)
         → Lawful (reading cfg) Self.spelling (λ v. Self.IsValue v × Admits cfg v) };
 }

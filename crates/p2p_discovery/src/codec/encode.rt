@@ -1,11 +1,11 @@
-//! Values with one spelling as bytes, and how they are written.
+//! Values with one encoding, and how they are written.
 
 ghost use Rattle.std.specs.Prelude.{◌≡◌, ℕ, ◌+◌, ◌≤◌, List, ◌++◌, length, IfOk};
 
 use bytes::{Bytes, BytesMut};
 use std::alloc::{AllocError, Global};
 
-/// A value with one spelling as bytes.
+/// A value with exactly one encoding.
 ///
 /// # Conditions
 ///
@@ -15,12 +15,12 @@ pub trait EncodeSize {
     // Holds of each value of the type.
     ghost IsValue: { Self → Type 0 };
 
-    // The conditions, and the spelling where they hold.
+    // The conditions, and the encoding if they hold.
     ghost CanSpell: { Self → Type 0 };
 
     ghost spelling: { Self → List ℕ };
 
-    /// The number of bytes of the spelling.
+    /// The number of bytes of the encoding.
     ///
     /// # Conditions
     ///
@@ -35,32 +35,32 @@ pub trait EncodeSize {
         ensures value { IsValue self.now };
 }
 
-/// A value whose spelling has at most a constant number of bytes.
+/// A value whose encoding has at most a constant number of bytes.
 pub trait MaxEncodeSize: EncodeSize {
     ghost MAX_ENCODE_SIZE: { ℕ };
 
-    /// The greatest number of bytes that a spelling has.
+    /// The maximum number of bytes of an encoding.
     const MAX_ENCODE_SIZE: usize;
 
-    // Law: no spelling is longer.
+    // Law: no encoding is longer.
     ghost at_most_max: { (v : Self) → Self.IsValue v → length (Self.spelling v) ≤ MAX_ENCODE_SIZE };
 }
 
-/// A value that is written by its spelling.
+/// A value that is written by its encoding.
 pub trait Write: EncodeSize {
-    // What is known of a value once it was written, where its type has parts of any other type:
-    // these are values of their types.
+    // What is known of a value once it was written, if its type has parts of any other type: these
+    // are values of their types.
     ghost HoldsValues: { Self → Type 0 } = { λ _. Unit {0} };
 
-    /// Appends the spelling. It takes no memory.
+    /// Appends the encoding. It doesn't allocate.
     ///
     /// # Conditions
     ///
-    /// Those of [`EncodeSize`], and spare room for [`EncodeSize::encode_size`] bytes.
+    /// Those of [`EncodeSize`], and spare capacity for [`EncodeSize::encode_size`] bytes.
     ///
     /// # Cost
     ///
-    /// One pass over the spelling.
+    /// One pass over the encoding.
     fn write(&self, buf: &mut BytesMut)
         requires can { Self.CanSpell self.now }
         requires room { length (Self.spelling self.now) ≤ buf.old.spare }
@@ -68,7 +68,7 @@ pub trait Write: EncodeSize {
         ensures spare { buf.new.spare + length (Self.spelling self.now) ≡ buf.old.spare }
         ensures holds { HoldsValues self.now };
 
-    /// The spelling in a buffer of its own.
+    /// The encoding, in a buffer of its own.
     ///
     /// # Conditions
     ///
@@ -76,12 +76,11 @@ pub trait Write: EncodeSize {
     ///
     /// # Errors
     ///
-    /// `AllocError` where memory is refused.
+    /// `AllocError` if allocation fails.
     ///
     /// # Cost
     ///
-    /// One pass for the size, and one over the spelling. Room is taken once, for just as many
-    /// bytes.
+    /// One pass for the size, and one over the encoding. One allocation of exactly as many bytes.
     final fn encode(&self, alloc: Global) -> Result<Bytes, AllocError>
         requires { Self.CanSpell self.now }
         ensures spelled { IfOk result (λ b. b ≡ Self.spelling self.now) }

@@ -1,4 +1,4 @@
-//! Why bytes could not be read, and the limits of a length.
+//! Why bytes could not be decoded, and the limits of a length.
 
 ghost use Rattle.std.specs.Prelude.{◌≡◌};
 ghost use Rattle.p2p_discovery.specs.declared.codec.error.CodecError.TheVariants.{Memory};
@@ -7,12 +7,12 @@ ghost use Rattle.p2p_discovery.specs.Reading.{is_within};
 use std::alloc::{AllocError, AllocFailed};
 use thiserror::Error;
 
-/// What a field holds that has not its proper form.
+/// Which field is malformed.
 #[derive(Clone, Copy, Debug, PartialEq, Eq)]
 pub enum What {
     /// A text that is no hostname.
     Hostname,
-    /// A bit that stands for nothing and is not 0.
+    /// A padding bit that is not 0.
     Padding,
     /// Bytes that are no public key.
     Key,
@@ -20,29 +20,29 @@ pub enum What {
     Signature,
 }
 
-/// Why bytes could not be read: the first fault from left to right, or want of memory.
+/// Why bytes could not be decoded: the first error from left to right, or out of memory.
 #[derive(Clone, Copy, Debug, PartialEq, Eq, Error)]
 pub enum CodecError {
     /// The bytes end within a field.
     #[error("the bytes end within a field")]
     EndOfBuffer,
-    /// So many bytes stand behind the value.
+    /// So many bytes are left after the value.
     #[error("{0} bytes behind the value")]
     ExtraData(usize),
-    /// A length, or a number of bits, that its limit does not allow.
+    /// A length, or a number of bits, that is not within its limit.
     #[error("a length of {0} is not allowed")]
     InvalidLength(usize),
-    /// A whole number of at most so many bytes that is not spelled in its one way: it is padded,
-    /// too long or too great.
+    /// An integer of at most so many bytes that is not encoded in its one way: it is padded, too
+    /// long or too large.
     #[error("no whole number of at most {0} bytes")]
     InvalidVarint(usize),
-    /// A prefix byte that no form has.
+    /// A prefix byte that no variant has.
     #[error("no form has the prefix {0}")]
     InvalidEnum(u8),
-    /// A field that has not its proper form.
+    /// A malformed field.
     #[error("not the proper form: {0:?}")]
     Invalid(What),
-    /// Memory for the value was refused.
+    /// The allocation for the value failed.
     #[error("memory was refused")]
     Memory,
 }
@@ -63,12 +63,12 @@ impl<T: Drop> From<AllocFailed<T>> for CodecError {
     }
 }
 
-/// The lengths that are allowed, both ends too.
+/// The lengths that are allowed, both bounds included.
 #[derive(Clone, Copy, Debug, PartialEq, Eq)]
 pub struct RangeCfg {
-    /// The least length that is allowed.
+    /// The minimum length.
     pub least: usize,
-    /// The greatest length that is allowed.
+    /// The maximum length.
     pub greatest: usize,
 }
 

@@ -10,22 +10,23 @@ ghost use Rattle.p2p_discovery.specs.Fixed.{IsFixed, fixed_at};
 use crate::codec::{CodecError, Reader, What, are_bytes};
 use bytes::BytesMut;
 
-/// A value that is spelled by a fixed number of bytes.
+/// A value that is encoded in a fixed number of bytes.
 ///
-/// Laws: `SIZE` is at most 65535; equal values are one value; what was written reads back to that
-/// value; bytes that are read are those that the value writes. For a newtype over an array of bytes
-/// all of them stand in `specs/ArraysLaws`, beside [`write_array`] and [`read_array`]; a key of 32
-/// bytes with a signature of 64 is worked out in `array_keys.rt` of `p2p_discovery_tests`.
+/// Laws: `SIZE` is at most 65535. Equal values are one value. What was written decodes to that
+/// value, and bytes that are decoded are those that the value writes. For a newtype over an array
+/// of bytes, `specs/ArraysLaws` has all of them, in addition to [`write_array`] and [`read_array`].
+/// `array_keys.rt` of `p2p_discovery_tests` has a worked example: a key of 32 bytes with a
+/// signature of 64.
 pub trait FixedBytes: Copy + Eq {
     ghost SIZE: { ℕ };
 
-    /// How many bytes spell a value.
+    /// How many bytes encode a value.
     const SIZE: usize;
 
     // Holds of each value of the type.
     ghost IsValue: { Self → Type 0 };
 
-    // The bytes of a value, and the value that bytes spell.
+    // The bytes of a value, and the value that bytes encode.
     ghost spelled: { Self → List ℕ };
 
     ghost value: { List ℕ → Option Self };
@@ -40,7 +41,7 @@ pub trait FixedBytes: Copy + Eq {
         ensures bytes { out.new ≡ spelled self.now }
         ensures value { IsValue self.now };
 
-    /// The value that the bytes spell, or `None` where they spell none.
+    /// The value that the bytes encode, or `None` if they encode none.
     ///
     /// # Conditions
     ///
@@ -49,7 +50,7 @@ pub trait FixedBytes: Copy + Eq {
         requires { length bytes.now ≡ SIZE }
         ensures { result ≡ value bytes.now };
 
-    // Laws: of the spelling, and that equal values are one value.
+    // Laws: of the encoding, and that equal values are one value.
     ghost fixed: { IsFixed SIZE spelled value IsValue };
 
     ghost one_value: { (x y : Self) → Self.eq x y ≡ true → x ≡ y };
@@ -58,13 +59,13 @@ pub trait FixedBytes: Copy + Eq {
 /// The public key of a peer.
 ///
 /// Laws: the order is total and agrees with equality; keys that compare as equal are one key;
-/// `verify` answers a fixed predicate. `array_keys.rt` of `p2p_discovery_tests` has a worked example
-/// of what a user brings.
+/// `verify` returns a fixed predicate. `array_keys.rt` of `p2p_discovery_tests` has a worked
+/// example of what a user implements.
 pub trait PublicKey: FixedBytes + Ord {
-    /// What [`PublicKey::verify`] judges.
+    /// The signatures that [`PublicKey::verify`] verifies.
     type Signature: FixedBytes;
 
-    // Whether a signature is right, as a fixed predicate of the key, the namespace and the message.
+    // Whether a signature is valid, as a fixed predicate of the key, the namespace and the message.
     ghost verifies: { Self → List ℕ → List ℕ → Self.Signature → Bool };
 
     /// Whether the signature is one of this key over the namespace and the message.
@@ -116,7 +117,7 @@ pub(crate) fn write_value<K: FixedBytes>(value: &K, buf: &mut BytesMut)
     value.write_fixed(&mut buf.as_mut_slice()[at..]);
 }
 
-// Reads a value: `Invalid` of `what` where the bytes spell none.
+// Decodes a value: `Invalid` of `what` if the bytes encode none.
 pub(crate) fn read_value<K: FixedBytes>(
     reader: &mut Reader<'_>,
     what: What,

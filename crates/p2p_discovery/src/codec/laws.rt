@@ -1,4 +1,4 @@
-//! Laws of spellings, for users: each function's contract is one, and it has nothing else to do.
+//! Laws of encodings, for users: each function's contract is one, and it does nothing else.
 
 ghost use Rattle.std.specs.Prelude.{◌≡◌, ◌≢◌, ℕ, ◌≤◌, ◌<◌, ◌^◌, ◌↔◌, List, ◌++◌, [], length};
 ghost use Rattle.std.specs.Prelude.{IsErrAnd};
@@ -13,19 +13,20 @@ use crate::codec::{CodecError, MaxEncodeSize, Read, TestKey, Write};
 use bytes::Bytes;
 use std::alloc::Global;
 
-/// No spelling of a value begins another, and equal values alone share a spelling.
+/// The encoding is prefix-free and injective: no encoding of a value is a prefix of another one's,
+/// and only equal values share an encoding.
 pub fn one_spelling<T: Read>(cfg: &T::Cfg)
     ensures { (v w : T) (x y : List ℕ) → T.IsValue v → T.Admits cfg.now v
         → T.IsValue w → T.Admits cfg.now w
         → T.spelling v ++ x ≡ T.spelling w ++ y → (v ≡ w) × (x ≡ y) }
 {}
 
-/// Of a spelling no proper front is read.
+/// No truncated encoding is decoded.
 ///
 /// # Errors
 ///
-/// Of a proper front `EndOfBuffer`, for its bytes end too early, or `Memory` where memory was asked
-/// for on the way and refused. Those of [`Read::decode_cfg`] else.
+/// `EndOfBuffer` for a proper prefix of an encoding, or `Memory` if an allocation was attempted on
+/// the way and failed. For other bytes those of [`Read::decode_cfg`].
 pub fn cut_short<T: Read>(alloc: Global, front: Bytes, cfg: &T::Cfg) -> Result<T, CodecError>
     ensures short { (v : T) (rest : List ℕ) → T.IsValue v → T.Admits cfg.now v
         → T.spelling v ≡ front ++ rest → 0 < length rest
@@ -35,15 +36,15 @@ pub fn cut_short<T: Read>(alloc: Global, front: Bytes, cfg: &T::Cfg) -> Result<T
     T::decode_cfg(alloc, front, cfg)
 }
 
-/// What was encoded is decoded to what it was, under limits that admit it.
+/// What was encoded decodes to the same value, under limits that it is within.
 ///
 /// # Conditions
 ///
-/// Those of [`Write::encode`], and that the limits admit the value.
+/// Those of [`Write::encode`], and that the value is within the limits.
 ///
 /// # Errors
 ///
-/// `Memory` where memory is refused, and no other.
+/// `Memory` if allocation fails, and no other.
 pub fn read_back<T: Write + Read>(alloc: Global, value: &T, cfg: &T::Cfg) -> Result<T, CodecError>
     requires can { T.CanSpell value.now }
     requires admits { T.HoldsValues value.now → T.Admits cfg.now value.now }
@@ -53,7 +54,7 @@ pub fn read_back<T: Write + Read>(alloc: Global, value: &T, cfg: &T::Cfg) -> Res
     T::decode_cfg(alloc, bytes, cfg)
 }
 
-/// The number of bytes of the spelling, which is at most the type's greatest.
+/// The number of bytes of the encoding, which is at most the type's maximum.
 ///
 /// # Conditions
 ///
@@ -66,7 +67,7 @@ pub fn bounded_size<T: MaxEncodeSize>(value: &T) -> usize
     value.encode_size()
 }
 
-/// Bytes spell a whole number by the grammar of varints exactly where they are its one spelling.
+/// Bytes match the grammar of varints for an integer if, and only if, they are its one encoding.
 pub fn varint_grammar()
     ensures long { (bytes : List ℕ) (n : ℕ)
         → SpellsU64 bytes n ↔ ((n < 2 ^ 64) × (bytes ≡ varint64 n)) }
@@ -74,7 +75,7 @@ pub fn varint_grammar()
         → SpellsU32 bytes n ↔ ((n < 2 ^ 32) × (bytes ≡ varint32 n)) }
 {}
 
-/// Test keys are ordered as their numbers.
+/// Test keys are ordered by their numbers.
 pub fn test_key_order()
     ensures { (a b : TestKey) → ⟦<TestKey as Ord>⟧.cmp a b ≡ nat_cmp a.0 b.0 }
 {}

@@ -10,8 +10,8 @@ use crate::codec::{CodecError, Read, Reader, Write};
 use bytes::BytesMut;
 use std::alloc::Global;
 
-// Reads so many values, each of which has `least` bytes at least. Room is asked for no more of
-// them than the bytes that are left can hold.
+// Decodes so many values, each of which has at least `least` bytes. It reserves capacity for no
+// more of them than the bytes that are left can hold.
 pub(crate) fn read_items<T: Read<Cfg = ()>>(
     alloc: Global,
     reader: &mut Reader<'_>,
@@ -33,7 +33,7 @@ pub(crate) fn read_items<T: Read<Cfg = ()>>(
     Ok(items)
 }
 
-// Appends the spellings of these values.
+// Appends the encodings of these values.
 pub(crate) fn write_items<T: Write>(items: &[T], buf: &mut BytesMut)
     requires can { (x : T) → T.CanSpell x }
     requires room { length (spellings T.spelling items.now) ≤ buf.old.spare }

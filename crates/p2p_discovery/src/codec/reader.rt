@@ -1,4 +1,4 @@
-//! A place in shared bytes, from which values are read.
+//! A position in shared bytes, from which values are decoded.
 
 ghost use Rattle.std.specs.Prelude.{◌≡◌, ◌==◌, length, IfOk};
 ghost use Rattle.p2p_discovery.specs.Reading.{Gives, GivesAs, IsBytes, byte_at, counted_at, cut_at};
@@ -7,9 +7,9 @@ use crate::codec::CodecError;
 use bytes::Bytes;
 use std::marker::Model;
 
-/// The bytes of a buffer from some place on, which contracts see as these bytes.
+/// The bytes of a buffer from some position on, which contracts see as these bytes.
 ///
-/// A read that succeeds moves the place behind what was read. The buffer itself stays as it is.
+/// A read that succeeds moves the position past what was read. The buffer itself is unchanged.
 #[derive(Drop)]
 pub struct Reader<'a> {
     whole: &'a Bytes,
@@ -64,7 +64,7 @@ impl<'a> Reader<'a> {
     ///
     /// # Errors
     ///
-    /// `EndOfBuffer` where none is left.
+    /// `EndOfBuffer` if none is left.
     pub fn byte(&mut self) -> Result<u8, CodecError>
         ensures { Gives result self.new (byte_at self.old) }
     {
@@ -76,11 +76,11 @@ impl<'a> Reader<'a> {
         Ok(byte)
     }
 
-    /// Reads so many bytes, which are not copied. It takes no memory.
+    /// Reads so many bytes, which are not copied. It doesn't allocate.
     ///
     /// # Errors
     ///
-    /// `EndOfBuffer` where fewer are left.
+    /// `EndOfBuffer` if fewer are left.
     pub fn counted(&mut self, count: usize) -> Result<&'a [u8], CodecError>
         ensures exact { GivesAs (λ b. b.now) result self.new (counted_at count self.old) }
         ensures length { IfOk result (λ b. length b.now ≡ count) }
@@ -93,12 +93,12 @@ impl<'a> Reader<'a> {
         Ok(&self.whole.as_slice()[start..start + count])
     }
 
-    /// Reads so many bytes as an owner of the buffer's memory: they are not copied.
+    /// Reads so many bytes, which are not copied, and shares ownership of the buffer's memory.
     ///
     /// # Errors
     ///
-    /// `EndOfBuffer` where fewer are left; else `Memory` where memory is refused. No bytes ask for
-    /// none.
+    /// `EndOfBuffer` if fewer are left; else `Memory` if allocation fails. Reading no bytes doesn't
+    /// allocate.
     pub fn cut(&mut self, count: usize) -> Result<Bytes, CodecError>
         ensures { Gives result self.new (cut_at count self.old) }
     {

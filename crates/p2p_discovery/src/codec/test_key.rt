@@ -1,4 +1,4 @@
-//! Keys and signatures without any security, for tests and for the program.
+//! Keys and signatures without any security, for tests and for the program `play`.
 
 ghost use Rattle.std.specs.Prelude.{◌≡◌, ◌==◌, ◌<◌, ◌^◌, Some};
 ghost use Rattle.std.specs.Int.{w64, to_be_bytes, from_be_bytes};
@@ -8,12 +8,12 @@ ghost use Rattle.p2p_discovery.specs.TestSignatures.{signature_of, mix_of, next_
 
 use crate::codec::{FixedBytes, PublicKey};
 
-/// A key without security, spelled by the eight bytes of its number, the most significant first,
-/// and ordered as its number.
+/// A key without security. It is encoded as the eight bytes of its number, big-endian, and ordered
+/// by its number.
 #[derive(Clone, Copy, Debug, PartialEq, Eq, PartialOrd, Ord)]
 pub struct TestKey(pub u64);
 
-/// A signature without security, spelled as a [`TestKey`].
+/// A signature without security, encoded as a [`TestKey`].
 #[derive(Clone, Copy, Debug, PartialEq, Eq)]
 pub struct TestSignature(pub u64);
 
@@ -70,8 +70,8 @@ impl FixedBytes for TestSignature {
 }
 
 impl TestKey {
-    /// The signature of this key over the namespace and the message: what the bytes of both, one
-    /// after the other, make of the key's number. It takes no memory.
+    /// The signature of this key over the namespace and the message. It is computed from the bytes
+    /// of both, one after the other, and the key's number. It doesn't allocate.
     ///
     /// # Cost
     ///

@@ -1,4 +1,4 @@
-//! Whole numbers as varints: groups of seven bits, the least significant first.
+//! Integers as varints: groups of seven bits, the least significant first.
 
 ghost use Rattle.std.specs.Prelude.{◌≡◌, ℕ, ◌+◌, ◌*◌, ◌^◌, ◌<◌, ◌≤◌, List, ◌++◌, length, IfOk};
 ghost use Rattle.std.proofs.Common.{lit<};
@@ -37,8 +37,8 @@ fn write_groups(n: u64, buf: &mut BytesMut)
     }
 }
 
-// Reads the groups of a number that has at most `most`. Behind the next byte at most `left` may
-// come, of which the last possible one is at most `top`; `started` where one came before.
+// Reads the groups of a number that has at most `most`. At most `left` bytes may follow the next
+// one, of which the last possible one is at most `top`. `started` if one came before.
 fn read_groups(
     reader: &mut Reader<'_>,
     most: usize,
@@ -62,7 +62,7 @@ fn read_groups(
     Ok(byte as u64 - 128 + 128 * high)
 }
 
-// The last group, which is at most `top`, and not 0 behind another one.
+// The last group, which is at most `top`, and not 0 after another one.
 fn checked_last(byte: u8, most: usize, top: u8, started: bool) -> Result<u64, CodecError>
     ensures exact { (rest : List ℕ) → Gives result rest (last_group most top started byte rest) }
     ensures bound { IfOk result (λ n. n ≤ top) }

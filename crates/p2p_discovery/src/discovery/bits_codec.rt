@@ -1,4 +1,4 @@
-//! How bits and their index are spelled.
+//! How bits and their index are encoded.
 
 ghost use Rattle.std.specs.Prelude.{◌≡◌, ◌+◌, ◌<◌, ◌≤◌, ◌^◌, length};
 ghost use Rattle.p2p_discovery.specs.Reading.{Gives};

@@ -1,4 +1,4 @@
-//! How an info is spelled.
+//! How an info is encoded.
 
 ghost use Rattle.std.specs.Prelude.{◌≡◌, ◌+◌, ◌≤◌, length};
 ghost use Rattle.p2p_discovery.specs.declared.discovery.Info.{Info};
@@ -15,8 +15,8 @@ use bytes::BytesMut;
 use std::alloc::Global;
 
 impl<C: PublicKey> Info<C> {
-    /// The greatest number of bytes that a spelling has: those of an ingress, of a timestamp, of a
-    /// key and of a signature.
+    /// The maximum number of bytes of an encoding: those of an ingress, of a timestamp, of a key
+    /// and of a signature.
     pub fn max_encode_size() -> usize
         ensures value { result ≡ 261 + 10 + C.SIZE + C.Signature.SIZE }
         ensures bound { (i : Info C C.Signature) → IsInfo i

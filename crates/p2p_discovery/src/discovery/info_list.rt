@@ -1,4 +1,4 @@
-//! Lists of infos, and how they are spelled.
+//! Lists of infos, and how they are encoded.
 
 ghost use Rattle.std.specs.Prelude.{◌≡◌, ◌+◌, ◌<◌, ◌≤◌, ◌^◌, ◌*◌, ◌++◌, length, IfOk, vec_capacity};
 ghost use Rattle.std.specs.List.{AllByRecursion};
@@ -18,7 +18,7 @@ use std::marker::Model;
 
 /// Infos, one after the other. A contract sees the list of them.
 ///
-/// It is a vector of them: [`Infos::from_vec`] and [`Infos::into_vec`] take no memory.
+/// It is a vector of them: [`Infos::from_vec`] and [`Infos::into_vec`] don't allocate.
 #[derive(Drop)]
 pub struct Infos<C: PublicKey> {
     items: Vec<Info<C>>,

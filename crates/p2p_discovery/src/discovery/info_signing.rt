@@ -1,7 +1,8 @@
-//! What an info's signature is over, how an info is signed, and how its signature is judged.
+//! What an info's signature covers, how an info is signed, and how its signature is verified.
 
 ghost use Rattle.std.specs.Prelude.{◌≡◌, ◌+◌, ◌≤◌, ◌++◌, true, length};
 ghost use Rattle.std.specs.Fn.{FnOnceReturnsAtPair};
+ghost use Rattle.p2p_discovery.specs.Ingress.{ingress_spelling};
 ghost use Rattle.p2p_discovery.specs.Socket.{socket_spelling};
 ghost use Rattle.p2p_discovery.specs.Hostname.{hostname_spelling};
 ghost use Rattle.p2p_discovery.specs.Varint.{varint32};
@@ -15,10 +16,9 @@ use crate::types::{Hostname, Ingress, IpAddr, SocketAddr};
 use std::marker::Model;
 
 impl<C: PublicKey> Info<C> {
-    /// The info of these parts, with the answer of the closure as its signature. The closure is
-    /// called once, with the namespace and what is signed: the spelling of the ingress, then the
-    /// timestamp in eight bytes, the most significant first. Where its answer verifies, the info
-    /// does. It takes no memory.
+    /// The info of these parts, with the closure's result as its signature. The closure is called
+    /// once, with the namespace and what is signed: the encoded ingress, then the timestamp in
+    /// eight bytes, big-endian. If its result verifies, the info does. It doesn't allocate.
     ///
     /// # Conditions
     ///
@@ -26,7 +26,7 @@ impl<C: PublicKey> Info<C> {
     ///
     /// # Cost
     ///
-    /// Signed are at most 269 bytes, which stand on the stack.
+    /// At most 269 bytes are signed, which are on the stack.
     pub fn sign<F: FnOnce(&[u8], &[u8]) -> C::Signature>(
         public_key: C,
         namespace: &[u8],
@@ -53,8 +53,8 @@ impl<C: PublicKey> Info<C> {
         }
     }
 
-    /// What is signed: the spelling of the ingress, then the timestamp in eight bytes, the most
-    /// significant first. It takes no memory.
+    /// What is signed: the encoded ingress, then the timestamp in eight bytes, big-endian. It
+    /// doesn't allocate.
     ///
     /// # Cost
     ///
@@ -66,11 +66,11 @@ impl<C: PublicKey> Info<C> {
     }
 
     /// Whether the signature is one of the info's key over the namespace and what is signed. It
-    /// takes no memory.
+    /// doesn't allocate.
     ///
     /// # Cost
     ///
-    /// One [`PublicKey::verify`], over at most 269 bytes, which stand on the stack.
+    /// One [`PublicKey::verify`], over at most 269 bytes, which are on the stack.
     pub fn verify(&self, namespace: &[u8]) -> bool
         ensures { result ≡ is_signed_in C.verifies namespace.now self.now }
     {
@@ -80,11 +80,25 @@ impl<C: PublicKey> Info<C> {
     }
 }
 
-// The greatest number of signed bytes: those of an ingress, and eight of a timestamp.
+// The maximum number of signed bytes: those of an ingress, and eight of a timestamp.
 const SIGNED_SIZE: usize = 269;
 
-/// The bytes that an info's signature is over. They stand in an array, so they take no memory. A
-/// contract sees these bytes.
+impl Ingress {
+    /// The encoding, as [`Write::encode`](crate::codec::Write::encode) returns it, in an array. It
+    /// needs no allocation.
+    ///
+    /// # Cost
+    ///
+    /// At most 261 bytes are copied.
+    pub fn encoded(&self) -> SignedBytes
+        ensures { result ≡ ingress_spelling self.now }
+    {
+        SignedBytes::of_ingress(self)
+    }
+}
+
+/// The bytes that an info's signature covers, or those that they begin with, the encoding of its
+/// ingress. They are in an array, so they need no allocation. A contract sees these bytes.
 #[derive(Drop)]
 pub struct SignedBytes {
     room: [u8; SIGNED_SIZE],
@@ -107,23 +121,32 @@ impl SignedBytes {
     fn of(ingress: &Ingress, timestamp: u64) -> SignedBytes
         ensures { result ≡ signed_bytes ingress.now timestamp }
     {
-        let mut signed = SignedBytes {
+        let mut signed = SignedBytes::of_ingress(ingress);
+        signed.push(&timestamp.to_be_bytes());
+        signed
+    }
+
+    // The encoding of an ingress.
+    fn of_ingress(ingress: &Ingress) -> SignedBytes
+        ensures items { result ≡ ingress_spelling ingress.now }
+        ensures bound { length result ≤ 261 }
+    {
+        let mut bytes = SignedBytes {
             room: [0; SIGNED_SIZE],
             len: 0,
         };
         match ingress {
             Ingress::Socket(socket) => {
-                signed.push(&[SOCKET_PREFIX]);
-                signed.push_socket(socket);
+                bytes.push(&[SOCKET_PREFIX]);
+                bytes.push_socket(socket);
             }
             Ingress::Dns { host, port } => {
-                signed.push(&[DNS_PREFIX]);
-                signed.push_name(host);
-                signed.push(&port.to_be_bytes());
+                bytes.push(&[DNS_PREFIX]);
+                bytes.push_name(host);
+                bytes.push(&port.to_be_bytes());
             }
         }
-        signed.push(&timestamp.to_be_bytes());
-        signed
+        bytes
     }
 
     fn push_socket(&mut self, socket: &SocketAddr)

@@ -1,4 +1,4 @@
-//! Laws of what is read from frames: each function's contract is one, and it only reads.
+//! Laws of what is decoded from frames: each function's contract is one, and it only decodes.
 
 ghost use Rattle.std.specs.Prelude.{◌≡◌, ◌+◌, ◌*◌, ◌≤◌, length, IfOk};
 ghost use Rattle.p2p_discovery.specs.declared.data.Data.{Data as Message};
@@ -10,7 +10,7 @@ use crate::discovery::{BitVec, Infos, Payload, PayloadConfig};
 use bytes::Bytes;
 use std::alloc::Global;
 
-/// A data frame is longer than its message by [`MAX_PAYLOAD_OVERHEAD`] bytes at most.
+/// A data frame is at most [`MAX_PAYLOAD_OVERHEAD`] bytes longer than its message.
 ///
 /// [`MAX_PAYLOAD_OVERHEAD`]: crate::data::MAX_PAYLOAD_OVERHEAD
 pub fn short_data_frames<C: PublicKey>()
@@ -19,8 +19,8 @@ pub fn short_data_frames<C: PublicKey>()
         ≤ length message.message + 16 }
 {}
 
-/// Reads infos, as [`Read::read_cfg`]: no more than the bytes that were read can hold, at the least
-/// size of an info.
+/// Decodes infos, as [`Read::read_cfg`]: no more than the bytes that were read can hold, at the
+/// minimum size of an info.
 ///
 /// # Errors
 ///
@@ -36,7 +36,7 @@ pub fn bounded_infos<C: PublicKey>(
     Infos::read_cfg(alloc, buf, limit)
 }
 
-/// Reads bits and their index, as [`Read::read_cfg`]: no more bits than the bytes that were read
+/// Decodes bits and their index, as [`Read::read_cfg`]: no more bits than the bytes that were read
 /// have.
 ///
 /// # Errors
@@ -48,8 +48,8 @@ pub fn bounded_bits(alloc: Global, buf: &mut Bytes, limit: &u64) -> Result<BitVe
     BitVec::read_cfg(alloc, buf, limit)
 }
 
-/// Reads the payload of a frame, as [`Read::decode_cfg`]: what it holds, a message, bits or infos,
-/// is no more than the bytes of the frame can hold, whatever the limits are.
+/// Decodes the payload of a frame, as [`Read::decode_cfg`]. What it holds, a message, bits or
+/// infos, is no more than the bytes of the frame can hold, whatever the limits are.
 ///
 /// # Errors
 ///

@@ -1,4 +1,4 @@
-//! How payloads are spelled, and how long those of gossip are.
+//! How payloads are encoded, and how long those of gossip are.
 
 ghost use Rattle.std.specs.Prelude.{◌≡◌, ◌+◌, ◌<◌, ◌≤◌, ◌^◌, length};
 ghost use Rattle.p2p_discovery.specs.declared.discovery.Payload.{Payload};
@@ -24,8 +24,8 @@ const BIT_VEC_PREFIX: u8 = 2;
 
 const PEERS_PREFIX: u8 = 3;
 
-/// The greatest number of bytes of a payload that isn't data, under these limits for the number of
-/// bits and of infos. It takes no memory.
+/// The maximum number of bytes of a payload that isn't data, under these limits for the number of
+/// bits and of infos. It doesn't allocate.
 ///
 /// # Conditions
 ///

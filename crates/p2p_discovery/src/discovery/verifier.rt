@@ -1,4 +1,4 @@
-//! Which infos are fine, and why others are refused.
+//! Which infos are valid, and why others are refused.
 
 ghost use Rattle.std.specs.Prelude.{◌≡◌, ◌≤◌, true, false, take, length, nat_lt};
 ghost use Rattle.std.specs.Prelude.{get_or};
@@ -12,7 +12,7 @@ use std::cmp::Ordering;
 use std::marker::Model;
 use std::time::Duration;
 
-/// By what infos are judged, made by [`Info::verifier`]. A contract sees what it holds.
+/// How infos are verified; made by [`Info::verifier`]. A contract sees what it holds.
 #[derive(Drop)]
 pub struct InfoVerifier<C: PublicKey> {
     me: C,
@@ -36,9 +36,9 @@ impl<C: PublicKey> Model for InfoVerifier<C> {
 }
 
 impl<C: PublicKey> Info<C> {
-    /// A verifier for the peer with this key. It takes at most so many infos at a time, timestamps
-    /// that lie at most the synchrony bound ahead, and signatures in this namespace. It takes no
-    /// memory.
+    /// A verifier for the peer with this key. It accepts at most so many infos at once, timestamps
+    /// that are at most the synchrony bound ahead, and signatures in this namespace. It doesn't
+    /// allocate.
     pub fn verifier(
         me: C,
         peer_gossip_max_count: usize,
@@ -62,19 +62,19 @@ impl<C: PublicKey> Info<C> {
 }
 
 impl<C: PublicKey> InfoVerifier<C> {
-    /// Whether the info is fine at a moment. It takes no memory.
+    /// Whether the info is valid at a time. It doesn't allocate.
     ///
     /// # Errors
     ///
     /// The first of these that holds:
     /// - `ReceivedSelf`: the info has the verifier's own key.
-    /// - `SynchronyBound`: its timestamp is later than the synchrony bound past `now`, a sum that
-    ///   is at most the greatest moment.
+    /// - `SynchronyBound`: its timestamp is later than `now` plus the synchrony bound, a sum that
+    ///   saturates at the maximum time.
     /// - `InvalidSignature`: its signature isn't one of its key in the verifier's namespace.
     ///
     /// # Cost
     ///
-    /// One comparison of keys, and one [`Info::verify`] where neither of the first two holds.
+    /// One comparison of keys, and one [`Info::verify`] if neither of the first two errors holds.
     pub fn validate_info(&self, now: Duration, info: &Info<C>) -> Result<(), Error>
         ensures { result
             ≡ judged (refusal (judge_of C.cmp C.verifies self.now) (as_nanos now) info.now) }
@@ -86,8 +86,8 @@ impl<C: PublicKey> InfoVerifier<C> {
         Ok(())
     }
 
-    /// Whether the info is fine at a moment, given whether its signature is right. It takes no
-    /// memory.
+    /// Whether the info is valid at a time, given whether its signature is valid. It doesn't
+    /// allocate.
     ///
     /// # Errors
     ///
@@ -103,7 +103,7 @@ impl<C: PublicKey> InfoVerifier<C> {
         Ok(())
     }
 
-    // Whether the info is fine at a moment, if its signature is right.
+    // Whether the info is valid at a time, if its signature is.
     fn validate_unsigned(&self, now: Duration, info: &Info<C>) -> Result<(), Error>
         ensures { result ≡ judged
             (refusal_if (judge_of C.cmp C.verifies self.now) true (as_nanos now) info.now) }
@@ -118,17 +118,17 @@ impl<C: PublicKey> InfoVerifier<C> {
         Ok(())
     }
 
-    /// Whether all of the infos are fine at a moment. It takes no memory.
+    /// Whether all of the infos are valid at a time. It doesn't allocate.
     ///
     /// # Errors
     ///
-    /// `TooManyPeers` of their number where they are more than the verifier takes at a time; else
-    /// the first refusal of [`InfoVerifier::validate_info`], in the order of the list.
+    /// `TooManyPeers` of their number if they are more than the verifier accepts at once; else the
+    /// first error of [`InfoVerifier::validate_info`], in the order of the list.
     ///
     /// # Cost
     ///
     /// One [`InfoVerifier::validate_info`] for each info up to the first that is refused, and none
-    /// where they are too many.
+    /// if they are too many.
     pub fn validate(&self, now: Duration, infos: &[Info<C>]) -> Result<(), Error>
         ensures { result
             ≡ judged (list_refusal (judge_of C.cmp C.verifies self.now) (as_nanos now) infos.now) }
@@ -142,8 +142,8 @@ impl<C: PublicKey> InfoVerifier<C> {
         Ok(())
     }
 
-    /// Whether all of the infos are fine at a moment, given whether the signature of each is right,
-    /// in the order of the list. One of which nothing is said isn't. It takes no memory.
+    /// Whether all of the infos are valid at a time, given whether the signature of each is, in the
+    /// order of the list. A signature without a result counts as invalid. It doesn't allocate.
     ///
     /// # Errors
     ///
@@ -166,9 +166,9 @@ impl<C: PublicKey> InfoVerifier<C> {
         Ok(())
     }
 
-    /// How many of the infos have a signature that decides whether they are fine at a moment: those
-    /// before the first that is refused whatever its signature is, and none where they are too many.
-    /// It takes no memory.
+    /// How many of the infos have a signature that decides whether they are valid at a time: those
+    /// before the first that is refused whatever its signature is, and none if they are too many.
+    /// It doesn't allocate.
     pub fn count_to_verify(&self, now: Duration, infos: &[Info<C>]) -> usize
         ensures value { take result infos.now
             ≡ to_verify (judge_of C.cmp C.verifies self.now) (as_nanos now) infos.now }
@@ -185,7 +185,7 @@ impl<C: PublicKey> InfoVerifier<C> {
         infos.len()
     }
 
-    // Whether they are more than the verifier takes at a time.
+    // Whether they are more than the verifier accepts at once.
     fn are_too_many(&self, infos: &[Info<C>]) -> bool
         ensures { result ≡ nat_lt self.now.greatest_count (length infos.now) }
     {
@@ -193,7 +193,7 @@ impl<C: PublicKey> InfoVerifier<C> {
     }
 }
 
-// Whether a signature is right by its verdict; it isn't where there is none.
+// Whether a signature is valid by its verification result; it isn't if there is none.
 fn is_right(verdicts: &[bool], place: usize) -> bool
     ensures { result ≡ get_or verdicts.now place false }
 {

@@ -1,4 +1,4 @@
-//! Truth values, packed eight to a byte.
+//! Bools, packed eight to a byte.
 
 ghost use Rattle.std.specs.Prelude.{◌≡◌, ◌↔◌, ℕ, ◌<◌, List, false, true, length, replicate, IfOk};
 ghost use Rattle.std.specs.Prelude.{IsTrue, slice_get, Some};
@@ -15,14 +15,14 @@ use crate::codec::{CodecError, What, are_bytes};
 use std::alloc::{AllocError, Global};
 use std::marker::Model;
 
-/// Truth values in a row. A contract sees the list of them.
+/// A sequence of bools. A contract sees the list of them.
 ///
-/// They are stored as they are spelled: value i as a bit of byte `i / 8`, in place `i mod 8`
+/// They are stored as they are encoded: value i as a bit of byte `i / 8`, at position `i mod 8`
 /// counted from the least significant. A set bit is `true`.
 ///
 /// # Cost
 ///
-/// Whatever takes memory takes a byte for each eight values, and time linear in these bytes.
+/// Whatever allocates takes a byte for each eight values, and time linear in these bytes.
 #[derive(Debug, Drop)]
 pub struct BitMap {
     bytes: Vec<u8>,
@@ -45,7 +45,7 @@ impl BitMap {
     ///
     /// # Errors
     ///
-    /// `AllocError` where memory is refused.
+    /// `AllocError` if allocation fails.
     pub fn zeroes(alloc: Global, n: u64) -> Result<BitMap, AllocError>
         ensures { IfOk result (λ bits. bits ≡ replicate n false) }
     {
@@ -57,7 +57,7 @@ impl BitMap {
     ///
     /// # Errors
     ///
-    /// `AllocError` where memory is refused.
+    /// `AllocError` if allocation fails.
     pub fn ones(alloc: Global, n: u64) -> Result<BitMap, AllocError>
         ensures { IfOk result (λ bits. bits ≡ replicate n true) }
     {
@@ -73,7 +73,7 @@ impl BitMap {
     ///
     /// # Errors
     ///
-    /// `AllocError` where memory is refused.
+    /// `AllocError` if allocation fails.
     ///
     /// # Cost
     ///
@@ -95,11 +95,11 @@ impl BitMap {
         self.len
     }
 
-    /// The value at a place, counted from 0. It takes no memory.
+    /// The value at a position, counted from 0. It doesn't allocate.
     ///
     /// # Conditions
     ///
-    /// The place is in range.
+    /// The position is in range.
     pub fn get(&self, place: u64) -> bool
         requires { place < length self.now }
         ensures { slice_get self.now place ≡ Some result }
@@ -107,11 +107,11 @@ impl BitMap {
         (self.bytes[(place / 8) as usize] >> (place % 8)) & 1 == 1
     }
 
-    /// Puts a value at a place, counted from 0; the others stay as they are. It takes no memory.
+    /// Sets the value at a position, counted from 0; the others are unchanged. It doesn't allocate.
     ///
     /// # Conditions
     ///
-    /// The place is in range.
+    /// The position is in range.
     pub fn set(&mut self, place: u64, value: bool)
         requires { place < length self.old }
         ensures { self.new ≡ slice_set self.old place value }
@@ -129,7 +129,7 @@ impl BitMap {
     ///
     /// # Errors
     ///
-    /// `AllocError` where memory is refused.
+    /// `AllocError` if allocation fails.
     pub fn clone(&self) -> Result<BitMap, AllocError>
         ensures { IfOk result (λ copy. copy ≡ self.now) }
     {
@@ -139,7 +139,7 @@ impl BitMap {
         })
     }
 
-    // The bytes that the values are spelled by.
+    // The bytes that encode the values.
     pub(crate) fn as_bytes(&self) -> &[u8]
         ensures { result.now ≡ packed self.now }
     {
@@ -147,7 +147,7 @@ impl BitMap {
         &self.bytes
     }
 
-    // The first n values that the bytes hold, as many bytes as n need. Padding is refused first.
+    // The first n values that the bytes hold, as many bytes as n need. Padding is checked first.
     pub(crate) fn from_bytes(alloc: Global, bytes: &[u8], n: u64) -> Result<BitMap, CodecError>
         requires { length bytes.now ≡ byte_count n }
         ensures { (rest : List ℕ) → Gives result rest (unpacked n bytes.now rest) }
@@ -171,7 +171,7 @@ pub(crate) fn bytes_for(n: u64) -> usize
     n.div_ceil(8) as usize
 }
 
-// What stands behind the first n bits in the byte of the last of them.
+// What is behind the first n bits in the byte of the last of them.
 fn padding_in(bytes: &[u8], n: u64) -> u8
     ensures { result ≡ padding_of n bytes.now }
 {

@@ -38,7 +38,7 @@ impl<P: PublicKey> BitSet<P> {
     ///
     /// # Errors
     ///
-    /// `AllocError` where memory is refused; the set is given up.
+    /// `AllocError` if allocation fails; the set is dropped.
     ///
     /// # Cost
     ///
@@ -57,8 +57,8 @@ impl<P: PublicKey> BitSet<P> {
         self.ordered.len()
     }
 
-    /// Changes the bit of a peer, and answers whether the peer is in the set. All else stays as it
-    /// is. It takes no memory.
+    /// Changes the bit of a peer, and returns whether the peer is in the set. All else is
+    /// unchanged. It doesn't allocate.
     ///
     /// # Cost
     ///
@@ -76,8 +76,8 @@ impl<P: PublicKey> BitSet<P> {
         }
     }
 
-    /// Changes the bit of the peer at a place, counted from 0, and answers whether there is such a
-    /// place. All else stays as it is. It takes no memory.
+    /// Changes the bit of the peer at a position, counted from 0, and returns whether there is such
+    /// a position. All else is unchanged. It doesn't allocate.
     pub fn update_at(&mut self, place: usize, known: bool) -> bool
         ensures answer { result ≡ nat_lt place (length self.old) }
         ensures after { self.new ≡ with_bit self.old place known }
@@ -94,7 +94,7 @@ impl<P: PublicKey> BitSet<P> {
     ///
     /// # Errors
     ///
-    /// `AllocError` where memory is refused.
+    /// `AllocError` if allocation fails.
     ///
     /// # Cost
     ///
@@ -116,7 +116,7 @@ impl<P: PublicKey> BitSet<P> {
     ///
     /// # Errors
     ///
-    /// `AllocError` where memory is refused.
+    /// `AllocError` if allocation fails.
     ///
     /// # Cost
     ///

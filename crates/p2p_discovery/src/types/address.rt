@@ -14,7 +14,7 @@ use crate::types::{Ingress, IpAddr, SocketAddr};
 use bytes::BytesMut;
 use std::alloc::{AllocError, Global};
 
-/// What is dialled to reach a peer, and where its connections come from. Symmetric addresses come
+/// What is dialled to reach a peer, and where its connections come from. Symmetric addresses sort
 /// before asymmetric ones.
 #[derive(Debug, PartialOrd, Ord, Drop)]
 pub enum Address {
@@ -30,11 +30,11 @@ pub enum Address {
 }
 
 impl Address {
-    /// What is dialled to reach the peer. It takes no memory where that is a socket.
+    /// What is dialled to reach the peer. It doesn't allocate if that is a socket.
     ///
     /// # Errors
     ///
-    /// `AllocError` where memory for a name is refused.
+    /// `AllocError` if the allocation for a name fails.
     pub fn ingress(&self) -> Result<Ingress, AllocError>
         ensures ingress { IfOk result (λ ingress. ingress ≡ dialled_ingress self.now) }
         ensures socket { takes_none (dialled_ingress self.now) ≡ true → IsOk result }
@@ -62,11 +62,11 @@ impl Address {
         }
     }
 
-    /// An equal value. It takes no memory where what is dialled is a socket.
+    /// An equal value. It doesn't allocate if what is dialled is a socket.
     ///
     /// # Errors
     ///
-    /// `AllocError` where memory for a name is refused.
+    /// `AllocError` if the allocation for a name fails.
     pub fn clone(&self) -> Result<Address, AllocError>
         ensures equal { IfOk result (λ copy. copy ≡ self.now) }
         ensures socket { takes_none (dialled_ingress self.now) ≡ true → IsOk result }

@@ -23,10 +23,10 @@ use std::alloc::{AllocError, Global};
 use std::cmp::Ordering;
 use std::marker::Model;
 
-/// The name of a machine, seen by contracts as its bytes. Ordered by its bytes, and equal where
+/// The name of a machine, seen by contracts as its bytes. It is ordered by its bytes, and equal if
 /// they are: letters are kept as written.
 ///
-/// A name has 1 to 253 bytes. It consists of labels joined by single dots, and a label of 1 to 63
+/// A name has 1 to 253 bytes. It consists of labels joined by single dots. A label has 1 to 63
 /// letters, digits and hyphens of ASCII, with no hyphen at either end.
 #[derive(Debug, Drop)]
 pub struct Hostname {
@@ -54,9 +54,9 @@ impl Hostname {
     ///
     /// # Errors
     ///
-    /// `InvalidLength` where it has no bytes or more than 253, which is judged first;
-    /// `Invalid(Hostname)` where it has not the form of a name; `Memory` where it is a name and
-    /// memory is refused.
+    /// `InvalidLength` if it has no bytes or more than 253, which is checked first;
+    /// `Invalid(Hostname)` if it has not the form of a name; `Memory` if it is a name and
+    /// allocation fails.
     ///
     /// # Cost
     ///
@@ -84,7 +84,7 @@ impl Hostname {
     ///
     /// # Errors
     ///
-    /// `AllocError` where memory is refused.
+    /// `AllocError` if allocation fails.
     ///
     /// # Cost
     ///
@@ -97,7 +97,7 @@ impl Hostname {
         })
     }
 
-    // A name of these bytes, of which there are as many as a name may have.
+    // A name of these bytes, whose number is one that a name may have.
     #[tactic(auto, unfolding(crate::specs::Hostname::formed))]
     fn from_bytes(alloc: Global, text: &[u8]) -> Result<Hostname, CodecError>
         requires { is_within host_limit (length text.now) ≡ true }
@@ -125,7 +125,7 @@ fn is_name(text: &[u8]) -> bool
     }
 }
 
-// The place of the first dot.
+// The position of the first dot.
 fn dot_in(text: &[u8]) -> Option<usize>
     ensures { result ≡ position (λ b. b == 46) text.now }
 {

@@ -13,8 +13,8 @@ use crate::types::{Hostname, IpAddr, SocketAddr};
 use bytes::BytesMut;
 use std::alloc::{AllocError, Global};
 
-/// What is dialled to reach a peer: a socket address, or a name to be resolved and a port.
-/// Sockets come before names.
+/// What is dialled to reach a peer: a socket address, or a name to be resolved and a port. Sockets
+/// sort before names.
 #[derive(Debug, PartialOrd, Ord, Drop)]
 pub enum Ingress {
     /// A socket address.
@@ -39,7 +39,7 @@ impl Ingress {
         }
     }
 
-    /// The address of a socket, and `None` for a name.
+    /// The address of a socket, or `None` for a name.
     pub fn ip(&self) -> Option<IpAddr>
         ensures { result ≡ ip_of self.now }
     {
@@ -49,8 +49,8 @@ impl Ingress {
         }
     }
 
-    /// Whether it may be dialled: a socket where private addresses are allowed or its address is
-    /// global, a name exactly where names are allowed.
+    /// Whether it may be dialled. A socket may if private addresses are allowed or its address is
+    /// global, a name exactly if names are allowed.
     #[tactic(auto, unfolding(crate::specs::Ingress::is_valid))]
     pub fn is_valid(&self, allow_private_ips: bool, allow_dns: bool) -> bool
         ensures { result ≡ is_valid allow_private_ips allow_dns self.now }
@@ -61,11 +61,11 @@ impl Ingress {
         }
     }
 
-    /// An equal value. It takes no memory where it is a socket.
+    /// An equal value. It doesn't allocate if it is a socket.
     ///
     /// # Errors
     ///
-    /// `AllocError` where memory for a name is refused.
+    /// `AllocError` if the allocation for a name fails.
     pub fn clone(&self) -> Result<Ingress, AllocError>
         ensures equal { IfOk result (λ copy. copy ≡ self.now) }
         ensures socket { takes_none self.now ≡ true → IsOk result }

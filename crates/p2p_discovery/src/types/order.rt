@@ -13,8 +13,8 @@ use crate::types::{Address, Hostname, Ingress, IpAddr, SocketAddr};
 
 /// How addresses compare; this contract is all that the function has.
 ///
-/// Version 4 comes before version 6, then bytes decide, then ports. Sockets come before names,
-/// and symmetric addresses before asymmetric ones.
+/// Version 4 sorts before version 6, then bytes decide, then ports. Sockets sort before names, and
+/// symmetric addresses before asymmetric ones.
 pub fn address_order()
     ensures ip { (a b : IpAddr) → ⟦<IpAddr as Ord>⟧.cmp a b ≡ ip_cmp a b }
     ensures socket { (a b : SocketAddr) → ⟦<SocketAddr as Ord>⟧.cmp a b ≡ socket_cmp a b }

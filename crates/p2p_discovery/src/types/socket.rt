@@ -14,7 +14,7 @@ use crate::types::global::{is_listed_v4, is_listed_v6};
 use bytes::BytesMut;
 use std::alloc::Global;
 
-/// The address of a machine. Addresses of version 4 come before those of version 6, and those of
+/// The address of a machine. Addresses of version 4 sort before those of version 6, and those of
 /// one version are ordered by their bytes.
 #[derive(Clone, Copy, Debug, PartialEq, Eq, PartialOrd, Ord)]
 pub enum IpAddr {
@@ -25,8 +25,8 @@ pub enum IpAddr {
 }
 
 impl IpAddr {
-    /// Whether the address is global: it lies in none of the ranges that docs/FORMATS.md lists
-    /// for its version.
+    /// Whether the address is global: it is in none of the ranges that docs/FORMATS.md lists for
+    /// its version.
     #[tactic(auto, unfolding(crate::specs::Global::is_global))]
     pub fn is_global(&self) -> bool
         ensures { result ≡ is_global self.now }
@@ -130,7 +130,7 @@ pub(crate) const VERSION_4: u8 = 4;
 
 pub(crate) const VERSION_6: u8 = 6;
 
-// The number of bytes of the spelling of an address without a port.
+// The number of bytes of the encoding of an address without a port.
 fn ip_size(ip: &IpAddr) -> usize
     ensures size { result ≡ length (ip_spelling ip.now) }
     ensures value { IsIp ip.now }
@@ -171,7 +171,7 @@ fn read_ip(reader: &mut Reader<'_>) -> Result<IpAddr, CodecError>
     }
 }
 
-// Reads a port: two bytes, the most significant first.
+// Reads a port: two bytes, big-endian.
 pub(crate) fn read_port(reader: &mut Reader<'_>) -> Result<u16, CodecError>
     ensures { Gives result reader.new (port_at reader.old) }
 {

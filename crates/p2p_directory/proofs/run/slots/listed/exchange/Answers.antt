@@ -1,7 +1,7 @@
 use Rattle.std.proofs.Common.{Option, Some, sym, ap, ◌∙◌}
 use Rattle.std.specs.Prelude.{slice_set}
 use Rattle.p2p_tracker.specs.declared.directory.Metadata.{Metadata}
-use Rattle.p2p_directory.proofs.Reservations.Listed.{found_at, written_at, missing}
+use Rattle.p2p_tracker.proofs.SetsAndRecords.Searches.{found_at, written_at, missing}
 use Rattle.p2p_directory.proofs.run.slots.listed.exchange.Goals as goal
 
 pub returns-in-Some-clause-was : goal.returns-in-Some-clause-was

@@ -1,7 +1,8 @@
 use Rattle.std.proofs.Common.{Some, ap, sym, ◌∙◌}
 use Rattle.std.specs.Option.{option_flatten}
 use Rattle.p2p_directory.specs.Private.Slots.{held_in}
-use Rattle.p2p_directory.proofs.Reservations.Listed.{read_at, missing}
+use Rattle.p2p_tracker.proofs.SetsAndRecords.Searches.{missing}
+use Rattle.p2p_directory.proofs.Reservations.Listed.{read_at}
 use Rattle.p2p_directory.proofs.run.slots.listed.Listed.held.Goals as goal
 
 pub returns-in-Some : goal.returns-in-Some

@@ -3,7 +3,8 @@ use Rattle.std.specs.Prelude.{OnOk, OnErr, ◌||◌}
 use Rattle.std.specs.BTreeMap.{is_at}
 use Rattle.p2p_tracker.specs.declared.directory.Metadata.{Metadata}
 use Rattle.p2p_directory.specs.Private.Slots.{has_slot, held_in}
-use Rattle.p2p_directory.proofs.Reservations.Listed.{slots_with_or, has_with, held_with_or, has_already, found_at}
+use Rattle.p2p_tracker.proofs.SetsAndRecords.Searches.{found_at}
+use Rattle.p2p_directory.proofs.Reservations.Listed.{slots_with_or, has_with, held_with_or, has_already}
 use Rattle.p2p_directory.proofs.run.slots.listed.Listed.make.Goals as goal
 use Rattle.p2p_directory.proofs.run.slots.listed.Listed.make.Goals.{in-Ok, in-Err-insert}
 

@@ -5,7 +5,8 @@ use Rattle.std.specs.Map.{remove_entry}
 use Rattle.std.specs.Option.{option_flatten}
 use Rattle.p2p_tracker.specs.declared.directory.Metadata.{Metadata}
 use Rattle.p2p_directory.specs.Private.Slots.{has_slot, held_in, slot_of}
-use Rattle.p2p_directory.proofs.Reservations.Listed.{read_at, removed_at, missing, key_held, held_none}
+use Rattle.p2p_tracker.proofs.SetsAndRecords.Searches.{removed_at, missing}
+use Rattle.p2p_directory.proofs.Reservations.Listed.{read_at, key_held, held_none}
 use Rattle.p2p_directory.proofs.Reservations.Listed.{slots_removed, held_removed, gone_removed}
 use Rattle.p2p_directory.proofs.run.slots.listed.Listed.remove.Goals as goal
 use Rattle.p2p_directory.proofs.run.slots.listed.Listed.remove.Goals.{In-Some, In-Err}
