@@ -1,12 +1,12 @@
 // Written by tools/exports.sh from tools/exports/session.table.
 //
-// The calls of a session, for C since C99 and C++ since C++11. Link with -lp2p_session_c -llibc_c,
-// in this order. docs/FORMATS.md says how what is passed is spelled, and what the answers are.
+// The calls of a session, for C since C99 and C++ since C++11. Link with -lp2p_session.
+// docs/FORMATS.md says how arguments are encoded, and what the calls return.
 //
-// WHAT A HOST OWES. Nothing checks it, and what is proved of the calls is true only where it is
-// kept.
+// OBLIGATIONS OF THE HOST. Nothing checks them, and what is proved of the calls is true only if
+// they are met.
 //
-// - Room: a session lies in room of p2p_session_size() bytes that begins at a multiple of
+// - Memory of a session: it has p2p_session_size() bytes and begins at a multiple of
 //   P2P_SESSION_ALIGNMENT. While a session is in it, the host neither reads, writes nor moves it.
 // - Order: p2p_session_new comes before each other call of a session, and p2p_session_free once,
 //   after the last.
@@ -14,11 +14,11 @@
 //   thread, by a lock, by the start or the end of a thread, or by an atomic that is sequentially
 //   consistent. Calls of different sessions may be made at the same time.
 // - Slices: a slice is a pointer to its first byte and how many bytes it has. All of them are
-//   initialised, also where they are to be written, and stay as they are until the call ends. A
-//   slice that is written overlaps no other slice, and none overlaps the room. Where the length is
-//   0 the pointer may be null, or any other.
-// - Memory: malloc, realloc and free come from one allocator. Blocks of malloc and realloc begin at
-//   a multiple of each power of two up to 16 that divides their size.
+//   initialised, even those of a slice to be written, and stay as they are until the call ends. A
+//   slice that is written overlaps no other slice, and none overlaps the memory of the session. If
+//   the length is 0, the pointer may be null, or any other.
+// - Allocator: malloc, realloc and free come from one allocator. Blocks of malloc and realloc begin
+//   at a multiple of each power of two up to 16 that divides their size.
 // - Signals and forks: no call is made in a signal handler, nor in the forked child of a process
 //   that has threads.
 // - Stack: P2P_SESSION_STACK bytes of the thread's stack are free at each call.
@@ -27,10 +27,10 @@
 // - Processor: it has all of x86-64-v2. The library doesn't ask it; on an older one the program
 //   dies of an illegal instruction.
 //
-// An answer is a count, a truth value as 0 or 1, a length, or one of the numbers for which
-// P2P_SESSION_IS_REFUSAL is true. Where a question answers a length above that of its room, it
-// has written nothing: ask again, with as much room. A call that changes something says how much
-// room it wants, and is not made where there is less.
+// A call returns a count, a bool as 0 or 1, a length, or one of the numbers for which
+// P2P_SESSION_IS_REFUSAL is true. If a query returns a length above that of its buffer, it has
+// written nothing: call it again with a buffer of that length. A call that changes something says
+// how long its buffer must be, and has no effect if it is shorter.
 #ifndef P2P_SESSION_H
 #define P2P_SESSION_H
 
@@ -42,21 +42,21 @@
 extern "C" {
 #endif
 
-// How many bytes a key and a signature have, and a moment in an answer.
+// How many bytes a key and a signature have, and a time in an answer.
 #define P2P_SESSION_KEY_SIZE 32
 #define P2P_SESSION_SIGNATURE_SIZE 64
 #define P2P_SESSION_MOMENT_SIZE 12
 
-// The least room that p2p_session_receive takes.
+// The minimum length of the buffer of p2p_session_receive.
 #define P2P_SESSION_RECEIVE_ROOM 10
 
-// The room of a session begins at a multiple of it.
+// The memory of a session begins at a multiple of it.
 #define P2P_SESSION_ALIGNMENT 16
 
 // How many bytes of stack are free at each call.
 #define P2P_SESSION_STACK 32768
 
-// Why a call is refused, or has no answer: nothing has changed then, and nothing was written.
+// Why a call fails, or has no answer: nothing has changed then, and nothing was written.
 #define P2P_SESSION_MEMORY (UINT64_MAX)
 #define P2P_SESSION_NO_NODE (UINT64_MAX - 1)
 #define P2P_SESSION_NONE (UINT64_MAX - 2)
@@ -71,21 +71,25 @@ extern "C" {
 #define P2P_SESSION_BAD_SETTING (UINT64_MAX - 11)
 #define P2P_SESSION_BAD_VERDICTS (UINT64_MAX - 12)
 
-// Whether an answer is one of these numbers.
+// Whether a call returned one of these numbers.
 #define P2P_SESSION_IS_REFUSAL(answer) ((answer) >= P2P_SESSION_BAD_VERDICTS)
 
-// A session, in room of the host's.
+// A session, in memory of the host's.
 struct p2p_session;
 
-// How many bytes of room a session takes. The room begins at a multiple of 16.
+// Returns 1. An archive with other calls, refusals or sizes has no call of this name, so it doesn't
+// link.
+uint64_t p2p_session_interface_94783bdc9468ec13(void);
+
+// How many bytes of memory a session has to have. They begin at a multiple of 16.
 size_t p2p_session_size(void);
 
-// Makes a session with no node in the room. It takes no memory.
+// Creates a session with no node in the memory at the pointer. It allocates nothing.
 void p2p_session_new(struct p2p_session *at);
 
-// Makes the node, which a session has once: 1. max_sets is at least 1 and below UINT64_MAX, and
-// max_bit_vec at most UINT32_MAX, else BAD_SETTING. bootstrappers: a key and the spelling of an
-// ingress each, one after the other. myself: the spelling of the own info.
+// Creates the node of the session, once. Returns 1. BAD_SETTING: there is a node already, max_sets
+// is 0 or UINT64_MAX, or max_bit_vec is above UINT32_MAX. bootstrappers: for each one its key and
+// then its encoded ingress. myself: the encoded local info.
 uint64_t p2p_session_init(
     struct p2p_session *at,
     bool allow_private_ips,
@@ -109,9 +113,10 @@ uint64_t p2p_session_init(
     const uint8_t *myself,
     size_t myself_length);
 
-// Takes a peer set: NONE where its index is not above the latest, else the length of the keys of
-// the peers whose connections have to end. NO_ROOM where torn is shorter than track_room answers:
-// the set is not taken then. Keys may come in any order and more than once.
+// Registers a peer set. Returns NONE if its index is not greater than the latest, else the number
+// of bytes written to torn: the keys of the peers that must be disconnected. NO_ROOM if torn is
+// shorter than track_room returns: the set is not registered then. Keys may come in any order and
+// more than once.
 uint64_t p2p_session_track(
     struct p2p_session *at,
     uint64_t index,
@@ -122,10 +127,11 @@ uint64_t p2p_session_track(
     uint8_t *torn,
     size_t torn_length);
 
-// How much room track has to have: the size of a key for each peer with a record.
+// How many bytes torn must have in track: the size of a key for each peer with a record.
 uint64_t p2p_session_track_room(struct p2p_session *at);
 
-// Reserves a peer that is to be dialled: 1 where it is granted, else 0.
+// Reserves a peer to be dialled. Returns 1 if it is granted, else 0. The draw is a random duration
+// (jitter).
 uint64_t p2p_session_dial(
     struct p2p_session *at,
     const uint8_t *peer,
@@ -135,7 +141,8 @@ uint64_t p2p_session_dial(
     uint64_t draw_seconds,
     uint32_t draw_nanos);
 
-// Reserves a peer that comes: 1 where it is granted, else 0.
+// Reserves an inbound peer. Returns 1 if it is granted, else 0. The draw is a random duration
+// (jitter).
 uint64_t p2p_session_listen(
     struct p2p_session *at,
     const uint8_t *peer,
@@ -145,8 +152,8 @@ uint64_t p2p_session_listen(
     uint64_t draw_seconds,
     uint32_t draw_nanos);
 
-// Whom the reservation that is held of a peer is for: byte 0 for one that comes, or byte 1 and the
-// spelling of the ingress that is dialled, or NONE where none is held.
+// Describes the reservation that is held of a peer: byte 0 if it is inbound, or byte 1 and the
+// encoded ingress that is dialled. NONE if none is held.
 uint64_t p2p_session_reservation(
     struct p2p_session *at,
     const uint8_t *peer,
@@ -154,27 +161,27 @@ uint64_t p2p_session_reservation(
     uint8_t *out,
     size_t out_length);
 
-// Connects a peer that is reserved: 1, or NOT_RESERVED.
+// Marks a reserved peer as connected. Returns 1, or NOT_RESERVED.
 uint64_t p2p_session_connect(
     struct p2p_session *at,
     const uint8_t *peer,
     size_t peer_length,
     bool dialer);
 
-// Releases the reservation that is held of a peer: 1, or NOT_HELD.
+// Releases the reservation that is held of a peer. Returns 1, or NOT_HELD.
 uint64_t p2p_session_release(
     struct p2p_session *at,
     const uint8_t *peer,
     size_t peer_length);
 
-// Offers infos, the spelling of a list, to the records of their peers: 1. The host made or verified
-// them itself.
+// Offers infos, an encoded list, to the records of their peers. Returns 1. The host must have made
+// or verified them itself.
 uint64_t p2p_session_update_peers(
     struct p2p_session *at,
     const uint8_t *infos,
     size_t infos_length);
 
-// Blocks a peer: 1 where the block is taken, else 0.
+// Blocks a peer. Returns 1 if the block takes effect, else 0.
 uint64_t p2p_session_block(
     struct p2p_session *at,
     const uint8_t *peer,
@@ -182,25 +189,25 @@ uint64_t p2p_session_block(
     uint64_t seconds,
     uint32_t nanos);
 
-// Ends the blocks that hold until the moment or an earlier one: 1 where there was one, else 0.
+// Ends the blocks that hold until this time or an earlier one. Returns 1 if there was one, else 0.
 uint64_t p2p_session_unblock_expired(
     struct p2p_session *at,
     uint64_t seconds,
     uint32_t nanos);
 
-// Forgets the cooldowns whose dial moment has come: how many.
+// Forgets the cooldowns whose dial time has come. Returns how many.
 uint64_t p2p_session_forget_cooled(
     struct p2p_session *at,
     uint64_t seconds,
     uint32_t nanos);
 
-// The moment at which the next block ends, of 12 bytes, or NONE.
+// The time at which the next block ends, in 12 bytes, or NONE.
 uint64_t p2p_session_next_unblock(
     struct p2p_session *at,
     uint8_t *out,
     size_t out_length);
 
-// The keys of those who are blocked.
+// The keys of the blocked peers.
 uint64_t p2p_session_blocked_peers(
     struct p2p_session *at,
     uint64_t seconds,
@@ -208,14 +215,14 @@ uint64_t p2p_session_blocked_peers(
     uint8_t *out,
     size_t out_length);
 
-// NONE where there is no record of the peer, 0 where it is inert, 1 reserved, 2 connected.
+// The state of a peer: NONE if it has no record, 0 if it is inert, 1 if reserved, 2 if connected.
 uint64_t p2p_session_status(
     struct p2p_session *at,
     const uint8_t *peer,
     size_t peer_length);
 
-// The set with an index: how many primary peers in 8 bytes, their keys, and those of the secondary
-// peers, or NONE.
+// The set with an index, or NONE: the number of primary peers in 8 bytes, their keys, and the keys
+// of the secondary peers.
 uint64_t p2p_session_get_peer_set(
     struct p2p_session *at,
     uint64_t index,
@@ -228,8 +235,8 @@ uint64_t p2p_session_latest_set_index(
     uint8_t *out,
     size_t out_length);
 
-// NONE, or the index, how many keys the first three lists have, in 8 bytes each, and the keys: the
-// primary and secondary peers of the latest set, then of all sets.
+// NONE, or the index and the lengths of the first three lists, in 8 bytes each, and then the keys
+// of four lists: the primary and secondary peers of the latest set, then those of all sets.
 uint64_t p2p_session_latest_update(
     struct p2p_session *at,
     uint8_t *out,
@@ -241,7 +248,7 @@ uint64_t p2p_session_all(
     uint8_t *out,
     size_t out_length);
 
-// The spelling of the info of a peer that others may be told, or NONE.
+// The encoded info of a peer, if it may be shared with others, or NONE.
 uint64_t p2p_session_info(
     struct p2p_session *at,
     const uint8_t *peer,
@@ -249,8 +256,8 @@ uint64_t p2p_session_info(
     uint8_t *out,
     size_t out_length);
 
-// The spelling of the list of infos for one who knows these bits, or NONE where they are of another
-// number.
+// The encoded list of infos to send to a peer that sent these bits. NONE if they are not as many as
+// the primary peers of the set.
 uint64_t p2p_session_infos(
     struct p2p_session *at,
     const uint8_t *bits,
@@ -260,7 +267,7 @@ uint64_t p2p_session_infos(
     uint8_t *out,
     size_t out_length);
 
-// The spelling of the bits of the set at a place and its index, or NONE.
+// The encoded bits of the set at a position, with its index, or NONE.
 uint64_t p2p_session_get_random_bit_vec(
     struct p2p_session *at,
     uint64_t place,
@@ -283,7 +290,8 @@ uint64_t p2p_session_acceptable(
     uint64_t seconds,
     uint32_t nanos);
 
-// Byte 0, or byte 1 and the moment at which to ask again, and the keys of those who may be dialled.
+// Byte 0, or byte 1 and the time at which to ask again, and then the keys of the peers that may be
+// dialled.
 uint64_t p2p_session_dialable(
     struct p2p_session *at,
     uint64_t seconds,
@@ -291,20 +299,31 @@ uint64_t p2p_session_dialable(
     uint8_t *out,
     size_t out_length);
 
-// How many peers have a record, but for the local node.
+// How many sets are retained: positions below this number have a set.
+uint64_t p2p_session_retained(struct p2p_session *at);
+
+// The time at which forget_cooled next forgets something, in 12 bytes, or NONE if no cooldown is
+// kept.
+uint64_t p2p_session_next_cooled(
+    struct p2p_session *at,
+    uint8_t *out,
+    size_t out_length);
+
+// How many peers have a record, except the local node.
 uint64_t p2p_session_tracked(struct p2p_session *at);
 
-// The frame that asks for what is wanted of the set at a place, or NONE.
+// The frame that asks for the wanted infos of the set at a position, or NONE.
 uint64_t p2p_session_ask(
     struct p2p_session *at,
     uint64_t place,
     uint8_t *out,
     size_t out_length);
 
-// What receive has to be told of a frame: how many infos it has, in 8 bytes, and then, in their
-// order, each info whose signature decides whether it is refused, up to the first that is refused
-// whatever its signature is: the length of its signed bytes in 8 bytes, its key, the signed bytes,
-// its signature. Namespace and scheme are the host's.
+// Lists the signatures to verify before receive: first the number of infos of the frame, in 8
+// bytes. Then follows, in their order, each info whose signature decides whether it is refused: the
+// length of its signed bytes in 8 bytes, its key, the signed bytes, its signature. The list stops
+// before the first info that is refused whatever its signature is. Namespace and signature scheme
+// are the host's.
 uint64_t p2p_session_check(
     struct p2p_session *at,
     const uint8_t *frame,
@@ -314,13 +333,14 @@ uint64_t p2p_session_check(
     uint8_t *out,
     size_t out_length);
 
-// Takes a frame. verdicts has a byte for each info of the frame, in their order: 0 where its
-// signature is not right. Those of infos that check doesn't tell aren't looked at. NO_ROOM where
-// out is shorter than 10, BAD_VERDICTS where they are not as many as the infos. The answer: byte 0
-// and the spelling of a message; byte 1 for a greeting that was applied; byte 2 and the frame to
-// reply with; byte 3 and how many infos were applied, in 8 bytes; byte 4 and the fault of the
-// frame; byte 5 for bits of another number than the peers; byte 6 and why infos are refused.
-// docs/FORMATS.md has faults and refusals.
+// Processes a frame. verdicts has one byte for each info of the frame, in their order: 0 if its
+// signature is invalid. Bytes after the first 0 are ignored, and so are those of infos that check
+// does not list. NO_ROOM if out is shorter than a key and one byte. BAD_VERDICTS if verdicts and
+// infos differ in number. Writes byte 0 for a message, its channel in 8 bytes and its length in 8:
+// it is the last so many bytes of the frame; byte 1 and the key of the peer whose greeting was
+// applied; byte 2 and the frame to reply with; byte 3 and how many infos were applied, in 8 bytes;
+// byte 4 and the error of the frame; byte 5 if bits and peers differ in number; byte 6 and why
+// infos are refused. docs/FORMATS.md lists these errors and refusals.
 uint64_t p2p_session_receive(
     struct p2p_session *at,
     const uint8_t *frame,
@@ -332,7 +352,19 @@ uint64_t p2p_session_receive(
     uint8_t *out,
     size_t out_length);
 
-// Ends the session, and gives back all that it holds. The room is the host's again.
+// Whether an address of 4 or 16 bytes is global: 1 or 0. BAD_INFO for another number of bytes. It
+// needs no session.
+uint64_t p2p_session_is_global(const uint8_t *address, size_t address_length);
+
+// Whether an ingress may be dialled under these settings: 1 or 0. address: the 4 or 16 bytes of its
+// address, or none if it is a name. BAD_INFO for another number of bytes. It needs no session.
+uint64_t p2p_session_is_valid(
+    const uint8_t *address,
+    size_t address_length,
+    bool allow_private_ips,
+    bool allow_dns);
+
+// Ends the session and frees all that it holds. The memory at the pointer is the host's again.
 void p2p_session_free(struct p2p_session *at);
 
 // The exports take no null pointer. So from here on the name of each that takes slices stands for a
@@ -539,6 +571,14 @@ static inline uint64_t p2p_session_dialable_nullable(struct p2p_session *at,
 }
 #define p2p_session_dialable p2p_session_dialable_nullable
 
+static inline uint64_t p2p_session_next_cooled_nullable(struct p2p_session *at,
+        uint8_t *out, size_t out_length)
+{
+    uint8_t none = 0;
+    return p2p_session_next_cooled(at, out_length == 0 ? &none : out, out_length);
+}
+#define p2p_session_next_cooled p2p_session_next_cooled_nullable
+
 static inline uint64_t p2p_session_ask_nullable(struct p2p_session *at, uint64_t place,
         uint8_t *out, size_t out_length)
 {
@@ -567,6 +607,31 @@ static inline uint64_t p2p_session_receive_nullable(struct p2p_session *at,
         out_length == 0 ? &none : out, out_length);
 }
 #define p2p_session_receive p2p_session_receive_nullable
+
+static inline uint64_t p2p_session_is_global_nullable(const uint8_t *address,
+        size_t address_length)
+{
+    uint8_t none = 0;
+    return p2p_session_is_global(address_length == 0 ? &none : address, address_length);
+}
+#define p2p_session_is_global p2p_session_is_global_nullable
+
+static inline uint64_t p2p_session_is_valid_nullable(const uint8_t *address,
+        size_t address_length, bool allow_private_ips, bool allow_dns)
+{
+    uint8_t none = 0;
+    return p2p_session_is_valid(address_length == 0 ? &none : address, address_length,
+        allow_private_ips, allow_dns);
+}
+#define p2p_session_is_valid p2p_session_is_valid_nullable
+
+// It refers to the name that has the hash, so a host links with no archive of another interface.
+static inline void p2p_session_new_guarded(struct p2p_session *at)
+{
+    (void)p2p_session_interface_94783bdc9468ec13();
+    p2p_session_new(at);
+}
+#define p2p_session_new p2p_session_new_guarded
 
 #ifdef __cplusplus
 }

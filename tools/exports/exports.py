@@ -3,7 +3,9 @@
 
     exports.py TABLE ROOT
 
-Under ROOT it writes crates/CRATE/src and proofs, include/PREFIX.h and rust/src/exports.rs. The table has lines NAME: VALUE for crate, lib, type, words and prefix, and then a line for each export, below lines with /// that say what it answers:
+Under ROOT it writes crates/CRATE/src and proofs, include/PREFIX.h and rust/p2p-directory-sys/src/exports.rs. The
+table has lines NAME: VALUE for crate, lib, type, words and prefix, and then a line for each export, below lines with
+/// that say what it answers:
 
     add(x: u64) -> bool = Adds
 
@@ -14,7 +16,12 @@ method takes &mut self and then these parameters: alloc: Global (only as the fir
     ensures { Adds x self.old self.new result }
 
 with x.now for a &[T], and x.old x.new for a &mut [T]; `new` ensures { IsFresh result }.
+
+A line that begins with fn is of a function of the library that needs no session, and its word has the module:
+
+    fn is_even(x: u64) -> u64 = Numbers.TellsEven
 """
+import hashlib
 import os
 import re
 import sys
@@ -222,13 +229,27 @@ shr_slice_vals shr_slice_Tells mut_slice_vals mut_slice_Tells SliceRefOf plain t
 Stays walk_of says stay_dropped Goes-dropped gave_slice Goes-gave_slice ends_at framed lft_new lft_end lends_ref ref_back Body mem WpFn""".split()
 
 
-REFUSALS = """MEMORY NO_NODE NONE NO_ROOM NOT_RESERVED NOT_HELD BAD_KEY BAD_KEYS BAD_INFO BAD_BITS BAD_MOMENT BAD_SETTING
-BAD_VERDICTS""".split()
+# The numbers from UINT64_MAX downwards that are no answers, and when they are answered.
+REFUSALS = {
+    'MEMORY': 'Out of memory.',
+    'NO_NODE': '`init` has created no node yet. This comes before all others.',
+    'NONE': 'There is none.',
+    'NO_ROOM': 'The buffer is shorter than the longest answer of a call that changes something.',
+    'NOT_RESERVED': 'There is no reservation to connect.',
+    'NOT_HELD': 'There is no reservation to release.',
+    'BAD_KEY': "Another number of bytes than a key's.",
+    'BAD_KEYS': "A number of bytes that is no multiple of a key's.",
+    'BAD_INFO': 'No info, no list of infos, no address, or no bootstrappers.',
+    'BAD_BITS': 'No bits with their index, or more than `u32::MAX` of them.',
+    'BAD_MOMENT': 'A second of nanoseconds or more.',
+    'BAD_SETTING': 'A setting out of its bounds, or there is a node already.',
+    'BAD_VERDICTS': 'Not as many verdicts as infos.',
+}
 
-HOST = """What a host guarantees, for nothing checks it: the room has size bytes and begins at a multiple of 16, and is neither
-read, written nor moved while a session is in it; new comes before each other call and free once, after the last; one
-call at a time is made on a session, on whatever thread; a slice is its first byte and its length, points to that many
-initialised bytes, and overlaps neither another slice that is written nor the room."""
+HOST = """Obligations of the host, which nothing checks. The memory of a session has size bytes and begins at a multiple of 16. It is
+neither read, written nor moved while a session is in it. new comes before each other call, and free once, after the
+last. One call at a time is made on a session, on whatever thread. A slice is its first byte and its length, points to
+that many initialised bytes, and overlaps neither another slice that is written nor the memory of the session."""
 
 C_TYPE = {'u8': 'uint8_t', 'u16': 'uint16_t', 'u32': 'uint32_t', 'u64': 'uint64_t', 'usize': 'size_t', 'bool': 'bool',
           'i8': 'int8_t', 'i16': 'int16_t', 'i32': 'int32_t', 'i64': 'int64_t', 'isize': 'ptrdiff_t'}
@@ -264,14 +285,15 @@ def read_table(path):
         line = line.strip()
         if not line or line.startswith('#'):
             continue
-        export = re.fullmatch(r'(\w+)\((.*)\) -> (\w+) = (\w+)', line)
+        export = re.fullmatch(r'(fn )?(\w+)\((.*)\) -> (\w+) = ([\w.]+)', line)
         if line.startswith('///'):
             doc.append(line[3:].strip())
         elif export:
-            method, params, result, word = export.groups()
+            apart, method, params, result, word = export.groups()
             params = [Param(*p.split(': ')) for p in params.split(', ')] if params else []
-            place = 1 if params and params[0].kind == 'alloc' else 0
-            params.insert(place, Param('at', '*mut Handle'))
+            if not apart:
+                place = 1 if params and params[0].kind == 'alloc' else 0
+                params.insert(place, Param('at', '*mut Handle'))
             exports.append((method, params, result, word, ' '.join(doc)))
             doc = []
         else:
@@ -280,7 +302,27 @@ def read_table(path):
     return names, exports
 
 
+def is_apart(params):
+    """Whether an export with these parameters needs no session."""
+    return all(p.kind != 'at' for p in params)
+
+
+def apart_text(names, method, params, result, word, doc):
+    clause = ' '.join([word.split('.')[1]] + [f'{p.name}.now' if p.kind == 'shr' else p.name for p in params] + ['result'])
+    return f"""{wrapped(doc, '/// ')}
+#[unsafe(no_mangle)]
+pub extern "C" fn {names['prefix']}_{method}({', '.join(f'{p.name}: {p.text}' for p in params)}) -> {result}
+    ensures {{ {clause} }}
+{{
+    {names['lib']}::{method}({', '.join(p.name for p in params)})
+}}
+
+"""
+
+
 def export_text(names, method, params, result, word, doc):
+    if is_apart(params):
+        return apart_text(names, method, params, result, word, doc)
     said = [{'shr': f'{p.name}.now', 'mut': f'{p.name}.old {p.name}.new'}.get(p.kind, p.name) for p in params if p.kind not in ('alloc', 'at')]
     clause = ' '.join([word] + said + ['before', 'after', 'result'])
     args = ', '.join(p.name for p in params if p.kind != 'at')
@@ -288,7 +330,7 @@ def export_text(names, method, params, result, word, doc):
 ///
 /// # Safety
 ///
-/// A session lies at the pointer, and the host keeps to what stands at the head of the crate.
+/// The pointer leads to a session, and the host meets the obligations at the head of the crate.
 #[unsafe(no_mangle)]
 pub unsafe extern "C" fn {names['prefix']}_{method}({', '.join(f'{p.name}: {p.text}' for p in params)}) -> {result}
     ghost before: {{ {names['type']} }}
@@ -302,9 +344,33 @@ pub unsafe extern "C" fn {names['prefix']}_{method}({', '.join(f'{p.name}: {p.te
 """
 
 
+def key_sizes(names):
+    """How many bytes a key and a signature have, by the names of these constants."""
+    text = open(os.path.join(HERE, '../../crates', names['lib'], 'src/key.rt')).read()
+    return {name: re.search(rf'pub const {name}: usize = (\d+);', text).group(1) for name in ('KEY_SIZE', 'SIGNATURE_SIZE')}
+
+
+def calls_of(exports):
+    """All exports but the one whose name has the hash."""
+    at = Param('at', '*mut Handle')
+    room = 'How many bytes of memory a session has to have. They begin at a multiple of 16.'
+    made = 'Creates a session with no node in the memory at the pointer. It allocates nothing.'
+    ended = 'Ends the session and frees all that it holds. The memory at the pointer is the host\'s again.'
+    return [('size', [], 'usize', '', room), ('new', [at], None, '', made)] + exports + [('free', [at], None, '', ended)]
+
+
+def interface_of(names, exports):
+    """A name that another interface doesn't have: a hash of what the calls are called, take and answer, of the refusals
+    in their order, and of both sizes."""
+    said = [f"{method}({', '.join(f'{p.name}: {p.text}' for p in params)}) -> {result}" for method, params, result, _, _ in calls_of(exports)]
+    said += [names['prefix'], *REFUSALS, *(f'{name} = {size}' for name, size in key_sizes(names).items())]
+    return 'interface_' + hashlib.sha256('\n'.join(said).encode()).hexdigest()[:16]
+
+
 def main():
     table, root = sys.argv[1:]
     names, exports = read_table(table)
+    names['interface'] = interface_of(names, exports)
 
     def put(path, text):
         path = os.path.join(root, path)
@@ -318,7 +384,7 @@ def main():
     put(f'{crate}/proofs/Steps.antt', read('proofs/Steps.antt.in'))
     for f in ('new', 'free'):
         put(f'{crate}/proofs/{prefix}_{f}/Proof.antt', read(f'proofs/X_{f}/Proof.antt.in'))
-    words = sorted({word for _, _, _, word, _ in exports} | {'IsFresh'})
+    words = sorted({word for _, _, _, word, _ in exports if '.' not in word} | {'IsFresh'})
     lines, line = [], ''
     for word in words:
         if len(line) + len(word) > 40:
@@ -326,11 +392,12 @@ def main():
             line = ''
         line += (', ' if line else '') + word
     lines.append(line)
-    cited = '\n'.join(f"ghost use Rattle.{names['lib']}.specs.{names['words']}.{{{line}}};" for line in lines)
+    cited = '\n'.join([f"ghost use Rattle.{names['lib']}.specs.{names['words']}.{{{line}}};" for line in lines]
+                      + [f"ghost use Rattle.{names['lib']}.specs.{word.replace('.', '.{')}}};" for _, _, _, word, _ in exports if '.' in word])
     text = read('lib.rt.in').replace('#WORDS#', cited).replace('#HOST#', wrapped(HOST, '//! '))
     text = text.replace('#EXPORTS#', ''.join(export_text(names, *export) for export in exports))
     put(f'{crate}/src/lib.rt', text)
-    for method, params, result, word, _ in exports:
+    for method, params, result, word, _ in (export for export in exports if not is_apart(export[1])):
         proof = walk(names, method, params, result, word)
         cited = [s for s in STEPS if re.search(r'(?<![\w◌-])' + re.escape(s.strip('◌')) + r'(?![\w-])' if re.fullmatch(r'[\w-]+', s) else re.escape(s.strip('◌')), proof)]
         put(f'{crate}/proofs/{prefix}_{method}/Proof.antt', IMPORTS.format(method=method, word=word, steps=', '.join(cited),
@@ -340,17 +407,16 @@ def main():
 
 def declare(put, names, exports):
     """What C and Rust declare. A `Global` is passed as nothing, and a slice as a pointer and a length."""
-    at = Param('at', '*mut Handle')
-    room = 'How many bytes of room a session takes. The room begins at a multiple of 16.'
-    made = 'Makes a session with no node in the room. It takes no memory.'
-    ended = 'Ends the session, and gives back all that it holds. The room is the host\'s again.'
-    calls = [('size', [], 'usize', '', room), ('new', [at], None, '', made)] + exports + [('free', [at], None, '', ended)]
+    guard = 'Returns 1. An archive with other calls, refusals or sizes has no call of this name, so it doesn\'t link.'
+    calls = [(names['interface'], [], 'u64', '', guard)] + calls_of(exports)
     put(f"include/{names['prefix']}.h", header(names, calls))
-    put('rust/src/exports.rs', rust_exports(names['prefix'], calls, exports))
+    put('rust/p2p-directory-sys/src/exports.rs', rust_exports(names, calls, exports))
 
 
-def rust_exports(prefix, calls, exports):
+def rust_exports(names, calls, exports):
     """The declarations in Rust, and a safe call of each that is a method."""
+    prefix = names['prefix']
+    session = RUST_SESSION.replace('INTERFACE', names['interface'])
     rust = []
     for method, params, result, _, _ in calls:
         rust_params = []
@@ -367,11 +433,13 @@ def rust_exports(prefix, calls, exports):
             inner = ''.join(f'        {p},\n' for p in rust_params)
             one = f"    fn {prefix}_{method}(\n{inner}    ){f' -> {result}' if result else ''};"
         rust.append(f"{one}\n")
-    numbers = ''.join(f"pub const {name}: u64 = u64::MAX{f' - {i}' if i else ''};\n" for i, name in enumerate(REFUSALS))
+    numbers = ''.join(f"/// {said}\npub const {name}: u64 = u64::MAX{f' - {i}' if i else ''};\n" for i, (name, said) in enumerate(REFUSALS.items()))
     head = 'Written by tools/exports.sh from tools/exports/session.table.'
     return (RUST_HEAD.format(head=head, host=wrapped(HOST, '//! '), numbers=numbers)
-            + 'unsafe extern "C" {\n' + '\n'.join(rust) + '}\n\n' + RUST_SESSION.replace('PREFIX', prefix)
-            + '\n'.join(safe(prefix, *export) for export in exports) + '}\n' + RUST_DROP.replace('PREFIX', prefix))
+            + 'unsafe extern "C" {\n' + '\n'.join(rust) + '}\n\n' + session.replace('PREFIX', prefix)
+            + '\n'.join(safe(prefix, *export) for export in exports if not is_apart(export[1])) + '}\n'
+            + RUST_DROP.replace('PREFIX', prefix)
+            + ''.join('\n' + safe(prefix, *export) for export in exports if is_apart(export[1])))
 
 
 def c_params(prefix, params):
@@ -422,29 +490,35 @@ def header(names, calls):
         assert items <= {'u8'}, f'{name}: a byte in place of a null pointer fits no other slice'
         if items:
             nullable.append(c_nullable(answer, name, declared, passed))
-    sizes = open(os.path.join(HERE, '../../crates', names['lib'], 'src/key.rt')).read()
-    size = lambda name: re.search(rf'pub const {name}: usize = (\d+);', sizes).group(1)
+    nullable.append(GUARDED.replace('PREFIX', prefix).replace('INTERFACE', names['interface']))
     numbers = ''.join(f"#define {upper}_{name} (UINT64_MAX{f' - {i}' if i else ''})\n" for i, name in enumerate(REFUSALS))
-    filled = {'NAME': upper, 'KEY_SIZE': size('KEY_SIZE'), 'SIGNATURE_SIZE': size('SIGNATURE_SIZE'), 'STACK': str(2 * STACK),
-              'MEASURED': wrapped(STACK_MEASURED, '//   '), 'REFUSALS': numbers, 'LAST': f'{upper}_{REFUSALS[-1]}',
+    filled = {'NAME': upper, **key_sizes(names), 'STACK': str(2 * STACK),
+              'MEASURED': wrapped(STACK_MEASURED, '//   '), 'REFUSALS': numbers, 'LAST': f'{upper}_{list(REFUSALS)[-1]}',
               'DECLARATIONS': '\n'.join(declarations), 'NULLABLE': '\n'.join(nullable)}
     text = open(os.path.join(HERE, 'template/header.h.in')).read()
     text = re.sub(r'@([A-Z]+)@', lambda found: names[found.group(1).lower()], text)
     return re.sub(r'#([A-Z_]+)#', lambda found: filled[found.group(1)], text)
 
 
+GUARDED = """// It refers to the name that has the hash, so a host links with no archive of another interface.
+static inline void PREFIX_new_guarded(struct PREFIX *at)
+{
+    (void)PREFIX_INTERFACE();
+    PREFIX_new(at);
+}
+#define PREFIX_new PREFIX_new_guarded
+"""
+
 RUST_HEAD = """//! {head}
 //!
-//! The exports of the library, and a session in room of its own behind safe calls: the one file
+//! The exports of the library, and a session in its own memory behind safe calls: the one file
 //! with `unsafe`.
 //!
 {host}
 
-#![allow(dead_code)]
-
 use std::alloc::{{Layout, alloc, dealloc}};
 
-/// The room of a session.
+/// The memory of a session.
 #[repr(C)]
 struct Handle {{
     _private: [u8; 0],
@@ -453,16 +527,16 @@ struct Handle {{
 {numbers}
 """
 
-RUST_SESSION = """/// A session, in room that is kept for it alone.
+RUST_SESSION = """/// A session, in memory that is kept for it alone.
 pub struct Session {
     at: *mut Handle,
 }
 
-// SAFETY: nothing in a session is bound to a thread, and its room is its own.
+// SAFETY: nothing in a session is bound to a thread, and its memory is its own.
 unsafe impl Send for Session {}
 
 impl Session {
-    /// A session with no node, or `None` where memory is refused.
+    /// A session with no node, or `None` if the allocation fails.
     pub fn new() -> Option<Session> {
         let layout = layout();
         // SAFETY: the size isn't 0.
@@ -470,8 +544,11 @@ impl Session {
         if at.is_null() {
             return None;
         }
-        // SAFETY: the room has this size and alignment.
-        unsafe { PREFIX_new(at) };
+        // SAFETY: it takes nothing, and the memory has this size and alignment.
+        unsafe {
+            PREFIX_INTERFACE();
+            PREFIX_new(at);
+        }
         Some(Session { at })
     }
 
@@ -498,7 +575,8 @@ fn layout() -> Layout {
 
 def safe(prefix, method, params, result, _, doc):
     """A safe call of an export: the room is the session's own, no call is made during another, and slices are Rust's."""
-    taken, passed = ['&self'], ['self.at']
+    apart = is_apart(params)
+    taken, passed = ([], []) if apart else (['&self'], ['self.at'])
     for p in params:
         if p.kind in ('shr', 'mut'):
             taken.append(f'{p.name}: {p.text}')
@@ -513,8 +591,9 @@ def safe(prefix, method, params, result, _, doc):
     call = f"        unsafe {{ {prefix}_{method}({', '.join(passed)}) }}"
     if len(call) > 100:
         call = f'        unsafe {{\n            {prefix}_{method}(\n' + ''.join(f'                {one},\n' for one in passed) + '            )\n        }'
-    return (f"{wrapped(doc, '    /// ')}\n{many}{head}\n"
-            f'        // SAFETY: `new` made the session, no call of it is under way, and slices are valid.\n{call}\n    }}\n')
+    why = 'slices are valid' if apart else '`new` made the session, no call of it is under way, and slices are valid'
+    text = f"{wrapped(doc, '    /// ')}\n{many}{head}\n        // SAFETY: {why}.\n{call}\n    }}\n"
+    return re.sub(r'(?m)^    ', '', text) if apart else text
 
 
 main()

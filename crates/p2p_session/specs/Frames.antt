@@ -1,6 +1,6 @@
 -- What a session does with frames, and what it tells of reservations.
-use Rattle.std.specs.Prelude.{◌≡◌, ◌⊎◌, ℕ, ◌<◌, Bool, true, false, not, ◌==◌, List, [], ◌∷◌, ◌++◌}
-use Rattle.std.specs.Prelude.{length, map, flat_map, Option, Some, None, Result, Ok, Err}
+use Rattle.std.specs.Prelude.{◌≡◌, ◌⊎◌, ℕ, ◌+◌, ◌-◌, ◌<◌, ◌≤◌, Bool, true, not, ◌==◌, List, [], ◌∷◌}
+use Rattle.std.specs.Prelude.{◌++◌, length, take, drop, map, flat_map, Option, Some, None, Result, Ok, Err}
 use Rattle.p2p_discovery.specs.declared.codec.error.CodecError.{CodecError}
 use Rattle.p2p_discovery.specs.declared.codec.error.CodecError.TheVariants as fault
 use Rattle.p2p_discovery.specs.declared.codec.error.What.TheVariants as what
@@ -9,7 +9,6 @@ use Rattle.p2p_discovery.specs.declared.discovery.Error.TheVariants as error
 use Rattle.p2p_discovery.specs.declared.discovery.Info.{Info}
 use Rattle.p2p_discovery.specs.declared.discovery.Payload.{Payload}
 use Rattle.p2p_discovery.specs.declared.discovery.Payload.TheVariants as said
-use Rattle.p2p_discovery.specs.Data.{data_spelling}
 use Rattle.p2p_discovery.specs.Ingress.{ingress_spelling}
 use Rattle.p2p_discovery.specs.Judgement.{Judge, judge_of, judged_before, to_verify}
 use Rattle.p2p_discovery.specs.Payload.{infos_of_payload}
@@ -23,17 +22,18 @@ use Rattle.p2p_directory.specs.declared.node.Received.{Received}
 use Rattle.p2p_directory.specs.declared.node.Received.TheVariants as received
 use Rattle.p2p_session.specs.declared.key.Key.{Key}
 use Rattle.p2p_session.specs.declared.key.Signature.{Signature}
+use Rattle.p2p_session.specs.declared.key.TheConstants.{KEY_SIZE, SIGNATURE_SIZE}
 use Rattle.p2p_session.specs.declared.refusal.Refusal.{Refusal}
 use Rattle.p2p_session.specs.declared.refusal.Refusal.TheVariants as refusal
 use Rattle.p2p_session.specs.contracts.key.KeyOrd.TheImpl.{ghosts as order}
-use Rattle.p2p_session.specs.Answers.{Answer, refused, number, asked_bytes, Tells, Refuses}
+use Rattle.p2p_session.specs.Answers.{Answer, refused, number, key_bytes, asked_bytes, Tells, Refuses}
 use Rattle.p2p_session.specs.Answers.Answer.{Bytes}
 use Rattle.p2p_session.specs.Given.{moment_at}
 use Rattle.p2p_session.specs.Views.{View, wire, HasNone}
 
 -- ---- reservations
 
--- whom a reservation is for: a peer that comes, or an ingress that is dialled
+-- whom a reservation is for: an inbound peer, or an ingress that is dialled
 abbrev pub held_bytes : Metadata Key Signature → List ℕ
 held_bytes (Listener p) = 0 ∷ []
 held_bytes (Dialer p ingress) = 1 ∷ ingress_spelling ingress
@@ -42,13 +42,9 @@ abbrev pub held_answer : Option (Metadata Key Signature) → Answer
 held_answer None = refused refusal.None
 held_answer (Some metadata) = Bytes (held_bytes metadata)
 
--- what is held of the peer, or want of memory
-abbrev pub TellsHeld : Option (Metadata Key Signature) → List ℕ → List ℕ → ℕ → Type 0
-TellsHeld held out out2 n =
-    Refuses refusal.Memory out out2 n ⊎ Tells (held_answer held) out out2 n
-
+-- what is held of the peer
 abbrev pub TellsHeldOf : View → Result Key Refusal → List ℕ → List ℕ → ℕ → Type 0
-TellsHeldOf v (Ok p) out out2 n = TellsHeld (held_of order.cmp v.held p) out out2 n
+TellsHeldOf v (Ok p) out out2 n = Tells (held_answer (held_of order.cmp v.held p)) out out2 n
 TellsHeldOf v (Err why) out out2 n = Refuses why out out2 n
 
 -- ---- answers to frames
@@ -71,24 +67,30 @@ error_bytes error.ReceivedSelf = 1 ∷ []
 error_bytes error.InvalidSignature = 2 ∷ []
 error_bytes error.SynchronyBound = 3 ∷ []
 
-abbrev pub received_answer : Received → Answer
-received_answer (received.Data message) = Bytes (0 ∷ data_spelling message)
-received_answer received.Greeted = Bytes (1 ∷ [])
-received_answer (received.Reply frame) = Bytes (2 ∷ frame)
-received_answer (received.Applied count) = Bytes (3 ∷ number count)
-received_answer (received.Codec fault) = Bytes (4 ∷ fault_bytes fault)
-received_answer received.Malformed = Bytes (5 ∷ [])
-received_answer (received.Invalid error) = Bytes (6 ∷ error_bytes error)
-received_answer received.Memory = refused refusal.Memory
+-- whose greeting a payload is, by the bytes of the key; of any other payload nobody's
+abbrev pub greeter_of : Payload Key Signature → List ℕ
+greeter_of (said.Greeting i) = key_bytes i.public_key
+greeter_of _ = []
 
--- data is spelled in memory of its own
-abbrev pub is_data : Received → Bool
-is_data (received.Data message) = true
-is_data _ = false
+-- .. a frame is, by what comes of reading it
+abbrev pub greeter_in : Result (Payload Key Signature × List ℕ) CodecError → List ℕ
+greeter_in (Ok x) = greeter_of x.0
+greeter_in (Err fault) = []
 
-abbrev pub TellsReceived : Received → List ℕ → List ℕ → ℕ → Type 0
-TellsReceived r out out2 n = ((is_data r ≡ true) × Refuses refusal.Memory out out2 n)
-    ⊎ Tells (received_answer r) out out2 n
+-- the answer to a frame that is the greeting of this key, if it is one. A message is at the end of
+-- its frame: its channel and its length are answered.
+abbrev pub received_answer : List ℕ → Received → Answer
+received_answer key (received.Data d) = Bytes (0 ∷ (number d.channel ++ number (length d.message)))
+received_answer key received.Greeted = Bytes (1 ∷ key)
+received_answer key (received.Reply frame) = Bytes (2 ∷ frame)
+received_answer key (received.Applied count) = Bytes (3 ∷ number count)
+received_answer key (received.Codec fault) = Bytes (4 ∷ fault_bytes fault)
+received_answer key received.Malformed = Bytes (5 ∷ [])
+received_answer key (received.Invalid error) = Bytes (6 ∷ error_bytes error)
+received_answer key received.Memory = refused refusal.Memory
+
+abbrev pub TellsReceived : List ℕ → Received → List ℕ → List ℕ → ℕ → Type 0
+TellsReceived key r = Tells (received_answer key r)
 
 -- a byte of 0 says that a signature is not right, each other byte that it is
 abbrev pub verdicts_in : List ℕ → List Bool
@@ -108,7 +110,7 @@ HearsAt verdicts frame (Err why) v v2 r = ⊥
 -- why a frame isn't taken
 abbrev pub MayRefuse : View → List Bool → List ℕ → Result ℕ Refusal → ℕ → Refusal → Type 0
 MayRefuse v verdicts frame now room refusal.BadMoment = now ≡ Err refusal.BadMoment
-MayRefuse v verdicts frame now room refusal.NoRoom = room < 10
+MayRefuse v verdicts frame now room refusal.NoRoom = room < 1 + KEY_SIZE
 MayRefuse v verdicts frame now room refusal.Memory = Unit {0}
 MayRefuse v verdicts frame now room refusal.BadVerdicts =
     are_miscounted wire (standing_of order.cmp wire v) frame verdicts ≡ true
@@ -119,7 +121,8 @@ abbrev pub ReceivesAt : List Bool → List ℕ → Result ℕ Refusal → List �
     Type 0
 ReceivesAt verdicts frame now out out2 v v2 n =
     ((why : Refusal) × MayRefuse v verdicts frame now (length out) why × (v2 ≡ v) × Refuses why out out2 n)
-    ⊎ ((r : Received) × HearsAt verdicts frame now v v2 r × TellsReceived r out out2 n)
+    ⊎ ((r : Received) × HearsAt verdicts frame now v v2 r
+    × TellsReceived (greeter_in (whole (wire.reading v.limits) frame).outcome) r out out2 n)
 
 abbrev pub ReceivesOf : List ℕ → ℕ → ℕ → List ℕ → List ℕ → List ℕ → Option View → Option View → ℕ →
     Type 0
@@ -148,3 +151,19 @@ ChecksAt v frame (Ok now) out out2 n = Refuses refusal.Memory out out2 n
     ⊎ Tells (Bytes (check_bytes (judge_of order.cmp wire.verifies v.verifier) now
     (whole (wire.reading v.limits) frame).outcome)) out out2 n
 ChecksAt v frame (Err why) out out2 n = Refuses why out out2 n
+
+-- ---- where the key of a greeting is
+
+-- the bytes of a key, behind which a signature ends the frame
+abbrev pub key_at_end : List ℕ → List ℕ
+key_at_end frame = take KEY_SIZE (drop (length frame - (KEY_SIZE + SIGNATURE_SIZE)) frame)
+
+-- a frame that was accepted as a greeting has room for both
+abbrev pub HasKey : Received → List ℕ → Type 0
+HasKey received.Greeted frame = KEY_SIZE + SIGNATURE_SIZE ≤ length frame
+HasKey _ frame = Unit {0}
+
+-- .. and the key is there
+abbrev pub IsNamedAtEnd : Received → List ℕ → List ℕ → Type 0
+IsNamedAtEnd received.Greeted frame key = key ≡ key_at_end frame
+IsNamedAtEnd _ frame key = Unit {0}

@@ -5,5 +5,6 @@ pub mod Answers
 pub mod Views
 pub mod Frames
 pub mod Sessions
+pub mod Addresses
 -- The law of whole sessions.
 pub mod Laws

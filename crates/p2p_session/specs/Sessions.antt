@@ -8,7 +8,8 @@ use Rattle.p2p_tracker.specs.Calls.Question.{StatusOf, NumberTracked, NextUnbloc
 use Rattle.p2p_tracker.specs.Calls.Question.{PeerSet, LatestIndex, AllPeers, LatestUpdate}
 use Rattle.p2p_tracker.specs.Calls.Question.{InfoOf, InfosFor, BitsAt, IsEligible, IsAcceptable}
 use Rattle.p2p_tracker.specs.Calls.Question.{DialableAt}
-use Rattle.p2p_tracker.specs.Directory.{other_keys}
+use Rattle.p2p_tracker.specs.Directory.{other_keys, dial_moment_in}
+use Rattle.p2p_tracker.specs.Lists.{IsLeastOf}
 use Rattle.p2p_directory.specs.Run.{was_made}
 use Rattle.p2p_directory.specs.Nodes.{AtEach, IsSteppedAt, standing_of}
 use Rattle.p2p_directory.specs.Nodes.{NodeStandsAt, made_of}
@@ -23,7 +24,7 @@ use Rattle.p2p_session.specs.declared.Session.{Session}
 use Rattle.p2p_session.specs.contracts.key.KeyOrd.TheImpl.{ghosts as order}
 use Rattle.p2p_session.specs.Views.{View, wire, HasNone}
 use Rattle.p2p_session.specs.Frames.{TellsHeldOf, ReceivesOf, ChecksAt}
-use Rattle.p2p_session.specs.Answers.{Tells, TellsReply, Refuses, optional}
+use Rattle.p2p_session.specs.Answers.{Tells, TellsReply, Refuses, optional, moment_bytes}
 use Rattle.p2p_session.specs.Refusals.{number_of}
 use Rattle.p2p_session.specs.Given.{Asked, and_then, key_at, moment_at, IsTrackRead, IsRead}
 use Rattle.p2p_session.specs.Given.{infos_spelled, bits_spelled, IsSetup}
@@ -137,6 +138,27 @@ TellsDialable seconds nanos = Writes (at_moment seconds nanos (λ now. Ask (Dial
 
 abbrev pub TellsTracked : Session → Session → ℕ → Type 0
 TellsTracked = Answers (Ok (Ask NumberTracked))
+
+-- how many sets are retained; nothing changes
+abbrev pub TellsRetained : Session → Session → ℕ → Type 0
+TellsRetained before after n = (after ≡ before) × RetainedOf before.node
+  where
+    RetainedOf : Option View → Type 0
+    RetainedOf None = n ≡ number_of refusal.NoNode
+    RetainedOf (Some v) = n ≡ length v.directory.sets
+
+-- the least of the dial moments that are kept, if any is
+abbrev pub TellsNextOf : View → List ℕ → List ℕ → ℕ → Type 0
+TellsNextOf v out out2 n = (next : Option ℕ) × IsLeastOf (dial_moment_in order.cmp v.directory) next
+    × Tells (optional moment_bytes next) out out2 n
+
+-- .. and nothing changes
+abbrev pub TellsNextCooled : List ℕ → List ℕ → Session → Session → ℕ → Type 0
+TellsNextCooled out out2 before after n = (after ≡ before) × NextOf before.node
+  where
+    NextOf : Option View → Type 0
+    NextOf None = Refuses refusal.NoNode out out2 n
+    NextOf (Some v) = TellsNextOf v out out2 n
 
 -- how many bytes the keys of all peers with a record have
 abbrev pub room_for : View → ℕ

@@ -1,4 +1,4 @@
-//! Answers, written straight into the host's room: no memory is asked for.
+//! Answers, written straight into the host's buffer: nothing is allocated.
 
 ghost use Rattle.std.specs.Prelude.{◌≡◌, ◌+◌, ◌*◌, ◌≤◌, ◌<◌, ◌^◌, min, length, take, flat_map};
 ghost use Rattle.p2p_session.specs.Answers.{key_bytes, keys_bytes, part_bytes, parts_bytes, put_at};
@@ -11,9 +11,9 @@ use p2p_discovery::discovery::Info;
 /// A part of an answer.
 #[derive(Clone, Copy)]
 pub enum Part<'a> {
-    /// A number, by eight bytes, the most significant first.
+    /// A number, in eight bytes, big-endian.
     Number(u64),
-    /// A number below a second, by four bytes, the most significant first.
+    /// A number below a second, in four bytes, big-endian.
     Nanos(u32),
     /// One byte.
     Byte(u8),
@@ -21,21 +21,21 @@ pub enum Part<'a> {
     Keys(&'a [Key]),
     /// These bytes.
     Bytes(&'a [u8]),
-    /// What is asked of these infos, whose signatures decide: of each how long its signed bytes are,
-    /// its key, the signed bytes, and the signature.
+    /// What is to be verified of these infos, whose signatures decide: for each the length of its
+    /// signed bytes, its key, the signed bytes, and its signature.
     Asked(&'a [Info<Key>]),
 }
 
-// How many bytes a number has, and so a timestamp where it is signed.
+// How many bytes a number has, and so a timestamp when it is signed.
 const NUMBER_SIZE: usize = 8;
 
 const TIMESTAMP_SIZE: usize = NUMBER_SIZE;
 
-/// The length of no answer is above this.
+/// No answer's length is above this.
 const LONGEST: u64 = 1 << 63;
 
-/// Writes the parts at the front of the room, where they fit, and answers how many bytes they are,
-/// or, where they are more, the greatest length that is told.
+/// Writes the parts at the start of the buffer if they fit. Returns how many bytes they are, at
+/// most `LONGEST`.
 pub fn answer(parts: &[Part<'_>], out: &mut [u8]) -> u64
     ensures { IsAnswered (parts_bytes parts.now) out.old out.new result }
 {
@@ -78,7 +78,7 @@ pub(crate) fn size_of_keys(count: usize) -> u64
     (count as u64).saturating_mul(KEY_SIZE as u64).min(LONGEST)
 }
 
-// How many bytes are asked of the infos.
+// How many bytes are to be verified of the infos.
 fn size_of_asked(infos: &[Info<Key>]) -> u64
     ensures { result ≡ min (length (flat_map asked_bytes infos.now)) (2 ^ 63) }
 {
@@ -89,7 +89,7 @@ fn size_of_asked(infos: &[Info<Key>]) -> u64
     size
 }
 
-// How many bytes are asked of the info.
+// How many bytes are to be verified of the info.
 fn size_asked(info: &Info<Key>) -> u64
     ensures size { result ≡ length (asked_bytes info.now) }
     ensures bound { result ≤ 1024 }
@@ -109,7 +109,7 @@ fn write_all(parts: &[Part<'_>], out: &mut [u8])
     }
 }
 
-// Writes the part from a place on, and answers the place behind it.
+// Writes the part from a position on, and returns the position after it.
 fn write(part: &Part<'_>, out: &mut [u8], at: usize) -> usize
     requires { at + length (part_bytes part.now) ≤ length out.old }
     ensures bytes { out.new ≡ put_at at (part_bytes part.now) out.old }
@@ -125,7 +125,7 @@ fn write(part: &Part<'_>, out: &mut [u8], at: usize) -> usize
     }
 }
 
-// Writes the keys from a place on, and answers the place behind them.
+// Writes the keys from a position on, and returns the position after them.
 fn put_keys(out: &mut [u8], start: usize, keys: &[Key]) -> usize
     requires { start + length (keys_bytes keys.now) ≤ length out.old }
     ensures bytes { out.new ≡ put_at start (keys_bytes keys.now) out.old }
@@ -138,7 +138,7 @@ fn put_keys(out: &mut [u8], start: usize, keys: &[Key]) -> usize
     at
 }
 
-// Writes the key from a place on, and answers the place behind it.
+// Writes the key from a position on, and returns the position after it.
 #[tactic(auto, using(crate::proofs::Puts::length_key))]
 fn put_key(out: &mut [u8], at: usize, key: &Key) -> usize
     requires { at + length (key_bytes key.now) ≤ length out.old }
@@ -150,7 +150,7 @@ fn put_key(out: &mut [u8], at: usize, key: &Key) -> usize
     end
 }
 
-// Writes what is asked of the infos from a place on, and answers the place behind it.
+// Writes what is to be verified of the infos from a position on, and returns the position after it.
 fn put_asked(out: &mut [u8], start: usize, infos: &[Info<Key>]) -> usize
     requires { start + length (flat_map asked_bytes infos.now) ≤ length out.old }
     ensures bytes { out.new ≡ put_at start (flat_map asked_bytes infos.now) out.old }
@@ -163,7 +163,7 @@ fn put_asked(out: &mut [u8], start: usize, infos: &[Info<Key>]) -> usize
     at
 }
 
-// Writes what is asked of the info from a place on, and answers the place behind it.
+// Writes what is to be verified of the info from a position on, and returns the position after it.
 fn put_info(out: &mut [u8], at: usize, info: &Info<Key>) -> usize
     requires { at + length (asked_bytes info.now) ≤ length out.old }
     ensures bytes { out.new ≡ put_at at (asked_bytes info.now) out.old }
@@ -177,7 +177,7 @@ fn put_info(out: &mut [u8], at: usize, info: &Info<Key>) -> usize
     put_signature(out, signature_at, &info.signature)
 }
 
-// Writes the signature from a place on, and answers the place behind it.
+// Writes the signature from a position on, and returns the position after it.
 #[tactic(auto, using(crate::proofs::Puts::length_signature))]
 fn put_signature(out: &mut [u8], at: usize, signature: &Signature) -> usize
     requires { at + length (signature_bytes signature.now) ≤ length out.old }
@@ -189,7 +189,7 @@ fn put_signature(out: &mut [u8], at: usize, signature: &Signature) -> usize
     end
 }
 
-// Writes the bytes from a place on, and answers the place behind them.
+// Writes the bytes from a position on, and returns the position after them.
 fn put(out: &mut [u8], at: usize, bytes: &[u8]) -> usize
     requires { at + length bytes.now ≤ length out.old }
     ensures bytes { out.new ≡ put_at at bytes.now out.old }

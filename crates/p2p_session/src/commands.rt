@@ -1,4 +1,4 @@
-//! Commands, by what a session is given for them.
+//! Commands, decoded from what a session is given for them.
 
 ghost use Rattle.std.specs.Prelude.{◌≡◌, Ok};
 ghost use Rattle.p2p_session.specs.Given.{asked, and_then, IsRead, ArePeersRead, infos_spelled};

@@ -1,13 +1,13 @@
-//! Frames: what of them has to be verified, and what a node answers to them.
+//! Frames: what of them has to be verified, and what a node returns for them.
 
-ghost use Rattle.std.specs.Prelude.{◌≡◌, ◌≤◌, ◌∷◌, ◌++◌, ◌⊎◌, IfOk, IfErr, OnOk, OnErr, length};
+ghost use Rattle.std.specs.Prelude.{◌≡◌, ◌+◌, ◌≤◌, ◌∷◌, ◌++◌, IfOk, IfErr, OnErr, length};
 ghost use Rattle.std.specs.Prelude.{take, flat_map};
-ghost use Rattle.p2p_discovery.specs.Data.{data_spelling};
+ghost use Rattle.p2p_discovery.specs.Reading.{IsBytes, whole};
 ghost use Rattle.std.specs.Duration.{as_nanos};
-ghost use Rattle.p2p_session.specs.Answers.{Tells, Refuses, IsAnswered, number, asked_bytes};
-ghost use Rattle.p2p_session.specs.Answers.Answer.{Bytes as Spelled};
+ghost use Rattle.p2p_session.specs.Answers.{IsAnswered, number, asked_bytes};
 ghost use Rattle.p2p_session.specs.Given.{moment_at};
 ghost use Rattle.p2p_session.specs.Frames.{received_answer, TellsReceived, fault_bytes, error_bytes};
+ghost use Rattle.p2p_session.specs.Frames.{greeter_in, key_at_end, HasKey, IsNamedAtEnd};
 ghost use Rattle.p2p_session.specs.Frames.{verdicts_in, MayRefuse, ReceivesAt, HearsAt};
 ghost use Rattle.p2p_session.specs.Frames.{to_ask, ChecksAt};
 ghost use Rattle.p2p_session.specs.contracts.key.KeyOrd.TheImpl.{ghosts as order};
@@ -18,22 +18,23 @@ ghost use Rattle.p2p_discovery.specs.Payload.{infos_of_payload};
 
 use crate::answer::{Part, answer};
 use crate::given::moment;
-use crate::key::Key;
+use crate::key::{KEY_SIZE, Key, SIGNATURE_SIZE};
 use crate::refusal::Refusal;
 use crate::reply::answer_one;
 use bytes::Bytes;
 use p2p_directory::node::{Miscounted, Node, Received};
-use p2p_discovery::codec::{CodecError, What, Write};
+use p2p_discovery::codec::{CodecError, What};
 use p2p_discovery::data::Data;
 use p2p_discovery::discovery::{Error, Info, InfoVerifier, Payload};
 use std::alloc::{AllocError, Global};
 use std::slice;
 use std::time::Duration;
 
-/// What answers to frames that are applied or refused need at most.
-const LONGEST_RECEIVED: usize = 10;
+/// The maximum length of the answers to frames that are applied or refused.
+const LONGEST_RECEIVED: usize = 1 + KEY_SIZE;
 
-/// Takes a frame by verdicts on the signatures of its infos, and tells the answer.
+/// Processes a frame by verification results for the signatures of its infos, and writes the
+/// answer.
 pub fn receive(
     alloc: Global,
     node: &mut Node<Key>,
@@ -46,12 +47,12 @@ pub fn receive(
         out.old out.new node.old node.new result }
 {
     match hear(alloc, node, frame, time, verdicts, out.len()) {
-        Ok(received) => tell_received(alloc, received, out),
+        Ok(received) => tell_received(received, frame, out),
         Err(refusal) => refusal.number(),
     }
 }
 
-// Takes a frame by verdicts, where the room is long enough.
+// Processes a frame by verification results, if the buffer is long enough.
 fn hear(
     alloc: Global,
     node: &mut Node<Key>,
@@ -65,7 +66,11 @@ fn hear(
     ensures refused { IfErr result (MayRefuse node.old (verdicts_in verdicts.now) frame.now
         (moment_at time.0 time.1) room) }
     ensures same { OnErr result (node.new ≡ node.old) }
+    ensures has_key { IfOk result (λ r. HasKey r frame.now) }
+    ensures named { IfOk result (λ r. IsNamedAtEnd r frame.now
+        (greeter_in (whole (wire.reading node.old.limits) frame.now).outcome)) }
 {
+    are_bytes(frame);
     let now = moment(time.0, time.1)?;
     if room < LONGEST_RECEIVED {
         return Err(Refusal::NoRoom);
@@ -78,8 +83,8 @@ fn hear(
     }
 }
 
-/// What of a frame has to be verified, for a node to take it: how many infos it has, and those whose
-/// signatures decide.
+/// Writes what has to be verified before a node processes a frame: how many infos it has, and those
+/// whose signatures decide.
 pub fn check(alloc: Global, node: &Node<Key>, frame: &[u8], time: (u64, u32), out: &mut [u8]) -> u64
     ensures { ChecksAt node.now frame.now (moment_at time.0 time.1) out.old out.new result }
 {
@@ -97,7 +102,7 @@ pub fn check(alloc: Global, node: &Node<Key>, frame: &[u8], time: (u64, u32), ou
     }
 }
 
-// Tells what of a payload has to be verified.
+// Writes what of a payload has to be verified.
 fn tell_asked(
     verifier: &InfoVerifier<Key>,
     payload: &Payload<Key>,
@@ -122,7 +127,7 @@ fn tell_asked(
     }
 }
 
-// Tells how many infos there are, and what is asked of the first `count` of them.
+// Writes how many infos there are, and what is to be verified of the first `count` of them.
 fn tell_first(infos: &[Info<Key>], count: usize, out: &mut [u8]) -> u64
     requires { count ≤ length infos.now }
     ensures { IsAnswered (number (length infos.now) ++ flat_map asked_bytes (take count infos.now))
@@ -137,7 +142,12 @@ fn tell_first(infos: &[Info<Key>], count: usize, out: &mut [u8]) -> u64
     )
 }
 
-// What bytes say of signatures.
+// What a slice holds are bytes.
+fn are_bytes(bytes: &[u8])
+    ensures { IsBytes bytes.now }
+{}
+
+// The verification results that these bytes encode.
 #[tactic(auto, using(crate::proofs::Puts::map_next))]
 fn verdicts_of(alloc: Global, bytes: &[u8]) -> Result<Vec<bool>, AllocError>
     ensures { IfOk result (λ v. v.items ≡ verdicts_in bytes.now) }
@@ -149,13 +159,14 @@ fn verdicts_of(alloc: Global, bytes: &[u8]) -> Result<Vec<bool>, AllocError>
     Ok(verdicts)
 }
 
-// Tells what a node answered to a frame.
-fn tell_received(alloc: Global, received: Received, out: &mut [u8]) -> u64
-    ensures { TellsReceived received out.old out.new result }
+// Writes what a node returned for a frame.
+fn tell_received(received: Received, frame: &[u8], out: &mut [u8]) -> u64
+    requires { HasKey received frame.now }
+    ensures { TellsReceived (key_at_end frame.now) received out.old out.new result }
 {
     match received {
-        Received::Data(message) => tell_data(alloc, &message, out),
-        Received::Greeted => answer_one(Part::Byte(1), out),
+        Received::Data(sent) => tell_data(&sent, out),
+        Received::Greeted => tell_greeter(frame, out),
         Received::Reply(frame) => answer_two(2, Part::Bytes(frame.as_slice()), out),
         Received::Applied(count) => answer_two(3, Part::Number(count as u64), out),
         Received::Codec(fault) => tell_fault(fault, out),
@@ -165,28 +176,38 @@ fn tell_received(alloc: Global, received: Received, out: &mut [u8]) -> u64
     }
 }
 
-// Answers a byte and a part.
+// Writes a byte and a part.
 fn answer_two(byte: u8, part: Part<'_>, out: &mut [u8]) -> u64
     ensures { IsAnswered (byte ∷ part_bytes part.entry) out.old out.new result }
 {
     answer(&[Part::Byte(byte), part], out)
 }
 
-// Answers a message. A length that can't be spelled isn't met, for a frame spells it.
-fn tell_data(alloc: Global, message: &Data, out: &mut [u8]) -> u64
-    ensures { Refuses Refusal.Memory out.old out.new result
-        ⊎ Tells (Spelled (0 ∷ data_spelling message.now)) out.old out.new result }
+// Writes the channel of a message, and its length.
+fn tell_data(sent: &Data, out: &mut [u8]) -> u64
+    ensures { IsAnswered (0 ∷ (number sent.now.channel ++ number (length sent.now.message)))
+        out.old out.new result }
 {
-    if message.message.len() > u32::MAX as usize {
-        return Refusal::Memory.number();
-    }
-    match message.encode(alloc) {
-        Ok(bytes) => answer_two(0, Part::Bytes(bytes.as_slice()), out),
-        Err(AllocError) => Refusal::Memory.number(),
-    }
+    answer(
+        &[
+            Part::Byte(0),
+            Part::Number(sent.channel),
+            Part::Number(sent.message.len() as u64),
+        ],
+        out,
+    )
 }
 
-// Answers the fault of a frame.
+// Writes the key of a greeting, which is before the signature at the end of its frame.
+fn tell_greeter(frame: &[u8], out: &mut [u8]) -> u64
+    requires { KEY_SIZE + SIGNATURE_SIZE ≤ length frame.now }
+    ensures { IsAnswered (1 ∷ key_at_end frame.now) out.old out.new result }
+{
+    let start = frame.len() - (KEY_SIZE + SIGNATURE_SIZE);
+    answer_two(1, Part::Bytes(&frame[start..start + KEY_SIZE]), out)
+}
+
+// Writes the error of a frame.
 fn tell_fault(fault: CodecError, out: &mut [u8]) -> u64
     ensures { IsAnswered (4 ∷ fault_bytes fault) out.old out.new result }
 {
@@ -204,7 +225,7 @@ fn tell_fault(fault: CodecError, out: &mut [u8]) -> u64
     }
 }
 
-// Answers why infos are refused.
+// Writes why infos are refused.
 fn tell_error(error: Error, out: &mut [u8]) -> u64
     ensures { IsAnswered (6 ∷ error_bytes error) out.old out.new result }
 {
@@ -216,7 +237,7 @@ fn tell_error(error: Error, out: &mut [u8]) -> u64
     }
 }
 
-// Answers two bytes and a number.
+// Writes two bytes and a number.
 fn answer_three(byte: u8, kind: u8, count: u64, out: &mut [u8]) -> u64
     ensures { IsAnswered (byte ∷ (kind ∷ number count)) out.old out.new result }
 {

@@ -1,4 +1,4 @@
-//! What a session is given, as values: keys, moments, sets, infos and bits.
+//! What a session is given, as values: keys, times, sets, infos and bits.
 
 ghost use Rattle.std.specs.Prelude.{◌≡◌, ◌+◌, ◌≤◌, take, drop, length};
 ghost use Rattle.p2p_session.specs.Given.{key_at, moment_at, nanos_of, IsSetRead, IsRead};
@@ -25,7 +25,7 @@ pub fn key(bytes: &[u8]) -> Result<Key, Refusal>
     Ok(Key(read_array(bytes)))
 }
 
-/// The moment, or the duration, of so many seconds and nanoseconds.
+/// The time, or the duration, of so many seconds and nanoseconds.
 pub fn moment(seconds: u64, nanos: u32) -> Result<Duration, Refusal>
     ensures { nanos_of result ≡ moment_at seconds nanos }
 {
@@ -35,15 +35,14 @@ pub fn moment(seconds: u64, nanos: u32) -> Result<Duration, Refusal>
     Ok(Duration::new(seconds, nanos))
 }
 
-/// The set of the keys that stand in these bytes one after the other, in whatever order and however
-/// often each of them comes.
+/// The set of the keys in these bytes, which follow each other in any order and may repeat.
 pub fn set(alloc: Global, bytes: &[u8]) -> Result<OrderedSet<Key>, Refusal>
     ensures { IsSetRead bytes.now result }
 {
     Ok(OrderedSet::from_vec_dedup(keys(alloc, bytes)?))
 }
 
-// The keys that stand in these bytes one after the other.
+// The keys in these bytes, one after the other.
 #[tactic(auto, using(crate::proofs::Puts::keys_next))]
 fn keys(alloc: Global, bytes: &[u8]) -> Result<Vec<Key>, Refusal>
     ensures { AreKeysRead bytes.now result }
@@ -59,7 +58,7 @@ fn keys(alloc: Global, bytes: &[u8]) -> Result<Vec<Key>, Refusal>
     Ok(keys)
 }
 
-/// The key that stands in these bytes from a place on.
+/// The key in these bytes from a position on.
 pub fn key_in(bytes: &[u8], at: usize) -> Key
     requires { at + KEY_SIZE ≤ length bytes.now }
     ensures { result ≡ record { 0 = take KEY_SIZE (drop at bytes.now) } }
@@ -68,7 +67,7 @@ pub fn key_in(bytes: &[u8], at: usize) -> Key
     Key(read_array(&bytes[at..end]))
 }
 
-/// The infos that these bytes spell.
+/// The infos that these bytes encode.
 #[tactic(auto, using(crate::proofs::Unread::refused_as))]
 pub fn infos(alloc: Global, bytes: &[u8]) -> Result<Vec<Info<Key>>, Refusal>
     ensures { IsRead (infos_of result) (infos_spelled bytes.now) }
@@ -85,10 +84,10 @@ pub fn infos(alloc: Global, bytes: &[u8]) -> Result<Vec<Info<Key>>, Refusal>
     }
 }
 
-/// The greatest number of bits that may be asked about: a frame spells no more.
+/// The maximum number of bits: a frame encodes no more.
 const GREATEST_BITS: u64 = 0xffff_ffff;
 
-/// The bits that these bytes spell, at most as many as the greatest `u32`.
+/// The bits that these bytes encode, at most `u32::MAX` of them.
 #[tactic(auto, using(crate::proofs::Unread::refused_as))]
 pub fn bits(alloc: Global, bytes: &[u8]) -> Result<BitVec, Refusal>
     ensures { IsRead result (bits_spelled bytes.now) }

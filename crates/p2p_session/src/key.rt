@@ -1,4 +1,4 @@
-//! Keys and signatures as they stand in bytes.
+//! Keys and signatures, as bytes.
 
 ghost use Rattle.std.specs.Prelude.{◌≡◌, ◌≤◌, refl, false, Some, length};
 ghost use Rattle.std.specs.Int.{w32, from_be_bytes};
@@ -44,9 +44,9 @@ impl Ord for Key {
     }
 }
 
-/// The order of two keys by their bytes: that of the first bytes that differ. The first four of each
-/// are compared as one number, for random keys rarely share them.
-// Always inlined, for the first mostly decide.
+/// The order of two keys by their bytes: that of the first bytes that differ. The first four bytes
+/// of each are compared as one number, since random keys rarely share them.
+// Always inlined, since the first four bytes mostly decide.
 #[inline(always)]
 pub fn compare(a: &[u8; KEY_SIZE], b: &[u8; KEY_SIZE]) -> Ordering
     ensures { result ≡ slice_cmp nat_cmp a.now b.now }
@@ -58,7 +58,7 @@ pub fn compare(a: &[u8; KEY_SIZE], b: &[u8; KEY_SIZE]) -> Ordering
     a.cmp(b)
 }
 
-// The first four bytes as a number, the most significant first.
+// The first four bytes as a number, big-endian.
 #[inline(always)]
 fn front(bytes: &[u8; KEY_SIZE]) -> u32
     ensures number { result ≡ from_be_bytes w32 bytes.now }
@@ -133,7 +133,7 @@ impl PublicKey for Key {
 
     ghost verifies = { λ _ _ _ _. false };
 
-    // No session asks: the host judges signatures, for no scheme is in this library.
+    // No session asks: the host verifies signatures, and no scheme is in this library.
     fn verify(&self, _namespace: &[u8], _message: &[u8], _signature: &Signature) -> bool {
         false
     }

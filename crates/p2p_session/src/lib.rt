@@ -1,16 +1,16 @@
-//! A node behind calls with bytes and numbers alone, for hosts in C and Rust.
+//! A node behind calls that pass only bytes and numbers, for hosts in C and Rust.
 //!
-//! A [`Session`] holds one node with keys of 32 bytes. Each call reads its arguments, makes one call
-//! of the node and answers a number: a count, a truth value as 0 or 1, the length in bytes of an
-//! answer that it wrote at the front of the host's room, or the number of a [`Refusal`].
+//! A [`Session`] holds one node with keys of 32 bytes. Each call decodes its arguments, makes one
+//! call of the node and returns a number. It is a count, a bool as 0 or 1, the length in bytes of
+//! an answer that it wrote at the start of the host's buffer, or the number of a [`Refusal`].
 //! docs/FORMATS.md has all of these forms.
 //!
-//! A question whose answer doesn't fit the room answers its length, writes nothing, and can be asked
-//! again with more room. A call that changes something asks for no memory once it took effect, and
-//! needs its room beforehand, so no answer is lost.
+//! A query whose answer doesn't fit the buffer returns its length and writes nothing; it can be
+//! called again with a longer buffer. A call that changes something allocates before it takes
+//! effect, and checks the length of its buffer beforehand, so no answer is lost.
 //!
-//! Signatures are judged by the host: [`Session::check`] says which ones, and [`Session::receive`]
-//! is told what came of it. No signature scheme is in here.
+//! The host verifies signatures: [`Session::check`] lists which ones, and [`Session::receive`] is
+//! given the results. There is no signature scheme in here.
 #![tactic(auto)]
 
 ghost use Rattle.std.specs.Prelude.{◌≡◌, None};
@@ -23,8 +23,10 @@ ghost use Rattle.p2p_session.specs.Sessions.{TellsEligible, TellsAcceptable, Tel
 ghost use Rattle.p2p_session.specs.Sessions.{TellsTracked, TellsRoom, room_refusal, Tracks};
 ghost use Rattle.p2p_session.specs.Sessions.{UpdatesPeers, TellsInfos, Asks, Inits, IsMade};
 ghost use Rattle.p2p_session.specs.Sessions.{TellsReservation, Checks, Receives};
+ghost use Rattle.p2p_session.specs.Sessions.{TellsRetained, TellsNextCooled};
 ghost use Rattle.p2p_session.specs.Sessions.{HasRoom, IsWhole};
 
+mod address;
 mod answer;
 mod commands;
 mod frames;
@@ -36,6 +38,7 @@ mod reply;
 mod setup;
 mod single;
 
+pub use crate::address::{is_global, is_valid};
 pub use crate::key::{KEY_SIZE, Key, SIGNATURE_SIZE, Signature};
 pub use crate::refusal::Refusal;
 use crate::setup::{Numbers, setup};
@@ -44,20 +47,20 @@ use p2p_directory::node::{Node, Setup};
 use p2p_directory::run::Command;
 use std::alloc::Global;
 
-/// A node, once [`Session::init`] made one. It must be spent, by [`Session::end`].
+/// A node, once [`Session::init`] created one. It must be consumed by [`Session::end`].
 pub struct Session {
     node: Option<Node<Key>>,
 }
 
 impl Session {
-    /// One with no node. It takes no memory.
+    /// A session with no node. It allocates nothing.
     pub fn new(_alloc: Global) -> Session
         ensures { IsFresh result }
     {
         Session { node: None }
     }
 
-    /// Ends it, and gives back all that it holds.
+    /// Ends the session, and frees all that it holds.
     pub fn end(self, _alloc: Global) {
         let Session { node } = self;
         if let Some(node) = node {
@@ -65,8 +68,8 @@ impl Session {
         }
     }
 
-    /// Makes the node of a session that has none: 1. It has these settings; a name of a peer is its
-    /// key, an info and each ingress of a bootstrapper behind its key are their spellings.
+    /// Creates the node of a session that has none, with these settings. Returns 1. A peer's name
+    /// is its key; the info, and the ingress after each bootstrapper's key, are encoded.
     #[allow(clippy::too_many_arguments)]
     pub fn init(
         &mut self,
@@ -113,7 +116,7 @@ impl Session {
         }
     }
 
-    // Makes the node, if there is none.
+    // Creates the node, if there is none.
     fn make(&mut self, alloc: Global, setup: Setup<Key>) -> u64
         ensures made { result ≡ 1 → (self.old.node ≡ None) × IsMade self.new.node setup }
         ensures refused { ¬ (result ≡ 1) → self.new.node ≡ self.old.node }
@@ -133,8 +136,9 @@ impl Session {
         1
     }
 
-    /// `Directory::track` of the sets of these keys: the keys of the peers whose connections have to
-    /// end, or `None` where the set isn't taken. The room has to have [`Session::track_room`] bytes.
+    /// `Directory::track` of the sets of these keys. Returns the keys of the peers that must be
+    /// disconnected, or `None` if the set isn't accepted. The buffer must have
+    /// [`Session::track_room`] bytes.
     pub fn track(
         &mut self,
         alloc: Global,
@@ -157,7 +161,8 @@ impl Session {
         )
     }
 
-    // Takes the set, if there is a node and the peers could be read, and answers who is torn down.
+    // Registers the set, if there is a node and the peers were decoded. Writes who must be
+    // disconnected.
     fn take_set(
         &mut self,
         alloc: Global,
@@ -181,7 +186,7 @@ impl Session {
         }
     }
 
-    /// How much room `track` has to have: that of the keys of all peers with a record.
+    /// How long the buffer of `track` must be: the size of the keys of all peers with a record.
     pub fn track_room(&mut self) -> u64
         ensures { TellsRoom self.old self.new result }
     {
@@ -191,7 +196,7 @@ impl Session {
         }
     }
 
-    // Why a call without room isn't made.
+    // Why a call with too short a buffer isn't made.
     fn without_room(&self) -> u64
         ensures { result ≡ room_refusal self.now.node }
     {
@@ -201,16 +206,16 @@ impl Session {
         }
     }
 
-    /// `Directory::update_peers` with the infos that these bytes spell as a list: 1. They are to be
-    /// infos that the host made or verified itself.
+    /// `Directory::update_peers` with the infos that these bytes encode as a list. Returns 1. The
+    /// host must have made or verified the infos itself.
     pub fn update_peers(&mut self, alloc: Global, infos: &[u8]) -> u64
         ensures { UpdatesPeers infos.now self.old self.new result }
     {
         self.serve(commands::update_peers(alloc, infos), &mut [])
     }
 
-    /// `Directory::infos` for the bits and their index that these bytes spell: the spelling of the
-    /// list, or `None`.
+    /// `Directory::infos` for the encoded bits and their index. Returns the encoded list, or
+    /// `None`.
     pub fn infos(
         &mut self,
         alloc: Global,
@@ -224,7 +229,7 @@ impl Session {
         self.serve(commands::infos_for(alloc, bits, seconds, nanos), out)
     }
 
-    /// The frame that asks for what is wanted of the set at a place, or `None`.
+    /// The frame that asks for the wanted infos of the set at a position, or `None`.
     pub fn ask(&mut self, place: u64, out: &mut [u8]) -> u64
         ensures { Asks place out.old out.new self.old self.new result }
     {
@@ -234,7 +239,7 @@ impl Session {
         }
     }
 
-    /// `Directory::dial`: 1 where the peer is reserved to be dialled, 0 where it isn't granted.
+    /// `Directory::dial`. Returns 1 if the peer is reserved to be dialled, 0 if that isn't granted.
     pub fn dial(
         &mut self,
         peer: &[u8],
@@ -251,7 +256,7 @@ impl Session {
         }
     }
 
-    /// `Directory::listen`: 1 where the peer that comes is reserved, 0 where it isn't granted.
+    /// `Directory::listen`. Returns 1 if the inbound peer is reserved, 0 if that isn't granted.
     pub fn listen(
         &mut self,
         peer: &[u8],
@@ -268,7 +273,7 @@ impl Session {
         }
     }
 
-    /// `Directory::connect`: 1, or `NotReserved`.
+    /// `Directory::connect`. Returns 1, or `NotReserved`.
     pub fn connect(&mut self, peer: &[u8], dialer: bool) -> u64
         ensures { Connects peer.now dialer self.old self.new result }
     {
@@ -278,7 +283,7 @@ impl Session {
         }
     }
 
-    /// `Directory::release` of what is held of the peer: 1, or `NotHeld`.
+    /// `Directory::release` of what is held of the peer. Returns 1, or `NotHeld`.
     pub fn release(&mut self, peer: &[u8]) -> u64
         ensures { Releases peer.now self.old self.new result }
     {
@@ -288,7 +293,7 @@ impl Session {
         }
     }
 
-    /// `Directory::block`: 1 where the block is taken, 0 where it isn't.
+    /// `Directory::block`. Returns 1 if the block takes effect, else 0.
     pub fn block(&mut self, peer: &[u8], seconds: u64, nanos: u32) -> u64
         ensures { Blocks peer.now seconds nanos self.old self.new result }
     {
@@ -298,7 +303,7 @@ impl Session {
         }
     }
 
-    /// `Directory::unblock_expired`: 1 where some block ended, 0 where none did.
+    /// `Directory::unblock_expired`. Returns 1 if a block ended, else 0.
     pub fn unblock_expired(&mut self, seconds: u64, nanos: u32) -> u64
         ensures { Unblocks seconds nanos self.old self.new result }
     {
@@ -308,7 +313,7 @@ impl Session {
         }
     }
 
-    /// `Directory::forget_cooled`: how many cooldowns were forgotten.
+    /// `Directory::forget_cooled`. Returns how many cooldowns were forgotten.
     pub fn forget_cooled(&mut self, seconds: u64, nanos: u32) -> u64
         ensures { Forgets seconds nanos self.old self.new result }
     {
@@ -318,7 +323,7 @@ impl Session {
         }
     }
 
-    /// `Directory::next_unblock`: the moment, or `None`.
+    /// `Directory::next_unblock`: the time, or `None`.
     pub fn next_unblock(&mut self, out: &mut [u8]) -> u64
         ensures { TellsUnblock out.old out.new self.old self.new result }
     {
@@ -345,7 +350,8 @@ impl Session {
         }
     }
 
-    /// `Directory::get_peer_set`: how many primary peers, they, and the secondary peers, or `None`.
+    /// `Directory::get_peer_set`: the number of primary peers, their keys, and the keys of the
+    /// secondary peers, or `None`.
     pub fn get_peer_set(&mut self, index: u64, out: &mut [u8]) -> u64
         ensures { TellsPeerSet index out.old out.new self.old self.new result }
     {
@@ -362,29 +368,30 @@ impl Session {
         }
     }
 
-    /// `Directory::latest_update`: the index, how many peers the first three lists have, and the
-    /// primary and secondary peers of the latest set and of all, or `None`.
+    /// `Directory::latest_update`: the index, the lengths of the first three lists, and the primary
+    /// and secondary peers of the latest set and of all sets, or `None`.
     pub fn latest_update(&mut self, out: &mut [u8]) -> u64
         ensures { TellsUpdate out.old out.new self.old self.new result }
     {
         self.serve(Ok(Command::LatestUpdate), out)
     }
 
-    /// `Directory::all`: how many primary peers, they, and the secondary peers.
+    /// `Directory::all`: the number of primary peers, their keys, and the keys of the secondary
+    /// peers.
     pub fn all(&mut self, out: &mut [u8]) -> u64
         ensures { TellsAll out.old out.new self.old self.new result }
     {
         self.serve(Ok(Command::All), out)
     }
 
-    /// `Directory::info`: the spelling of the info, or `None`.
+    /// `Directory::info`: the encoded info, or `None`.
     pub fn info(&mut self, _alloc: Global, peer: &[u8], out: &mut [u8]) -> u64
         ensures { TellsInfo peer.now out.old out.new self.old self.new result }
     {
         self.serve(commands::info(peer), out)
     }
 
-    /// `Directory::get_random_bit_vec`: the spelling of the bits and their index, or `None`.
+    /// `Directory::get_random_bit_vec`: the encoded bits with their index, or `None`.
     pub fn get_random_bit_vec(&mut self, _alloc: Global, place: u64, out: &mut [u8]) -> u64
         ensures { TellsBits place out.old out.new self.old self.new result }
     {
@@ -411,14 +418,14 @@ impl Session {
         }
     }
 
-    /// `Directory::dialable`: whether a moment to ask again follows, the moment, and the keys.
+    /// `Directory::dialable`: whether a time to ask again follows, that time, and the keys.
     pub fn dialable(&mut self, seconds: u64, nanos: u32, out: &mut [u8]) -> u64
         ensures { TellsDialable seconds nanos out.old out.new self.old self.new result }
     {
         self.serve(commands::dialable(seconds, nanos), out)
     }
 
-    /// `Directory::tracked`: how many peers have a record, but for the local node.
+    /// `Directory::tracked`: how many peers have a record, except the local node.
     pub fn tracked(&mut self) -> u64
         ensures { TellsTracked self.old self.new result }
     {
@@ -428,23 +435,44 @@ impl Session {
         }
     }
 
-    /// Whom the reservation that is held of a peer is for: byte 0 for one that comes, or byte 1 and
-    /// the spelling of the ingress that is dialled, or `None`.
-    pub fn reservation(&mut self, alloc: Global, peer: &[u8], out: &mut [u8]) -> u64
+    /// `Directory::retained`. Returns the number of retained sets.
+    pub fn retained(&mut self) -> u64
+        ensures { TellsRetained self.old self.new result }
+    {
+        match &self.node {
+            Some(node) => node.directory().retained() as u64,
+            None => Refusal::NoNode.number(),
+        }
+    }
+
+    /// `Directory::next_cooled`: the time, or `None`.
+    pub fn next_cooled(&mut self, out: &mut [u8]) -> u64
+        ensures { TellsNextCooled out.old out.new self.old self.new result }
+    {
+        match &self.node {
+            Some(node) => single::next_cooled(node, out),
+            None => Refusal::NoNode.number(),
+        }
+    }
+
+    /// Whom the reservation that is held of a peer is for: byte 0 for an inbound peer, or byte 1
+    /// and the encoded ingress that is dialled. `None` if none is held. It allocates nothing.
+    pub fn reservation(&mut self, peer: &[u8], out: &mut [u8]) -> u64
         ensures { TellsReservation peer.now out.old out.new self.old self.new result }
     {
         let Some(node) = &self.node else {
             return Refusal::NoNode.number();
         };
         match given::key(peer) {
-            Ok(peer) => reply::tell_held(alloc, node.held(&peer), out),
+            Ok(peer) => reply::tell_held(node.held(&peer), out),
             Err(refusal) => refusal.number(),
         }
     }
 
-    /// What [`Session::receive`] has to be told of a frame: how many infos it has, and the infos
-    /// whose signatures decide, up to the first that is refused whatever its signature is, each by
-    /// the length of its signed bytes, its key, the signed bytes and its signature.
+    /// What has to be verified before [`Session::receive`]: how many infos the frame has, and those
+    /// whose signatures decide, each by the length of its signed bytes, its key, the signed bytes
+    /// and its signature. The list stops before the first info that is refused whatever its
+    /// signature is.
     pub fn check(
         &mut self,
         alloc: Global,
@@ -461,8 +489,8 @@ impl Session {
         }
     }
 
-    /// `Node::receive_by`: takes a frame, by a byte for each of its infos that says whether its
-    /// signature is right, and tells the answer.
+    /// `Node::receive_by`: processes a frame, and writes the answer. `verdicts` has a byte for each
+    /// of its infos, which says whether its signature is valid.
     pub fn receive(
         &mut self,
         alloc: Global,
@@ -481,7 +509,7 @@ impl Session {
         }
     }
 
-    // Serves the command, if there is a node and the command could be read, and answers its reply.
+    // Serves the command, if there is a node and the command was decoded. Writes its reply.
     fn serve(&mut self, command: Result<Command<Key>, Refusal>, out: &mut [u8]) -> u64
         ensures { Serves (asked command) out.old out.new self.old.node self.new.node result }
     {

@@ -1,4 +1,4 @@
-//! Why a call is refused, and the number that it answers then.
+//! Why a call is refused, and the number that it returns then.
 
 ghost use Rattle.std.specs.Prelude.{◌≡◌};
 ghost use Rattle.p2p_session.specs.Refusals.{number_of};
@@ -9,36 +9,36 @@ use std::alloc::{AllocError, AllocFailed};
 /// Why a call is refused, or has no answer. Nothing has changed then, and nothing was written.
 #[derive(Clone, Copy, Debug, PartialEq, Eq)]
 pub enum Refusal {
-    /// Memory was refused.
+    /// Out of memory.
     Memory,
-    /// No node was made yet.
+    /// No node was created yet.
     NoNode,
     /// The answer is that there is none.
     None,
-    /// The room is shorter than the longest answer that the call may have, so it was not made.
+    /// The buffer is shorter than the longest answer that the call may have, so it was not made.
     NoRoom,
-    /// The peer that is to be connected isn't reserved.
+    /// The peer to connect isn't reserved.
     NotReserved,
-    /// No reservation of the peer that is to be released is held.
+    /// No reservation of the peer to release is held.
     NotHeld,
-    /// The bytes are no key: they are of another number.
+    /// The bytes are no key: their number is wrong.
     BadKey,
-    /// The bytes are no list of keys: their number is no multiple of a key's.
+    /// The bytes are no list of keys: their number is no multiple of a key's size.
     BadKeys,
-    /// The bytes spell no info, no list of infos, or no bootstrappers.
+    /// The bytes encode no info, no list of infos, no address, or no bootstrappers.
     BadInfo,
-    /// The bytes spell no bits with their index, or more of them than the greatest `u32`.
+    /// The bytes encode no bits with their index, or more than `u32::MAX` of them.
     BadBits,
-    /// The nanoseconds of a moment are a second or more.
+    /// The nanoseconds of a time are a second or more.
     BadMoment,
     /// A setting that no node may have, or there is a node already.
     BadSetting,
-    /// The verdicts are not as many as the infos of the frame.
+    /// There are not as many verification results as infos in the frame.
     BadVerdicts,
 }
 
 impl Refusal {
-    /// The number that a call answers. The numbers stand at the top of `u64`, above every length.
+    /// The number that a call returns. These numbers are at the top of `u64`, above every length.
     pub fn number(self) -> u64
         ensures { result ≡ number_of self }
     {

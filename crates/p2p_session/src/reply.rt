@@ -2,7 +2,7 @@
 
 ghost use Rattle.std.specs.Prelude.{◌≡◌, ◌⊎◌, ◌∷◌, IfOk, OnErr, option_map};
 ghost use Rattle.p2p_discovery.specs.Ingress.{ingress_spelling};
-ghost use Rattle.p2p_session.specs.Frames.{TellsHeld};
+ghost use Rattle.p2p_session.specs.Frames.{held_answer};
 ghost use Rattle.p2p_session.specs.Answers.{TellsReply, Tells, Refuses, IsAnswered, part_bytes};
 ghost use Rattle.p2p_session.specs.Answers.{truth, status_number, peers_bytes, update_bytes};
 ghost use Rattle.p2p_session.specs.Answers.{optional, keys_bytes, dialable_bytes, moment_bytes};
@@ -24,7 +24,8 @@ use p2p_discovery::types::Ingress;
 use std::alloc::{AllocError, Global};
 use std::time::Duration;
 
-/// Answers a reply: a number, or how many bytes were written at the front of the room.
+/// Writes a reply: returns a number, or how many bytes it has. They are at the start of the buffer,
+/// if they fit.
 // Always inlined, so that a reply, which is large, is matched where it lies and not moved first.
 #[inline(always)]
 pub fn tell(alloc: Global, reply: Reply<Key>, out: &mut [u8]) -> u64
@@ -56,7 +57,7 @@ pub fn tell(alloc: Global, reply: Reply<Key>, out: &mut [u8]) -> u64
     }
 }
 
-/// Answers the frame that a node asks with.
+/// Writes the frame that a node asks with.
 pub fn tell_frame(frame: Result<Option<Bytes>, AllocError>, out: &mut [u8]) -> u64
     ensures ok { IfOk frame (λ frame. Tells (optional (λ bytes. bytes) frame)
         out.old out.new result) }
@@ -69,28 +70,25 @@ pub fn tell_frame(frame: Result<Option<Bytes>, AllocError>, out: &mut [u8]) -> u
     }
 }
 
-/// Answers whom a reservation is for.
-pub fn tell_held(alloc: Global, held: Option<&Metadata<Key>>, out: &mut [u8]) -> u64
-    ensures { TellsHeld (option_map (λ m. m.now) held.entry) out.old out.new result }
+/// Writes whom a reservation is for.
+pub fn tell_held(held: Option<&Metadata<Key>>, out: &mut [u8]) -> u64
+    ensures { Tells (held_answer (option_map (λ m. m.now) held.entry)) out.old out.new result }
 {
     match held {
-        Some(Metadata::Dialer(_, ingress)) => tell_dialler(alloc, ingress, out),
+        Some(Metadata::Dialer(_, ingress)) => tell_dialler(ingress, out),
         Some(Metadata::Listener(_)) => answer_one(Part::Byte(0), out),
         None => Refusal::None.number(),
     }
 }
 
-fn tell_dialler(alloc: Global, ingress: &Ingress, out: &mut [u8]) -> u64
-    ensures { Refuses Refusal.Memory out.old out.new result
-        ⊎ Tells (Spelled (1 ∷ ingress_spelling ingress.now)) out.old out.new result }
+fn tell_dialler(ingress: &Ingress, out: &mut [u8]) -> u64
+    ensures { Tells (Spelled (1 ∷ ingress_spelling ingress.now)) out.old out.new result }
 {
-    match ingress.encode(alloc) {
-        Ok(bytes) => answer(&[Part::Byte(1), Part::Bytes(bytes.as_slice())], out),
-        Err(AllocError) => Refusal::Memory.number(),
-    }
+    let bytes = ingress.encoded();
+    answer(&[Part::Byte(1), Part::Bytes(bytes.as_slice())], out)
 }
 
-/// Answers one part.
+/// Writes one part.
 pub fn answer_one(part: Part<'_>, out: &mut [u8]) -> u64
     ensures { IsAnswered (part_bytes part.entry) out.old out.new result }
 {
@@ -106,7 +104,7 @@ fn tell_set(set: Option<OrderedSet<Key>>, out: &mut [u8]) -> u64
     }
 }
 
-/// Answers a moment, if there is one.
+/// Writes a time, if there is one.
 pub fn tell_moment(moment: Option<Duration>, out: &mut [u8]) -> u64
     ensures { Tells (answer_to (Reply.NextUnblock moment)) out.old out.new result }
 {
@@ -119,7 +117,7 @@ pub fn tell_moment(moment: Option<Duration>, out: &mut [u8]) -> u64
     }
 }
 
-/// The number that a status is answered by.
+/// The number that encodes a status.
 pub fn status_of(status: Option<Status>) -> u64
     ensures { Is result ≡ status_number status }
 {
@@ -131,14 +129,14 @@ pub fn status_of(status: Option<Status>) -> u64
     }
 }
 
-/// The number that a truth value is answered by.
+/// The number that encodes a bool.
 pub fn truth_of(is: bool) -> u64
     ensures { Is result ≡ truth is }
 {
     u64::from(is)
 }
 
-/// Answers an index, if there is one.
+/// Writes an index, if there is one.
 pub fn tell_index(index: Option<u64>, out: &mut [u8]) -> u64
     ensures { Tells (optional number index) out.old out.new result }
 {
@@ -213,8 +211,8 @@ fn tell_dialable(dialable: &Dialable<Key>, out: &mut [u8]) -> u64
     }
 }
 
-// Answers the spelling of infos. They are no more than the bits that were given, so the number that
-// can't be spelled isn't met.
+// Writes the encoded infos. They are no more than the bits that were given, so a number that can't
+// be encoded doesn't occur.
 fn tell_infos(alloc: Global, infos: Vec<Info<Key>>, out: &mut [u8]) -> u64
     ensures { Refuses Refusal.Memory out.old out.new result
         ⊎ Tells (Spelled (infos_spelling key_bytes signature_bytes infos.items))
@@ -226,7 +224,7 @@ fn tell_infos(alloc: Global, infos: Vec<Info<Key>>, out: &mut [u8]) -> u64
     tell_spelled(alloc, &Infos::from_vec(infos), out)
 }
 
-// Answers the spelling of a value, for which memory is asked.
+// Writes an encoded value, for which it allocates.
 fn tell_spelled<T: Write>(alloc: Global, value: &T, out: &mut [u8]) -> u64
     requires { T.CanSpell value.now }
     ensures { Refuses Refusal.Memory out.old out.new result

@@ -1,4 +1,4 @@
-//! What a node is made from, by what a session is given.
+//! What a node is created from, decoded from what a session is given.
 
 ghost use Rattle.std.specs.Prelude.{◌≡◌, ◌<◌, ◌++◌, length, IfOk, OnOk};
 ghost use Rattle.p2p_discovery.specs.Info.{info_spelling};
@@ -20,7 +20,7 @@ use p2p_discovery::types::Ingress;
 use std::alloc::Global;
 use std::num::NonZeroUsize;
 
-/// The numbers of a setup. A moment is its seconds and nanoseconds.
+/// The numbers of a setup. A time is its seconds and nanoseconds.
 #[derive(Clone, Copy)]
 pub struct Numbers {
     pub allow_private_ips: bool,
@@ -36,7 +36,7 @@ pub struct Numbers {
     pub bound: (u64, u32),
 }
 
-/// What a node is made from.
+/// What a node is created from.
 pub fn setup(
     alloc: Global,
     numbers: &Numbers,
@@ -90,7 +90,7 @@ fn config(numbers: &Numbers) -> Result<Config, Refusal>
     })
 }
 
-// The info that the bytes spell.
+// The info that the bytes encode.
 fn info(alloc: Global, bytes: &[u8]) -> Result<Info<Key>, Refusal>
     ensures { IfOk result (λ i. info_spelling key_bytes signature_bytes i ≡ bytes.now) }
 {
@@ -102,7 +102,7 @@ fn info(alloc: Global, bytes: &[u8]) -> Result<Info<Key>, Refusal>
     }
 }
 
-// The bootstrappers that the bytes spell: a key and an ingress each, one after the other.
+// The bootstrappers that the bytes encode: a key and an ingress each, one after the other.
 fn bootstrappers_of(alloc: Global, bytes: &[u8]) -> Result<Vec<(Key, Ingress)>, Refusal>
     ensures { IfOk result (λ bs. bootstrappers_spelling bs.items ≡ bytes.now) }
 {
@@ -129,7 +129,7 @@ fn bootstrapper(alloc: Global, left: &mut Bytes) -> Result<(Key, Ingress), Refus
     }
 }
 
-// The key with which the bytes begin, which are then those behind it.
+// The key with which the bytes begin. They then begin after it.
 fn front_key(left: &mut Bytes) -> Result<Key, Refusal>
     ensures spelled { IfOk result (λ key. left.old ≡ key_bytes key ++ left.new) }
     ensures shorter { OnOk result (length left.new < length left.old) }

@@ -3,6 +3,7 @@
 ghost use Rattle.std.specs.Prelude.{[], Ok, Some};
 ghost use Rattle.p2p_session.specs.Given.{and_then, nanos_of};
 ghost use Rattle.p2p_session.specs.Sessions.{Serves, of_peer, of_peer_at, at_moment, with_draw};
+ghost use Rattle.p2p_session.specs.Sessions.{TellsNextOf};
 ghost use Rattle.p2p_tracker.specs.Calls.Call.{Dial, Listen, Connect, Release, Block, Ask};
 ghost use Rattle.p2p_tracker.specs.Calls.Call.{UnblockExpired, ForgetCooled};
 ghost use Rattle.p2p_tracker.specs.Calls.Question.{StatusOf, NumberTracked, IsEligible};
@@ -38,7 +39,7 @@ pub fn dial(
     }
 }
 
-// .. at a moment and with a draw that were read.
+// .. at a time and with a draw that were decoded.
 fn dial_at(
     node: &mut Node<Key>,
     peer: &Key,
@@ -80,7 +81,7 @@ pub fn listen(
     }
 }
 
-// .. at a moment and with a draw that were read.
+// .. at a time and with a draw that were decoded.
 fn listen_at(
     node: &mut Node<Key>,
     peer: &Key,
@@ -156,7 +157,7 @@ pub fn eligible(node: &Node<Key>, peer: &[u8], seconds: u64, nanos: u32) -> u64
     }
 }
 
-// .. at a moment that was read.
+// .. at a time that was decoded.
 fn eligible_at(node: &Node<Key>, peer: &Key, now: Result<Duration, Refusal>) -> u64
     ensures { Serves (and_then (nanos_of now) (λ t. Ok (Ask (IsEligible peer.now t)))) [] []
         (Some node.now) (Some node.now) result }
@@ -178,7 +179,7 @@ pub fn acceptable(node: &Node<Key>, peer: &[u8], seconds: u64, nanos: u32) -> u6
     }
 }
 
-// .. at a moment that was read.
+// .. at a time that was decoded.
 fn acceptable_at(node: &Node<Key>, peer: &Key, now: Result<Duration, Refusal>) -> u64
     ensures { Serves (and_then (nanos_of now) (λ t. Ok (Ask (IsAcceptable peer.now t)))) [] []
         (Some node.now) (Some node.now) result }
@@ -200,7 +201,7 @@ pub fn block(node: &mut Node<Key>, peer: &[u8], seconds: u64, nanos: u32) -> u64
     }
 }
 
-// .. at a moment that was read.
+// .. at a time that was decoded.
 fn block_at(node: &mut Node<Key>, peer: &Key, now: Result<Duration, Refusal>) -> u64
     ensures { Serves (and_then (nanos_of now) (λ t. Ok (Block peer.now t))) [] []
         (Some node.old) (Some node.new) result }
@@ -248,4 +249,11 @@ pub fn latest_set_index(node: &Node<Key>, out: &mut [u8]) -> u64
     ensures { Serves (Ok (Ask LatestIndex)) out.old out.new (Some node.now) (Some node.now) result }
 {
     tell_index(node.latest_set_index(), out)
+}
+
+/// `Directory::next_cooled`.
+pub fn next_cooled(node: &Node<Key>, out: &mut [u8]) -> u64
+    ensures { TellsNextOf node.now out.old out.new result }
+{
+    tell_moment(node.directory().next_cooled(), out)
 }

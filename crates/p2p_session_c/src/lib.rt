@@ -1,11 +1,11 @@
-//! The calls of a session for C and Rust: it lies behind an opaque pointer, in room that the host
+//! The calls of a session for C and Rust: it is behind an opaque pointer, in memory that the host
 //! keeps. Written by tools/exports.sh from tools/exports/session.table, with the proofs.
 //!
-//! What a host guarantees, for nothing checks it: the room has size bytes and begins at a multiple
-//! of 16, and is neither read, written nor moved while a session is in it; new comes before each
-//! other call and free once, after the last; one call at a time is made on a session, on whatever
-//! thread; a slice is its first byte and its length, points to that many initialised bytes, and
-//! overlaps neither another slice that is written nor the room.
+//! Obligations of the host, which nothing checks. The memory of a session has size bytes and begins
+//! at a multiple of 16. It is neither read, written nor moved while a session is in it. new comes
+//! before each other call, and free once, after the last. One call at a time is made on a session,
+//! on whatever thread. A slice is its first byte and its length, points to that many initialised
+//! bytes, and overlaps neither another slice that is written nor the memory of the session.
 #![tactic(auto)]
 
 ghost use Rattle.std.specs.Prelude.{◌≡◌};
@@ -17,24 +17,27 @@ ghost use Rattle.p2p_session.specs.Sessions.{Forgets, Inits, IsFresh, Listens, R
 ghost use Rattle.p2p_session.specs.Sessions.{Releases, TellsAcceptable, TellsAll};
 ghost use Rattle.p2p_session.specs.Sessions.{TellsBits, TellsBlocked, TellsDialable};
 ghost use Rattle.p2p_session.specs.Sessions.{TellsEligible, TellsInfo, TellsInfos};
-ghost use Rattle.p2p_session.specs.Sessions.{TellsLatestIndex, TellsPeerSet};
-ghost use Rattle.p2p_session.specs.Sessions.{TellsReservation, TellsRoom, TellsStatus};
+ghost use Rattle.p2p_session.specs.Sessions.{TellsLatestIndex, TellsNextCooled};
+ghost use Rattle.p2p_session.specs.Sessions.{TellsPeerSet, TellsReservation};
+ghost use Rattle.p2p_session.specs.Sessions.{TellsRetained, TellsRoom, TellsStatus};
 ghost use Rattle.p2p_session.specs.Sessions.{TellsTracked, TellsUnblock, TellsUpdate};
 ghost use Rattle.p2p_session.specs.Sessions.{Tracks, Unblocks, UpdatesPeers};
+ghost use Rattle.p2p_session.specs.Addresses.{TellsGlobal};
+ghost use Rattle.p2p_session.specs.Addresses.{TellsValid};
 ghost use Rattle.p2p_session.specs.declared.Session.{Session};
 ghost use Rattle.p2p_session.specs.contracts.Session.{the_row};
 
 use p2p_session::Session;
 use std::alloc::Global;
 
-/// What a host's pointer leads to. Nothing is told of it.
+/// What a host's pointer leads to. It is opaque.
 #[repr(C)]
 #[derive(Drop)]
 pub struct Handle {
     byte: u8,
 }
 
-/// How many bytes of room a session takes. The room begins at a multiple of 16.
+/// How many bytes of memory a session has to have. They begin at a multiple of 16.
 #[unsafe(no_mangle)]
 pub extern "C" fn p2p_session_size() -> usize
     ensures { result ≡ type_size the_row }
@@ -42,11 +45,20 @@ pub extern "C" fn p2p_session_size() -> usize
     std::mem::size_of::<Session>()
 }
 
-/// Makes a session with no node in the room at the pointer. It takes no memory.
+/// Returns 1. Its name has a hash of what the calls are called, take and return, of the refusals
+/// and of both sizes. So a host that was compiled with others doesn't link.
+#[unsafe(no_mangle)]
+pub extern "C" fn p2p_session_interface_94783bdc9468ec13() -> u64
+    ensures { result ≡ 1 }
+{
+    1
+}
+
+/// Creates a session with no node in the memory at the pointer. It allocates nothing.
 ///
 /// # Safety
 ///
-/// The pointer leads to room of that size, in which no session lies.
+/// The pointer leads to memory of that size, in which there is no session.
 #[unsafe(no_mangle)]
 pub unsafe extern "C" fn p2p_session_new(alloc: Global, at: *mut Handle)
     requires* { sem 𝓛 (uninit_at the_row at) }
@@ -57,13 +69,13 @@ pub unsafe extern "C" fn p2p_session_new(alloc: Global, at: *mut Handle)
     unsafe { room.write(value) };
 }
 
-/// Makes the node, which a session has once: 1. max_sets is at least 1 and below UINT64_MAX, and
-/// max_bit_vec at most UINT32_MAX, else BAD_SETTING. bootstrappers: a key and the spelling of an
-/// ingress each, one after the other. myself: the spelling of the own info.
+/// Creates the node of the session, once. Returns 1. BAD_SETTING: there is a node already, max_sets
+/// is 0 or UINT64_MAX, or max_bit_vec is above UINT32_MAX. bootstrappers: for each one its key and
+/// then its encoded ingress. myself: the encoded local info.
 ///
 /// # Safety
 ///
-/// A session lies at the pointer, and the host keeps to what stands at the head of the crate.
+/// The pointer leads to a session, and the host meets the obligations at the head of the crate.
 #[unsafe(no_mangle)]
 pub unsafe extern "C" fn p2p_session_init(
     alloc: Global,
@@ -113,13 +125,14 @@ pub unsafe extern "C" fn p2p_session_init(
     )
 }
 
-/// Takes a peer set: NONE where its index is not above the latest, else the length of the keys of
-/// the peers whose connections have to end. NO_ROOM where torn is shorter than track_room answers:
-/// the set is not taken then. Keys may come in any order and more than once.
+/// Registers a peer set. Returns NONE if its index is not greater than the latest, else the number
+/// of bytes written to torn: the keys of the peers that must be disconnected. NO_ROOM if torn is
+/// shorter than track_room returns: the set is not registered then. Keys may come in any order and
+/// more than once.
 ///
 /// # Safety
 ///
-/// A session lies at the pointer, and the host keeps to what stands at the head of the crate.
+/// The pointer leads to a session, and the host meets the obligations at the head of the crate.
 #[unsafe(no_mangle)]
 pub unsafe extern "C" fn p2p_session_track(
     alloc: Global,
@@ -137,11 +150,11 @@ pub unsafe extern "C" fn p2p_session_track(
     value.track(alloc, index, primary, secondary, torn)
 }
 
-/// How much room track has to have: the size of a key for each peer with a record.
+/// How many bytes torn must have in track: the size of a key for each peer with a record.
 ///
 /// # Safety
 ///
-/// A session lies at the pointer, and the host keeps to what stands at the head of the crate.
+/// The pointer leads to a session, and the host meets the obligations at the head of the crate.
 #[unsafe(no_mangle)]
 pub unsafe extern "C" fn p2p_session_track_room(at: *mut Handle) -> u64
     ghost before: { Session }
@@ -152,11 +165,12 @@ pub unsafe extern "C" fn p2p_session_track_room(at: *mut Handle) -> u64
     value.track_room()
 }
 
-/// Reserves a peer that is to be dialled: 1 where it is granted, else 0.
+/// Reserves a peer to be dialled. Returns 1 if it is granted, else 0. The draw is a random duration
+/// (jitter).
 ///
 /// # Safety
 ///
-/// A session lies at the pointer, and the host keeps to what stands at the head of the crate.
+/// The pointer leads to a session, and the host meets the obligations at the head of the crate.
 #[unsafe(no_mangle)]
 pub unsafe extern "C" fn p2p_session_dial(
     at: *mut Handle,
@@ -174,11 +188,12 @@ pub unsafe extern "C" fn p2p_session_dial(
     value.dial(peer, seconds, nanos, draw_seconds, draw_nanos)
 }
 
-/// Reserves a peer that comes: 1 where it is granted, else 0.
+/// Reserves an inbound peer. Returns 1 if it is granted, else 0. The draw is a random duration
+/// (jitter).
 ///
 /// # Safety
 ///
-/// A session lies at the pointer, and the host keeps to what stands at the head of the crate.
+/// The pointer leads to a session, and the host meets the obligations at the head of the crate.
 #[unsafe(no_mangle)]
 pub unsafe extern "C" fn p2p_session_listen(
     at: *mut Handle,
@@ -196,15 +211,14 @@ pub unsafe extern "C" fn p2p_session_listen(
     value.listen(peer, seconds, nanos, draw_seconds, draw_nanos)
 }
 
-/// Whom the reservation that is held of a peer is for: byte 0 for one that comes, or byte 1 and the
-/// spelling of the ingress that is dialled, or NONE where none is held.
+/// Describes the reservation that is held of a peer: byte 0 if it is inbound, or byte 1 and the
+/// encoded ingress that is dialled. NONE if none is held.
 ///
 /// # Safety
 ///
-/// A session lies at the pointer, and the host keeps to what stands at the head of the crate.
+/// The pointer leads to a session, and the host meets the obligations at the head of the crate.
 #[unsafe(no_mangle)]
 pub unsafe extern "C" fn p2p_session_reservation(
-    alloc: Global,
     at: *mut Handle,
     peer: &[u8],
     out: &mut [u8],
@@ -214,14 +228,14 @@ pub unsafe extern "C" fn p2p_session_reservation(
     ensures* { ∃ₛ (λ (after : Session). sem 𝓛 (points_to the_row at after) ∗ ⌜ TellsReservation peer.now out.old out.new before after result ⌝) }
 {
     let value = unsafe { &mut *(at as *mut Session) };
-    value.reservation(alloc, peer, out)
+    value.reservation(peer, out)
 }
 
-/// Connects a peer that is reserved: 1, or NOT_RESERVED.
+/// Marks a reserved peer as connected. Returns 1, or NOT_RESERVED.
 ///
 /// # Safety
 ///
-/// A session lies at the pointer, and the host keeps to what stands at the head of the crate.
+/// The pointer leads to a session, and the host meets the obligations at the head of the crate.
 #[unsafe(no_mangle)]
 pub unsafe extern "C" fn p2p_session_connect(at: *mut Handle, peer: &[u8], dialer: bool) -> u64
     ghost before: { Session }
@@ -232,11 +246,11 @@ pub unsafe extern "C" fn p2p_session_connect(at: *mut Handle, peer: &[u8], diale
     value.connect(peer, dialer)
 }
 
-/// Releases the reservation that is held of a peer: 1, or NOT_HELD.
+/// Releases the reservation that is held of a peer. Returns 1, or NOT_HELD.
 ///
 /// # Safety
 ///
-/// A session lies at the pointer, and the host keeps to what stands at the head of the crate.
+/// The pointer leads to a session, and the host meets the obligations at the head of the crate.
 #[unsafe(no_mangle)]
 pub unsafe extern "C" fn p2p_session_release(at: *mut Handle, peer: &[u8]) -> u64
     ghost before: { Session }
@@ -247,12 +261,12 @@ pub unsafe extern "C" fn p2p_session_release(at: *mut Handle, peer: &[u8]) -> u6
     value.release(peer)
 }
 
-/// Offers infos, the spelling of a list, to the records of their peers: 1. The host made or
-/// verified them itself.
+/// Offers infos, an encoded list, to the records of their peers. Returns 1. The host must have made
+/// or verified them itself.
 ///
 /// # Safety
 ///
-/// A session lies at the pointer, and the host keeps to what stands at the head of the crate.
+/// The pointer leads to a session, and the host meets the obligations at the head of the crate.
 #[unsafe(no_mangle)]
 pub unsafe extern "C" fn p2p_session_update_peers(
     alloc: Global,
@@ -267,11 +281,11 @@ pub unsafe extern "C" fn p2p_session_update_peers(
     value.update_peers(alloc, infos)
 }
 
-/// Blocks a peer: 1 where the block is taken, else 0.
+/// Blocks a peer. Returns 1 if the block takes effect, else 0.
 ///
 /// # Safety
 ///
-/// A session lies at the pointer, and the host keeps to what stands at the head of the crate.
+/// The pointer leads to a session, and the host meets the obligations at the head of the crate.
 #[unsafe(no_mangle)]
 pub unsafe extern "C" fn p2p_session_block(
     at: *mut Handle,
@@ -287,11 +301,11 @@ pub unsafe extern "C" fn p2p_session_block(
     value.block(peer, seconds, nanos)
 }
 
-/// Ends the blocks that hold until the moment or an earlier one: 1 where there was one, else 0.
+/// Ends the blocks that hold until this time or an earlier one. Returns 1 if there was one, else 0.
 ///
 /// # Safety
 ///
-/// A session lies at the pointer, and the host keeps to what stands at the head of the crate.
+/// The pointer leads to a session, and the host meets the obligations at the head of the crate.
 #[unsafe(no_mangle)]
 pub unsafe extern "C" fn p2p_session_unblock_expired(
     at: *mut Handle,
@@ -306,11 +320,11 @@ pub unsafe extern "C" fn p2p_session_unblock_expired(
     value.unblock_expired(seconds, nanos)
 }
 
-/// Forgets the cooldowns whose dial moment has come: how many.
+/// Forgets the cooldowns whose dial time has come. Returns how many.
 ///
 /// # Safety
 ///
-/// A session lies at the pointer, and the host keeps to what stands at the head of the crate.
+/// The pointer leads to a session, and the host meets the obligations at the head of the crate.
 #[unsafe(no_mangle)]
 pub unsafe extern "C" fn p2p_session_forget_cooled(at: *mut Handle, seconds: u64, nanos: u32) -> u64
     ghost before: { Session }
@@ -321,11 +335,11 @@ pub unsafe extern "C" fn p2p_session_forget_cooled(at: *mut Handle, seconds: u64
     value.forget_cooled(seconds, nanos)
 }
 
-/// The moment at which the next block ends, of 12 bytes, or NONE.
+/// The time at which the next block ends, in 12 bytes, or NONE.
 ///
 /// # Safety
 ///
-/// A session lies at the pointer, and the host keeps to what stands at the head of the crate.
+/// The pointer leads to a session, and the host meets the obligations at the head of the crate.
 #[unsafe(no_mangle)]
 pub unsafe extern "C" fn p2p_session_next_unblock(at: *mut Handle, out: &mut [u8]) -> u64
     ghost before: { Session }
@@ -336,11 +350,11 @@ pub unsafe extern "C" fn p2p_session_next_unblock(at: *mut Handle, out: &mut [u8
     value.next_unblock(out)
 }
 
-/// The keys of those who are blocked.
+/// The keys of the blocked peers.
 ///
 /// # Safety
 ///
-/// A session lies at the pointer, and the host keeps to what stands at the head of the crate.
+/// The pointer leads to a session, and the host meets the obligations at the head of the crate.
 #[unsafe(no_mangle)]
 pub unsafe extern "C" fn p2p_session_blocked_peers(
     at: *mut Handle,
@@ -356,11 +370,11 @@ pub unsafe extern "C" fn p2p_session_blocked_peers(
     value.blocked_peers(seconds, nanos, out)
 }
 
-/// NONE where there is no record of the peer, 0 where it is inert, 1 reserved, 2 connected.
+/// The state of a peer: NONE if it has no record, 0 if it is inert, 1 if reserved, 2 if connected.
 ///
 /// # Safety
 ///
-/// A session lies at the pointer, and the host keeps to what stands at the head of the crate.
+/// The pointer leads to a session, and the host meets the obligations at the head of the crate.
 #[unsafe(no_mangle)]
 pub unsafe extern "C" fn p2p_session_status(at: *mut Handle, peer: &[u8]) -> u64
     ghost before: { Session }
@@ -371,12 +385,12 @@ pub unsafe extern "C" fn p2p_session_status(at: *mut Handle, peer: &[u8]) -> u64
     value.status(peer)
 }
 
-/// The set with an index: how many primary peers in 8 bytes, their keys, and those of the secondary
-/// peers, or NONE.
+/// The set with an index, or NONE: the number of primary peers in 8 bytes, their keys, and the keys
+/// of the secondary peers.
 ///
 /// # Safety
 ///
-/// A session lies at the pointer, and the host keeps to what stands at the head of the crate.
+/// The pointer leads to a session, and the host meets the obligations at the head of the crate.
 #[unsafe(no_mangle)]
 pub unsafe extern "C" fn p2p_session_get_peer_set(
     at: *mut Handle,
@@ -395,7 +409,7 @@ pub unsafe extern "C" fn p2p_session_get_peer_set(
 ///
 /// # Safety
 ///
-/// A session lies at the pointer, and the host keeps to what stands at the head of the crate.
+/// The pointer leads to a session, and the host meets the obligations at the head of the crate.
 #[unsafe(no_mangle)]
 pub unsafe extern "C" fn p2p_session_latest_set_index(at: *mut Handle, out: &mut [u8]) -> u64
     ghost before: { Session }
@@ -406,12 +420,12 @@ pub unsafe extern "C" fn p2p_session_latest_set_index(at: *mut Handle, out: &mut
     value.latest_set_index(out)
 }
 
-/// NONE, or the index, how many keys the first three lists have, in 8 bytes each, and the keys: the
-/// primary and secondary peers of the latest set, then of all sets.
+/// NONE, or the index and the lengths of the first three lists, in 8 bytes each, and then the keys
+/// of four lists: the primary and secondary peers of the latest set, then those of all sets.
 ///
 /// # Safety
 ///
-/// A session lies at the pointer, and the host keeps to what stands at the head of the crate.
+/// The pointer leads to a session, and the host meets the obligations at the head of the crate.
 #[unsafe(no_mangle)]
 pub unsafe extern "C" fn p2p_session_latest_update(at: *mut Handle, out: &mut [u8]) -> u64
     ghost before: { Session }
@@ -426,7 +440,7 @@ pub unsafe extern "C" fn p2p_session_latest_update(at: *mut Handle, out: &mut [u
 ///
 /// # Safety
 ///
-/// A session lies at the pointer, and the host keeps to what stands at the head of the crate.
+/// The pointer leads to a session, and the host meets the obligations at the head of the crate.
 #[unsafe(no_mangle)]
 pub unsafe extern "C" fn p2p_session_all(at: *mut Handle, out: &mut [u8]) -> u64
     ghost before: { Session }
@@ -437,11 +451,11 @@ pub unsafe extern "C" fn p2p_session_all(at: *mut Handle, out: &mut [u8]) -> u64
     value.all(out)
 }
 
-/// The spelling of the info of a peer that others may be told, or NONE.
+/// The encoded info of a peer, if it may be shared with others, or NONE.
 ///
 /// # Safety
 ///
-/// A session lies at the pointer, and the host keeps to what stands at the head of the crate.
+/// The pointer leads to a session, and the host meets the obligations at the head of the crate.
 #[unsafe(no_mangle)]
 pub unsafe extern "C" fn p2p_session_info(
     alloc: Global,
@@ -457,12 +471,12 @@ pub unsafe extern "C" fn p2p_session_info(
     value.info(alloc, peer, out)
 }
 
-/// The spelling of the list of infos for one who knows these bits, or NONE where they are of
-/// another number.
+/// The encoded list of infos to send to a peer that sent these bits. NONE if they are not as many
+/// as the primary peers of the set.
 ///
 /// # Safety
 ///
-/// A session lies at the pointer, and the host keeps to what stands at the head of the crate.
+/// The pointer leads to a session, and the host meets the obligations at the head of the crate.
 #[unsafe(no_mangle)]
 pub unsafe extern "C" fn p2p_session_infos(
     alloc: Global,
@@ -480,11 +494,11 @@ pub unsafe extern "C" fn p2p_session_infos(
     value.infos(alloc, bits, seconds, nanos, out)
 }
 
-/// The spelling of the bits of the set at a place and its index, or NONE.
+/// The encoded bits of the set at a position, with its index, or NONE.
 ///
 /// # Safety
 ///
-/// A session lies at the pointer, and the host keeps to what stands at the head of the crate.
+/// The pointer leads to a session, and the host meets the obligations at the head of the crate.
 #[unsafe(no_mangle)]
 pub unsafe extern "C" fn p2p_session_get_random_bit_vec(
     alloc: Global,
@@ -504,7 +518,7 @@ pub unsafe extern "C" fn p2p_session_get_random_bit_vec(
 ///
 /// # Safety
 ///
-/// A session lies at the pointer, and the host keeps to what stands at the head of the crate.
+/// The pointer leads to a session, and the host meets the obligations at the head of the crate.
 #[unsafe(no_mangle)]
 pub unsafe extern "C" fn p2p_session_eligible(
     at: *mut Handle,
@@ -524,7 +538,7 @@ pub unsafe extern "C" fn p2p_session_eligible(
 ///
 /// # Safety
 ///
-/// A session lies at the pointer, and the host keeps to what stands at the head of the crate.
+/// The pointer leads to a session, and the host meets the obligations at the head of the crate.
 #[unsafe(no_mangle)]
 pub unsafe extern "C" fn p2p_session_acceptable(
     at: *mut Handle,
@@ -540,12 +554,12 @@ pub unsafe extern "C" fn p2p_session_acceptable(
     value.acceptable(peer, seconds, nanos)
 }
 
-/// Byte 0, or byte 1 and the moment at which to ask again, and the keys of those who may be
+/// Byte 0, or byte 1 and the time at which to ask again, and then the keys of the peers that may be
 /// dialled.
 ///
 /// # Safety
 ///
-/// A session lies at the pointer, and the host keeps to what stands at the head of the crate.
+/// The pointer leads to a session, and the host meets the obligations at the head of the crate.
 #[unsafe(no_mangle)]
 pub unsafe extern "C" fn p2p_session_dialable(
     at: *mut Handle,
@@ -561,11 +575,42 @@ pub unsafe extern "C" fn p2p_session_dialable(
     value.dialable(seconds, nanos, out)
 }
 
-/// How many peers have a record, but for the local node.
+/// How many sets are retained: positions below this number have a set.
 ///
 /// # Safety
 ///
-/// A session lies at the pointer, and the host keeps to what stands at the head of the crate.
+/// The pointer leads to a session, and the host meets the obligations at the head of the crate.
+#[unsafe(no_mangle)]
+pub unsafe extern "C" fn p2p_session_retained(at: *mut Handle) -> u64
+    ghost before: { Session }
+    requires* { sem 𝓛 (points_to the_row at before) }
+    ensures* { ∃ₛ (λ (after : Session). sem 𝓛 (points_to the_row at after) ∗ ⌜ TellsRetained before after result ⌝) }
+{
+    let value = unsafe { &mut *(at as *mut Session) };
+    value.retained()
+}
+
+/// The time at which forget_cooled next forgets something, in 12 bytes, or NONE if no cooldown is
+/// kept.
+///
+/// # Safety
+///
+/// The pointer leads to a session, and the host meets the obligations at the head of the crate.
+#[unsafe(no_mangle)]
+pub unsafe extern "C" fn p2p_session_next_cooled(at: *mut Handle, out: &mut [u8]) -> u64
+    ghost before: { Session }
+    requires* { sem 𝓛 (points_to the_row at before) }
+    ensures* { ∃ₛ (λ (after : Session). sem 𝓛 (points_to the_row at after) ∗ ⌜ TellsNextCooled out.old out.new before after result ⌝) }
+{
+    let value = unsafe { &mut *(at as *mut Session) };
+    value.next_cooled(out)
+}
+
+/// How many peers have a record, except the local node.
+///
+/// # Safety
+///
+/// The pointer leads to a session, and the host meets the obligations at the head of the crate.
 #[unsafe(no_mangle)]
 pub unsafe extern "C" fn p2p_session_tracked(at: *mut Handle) -> u64
     ghost before: { Session }
@@ -576,11 +621,11 @@ pub unsafe extern "C" fn p2p_session_tracked(at: *mut Handle) -> u64
     value.tracked()
 }
 
-/// The frame that asks for what is wanted of the set at a place, or NONE.
+/// The frame that asks for the wanted infos of the set at a position, or NONE.
 ///
 /// # Safety
 ///
-/// A session lies at the pointer, and the host keeps to what stands at the head of the crate.
+/// The pointer leads to a session, and the host meets the obligations at the head of the crate.
 #[unsafe(no_mangle)]
 pub unsafe extern "C" fn p2p_session_ask(at: *mut Handle, place: u64, out: &mut [u8]) -> u64
     ghost before: { Session }
@@ -591,14 +636,15 @@ pub unsafe extern "C" fn p2p_session_ask(at: *mut Handle, place: u64, out: &mut 
     value.ask(place, out)
 }
 
-/// What receive has to be told of a frame: how many infos it has, in 8 bytes, and then, in their
-/// order, each info whose signature decides whether it is refused, up to the first that is refused
-/// whatever its signature is: the length of its signed bytes in 8 bytes, its key, the signed bytes,
-/// its signature. Namespace and scheme are the host's.
+/// Lists the signatures to verify before receive: first the number of infos of the frame, in 8
+/// bytes. Then follows, in their order, each info whose signature decides whether it is refused:
+/// the length of its signed bytes in 8 bytes, its key, the signed bytes, its signature. The list
+/// stops before the first info that is refused whatever its signature is. Namespace and signature
+/// scheme are the host's.
 ///
 /// # Safety
 ///
-/// A session lies at the pointer, and the host keeps to what stands at the head of the crate.
+/// The pointer leads to a session, and the host meets the obligations at the head of the crate.
 #[unsafe(no_mangle)]
 pub unsafe extern "C" fn p2p_session_check(
     alloc: Global,
@@ -616,17 +662,18 @@ pub unsafe extern "C" fn p2p_session_check(
     value.check(alloc, frame, seconds, nanos, out)
 }
 
-/// Takes a frame. verdicts has a byte for each info of the frame, in their order: 0 where its
-/// signature is not right. Those of infos that check doesn't tell aren't looked at. NO_ROOM where
-/// out is shorter than 10, BAD_VERDICTS where they are not as many as the infos. The answer: byte 0
-/// and the spelling of a message; byte 1 for a greeting that was applied; byte 2 and the frame to
-/// reply with; byte 3 and how many infos were applied, in 8 bytes; byte 4 and the fault of the
-/// frame; byte 5 for bits of another number than the peers; byte 6 and why infos are refused.
-/// docs/FORMATS.md has faults and refusals.
+/// Processes a frame. verdicts has one byte for each info of the frame, in their order: 0 if its
+/// signature is invalid. Bytes after the first 0 are ignored, and so are those of infos that check
+/// does not list. NO_ROOM if out is shorter than a key and one byte. BAD_VERDICTS if verdicts and
+/// infos differ in number. Writes byte 0 for a message, its channel in 8 bytes and its length in 8:
+/// it is the last so many bytes of the frame; byte 1 and the key of the peer whose greeting was
+/// applied; byte 2 and the frame to reply with; byte 3 and how many infos were applied, in 8 bytes;
+/// byte 4 and the error of the frame; byte 5 if bits and peers differ in number; byte 6 and why
+/// infos are refused. docs/FORMATS.md lists these errors and refusals.
 ///
 /// # Safety
 ///
-/// A session lies at the pointer, and the host keeps to what stands at the head of the crate.
+/// The pointer leads to a session, and the host meets the obligations at the head of the crate.
 #[unsafe(no_mangle)]
 pub unsafe extern "C" fn p2p_session_receive(
     alloc: Global,
@@ -645,11 +692,33 @@ pub unsafe extern "C" fn p2p_session_receive(
     value.receive(alloc, frame, seconds, nanos, verdicts, out)
 }
 
-/// Ends the session: all that it holds is given back, and the pointer leads to room again.
+/// Whether an address of 4 or 16 bytes is global: 1 or 0. BAD_INFO for another number of bytes. It
+/// needs no session.
+#[unsafe(no_mangle)]
+pub extern "C" fn p2p_session_is_global(address: &[u8]) -> u64
+    ensures { TellsGlobal address.now result }
+{
+    p2p_session::is_global(address)
+}
+
+/// Whether an ingress may be dialled under these settings: 1 or 0. address: the 4 or 16 bytes of
+/// its address, or none if it is a name. BAD_INFO for another number of bytes. It needs no session.
+#[unsafe(no_mangle)]
+pub extern "C" fn p2p_session_is_valid(
+    address: &[u8],
+    allow_private_ips: bool,
+    allow_dns: bool,
+) -> u64
+    ensures { TellsValid address.now allow_private_ips allow_dns result }
+{
+    p2p_session::is_valid(address, allow_private_ips, allow_dns)
+}
+
+/// Ends the session: all that it holds is freed, and the memory at the pointer is the host's again.
 ///
 /// # Safety
 ///
-/// A session lies at the pointer, and the host keeps to what stands at the head of the crate.
+/// The pointer leads to a session, and the host meets the obligations at the head of the crate.
 #[unsafe(no_mangle)]
 pub unsafe extern "C" fn p2p_session_free(alloc: Global, at: *mut Handle)
     ghost before: { Session }
