@@ -1,13 +1,19 @@
 #!/bin/sh
-# Builds the archive that the Rust crate links, crates/p2p_session_c/out/libp2p_session_c.a, and puts the
-# toolchain's heap beside it. By hand it proves what `rt check` has not proved yet, which may take an hour.
+# Builds the archive of the library, crates/p2p_session_c/out/libp2p_session_c.a, and puts the toolchain's heap beside
+# it, and PROVED, what was proved of it. By hand it proves what `rt check` has not proved yet, which may take an hour.
 # With --after-ci it takes the libraries that `rt ci` left, so that p2p_session_c alone is proved again.
+#
+# usage: tools/archive.sh [--after-ci LOG], what `rt ci` printed
 set -eu
 cd "$(dirname "$0")/.."
 kit=$(dirname "$(rt doc)")
 folder=crates/p2p_session_c
 below='p2p_discovery p2p_tracker p2p_directory p2p_session'
+kept=$(mktemp -d)
+trap 'rm -rf "$kept"' EXIT
+: > "$kept/before"
 if [ "${1:-}" = --after-ci ]; then
+    cp "$2" "$kept/before"
     set -- --crate-name p2p_session_c src/lib.rt --crate-type staticlib
     set -- "$@" --extern "std=$kit/rlibs/std.rlib" -L "dependency=$kit/rlibs"
     for name in $below; do
@@ -19,9 +25,13 @@ if [ "${1:-}" = --after-ci ]; then
     set -- "$@" --antt-project "$kit/rattle/logic/antt-project.json" --logic-built "$kit/logic_built"
     set -- "$@" --jobs "$(nproc)" --toolchain "$kit/toolchain" --backend llvm
     mkdir -p "$folder/out"
-    (cd "$folder" && "$kit/bin/rattle" build "$@" -o out/libp2p_session_c.a)
+    set -- "$kit/bin/rattle" build "$@" -o out/libp2p_session_c.a
 else
-    (cd "$folder" && rt lib)
+    set -- rt lib
 fi
+{ (cd "$folder" && "$@") 2>&1 && echo 0 > "$kept/status" || echo $? > "$kept/status"; } | tee "$kept/log"
+status=$(cat "$kept/status")
+[ "$status" -eq 0 ] || exit "$status"
 cp "$kit/c/liblibc_c.a" "$folder/out/"
+tools/proved.sh "$kept/before" "$kept/log" > "$folder/out/PROVED"
 echo "built $folder/out/libp2p_session_c.a"

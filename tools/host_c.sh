@@ -3,17 +3,18 @@
 # valgrind. Then runs it where an export that is handed a null pointer ends the program, and, with calls for 1,000 peers,
 # in threads with half of the stack that the header tells of.
 #
-# usage: tools/host_c.sh [FOLDER], the folder with libp2p_session_c.a and liblibc_c.a, by default the one in which
-# tools/archive.sh leaves them
+# usage: tools/host_c.sh [FOLDER], the folder with libp2p_session.a, or libp2p_session_c.a and liblibc_c.a, by default
+# the one in which the Rust crates carry it
 set -eu
 cd "$(dirname "$0")/.."
-archives=${1:-crates/p2p_session_c/out}
+archives=${1:-rust/p2p-directory-sys/prebuilt/x86_64-unknown-linux-gnu}
 tools/installed.sh cc:gcc g++ valgrind
 folder=$(mktemp -d)
 trap 'rm -rf "$folder"' EXIT
 
 strict='-g -Wall -Wextra -pedantic -Werror'
-linked="-L $archives -lp2p_session_c -llibc_c"
+linked="-L $archives -lp2p_session"
+[ -f "$archives/libp2p_session.a" ] || linked="-L $archives -lp2p_session_c -llibc_c"
 # shellcheck disable=SC2086 # lists of words
 compile() {
     cc -std=c11 $strict -I include examples/session.c $linked -o "$folder/c11"
@@ -32,6 +33,14 @@ for language in c11 c++17; do
     valgrind --quiet --error-exitcode=9 --leak-check=full --errors-for-leak-kinds=definite,indirect \
         "$folder/$language" > "$folder/lines"
 done
+# A host that was compiled for another interface doesn't link.
+sed 's/interface_[0-9a-f]*/interface_0123456789abcdef/' include/p2p_session.h > "$folder/p2p_session.h"
+# shellcheck disable=SC2086 # lists of words
+if cc -std=c11 -I "$folder" examples/session.c $linked -o "$folder/other" 2> "$folder/lines"; then
+    echo 'a host that was compiled for another interface links' >&2
+    exit 1
+fi
+grep -q 'p2p_session_interface_0123456789abcdef' "$folder/lines"
 "$folder/nonnull" > "$folder/lines" || { echo 'an export is handed a null pointer' >&2; exit 1; }
 "$folder/stack" > "$folder/lines"
 grep 'bytes of stack' "$folder/lines"

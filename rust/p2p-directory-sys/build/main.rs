@@ -1,0 +1,188 @@
+//! Says what is linked: the library and the toolchain's heap under it, from the first of these that is asked for.
+//!
+//! 1. `P2P_SESSION_LIB`: a folder with `libp2p_session.a`, or with `libp2p_session_c.a` and `liblibc_c.a`.
+//! 2. `P2P_SESSION_PROVE=1`: what `tools/archive.sh` of the repository proves and builds.
+//! 3. `P2P_SESSION_PKG_CONFIG=1`: the package `p2p_session` that pkg-config finds.
+//! 4. The archive within this package, for the target that it was built for.
+//!
+//! With `DOCS_RS` set nothing is linked, which is enough for the documentation. It writes to `OUT_DIR` alone, and the
+//! prover to `crates/*/out` of the repository.
+
+mod package;
+mod proved;
+mod sha256;
+
+use std::env;
+use std::fs;
+use std::io;
+use std::path::{Path, PathBuf};
+use std::process::{Command, Stdio};
+
+/// One archive with both, as a release has it.
+const BOTH: &str = "p2p_session";
+
+/// The library and the heap, as the toolchain builds them.
+const APART: [&str; 2] = ["p2p_session_c", "libc_c"];
+
+/// What decides where the library is taken from.
+const ASKED: [&str; 7] = [
+    "P2P_SESSION_LIB",
+    "P2P_SESSION_PROVE",
+    "P2P_SESSION_PKG_CONFIG",
+    "DOCS_RS",
+    "PKG_CONFIG",
+    "PKG_CONFIG_PATH",
+    "PKG_CONFIG_LIBDIR",
+];
+
+fn main() {
+    println!("cargo::rerun-if-changed=build");
+    for name in ASKED {
+        println!("cargo::rerun-if-env-changed={name}");
+    }
+    if env::var_os("DOCS_RS").is_some() {
+        return;
+    }
+    let linked = if let Some(folder) = env::var_os("P2P_SESSION_LIB") {
+        link_and_track(Path::new(&folder))
+    } else if is_on("P2P_SESSION_PROVE") {
+        proved()
+    } else if is_on("P2P_SESSION_PKG_CONFIG") {
+        installed()
+    } else {
+        packaged()
+    };
+    if let Err(why) = linked {
+        println!("cargo::error={why}");
+    }
+}
+
+fn is_on(name: &str) -> bool {
+    env::var_os(name).is_some_and(|value| value == "1")
+}
+
+/// Has the archives of a folder linked, and says where they stand.
+fn link(folder: &Path) -> Result<Vec<PathBuf>, String> {
+    let archive = |name: &str| folder.join(format!("lib{name}.a"));
+    let names = if archive(BOTH).is_file() {
+        &[BOTH][..]
+    } else {
+        &APART
+    };
+    let archives: Vec<PathBuf> = names.iter().copied().map(archive).collect();
+    if archives.iter().any(|archive| !archive.is_file()) {
+        let [library, heap] = APART;
+        return Err(format!(
+            "{} has neither lib{BOTH}.a nor lib{library}.a with lib{heap}.a",
+            folder.display()
+        ));
+    }
+    println!("cargo::rustc-link-search=native={}", folder.display());
+    for name in names {
+        println!("cargo::rustc-link-lib=static={name}");
+    }
+    Ok(archives)
+}
+
+/// Has the archives of a folder linked, and linked anew when they change.
+fn link_and_track(folder: &Path) -> Result<(), String> {
+    for archive in link(folder)? {
+        println!("cargo::rerun-if-changed={}", archive.display());
+    }
+    Ok(())
+}
+
+/// Proves and builds the library of the repository that this package stands in, and links it.
+fn proved() -> Result<(), String> {
+    let repository = repository().ok_or(
+        "P2P_SESSION_PROVE=1 proves the sources of a clone of the repository, and there are none beside this package",
+    )?;
+    track_sources(&repository);
+    let ended = Command::new(repository.join("tools/archive.sh"))
+        .stdout(Stdio::from(io::stderr()))
+        .status();
+    if !ended.is_ok_and(|status| status.success()) {
+        return Err(
+            "tools/archive.sh failed: it needs Rattle's toolchain, rt, on the path. Without P2P_SESSION_PROVE=1 the \
+             archive of this package is linked"
+                .to_owned(),
+        );
+    }
+    let out = PathBuf::from(env::var_os("OUT_DIR").expect("cargo sets it"));
+    for name in APART.map(|name| format!("lib{name}.a")) {
+        let built = repository.join("crates/p2p_session_c/out").join(&name);
+        fs::copy(&built, out.join(&name))
+            .map_err(|error| format!("{}: {error}", built.display()))?;
+    }
+    // Not tracked: cargo takes what a build script itself writes for changed since, and would prove again each time.
+    link(&out).map(drop)
+}
+
+/// Links the library that pkg-config finds, of the version of this package.
+fn installed() -> Result<(), String> {
+    let program = env::var_os("PKG_CONFIG").unwrap_or_else(|| "pkg-config".into());
+    let version = env!("CARGO_PKG_VERSION");
+    let asked = Command::new(program)
+        .args(["--variable=libdir", &format!("{BOTH} = {version}")])
+        .output()
+        .map_err(|error| format!("pkg-config, which P2P_SESSION_PKG_CONFIG=1 asks: {error}"))?;
+    if !asked.status.success() {
+        let said = String::from_utf8_lossy(&asked.stderr);
+        return Err(format!(
+            "pkg-config finds no {BOTH} {version}: {}. Set PKG_CONFIG_PATH to the folder of {BOTH}.pc",
+            said.trim().replace('\n', " ")
+        ));
+    }
+    link_and_track(Path::new(String::from_utf8_lossy(&asked.stdout).trim()))
+}
+
+/// Links the archive within this package, if there is one for the target and it is the one that was proved.
+fn packaged() -> Result<(), String> {
+    let target = env::var("TARGET").expect("cargo sets it");
+    let folder = manifest().join("prebuilt").join(&target);
+    if !folder.is_dir() {
+        return Err(format!(
+            "there is no archive for {target} in this package, only for {}. Set P2P_SESSION_LIB to a folder with one, \
+             or DOCS_RS=1 to build the documentation alone",
+            package::targets(&manifest().join("prebuilt"))
+        ));
+    }
+    let proved = folder.join("PROVED");
+    println!("cargo::rerun-if-changed={}", proved.display());
+    let text =
+        fs::read_to_string(&proved).map_err(|error| format!("{}: {error}", proved.display()))?;
+    package::check_archive(&text, &folder)?;
+    if let Some(repository) = repository() {
+        track_sources(&repository);
+        if !proved::fits(&text, &repository).unwrap_or(false) {
+            println!(
+                "cargo::warning=the sources of the archive have changed since it was proved, and it is linked all the \
+                 same; P2P_SESSION_PROVE=1 proves and links them as they stand"
+            );
+        }
+    }
+    link_and_track(&folder)
+}
+
+/// The repository, where this package stands in a clone of it.
+fn repository() -> Option<PathBuf> {
+    let root = manifest().join("../..");
+    (root.join("crates.txt").is_file() && root.join("tools/archive.sh").is_file()).then_some(root)
+}
+
+fn track_sources(repository: &Path) {
+    println!(
+        "cargo::rerun-if-changed={}",
+        repository.join("crates.txt").display()
+    );
+    for folder in proved::folders() {
+        println!(
+            "cargo::rerun-if-changed={}",
+            repository.join(folder).display()
+        );
+    }
+}
+
+fn manifest() -> PathBuf {
+    PathBuf::from(env::var_os("CARGO_MANIFEST_DIR").expect("cargo sets it"))
+}

@@ -1,0 +1,76 @@
+//! What a file `PROVED` tells, and the hash of the sources as they stand: of what `tools/sources.sh` prints.
+
+use crate::sha256;
+use std::fs;
+use std::io;
+use std::path::Path;
+
+/// The crates that the archive is made from.
+const CRATES: [&str; 5] = [
+    "p2p_discovery",
+    "p2p_tracker",
+    "p2p_directory",
+    "p2p_session",
+    "p2p_session_c",
+];
+
+/// The folders of the repository with the sources of the archive. Proofs and specs change no code.
+pub fn folders() -> [String; 5] {
+    CRATES.map(|name| format!("crates/{name}/src"))
+}
+
+/// Whether the sources of a repository are those that a file `PROVED` tells of.
+pub fn fits(text: &str, repository: &Path) -> io::Result<bool> {
+    let toolchain = text.lines().next().unwrap_or_default();
+    let hash = sha256::hex(sources(repository, toolchain)?.as_bytes());
+    Ok(told_hash(text, "sources") == Some(&hash))
+}
+
+/// The hash that a line of a file `PROVED` has for a name, in the form of `sha256sum`.
+pub fn told_hash<'a>(text: &'a str, name: &str) -> Option<&'a str> {
+    let mut pairs = text.lines().filter_map(|line| line.split_once("  "));
+    pairs
+        .find(|(_, named)| *named == name)
+        .map(|(hash, _)| hash)
+}
+
+/// What `tools/sources.sh` prints: the hash of each source, the crates' lines of crates.txt, and the toolchain.
+pub fn sources(repository: &Path, toolchain: &str) -> io::Result<String> {
+    let mut paths = Vec::new();
+    for folder in folders() {
+        add_files(repository, &folder, &mut paths)?;
+    }
+    paths.sort();
+    let mut text = String::new();
+    for path in paths {
+        let hash = sha256::hex(&fs::read(repository.join(&path))?);
+        text += &format!("{hash}  {path}\n");
+    }
+    let lines = fs::read_to_string(repository.join("crates.txt"))?;
+    for name in CRATES {
+        for line in lines.lines().filter(|line| is_of(name, line)) {
+            text += &format!("{line}\n");
+        }
+    }
+    Ok(text + toolchain + "\n")
+}
+
+/// Whether a line of crates.txt is a crate's.
+fn is_of(name: &str, line: &str) -> bool {
+    let rest = line.strip_prefix(name);
+    rest.is_some_and(|rest| rest.starts_with([' ', ':']))
+}
+
+/// Adds the paths of all files below a folder, from the repository on.
+fn add_files(repository: &Path, folder: &str, paths: &mut Vec<String>) -> io::Result<()> {
+    for entry in fs::read_dir(repository.join(folder))? {
+        let entry = entry?;
+        let path = format!("{folder}/{}", entry.file_name().to_string_lossy());
+        if entry.file_type()?.is_dir() {
+            add_files(repository, &path, paths)?;
+        } else {
+            paths.push(path);
+        }
+    }
+    Ok(())
+}

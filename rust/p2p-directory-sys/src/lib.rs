@@ -1,0 +1,42 @@
+//! The calls of a proved directory of peers over numbers and bytes, and the library that answers them.
+//!
+//! A [`Session`] is a node in room of its own. Each call of it is one of the library, which is proved in Rattle: what a call
+//! takes and answers are numbers, and slices of bytes in the forms of `docs/FORMATS.md` of the repository. An answer is a
+//! count, a truth value as 0 or 1, a length, or one of the numbers from [`BAD_VERDICTS`] on, with which nothing has changed
+//! and nothing was written. The crate `p2p-directory` has the same calls with types.
+//!
+//! # What is linked
+//!
+//! The first of these that the environment asks for when the crate is built:
+//!
+//! | Set | Linked |
+//! |---|---|
+//! | `P2P_SESSION_LIB` to the absolute path of a folder | its `libp2p_session.a`, or else its `libp2p_session_c.a` and `liblibc_c.a` |
+//! | `P2P_SESSION_PROVE=1`, in a clone with the toolchain | the sources as they stand, proved first: an hour or so |
+//! | `P2P_SESSION_PKG_CONFIG=1` | the `p2p_session` of this version that pkg-config finds |
+//! | none of them | the archive within this package, for `x86_64-unknown-linux-gnu`; its `PROVED` has what was proved of it |
+//!
+//! With `DOCS_RS` set nothing is linked, which is enough to build the documentation.
+//!
+//! # Examples
+//!
+//! ```
+//! use p2p_directory_sys::{MEMORY, NO_NODE, Session};
+//!
+//! let session = Session::new().ok_or("no memory")?;
+//! // No node was made by `init` yet.
+//! assert_eq!(session.tracked(), NO_NODE);
+//! assert_ne!(session.tracked(), MEMORY);
+//! # Ok::<(), &str>(())
+//! ```
+
+#![deny(unsafe_code)]
+
+#[cfg(not(target_pointer_width = "64"))]
+compile_error!("the library is built for targets whose `usize` has 64 bits");
+
+#[allow(unsafe_code)]
+#[rustfmt::skip]
+mod exports;
+
+pub use exports::*;

@@ -1,0 +1,149 @@
+//! What calls are timed on: keys in no order, infos, sets, directories.
+
+use crate::Outcome;
+use p2p_directory::{
+    BitVec, Config, Directory, Info, Ingress, Key, Node, OrderedSet, Payload, PayloadConfig, Setup,
+    Signature, TrackedPeers,
+};
+use std::net::SocketAddr;
+use std::num::NonZeroUsize;
+use std::time::Duration;
+
+/// How many sets are retained where nothing else is said.
+pub(crate) const SETS: usize = 4;
+
+const NAMESPACE: &[u8] = b"rows";
+
+// A number whose bits depend on all bits of another, so that keys come in no order.
+fn mixed(number: u64) -> u64 {
+    let z = number
+        .wrapping_add(1)
+        .wrapping_mul(0x9e37_79b9_7f4a_7c15)
+        .wrapping_add(7);
+    let z = (z ^ (z >> 30)).wrapping_mul(0xbf58_476d_1ce4_e5b9);
+    let z = (z ^ (z >> 27)).wrapping_mul(0x94d0_49bb_1331_11eb);
+    z ^ (z >> 31)
+}
+
+fn key(number: u64) -> Key {
+    let mut bytes = [0; 32];
+    bytes[..8].copy_from_slice(&number.to_be_bytes());
+    Key(bytes)
+}
+
+/// So many keys, from a number on.
+pub(crate) fn keys(from: usize, count: usize) -> Vec<Key> {
+    let numbers = from..from + count;
+    numbers.map(|number| key(mixed(number as u64))).collect()
+}
+
+/// Where a peer can be dialled.
+pub(crate) fn ingress(key: &Key) -> Ingress {
+    Ingress::from(SocketAddr::from(([1, 2, 3, key.0[7]], 8000)))
+}
+
+fn signed(key: Key, ingress: Ingress, timestamp: u64) -> Info {
+    Info::sign(key, NAMESPACE, ingress, timestamp, |_, _| {
+        let mut bytes = [0; 64];
+        bytes[..32].copy_from_slice(&key.0);
+        Signature(bytes)
+    })
+}
+
+/// Whether a signature is right: it begins with the key.
+pub(crate) fn verify(key: &Key, _: &[u8], _: &[u8], signature: &Signature) -> bool {
+    signature.0[..32] == key.0
+}
+
+/// The infos of these peers.
+pub(crate) fn infos(keys: &[Key], timestamp: u64) -> Vec<Info> {
+    let infos = keys.iter();
+    infos
+        .map(|key| signed(*key, ingress(key), timestamp))
+        .collect()
+}
+
+/// The info of the local node.
+pub(crate) fn own_info() -> Info {
+    signed(
+        key(9),
+        Ingress::from(SocketAddr::from(([8, 8, 8, 8], 9000))),
+        0,
+    )
+}
+
+/// A configuration that retains so many sets.
+pub(crate) fn config(sets: usize) -> Config {
+    Config {
+        allow_private_ips: true,
+        allow_dns: true,
+        max_sets: NonZeroUsize::new(sets).unwrap_or(NonZeroUsize::MIN),
+        dial_fail_limit: 1,
+        peer_connection_cooldown: Duration::from_secs(10),
+        block_duration: Duration::from_secs(60),
+    }
+}
+
+/// Primary peers alone.
+pub(crate) fn tracked(keys: &[Key]) -> TrackedPeers {
+    OrderedSet::from_iter_dedup(keys.iter().copied()).into()
+}
+
+/// A directory with no set, which retains so many.
+pub(crate) fn directory(sets: usize) -> Outcome<Directory> {
+    Ok(Directory::init(&[], &own_info(), config(sets))?)
+}
+
+// Sets of all these peers, as many as are retained.
+fn fill(directory: &mut Directory, keys: &[Key]) -> Outcome<()> {
+    for index in 0..SETS as u64 {
+        directory.track(index, &tracked(keys))?;
+    }
+    Ok(())
+}
+
+/// A directory whose sets all name these peers.
+pub(crate) fn full(keys: &[Key]) -> Outcome<Directory> {
+    let mut directory = directory(SETS)?;
+    fill(&mut directory, keys)?;
+    Ok(directory)
+}
+
+/// A directory whose sets all name these peers, and that knows their infos.
+pub(crate) fn known(keys: &[Key]) -> Outcome<Directory> {
+    let mut directory = full(keys)?;
+    directory.update_peers(&infos(keys, 1000))?;
+    Ok(directory)
+}
+
+/// A node whose sets all name these peers.
+pub(crate) fn node(keys: &[Key]) -> Outcome<Node> {
+    let mut node = Node::new(&Setup {
+        bootstrappers: Vec::new(),
+        myself: own_info(),
+        cfg: config(SETS),
+        payload: PayloadConfig {
+            max_bit_vec: 1_000_000,
+            max_peers: 1_000_000,
+            max_data_length: 1_000_000,
+        },
+        peer_gossip_max_count: keys.len(),
+        synchrony_bound: Duration::from_secs(30),
+        namespace: NAMESPACE.to_vec(),
+    })?;
+    fill(node.directory_mut(), keys)?;
+    Ok(node)
+}
+
+/// A frame with the infos of these peers.
+pub(crate) fn frame(keys: &[Key], timestamp: u64) -> Vec<u8> {
+    Payload::Peers(infos(keys, timestamp)).encode()
+}
+
+/// Bits of the last set, none of which is set.
+pub(crate) fn no_bits(count: usize) -> BitVec {
+    BitVec {
+        index: SETS as u64 - 1,
+        bits: vec![false; count],
+    }
+}

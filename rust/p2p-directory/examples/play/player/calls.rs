@@ -1,0 +1,238 @@
+//! Calls of one node, or of two.
+
+use super::Named;
+use super::fault::Fault;
+use super::printed::{
+    bit_vec, data, dialable, hexadecimal, info, infos, keys, option, or_none, tracked, update,
+};
+use super::usage::nearest_command;
+use super::words::Words;
+use p2p_directory::testing::verify;
+use p2p_directory::{Moment, OutOfMemory, Payload, PayloadConfig, Received, Reservation};
+
+/// What a call is answered.
+pub type Reply = Result<String, OutOfMemory>;
+
+/// A call whose arguments are read.
+pub type Call = Box<dyn FnOnce(&mut Named) -> Reply>;
+
+const ALL: PayloadConfig = PayloadConfig {
+    max_bit_vec: u64::MAX,
+    max_peers: usize::MAX,
+    max_data_length: usize::MAX,
+};
+
+/// The call of this name with these arguments. Infos are signed in the namespace.
+pub fn parsed(name: &str, words: &mut Words<'_>, namespace: &[u8]) -> Result<Call, Fault> {
+    match name {
+        "track" | "get_peer_set" | "latest_update" | "latest_set_index" | "all" => {
+            sets(name, words)
+        }
+        "dial" | "listen" | "connect" | "release" => reservations(name, words),
+        "block" | "unblock_expired" | "next_unblock" | "blocked_peers" => blocks(name, words),
+        "update" | "info" | "infos" | "bits" => knowledge(name, words, namespace),
+        "ask" | "receive" => frames(name, words),
+        _ => others(name, words),
+    }
+}
+
+fn sets(name: &str, words: &mut Words<'_>) -> Result<Call, Fault> {
+    Ok(match name {
+        "track" => {
+            let (index, peers) = (words.number()?, words.tracked()?);
+            Box::new(move |named| {
+                let torn = named.directory().track(index, &peers)?;
+                Ok(option(torn.map(|torn| keys(&torn))))
+            })
+        }
+        "get_peer_set" => {
+            let index = words.number()?;
+            Box::new(move |named| {
+                let set = named.directory().get_peer_set(index)?;
+                Ok(option(set.map(|set| tracked(&set))))
+            })
+        }
+        "latest_update" => Box::new(|named| {
+            let latest = named.directory().latest_update()?;
+            Ok(option(latest.map(|latest| update(&latest))))
+        }),
+        "latest_set_index" => Box::new(|named| Ok(option(named.directory().latest_set_index()))),
+        _ => Box::new(|named| Ok(tracked(&named.directory().all()?))),
+    })
+}
+
+fn reservations(name: &str, words: &mut Words<'_>) -> Result<Call, Fault> {
+    let peer = words.peer()?;
+    Ok(match name {
+        "dial" => {
+            let (now, draw) = (words.moment()?, words.draw()?);
+            Box::new(move |named| {
+                let granted = named.directory().dial(&peer, now, draw)?;
+                Ok(named.keep(granted))
+            })
+        }
+        "listen" => {
+            let (now, draw) = (words.moment()?, words.draw()?);
+            Box::new(move |named| {
+                let granted = named.directory().listen(&peer, now, draw)?;
+                Ok(named.keep(granted))
+            })
+        }
+        "connect" => {
+            let is_dialer = words.truth()?;
+            Box::new(move |named| {
+                let connected = named.directory().connect(&peer, is_dialer);
+                Ok(connected.map_or("NotReserved", |()| "done").to_owned())
+            })
+        }
+        _ => Box::new(move |named| {
+            let Some(reservation) = named.held.remove(&peer) else {
+                return Ok("NotHeld".to_owned());
+            };
+            let released = named.directory().release(reservation);
+            released.expect("the reservation is of this directory");
+            Ok("done".to_owned())
+        }),
+    })
+}
+
+impl Named {
+    fn keep(&mut self, granted: Option<Reservation>) -> String {
+        let Some(reservation) = granted else {
+            return "refused".to_owned();
+        };
+        self.held.insert(*reservation.public_key(), reservation);
+        "granted".to_owned()
+    }
+}
+
+fn blocks(name: &str, words: &mut Words<'_>) -> Result<Call, Fault> {
+    Ok(match name {
+        "block" => {
+            let (peer, now) = (words.peer()?, words.moment()?);
+            Box::new(move |named| Ok(named.directory().block(&peer, now)?.to_string()))
+        }
+        "unblock_expired" => {
+            let now = words.moment()?;
+            Box::new(move |named| Ok(named.directory().unblock_expired(now).to_string()))
+        }
+        "blocked_peers" => {
+            let now = words.moment()?;
+            Box::new(move |named| Ok(keys(&named.directory().blocked_peers(now)?)))
+        }
+        _ => Box::new(|named| Ok(option(named.directory().next_unblock()))),
+    })
+}
+
+fn knowledge(name: &str, words: &mut Words<'_>, namespace: &[u8]) -> Result<Call, Fault> {
+    Ok(match name {
+        "update" => {
+            let news = words.infos(namespace)?;
+            Box::new(move |named| {
+                named.directory().update_peers(&news)?;
+                Ok("done".to_owned())
+            })
+        }
+        "info" => {
+            let peer = words.peer()?;
+            Box::new(move |named| {
+                let known = named.directory().info(&peer)?;
+                Ok(or_none(known.map(|known| info(&known))))
+            })
+        }
+        "infos" => {
+            let (bits, now) = (words.bit_vec()?, words.moment()?);
+            Box::new(move |named| {
+                let shared = named.directory().infos(&bits, now)?;
+                Ok(option(shared.map(|shared| infos(&shared))))
+            })
+        }
+        _ => {
+            let place = words.size()?;
+            Box::new(move |named| {
+                let bits = named.directory().get_random_bit_vec(place)?;
+                Ok(or_none(bits.map(|bits| bit_vec(&bits))))
+            })
+        }
+    })
+}
+
+fn frames(name: &str, words: &mut Words<'_>) -> Result<Call, Fault> {
+    Ok(match name {
+        "ask" => {
+            let place = words.size()?;
+            Box::new(move |named| {
+                let frame = named.node.ask(place)?;
+                Ok(or_none(frame.map(|frame| hexadecimal(&frame))))
+            })
+        }
+        _ => {
+            let (frame, now) = (words.bytes()?, words.moment()?);
+            Box::new(move |named| Ok(received(&named.node.receive(&frame, now, verify))))
+        }
+    })
+}
+
+fn received(received: &Received) -> String {
+    match received {
+        Received::Data(message) => format!("Data({})", data(message)),
+        Received::Reply(frame) => format!("Reply({})", hexadecimal(frame)),
+        other => format!("{other:?}"),
+    }
+}
+
+fn others(name: &str, words: &mut Words<'_>) -> Result<Call, Fault> {
+    Ok(match name {
+        "status" => {
+            let peer = words.peer()?;
+            Box::new(move |named| {
+                let status = named.directory().status(&peer);
+                Ok(or_none(status.map(|status| format!("{status:?}"))))
+            })
+        }
+        "eligible" => {
+            let (peer, now) = (words.peer()?, words.moment()?);
+            Box::new(move |named| Ok(named.directory().eligible(&peer, now).to_string()))
+        }
+        "acceptable" => {
+            let (peer, now) = (words.peer()?, words.moment()?);
+            Box::new(move |named| Ok(named.directory().acceptable(&peer, now).to_string()))
+        }
+        "dialable" => {
+            let now = words.moment()?;
+            Box::new(move |named| Ok(dialable(&named.directory().dialable(now)?)))
+        }
+        "forget_cooled" => {
+            let now = words.moment()?;
+            Box::new(move |named| Ok(named.directory().forget_cooled(now).to_string()))
+        }
+        "tracked" => Box::new(|named| Ok(named.directory().tracked().to_string())),
+        _ => return Err(Fault::unknown("command", nearest_command(name))),
+    })
+}
+
+/// What it came to that one node asked another for what it wants of the set at a place.
+pub fn exchanged(
+    asker: &mut Named,
+    replier: &mut Named,
+    place: usize,
+    asker_now: Moment,
+    replier_now: Moment,
+) -> Reply {
+    let Some(frame) = asker.node.ask(place)? else {
+        return Ok("NoSet".to_owned());
+    };
+    let reply = match replier.node.receive(&frame, replier_now, verify) {
+        Received::Reply(reply) => reply,
+        Received::Codec(fault) => return Ok(format!("AskRefused({fault:?})")),
+        other => return Ok(received(&other)),
+    };
+    Ok(match asker.node.receive(&reply, asker_now, verify) {
+        Received::Applied(_) => match Payload::decode(&reply, &ALL) {
+            Ok(Payload::Peers(peers)) => format!("Applied({})", infos(&peers)),
+            other => format!("{other:?}"),
+        },
+        Received::Codec(fault) => format!("ReplyRefused({fault:?})"),
+        other => received(&other),
+    })
+}

@@ -1,0 +1,181 @@
+//! Nodes that are called by names, and lines that are typed to them.
+
+mod calls;
+mod fault;
+mod printed;
+mod script;
+mod settings;
+mod usage;
+mod words;
+
+use calls::{exchanged, parsed};
+use fault::Fault;
+use p2p_directory::testing::sign;
+use p2p_directory::{
+    Directory, Info, Ingress, KEY_SIZE, Key, Node, Payload, PayloadConfig, Reservation, Setup,
+    SetupError,
+};
+use printed::{hexadecimal, info, ingress, payload};
+pub use script::{Mode, Tally, play};
+use std::collections::BTreeMap;
+use usage::{command_of, nearest_command};
+use words::Words;
+
+/// The key of a number, which is in its last bytes.
+pub fn key(number: u64) -> Key {
+    let mut bytes = [0; KEY_SIZE];
+    bytes[KEY_SIZE - 8..].copy_from_slice(&number.to_be_bytes());
+    Key(bytes)
+}
+
+/// The info of these parts, signed by the key in the namespace.
+pub fn signed(key: Key, namespace: &[u8], ingress: Ingress, timestamp: u64) -> Info {
+    Info::sign(key, namespace, ingress, timestamp, |namespace, message| {
+        sign(&key, namespace, message)
+    })
+}
+
+/// A node with its name, and the reservations that it granted.
+struct Named {
+    name: String,
+    namespace: Vec<u8>,
+    node: Node,
+    held: BTreeMap<Key, Reservation>,
+}
+
+impl Named {
+    fn new(name: &str, setup: Setup) -> Result<Named, SetupError> {
+        Ok(Named {
+            name: name.to_owned(),
+            namespace: setup.namespace.clone(),
+            node: Node::new(&setup)?,
+            held: BTreeMap::new(),
+        })
+    }
+
+    fn directory(&mut self) -> &mut Directory {
+        self.node.directory_mut()
+    }
+}
+
+/// Nodes of different names, of which one was made or named last.
+struct Player {
+    nodes: Vec<Named>,
+    latest: usize,
+}
+
+impl Player {
+    /// One node of no name and no settings.
+    fn new() -> Result<Player, SetupError> {
+        Ok(Player {
+            nodes: vec![Named::new("", settings::default_setup())?],
+            latest: 0,
+        })
+    }
+
+    /// Answers a line. One that can't be read changes nothing.
+    fn answer(&mut self, line: &str) -> Result<String, Fault> {
+        let (first, rest) = first_word(line);
+        let Some(name) = first.strip_suffix(':') else {
+            return self.answer_to(self.latest, first, rest);
+        };
+        let node = self.place_of(name)?;
+        let (name, rest) = first_word(rest);
+        self.answer_to(node, name, rest)
+    }
+
+    fn place_of(&self, name: &str) -> Result<usize, Fault> {
+        let place = self.nodes.iter().position(|named| named.name == name);
+        place.ok_or_else(|| Fault::new("no such node, expected a name that was given to one"))
+    }
+
+    fn answer_to(&mut self, node: usize, name: &str, arguments: &str) -> Result<String, Fault> {
+        let Some(usage) = command_of(name) else {
+            let nearest = nearest_command(name);
+            return Err(Fault::unknown("command", nearest));
+        };
+        let mut words = Words::new(arguments, usage);
+        match name {
+            "node" => self.put(&mut words),
+            "decode" | "recode" => value(name, &mut words),
+            "frame" => {
+                let frame = words.payload(&self.nodes[node].namespace)?;
+                words.end()?;
+                Ok(hexadecimal(&frame.encode()))
+            }
+            "exchange" => self.exchange(node, &mut words),
+            _ => {
+                let call = parsed(name, &mut words, &self.nodes[node].namespace)?;
+                words.end()?;
+                self.latest = node;
+                Ok(call(&mut self.nodes[node])?)
+            }
+        }
+    }
+
+    // A new node, in place of the one of its name.
+    fn put(&mut self, words: &mut Words<'_>) -> Result<String, Fault> {
+        let name = words.word()?;
+        if name.contains([':', '=']) {
+            return Err(Fault::form("a name without : and ="));
+        }
+        let named = Named::new(name, settings::setup(words)?)?;
+        match self.place_of(name) {
+            Ok(place) => {
+                self.nodes[place] = named;
+                self.latest = place;
+            }
+            Err(_none) => {
+                self.latest = self.nodes.len();
+                self.nodes.push(named);
+            }
+        }
+        Ok("ready".to_owned())
+    }
+
+    fn exchange(&mut self, asker: usize, words: &mut Words<'_>) -> Result<String, Fault> {
+        let replier = self.place_of(words.word()?)?;
+        let (place, asker_now) = (words.size()?, words.moment()?);
+        let replier_now = words.moment()?;
+        words.end()?;
+        self.latest = asker;
+        let Ok([asker, replier]) = self.nodes.get_disjoint_mut([asker, replier]) else {
+            return Ok("NoNode".to_owned());
+        };
+        Ok(exchanged(asker, replier, place, asker_now, replier_now)?)
+    }
+}
+
+// The first word, and what is behind it.
+fn first_word(text: &str) -> (&str, &str) {
+    let text = text.trim_start();
+    text.split_once(char::is_whitespace).unwrap_or((text, ""))
+}
+
+// The value that bytes spell, or its bytes.
+fn value(name: &str, words: &mut Words<'_>) -> Result<String, Fault> {
+    let kind = words.word()?;
+    let limits = match kind {
+        "payload" => Some(PayloadConfig {
+            max_bit_vec: words.number()?,
+            max_peers: words.size()?,
+            max_data_length: words.size()?,
+        }),
+        "info" | "ingress" => None,
+        _ => return Err(Fault::form("payload, info or ingress")),
+    };
+    let bytes = words.bytes()?;
+    words.end()?;
+    let read = match limits {
+        Some(limits) => {
+            Payload::decode(&bytes, &limits).map(|read| (payload(&read), read.encode()))
+        }
+        None if kind == "info" => Info::decode(&bytes).map(|read| (info(&read), read.encode())),
+        None => Ingress::decode(&bytes).map(|read| (ingress(&read), read.encode())),
+    };
+    Ok(match read {
+        Ok((text, _)) if name == "decode" => text,
+        Ok((_, bytes)) => hexadecimal(&bytes),
+        Err(fault) => format!("{fault:?}"),
+    })
+}

@@ -1,0 +1,270 @@
+//! A connection: the greeting, questions, replies and messages, and the end.
+
+use super::Event;
+use super::shared::{Listed, Outgoing, Shared, random};
+use super::wire::{DATA, GREETING, read_frame, write_frame};
+use p2p_directory::testing::verify;
+use p2p_directory::{
+    EncodedData, Error, Key, OutOfMemory, Payload, Question, Questions, Received, Reservation,
+};
+use std::convert::Infallible;
+use std::fmt;
+use std::io::{self, BufReader, ErrorKind};
+use std::net::{Shutdown, TcpStream};
+use std::sync::Arc;
+use std::sync::mpsc::{Receiver, RecvTimeoutError, SyncSender, sync_channel};
+use std::time::{Duration, Instant};
+
+/// How many frames of gossip a peer may send in the time in which it asks once: a question, a reply, and as much again
+/// thrice, for frames that were held up and come together.
+const GOSSIP_FRAMES: u32 = 8;
+
+/// How many frames wait for a peer that is slow to read.
+const QUEUE: usize = 64;
+
+/// Why a connection ended.
+enum End {
+    /// The stream was closed, by either side.
+    Closed(io::Error),
+    /// The peer sent what a correct peer doesn't send.
+    Broken(String),
+    /// This side wants it no longer.
+    Left(&'static str),
+}
+
+impl End {
+    fn is_broken(&self) -> bool {
+        matches!(self, End::Broken(_))
+    }
+}
+
+impl fmt::Display for End {
+    fn fmt(&self, f: &mut fmt::Formatter<'_>) -> fmt::Result {
+        match self {
+            End::Closed(why) if why.kind() == ErrorKind::UnexpectedEof => f.write_str("closed"),
+            End::Closed(why) => why.fmt(f),
+            End::Broken(why) => f.write_str(why),
+            End::Left(why) => f.write_str(why),
+        }
+    }
+}
+
+impl From<io::Error> for End {
+    fn from(error: io::Error) -> End {
+        match error.kind() {
+            ErrorKind::InvalidData => End::Broken(error.to_string()),
+            _ => End::Closed(error),
+        }
+    }
+}
+
+impl From<OutOfMemory> for End {
+    fn from(_: OutOfMemory) -> End {
+        End::Left("out of memory")
+    }
+}
+
+/// Serves the connection of a reservation until it ends, and then gives the reservation back.
+pub fn run(shared: &Arc<Shared>, listed: Listed, reservation: Reservation) {
+    let peer = *reservation.public_key();
+    let Err(end) = serve(shared, &listed, &reservation);
+    drop(listed);
+    let is_blocked = {
+        let mut state = shared.lock();
+        let now = state.now();
+        let directory = state.node.directory_mut();
+        // Without memory for the block the peer is disconnected all the same, and its cooldown holds.
+        let is_blocked = end.is_broken() && directory.block(&peer, now) == Ok(true);
+        let released = directory.release(reservation);
+        released.expect("this directory granted it");
+        is_blocked
+    };
+    if is_blocked {
+        shared.tell(Event::Blocked(peer));
+    }
+    shared.tell(Event::Ended(peer, end.to_string()));
+    shared.wake();
+}
+
+fn serve(
+    shared: &Arc<Shared>,
+    listed: &Listed,
+    reservation: &Reservation,
+) -> Result<Infallible, End> {
+    let outbox = connect(shared, listed, reservation)?;
+    read(shared, &listed.stream, *reservation.public_key(), &outbox)
+}
+
+/// Connects the peer, greets it, and starts the thread that writes.
+fn connect(
+    shared: &Arc<Shared>,
+    listed: &Listed,
+    reservation: &Reservation,
+) -> Result<SyncSender<Outgoing>, End> {
+    let peer = *reservation.public_key();
+    let (outbox, outgoing) = sync_channel(QUEUE);
+    let greeting = {
+        let mut state = shared.lock();
+        let now = state.now();
+        // A set that went or a block during the handshake found no connection to end.
+        if !state.node.directory().eligible(&peer, now) {
+            return Err(End::Left("the peer is in no set any more"));
+        }
+        let connected = state.node.directory_mut().connect_reserved(reservation);
+        connected.expect("this directory granted it, and it is connected once");
+        listed.connect(&mut state, peer, outbox.clone());
+        state.node.greeting().to_vec()
+    };
+    write_frame(&listed.stream, &[&greeting])?;
+    shared.tell(Event::Connected(peer));
+    let stream = listed.stream.try_clone()?;
+    shared.spawn(move |shared| {
+        // A stream that can't be written to isn't read any longer either.
+        let _ = write(shared, &stream, &outgoing);
+        let _ = stream.shutdown(Shutdown::Both);
+    })?;
+    Ok(outbox)
+}
+
+/// Writes what is to be sent, and asks now and then, until nobody sends any more.
+fn write(shared: &Shared, stream: &TcpStream, outgoing: &Receiver<Outgoing>) -> io::Result<()> {
+    let mut ask_at = Instant::now();
+    loop {
+        if Instant::now() >= ask_at {
+            ask(shared, stream)?;
+            ask_at = Instant::now() + shared.settings.gossip;
+        }
+        let wait = ask_at.saturating_duration_since(Instant::now());
+        match outgoing.recv_timeout(wait) {
+            Ok(Outgoing::Frame(frame)) => write_frame(stream, &[&frame])?,
+            Ok(Outgoing::Message(channel, message)) => {
+                let size = u32::try_from(message.len()).map_err(|_| ErrorKind::InvalidInput)?;
+                let header = EncodedData::new(channel, size);
+                write_frame(stream, &[header.as_bytes(), &message])?;
+            }
+            Err(RecvTimeoutError::Timeout) => {}
+            Err(RecvTimeoutError::Disconnected) => return Ok(()),
+        }
+    }
+}
+
+/// Asks for what is wanted of a random set.
+fn ask(shared: &Shared, stream: &TcpStream) -> io::Result<()> {
+    let question = {
+        let state = shared.lock();
+        let place = random() as usize % state.retained.max(1);
+        state.node.ask(place)
+    };
+    match question {
+        Ok(Some(question)) => write_frame(stream, &[&question]),
+        // There is no set yet, or no memory for a question: the next one may have it.
+        Ok(None) | Err(OutOfMemory) => Ok(()),
+    }
+}
+
+/// How many frames of gossip a peer may still send.
+struct Allowance {
+    left: u32,
+    since: Instant,
+}
+
+impl Allowance {
+    fn new() -> Allowance {
+        Allowance {
+            left: GOSSIP_FRAMES,
+            since: Instant::now(),
+        }
+    }
+
+    fn admits(&mut self, gossip: Duration) -> bool {
+        if self.since.elapsed() >= gossip {
+            *self = Allowance::new();
+        }
+        let is_left = self.left > 0;
+        self.left = self.left.saturating_sub(1);
+        is_left
+    }
+}
+
+/// Takes frames until the connection ends.
+fn read(
+    shared: &Shared,
+    stream: &TcpStream,
+    peer: Key,
+    outbox: &SyncSender<Outgoing>,
+) -> Result<Infallible, End> {
+    stream.set_read_timeout(Some(shared.settings.silence))?;
+    let mut reader = BufReader::new(stream);
+    let greeting = read_frame(&mut reader, shared.limits)?;
+    match Payload::decode(&greeting, &shared.settings.payload) {
+        Ok(Payload::Greeting(info)) if info.public_key == peer => {}
+        _ => return Err(End::Broken("the first frame doesn't greet".to_owned())),
+    }
+    take(shared, peer, outbox, &greeting)?;
+    let mut allowance = Allowance::new();
+    loop {
+        let frame = read_frame(&mut reader, shared.limits)?;
+        match frame.first() {
+            Some(&GREETING) => return Err(End::Broken("a second greeting".to_owned())),
+            Some(&DATA) => take(shared, peer, outbox, &frame)?,
+            _ if allowance.admits(shared.settings.gossip) => take(shared, peer, outbox, &frame)?,
+            _ => shared.tell(Event::Ignored(peer)),
+        }
+    }
+}
+
+/// Hands a frame to the node, and does what its answer says.
+fn take(
+    shared: &Shared,
+    peer: Key,
+    outbox: &SyncSender<Outgoing>,
+    frame: &[u8],
+) -> Result<(), End> {
+    match receive(shared, frame)? {
+        Received::Data(data) => shared.tell(Event::Message(peer, data)),
+        // An address may have come that can be dialled now.
+        Received::Greeted | Received::Applied(_) => shared.wake(),
+        // A peer that doesn't read its replies misses them: it asks again.
+        Received::Reply(reply) => {
+            let _ = outbox.try_send(Outgoing::Frame(reply));
+        }
+        Received::Memory => return Err(OutOfMemory.into()),
+        // The clock that is wrong may be the own one.
+        Received::Invalid(Error::SynchronyBound) => return Err(End::Left("an info of the future")),
+        refused => return Err(End::Broken(format!("{refused:?}"))),
+    }
+    Ok(())
+}
+
+/// What the node answers to a frame. Signatures are verified while it isn't locked.
+fn receive(shared: &Shared, frame: &[u8]) -> Result<Received, End> {
+    let questions = {
+        let mut state = shared.lock();
+        let now = state.now();
+        state.node.check(frame, now)?
+    };
+    let verdicts = verdicts(&questions);
+    let judged = questions.judged(verdicts);
+    let judged = judged.expect("there is a verdict for each question, or the last is false");
+    let received = shared.lock().node.receive_judged(judged);
+    Ok(received.expect("this node checked the frame"))
+}
+
+/// Whether each signature is right, up to the first that isn't.
+fn verdicts(questions: &Questions<'_>) -> Vec<bool> {
+    let mut verdicts = Vec::new();
+    for question in questions {
+        let Question {
+            public_key,
+            message,
+            signature,
+            ..
+        } = question;
+        let is_right = verify(&public_key, questions.namespace(), message, &signature);
+        verdicts.push(is_right);
+        if !is_right {
+            break;
+        }
+    }
+    verdicts
+}

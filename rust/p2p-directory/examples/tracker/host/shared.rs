@@ -1,0 +1,223 @@
+//! What the threads of a host share: one lock around the node and the list of its streams.
+
+use super::wire::FrameLimits;
+use super::{Event, Settings};
+use p2p_directory::{Key, Moment, Node};
+use std::collections::HashMap;
+use std::hash::{BuildHasher, RandomState};
+use std::io::{self, ErrorKind};
+use std::net::{Shutdown, TcpStream};
+use std::sync::mpsc::{Sender, SyncSender};
+use std::sync::{Arc, Mutex, MutexGuard, PoisonError};
+use std::thread;
+use std::time::{Duration, SystemTime};
+
+/// Bits that a peer can't foresee: of the standard library's own seed, for it has no generator to call. Keys and
+/// challenges of a real scheme want a generator that is made for them.
+pub fn random() -> u64 {
+    RandomState::new().hash_one(0)
+}
+
+/// How much later than reservable a peer is dialable again: a new draw for each grant.
+pub fn draw(cooldown: Duration) -> Duration {
+    let end = (2 * (cooldown / 2)).as_nanos();
+    let end = u64::try_from(end).unwrap_or(u64::MAX);
+    Duration::from_nanos(random() % end.saturating_add(1))
+}
+
+/// What goes to a peer.
+pub enum Outgoing {
+    /// A whole frame.
+    Frame(Vec<u8>),
+    /// A message on a channel.
+    Message(u64, Vec<u8>),
+}
+
+/// What the threads share.
+pub struct Shared {
+    /// How the host behaves.
+    pub settings: Settings,
+    /// How long frames may be.
+    pub limits: FrameLimits,
+    state: Mutex<State>,
+    events: SyncSender<Event>,
+    // Room for one: whoever wakes finds the next round wanted already, or wants it.
+    wakes: SyncSender<()>,
+}
+
+/// What is behind the lock.
+pub struct State {
+    /// The node.
+    pub node: Node,
+    /// How many sets the node retains.
+    pub retained: usize,
+    latest: Moment,
+    open: HashMap<u64, Open>,
+    // Each thread holds a clone: once this one is gone, the last thread's end is that of the channel.
+    alive: Option<Sender<()>>,
+}
+
+/// An open stream.
+struct Open {
+    stream: TcpStream,
+    peer: Option<Key>,
+    outbox: Option<SyncSender<Outgoing>>,
+}
+
+impl State {
+    /// What is behind the lock of a host that begins. Its threads have all ended when `alive` has no clone left.
+    pub fn new(node: Node, alive: Sender<()>) -> State {
+        State {
+            node,
+            retained: 0,
+            latest: Moment::EPOCH,
+            open: HashMap::new(),
+            alive: Some(alive),
+        }
+    }
+
+    /// The time, which never goes back: where the system's clock does, it stands still.
+    pub fn now(&mut self) -> Moment {
+        let system = Moment::try_from(SystemTime::now()).unwrap_or(Moment::EPOCH);
+        self.latest = self.latest.max(system);
+        self.latest
+    }
+
+    /// Whether threads have to end.
+    pub fn is_ending(&self) -> bool {
+        self.alive.is_none()
+    }
+
+    /// Ends the streams of these peers: their threads then end by themselves, and release what they hold.
+    pub fn disconnect(&self, peers: &[Key]) {
+        let of_them = |open: &&Open| open.peer.is_some_and(|peer| peers.contains(&peer));
+        self.open.values().filter(of_them).for_each(Open::end);
+    }
+
+    /// Ends all streams, and lets no thread start any more.
+    pub fn end(&mut self) {
+        self.alive = None;
+        self.open.values().for_each(Open::end);
+    }
+
+    /// Where frames for a peer go, if it is connected.
+    pub fn outbox(&self, peer: &Key) -> Option<&SyncSender<Outgoing>> {
+        let mut open = self.open.values();
+        let open = open.find(|open| open.peer.as_ref() == Some(peer) && open.outbox.is_some());
+        open?.outbox.as_ref()
+    }
+
+    // How many dialers have not told their key yet.
+    fn unknown(&self) -> usize {
+        let open = self.open.values();
+        open.filter(|open| open.peer.is_none()).count()
+    }
+}
+
+impl Open {
+    fn end(&self) {
+        // The peer may have ended it before.
+        let _ = self.stream.shutdown(Shutdown::Both);
+    }
+}
+
+impl Shared {
+    /// What the threads of a host share that begins.
+    pub fn new(
+        settings: Settings,
+        limits: FrameLimits,
+        state: State,
+        events: SyncSender<Event>,
+        wakes: SyncSender<()>,
+    ) -> Shared {
+        let state = Mutex::new(state);
+        Shared {
+            settings,
+            limits,
+            state,
+            events,
+            wakes,
+        }
+    }
+
+    /// Locks the node. A thread that panicked while it held the lock left no call half made.
+    pub fn lock(&self) -> MutexGuard<'_, State> {
+        self.state.lock().unwrap_or_else(PoisonError::into_inner)
+    }
+
+    /// Lets the next round of dials come at once.
+    pub fn wake(&self) {
+        let _ = self.wakes.try_send(());
+    }
+
+    /// Tells what happened, and waits while there is no room to. It must not be called while the lock is held.
+    pub fn tell(&self, event: Event) {
+        // Where nobody listens any more, nobody is told.
+        let _ = self.events.send(event);
+    }
+
+    /// Does work on a thread of its own.
+    ///
+    /// # Errors
+    ///
+    /// Where the host is ending, or the system has no thread left. The work is dropped then, with what it holds.
+    pub fn spawn(
+        self: &Arc<Self>,
+        work: impl FnOnce(&Arc<Shared>) + Send + 'static,
+    ) -> io::Result<()> {
+        let alive = self.lock().alive.clone();
+        let alive = alive.ok_or_else(|| io::Error::other("the host is ending"))?;
+        let shared = Arc::clone(self);
+        thread::Builder::new().spawn(move || {
+            work(&shared);
+            drop(shared);
+            drop(alive);
+        })?;
+        Ok(())
+    }
+}
+
+/// A stream that is listed while it is open. It must not be dropped while the lock is held.
+pub struct Listed {
+    /// The stream.
+    pub stream: TcpStream,
+    shared: Arc<Shared>,
+    id: u64,
+}
+
+impl Listed {
+    /// Lists the stream to a peer, or of a dialer that hasn't told its key. Of those there are so many at a time as the
+    /// settings say.
+    pub fn new(shared: &Arc<Shared>, stream: TcpStream, peer: Option<Key>) -> io::Result<Listed> {
+        stream.set_nodelay(true)?;
+        stream.set_write_timeout(Some(shared.settings.silence))?;
+        let mut state = shared.lock();
+        if state.is_ending() || peer.is_none() && state.unknown() >= shared.settings.handshakes {
+            return Err(ErrorKind::ConnectionRefused.into());
+        }
+        let open = Open {
+            stream: stream.try_clone()?,
+            peer,
+            outbox: None,
+        };
+        let id = random();
+        state.open.insert(id, open);
+        let shared = Arc::clone(shared);
+        Ok(Listed { stream, shared, id })
+    }
+
+    /// Notes whose stream it is, and where frames for the peer go from now on.
+    pub fn connect(&self, state: &mut State, peer: Key, outbox: SyncSender<Outgoing>) {
+        if let Some(open) = state.open.get_mut(&self.id) {
+            open.peer = Some(peer);
+            open.outbox = Some(outbox);
+        }
+    }
+}
+
+impl Drop for Listed {
+    fn drop(&mut self) {
+        let open = self.shared.lock().open.remove(&self.id);
+        open.iter().for_each(Open::end);
+    }
+}

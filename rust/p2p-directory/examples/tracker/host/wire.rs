@@ -1,0 +1,148 @@
+//! Frames on a stream, and the handshake before them.
+
+use super::shared::random;
+use p2p_directory::testing::{sign, verify};
+use p2p_directory::{
+    KEY_SIZE, Key, MAX_PAYLOAD_OVERHEAD, PayloadConfig, SIGNATURE_SIZE, Signature, max_gossip_size,
+};
+use std::io::{self, BufWriter, ErrorKind, Read, Write};
+use std::net::TcpStream;
+use std::time::{Duration, Instant};
+
+/// The first byte of a frame with a message: docs/FORMATS.md.
+pub const DATA: u8 = 0;
+
+/// The first byte of a greeting.
+pub const GREETING: u8 = 1;
+
+/// In which challenges are signed: another namespace than that of infos.
+const HANDSHAKE: &[u8] = b"tracker handshake";
+
+const CHALLENGE_SIZE: usize = 8;
+
+/// How many bytes a frame may have.
+#[derive(Clone, Copy, Debug)]
+pub struct FrameLimits {
+    data: usize,
+    gossip: usize,
+}
+
+impl FrameLimits {
+    /// The limits that admit each frame which a node with these limits reads, or `None` where they fit no `usize`.
+    pub fn new(payload: &PayloadConfig) -> Option<FrameLimits> {
+        let overhead = MAX_PAYLOAD_OVERHEAD as usize;
+        Some(FrameLimits {
+            data: payload.max_data_length.checked_add(overhead)?,
+            gossip: max_gossip_size(payload.max_bit_vec, payload.max_peers)?,
+        })
+    }
+}
+
+/// Writes the length of a frame in four bytes, and then its parts, one after the other.
+pub fn write_frame(stream: &TcpStream, parts: &[&[u8]]) -> io::Result<()> {
+    let length: usize = parts.iter().map(|part| part.len()).sum();
+    let length = u32::try_from(length).map_err(|_| ErrorKind::InvalidInput)?;
+    let mut out = BufWriter::new(stream);
+    out.write_all(&length.to_be_bytes())?;
+    for part in parts {
+        out.write_all(part)?;
+    }
+    out.flush()
+}
+
+/// Reads a frame. One that is too long is refused with [`ErrorKind::InvalidData`] before memory is taken for it.
+pub fn read_frame(mut stream: impl Read, limits: FrameLimits) -> io::Result<Vec<u8>> {
+    let length = u32::from_be_bytes(read_array(&mut stream)?) as usize;
+    if length == 0 {
+        return Ok(Vec::new());
+    }
+    let [prefix] = read_array(&mut stream)?;
+    let most = match prefix {
+        DATA => limits.data,
+        _ => limits.gossip,
+    };
+    if length > most {
+        return Err(io::Error::new(ErrorKind::InvalidData, "a frame too long"));
+    }
+    let mut frame = Vec::new();
+    frame.try_reserve_exact(length)?;
+    frame.resize(length, prefix);
+    stream.read_exact(&mut frame[1..])?;
+    Ok(frame)
+}
+
+/// Tells the listener the own key, and makes sure that the listener has the key that was dialled.
+///
+/// This and [`handshake_as_listener`] stand for the handshake of a real transport, which authenticates both sides by
+/// signatures that can't be forged, and encrypts what follows. The scheme of `testing` does neither: anybody can sign
+/// for any key.
+pub fn handshake_as_dialer(
+    mut stream: &TcpStream,
+    own: &Key,
+    peer: &Key,
+    time: Duration,
+) -> io::Result<()> {
+    let mut reader = Until::new(stream, time);
+    let challenge: [u8; CHALLENGE_SIZE] = random().to_be_bytes();
+    stream.write_all(&[own.as_ref(), &challenge].concat())?;
+    let key = Key(read_array::<KEY_SIZE>(&mut reader)?);
+    let to_sign = read_array::<CHALLENGE_SIZE>(&mut reader)?;
+    let signature = Signature(read_array::<SIGNATURE_SIZE>(&mut reader)?);
+    if key != *peer || !verify(&key, HANDSHAKE, &challenge, &signature) {
+        return Err(ErrorKind::PermissionDenied.into());
+    }
+    stream.write_all(sign(own, HANDSHAKE, &to_sign).as_ref())
+}
+
+/// The key of a dialer. Nothing is sent to one whose key isn't admitted.
+pub fn handshake_as_listener(
+    mut stream: &TcpStream,
+    own: &Key,
+    time: Duration,
+    is_admitted: impl FnOnce(&Key) -> bool,
+) -> io::Result<Key> {
+    let mut reader = Until::new(stream, time);
+    let key = Key(read_array::<KEY_SIZE>(&mut reader)?);
+    let to_sign = read_array::<CHALLENGE_SIZE>(&mut reader)?;
+    if !is_admitted(&key) {
+        return Err(ErrorKind::PermissionDenied.into());
+    }
+    let challenge: [u8; CHALLENGE_SIZE] = random().to_be_bytes();
+    let signed = sign(own, HANDSHAKE, &to_sign);
+    stream.write_all(&[own.as_ref(), &challenge, signed.as_ref()].concat())?;
+    let signature = Signature(read_array::<SIGNATURE_SIZE>(&mut reader)?);
+    if !verify(&key, HANDSHAKE, &challenge, &signature) {
+        return Err(ErrorKind::PermissionDenied.into());
+    }
+    Ok(key)
+}
+
+/// A stream that is read until a point in time, however few bytes come at once.
+struct Until<'s> {
+    stream: &'s TcpStream,
+    end: Instant,
+}
+
+impl Until<'_> {
+    fn new(stream: &TcpStream, time: Duration) -> Until<'_> {
+        let end = Instant::now() + time;
+        Until { stream, end }
+    }
+}
+
+impl Read for Until<'_> {
+    fn read(&mut self, bytes: &mut [u8]) -> io::Result<usize> {
+        let left = self.end.saturating_duration_since(Instant::now());
+        if left.is_zero() {
+            return Err(ErrorKind::TimedOut.into());
+        }
+        self.stream.set_read_timeout(Some(left))?;
+        self.stream.read(bytes)
+    }
+}
+
+fn read_array<const N: usize>(stream: &mut impl Read) -> io::Result<[u8; N]> {
+    let mut bytes = [0; N];
+    stream.read_exact(&mut bytes)?;
+    Ok(bytes)
+}

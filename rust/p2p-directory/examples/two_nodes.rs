@@ -1,0 +1,93 @@
+//! Two threads with a directory each, joined by channels: each tells the other the infos that it wants and may
+//! have, and prints what it learned.
+//!
+//! `cargo run --example two_nodes`
+
+use p2p_directory::testing::{info, key, setup, verify};
+use p2p_directory::{Key, Moment, Node, OrderedSet, Payload, Received, Reservation};
+use std::error::Error;
+use std::sync::mpsc::{Receiver, Sender, channel};
+use std::thread;
+use std::time::Duration;
+
+/// When all of this happens.
+const NOW: Moment = Moment::from_secs(100);
+
+/// The peers of the set that both track.
+const PEERS: std::ops::RangeInclusive<u16> = 1..=5;
+
+/// A node, and the reservations of its connections.
+struct Connected {
+    node: Node,
+    held: Vec<Reservation>,
+}
+
+/// A node with the key of a number, which is connected with the other node and with one more peer, whose info
+/// it knows.
+fn connected(number: u16, other: u16, known: u16) -> Result<Connected, Box<dyn Error>> {
+    let mut node = Node::new(&setup(number))?;
+    let mut held = Vec::new();
+    let directory = node.directory_mut();
+    directory.track(0, &OrderedSet::from_iter_dedup(PEERS.map(key)).into())?;
+    directory.update_peers(&[info(known, 1000)])?;
+    for peer in [other, known] {
+        let granted = directory.listen(&key(peer), NOW, Duration::ZERO)?;
+        let reservation = granted.ok_or("the peer may not come")?;
+        // What an error drops is given back, this one and those before it.
+        directory.connect_reserved(&reservation)?;
+        held.push(reservation);
+    }
+    Ok(Connected { node, held })
+}
+
+/// Greets, asks once, answers what comes, ends its connections, and says whose infos it knows. Where it fails, its
+/// connections end all the same, for reservations that are dropped are given back.
+fn talk(
+    number: u16,
+    connected: Connected,
+    frames: &Receiver<Vec<u8>>,
+    other: &Sender<Vec<u8>>,
+) -> Result<Vec<Key>, Box<dyn Error>> {
+    let Connected { mut node, held } = connected;
+    let own = node.directory().info(&key(number))?;
+    let own = own.ok_or("no own info")?;
+    other.send(Payload::Greeting(own).encode())?;
+    other.send(node.ask(0)?.ok_or("no set")?)?;
+    // A greeting, a question, and the answer to the own question.
+    for _ in 0..3 {
+        match node.receive(&frames.recv()?, NOW, verify) {
+            Received::Reply(reply) => other.send(reply)?,
+            Received::Greeted | Received::Applied(_) => {}
+            refused => return Err(format!("{refused:?}").into()),
+        }
+    }
+    for reservation in held {
+        node.directory_mut().release(reservation)?;
+    }
+    let bits = node.directory().get_random_bit_vec(0)?.ok_or("no set")?;
+    let known = PEERS.map(key).zip(bits.bits);
+    Ok(known
+        .filter(|(_, known)| *known)
+        .map(|(peer, _)| peer)
+        .collect())
+}
+
+fn main() -> Result<(), Box<dyn Error>> {
+    let (to_one, of_one) = channel();
+    let (to_two, of_two) = channel();
+    let (one, two) = (connected(1, 2, 3)?, connected(2, 1, 4)?);
+    let one = thread::spawn(move || talk(1, one, &of_one, &to_two).map_err(|e| e.to_string()));
+    let two = thread::spawn(move || talk(2, two, &of_two, &to_one).map_err(|e| e.to_string()));
+    for (name, node) in [("one", one), ("two", two)] {
+        let known = node.join().map_err(|_| "a thread panicked")??;
+        println!(
+            "node {name} knows the infos of {} of {} peers:",
+            known.len(),
+            PEERS.len()
+        );
+        for peer in known {
+            println!("  {peer}");
+        }
+    }
+    Ok(())
+}

@@ -1,0 +1,708 @@
+//! The directory of peers.
+
+use crate::answer::{OWN, Room, answered, certain, is_certain, is_done, is_true, unknown};
+use crate::codec::{ReadError, Reader};
+use crate::error::{CodecError, NotReservedError, OutOfMemory, SetupError};
+use crate::info::{Info, try_write_infos};
+use crate::ingress::Ingress;
+use crate::key::{KEY_SIZE, Key};
+use crate::memory::give_back_large;
+use crate::moment::Moment;
+use crate::payload::PayloadConfig;
+use crate::sets::{OrderedSet, TrackedPeers};
+use p2p_directory_sys::{self as exports, Session};
+use std::cell::RefCell;
+use std::fmt;
+use std::num::NonZeroUsize;
+use std::time::Duration;
+
+mod held;
+mod questions;
+mod reservation;
+
+use held::Held;
+pub use reservation::{ConnectError, Metadata, ReleaseError, Reservation};
+
+/// How a directory behaves.
+///
+/// # Examples
+///
+/// ```
+/// use p2p_directory::Config;
+/// use std::num::NonZeroUsize;
+/// use std::time::Duration;
+///
+/// let cfg = Config {
+///     allow_private_ips: false,
+///     allow_dns: true,
+///     max_sets: NonZeroUsize::new(4).unwrap(),
+///     dial_fail_limit: 3,
+///     peer_connection_cooldown: Duration::from_secs(10),
+///     block_duration: Duration::from_secs(3600),
+/// };
+/// assert!(!cfg.allow_private_ips);
+/// ```
+#[derive(Clone, Copy, Debug, PartialEq, Eq, Hash)]
+pub struct Config {
+    /// Whether addresses that are not global may be dialled.
+    pub allow_private_ips: bool,
+    /// Whether names may be dialled.
+    pub allow_dns: bool,
+    /// How many peer sets are retained: less than the greatest `usize`.
+    pub max_sets: NonZeroUsize,
+    /// After how many failed dials a peer's info is asked for again.
+    pub dial_fail_limit: usize,
+    /// The least time between two reservations of one peer.
+    pub peer_connection_cooldown: Duration,
+    /// How long a block lasts.
+    pub block_duration: Duration,
+}
+
+/// How a peer stands.
+///
+/// # Examples
+///
+/// ```
+/// # use p2p_directory::Status;
+/// assert_eq!(Status::Inert.to_string(), "inert");
+/// ```
+#[derive(Clone, Copy, Debug, PartialEq, Eq, Hash)]
+#[non_exhaustive]
+pub enum Status {
+    /// There is neither a reservation nor a connection.
+    Inert,
+    /// It is reserved.
+    Reserved,
+    /// It is connected.
+    Active,
+}
+
+impl fmt::Display for Status {
+    fn fmt(&self, f: &mut fmt::Formatter<'_>) -> fmt::Result {
+        f.write_str(match self {
+            Status::Inert => "inert",
+            Status::Reserved => "reserved",
+            Status::Active => "active",
+        })
+    }
+}
+
+/// What is told of the latest set.
+///
+/// # Examples
+///
+/// ```
+/// # use p2p_directory::*;
+/// # let mut directory = testing::directory();
+/// let set = OrderedSet::from_iter_dedup([testing::key(1)]);
+/// directory.track(7, &set.into())?;
+/// let PeerSetUpdate { index, latest, all, .. } = directory.latest_update()?.expect("a set");
+/// assert_eq!(index, 7);
+/// assert_eq!(latest, all);
+/// # Ok::<(), OutOfMemory>(())
+/// ```
+#[derive(Clone, Debug, PartialEq, Eq, Hash)]
+#[non_exhaustive]
+pub struct PeerSetUpdate {
+    /// The index of the latest set.
+    pub index: u64,
+    /// The peers of the latest set.
+    pub latest: TrackedPeers,
+    /// The peers of all retained sets: one that is primary in some is primary only.
+    pub all: TrackedPeers,
+}
+
+/// Who may be dialled now, and when to ask again.
+///
+/// # Examples
+///
+/// ```
+/// # use p2p_directory::Dialable;
+/// assert_eq!(Dialable::default().next_query_at, None);
+/// ```
+#[derive(Clone, Debug, Default, PartialEq, Eq, Hash)]
+#[non_exhaustive]
+pub struct Dialable {
+    /// The peers that may be dialled, in ascending order.
+    pub peers: Vec<Key>,
+    /// When another peer may become dialable: `None` where none does by time alone.
+    pub next_query_at: Option<Moment>,
+}
+
+/// The directory of peers: the retained sets, and what is known of each peer that is in one of them, is a
+/// bootstrapper, is reserved or is connected.
+///
+/// Each call is one of the proved library, whose answers are those recomputed from all calls so far:
+/// docs/RUST.md of the repository says what is proved up to where. A directory can go to another thread
+/// (`Send`), and is used by one at a time (it is not `Sync`). Moments may go back from call to call.
+///
+/// # Examples
+///
+/// ```
+/// use p2p_directory::{
+///     Config, Directory, Info, Ingress, Key, Moment, OrderedSet, Signature, Status,
+/// };
+/// use std::net::SocketAddr;
+/// use std::num::NonZeroUsize;
+/// use std::time::Duration;
+///
+/// let cfg = Config {
+///     allow_private_ips: true,
+///     allow_dns: true,
+///     max_sets: NonZeroUsize::MIN,
+///     dial_fail_limit: 1,
+///     peer_connection_cooldown: Duration::from_secs(10),
+///     block_duration: Duration::from_secs(60),
+/// };
+/// let ingress = Ingress::from(SocketAddr::from(([8, 8, 8, 8], 9000)));
+/// let myself = Info::sign(Key([9; 32]), b"net", ingress, 0, |_, _| Signature([0; 64]));
+/// let mut directory = Directory::init(&[], &myself, cfg)?;
+///
+/// let peer = Key([1; 32]);
+/// directory.track(0, &OrderedSet::from_iter_dedup([peer]).into())?;
+/// let now = Moment::from_secs(100);
+/// let reservation = directory.listen(&peer, now, Duration::ZERO)?.expect("it may come");
+/// assert_eq!(directory.status(&peer), Some(Status::Reserved));
+/// // .. the connection ..
+/// directory.release(reservation).expect("it is this directory's");
+/// assert_eq!(directory.status(&peer), Some(Status::Inert));
+/// # Ok::<(), Box<dyn std::error::Error>>(())
+/// ```
+///
+/// It can be sent to another thread:
+///
+/// ```
+/// fn is_sent<T: Send>() {}
+/// is_sent::<p2p_directory::Directory>();
+/// ```
+///
+/// and not be shared with one:
+///
+/// ```compile_fail,E0277
+/// fn is_shared<T: Sync>() {}
+/// is_shared::<p2p_directory::Directory>();
+/// ```
+pub struct Directory {
+    held: Held,
+    // In which infos are signed.
+    namespace: Vec<u8>,
+    // What is handed in, and what comes out.
+    input: RefCell<Vec<u8>>,
+    output: RefCell<Room>,
+}
+
+/// How many bytes what comes out has room for at first: enough for what a call that changes something
+/// answers, but for a track.
+const FIRST_ROOM: usize = 512;
+
+impl Directory {
+    /// A directory that retains no set and blocks nobody. A later bootstrapper of a key replaces an
+    /// earlier one, and the own info a bootstrapper of its key. What is handed in is spelled for the library, and not
+    /// kept.
+    ///
+    /// # Errors
+    ///
+    /// Where memory is refused, or `cfg.max_sets` is the greatest `usize`.
+    ///
+    /// # Examples
+    ///
+    /// ```
+    /// # use p2p_directory::{Config, Directory, Info, Ingress, Key, SetupError, Signature};
+    /// # use std::{net::SocketAddr, num::NonZeroUsize, time::Duration};
+    /// # let mut cfg = Config { allow_private_ips: true, allow_dns: true, max_sets: NonZeroUsize::MIN,
+    /// #     dial_fail_limit: 1, peer_connection_cooldown: Duration::ZERO, block_duration: Duration::ZERO };
+    /// # let ingress = Ingress::from(SocketAddr::from(([8, 8, 8, 8], 9000)));
+    /// # let myself = Info::sign(Key([9; 32]), b"", ingress.clone(), 0, |_, _| Signature([0; 64]));
+    /// let directory = Directory::init(&[(Key([1; 32]), ingress)], &myself, cfg)?;
+    /// assert_eq!(directory.tracked(), 1);
+    ///
+    /// cfg.max_sets = NonZeroUsize::MAX;
+    /// assert_eq!(Directory::init(&[], &myself, cfg).err(), Some(SetupError::Setting));
+    /// # Ok::<(), SetupError>(())
+    /// ```
+    pub fn init(
+        bootstrappers: &[(Key, Ingress)],
+        myself: &Info,
+        cfg: Config,
+    ) -> Result<Directory, SetupError> {
+        let limits = Limits {
+            payload: PayloadConfig {
+                max_bit_vec: u64::from(u32::MAX),
+                max_peers: usize::MAX,
+                max_data_length: usize::MAX,
+            },
+            peer_gossip_max_count: usize::MAX,
+            synchrony_bound: Duration::MAX,
+            namespace: Vec::new(),
+        };
+        Directory::with_limits(bootstrappers, myself, &cfg, limits)
+    }
+
+    pub(crate) fn with_limits(
+        bootstrappers: &[(Key, Ingress)],
+        myself: &Info,
+        cfg: &Config,
+        limits: Limits,
+    ) -> Result<Directory, SetupError> {
+        if !is_supported() {
+            return Err(SetupError::Processor);
+        }
+        let session = Session::new().ok_or(OutOfMemory)?;
+        let spelled = spelled(bootstrappers)?;
+        let mut own = Vec::new();
+        myself.try_write(&mut own)?;
+        let output = Room::new(FIRST_ROOM)?;
+        let answer = session.init(
+            cfg.allow_private_ips,
+            cfg.allow_dns,
+            cfg.max_sets.get() as u64,
+            cfg.dial_fail_limit as u64,
+            cfg.peer_connection_cooldown.as_secs(),
+            cfg.peer_connection_cooldown.subsec_nanos(),
+            cfg.block_duration.as_secs(),
+            cfg.block_duration.subsec_nanos(),
+            limits.payload.max_bit_vec,
+            limits.payload.max_peers as u64,
+            limits.payload.max_data_length as u64,
+            limits.peer_gossip_max_count as u64,
+            limits.synchrony_bound.as_secs(),
+            limits.synchrony_bound.subsec_nanos(),
+            &limits.namespace,
+            &spelled,
+            &own,
+        );
+        match answer {
+            exports::BAD_SETTING => return Err(SetupError::Setting),
+            answer => is_done(answer)?,
+        };
+        Ok(Directory {
+            held: Held::new(session)?,
+            namespace: limits.namespace,
+            input: RefCell::new(Vec::new()),
+            output: RefCell::new(output),
+        })
+    }
+
+    /// Takes a peer set, where its index is above that of each set that was taken before; then the oldest
+    /// set goes, where there is one too many. Answers whose connections have to end: who is reserved or
+    /// connected, was eligible and is no longer. `None`, and nothing changes, where the index is not above.
+    ///
+    /// # Errors
+    ///
+    /// [`OutOfMemory`]; then nothing has changed.
+    ///
+    /// # Examples
+    ///
+    /// ```
+    /// # use p2p_directory::*;
+    /// # let mut directory = testing::directory();
+    /// let set = |key| OrderedSet::from_iter_dedup([testing::key(key)]).into();
+    /// assert!(directory.track(7, &set(1))?.is_some());
+    /// assert!(directory.track(7, &set(2))?.is_none());
+    /// # Ok::<(), OutOfMemory>(())
+    /// ```
+    pub fn track(
+        &mut self,
+        index: u64,
+        peers: &TrackedPeers,
+    ) -> Result<Option<OrderedSet>, OutOfMemory> {
+        let torn = self.try_track(index, peers);
+        give_back_large(self.input.get_mut());
+        self.output.get_mut().give_back();
+        torn
+    }
+
+    fn try_track(
+        &mut self,
+        index: u64,
+        peers: &TrackedPeers,
+    ) -> Result<Option<OrderedSet>, OutOfMemory> {
+        let keys = self.input.get_mut();
+        keys.clear();
+        peers.primary.write(keys)?;
+        let split = keys.len();
+        peers.secondary.write(keys)?;
+        let (primary, secondary) = keys.split_at(split);
+        let session = self.held.session();
+        let out = self.output.get_mut();
+        let out = out.least(session.track_room() as usize)?;
+        // Whose connection has to end is held: so nothing is asked for once the set is taken.
+        let mut torn = Vec::new();
+        torn.try_reserve_exact(self.held.count())?;
+        let length = answered(session.track(index, primary, secondary, out))?;
+        Ok(length.map(|length| OrderedSet::read_into(torn, &out[..length as usize])))
+    }
+
+    /// Reserves the peer for a dial at the moment `now`, where that is allowed: it has a record, is
+    /// eligible, not reserved or connected, not blocked, its address is known and valid, and its cooldown is
+    /// over.
+    ///
+    /// `draw` is how much later than reservable the peer is dialable again. It is drawn uniformly from
+    /// `Duration::ZERO..=2 * (cooldown / 2)`, where `cooldown` is [`Config::peer_connection_cooldown`], halved to
+    /// whole nanoseconds. What is above that counts as its end.
+    ///
+    /// # Errors
+    ///
+    /// [`OutOfMemory`]; then nothing has changed.
+    ///
+    /// # Examples
+    ///
+    /// ```
+    /// # use p2p_directory::*; use std::time::Duration;
+    /// # let mut directory = testing::directory();
+    /// let peer = testing::key(1);
+    /// directory.track(0, &OrderedSet::from_iter_dedup([peer]).into())?;
+    /// // Nothing is known of where it can be dialled.
+    /// assert!(directory.dial(&peer, Moment::from_secs(1), Duration::ZERO)?.is_none());
+    /// # Ok::<(), OutOfMemory>(())
+    /// ```
+    #[inline]
+    pub fn dial(
+        &mut self,
+        peer: &Key,
+        now: Moment,
+        draw: Duration,
+    ) -> Result<Option<Reservation>, OutOfMemory> {
+        let (seconds, nanos) = now.parts();
+        let (draw_seconds, draw_nanos) = (draw.as_secs(), draw.subsec_nanos());
+        let is_granted = self
+            .held
+            .grant(|session| session.dial(&peer.0, seconds, nanos, draw_seconds, draw_nanos))?;
+        Ok(is_granted.then(|| Reservation::new(*peer, true, self.held.origin())))
+    }
+
+    /// Reserves the peer for a connection that it asks for at the moment `now`, where that is allowed: it
+    /// is eligible, not reserved or connected, not blocked, and its cooldown is over.
+    ///
+    /// `draw` is drawn uniformly from `Duration::ZERO..=2 * (cooldown / 2)`, as for [`Directory::dial`].
+    ///
+    /// # Errors
+    ///
+    /// [`OutOfMemory`]; then nothing has changed.
+    ///
+    /// # Examples
+    ///
+    /// ```
+    /// # use p2p_directory::*; use std::time::Duration;
+    /// # let mut directory = testing::directory();
+    /// let (peer, now) = (testing::key(1), Moment::from_secs(1));
+    /// assert!(directory.listen(&peer, now, Duration::ZERO)?.is_none());
+    /// directory.track(0, &OrderedSet::from_iter_dedup([peer]).into())?;
+    /// let reservation = directory.listen(&peer, now, Duration::ZERO)?.expect("in a set");
+    /// assert_eq!(reservation.public_key(), &peer);
+    /// # directory.release(reservation).expect("its own");
+    /// # Ok::<(), OutOfMemory>(())
+    /// ```
+    #[inline]
+    pub fn listen(
+        &mut self,
+        peer: &Key,
+        now: Moment,
+        draw: Duration,
+    ) -> Result<Option<Reservation>, OutOfMemory> {
+        let (seconds, nanos) = now.parts();
+        let (draw_seconds, draw_nanos) = (draw.as_secs(), draw.subsec_nanos());
+        let is_granted = self
+            .held
+            .grant(|session| session.listen(&peer.0, seconds, nanos, draw_seconds, draw_nanos))?;
+        Ok(is_granted.then(|| Reservation::new(*peer, false, self.held.origin())))
+    }
+
+    /// Whom a reservation is for, and in which direction: with the very address that is to be dialled.
+    /// `None` for a reservation of another directory.
+    ///
+    /// # Errors
+    ///
+    /// [`OutOfMemory`].
+    ///
+    /// # Examples
+    ///
+    /// ```
+    /// # use p2p_directory::*; use std::time::Duration;
+    /// # let mut directory = testing::directory();
+    /// let peer = testing::key(1);
+    /// directory.track(0, &OrderedSet::from_iter_dedup([peer]).into())?;
+    /// # let now = Moment::from_secs(1);
+    /// let reservation = directory.listen(&peer, now, Duration::ZERO)?.expect("in a set");
+    /// assert_eq!(directory.metadata(&reservation)?, Some(Metadata::Listener(peer)));
+    /// # directory.release(reservation).expect("its own");
+    /// # Ok::<(), OutOfMemory>(())
+    /// ```
+    pub fn metadata(&self, reservation: &Reservation) -> Result<Option<Metadata>, OutOfMemory> {
+        let peer = *reservation.public_key();
+        if !reservation.is_of(self.held.origin()) {
+            return Ok(None);
+        }
+        if !reservation.is_dialer() {
+            return Ok(Some(Metadata::Listener(peer)));
+        }
+        self.question(
+            |session, out| session.reservation(&peer.0, out),
+            |bytes| {
+                let mut reader = Reader::new(bytes);
+                match reader.byte()? {
+                    1 => Ok(Metadata::Dialer(peer, Ingress::read(&mut reader)?)),
+                    other => unknown(other.into()),
+                }
+            },
+        )
+    }
+
+    /// Connects a peer that is reserved, as its dialer or not. As the dialer its failed dials are
+    /// forgotten.
+    ///
+    /// # Errors
+    ///
+    /// [`NotReservedError`]; then nothing has changed.
+    ///
+    /// # Examples
+    ///
+    /// ```
+    /// # use p2p_directory::*;
+    /// # let mut directory = testing::directory();
+    /// assert_eq!(directory.connect(&testing::key(1), false), Err(NotReservedError));
+    /// ```
+    #[inline]
+    pub fn connect(&mut self, peer: &Key, dialer: bool) -> Result<(), NotReservedError> {
+        match self.session().connect(&peer.0, dialer) {
+            exports::NOT_RESERVED => Err(NotReservedError),
+            1 => Ok(()),
+            other => unknown(other),
+        }
+    }
+
+    /// Connects the peer of a reservation, as its dialer where [`Directory::dial`] granted it.
+    ///
+    /// # Errors
+    ///
+    /// [`ConnectError`]; then nothing has changed.
+    ///
+    /// # Examples
+    ///
+    /// ```
+    /// # use p2p_directory::*; use std::time::Duration;
+    /// # let mut directory = testing::directory();
+    /// # let (peer, now) = (testing::key(1), Moment::from_secs(1));
+    /// # directory.track(0, &OrderedSet::from_iter_dedup([peer]).into())?;
+    /// let reservation = directory.listen(&peer, now, Duration::ZERO)?.expect("in a set");
+    /// directory.connect_reserved(&reservation)?;
+    /// assert_eq!(directory.status(&peer), Some(Status::Active));
+    /// assert_eq!(directory.connect_reserved(&reservation), Err(ConnectError::NotReserved));
+    /// # directory.release(reservation).expect("its own");
+    /// # Ok::<(), Box<dyn std::error::Error>>(())
+    /// ```
+    #[inline]
+    pub fn connect_reserved(&mut self, reservation: &Reservation) -> Result<(), ConnectError> {
+        if !reservation.is_of(self.held.origin()) {
+            return Err(ConnectError::OfAnotherDirectory);
+        }
+        Ok(self.connect(reservation.public_key(), reservation.is_dialer())?)
+    }
+
+    /// Ends a reservation, and the connection that was made of it. A dialer's counts as one more failure
+    /// at the address that was dialled.
+    ///
+    /// # Errors
+    ///
+    /// Gives the reservation back where it is of another directory; then nothing has changed.
+    ///
+    /// # Examples
+    ///
+    /// ```
+    /// # use p2p_directory::*; use std::time::Duration;
+    /// # let (mut directory, mut other) = (testing::directory(), testing::directory());
+    /// # let (peer, now) = (testing::key(1), Moment::from_secs(1));
+    /// # directory.track(0, &OrderedSet::from_iter_dedup([peer]).into())?;
+    /// let reservation = directory.listen(&peer, now, Duration::ZERO)?.expect("in a set");
+    /// let refused = other.release(reservation).unwrap_err();
+    /// directory.release(refused.reservation).expect("its own");
+    /// # Ok::<(), OutOfMemory>(())
+    /// ```
+    #[inline]
+    pub fn release(&mut self, reservation: Reservation) -> Result<(), ReleaseError> {
+        if !reservation.is_of(self.held.origin()) {
+            return Err(ReleaseError { reservation });
+        }
+        self.held.release(&reservation.into_peer());
+        Ok(())
+    }
+
+    /// Offers infos to the records of their peers, in any order: each peer's is the one of greatest
+    /// timestamp, of equal ones the first. An info of a peer without a record is dropped. The signatures are
+    /// not judged: they are infos that were made here, or judged before.
+    ///
+    /// # Errors
+    ///
+    /// [`OutOfMemory`]; then nothing has changed.
+    ///
+    /// # Panics
+    ///
+    /// Where there are more infos than the greatest `u32`; then nothing has changed.
+    ///
+    /// # Examples
+    ///
+    /// ```
+    /// # use p2p_directory::*;
+    /// # let mut directory = testing::directory();
+    /// let peer = testing::key(1);
+    /// directory.track(0, &OrderedSet::from_iter_dedup([peer]).into())?;
+    /// directory.update_peers(&[testing::info(1, 1000)])?;
+    /// assert_eq!(directory.dialable(Moment::from_secs(1))?.peers, [peer]);
+    /// # Ok::<(), OutOfMemory>(())
+    /// ```
+    pub fn update_peers(&mut self, infos: &[Info]) -> Result<(), OutOfMemory> {
+        let spelled = self.input.get_mut();
+        spelled.clear();
+        let is_taken = try_write_infos(spelled, infos)
+            .and_then(|()| is_done(self.held.session().update_peers(spelled)));
+        give_back_large(spelled);
+        is_taken
+    }
+
+    /// Blocks the peer from the moment `now` on, whether there is a record of it or not. False, and nothing
+    /// changes, for the own key, and for a peer that is blocked at `now`.
+    ///
+    /// # Errors
+    ///
+    /// [`OutOfMemory`]; then nothing has changed.
+    ///
+    /// # Examples
+    ///
+    /// ```
+    /// # use p2p_directory::*;
+    /// # let mut directory = testing::directory();
+    /// let (peer, now) = (testing::key(1), Moment::from_secs(1));
+    /// assert!(directory.block(&peer, now)?);
+    /// assert!(!directory.block(&peer, now)?);
+    /// assert_eq!(directory.next_unblock(), Some(Moment::from_secs(61)));
+    /// # Ok::<(), OutOfMemory>(())
+    /// ```
+    #[inline]
+    pub fn block(&mut self, peer: &Key, now: Moment) -> Result<bool, OutOfMemory> {
+        let (seconds, nanos) = now.parts();
+        is_true(self.session().block(&peer.0, seconds, nanos))
+    }
+
+    /// Ends the blocks that hold until the moment `now` or an earlier one, and answers whether there were
+    /// any.
+    ///
+    /// # Examples
+    ///
+    /// ```
+    /// # use p2p_directory::*;
+    /// # let mut directory = testing::directory();
+    /// assert!(!directory.unblock_expired(Moment::MAX));
+    /// ```
+    #[inline]
+    pub fn unblock_expired(&mut self, now: Moment) -> bool {
+        let (seconds, nanos) = now.parts();
+        is_certain(self.session().unblock_expired(seconds, nanos))
+    }
+
+    /// Forgets the cooldown of each peer whose dial moment is at or before `now`, and answers how many
+    /// there were. A cooldown outlives its peer's record until it is forgotten.
+    ///
+    /// # Examples
+    ///
+    /// ```
+    /// # use p2p_directory::*;
+    /// # let mut directory = testing::directory();
+    /// assert_eq!(directory.forget_cooled(Moment::MAX), 0);
+    /// ```
+    #[inline]
+    pub fn forget_cooled(&mut self, now: Moment) -> usize {
+        let (seconds, nanos) = now.parts();
+        certain(self.session().forget_cooled(seconds, nanos)) as usize
+    }
+
+    // The session: all that was dropped is released before.
+    #[inline]
+    pub(crate) fn session(&self) -> &Session {
+        self.held.session()
+    }
+
+    // Which directory of the process it is.
+    pub(crate) fn id(&self) -> u64 {
+        self.held.origin().id()
+    }
+
+    pub(crate) fn namespace(&self) -> &[u8] {
+        &self.namespace
+    }
+
+    // Asks with at least so much room, and reads what came out.
+    pub(crate) fn question_in<T>(
+        &self,
+        room: usize,
+        ask: impl Fn(&Session, &mut [u8]) -> u64,
+        read: impl FnOnce(&[u8]) -> Result<T, ReadError>,
+    ) -> Result<Option<T>, OutOfMemory> {
+        let session = self.session();
+        let mut out = self.output.borrow_mut();
+        out.asked(room, |out| ask(session, out), read)
+    }
+
+    // Asks, and reads what came out.
+    fn question<T>(
+        &self,
+        ask: impl Fn(&Session, &mut [u8]) -> u64,
+        read: impl FnOnce(&[u8]) -> Result<T, ReadError>,
+    ) -> Result<Option<T>, OutOfMemory> {
+        self.question_in(0, ask, read)
+    }
+
+    // A question that takes no memory, for its answer is short.
+    fn certain_question<T>(
+        &self,
+        ask: impl FnOnce(&Session, &mut [u8]) -> u64,
+        read: impl FnOnce(&[u8]) -> Result<T, CodecError>,
+    ) -> Option<T> {
+        let mut out = [0; 16];
+        let length = answered(ask(self.session(), &mut out)).expect(OWN)?;
+        Some(read(&out[..length as usize]).expect(OWN))
+    }
+}
+
+impl fmt::Debug for Directory {
+    fn fmt(&self, f: &mut fmt::Formatter<'_>) -> fmt::Result {
+        f.debug_struct("Directory")
+            .field("tracked", &self.tracked())
+            .field("latest_set_index", &self.latest_set_index())
+            .finish_non_exhaustive()
+    }
+}
+
+// Whether the processor has all that the library is compiled for, which doesn't ask it.
+fn is_supported() -> bool {
+    #[cfg(target_arch = "x86_64")]
+    let is_supported = is_x86_feature_detected!("sse4.2")
+        && is_x86_feature_detected!("ssse3")
+        && is_x86_feature_detected!("popcnt")
+        && is_x86_feature_detected!("cmpxchg16b");
+    #[cfg(not(target_arch = "x86_64"))]
+    let is_supported = true;
+    is_supported
+}
+
+// Their keys and ingresses, one after the other.
+fn spelled(bootstrappers: &[(Key, Ingress)]) -> Result<Vec<u8>, OutOfMemory> {
+    let sizes = bootstrappers.iter();
+    let size: usize = sizes
+        .map(|(_, ingress)| KEY_SIZE + ingress.encode_size())
+        .sum();
+    let mut spelled = Vec::new();
+    spelled.try_reserve_exact(size)?;
+    for (key, ingress) in bootstrappers {
+        spelled.extend_from_slice(&key.0);
+        ingress.write(&mut spelled);
+    }
+    Ok(spelled)
+}
+
+/// What a node has besides its directory's configuration.
+pub(crate) struct Limits {
+    pub(crate) payload: PayloadConfig,
+    pub(crate) peer_gossip_max_count: usize,
+    pub(crate) synchrony_bound: Duration,
+    pub(crate) namespace: Vec<u8>,
+}

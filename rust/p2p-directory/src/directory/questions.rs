@@ -1,0 +1,340 @@
+//! What a directory answers of how it stands. None of these calls changes anything.
+
+use super::{Dialable, Directory, PeerSetUpdate, Status};
+use crate::answer::{OWN, certain, is_certain, unknown};
+use crate::codec::{ReadError, Reader};
+use crate::error::OutOfMemory;
+use crate::info::{Info, read_infos};
+use crate::key::{KEY_SIZE, Key};
+use crate::memory::give_back_large;
+use crate::moment::Moment;
+use crate::payload::BitVec;
+use crate::sets::{OrderedSet, TrackedPeers, read_keys};
+use p2p_directory_sys::{self as exports, Session};
+
+impl Directory {
+    /// The least moment until which a block holds. A block that has ended counts until
+    /// [`Directory::unblock_expired`] ends it.
+    ///
+    /// # Examples
+    ///
+    /// ```
+    /// # use p2p_directory::*;
+    /// # let directory = testing::directory();
+    /// assert_eq!(directory.next_unblock(), None);
+    /// ```
+    #[must_use]
+    pub fn next_unblock(&self) -> Option<Moment> {
+        self.certain_question(Session::next_unblock, |bytes| Reader::new(bytes).moment())
+    }
+
+    /// The peers that are blocked at the moment `now`.
+    ///
+    /// # Errors
+    ///
+    /// [`OutOfMemory`].
+    ///
+    /// # Examples
+    ///
+    /// ```
+    /// # use p2p_directory::*;
+    /// # let directory = testing::directory();
+    /// assert!(directory.blocked_peers(Moment::EPOCH)?.is_empty());
+    /// # Ok::<(), OutOfMemory>(())
+    /// ```
+    pub fn blocked_peers(&self, now: Moment) -> Result<OrderedSet, OutOfMemory> {
+        let (seconds, nanos) = now.parts();
+        let blocked = self.question(
+            |session, out| session.blocked_peers(seconds, nanos, out),
+            |bytes| Ok(OrderedSet::read(bytes)?),
+        )?;
+        Ok(blocked.expect(OWN))
+    }
+
+    /// The peers of the retained set with an index.
+    ///
+    /// # Errors
+    ///
+    /// [`OutOfMemory`].
+    ///
+    /// # Examples
+    ///
+    /// ```
+    /// # use p2p_directory::*;
+    /// # let mut directory = testing::directory();
+    /// let peers = TrackedPeers::from(OrderedSet::from_iter_dedup([testing::key(1)]));
+    /// directory.track(5, &peers.clone())?;
+    /// assert_eq!(directory.get_peer_set(5)?, Some(peers));
+    /// # Ok::<(), OutOfMemory>(())
+    /// ```
+    pub fn get_peer_set(&self, index: u64) -> Result<Option<TrackedPeers>, OutOfMemory> {
+        self.question(|session, out| session.get_peer_set(index, out), read_peers)
+    }
+
+    /// What is told of the latest set, or `None` where none was taken.
+    ///
+    /// # Errors
+    ///
+    /// [`OutOfMemory`].
+    ///
+    /// # Examples
+    ///
+    /// ```
+    /// # use p2p_directory::*;
+    /// # let directory = testing::directory();
+    /// assert_eq!(directory.latest_update()?, None);
+    /// # Ok::<(), OutOfMemory>(())
+    /// ```
+    pub fn latest_update(&self) -> Result<Option<PeerSetUpdate>, OutOfMemory> {
+        self.question(Session::latest_update, read_update)
+    }
+
+    /// The index of the latest set, or `None` where none was taken.
+    ///
+    /// # Examples
+    ///
+    /// ```
+    /// # use p2p_directory::*;
+    /// # let directory = testing::directory();
+    /// assert_eq!(directory.latest_set_index(), None);
+    /// ```
+    #[must_use]
+    pub fn latest_set_index(&self) -> Option<u64> {
+        self.certain_question(Session::latest_set_index, |bytes| {
+            Reader::new(bytes).number()
+        })
+    }
+
+    /// The peers of all retained sets: one that is primary in some is primary only.
+    ///
+    /// # Errors
+    ///
+    /// [`OutOfMemory`].
+    ///
+    /// # Examples
+    ///
+    /// ```
+    /// # use p2p_directory::*;
+    /// # let directory = testing::directory();
+    /// assert_eq!(directory.all()?, TrackedPeers::default());
+    /// # Ok::<(), OutOfMemory>(())
+    /// ```
+    pub fn all(&self) -> Result<TrackedPeers, OutOfMemory> {
+        let all = self.question(Session::all, read_peers)?;
+        Ok(all.expect(OWN))
+    }
+
+    /// How the peer stands, or `None` where there is no record of it.
+    ///
+    /// # Examples
+    ///
+    /// ```
+    /// # use p2p_directory::*;
+    /// # let directory = testing::directory();
+    /// assert_eq!(directory.status(&testing::key(1)), None);
+    /// ```
+    #[must_use]
+    #[inline]
+    pub fn status(&self, peer: &Key) -> Option<Status> {
+        match self.session().status(&peer.0) {
+            exports::NONE => None,
+            0 => Some(Status::Inert),
+            1 => Some(Status::Reserved),
+            2 => Some(Status::Active),
+            other => unknown(other),
+        }
+    }
+
+    /// The info of the peer that others may be told: the own one, and that of a peer that is connected.
+    ///
+    /// # Errors
+    ///
+    /// [`OutOfMemory`].
+    ///
+    /// # Examples
+    ///
+    /// ```
+    /// # use p2p_directory::*;
+    /// # let directory = testing::directory();
+    /// let own = directory.info(&testing::key(9))?.expect("the own info");
+    /// assert_eq!(own.timestamp, 0);
+    /// # Ok::<(), OutOfMemory>(())
+    /// ```
+    pub fn info(&self, peer: &Key) -> Result<Option<Info>, OutOfMemory> {
+        self.question(
+            |session, out| session.info(&peer.0, out),
+            |bytes| Info::read(&mut Reader::new(bytes)),
+        )
+    }
+
+    /// The infos for one who knows these bits, at the moment `now`: of the primary peers of the set whose
+    /// bit is false, in order, those that others may be told and whose timestamp is not above `now`. No
+    /// infos where no retained set has the index, `None` where the bits are of another number than its
+    /// primary peers.
+    ///
+    /// # Errors
+    ///
+    /// [`OutOfMemory`].
+    ///
+    /// # Panics
+    ///
+    /// Where there are more bits than the greatest `u32`.
+    ///
+    /// # Examples
+    ///
+    /// ```
+    /// # use p2p_directory::*;
+    /// # let directory = testing::directory();
+    /// let bits = BitVec { index: 3, bits: vec![false; 4] };
+    /// assert_eq!(directory.infos(&bits, Moment::EPOCH)?, Some(Vec::new()));
+    /// # Ok::<(), OutOfMemory>(())
+    /// ```
+    pub fn infos(&self, bit_vec: &BitVec, now: Moment) -> Result<Option<Vec<Info>>, OutOfMemory> {
+        let (seconds, nanos) = now.parts();
+        let mut spelled = self.input.borrow_mut();
+        spelled.clear();
+        let infos = bit_vec.try_write(&mut spelled).and_then(|()| {
+            self.question(
+                |session, out| session.infos(&spelled, seconds, nanos, out),
+                |bytes| read_infos(&mut Reader::new(bytes), u64::MAX),
+            )
+        });
+        give_back_large(&mut spelled);
+        infos
+    }
+
+    /// The bits of the retained set at a place, counted from 0 in order of index, for each primary peer
+    /// whether its info is known and not wanted. A random place makes it a random set.
+    ///
+    /// # Errors
+    ///
+    /// [`OutOfMemory`].
+    ///
+    /// # Examples
+    ///
+    /// ```
+    /// # use p2p_directory::*;
+    /// # let mut directory = testing::directory();
+    /// directory.track(5, &OrderedSet::from_iter_dedup([testing::key(1)]).into())?;
+    /// let bits = BitVec { index: 5, bits: vec![false] };
+    /// assert_eq!(directory.get_random_bit_vec(0)?, Some(bits));
+    /// # Ok::<(), OutOfMemory>(())
+    /// ```
+    pub fn get_random_bit_vec(&self, place: usize) -> Result<Option<BitVec>, OutOfMemory> {
+        self.question(
+            |session, out| session.get_random_bit_vec(place as u64, out),
+            |bytes| BitVec::read(&mut Reader::new(bytes), u64::MAX),
+        )
+    }
+
+    /// Whether the peer may be connected at the moment `now`: it is in a retained set or a bootstrapper,
+    /// not blocked, and not the local node.
+    ///
+    /// # Examples
+    ///
+    /// ```
+    /// # use p2p_directory::*;
+    /// # let directory = testing::directory();
+    /// assert!(!directory.eligible(&testing::key(9), Moment::EPOCH));
+    /// ```
+    #[must_use]
+    #[inline]
+    pub fn eligible(&self, peer: &Key, now: Moment) -> bool {
+        let (seconds, nanos) = now.parts();
+        is_certain(self.session().eligible(&peer.0, seconds, nanos))
+    }
+
+    /// Whether a connection of the peer may be accepted at the moment `now`: it is eligible, and neither
+    /// reserved nor connected.
+    ///
+    /// # Examples
+    ///
+    /// ```
+    /// # use p2p_directory::*;
+    /// # let directory = testing::directory();
+    /// assert!(!directory.acceptable(&testing::key(1), Moment::EPOCH));
+    /// ```
+    #[must_use]
+    #[inline]
+    pub fn acceptable(&self, peer: &Key, now: Moment) -> bool {
+        let (seconds, nanos) = now.parts();
+        is_certain(self.session().acceptable(&peer.0, seconds, nanos))
+    }
+
+    /// Who may be dialled at the moment `now`, and when to ask again.
+    ///
+    /// # Errors
+    ///
+    /// [`OutOfMemory`].
+    ///
+    /// # Examples
+    ///
+    /// ```
+    /// # use p2p_directory::*;
+    /// # let directory = testing::directory();
+    /// assert_eq!(directory.dialable(Moment::EPOCH)?, Dialable::default());
+    /// # Ok::<(), OutOfMemory>(())
+    /// ```
+    pub fn dialable(&self, now: Moment) -> Result<Dialable, OutOfMemory> {
+        let (seconds, nanos) = now.parts();
+        let dialable = self.question(
+            |session, out| session.dialable(seconds, nanos, out),
+            read_dialable,
+        )?;
+        Ok(dialable.expect(OWN))
+    }
+
+    /// How many peers have a record, but for the local node.
+    ///
+    /// # Examples
+    ///
+    /// ```
+    /// # use p2p_directory::*;
+    /// # let directory = testing::directory();
+    /// assert_eq!(directory.tracked(), 0);
+    /// ```
+    #[must_use]
+    #[inline]
+    pub fn tracked(&self) -> usize {
+        certain(self.session().tracked()) as usize
+    }
+}
+
+fn read_peers(bytes: &[u8]) -> Result<TrackedPeers, ReadError> {
+    let mut reader = Reader::new(bytes);
+    let primary = reader.number()?;
+    let primary = read_set(&mut reader, primary)?;
+    let secondary = OrderedSet::read(reader.rest())?;
+    Ok(TrackedPeers::new(primary, secondary))
+}
+
+fn read_update(bytes: &[u8]) -> Result<PeerSetUpdate, ReadError> {
+    let mut reader = Reader::new(bytes);
+    let index = reader.number()?;
+    let (primary, secondary, all) = (reader.number()?, reader.number()?, reader.number()?);
+    let latest = TrackedPeers::new(
+        read_set(&mut reader, primary)?,
+        read_set(&mut reader, secondary)?,
+    );
+    let all = read_set(&mut reader, all)?;
+    let all = TrackedPeers::new(all, OrderedSet::read(reader.rest())?);
+    Ok(PeerSetUpdate { index, latest, all })
+}
+
+fn read_dialable(bytes: &[u8]) -> Result<Dialable, ReadError> {
+    let mut reader = Reader::new(bytes);
+    let next_query_at = match reader.byte()? {
+        0 => None,
+        1 => Some(reader.moment()?),
+        other => unknown(other.into()),
+    };
+    Ok(Dialable {
+        peers: read_keys(reader.rest())?,
+        next_query_at,
+    })
+}
+
+fn read_set(reader: &mut Reader<'_>, count: u64) -> Result<OrderedSet, ReadError> {
+    let keys = reader.take(count as usize * KEY_SIZE)?;
+    Ok(OrderedSet::read(keys)?)
+}

@@ -1,0 +1,230 @@
+//! The leave to connect with a peer.
+
+use super::held::Origin;
+use crate::error::NotReservedError;
+use crate::ingress::Ingress;
+use crate::key::Key;
+use std::error;
+use std::fmt;
+use std::mem;
+
+/// The leave to connect with a peer, made by [`Directory::dial`](crate::Directory::dial) and
+/// [`Directory::listen`](crate::Directory::listen). While it is held, the peer can't be reserved again.
+///
+/// [`Directory::release`](crate::Directory::release) gives it back at once. One that is dropped, on whatever
+/// thread, gives itself back: the next call of its directory, a question or not, first releases it. Dropping
+/// takes no memory, and does nothing where the directory is gone.
+///
+/// # Examples
+///
+/// ```
+/// # use p2p_directory::*; use std::time::Duration;
+/// # let mut directory = testing::directory();
+/// # let (peer, now) = (testing::key(1), Moment::from_secs(1));
+/// # directory.track(0, &OrderedSet::from_iter_dedup([peer]).into())?;
+/// let reservation = directory.listen(&peer, now, Duration::ZERO)?.expect("in a set");
+/// assert!(directory.listen(&peer, now, Duration::ZERO)?.is_none());
+/// directory.release(reservation).expect("its own");
+///
+/// // After its cooldown it comes again, and this time the reservation is dropped.
+/// let later = Moment::from_secs(11);
+/// let reservation = directory.listen(&peer, later, Duration::ZERO)?.expect("not reserved");
+/// drop(reservation);
+/// assert_eq!(directory.status(&peer), Some(Status::Inert));
+/// # Ok::<(), OutOfMemory>(())
+/// ```
+#[must_use = "a reservation that is dropped is released by the next call of its directory"]
+pub struct Reservation {
+    peer: Key,
+    is_dialer: bool,
+    origin: Origin,
+}
+
+/// Whom a reservation is for, and in which direction.
+///
+/// # Examples
+///
+/// ```
+/// # use p2p_directory::{Key, Metadata};
+/// assert_eq!(Metadata::Listener(Key([1; 32])).public_key(), &Key([1; 32]));
+/// ```
+#[derive(Clone, Debug, PartialEq, Eq, Hash)]
+#[non_exhaustive]
+pub enum Metadata {
+    /// The peer is dialled at this address.
+    Dialer(Key, Ingress),
+    /// The peer comes.
+    Listener(Key),
+}
+
+/// A reservation is of another directory: it is given back, and nothing has changed. Whoever drops this error
+/// drops the reservation, which then is released at its own directory.
+///
+/// # Examples
+///
+/// ```
+/// # use p2p_directory::*; use std::time::Duration;
+/// # let (mut directory, mut other) = (testing::directory(), testing::directory());
+/// # let (peer, now) = (testing::key(1), Moment::from_secs(1));
+/// # directory.track(0, &OrderedSet::from_iter_dedup([peer]).into())?;
+/// let reservation = directory.listen(&peer, now, Duration::ZERO)?.expect("in a set");
+/// let ReleaseError { reservation, .. } = other.release(reservation).unwrap_err();
+/// assert!(directory.release(reservation).is_ok());
+/// # Ok::<(), OutOfMemory>(())
+/// ```
+#[derive(Debug)]
+#[non_exhaustive]
+pub struct ReleaseError {
+    /// The reservation.
+    pub reservation: Reservation,
+}
+
+/// Why a reservation was not connected, and nothing has changed.
+///
+/// # Examples
+///
+/// ```
+/// # use p2p_directory::*; use std::time::Duration;
+/// # let (mut directory, mut other) = (testing::directory(), testing::directory());
+/// # let (peer, now) = (testing::key(1), Moment::from_secs(1));
+/// # directory.track(0, &OrderedSet::from_iter_dedup([peer]).into())?;
+/// let reservation = directory.listen(&peer, now, Duration::ZERO)?.expect("in a set");
+/// let refused = other.connect_reserved(&reservation).unwrap_err();
+/// assert_eq!(refused, ConnectError::OfAnotherDirectory);
+/// assert_eq!(refused.to_string(), "the reservation is of another directory");
+/// # Ok::<(), OutOfMemory>(())
+/// ```
+#[derive(Clone, Copy, Debug, PartialEq, Eq, Hash)]
+#[non_exhaustive]
+pub enum ConnectError {
+    /// The reservation is of another directory.
+    OfAnotherDirectory,
+    /// The peer is connected already.
+    NotReserved,
+}
+
+impl Reservation {
+    #[inline]
+    pub(super) fn new(peer: Key, is_dialer: bool, origin: Origin) -> Reservation {
+        Reservation {
+            peer,
+            is_dialer,
+            origin,
+        }
+    }
+
+    /// The key of the peer.
+    ///
+    /// # Examples
+    ///
+    /// ```
+    /// # use p2p_directory::*; use std::time::Duration;
+    /// # let mut directory = testing::directory();
+    /// # let (peer, now) = (testing::key(1), Moment::from_secs(1));
+    /// # directory.track(0, &OrderedSet::from_iter_dedup([peer]).into())?;
+    /// let reservation = directory.listen(&peer, now, Duration::ZERO)?.expect("in a set");
+    /// assert_eq!(reservation.public_key(), &peer);
+    /// # directory.release(reservation).expect("its own");
+    /// # Ok::<(), OutOfMemory>(())
+    /// ```
+    #[must_use]
+    #[inline]
+    pub fn public_key(&self) -> &Key {
+        &self.peer
+    }
+
+    pub(super) fn is_dialer(&self) -> bool {
+        self.is_dialer
+    }
+
+    #[inline]
+    pub(super) fn is_of(&self, directory: Origin) -> bool {
+        self.origin.id() == directory.id()
+    }
+
+    /// Whose it is, without giving it back.
+    #[inline]
+    pub(super) fn into_peer(self) -> Key {
+        let peer = self.peer;
+        // It holds nothing but what is copied.
+        mem::forget(self);
+        peer
+    }
+}
+
+impl Drop for Reservation {
+    fn drop(&mut self) {
+        self.origin.leave(self.peer);
+    }
+}
+
+impl fmt::Debug for Reservation {
+    fn fmt(&self, f: &mut fmt::Formatter<'_>) -> fmt::Result {
+        f.debug_struct("Reservation")
+            .field("peer", &self.peer)
+            .field("is_dialer", &self.is_dialer)
+            .field("directory", &self.origin.id())
+            .finish()
+    }
+}
+
+impl Metadata {
+    /// The key of the peer.
+    ///
+    /// # Examples
+    ///
+    /// ```
+    /// # use p2p_directory::{Key, Metadata};
+    /// assert_eq!(Metadata::Listener(Key([2; 32])).public_key(), &Key([2; 32]));
+    /// ```
+    #[must_use]
+    #[inline]
+    pub fn public_key(&self) -> &Key {
+        match self {
+            Metadata::Dialer(key, _) | Metadata::Listener(key) => key,
+        }
+    }
+}
+
+impl fmt::Display for Metadata {
+    fn fmt(&self, f: &mut fmt::Formatter<'_>) -> fmt::Result {
+        match self {
+            Metadata::Dialer(key, ingress) => write!(f, "dialer of {key} at {ingress}"),
+            Metadata::Listener(key) => write!(f, "listener for {key}"),
+        }
+    }
+}
+
+impl fmt::Display for ReleaseError {
+    fn fmt(&self, f: &mut fmt::Formatter<'_>) -> fmt::Result {
+        let peer = self.reservation.public_key();
+        write!(f, "the reservation of {peer} is of another directory")
+    }
+}
+
+impl fmt::Display for ConnectError {
+    fn fmt(&self, f: &mut fmt::Formatter<'_>) -> fmt::Result {
+        match self {
+            ConnectError::OfAnotherDirectory => {
+                f.write_str("the reservation is of another directory")
+            }
+            ConnectError::NotReserved => f.write_str("the reservation is connected already"),
+        }
+    }
+}
+
+impl error::Error for ReleaseError {}
+impl error::Error for ConnectError {
+    fn source(&self) -> Option<&(dyn error::Error + 'static)> {
+        match self {
+            ConnectError::OfAnotherDirectory => None,
+            ConnectError::NotReserved => Some(&NotReservedError),
+        }
+    }
+}
+
+impl From<NotReservedError> for ConnectError {
+    fn from(_refused: NotReservedError) -> ConnectError {
+        ConnectError::NotReserved
+    }
+}

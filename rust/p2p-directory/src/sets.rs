@@ -1,0 +1,208 @@
+//! Sorted sets of keys, and the peers of a set by role.
+
+use crate::error::OutOfMemory;
+use crate::key::{KEY_SIZE, Key};
+use std::error;
+use std::fmt;
+use std::ops::Deref;
+
+/// Keys in ascending order, each once. Sets are ordered as lists of their keys.
+///
+/// It is collected from no iterator, nor extended by one: a key that comes again is dropped by
+/// [`OrderedSet::from_iter_dedup`], and refused by `try_from`.
+///
+/// # Examples
+///
+/// ```
+/// use p2p_directory::{Key, OrderedSet};
+///
+/// let set = OrderedSet::from_iter_dedup([Key([2; 32]), Key([1; 32]), Key([2; 32])]);
+/// assert_eq!(set.to_vec(), [Key([1; 32]), Key([2; 32])]);
+/// assert_eq!(set.position(&Key([2; 32])), Some(1));
+/// ```
+#[derive(Clone, Debug, Default, PartialEq, Eq, PartialOrd, Ord, Hash)]
+pub struct OrderedSet(Vec<Key>);
+
+/// A key stands more than once in a list that was to be a set.
+///
+/// # Examples
+///
+/// ```
+/// use p2p_directory::{DuplicateKeyError, Key, OrderedSet};
+///
+/// assert_eq!(OrderedSet::try_from(vec![Key([1; 32]); 2]), Err(DuplicateKeyError));
+/// ```
+#[derive(Clone, Copy, Debug, PartialEq, Eq, Hash)]
+pub struct DuplicateKeyError;
+
+impl OrderedSet {
+    /// The set of these keys, each once. Where memory is refused, the program is aborted.
+    ///
+    /// # Examples
+    ///
+    /// ```
+    /// # use p2p_directory::{Key, OrderedSet};
+    /// assert_eq!(OrderedSet::from_iter_dedup([Key([1; 32]); 3]).len(), 1);
+    /// ```
+    #[must_use]
+    pub fn from_iter_dedup(keys: impl IntoIterator<Item = Key>) -> OrderedSet {
+        let mut keys: Vec<Key> = keys.into_iter().collect();
+        keys.sort_unstable();
+        keys.dedup();
+        OrderedSet(keys)
+    }
+
+    /// At which place the key stands, counted from 0, or `None` where it doesn't.
+    ///
+    /// # Examples
+    ///
+    /// ```
+    /// # use p2p_directory::{Key, OrderedSet};
+    /// let set = OrderedSet::from_iter_dedup([Key([1; 32])]);
+    /// assert_eq!(set.position(&Key([9; 32])), None);
+    /// ```
+    #[must_use]
+    pub fn position(&self, key: &Key) -> Option<usize> {
+        self.0.binary_search(key).ok()
+    }
+
+    pub(crate) fn write(&self, out: &mut Vec<u8>) -> Result<(), OutOfMemory> {
+        out.try_reserve(self.0.len() * KEY_SIZE)?;
+        for key in &self.0 {
+            out.extend_from_slice(&key.0);
+        }
+        Ok(())
+    }
+
+    // The keys that stand one after the other, which are sorted and distinct.
+    pub(crate) fn read(bytes: &[u8]) -> Result<OrderedSet, OutOfMemory> {
+        read_keys(bytes).map(OrderedSet)
+    }
+
+    // Likewise, in the room of a list that has nothing in it yet.
+    pub(crate) fn read_into(mut room: Vec<Key>, bytes: &[u8]) -> OrderedSet {
+        room.extend(keys_of(bytes));
+        OrderedSet(room)
+    }
+}
+
+fn keys_of(bytes: &[u8]) -> impl ExactSizeIterator<Item = Key> {
+    let (keys, _none) = bytes.as_chunks::<KEY_SIZE>();
+    keys.iter().map(|key| Key(*key))
+}
+
+/// The keys that stand one after the other.
+pub(crate) fn read_keys(bytes: &[u8]) -> Result<Vec<Key>, OutOfMemory> {
+    let spelled = keys_of(bytes);
+    let mut keys = Vec::new();
+    keys.try_reserve_exact(spelled.len())?;
+    keys.extend(spelled);
+    Ok(keys)
+}
+
+impl Deref for OrderedSet {
+    type Target = [Key];
+
+    fn deref(&self) -> &[Key] {
+        &self.0
+    }
+}
+
+impl<const N: usize> TryFrom<[Key; N]> for OrderedSet {
+    type Error = DuplicateKeyError;
+
+    fn try_from(keys: [Key; N]) -> Result<OrderedSet, DuplicateKeyError> {
+        OrderedSet::try_from(Vec::from(keys))
+    }
+}
+
+impl TryFrom<Vec<Key>> for OrderedSet {
+    type Error = DuplicateKeyError;
+
+    fn try_from(mut keys: Vec<Key>) -> Result<OrderedSet, DuplicateKeyError> {
+        keys.sort_unstable();
+        if keys.windows(2).any(|pair| pair[0] == pair[1]) {
+            return Err(DuplicateKeyError);
+        }
+        Ok(OrderedSet(keys))
+    }
+}
+
+impl AsRef<[Key]> for OrderedSet {
+    fn as_ref(&self) -> &[Key] {
+        &self.0
+    }
+}
+
+impl From<OrderedSet> for Vec<Key> {
+    /// The keys in ascending order, in the memory of the set.
+    fn from(set: OrderedSet) -> Vec<Key> {
+        set.0
+    }
+}
+
+impl IntoIterator for OrderedSet {
+    type Item = Key;
+    type IntoIter = std::vec::IntoIter<Key>;
+
+    fn into_iter(self) -> Self::IntoIter {
+        self.0.into_iter()
+    }
+}
+
+impl<'a> IntoIterator for &'a OrderedSet {
+    type Item = &'a Key;
+    type IntoIter = std::slice::Iter<'a, Key>;
+
+    fn into_iter(self) -> Self::IntoIter {
+        self.0.iter()
+    }
+}
+
+impl fmt::Display for DuplicateKeyError {
+    fn fmt(&self, f: &mut fmt::Formatter<'_>) -> fmt::Result {
+        f.write_str("a key stands more than once")
+    }
+}
+
+impl error::Error for DuplicateKeyError {}
+
+/// The peers of one set, or of all retained sets, by role.
+///
+/// # Examples
+///
+/// ```
+/// use p2p_directory::{Key, OrderedSet, TrackedPeers};
+///
+/// let primary = OrderedSet::from_iter_dedup([Key([1; 32])]);
+/// assert!(TrackedPeers::from(primary).secondary.is_empty());
+/// ```
+#[derive(Clone, Debug, Default, PartialEq, Eq, Hash)]
+pub struct TrackedPeers {
+    /// The primary peers, whose infos are gossiped.
+    pub primary: OrderedSet,
+    /// The secondary peers. A peer in both roles is primary only.
+    pub secondary: OrderedSet,
+}
+
+impl TrackedPeers {
+    /// The peers of both roles.
+    ///
+    /// # Examples
+    ///
+    /// ```
+    /// # use p2p_directory::{OrderedSet, TrackedPeers};
+    /// let none = TrackedPeers::new(OrderedSet::default(), OrderedSet::default());
+    /// assert_eq!(none, TrackedPeers::default());
+    /// ```
+    #[must_use]
+    pub fn new(primary: OrderedSet, secondary: OrderedSet) -> TrackedPeers {
+        TrackedPeers { primary, secondary }
+    }
+}
+
+impl From<OrderedSet> for TrackedPeers {
+    fn from(primary: OrderedSet) -> TrackedPeers {
+        TrackedPeers::new(primary, OrderedSet::default())
+    }
+}

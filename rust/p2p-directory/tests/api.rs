@@ -1,0 +1,376 @@
+//! What the types of the interface promise beside what a directory answers: moments, texts and conversions.
+
+use p2p_directory::testing::{self, config, directory, info, key};
+use p2p_directory::{
+    BeforeEpochError, BitVec, CodecError, Config, ConnectError, Data, Directory, EncodedData,
+    Hostname, Info, Ingress, Key, MAX_PAYLOAD_OVERHEAD, Metadata, Moment, Node, OrderedSet,
+    ParseError, Payload, PayloadConfig, SetupError, Signature, Status, What, max_gossip_size,
+    max_size,
+};
+use std::cmp::Ordering;
+use std::collections::HashSet;
+use std::error::Error;
+use std::iter::successors;
+use std::net::{Ipv6Addr, SocketAddr, SocketAddrV6};
+use std::time::{Duration, SystemTime, UNIX_EPOCH};
+
+const NANO: Duration = Duration::from_nanos(1);
+
+#[test]
+fn moments_are_times_since_the_epoch() {
+    let time = UNIX_EPOCH + Duration::new(100, 5);
+    let moment = Moment::try_from(time).unwrap();
+    assert_eq!(moment, Moment::from(Duration::new(100, 5)));
+    assert_eq!(moment.as_duration(), Duration::new(100, 5));
+    assert_eq!(moment.to_system_time(), Some(time));
+    assert_eq!(moment.to_string(), "100.000000005");
+    assert_eq!(Moment::default(), Moment::EPOCH);
+    assert_eq!(Moment::try_from(UNIX_EPOCH), Ok(Moment::EPOCH));
+    let before: Result<Moment, _> = (UNIX_EPOCH - NANO).try_into();
+    assert_eq!(before, Err(BeforeEpochError));
+    assert!(Moment::try_from(SystemTime::now()).unwrap() > moment);
+}
+
+#[test]
+fn moments_end_at_both_ends() {
+    let late = Moment::MAX.checked_sub(NANO).unwrap();
+    assert!(late < Moment::MAX);
+    assert_eq!(late.checked_add(NANO), Some(Moment::MAX));
+    assert_eq!(late.checked_add(2 * NANO), None);
+    assert_eq!(late.saturating_add(2 * NANO), Moment::MAX);
+    assert_eq!(Moment::EPOCH.checked_sub(NANO), None);
+    assert_eq!(Moment::MAX.duration_since(late), NANO);
+    assert_eq!(late.duration_since(Moment::MAX), Duration::ZERO);
+}
+
+// The dial moment of a peer that was granted at 100 s, under a cooldown of 5 ns, with this draw.
+fn dial_moment(draw: Duration) -> Option<Moment> {
+    let cfg = Config {
+        peer_connection_cooldown: 5 * NANO,
+        ..config()
+    };
+    let mut directory = Directory::init(&[], &info(9, 0), cfg).unwrap();
+    let peers = OrderedSet::from_iter_dedup([key(1)]);
+    directory.track(0, &peers.into()).unwrap();
+    directory.update_peers(&[info(1, 1000)]).unwrap();
+    let granted = directory.listen(&key(1), Moment::from_secs(100), draw);
+    directory.release(granted.unwrap().unwrap()).unwrap();
+    let told = directory.dialable(Moment::from_secs(100)).unwrap();
+    told.next_query_at
+}
+
+// Row 10: a jitter is at most twice the half of the cooldown, rounded down, and that itself is one.
+#[test]
+fn draws_are_taken_up_to_the_end_of_their_range() {
+    let after = |nanos| Some(Moment::from(Duration::new(100, nanos)));
+    assert_eq!(dial_moment(Duration::ZERO), after(5));
+    assert_eq!(dial_moment(3 * NANO), after(8));
+    assert_eq!(dial_moment(4 * NANO), after(9));
+    assert_eq!(dial_moment(5 * NANO), after(9));
+    assert_eq!(dial_moment(9 * NANO), after(9));
+}
+
+#[test]
+fn keys_and_signatures_are_read_from_their_text() {
+    let mut bytes = [0; 32];
+    bytes[0] = 0xab;
+    bytes[31] = 0x0f;
+    let (lower, upper) = (
+        format!("ab{}0f", "0".repeat(60)),
+        format!("AB{}0F", "0".repeat(60)),
+    );
+    let key = Key::from(bytes);
+    assert_eq!(key.to_string(), lower);
+    assert_eq!(
+        (format!("{key:x}"), format!("{key:X}")),
+        (lower.clone(), upper.clone())
+    );
+    assert_eq!(
+        (format!("{key:#x}"), format!("{key:#X}")),
+        (format!("0x{lower}"), format!("0x{upper}"))
+    );
+    assert_eq!((lower.parse(), upper.parse()), (Ok(key), Ok(key)));
+    assert_eq!(Key::try_from(&bytes[..]).unwrap(), key);
+    assert!(Key::try_from(&bytes[1..]).is_err());
+
+    let signature = Signature([0x5c; 64]);
+    assert_eq!("5c".repeat(64).parse(), Ok(signature));
+    assert_eq!(format!("{signature:X}"), "5C".repeat(64));
+    assert_eq!(Signature::try_from(signature.as_ref()).unwrap(), signature);
+}
+
+#[test]
+fn texts_that_are_no_keys_are_refused() {
+    let refused = |text: &str| text.parse::<Key>().unwrap_err();
+    assert_eq!(refused(""), ParseError::Length(0));
+    assert_eq!(refused(&"0".repeat(63)), ParseError::Length(63));
+    assert_eq!(refused(&"0".repeat(65)), ParseError::Length(65));
+    assert_eq!(refused(&"0".repeat(66)), ParseError::Length(66));
+    for other in ["g0", "0g", "+1", "\u{e9}"] {
+        assert_eq!(
+            refused(&format!("{other}{}", "0".repeat(62))),
+            ParseError::Digit
+        );
+    }
+}
+
+#[test]
+fn an_ingress_is_read_from_its_text() {
+    let name = Hostname::new("node-1.example.com").unwrap();
+    let version_6 = Ipv6Addr::new(0x2600, 0, 0, 0, 0, 0, 0, 1);
+    let ingresses = [
+        ("1.2.3.4:80", SocketAddr::from(([1, 2, 3, 4], 80)).into()),
+        ("[::1]:0", SocketAddr::from((Ipv6Addr::LOCALHOST, 0)).into()),
+        (
+            "[2600::1]:65535",
+            SocketAddr::from((version_6, u16::MAX)).into(),
+        ),
+        ("node-1.example.com:443", Ingress::from((name, 443))),
+        ("1a:80", Ingress::from((Hostname::new("1a").unwrap(), 80))),
+    ];
+    for (text, ingress) in ingresses {
+        assert_eq!(text.parse(), Ok(ingress.clone()));
+        assert_eq!(ingress.to_string(), text);
+    }
+}
+
+#[test]
+fn texts_that_are_no_ingress_are_refused() {
+    let refused = |text: &str| text.parse::<Ingress>().unwrap_err();
+    for text in [
+        "", "a", "a:", "a:b", "a:+80", "a:-0", "a:65536", "1.2.3.4", "[::1]",
+    ] {
+        assert_eq!(refused(text), ParseError::Port, "{text}");
+    }
+    for text in [
+        "[::1:80",
+        "[a]:80",
+        "1.2.3.400:80",
+        "1.2.3:80",
+        "7:80",
+        "a.1:80",
+    ] {
+        assert_eq!(refused(text), ParseError::Address, "{text}");
+    }
+    assert_eq!(
+        refused(":80"),
+        ParseError::Hostname(CodecError::InvalidLength(0))
+    );
+    let no_name = CodecError::Invalid(What::Hostname);
+    for text in ["a..b:80", "-:80", "::1:80", "1.2.3.4.:80"] {
+        assert_eq!(refused(text), ParseError::Hostname(no_name), "{text}");
+    }
+}
+
+#[test]
+fn a_hostname_is_a_text() {
+    let name: Hostname = "example.com".parse().unwrap();
+    assert_eq!(Hostname::try_from("example.com"), Ok(name.clone()));
+    assert_eq!(AsRef::<str>::as_ref(&name), "example.com");
+    let refused = Err(CodecError::Invalid(What::Hostname));
+    assert_eq!("a_b".parse::<Hostname>(), refused);
+    assert_eq!(Hostname::try_from("a_b"), refused);
+}
+
+#[test]
+fn sets_are_ordered_as_lists_and_given_back_as_such() {
+    let set = |numbers: &[u16]| OrderedSet::from_iter_dedup(numbers.iter().copied().map(key));
+    let ascending = [set(&[]), set(&[1]), set(&[1, 2]), set(&[1, 3]), set(&[2])];
+    assert!(ascending.is_sorted_by(|low, high| low < high));
+    assert_eq!(AsRef::<[Key]>::as_ref(&set(&[2, 1])), [key(1), key(2)]);
+    assert_eq!(Vec::from(set(&[3, 1, 3])), [key(1), key(3)]);
+}
+
+#[test]
+fn answers_have_a_text_of_one_line() {
+    let one = format!("{}01", "0".repeat(62));
+    let known = info(1, 1000);
+    assert_eq!(
+        known.to_string(),
+        format!("{one} at 1.2.3.4:8001 since 1000 ms")
+    );
+    let dialer = Metadata::Dialer(key(1), known.ingress);
+    assert_eq!(
+        dialer.to_string(),
+        format!("dialer of {one} at 1.2.3.4:8001")
+    );
+    assert_eq!(
+        Metadata::Listener(key(1)).to_string(),
+        format!("listener for {one}")
+    );
+    let texts = [Status::Inert, Status::Reserved, Status::Active].map(|status| status.to_string());
+    assert_eq!(texts, ["inert", "reserved", "active"]);
+}
+
+#[test]
+fn answers_are_hashed() {
+    let infos = [info(1, 1000), info(1, 1000), info(1, 1001)];
+    assert_eq!(HashSet::from(infos).len(), 2);
+    let held = [Metadata::Listener(key(1)), Metadata::Listener(key(1))];
+    assert_eq!(HashSet::from(held).len(), 1);
+}
+
+// An error's text, and those of its causes.
+fn texts(error: &dyn Error) -> Vec<String> {
+    let causes = successors(Some(error), |error| (*error).source());
+    causes.map(|error| error.to_string()).collect()
+}
+
+#[test]
+fn errors_name_their_causes() {
+    let refused = texts(&SetupError::OutOfMemory);
+    assert_eq!(refused, ["nothing could be set up", "memory was refused"]);
+    assert_eq!(texts(&SetupError::Setting), ["a setting is out of range"]);
+    let lacks = "the processor lacks instructions of x86-64-v2";
+    assert_eq!(texts(&SetupError::Processor), [lacks]);
+    let connected = texts(&ConnectError::NotReserved);
+    assert_eq!(
+        connected,
+        [
+            "the reservation is connected already",
+            "the peer is not reserved"
+        ]
+    );
+    assert_eq!(texts(&ConnectError::OfAnotherDirectory).len(), 1);
+    let host = texts(&"-:80".parse::<Ingress>().unwrap_err());
+    assert_eq!(host, ["the host is no name", "invalid hostname"]);
+}
+
+#[test]
+fn an_error_of_a_reservation_names_its_peer() {
+    let mut directory = directory();
+    directory
+        .track(0, &OrderedSet::from_iter_dedup([key(1)]).into())
+        .unwrap();
+    let granted = directory.listen(&key(1), Moment::from_secs(1), Duration::ZERO);
+    let refused = testing::directory()
+        .release(granted.unwrap().unwrap())
+        .unwrap_err();
+    assert_eq!(
+        refused.to_string(),
+        format!("the reservation of {} is of another directory", key(1))
+    );
+}
+
+#[test]
+fn an_ingress_is_what_is_told_of_it() {
+    let at = |address, port, flow, scope| {
+        SocketAddr::from(SocketAddrV6::new(address, port, flow, scope))
+    };
+    let link_local = Ipv6Addr::new(0xfe80, 0, 0, 0, 0, 0, 0, 1);
+    let plain = Ingress::Socket(at(link_local, 80, 0, 0));
+    for (flow, scope) in [(7, 0), (0, 2), (7, 2)] {
+        let socket = at(link_local, 80, flow, scope);
+        let Ingress::Socket(kept) = Ingress::from(socket) else {
+            panic!("{socket} is no name");
+        };
+        assert_eq!(kept, at(link_local, 80, 0, 0));
+        let ingress = Ingress::Socket(socket);
+        assert_eq!(Ingress::decode(&ingress.encode()).unwrap(), ingress);
+        assert_eq!(ingress.cmp(&plain), Ordering::Equal);
+        assert_eq!(ingress.to_string(), "[fe80::1]:80");
+        assert_eq!(HashSet::from([ingress, plain.clone()]).len(), 1);
+    }
+    assert_eq!("[fe80::1%2]:80".parse(), Ok(plain.clone()));
+    assert_ne!(plain, Ingress::Socket(at(link_local, 81, 0, 0)));
+    assert_ne!(plain, Ingress::Socket(at(Ipv6Addr::LOCALHOST, 80, 0, 0)));
+}
+
+#[test]
+fn ingresses_are_ordered_by_kind_then_host_then_port() {
+    let ascending = [
+        "9.9.9.9:80",
+        "9.9.9.9:81",
+        "10.0.0.1:1",
+        "[::1]:1",
+        "[fe80::1]:1",
+        "a.example:2",
+        "b.example:1",
+    ];
+    let read: Vec<Ingress> = ascending.iter().map(|text| text.parse().unwrap()).collect();
+    assert!(read.is_sorted_by(|low, high| low < high));
+}
+
+// An info at a name of so many bytes, of a timestamp of so many groups of seven bits.
+fn long_info(host: usize, groups: u32) -> Info {
+    let host = [&"a".repeat(63)[..]; 4].join(".")[..host].to_owned();
+    let ingress = match Hostname::new(&host) {
+        Ok(host) => Ingress::Dns { host, port: 8000 },
+        Err(_) => SocketAddr::from(([1, 2, 3, 4], 8000)).into(),
+    };
+    let timestamp = 1 << (7 * (groups - 1));
+    Info::sign(key(1), b"", ingress, timestamp, |_, _| Signature([0; 64]))
+}
+
+#[test]
+fn sizes_are_those_of_what_is_spelled() {
+    let infos = [(0, 1), (1, 2), (127, 9), (128, 9), (253, 10)]
+        .map(|(host, groups)| long_info(host, groups));
+    for info in &infos {
+        assert_eq!(info.encode_size(), info.encode().len());
+        assert_eq!(info.ingress.encode_size(), info.ingress.encode().len());
+    }
+    let v6 = Ingress::from(SocketAddr::from((Ipv6Addr::LOCALHOST, 1)));
+    assert_eq!(v6.encode_size(), v6.encode().len());
+    let bits = |count: usize| {
+        Payload::BitVec(BitVec {
+            index: u64::MAX,
+            bits: vec![true; count],
+        })
+    };
+    let data = |channel, count| {
+        Payload::Data(Data {
+            channel,
+            message: vec![0; count],
+        })
+    };
+    let payloads = [
+        bits(0),
+        bits(8),
+        bits(1017),
+        data(0, 0),
+        data(127, 127),
+        data(128, 128),
+        data(u64::MAX, 20_000),
+        Payload::Greeting(infos[4].clone()),
+        Payload::Peers(infos.to_vec()),
+        Payload::Peers(vec![infos[0].clone(); 128]),
+    ];
+    for payload in payloads {
+        assert_eq!(payload.encode_size(), payload.encode().len());
+    }
+}
+
+#[test]
+fn what_a_transport_carries_is_told() {
+    // Row 17, with keys of 32 bytes and signatures of 64: an info has 261 + 10 + 32 + 64 bytes at most.
+    assert_eq!(max_gossip_size(1000, 32), Some(1 + 32 * 367 + 5));
+    assert_eq!(max_gossip_size(100_000, 0), Some(12_514));
+    assert_eq!(max_gossip_size(0, 0), Some(1 + 367));
+    assert_eq!(max_gossip_size(u64::MAX, 0), Some(1 + 10 + 10 + (1 << 61)));
+    assert_eq!(max_gossip_size(0, usize::MAX / 367 + 1), None);
+    assert_eq!(max_size(MAX_PAYLOAD_OVERHEAD), Some(0));
+    assert_eq!(max_size(MAX_PAYLOAD_OVERHEAD - 1), None);
+    for (channel, size) in [(0, 0), (1, 5), (127, 127), (128, 128), (u64::MAX, 16_384)] {
+        let message = vec![7; size];
+        let header = EncodedData::new(channel, size as u32);
+        let frame = [header.as_bytes(), &message].concat();
+        assert_eq!(frame, Payload::Data(Data { channel, message }).encode());
+    }
+    let longest = EncodedData::new(u64::MAX, u32::MAX);
+    assert_eq!(longest.as_bytes().len(), MAX_PAYLOAD_OVERHEAD as usize);
+}
+
+#[test]
+fn a_node_tells_its_key_and_greets() {
+    let setup = testing::setup(9);
+    let node = Node::new(&setup).unwrap();
+    assert_eq!(node.public_key(), &key(9));
+    let limits = PayloadConfig {
+        max_bit_vec: 0,
+        max_peers: 0,
+        max_data_length: 0,
+    };
+    let greeting = Payload::decode(node.greeting(), &limits);
+    assert_eq!(greeting, Ok(Payload::Greeting(setup.myself)));
+}

@@ -1,0 +1,86 @@
+//! The original's cases of its bit set, by their names, as far as the bits of a retained set can say them.
+
+use p2p_directory::testing::{config, info, key};
+use p2p_directory::{Config, Directory, OrderedSet};
+use std::num::NonZeroUsize;
+
+fn tracked(sets: &[&[u16]]) -> Directory {
+    let cfg = Config {
+        max_sets: NonZeroUsize::new(4).unwrap(),
+        ..config()
+    };
+    let mut directory = Directory::init(&[], &info(99, 0), cfg).unwrap();
+    for (index, numbers) in (0..).zip(sets) {
+        let keys = numbers.iter().map(|number| key(*number));
+        let peers = OrderedSet::from_iter_dedup(keys).into();
+        directory.track(index, &peers).unwrap().unwrap();
+    }
+    directory
+}
+
+fn bits(directory: &Directory, place: usize) -> Vec<bool> {
+    directory.get_random_bit_vec(place).unwrap().unwrap().bits
+}
+
+#[test]
+fn test_set_initialization_and_sorting() {
+    let mut directory = tracked(&[&[3, 1, 2, 1]]);
+    let peers = directory.get_peer_set(0).unwrap().unwrap().primary;
+    assert_eq!(peers.to_vec(), [key(1), key(2), key(3)]);
+    assert_eq!(bits(&directory, 0), [false; 3]);
+    // Bits stand in the order of keys.
+    directory.update_peers(&[info(3, 1)]).unwrap();
+    assert_eq!(bits(&directory, 0), [false, false, true]);
+}
+
+#[test]
+fn test_update_knowledge_single_peer() {
+    let mut directory = tracked(&[&[1, 2]]);
+    directory.update_peers(&[info(2, 1)]).unwrap();
+    assert_eq!(bits(&directory, 0), [false, true]);
+    // A peer that isn't there changes no bit.
+    directory.update_peers(&[info(3, 1)]).unwrap();
+    assert_eq!(bits(&directory, 0), [false, true]);
+}
+
+#[test]
+fn test_update_multiple_peers() {
+    let mut directory = tracked(&[&[1, 2, 3], &[2, 3, 4]]);
+    let infos: Vec<_> = [4, 2].map(|number| info(number, 1)).into();
+    directory.update_peers(&infos).unwrap();
+    assert_eq!(bits(&directory, 0), [false, true, false]);
+    assert_eq!(bits(&directory, 1), [true, false, true]);
+}
+
+#[test]
+fn test_len() {
+    for count in [0, 1, 7, 8, 9, 1000] {
+        let numbers: Vec<u16> = (1..).filter(|number| *number != 99).take(count).collect();
+        let directory = tracked(&[&numbers]);
+        assert_eq!(bits(&directory, 0).len(), count);
+    }
+}
+
+#[test]
+fn test_knowledge_reflects_updates_and_cloning() {
+    let mut directory = tracked(&[&[1, 2]]);
+    let before = bits(&directory, 0);
+    directory.update_peers(&[info(1, 1)]).unwrap();
+    assert_eq!(before, [false, false]);
+    assert_eq!(bits(&directory, 0), [true, false]);
+}
+
+#[test]
+fn test_empty_set_behavior() {
+    let directory = tracked(&[&[]]);
+    assert!(bits(&directory, 0).is_empty());
+    assert_eq!(directory.get_random_bit_vec(1).unwrap(), None);
+}
+
+#[test]
+fn test_single_peer_set() {
+    let mut directory = tracked(&[&[1]]);
+    assert_eq!(bits(&directory, 0), [false]);
+    directory.update_peers(&[info(1, 1)]).unwrap();
+    assert_eq!(bits(&directory, 0), [true]);
+}

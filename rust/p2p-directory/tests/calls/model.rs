@@ -1,0 +1,435 @@
+//! A model of a node: maps and lists, and the answers that the specification gives for them.
+
+use super::call::{Call, OWN};
+use p2p_directory::testing::{NAMESPACE, key, verify};
+use p2p_directory::{
+    BitVec, CodecError, ConnectError, Error, Info, Ingress, Key, Moment, NotReservedError,
+    OrderedSet, OutOfMemory, Payload, Received, Setup, Status, TrackedPeers,
+};
+use std::collections::{BTreeMap, BTreeSet};
+use std::fmt::Debug;
+use std::net::IpAddr;
+use std::time::Duration;
+
+/// What was granted and isn't released yet.
+struct Held {
+    // Where it was dialled, unless the peer came.
+    dialled: Option<Ingress>,
+    is_active: bool,
+}
+
+/// Until when a peer isn't granted again, and not dialled again.
+struct Cooldown {
+    reservable: Moment,
+    dial: Moment,
+}
+
+pub struct Model {
+    setup: Setup,
+    // All sets that were taken: index, primary, secondary.
+    sets: Vec<(u64, BTreeSet<Key>, BTreeSet<Key>)>,
+    held: BTreeMap<Key, Held>,
+    cooldowns: BTreeMap<Key, Cooldown>,
+    // Infos, and how many dials of theirs failed.
+    known: BTreeMap<Key, (Info, usize)>,
+    blocks: BTreeMap<Key, Moment>,
+}
+
+/// An answer as it is compared.
+pub fn shown(answer: impl Debug) -> String {
+    format!("{answer:?}")
+}
+
+fn ordered(keys: impl IntoIterator<Item = Key>) -> OrderedSet {
+    OrderedSet::from_iter_dedup(keys)
+}
+
+impl Model {
+    pub fn new(setup: Setup) -> Model {
+        Model {
+            setup,
+            sets: Vec::new(),
+            held: BTreeMap::new(),
+            cooldowns: BTreeMap::new(),
+            known: BTreeMap::new(),
+            blocks: BTreeMap::new(),
+        }
+    }
+
+    pub fn answer(&mut self, call: &Call) -> String {
+        match call {
+            Call::Track(index, primary, secondary) => shown(self.track(*index, primary, secondary)),
+            Call::Dial(peer, now, draw) => shown(self.grant(peer, *now, *draw, true)),
+            Call::Listen(peer, now, draw) => shown(self.grant(peer, *now, *draw, false)),
+            Call::Connect(peer, is_dialer) => match self.connect(peer, *is_dialer) {
+                true => shown(Ok::<(), NotReservedError>(())),
+                false => shown(Err::<(), _>(NotReservedError)),
+            },
+            Call::ConnectReserved(peer) => shown(self.connect_reserved(peer)),
+            Call::Release(peer) | Call::Abandon(peer) => shown(self.release(peer)),
+            Call::Update(infos) => {
+                self.update(infos);
+                shown(Ok::<(), OutOfMemory>(()))
+            }
+            Call::Block(peer, now) => shown(self.block(peer, *now)),
+            Call::UnblockExpired(now) => shown(self.unblock_expired(*now)),
+            Call::ForgetCooled(now) => shown(self.forget_cooled(*now)),
+            Call::Receive(payload, now) => shown(self.receive(payload, *now)),
+            question => self.answer_question(question),
+        }
+    }
+
+    fn answer_question(&self, question: &Call) -> String {
+        match question {
+            Call::NextUnblock => shown(self.blocks.values().min()),
+            Call::BlockedPeers(now) => {
+                let blocked = self
+                    .blocks
+                    .keys()
+                    .filter(|peer| self.is_blocked(peer, *now));
+                shown(ordered(blocked.copied()))
+            }
+            Call::PeerSet(index) => shown(self.set_of(*index).map(|place| self.set_at(place))),
+            Call::LatestUpdate => shown(self.latest_update()),
+            Call::LatestSetIndex => shown(self.sets.last().map(|set| set.0)),
+            Call::All => shown(self.all()),
+            Call::Status(peer) => shown(self.is_present(peer).then(|| self.status(peer))),
+            Call::Info(peer) => shown(self.sharable(peer)),
+            Call::Infos(bit_vec, now) => shown(self.infos(bit_vec, *now)),
+            Call::Bits(place) => shown(self.bits(*place)),
+            Call::Ask(place) => shown(self.bits(*place).map(|bits| Payload::BitVec(bits).encode())),
+            Call::Eligible(peer, now) => shown(self.is_eligible(peer, *now)),
+            Call::Acceptable(peer, now) => {
+                shown(self.is_eligible(peer, *now) && self.status(peer) == Status::Inert)
+            }
+            Call::Dialable(now) => shown(self.dialable(*now)),
+            Call::Tracked => {
+                let all = (0..=u16::from(u8::MAX)).map(key);
+                shown(
+                    all.filter(|peer| *peer != key(OWN) && self.is_present(peer))
+                        .count(),
+                )
+            }
+            change => unreachable!("{change:?} changes something"),
+        }
+    }
+
+    fn retained(&self) -> &[(u64, BTreeSet<Key>, BTreeSet<Key>)] {
+        let first = self
+            .sets
+            .len()
+            .saturating_sub(self.setup.cfg.max_sets.get());
+        &self.sets[first..]
+    }
+
+    fn is_primary(&self, peer: &Key) -> bool {
+        self.retained().iter().any(|set| set.1.contains(peer))
+    }
+
+    fn is_named(&self, peer: &Key) -> bool {
+        self.is_primary(peer) || self.retained().iter().any(|set| set.2.contains(peer))
+    }
+
+    fn is_persistent(&self, peer: &Key) -> bool {
+        let mut bootstrappers = self.setup.bootstrappers.iter();
+        *peer == key(OWN) || bootstrappers.any(|(key, _)| key == peer)
+    }
+
+    fn is_entitled(&self, peer: &Key) -> bool {
+        *peer != key(OWN) && (self.is_named(peer) || self.is_persistent(peer))
+    }
+
+    fn is_present(&self, peer: &Key) -> bool {
+        self.is_persistent(peer) || self.is_named(peer) || self.held.contains_key(peer)
+    }
+
+    fn status(&self, peer: &Key) -> Status {
+        match self.held.get(peer) {
+            None => Status::Inert,
+            Some(held) if held.is_active => Status::Active,
+            Some(_) => Status::Reserved,
+        }
+    }
+
+    // Where the peer is, as its info says, or else its last bootstrapper.
+    fn address(&self, peer: &Key) -> Option<&Ingress> {
+        let mut bootstrappers = self.setup.bootstrappers.iter().rev();
+        match self.known.get(peer) {
+            Some((info, _)) => Some(&info.ingress),
+            None => bootstrappers.find(|(key, _)| key == peer).map(|(_, at)| at),
+        }
+    }
+
+    fn has_valid_address(&self, peer: &Key) -> bool {
+        let is_global = |ip: IpAddr| ip != IpAddr::from([10, 0, 0, 1]) && !ip.is_loopback();
+        match self.address(peer) {
+            None => false,
+            Some(Ingress::Dns { .. }) => self.setup.cfg.allow_dns,
+            Some(Ingress::Socket(at)) => self.setup.cfg.allow_private_ips || is_global(at.ip()),
+        }
+    }
+
+    fn is_target(&self, peer: &Key) -> bool {
+        self.is_entitled(peer)
+            && self.status(peer) == Status::Inert
+            && self.has_valid_address(peer)
+            && (self.is_primary(peer) || self.is_persistent(peer))
+    }
+
+    fn is_blocked(&self, peer: &Key, now: Moment) -> bool {
+        self.blocks.get(peer).is_some_and(|end| *end > now)
+    }
+
+    fn is_eligible(&self, peer: &Key, now: Moment) -> bool {
+        self.is_entitled(peer) && !self.is_blocked(peer, now)
+    }
+
+    // What was known of a peer goes with its presence.
+    fn forget_absent(&mut self) {
+        let known = std::mem::take(&mut self.known);
+        let present = known.into_iter().filter(|(peer, _)| self.is_present(peer));
+        self.known = present.collect();
+    }
+
+    fn track(&mut self, index: u64, primary: &[Key], secondary: &[Key]) -> Option<OrderedSet> {
+        if self.sets.last().is_some_and(|set| index <= set.0) {
+            return None;
+        }
+        let entitled: Vec<Key> = self.held.keys().copied().collect();
+        let entitled: Vec<Key> = entitled
+            .into_iter()
+            .filter(|peer| self.is_entitled(peer))
+            .collect();
+        let primary: BTreeSet<Key> = primary.iter().copied().collect();
+        let secondary = secondary.iter().filter(|peer| !primary.contains(peer));
+        let secondary = secondary.copied().collect();
+        self.sets.push((index, primary, secondary));
+        self.forget_absent();
+        let torn = entitled.into_iter().filter(|peer| !self.is_entitled(peer));
+        Some(ordered(torn))
+    }
+
+    fn grant(&mut self, peer: &Key, now: Moment, draw: Duration, is_dial: bool) -> bool {
+        let cooling = self
+            .cooldowns
+            .get(peer)
+            .is_some_and(|cooldown| now < cooldown.reservable);
+        let is_free = self.is_eligible(peer, now) && self.status(peer) == Status::Inert;
+        if cooling || !is_free || is_dial && !self.is_target(peer) {
+            return false;
+        }
+        let interval = self.setup.cfg.peer_connection_cooldown;
+        let reservable = now.saturating_add(interval);
+        let dial = reservable.saturating_add(draw.min(interval / 2 * 2));
+        let dialled = self.address(peer).filter(|_| is_dial).cloned();
+        self.cooldowns.insert(*peer, Cooldown { reservable, dial });
+        let is_active = false;
+        self.held.insert(*peer, Held { dialled, is_active });
+        true
+    }
+
+    fn connect(&mut self, peer: &Key, is_dialer: bool) -> bool {
+        let Some(held) = self.held.get_mut(peer).filter(|held| !held.is_active) else {
+            return false;
+        };
+        held.is_active = true;
+        if let Some((_, fails)) = self.known.get_mut(peer).filter(|_| is_dialer) {
+            *fails = 0;
+        }
+        true
+    }
+
+    // `None` where there is no reservation.
+    fn connect_reserved(&mut self, peer: &Key) -> Option<Result<(), ConnectError>> {
+        let is_dialer = self.held.get(peer)?.dialled.is_some();
+        Some(match self.connect(peer, is_dialer) {
+            true => Ok(()),
+            false => Err(ConnectError::NotReserved),
+        })
+    }
+
+    // Whether there is a reservation to be released.
+    fn release(&mut self, peer: &Key) -> bool {
+        let Some(held) = self.held.remove(peer) else {
+            return false;
+        };
+        if let Some((info, fails)) = self.known.get_mut(peer) {
+            *fails += usize::from(held.dialled.as_ref() == Some(&info.ingress));
+        }
+        self.forget_absent();
+        true
+    }
+
+    fn update(&mut self, infos: &[Info]) {
+        for info in infos {
+            let peer = info.public_key;
+            let known = self.known.get(&peer);
+            let is_newer = known.is_none_or(|(known, _)| info.timestamp > known.timestamp);
+            if is_newer && peer != key(OWN) && self.is_present(&peer) {
+                self.known.insert(peer, (info.clone(), 0));
+            }
+        }
+    }
+
+    fn block(&mut self, peer: &Key, now: Moment) -> bool {
+        let is_taken = *peer != key(OWN) && !self.is_blocked(peer, now);
+        if is_taken {
+            let end = now.saturating_add(self.setup.cfg.block_duration);
+            self.blocks.insert(*peer, end);
+        }
+        is_taken
+    }
+
+    fn unblock_expired(&mut self, now: Moment) -> bool {
+        let before = self.blocks.len();
+        self.blocks.retain(|_, end| *end > now);
+        self.blocks.len() < before
+    }
+
+    fn forget_cooled(&mut self, now: Moment) -> usize {
+        let before = self.cooldowns.len();
+        self.cooldowns.retain(|_, cooldown| cooldown.dial > now);
+        before - self.cooldowns.len()
+    }
+
+    // The place of the retained set of this index.
+    fn set_of(&self, index: u64) -> Option<usize> {
+        self.retained().iter().position(|set| set.0 == index)
+    }
+
+    fn set_at(&self, place: usize) -> TrackedPeers {
+        let (_, primary, secondary) = &self.retained()[place];
+        TrackedPeers::new(ordered(primary.clone()), ordered(secondary.clone()))
+    }
+
+    fn all(&self) -> TrackedPeers {
+        let sets = self.retained().iter();
+        let primary: BTreeSet<Key> = sets.clone().flat_map(|set| set.1.clone()).collect();
+        let secondary: BTreeSet<Key> = sets.flat_map(|set| set.2.clone()).collect();
+        let secondary = secondary.difference(&primary).copied();
+        TrackedPeers::new(ordered(primary.iter().copied()), ordered(secondary))
+    }
+
+    // Its index, its peers, and those of all sets.
+    fn latest_update(&self) -> Option<(u64, TrackedPeers, TrackedPeers)> {
+        let last = self.retained().len().checked_sub(1)?;
+        Some((self.retained()[last].0, self.set_at(last), self.all()))
+    }
+
+    fn sharable(&self, peer: &Key) -> Option<Info> {
+        if *peer == key(OWN) {
+            return Some(self.setup.myself.clone());
+        }
+        let known = self.known.get(peer)?;
+        (self.status(peer) == Status::Active).then(|| known.0.clone())
+    }
+
+    // `None` where the number of bits is not that of the primary peers.
+    fn infos(&self, bit_vec: &BitVec, now: Moment) -> Option<Vec<Info>> {
+        let Some(place) = self.set_of(bit_vec.index) else {
+            return Some(Vec::new());
+        };
+        let primary = &self.retained()[place].1;
+        if bit_vec.bits.len() != primary.len() {
+            return None;
+        }
+        let unknown = primary.iter().zip(&bit_vec.bits).filter(|(_, bit)| !**bit);
+        let shared = unknown.filter_map(|(peer, _)| self.sharable(peer));
+        Some(
+            shared
+                .filter(|info| u128::from(info.timestamp) <= now.as_duration().as_millis())
+                .collect(),
+        )
+    }
+
+    fn is_wanted(&self, peer: &Key) -> bool {
+        match self.known.get(peer) {
+            _ if *peer == key(OWN) => false,
+            None => true,
+            Some((_, fails)) => {
+                self.status(peer) != Status::Active && *fails >= self.setup.cfg.dial_fail_limit
+            }
+        }
+    }
+
+    fn bits(&self, place: usize) -> Option<BitVec> {
+        let (index, primary, _) = self.retained().get(place)?;
+        Some(BitVec {
+            index: *index,
+            bits: primary.iter().map(|peer| !self.is_wanted(peer)).collect(),
+        })
+    }
+
+    // Who may be dialled, and when to ask again.
+    fn dialable(&self, now: Moment) -> (Vec<Key>, Option<Moment>) {
+        let all = || (0..=u16::from(u8::MAX)).map(key);
+        let dial_moment = |peer: &Key| self.cooldowns.get(peer).map_or(Moment::EPOCH, |c| c.dial);
+        let targets = all().filter(|peer| self.is_target(peer) && !self.is_blocked(peer, now));
+        let (peers, later): (Vec<Key>, Vec<Key>) =
+            targets.partition(|peer| dial_moment(peer) <= now);
+        let blocked = all().filter(|peer| self.is_present(peer) && self.is_blocked(peer, now));
+        let ends = blocked.map(|peer| self.blocks[&peer]);
+        let next_query_at = ends.chain(later.iter().map(dial_moment)).min();
+        (peers, next_query_at)
+    }
+
+    fn receive(&mut self, payload: &Payload, now: Moment) -> Received {
+        if let Some(length) = self.excess(payload) {
+            return Received::Codec(CodecError::InvalidLength(length as u64));
+        }
+        match payload {
+            Payload::Data(data) => Received::Data(data.clone()),
+            Payload::BitVec(bits) => match self.infos(bits, now) {
+                Some(infos) => Received::Reply(Payload::Peers(infos).encode()),
+                None => Received::Malformed,
+            },
+            Payload::Greeting(info) => match self.judged(info, now) {
+                Err(error) => Received::Invalid(error),
+                Ok(()) => {
+                    self.update(std::slice::from_ref(info));
+                    Received::Greeted
+                }
+            },
+            Payload::Peers(infos) => match self.all_judged(infos, now) {
+                Err(error) => Received::Invalid(error),
+                Ok(()) => {
+                    self.update(infos);
+                    Received::Applied(infos.len())
+                }
+            },
+        }
+    }
+
+    // The length that the limits of frames don't admit.
+    fn excess(&self, payload: &Payload) -> Option<usize> {
+        let limits = &self.setup.payload;
+        let (length, most) = match payload {
+            Payload::Data(data) => (data.message.len(), limits.max_data_length),
+            Payload::BitVec(bits) => (bits.bits.len(), limits.max_bit_vec as usize),
+            Payload::Peers(infos) => (infos.len(), limits.max_peers),
+            Payload::Greeting(_) => return None,
+        };
+        (length > most).then_some(length)
+    }
+
+    fn judged(&self, info: &Info, now: Moment) -> Result<(), Error> {
+        let latest = now.saturating_add(self.setup.synchrony_bound);
+        if info.public_key == key(OWN) {
+            return Err(Error::ReceivedSelf);
+        }
+        if Duration::from_millis(info.timestamp) > latest.as_duration() {
+            return Err(Error::SynchronyBound);
+        }
+        match info.verify(NAMESPACE, verify) {
+            true => Ok(()),
+            false => Err(Error::InvalidSignature),
+        }
+    }
+
+    fn all_judged(&self, infos: &[Info], now: Moment) -> Result<(), Error> {
+        if infos.len() > self.setup.peer_gossip_max_count {
+            return Err(Error::TooManyPeers(infos.len() as u64));
+        }
+        infos.iter().try_for_each(|info| self.judged(info, now))
+    }
+}

@@ -1,0 +1,93 @@
+//! Each file of the corpus that was found by fuzzing, played as the fuzzer plays it.
+
+mod calls;
+mod frames;
+mod random;
+mod seeds;
+mod valgrind;
+mod widened;
+
+use std::path::{Path, PathBuf};
+use std::{env, fs};
+
+/// How many files there are at most, and how many bytes each has.
+const MOST_FILES: usize = 200;
+const MOST_BYTES: usize = 1024;
+
+/// What is in the files of a target, in the order of their names.
+fn corpus(target: &str) -> Vec<(PathBuf, Vec<u8>)> {
+    let root = concat!(env!("CARGO_MANIFEST_DIR"), "/tests/corpus");
+    let entries = fs::read_dir(Path::new(root).join(target)).expect("a folder");
+    let mut paths: Vec<PathBuf> = entries.map(|entry| entry.expect("a file").path()).collect();
+    paths.sort();
+    let read = |path: PathBuf| {
+        let bytes = fs::read(&path).expect("a file");
+        (path, bytes)
+    };
+    paths.into_iter().map(read).collect()
+}
+
+#[test]
+fn each_frame_is_read_alike() {
+    let frames = corpus("frame");
+    let mut read = [0; 4];
+    let mut refused = 0;
+    for (path, frame) in &frames {
+        println!("{}", path.display());
+        match frames::compare(frame) {
+            Some(_) => read[usize::from(frame[0])] += 1,
+            None => refused += 1,
+        }
+    }
+    println!("{} frames", frames.len());
+    assert!(
+        refused > 0 && read.iter().all(|count| *count > 0),
+        "{refused}, {read:?}"
+    );
+}
+
+#[test]
+fn each_list_of_calls_is_answered_as_by_the_model() {
+    let lists = corpus("calls");
+    let mut made = 0;
+    for (path, bytes) in &lists {
+        println!("{}", path.display());
+        calls::compare(bytes, |_, _| made += 1);
+    }
+    println!("{made} calls in {} lists", lists.len());
+    assert!(made > 0);
+}
+
+#[test]
+fn the_corpus_is_small() {
+    let files = [corpus("frame"), corpus("calls")].concat();
+    assert!(files.len() <= MOST_FILES, "{}", files.len());
+    for (path, bytes) in files {
+        assert!(bytes.len() <= MOST_BYTES, "{}", path.display());
+    }
+}
+
+#[test]
+fn valgrind_finds_nothing() {
+    valgrind::finds_nothing(&[
+        "each_frame_is_read_alike",
+        "each_list_of_calls_is_answered_as_by_the_model",
+    ]);
+}
+
+/// Writes what fuzzing begins with into the folder that `FUZZ_SEEDS` names, for tools/fuzz.sh.
+#[test]
+#[ignore = "it writes files"]
+fn writes_seeds() {
+    let folder = PathBuf::from(env::var_os("FUZZ_SEEDS").expect("a folder"));
+    let lists = (1..=32)
+        .map(|seed| random::bytes(seed, MOST_BYTES))
+        .collect();
+    for (target, seeds) in [("frame", seeds::frames()), ("calls", lists)] {
+        let folder = folder.join(target);
+        fs::create_dir_all(&folder).expect("a folder");
+        for (place, seed) in seeds.iter().enumerate() {
+            fs::write(folder.join(place.to_string()), seed).expect("a file");
+        }
+    }
+}

@@ -1,0 +1,246 @@
+//! Two nodes that exchange infos over frames.
+
+use p2p_directory::testing::{self, info, key, setup, verify};
+use p2p_directory::{
+    BitVec, Data, Error, Moment, Node, OrderedSet, Payload, Received, Reservation, Setup, Signature,
+};
+use std::mem;
+use std::panic::{AssertUnwindSafe, catch_unwind};
+use std::time::Duration;
+
+fn node(number: u16, numbers: &[u16]) -> Node {
+    let mut node = Node::new(&setup(number)).unwrap();
+    let keys = numbers.iter().map(|number| key(*number));
+    let peers = OrderedSet::from_iter_dedup(keys).into();
+    node.directory_mut().track(0, &peers).unwrap().unwrap();
+    node
+}
+
+fn seconds(seconds: u64) -> Moment {
+    Moment::from_secs(seconds)
+}
+
+// Lets a peer come, and connects it.
+fn connected(node: &mut Node, number: u16) -> Reservation {
+    let directory = node.directory_mut();
+    let granted = directory.listen(&key(number), seconds(50), Duration::ZERO);
+    let held = granted.unwrap().unwrap();
+    directory.connect(&key(number), false).unwrap();
+    held
+}
+
+fn bits(node: &Node) -> Vec<bool> {
+    let bits = node.directory().get_random_bit_vec(0).unwrap();
+    bits.unwrap().bits
+}
+
+// The asker's frame, the replier's answer to it, and what the asker makes of that.
+fn exchange(asker: &mut Node, replier: &mut Node, asked: Moment, told: Moment) -> Received {
+    let question = asker.ask(0).unwrap().unwrap();
+    match replier.receive(&question, told, verify) {
+        Received::Reply(reply) => asker.receive(&reply, asked, verify),
+        refused => refused,
+    }
+}
+
+#[test]
+fn an_exchange_brings_what_is_wanted_and_may_be_shared() {
+    let (mut asker, mut replier) = (node(9, &[1, 2]), node(8, &[1, 2]));
+    replier
+        .directory_mut()
+        .update_peers(&[info(1, 100_000)])
+        .unwrap();
+    let held = connected(&mut replier, 1);
+    assert_eq!(asker.ask(0).unwrap().unwrap(), [2, 0, 2, 0]);
+
+    // The info is from the asker's future, by more than its bound.
+    let early = Received::Invalid(Error::SynchronyBound);
+    let almost = Moment::from(Duration::new(69, 999_999_999));
+    assert_eq!(
+        exchange(&mut asker, &mut replier, almost, seconds(100)),
+        early
+    );
+    assert_eq!(bits(&asker), [false, false]);
+
+    let done = exchange(&mut asker, &mut replier, seconds(70), seconds(100));
+    assert_eq!(done, Received::Applied(1));
+    assert_eq!(bits(&asker), [true, false]);
+    let again = exchange(&mut asker, &mut replier, seconds(70), seconds(100));
+    assert_eq!(again, Received::Applied(0));
+    replier.directory_mut().release(held).unwrap();
+}
+
+#[test]
+fn bits_of_another_number_are_malformed() {
+    let (mut asker, mut replier) = (node(9, &[1, 2]), node(8, &[1]));
+    let answer = exchange(&mut asker, &mut replier, seconds(100), seconds(100));
+    assert_eq!(answer, Received::Malformed);
+}
+
+#[test]
+fn an_unknown_index_has_no_infos() {
+    let (mut asker, mut replier) = (node(9, &[1, 2]), Node::new(&setup(8)).unwrap());
+    let answer = exchange(&mut asker, &mut replier, seconds(100), seconds(100));
+    assert_eq!(answer, Received::Applied(0));
+}
+
+#[test]
+fn a_message_is_handed_on() {
+    let mut node = node(9, &[1]);
+    let data = Data {
+        channel: 7,
+        message: vec![1; 4000],
+    };
+    let frame = Payload::Data(data.clone()).encode();
+    let answer = node.receive(&frame, seconds(1), |_, _, _, _| unreachable!());
+    assert_eq!(answer, Received::Data(data));
+}
+
+#[test]
+fn a_long_reply_comes_whole() {
+    let numbers: Vec<u16> = (1..=200).collect();
+    let (mut asker, mut replier) = (node(1, &numbers), node(2, &numbers));
+    let infos: Vec<_> = numbers.iter().map(|number| info(*number, 1)).collect();
+    replier.directory_mut().update_peers(&infos).unwrap();
+    let others = numbers.iter().filter(|number| **number != 2);
+    let held: Vec<_> = others
+        .map(|number| connected(&mut replier, *number))
+        .collect();
+    let done = exchange(&mut asker, &mut replier, seconds(100), seconds(100));
+    // All but the asker itself: its own info it doesn't want.
+    assert_eq!(done, Received::Applied(199));
+    assert_eq!(bits(&asker), [true; 200]);
+    for reservation in held {
+        replier.directory_mut().release(reservation).unwrap();
+    }
+}
+
+#[test]
+fn signatures_are_asked_for_in_order_and_no_more_than_decide() {
+    let mut node = node(9, &[1, 2, 3]);
+    let infos = vec![info(1, 0), info(2, 0), info(9, 0), info(3, 0)];
+    let frame = Payload::Peers(infos).encode();
+    let mut asked = Vec::new();
+    let answer = node.receive(&frame, seconds(1), |key, namespace, message, signature| {
+        assert_eq!(namespace, testing::NAMESPACE);
+        asked.push(*key);
+        verify(key, namespace, message, signature)
+    });
+    assert_eq!(answer, Received::Invalid(Error::ReceivedSelf));
+    assert_eq!(asked, [key(1), key(2)]);
+}
+
+#[test]
+fn no_signature_is_asked_for_behind_one_that_is_not_right() {
+    let mut node = node(9, &[1, 2, 3]);
+    let frame = Payload::Peers(vec![info(1, 0), info(2, 0), info(3, 0)]).encode();
+    let mut asked = Vec::new();
+    let answer = node.receive(&frame, seconds(1), |key, _, _, _| {
+        asked.push(*key);
+        false
+    });
+    assert_eq!(answer, Received::Invalid(Error::InvalidSignature));
+    assert_eq!(asked, [key(1)]);
+    assert_eq!(bits(&node), [false, false, false]);
+}
+
+#[test]
+fn what_is_refused_changes_nothing() {
+    let mut node = node(9, &[1, 2]);
+    let frame = Payload::Peers(vec![info(1, 0), info(2, 0)]).encode();
+    let refused = node.receive(&frame, seconds(1), |signer, _, _, _| *signer == key(1));
+    assert_eq!(refused, Received::Invalid(Error::InvalidSignature));
+    assert_eq!(bits(&node), [false, false]);
+    assert_eq!(
+        node.receive(&frame, seconds(1), verify),
+        Received::Applied(2)
+    );
+    assert_eq!(bits(&node), [true, true]);
+}
+
+#[test]
+fn a_scheme_of_ones_own_judges() {
+    // A signature is the key twice.
+    let signed = |number: u16| {
+        let mut info = info(number, 5);
+        let twice = [info.public_key.0, info.public_key.0].concat();
+        info.signature = Signature::from_slice(&twice).unwrap();
+        info
+    };
+    let mut node = node(9, &[1]);
+    let greeting = Payload::Greeting(signed(1)).encode();
+    let answer = node.receive(&greeting, seconds(1), |key, _, _, signature| {
+        signature.0[..32] == key.0 && signature.0[32..] == key.0
+    });
+    assert_eq!(answer, Received::Greeted);
+    assert_eq!(bits(&node), [true]);
+}
+
+#[test]
+fn bits_beyond_the_limit_of_frames_may_be_asked_for() {
+    let mut setup = setup(9);
+    setup.payload.max_bit_vec = 1;
+    let mut node = Node::new(&setup).unwrap();
+    let numbers = [key(1), key(2)];
+    let peers = OrderedSet::try_from(numbers).unwrap().into();
+    node.directory_mut().track(0, &peers).unwrap().unwrap();
+    let bits = BitVec {
+        index: 0,
+        bits: vec![false, false],
+    };
+    let infos = node.directory().infos(&bits, seconds(1));
+    assert_eq!(infos.unwrap(), Some(Vec::new()));
+}
+
+#[test]
+fn a_node_takes_no_frame_for_another_directory() {
+    let (mut one, mut other) = (node(9, &[1, 2]), testing::directory());
+    let greeting = Payload::Greeting(info(1, 0)).encode();
+    let judged = one.check(&greeting, seconds(1)).unwrap();
+    let judged = judged.judged([true]).unwrap();
+    mem::swap(one.directory_mut(), &mut other);
+    let receives = catch_unwind(AssertUnwindSafe(|| {
+        one.receive(&greeting, seconds(1), |_, _, _, _| true)
+    }));
+    let checks = catch_unwind(AssertUnwindSafe(|| {
+        one.check(&greeting, seconds(1)).is_ok()
+    }));
+    let asks = catch_unwind(AssertUnwindSafe(|| one.ask(0)));
+    assert!(receives.is_err() && checks.is_err() && asks.is_err());
+    assert_eq!(one.directory().tracked(), 0);
+    mem::swap(one.directory_mut(), &mut other);
+    assert_eq!(one.receive_judged(judged).unwrap(), Received::Greeted);
+    assert_eq!(bits(&one), [true, false]);
+}
+
+#[test]
+fn a_closure_that_panics_changes_nothing() {
+    let mut node = node(9, &[1, 2]);
+    let frame = Payload::Peers(vec![info(1, 0), info(2, 0)]).encode();
+    let panicked = catch_unwind(AssertUnwindSafe(|| {
+        node.receive(&frame, seconds(1), |signer, _, _, _| {
+            assert_ne!(*signer, key(2));
+            true
+        })
+    }));
+    assert!(panicked.is_err());
+    assert_eq!(bits(&node), [false, false]);
+    let again = node.receive(&frame, seconds(1), verify);
+    assert_eq!(again, Received::Applied(2));
+    assert_eq!(bits(&node), [true, true]);
+}
+
+// A bound of 1.002 seconds admits timestamps so far ahead, and none that is a millisecond later.
+#[test]
+fn a_bound_below_a_second_counts() {
+    let bound = Duration::new(1, 2_000_000);
+    let setup = Setup {
+        synchrony_bound: bound,
+        ..setup(9)
+    };
+    let mut node = Node::new(&setup).unwrap();
+    let greeting = |timestamp| Payload::Greeting(info(1, timestamp)).encode();
+    let mut received = |timestamp| node.receive(&greeting(timestamp), seconds(100), verify);
+    assert_eq!(received(101_003), Received::Invalid(Error::SynchronyBound));
+    assert_eq!(received(101_002), Received::Greeted);
+}

@@ -1,0 +1,313 @@
+//! Each request of the Rust crate itself refused in turn, on Rust's heap. `tests/refused` does so for the library's.
+//!
+//! For N counted upwards until nothing is refused, the Nth request of a call is refused, once alone and once with all
+//! later ones: nothing aborts, it answers that memory is wanted, and all stands as before.
+
+mod heap;
+#[allow(dead_code)]
+#[path = "../refused/questions.rs"]
+mod questions;
+#[allow(dead_code)]
+#[path = "../refused/state.rs"]
+mod state;
+
+use crate::heap::{Refused, held, while_refused};
+use crate::questions::told;
+use crate::state::{
+    State, dialling, empty, introduced, known, named_info, new, peers, retaining, seconds,
+};
+use p2p_directory::testing::{config, info, key, setup};
+use p2p_directory::{
+    BitVec, Data, Directory, Info, Ingress, Key, Moment, OutOfMemory, Payload, Received,
+    SetupError, TrackedPeers,
+};
+use std::fmt::Debug;
+use std::sync::{Mutex, MutexGuard, PoisonError};
+use std::time::Duration;
+
+const NOW: Moment = Moment::from_secs(100);
+
+// Slots of directories that are gone serve others, on whatever thread: so tests that count requests wait for each other.
+fn alone() -> MutexGuard<'static, ()> {
+    static ALONE: Mutex<()> = Mutex::new(());
+    ALONE.lock().unwrap_or_else(PoisonError::into_inner)
+}
+
+type Call<A, T> = fn(&mut State, A) -> Result<T, OutOfMemory>;
+
+// Whether a request was refused. Then nothing has changed, and the call made again answers as if it were the first.
+fn is_refused<A: Clone, T: Debug + PartialEq>(
+    plan: Refused,
+    prepared: fn() -> State,
+    argument: &A,
+    call: Call<A, T>,
+) -> bool {
+    let (mut ample, mut state) = (prepared(), prepared());
+    let answer = call(&mut ample, argument.clone());
+    assert!(answer.is_ok(), "{answer:?}");
+    // Of another one, for questions leave room behind.
+    let before = told(&prepared());
+    let given = argument.clone();
+    let (refused, count) = while_refused(plan, || call(&mut state, given));
+    if count == 0 {
+        assert_eq!(refused, answer, "{plan:?}");
+        return false;
+    }
+    assert_eq!(refused, Err(OutOfMemory), "{plan:?}");
+    assert_eq!(told(&state), before, "{plan:?}");
+    assert_eq!(call(&mut state, argument.clone()), answer, "{plan:?}");
+    assert_eq!(told(&state), told(&ample), "{plan:?}");
+    true
+}
+
+// Refuses each request in turn: there are so many.
+#[track_caller]
+fn refuse_each<A: Clone, T: Debug + PartialEq>(
+    requests: u64,
+    prepared: fn() -> State,
+    argument: A,
+    call: Call<A, T>,
+) {
+    for plan in [Refused::Only, Refused::From] {
+        let places = 1..;
+        let refused =
+            places.take_while(|place| is_refused(plan(*place), prepared, &argument, call));
+        assert_eq!(refused.count() as u64, requests);
+    }
+}
+
+// Thirty peers, whose keys are longer together than the room that an answer has at first.
+fn many() -> State {
+    let numbers: Vec<u16> = (10..40).collect();
+    retaining(2)
+        .tracks(0, &numbers, &[1, 2])
+        .tracks(1, &[1, 2], &numbers)
+}
+
+fn bootstrappers() -> Vec<(Key, Ingress)> {
+    let named = named_info(2, 0, "a.b").ingress;
+    vec![(key(1), info(1, 0).ingress), (key(2), named)]
+}
+
+#[test]
+fn a_directory_is_made_or_refused() {
+    let _alone = alone();
+    let mut setup = setup(9);
+    setup.bootstrappers = bootstrappers();
+    // More directories than there were before at a time: each one more has a slot of its own for what is dropped, and
+    // the list of slots, with room for 64, has to grow.
+    let kept: Vec<_> = (0..64).map(|_| empty()).collect();
+    let mut places = 1..;
+    let made = places.find_map(|place| {
+        let (made, refused) = while_refused(Refused::Only(place), || {
+            Directory::init(&setup.bootstrappers, &setup.myself, config())
+        });
+        if refused == 0 {
+            return Some((place, made.unwrap().tracked()));
+        }
+        assert_eq!(made.err(), Some(SetupError::OutOfMemory), "{place}");
+        None
+    });
+    // The session, bootstrappers, the own info, the room of answers, the list of slots, and a slot.
+    assert_eq!(made, Some((1 + 6, 2)));
+    drop(kept);
+    // A node has copies of its namespace and its greeting, and more room for answers, and finds a slot.
+    refuse_each(7, State::nothing, setup, State::make);
+}
+
+#[test]
+fn sets_are_taken_or_refused() {
+    let _alone = alone();
+    let take = |state: &mut State, (index, peers): (u64, TrackedPeers)| {
+        state.directory_mut().track(index, &peers)
+    };
+    // The keys, primary and secondary, and none is torn down.
+    refuse_each(2, empty, (0, peers(&[1, 2], &[3])), take);
+    // There is room for the keys. The list of whom is torn down, who are at most those that are held.
+    refuse_each(1, known, (1, peers(&[1, 7], &[11])), take);
+    // Nobody is held. Room for the keys of all thirty, who might be torn down as far as the library says.
+    let thirty = || empty().tracks(0, &(10..40).collect::<Vec<u16>>(), &[]);
+    refuse_each(1, thirty, (1, peers(&[1], &[])), take);
+}
+
+#[test]
+fn grants_are_made_or_refused() {
+    let _alone = alone();
+    refuse_each(1, new, 1, |state, number| state.listen(number, NOW));
+    refuse_each(1, introduced, 1, |state, number| state.dial(number, NOW));
+    // There is room for four, of which all are held.
+    let four = || {
+        let numbers = [10, 11, 12, 13];
+        let state = empty().tracks(0, &[10, 11, 12, 13, 14], &[]);
+        numbers.into_iter().fold(state, State::listened)
+    };
+    refuse_each(1, four, 14, |state, number| state.listen(number, NOW));
+    refuse_each(0, known, 5, |state, number| state.listen(number, NOW));
+}
+
+#[test]
+fn dropping_takes_no_memory() {
+    let _alone = alone();
+    let mut state = new();
+    let directory = state.directory_mut();
+    let granted = [1, 2].map(|number| directory.listen(&key(number), NOW, Duration::ZERO));
+    let (statuses, refused) = while_refused(Refused::From(1), || {
+        drop(granted);
+        [1, 2].map(|number| directory.status(&key(number)))
+    });
+    assert_eq!(statuses, [Some(p2p_directory::Status::Inert); 2]);
+    assert_eq!(refused, 0);
+}
+
+#[test]
+fn there_is_room_for_as_many_as_are_held() {
+    let _alone = alone();
+    let mut state = new();
+    let directory = state.directory_mut();
+    let mut listen = |round: u32| {
+        let now = NOW.saturating_add(round * Duration::from_secs(10));
+        let held = directory.listen(&key(1), now, Duration::ZERO);
+        let held = held.expect("memory").expect("its cooldown is over");
+        match round % 2 {
+            0 => drop(held),
+            _ => directory.release(held).expect("its own"),
+        }
+    };
+    listen(0);
+    let ((), refused) = while_refused(Refused::From(1), || (1..20).for_each(listen));
+    assert_eq!(refused, 0);
+}
+
+#[test]
+fn infos_are_offered_or_refused() {
+    let _alone = alone();
+    let infos = vec![info(3, 2000), named_info(5, 2000, "c.d"), info(1, 2000)];
+    // The spelling of them all.
+    refuse_each(
+        1,
+        || introduced().tracks(1, &[1, 3, 5], &[]),
+        infos,
+        |state, infos: Vec<Info>| state.directory_mut().update_peers(&infos),
+    );
+}
+
+#[test]
+fn questions_are_answered_or_refused() {
+    let _alone = alone();
+    refuse_each(1, known, (), |state, ()| state.directory().dialable(NOW));
+    refuse_each(1, known, (), |state, ()| {
+        state.directory().blocked_peers(NOW)
+    });
+    refuse_each(1, known, (), |state, ()| state.directory().info(&key(2)));
+    refuse_each(0, known, (), |state, ()| state.directory().info(&key(1)));
+    refuse_each(1, known, (), |state, ()| {
+        state.directory().get_random_bit_vec(0)
+    });
+    refuse_each(1, known, (), |state, ()| state.node().ask(0));
+    refuse_each(1, dialling, (), |state, ()| {
+        let held = &state.held()[1];
+        state.directory().metadata(held)
+    });
+    let nobody = BitVec {
+        index: 0,
+        bits: vec![false; 4],
+    };
+    // The list, and a name: there is room for the spelling of so few bits.
+    refuse_each(2, known, nobody, |state, bits: BitVec| {
+        state.directory().infos(&bits, NOW)
+    });
+}
+
+#[test]
+fn long_answers_are_answered_or_refused() {
+    let _alone = alone();
+    // More room for what comes out, and two lists.
+    refuse_each(3, many, (), |state, ()| state.directory().get_peer_set(0));
+    refuse_each(2, many, (), |state, ()| state.directory().all());
+    // And four lists, of which one has nobody.
+    refuse_each(4, many, (), |state, ()| state.directory().latest_update());
+}
+
+#[test]
+fn frames_are_taken_or_refused() {
+    let _alone = alone();
+    let take = |state: &mut State, frame: Vec<u8>| state.receive(&frame, NOW);
+    let greeting = Payload::Greeting(named_info(5, 2000, "c.d")).encode();
+    refuse_each(1, new, greeting, take);
+    let infos = vec![info(3, 2000), info(5, 2000)];
+    refuse_each(1, known, Payload::Peers(infos.clone()).encode(), take);
+    let bits = BitVec {
+        index: 0,
+        bits: vec![false; 4],
+    };
+    refuse_each(1, known, Payload::BitVec(bits).encode(), take);
+    let data = |length| {
+        let message = vec![7; length];
+        Payload::Data(Data {
+            channel: 1,
+            message,
+        })
+        .encode()
+    };
+    refuse_each(1, known, data(100), take);
+    refuse_each(0, known, vec![4], take);
+    // In two steps: the questions and a verdict for each info.
+    refuse_each(
+        2,
+        known,
+        Payload::Peers(infos).encode(),
+        |state, frame: Vec<u8>| {
+            let questions = state.node().check(&frame, NOW)?;
+            let judged = questions.judged([true; 2]).expect("a verdict for each");
+            match state.node_mut().receive_judged(judged) {
+                Ok(Received::Memory) => Err(OutOfMemory),
+                received => Ok(received.map_err(|_| ())),
+            }
+        },
+    );
+}
+
+#[test]
+fn buffers_are_given_back_after_a_large_frame() {
+    let _alone = alone();
+    const LARGE: usize = 1 << 20;
+    // What may be kept of a buffer.
+    const KEPT: isize = 64 << 10;
+    let mut setup = setup(9);
+    setup.payload.max_data_length = LARGE;
+    let mut state = State::of(setup);
+    let message = vec![7; LARGE];
+    let frame = Payload::Data(Data {
+        channel: 1,
+        message,
+    })
+    .encode();
+    let before = held();
+    for _ in 0..2 {
+        let received = state.receive(&frame, seconds(1)).unwrap();
+        let Received::Data(Data { message, .. }) = received else {
+            panic!("{received:?}");
+        };
+        assert_eq!(message.len(), LARGE);
+    }
+    let kept = held() - before;
+    assert!(kept <= KEPT, "{kept} bytes");
+    let greeting = Payload::Greeting(info(1, 1000)).encode();
+    assert_eq!(state.receive(&greeting, seconds(1)), Ok(Received::Greeted));
+}
+
+#[test]
+fn buffers_are_given_back_after_a_large_set() {
+    let _alone = alone();
+    const KEPT: isize = 64 << 10;
+    let numbers: Vec<u16> = (1..=4000).collect();
+    let set = peers(&numbers, &[]);
+    let mut state = empty();
+    let before = held();
+    let taken = state.directory_mut().track(0, &set.clone()).unwrap();
+    assert!(taken.is_some());
+    assert_eq!(state.directory().get_peer_set(0), Ok(Some(set)));
+    // The set itself came back, and what went in and came out is 128,000 bytes each.
+    let kept = held() - before;
+    assert!(kept <= KEPT, "{kept} bytes");
+}

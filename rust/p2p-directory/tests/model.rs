@@ -1,0 +1,54 @@
+//! Random calls of a node, each answer compared with that of a model.
+
+mod calls;
+mod random;
+
+use calls::call::Call;
+use calls::{MOST_CALLS, compare, shrunk};
+use std::collections::{BTreeMap, BTreeSet};
+
+const RUNS: usize = 500;
+
+/// How many bytes are more than as many calls need.
+const BYTES: usize = 64 * MOST_CALLS;
+
+/// How many kinds of calls there are.
+const KINDS: usize = 27;
+
+// The name of a call, without its arguments.
+fn name(call: &Call) -> String {
+    let shown = format!("{call:?}");
+    let end = shown.find(|letter: char| !letter.is_alphanumeric());
+    shown[..end.unwrap_or(shown.len())].to_owned()
+}
+
+#[test]
+fn a_node_answers_as_the_model_does() {
+    let mut answers: BTreeMap<String, (usize, BTreeSet<String>)> = BTreeMap::new();
+    for seed in 1..=RUNS {
+        compare(&random::bytes(seed, BYTES), |call, answer| {
+            let (count, different) = answers.entry(name(call)).or_default();
+            *count += 1;
+            different.insert(answer.to_owned());
+        });
+    }
+    let made: usize = answers.values().map(|(count, _)| count).sum();
+    assert_eq!((made, answers.len()), (RUNS * MOST_CALLS, KINDS));
+    for (name, (count, different)) in answers {
+        let least = if name == "Update" { 1 } else { 2 };
+        assert!(
+            count >= 1_000 && different.len() >= least,
+            "{name}: {count}"
+        );
+    }
+}
+
+#[test]
+fn what_a_difference_needs_is_left() {
+    let letters: Vec<char> = "a list of calls, of which two matter".chars().collect();
+    let has_them = |left: &[char]| {
+        let of = left.iter().position(|letter| *letter == ',');
+        of.is_some_and(|place| left[place..].contains(&'w'))
+    };
+    assert_eq!(shrunk(letters, has_them), [',', 'w']);
+}

@@ -1,0 +1,142 @@
+//! Questions whose answers take memory.
+
+use crate::Case;
+use crate::state::{known, named_info, peers, said, seconds, set, text};
+use p2p_directory::testing::{info, key};
+use p2p_directory::{BitVec, Moment};
+
+fn bit_vec(index: u64, bits: &[bool]) -> BitVec {
+    BitVec {
+        index,
+        bits: bits.to_vec(),
+    }
+}
+
+pub const QUESTIONS: &[Case] = &[
+    Case {
+        name: "infos",
+        prepared: known,
+        call: |state| {
+            let nobody = bit_vec(0, &[false; 4]);
+            said(state.directory().infos(&nobody, seconds(100)))
+        },
+        answer: || text(Some([info(1, 1000), named_info(2, 1000, "a.b")])),
+        requests: 7,
+        // Room for four infos (576), their spelling (212), the name, and what shares the spelling.
+        bytes: 832,
+    },
+    Case {
+        name: "infos of an unknown set",
+        prepared: known,
+        call: |state| {
+            let unknown = bit_vec(7, &[false; 4]);
+            said(state.directory().infos(&unknown, seconds(100)))
+        },
+        answer: || text(Some(Vec::<()>::new())),
+        requests: 5,
+        // The copy of the bits with what shares it, and the bits.
+        bytes: 48,
+    },
+    Case {
+        name: "infos for another number of bits",
+        prepared: known,
+        call: |state| {
+            let fewer = bit_vec(0, &[false; 3]);
+            said(state.directory().infos(&fewer, seconds(100)))
+        },
+        answer: || text(None::<()>),
+        requests: 3,
+        // The copy of the bits with what shares it, and the bits.
+        bytes: 48,
+    },
+    Case {
+        name: "dialable",
+        prepared: known,
+        call: |state| {
+            let dialable = state.directory().dialable(seconds(100));
+            said(dialable.map(|told| (told.peers, told.next_query_at)))
+        },
+        answer: || text((vec![key(5)], None::<Moment>)),
+        requests: 1,
+        // Room for four keys.
+        bytes: 128,
+    },
+    Case {
+        name: "blocked_peers",
+        prepared: known,
+        call: |state| said(state.directory().blocked_peers(seconds(99))),
+        answer: || text(set(&[4, 6])),
+        requests: 1,
+        // Room for four keys.
+        bytes: 128,
+    },
+    Case {
+        name: "info at a socket",
+        prepared: known,
+        call: |state| said(state.directory().info(&key(1))),
+        answer: || text(Some(info(1, 1000))),
+        requests: 2,
+        // The spelling, with what shares it.
+        bytes: 144,
+    },
+    Case {
+        name: "info at a name",
+        prepared: known,
+        call: |state| said(state.directory().info(&key(2))),
+        answer: || text(Some(named_info(2, 1000, "a.b"))),
+        requests: 3,
+        // The name, the spelling, and what shares it.
+        bytes: 144,
+    },
+    Case {
+        name: "get_peer_set",
+        prepared: known,
+        call: |state| said(state.directory().get_peer_set(0)),
+        answer: || text(Some(peers(&[1, 2, 3, 5], &[4]))),
+        requests: 2,
+        // Two lists with room for four keys each.
+        bytes: 256,
+    },
+    Case {
+        name: "all",
+        prepared: known,
+        call: |state| said(state.directory().all()),
+        answer: || text(peers(&[1, 2, 3, 5], &[4])),
+        requests: 2,
+        // Two lists with room for four keys each.
+        bytes: 256,
+    },
+    Case {
+        name: "latest_update",
+        prepared: known,
+        call: |state| {
+            let latest = state.directory().latest_update();
+            said(latest.map(|told| told.map(|told| (told.index, told.latest, told.all))))
+        },
+        answer: || {
+            let peers = peers(&[1, 2, 3, 5], &[4]);
+            text(Some((0, &peers, &peers)))
+        },
+        requests: 4,
+        // Four lists with room for four keys each.
+        bytes: 512,
+    },
+    Case {
+        name: "get_random_bit_vec",
+        prepared: known,
+        call: |state| said(state.directory().get_random_bit_vec(0)),
+        answer: || text(Some(bit_vec(0, &[true, true, false, true]))),
+        requests: 3,
+        // The bits, their spelling (8), and what shares it.
+        bytes: 48,
+    },
+    Case {
+        name: "ask",
+        prepared: known,
+        call: |state| said(state.node().ask(0)),
+        answer: || text(Some([2, 0, 4, 0b1011])),
+        requests: 3,
+        // The bits, the frame (8), and what shares it.
+        bytes: 48,
+    },
+];

@@ -1,0 +1,324 @@
+//! Calls that change something, one after the other in the states that `state` prepares.
+
+use crate::Case;
+use crate::state::{
+    State, blocking, dialling, empty, introduced, known, named_info, new, peers, retaining, said,
+    seconds, set, text, two_sets,
+};
+use p2p_directory::testing::{info, key, setup};
+use p2p_directory::{Ingress, Key, OutOfMemory};
+use std::net::SocketAddr;
+
+// So many bootstrappers at sockets, one at a name, one twice, and the own key among them.
+fn bootstrappers(count: u16) -> Vec<(Key, Ingress)> {
+    let at = |number: u16| Ingress::from(SocketAddr::from(([1, 2, 3, 4], 8000 + number)));
+    let named = named_info(20, 0, "a.b").ingress;
+    let mut given: Vec<_> = (1..=count)
+        .map(|number| (key(number), at(number)))
+        .collect();
+    given.push((key(20), named));
+    given.push((key(1), at(18)));
+    given
+}
+
+fn tracked(
+    state: &mut State,
+    index: u64,
+    primary: &[u16],
+    secondary: &[u16],
+) -> Result<String, OutOfMemory> {
+    let peers = peers(primary, secondary);
+    said(state.directory_mut().track(index, &peers))
+}
+
+fn nobody() -> String {
+    text(Some(set(&[])))
+}
+
+fn block(state: &mut State, number: u16, now: u64) -> Result<String, OutOfMemory> {
+    said(state.directory_mut().block(&key(number), seconds(now)))
+}
+
+// Twenty peers, and four.
+const MANY: [u16; 20] = [
+    10, 11, 12, 13, 14, 15, 16, 17, 18, 19, 20, 21, 22, 23, 24, 25, 26, 27, 28, 29,
+];
+
+pub const CHANGES: &[Case] = &[
+    Case {
+        name: "init of nobody",
+        prepared: State::nothing,
+        call: |state| said(state.make(setup(9))),
+        answer: || text(()),
+        requests: 6,
+        // A node of records (3,968), the namespace, the spelling of the own info and what shares it.
+        bytes: 4112,
+    },
+    Case {
+        name: "init with bootstrappers",
+        prepared: State::nothing,
+        call: |state| {
+            let mut setup = setup(9);
+            setup.bootstrappers = bootstrappers(17);
+            said(state.make(setup))
+        },
+        answer: || text(()),
+        requests: 15,
+        // Two nodes of records (3,968 each) and one with edges (4,096), the list of bootstrappers (2,304).
+        bytes: 14_496,
+    },
+    Case {
+        name: "track the first set",
+        prepared: empty,
+        call: |state| tracked(state, 7, &[1, 2], &[3]),
+        answer: nobody,
+        requests: 8,
+        // The window (352) and its links (128), the primary keys (64), the secondary ones that aren't primary (128), where
+        // both stood before (32), where they stand now (96), bits.
+        bytes: 801,
+    },
+    Case {
+        name: "track a set for which another goes",
+        prepared: known,
+        call: |state| tracked(state, 1, &[1, 7], &[11]),
+        answer: || text(Some(set(&[2, 3]))),
+        requests: 7,
+        // The lists of keys (192), the list of whom is torn down (160), where both stood before (32), the places of five
+        // peers (240), bits.
+        bytes: 625,
+    },
+    Case {
+        name: "track a set of many peers",
+        prepared: new,
+        call: |state| tracked(state, 1, &MANY, &[30, 31, 32, 33]),
+        answer: nobody,
+        requests: 10,
+        // Two nodes of records (3,968 each) and one with edges (4,096), the lists of keys (768), where each stood before (16)
+        // and the places of all (48 each).
+        bytes: 13_603,
+    },
+    Case {
+        name: "track a third set of three",
+        prepared: two_sets,
+        call: |state| tracked(state, 2, &[1, 2, 3, 10, 11, 12, 13, 14], &[]),
+        answer: nobody,
+        requests: 4,
+        // The keys (256), where they stood before (128), the places of eight peers (384), the bits.
+        bytes: 769,
+    },
+    Case {
+        name: "track a fourth set, for which the window grows",
+        prepared: || (0..4).fold(retaining(8), |state, index| state.tracks(index, &[1], &[])),
+        call: |state| tracked(state, 4, &[1], &[]),
+        answer: nobody,
+        requests: 5,
+        // A window with room for eight sets (704), and the key. No peer is new, so no places are.
+        bytes: 737,
+    },
+    Case {
+        name: "track a set that isn't above the latest",
+        prepared: known,
+        call: |state| tracked(state, 0, &[1], &[]),
+        answer: || text(None::<()>),
+        requests: 1,
+        // Its key.
+        bytes: 32,
+    },
+    Case {
+        name: "track a set of nobody that isn't above the latest",
+        prepared: known,
+        call: |state| tracked(state, 0, &[], &[]),
+        answer: || text(None::<()>),
+        requests: 0,
+        bytes: 0,
+    },
+    Case {
+        name: "listen to the first",
+        prepared: new,
+        call: |state| said(state.listen(1, seconds(100))),
+        answer: || text(true),
+        requests: 2,
+        // A node of slots (1,808), and one of moments (968).
+        bytes: 2784,
+    },
+    Case {
+        name: "listen where there is room",
+        prepared: known,
+        call: |state| said(state.listen(5, seconds(100))),
+        answer: || text(true),
+        requests: 0,
+        bytes: 0,
+    },
+    Case {
+        name: "listen to a sixteenth",
+        prepared: || {
+            (1..16).fold(empty().tracks(0, &MANY, &[]), |state, number| {
+                state.listened(9 + number)
+            })
+        },
+        call: |state| said(state.listen(29, seconds(100))),
+        answer: || text(true),
+        requests: 4,
+        // A second node of slots (1,808) and one with edges (1,936), and of moments (968 and 1,096).
+        bytes: 5808,
+    },
+    Case {
+        name: "dial the first, at a socket",
+        prepared: introduced,
+        call: |state| said(state.dial(1, seconds(100))),
+        answer: || text(true),
+        requests: 2,
+        // As to listen.
+        bytes: 2784,
+    },
+    Case {
+        name: "dial the first, at a name",
+        prepared: introduced,
+        call: |state| said(state.dial(2, seconds(100))),
+        answer: || text(true),
+        requests: 3,
+        // As to listen, and the name.
+        bytes: 2784,
+    },
+    Case {
+        name: "dial where there is room",
+        prepared: known,
+        call: |state| said(state.dial(5, seconds(100))),
+        answer: || text(true),
+        requests: 0,
+        bytes: 0,
+    },
+    Case {
+        name: "listen to a stranger, for whom there is no room yet",
+        prepared: new,
+        call: |state| said(state.listen(7, seconds(100))),
+        answer: || text(false),
+        requests: 1,
+        // A node of slots, which is emptied again.
+        bytes: 1808,
+    },
+    Case {
+        name: "listen to a stranger where there is room",
+        prepared: known,
+        call: |state| said(state.listen(7, seconds(100))),
+        answer: || text(false),
+        requests: 0,
+        bytes: 0,
+    },
+    Case {
+        name: "dial a stranger, for whom there is no room yet",
+        prepared: new,
+        call: |state| said(state.dial(7, seconds(100))),
+        answer: || text(false),
+        requests: 1,
+        // A node of slots, which is emptied again.
+        bytes: 1808,
+    },
+    Case {
+        name: "dial a stranger where there is room",
+        prepared: known,
+        call: |state| said(state.dial(7, seconds(100))),
+        answer: || text(false),
+        requests: 0,
+        bytes: 0,
+    },
+    Case {
+        name: "block the first",
+        prepared: new,
+        call: |state| block(state, 1, 100),
+        answer: || text(true),
+        requests: 2,
+        // A node of blocks (728), and one of their ends (736).
+        bytes: 1472,
+    },
+    Case {
+        name: "block a sixteenth",
+        prepared: || blocking(15),
+        call: |state| block(state, 25, 100),
+        answer: || text(true),
+        requests: 4,
+        // Of blocks a second node (728) and one with edges (856), and of their ends likewise (736, 864).
+        bytes: 3184,
+    },
+    Case {
+        name: "block one that is blocked",
+        prepared: known,
+        call: |state| block(state, 6, 100),
+        answer: || text(false),
+        requests: 0,
+        bytes: 0,
+    },
+    Case {
+        name: "block one whose block is over, where there is room",
+        prepared: known,
+        call: |state| block(state, 4, 100),
+        answer: || text(true),
+        requests: 0,
+        bytes: 0,
+    },
+    Case {
+        name: "block one whose block is over, where there is no room for another end",
+        prepared: || blocking(15),
+        call: |state| block(state, 10, 200),
+        answer: || text(true),
+        requests: 2,
+        // Two more nodes of ends, the new one beside the old.
+        bytes: 1600,
+    },
+    Case {
+        name: "update_peers at a socket and at a name",
+        prepared: known,
+        call: |state| {
+            let infos = [info(3, 2000), named_info(5, 2000, "c.d"), info(1, 2000)];
+            said(state.directory_mut().update_peers(&infos))
+        },
+        answer: || text(()),
+        requests: 4,
+        // The copy of the list (318), three infos (432), the name.
+        bytes: 800,
+    },
+    Case {
+        name: "update_peers with no infos",
+        prepared: known,
+        call: |state| said(state.directory_mut().update_peers(&[])),
+        answer: || text(()),
+        requests: 2,
+        // The copy of the list, with what shares it.
+        bytes: 48,
+    },
+    Case {
+        name: "metadata of one that is dialled at a socket",
+        prepared: dialling,
+        call: |state| said(state.directory().metadata(&state.held()[0])),
+        answer: || {
+            let address = SocketAddr::from(([1, 2, 3, 4], 8001));
+            text(Some(p2p_directory::Metadata::Dialer(
+                key(1),
+                Ingress::from(address),
+            )))
+        },
+        requests: 2,
+        // The spelling of the ingress, with what shares it.
+        bytes: 48,
+    },
+    Case {
+        name: "metadata of one that is dialled at a name",
+        prepared: dialling,
+        call: |state| said(state.directory().metadata(&state.held()[1])),
+        answer: || {
+            let ingress = named_info(2, 0, "a.b").ingress;
+            text(Some(p2p_directory::Metadata::Dialer(key(2), ingress)))
+        },
+        requests: 2,
+        // The spelling of the ingress, with what shares it.
+        bytes: 48,
+    },
+    Case {
+        name: "metadata of one that came",
+        prepared: known,
+        call: |state| said(state.directory().metadata(&state.held()[0])),
+        answer: || text(Some(p2p_directory::Metadata::Listener(key(1)))),
+        requests: 0,
+        bytes: 0,
+    },
+];

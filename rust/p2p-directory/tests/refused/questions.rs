@@ -1,0 +1,225 @@
+//! What a node answers to each question, as text that is to be compared, and the calls that take no memory.
+
+use crate::state::{State, seconds, set, text};
+use p2p_directory::testing::key;
+use p2p_directory::{BitVec, Directory, NotReservedError, OutOfMemory};
+use std::fmt::Debug;
+
+// The peers with numbers below this are asked for.
+const KEYS: u16 = 48;
+
+// In seconds: before, between and after the moments of cooldowns and blocks.
+const MOMENTS: [u64; 8] = [0, 59, 60, 100, 105, 110, 160, 1_000];
+
+// More places than sets are retained.
+const PLACES: usize = 5;
+
+/// What is answered to each question.
+pub fn told(state: &State) -> Vec<String> {
+    if !state.has_node() {
+        return vec!["there is no node".to_owned()];
+    }
+    let directory = state.directory();
+    let mut told = Vec::new();
+    tell_peers(&mut told, directory);
+    tell_moments(&mut told, directory);
+    tell_sets(&mut told, state);
+    for reservation in state.held() {
+        told.push(text(directory.metadata(reservation).unwrap().unwrap()));
+    }
+    told
+}
+
+fn tell_peers(told: &mut Vec<String>, directory: &Directory) {
+    for number in 0..KEYS {
+        let peer = key(number);
+        let status = directory.status(&peer);
+        let info = directory.info(&peer).unwrap();
+        told.push(format!("{number}: {status:?} {info:?}"));
+        for moment in MOMENTS.map(seconds) {
+            let eligible = directory.eligible(&peer, moment);
+            let acceptable = directory.acceptable(&peer, moment);
+            told.push(format!("{number} at {moment:?}: {eligible} {acceptable}"));
+        }
+    }
+}
+
+fn tell_moments(told: &mut Vec<String>, directory: &Directory) {
+    for moment in MOMENTS.map(seconds) {
+        let dialable = directory.dialable(moment).unwrap();
+        let blocked = directory.blocked_peers(moment).unwrap();
+        told.push(format!("at {moment:?}: {dialable:?} {blocked:?}"));
+    }
+}
+
+fn tell_sets(told: &mut Vec<String>, state: &State) {
+    let directory = state.directory();
+    for place in 0..PLACES {
+        let bits = directory.get_random_bit_vec(place).unwrap();
+        let asked = state.node().ask(place).unwrap();
+        told.push(format!("at {place}: {bits:?} {asked:?}"));
+        if let Some(BitVec { index, bits }) = bits {
+            let nobody = BitVec {
+                index,
+                bits: vec![false; bits.len()],
+            };
+            let infos = directory.infos(&nobody, seconds(1_000)).unwrap();
+            let set = directory.get_peer_set(index).unwrap();
+            told.push(format!("set {index}: {set:?} {infos:?}"));
+        }
+    }
+    told.push(text(directory.latest_set_index()));
+    told.push(text(directory.latest_update().unwrap()));
+    told.push(text(directory.all().unwrap()));
+    told.push(text(directory.tracked()));
+    told.push(text(directory.next_unblock()));
+}
+
+/// What is answered once all is released, then how many cooldowns are forgotten and whether blocks end at each moment,
+/// and what is answered then.
+pub fn told_at_the_end(mut state: State) -> Vec<String> {
+    if !state.has_node() {
+        return Vec::new();
+    }
+    for number in 0..KEYS {
+        state.release(number);
+    }
+    let mut ended = told(&state);
+    for moment in MOMENTS.map(seconds) {
+        let forgotten = state.directory_mut().forget_cooled(moment);
+        let unblocked = state.directory_mut().unblock_expired(moment);
+        ended.push(format!("until {moment:?}: {forgotten} {unblocked}"));
+    }
+    ended.extend(told(&state));
+    ended
+}
+
+// The answer to a call that takes no memory.
+fn quiet<T: Debug>(answer: Result<T, OutOfMemory>) -> String {
+    text(answer.expect("it takes no memory"))
+}
+
+/// A call that takes no memory, and its answer in the state `known`, after the calls before it.
+pub struct Quiet {
+    pub name: &'static str,
+    pub call: fn(&mut State) -> String,
+    pub answer: fn() -> String,
+}
+
+/// Questions, and calls that change nothing or take no memory to do so, in whatever state.
+pub const QUIET: &[Quiet] = &[
+    Quiet {
+        name: "status",
+        call: |state| text(state.directory().status(&key(1))),
+        answer: || text(Some(p2p_directory::Status::Active)),
+    },
+    Quiet {
+        name: "eligible",
+        call: |state| text(state.directory().eligible(&key(4), seconds(99))),
+        answer: || text(false),
+    },
+    Quiet {
+        name: "acceptable",
+        call: |state| text(state.directory().acceptable(&key(5), seconds(100))),
+        answer: || text(true),
+    },
+    Quiet {
+        name: "next_unblock",
+        call: |state| text(state.directory().next_unblock()),
+        answer: || text(Some(seconds(100))),
+    },
+    Quiet {
+        name: "latest_set_index",
+        call: |state| text(state.directory().latest_set_index()),
+        answer: || text(Some(0)),
+    },
+    Quiet {
+        name: "tracked",
+        call: |state| text(state.directory().tracked()),
+        answer: || text(5),
+    },
+    Quiet {
+        name: "block the own key",
+        call: |state| quiet(state.directory_mut().block(&key(9), seconds(100))),
+        answer: || text(false),
+    },
+    Quiet {
+        name: "blocked_peers, of which there are none",
+        call: |state| quiet(state.directory().blocked_peers(seconds(1_000))),
+        answer: || text(set(&[])),
+    },
+    Quiet {
+        name: "get_peer_set of none",
+        call: |state| quiet(state.directory().get_peer_set(7)),
+        answer: || text(None::<()>),
+    },
+    Quiet {
+        name: "info of none",
+        call: |state| quiet(state.directory().info(&key(7))),
+        answer: || text(None::<()>),
+    },
+    Quiet {
+        name: "get_random_bit_vec of none",
+        call: |state| quiet(state.directory().get_random_bit_vec(4)),
+        answer: || text(None::<()>),
+    },
+    Quiet {
+        name: "ask at no place",
+        call: |state| quiet(state.node().ask(4)),
+        answer: || text(None::<()>),
+    },
+    Quiet {
+        name: "connect",
+        call: |state| text(state.directory_mut().connect(&key(3), true)),
+        answer: || text(Ok::<(), NotReservedError>(())),
+    },
+    Quiet {
+        name: "connect one that isn't reserved",
+        call: |state| text(state.directory_mut().connect(&key(7), false)),
+        answer: || text(Err::<(), _>(NotReservedError)),
+    },
+    Quiet {
+        name: "release",
+        call: |state| text(state.release(1)),
+        answer: || text(true),
+    },
+    Quiet {
+        name: "unblock_expired",
+        call: |state| text(state.directory_mut().unblock_expired(seconds(100))),
+        answer: || text(true),
+    },
+    Quiet {
+        name: "forget_cooled",
+        call: |state| text(state.directory_mut().forget_cooled(seconds(60))),
+        answer: || text(4),
+    },
+    Quiet {
+        name: "status of the released",
+        call: |state| text(state.directory().status(&key(1))),
+        answer: || text(Some(p2p_directory::Status::Inert)),
+    },
+    Quiet {
+        name: "next_unblock after a block ended",
+        call: |state| text(state.directory().next_unblock()),
+        answer: || text(Some(seconds(160))),
+    },
+    Quiet {
+        name: "status of one that was dropped",
+        call: |state| {
+            state.drops(3);
+            text(state.directory().status(&key(3)))
+        },
+        answer: || text(Some(p2p_directory::Status::Inert)),
+    },
+];
+
+/// What the calls that take no memory answer, one after the other.
+pub fn quiet_answers(state: &mut State) -> Vec<String> {
+    if !state.has_node() {
+        return Vec::new();
+    }
+    QUIET
+        .iter()
+        .map(|quiet| format!("{}: {}", quiet.name, (quiet.call)(state)))
+        .collect()
+}

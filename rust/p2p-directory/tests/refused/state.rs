@@ -1,0 +1,277 @@
+//! How nodes stand before a call: with key 9, one retained set unless told otherwise, a cooldown of ten seconds and
+//! blocks of a minute.
+
+use p2p_directory::testing::{NAMESPACE, info, key, setup, sign, verify};
+use p2p_directory::{
+    Directory, Hostname, Info, Ingress, Key, Moment, Node, OrderedSet, OutOfMemory, Payload,
+    Received, Reservation, Setup, TrackedPeers,
+};
+use std::fmt::Debug;
+use std::num::NonZeroUsize;
+use std::time::Duration;
+
+/// A node, once there is one, with what it granted.
+pub struct State {
+    node: Option<Node>,
+    held: Vec<Reservation>,
+}
+
+pub fn seconds(seconds: u64) -> Moment {
+    Moment::from_secs(seconds)
+}
+
+pub fn set(numbers: &[u16]) -> OrderedSet {
+    OrderedSet::from_iter_dedup(numbers.iter().map(|number| key(*number)))
+}
+
+pub fn peers(primary: &[u16], secondary: &[u16]) -> TrackedPeers {
+    TrackedPeers::new(set(primary), set(secondary))
+}
+
+/// The info of a key at a name, with the port 8000 and the number.
+pub fn named_info(number: u16, timestamp: u64, name: &str) -> Info {
+    let ingress = Ingress::Dns {
+        host: Hostname::new(name).expect("it is a name"),
+        port: 8000 + number,
+    };
+    let key = key(number);
+    Info::sign(key, NAMESPACE, ingress, timestamp, |namespace, message| {
+        sign(&key, namespace, message)
+    })
+}
+
+/// The text of an answer.
+pub fn text(answer: impl Debug) -> String {
+    format!("{answer:?}")
+}
+
+/// The text of an answer, unless memory was refused.
+pub fn said<T: Debug>(answer: Result<T, OutOfMemory>) -> Result<String, OutOfMemory> {
+    answer.map(text)
+}
+
+impl State {
+    /// No node, but room for one.
+    pub fn nothing() -> State {
+        State {
+            node: None,
+            held: Vec::with_capacity(8),
+        }
+    }
+
+    pub fn of(setup: Setup) -> State {
+        let mut state = State::nothing();
+        state.node = Some(Node::new(&setup).expect("memory is ample"));
+        state
+    }
+
+    pub fn make(&mut self, setup: Setup) -> Result<(), OutOfMemory> {
+        match Node::new(&setup) {
+            Ok(node) => {
+                self.node = Some(node);
+                Ok(())
+            }
+            Err(refused) => {
+                assert_eq!(refused, p2p_directory::SetupError::OutOfMemory);
+                Err(OutOfMemory)
+            }
+        }
+    }
+
+    pub fn has_node(&self) -> bool {
+        self.node.is_some()
+    }
+
+    pub fn node(&self) -> &Node {
+        self.node.as_ref().expect("there is a node")
+    }
+
+    pub fn directory(&self) -> &Directory {
+        self.node().directory()
+    }
+
+    pub fn node_mut(&mut self) -> &mut Node {
+        self.node.as_mut().expect("there is a node")
+    }
+
+    pub fn directory_mut(&mut self) -> &mut Directory {
+        self.node_mut().directory_mut()
+    }
+
+    pub fn held(&self) -> &[Reservation] {
+        &self.held
+    }
+
+    /// Whether it is granted.
+    pub fn dial(&mut self, number: u16, now: Moment) -> Result<bool, OutOfMemory> {
+        let granted = self
+            .directory_mut()
+            .dial(&key(number), now, Duration::ZERO)?;
+        Ok(self.keeps(granted))
+    }
+
+    /// Whether it is granted.
+    pub fn listen(&mut self, number: u16, now: Moment) -> Result<bool, OutOfMemory> {
+        let granted = self
+            .directory_mut()
+            .listen(&key(number), now, Duration::ZERO)?;
+        Ok(self.keeps(granted))
+    }
+
+    fn keeps(&mut self, granted: Option<Reservation>) -> bool {
+        let is_granted = granted.is_some();
+        self.held.extend(granted);
+        is_granted
+    }
+
+    /// Whether there was a reservation of the peer.
+    pub fn release(&mut self, number: u16) -> bool {
+        let peer: Key = key(number);
+        let place = self.held.iter().position(|held| *held.public_key() == peer);
+        let Some(place) = place else {
+            return false;
+        };
+        let reservation = self.held.swap_remove(place);
+        let released = self.directory_mut().release(reservation);
+        released.expect("the directory's own");
+        true
+    }
+
+    /// Drops the reservation of a peer.
+    pub fn drops(&mut self, number: u16) {
+        self.held.retain(|held| *held.public_key() != key(number));
+    }
+
+    pub fn receive(&mut self, frame: &[u8], now: Moment) -> Result<Received, OutOfMemory> {
+        match self.node_mut().receive(frame, now, verify) {
+            Received::Memory => Err(OutOfMemory),
+            received => Ok(received),
+        }
+    }
+
+    /// In two steps, with these verdicts.
+    pub fn receive_judged(
+        &mut self,
+        payload: &Payload,
+        now: u64,
+        verdicts: &[bool],
+    ) -> Result<Received, OutOfMemory> {
+        let frame = payload.encode();
+        let questions = self.node().check(&frame, seconds(now))?;
+        let judged = questions.judged(verdicts.iter().copied());
+        let judged = judged.expect("a verdict for each");
+        match self.node_mut().receive_judged(judged) {
+            Ok(Received::Memory) => Err(OutOfMemory),
+            received => Ok(received.expect("this node checked it")),
+        }
+    }
+
+    pub fn receives(&mut self, payload: Payload, now: u64) -> Result<Received, OutOfMemory> {
+        self.receive(&payload.encode(), seconds(now))
+    }
+
+    // What follows prepares, with ample memory.
+
+    pub fn tracks(mut self, index: u64, primary: &[u16], secondary: &[u16]) -> State {
+        let taken = self
+            .directory_mut()
+            .track(index, &peers(primary, secondary))
+            .unwrap();
+        assert!(taken.is_some(), "set {index}");
+        self
+    }
+
+    pub fn told(mut self, infos: &[Info]) -> State {
+        self.directory_mut().update_peers(infos).unwrap();
+        self
+    }
+
+    pub fn greeted(mut self, info: Info) -> State {
+        let received = self.receives(Payload::Greeting(info), 100);
+        assert_eq!(received, Ok(Received::Greeted));
+        self
+    }
+
+    pub fn listened(mut self, number: u16) -> State {
+        assert_eq!(self.listen(number, seconds(50)), Ok(true), "{number}");
+        self
+    }
+
+    pub fn connected(self, number: u16) -> State {
+        let mut state = self.listened(number);
+        state.directory_mut().connect(&key(number), false).unwrap();
+        state
+    }
+
+    pub fn blocked(mut self, number: u16, now: u64) -> State {
+        let taken = self.directory_mut().block(&key(number), seconds(now));
+        assert_eq!(taken, Ok(true), "{number}");
+        self
+    }
+}
+
+/// A node that knows nobody.
+pub fn empty() -> State {
+    State::of(setup(9))
+}
+
+/// A node that retains so many sets.
+pub fn retaining(max_sets: usize) -> State {
+    let mut setup = setup(9);
+    setup.cfg.max_sets = NonZeroUsize::new(max_sets).expect("it isn't 0");
+    State::of(setup)
+}
+
+/// A set, of which nothing is known.
+pub fn new() -> State {
+    empty().tracks(0, &[1, 2, 5], &[])
+}
+
+/// 1 and 2 are connected, 3 is reserved, 5 was released, 4 and 6 are blocked, and 2 is at a name.
+pub fn known() -> State {
+    let mut state = empty()
+        .tracks(0, &[1, 2, 3, 5], &[4])
+        .greeted(named_info(2, 1000, "a.b"))
+        .told(&[info(1, 1000), info(5, 1000)])
+        .connected(1)
+        .connected(2)
+        .listened(3)
+        .listened(5)
+        .blocked(4, 40)
+        .blocked(6, 100);
+    assert!(state.release(5));
+    state
+}
+
+/// A set whose first peer is known at a socket, and whose second at a name.
+pub fn introduced() -> State {
+    empty()
+        .tracks(0, &[1, 2], &[])
+        .told(&[info(1, 1000)])
+        .greeted(named_info(2, 1000, "a.b"))
+}
+
+/// Both are to be dialled, the first at a socket and the second at a name.
+pub fn dialling() -> State {
+    let mut state = introduced();
+    for number in [1, 2] {
+        assert_eq!(state.dial(number, seconds(100)), Ok(true));
+    }
+    state
+}
+
+/// So many peers are blocked at 100 seconds, from 10 on.
+pub fn blocking(count: u16) -> State {
+    (10..10 + count).fold(empty(), |state, number| state.blocked(number, 100))
+}
+
+/// Two of three sets. Peer 2 is primary in both, at another place in each. An info is wanted of who isn't connected.
+pub fn two_sets() -> State {
+    let mut setup = setup(9);
+    setup.cfg.max_sets = NonZeroUsize::new(3).expect("it isn't 0");
+    setup.cfg.dial_fail_limit = 0;
+    State::of(setup)
+        .tracks(0, &[1, 2, 3], &[])
+        .tracks(1, &[2, 3], &[1])
+        .told(&[info(2, 1000)])
+}

@@ -1,0 +1,415 @@
+//! The original's cases of its addresses, infos and payloads, by their names.
+
+use p2p_directory::testing::{NAMESPACE, config, info, key, setup, sign, verify};
+use p2p_directory::{
+    BitVec, CodecError, Config, Data, Directory, Error, Hostname, Info, Ingress, Moment, Node,
+    OrderedSet, Payload, PayloadConfig, Received, What,
+};
+use std::net::{IpAddr, Ipv4Addr, Ipv6Addr, SocketAddr};
+use std::time::Duration;
+
+const LIMITS: PayloadConfig = PayloadConfig {
+    max_bit_vec: 1024,
+    max_peers: 16,
+    max_data_length: 64,
+};
+
+const BOUND: Duration = Duration::from_secs(30);
+
+fn socket(address: [u8; 4], port: u16) -> Ingress {
+    SocketAddr::from((address, port)).into()
+}
+
+fn name(host: &str, port: u16) -> Ingress {
+    let host = Hostname::new(host).unwrap();
+    Ingress::Dns { host, port }
+}
+
+fn widest() -> String {
+    [("a", 63), ("b", 63), ("c", 63), ("d", 61)]
+        .map(|(letter, count)| letter.repeat(count))
+        .join(".")
+}
+
+#[test]
+fn test_ingress_socket_roundtrip() {
+    let vectors: [(Ingress, &[u8]); 3] = [
+        (
+            socket([127, 0, 0, 1], 8080),
+            &[0, 4, 127, 0, 0, 1, 0x1f, 0x90],
+        ),
+        (
+            SocketAddr::from((Ipv6Addr::LOCALHOST, 443)).into(),
+            &[
+                0, 6, 0, 0, 0, 0, 0, 0, 0, 0, 0, 0, 0, 0, 0, 0, 0, 1, 1, 0xbb,
+            ],
+        ),
+        (
+            socket([192, 168, 1, 1], 65535),
+            &[0, 4, 192, 168, 1, 1, 255, 255],
+        ),
+    ];
+    for (ingress, bytes) in vectors {
+        assert_eq!(ingress.encode(), bytes);
+        assert_eq!(Ingress::decode(bytes), Ok(ingress));
+    }
+}
+
+#[test]
+fn test_ingress_dns_roundtrip() {
+    let localhost = [&[1, 9][..], b"localhost", &[0x1f, 0x90]].concat();
+    assert_eq!(name("localhost", 8080).encode(), localhost);
+    for ingress in [
+        name("localhost", 8080),
+        name("example.com", 443),
+        name("a.b.c.d.e.f.g", 1234),
+    ] {
+        assert_eq!(Ingress::decode(&ingress.encode()), Ok(ingress));
+    }
+}
+
+#[test]
+fn test_ingress_dns_max_len_exceeded() {
+    let long = [&[1, 0xac, 2][..], &[b'a'; 300], &[0x1f, 0x90]].concat();
+    assert_eq!(Ingress::decode(&long), Err(CodecError::InvalidLength(300)));
+    assert_eq!(
+        Hostname::new(&"a".repeat(254)),
+        Err(CodecError::InvalidLength(254))
+    );
+    assert_eq!(Ingress::decode(&[1, 0]), Err(CodecError::InvalidLength(0)));
+    assert_eq!(
+        Ingress::decode(&[1, 1, b'-', 0, 80]),
+        Err(CodecError::Invalid(What::Hostname))
+    );
+    assert_eq!(
+        Hostname::new(&"a".repeat(64)),
+        Err(CodecError::Invalid(What::Hostname))
+    );
+}
+
+#[test]
+fn test_ingress_max_encode_size() {
+    assert_eq!(Ingress::MAX_ENCODE_SIZE, 261);
+    assert_eq!(Hostname::MAX_ENCODE_SIZE, 258);
+    // The length of the widest name takes two bytes of the five that are allowed for.
+    let widest = name(&widest(), u16::MAX).encode();
+    assert_eq!(widest.len() + 3, Ingress::MAX_ENCODE_SIZE);
+    let socket = Ingress::from(SocketAddr::from((Ipv6Addr::LOCALHOST, u16::MAX)));
+    assert!(socket.encode().len() < Ingress::MAX_ENCODE_SIZE);
+}
+
+#[test]
+fn test_ingress_port() {
+    assert_eq!(socket([127, 0, 0, 1], 8080).port(), 8080);
+    assert_eq!(name("example.com", 443).port(), 443);
+}
+
+#[test]
+fn test_ingress_ip() {
+    let ip = IpAddr::from(Ipv4Addr::LOCALHOST);
+    assert_eq!(socket([127, 0, 0, 1], 8080).ip(), Some(ip));
+    assert_eq!(name("example.com", 443).ip(), None);
+}
+
+#[test]
+fn test_from_socket_addr() {
+    let at = SocketAddr::from(([127, 0, 0, 1], 8080));
+    assert_eq!(Ingress::from(at), Ingress::Socket(at));
+}
+
+// An ingress is allowed where a peer there is dialable.
+fn is_allowed(ingress: &Ingress, allow_private_ips: bool, allow_dns: bool) -> bool {
+    let cfg = Config {
+        allow_private_ips,
+        allow_dns,
+        ..config()
+    };
+    let bootstrappers = vec![(key(1), ingress.clone())];
+    let directory = Directory::init(&bootstrappers, &info(9, 0), cfg).unwrap();
+    directory.dialable(Moment::EPOCH).unwrap().peers == [key(1)]
+}
+
+#[test]
+fn test_ingress_is_allowed() {
+    let cases = [
+        (socket([8, 8, 8, 8], 8080), [true; 4]),
+        (socket([100, 128, 0, 0], 8080), [true; 4]),
+        (socket([10, 0, 0, 1], 8080), [false, false, true, true]),
+        (
+            socket([100, 127, 255, 255], 8080),
+            [false, false, true, true],
+        ),
+        (name("example.com", 8080), [false, true, false, true]),
+    ];
+    for (ingress, allowed) in cases {
+        let settings = [(false, false), (false, true), (true, false), (true, true)];
+        for ((private, dns), allowed) in settings.into_iter().zip(allowed) {
+            assert_eq!(is_allowed(&ingress, private, dns), allowed, "{ingress}");
+        }
+    }
+}
+
+#[test]
+fn test_data_codec() {
+    let data = Data {
+        channel: 12345,
+        message: b"Hello, world!".to_vec(),
+    };
+    let frame = Payload::Data(data.clone()).encode();
+    let spelled = [&[0, 0xb9, 0x60, 0x0d][..], b"Hello, world!"].concat();
+    assert_eq!(frame, spelled);
+    let limits = |max_data_length| PayloadConfig {
+        max_data_length,
+        ..LIMITS
+    };
+    let read = Payload::decode(&frame, &limits(13));
+    assert_eq!(read, Ok(Payload::Data(data)));
+    assert_eq!(
+        Payload::decode(&frame, &limits(12)),
+        Err(CodecError::InvalidLength(13))
+    );
+}
+
+#[test]
+fn test_decode_invalid() {
+    let frame = [0, 3, 0, 1, 2, 3, 4, 5, 6, 7, 8, 9];
+    assert_eq!(
+        Payload::decode(&frame, &LIMITS),
+        Err(CodecError::ExtraData(9))
+    );
+}
+
+#[test]
+fn test_bit_vec_codec() {
+    let bits = BitVec {
+        index: 1234,
+        bits: (0..71).map(|place| place % 3 == 0).collect(),
+    };
+    let frame = Payload::BitVec(bits.clone()).encode();
+    assert_eq!(frame.len(), 1 + 2 + 1 + 9);
+    assert_eq!(Payload::decode(&frame, &LIMITS), Ok(Payload::BitVec(bits)));
+}
+
+#[test]
+fn test_signed_peer_info_codec() {
+    for info in [info(1, 0), info(2, 1000), info(3, u64::MAX)] {
+        let read = Info::decode(&info.encode()).unwrap();
+        assert_eq!(read, info);
+        assert!(read.verify(NAMESPACE, verify));
+    }
+}
+
+#[test]
+fn test_payload_codec() {
+    let payloads = [
+        Payload::Data(Data {
+            channel: 1,
+            message: b"hello".to_vec(),
+        }),
+        Payload::Greeting(info(1, 1000)),
+        Payload::BitVec(BitVec {
+            index: 5,
+            bits: vec![true; 9],
+        }),
+        Payload::Peers(vec![info(1, 1000), info(2, 1000)]),
+        Payload::Peers(Vec::new()),
+    ];
+    for payload in payloads {
+        let frame = payload.encode();
+        for end in 0..frame.len() {
+            let fault = Payload::decode(&frame[..end], &LIMITS);
+            assert_eq!(fault, Err(CodecError::EndOfBuffer));
+        }
+        assert_eq!(Payload::decode(&frame, &LIMITS), Ok(payload));
+    }
+}
+
+#[test]
+fn test_payload_decode_invalid_type() {
+    for prefix in 4..=u8::MAX {
+        assert_eq!(
+            Payload::decode(&[prefix, 0, 1], &LIMITS),
+            Err(CodecError::InvalidEnum(prefix))
+        );
+    }
+}
+
+#[test]
+fn test_payload_bitvec_respects_limit() {
+    let frame = [2, 5, 9, 0xff, 1];
+    let limits = |max_bit_vec| PayloadConfig {
+        max_bit_vec,
+        ..LIMITS
+    };
+    assert_eq!(
+        Payload::decode(&frame, &limits(8)),
+        Err(CodecError::InvalidLength(9))
+    );
+    assert!(Payload::decode(&frame, &limits(9)).is_ok());
+    assert_eq!(
+        Payload::decode(&[2, 5, 9, 0xff, 3], &limits(9)),
+        Err(CodecError::Invalid(What::Padding))
+    );
+}
+
+#[test]
+fn test_payload_peers_respects_limit() {
+    let frame = Payload::Peers(vec![info(1, 1), info(2, 1)]).encode();
+    let limits = PayloadConfig {
+        max_peers: 1,
+        ..LIMITS
+    };
+    assert_eq!(
+        Payload::decode(&frame, &limits),
+        Err(CodecError::InvalidLength(2))
+    );
+}
+
+#[test]
+fn test_payload_data_respects_limit() {
+    let frame = [0, 1, 5, b'h', b'e', b'l', b'l', b'o'];
+    let limits = PayloadConfig {
+        max_data_length: 4,
+        ..LIMITS
+    };
+    assert_eq!(
+        Payload::decode(&frame, &limits),
+        Err(CodecError::InvalidLength(5))
+    );
+}
+
+// A node with the key of number 9, and what it answers to a list of infos at a moment.
+fn judged(infos: Vec<Info>, now: Moment, greatest_count: usize) -> Received {
+    let mut setup = setup(9);
+    setup.peer_gossip_max_count = greatest_count;
+    setup.synchrony_bound = BOUND;
+    let mut node = Node::new(&setup).unwrap();
+    node.receive(&Payload::Peers(infos).encode(), now, verify)
+}
+
+const NOW: Moment = Moment::from_secs(1000);
+
+#[test]
+fn info_verifier_accepts_valid_peer() {
+    let answer = judged(vec![info(1, 1_000_000)], NOW, 4);
+    assert_eq!(answer, Received::Applied(1));
+}
+
+#[test]
+fn info_verifier_rejects_too_many_peers() {
+    let answer = judged(vec![info(1, 0), info(2, 0)], NOW, 1);
+    assert_eq!(answer, Received::Invalid(Error::TooManyPeers(2)));
+}
+
+#[test]
+fn info_verifier_rejects_self() {
+    let answer = judged(vec![info(9, 0)], NOW, 4);
+    assert_eq!(answer, Received::Invalid(Error::ReceivedSelf));
+}
+
+#[test]
+fn info_verifier_rejects_future_timestamp() {
+    let late = 1_030_000;
+    assert_eq!(judged(vec![info(1, late)], NOW, 4), Received::Applied(1));
+    assert_eq!(
+        judged(vec![info(1, late + 1)], NOW, 4),
+        Received::Invalid(Error::SynchronyBound)
+    );
+}
+
+#[test]
+fn info_verifier_allows_past_timestamp() {
+    assert_eq!(judged(vec![info(1, 0)], NOW, 4), Received::Applied(1));
+}
+
+fn signed_elsewhere() -> Info {
+    let key = key(1);
+    Info::sign(
+        key,
+        b"wrong-namespace",
+        socket([8, 8, 4, 4], 8080),
+        0,
+        |namespace, message| sign(&key, namespace, message),
+    )
+}
+
+#[test]
+fn info_verifier_rejects_invalid_signature() {
+    assert_eq!(
+        judged(vec![signed_elsewhere()], NOW, 4),
+        Received::Invalid(Error::InvalidSignature)
+    );
+}
+
+#[test]
+fn the_first_refusal_in_list_order_is_answered() {
+    let (own, future) = (info(9, 0), info(2, u64::MAX));
+    let cases = [
+        (
+            vec![signed_elsewhere(), own.clone()],
+            Error::InvalidSignature,
+        ),
+        (vec![own.clone(), signed_elsewhere()], Error::ReceivedSelf),
+        (vec![info(3, 0), future.clone(), own], Error::SynchronyBound),
+        (
+            vec![info(3, 0), signed_elsewhere(), future],
+            Error::InvalidSignature,
+        ),
+    ];
+    for (infos, error) in cases {
+        assert_eq!(judged(infos, NOW, 4), Received::Invalid(error));
+    }
+}
+
+fn named(host: &str) -> Info {
+    let key = key(1);
+    Info::sign(key, NAMESPACE, name(host, 8080), 7, |namespace, message| {
+        sign(&key, namespace, message)
+    })
+}
+
+#[test]
+fn info_with_dns_ingress_sign_and_verify() {
+    let info = named("node.example.com");
+    assert_eq!(info.ingress, name("node.example.com", 8080));
+    assert_eq!((info.timestamp, info.public_key), (7, key(1)));
+    assert!(info.verify(NAMESPACE, verify));
+}
+
+#[test]
+fn info_with_dns_ingress_codec() {
+    let info = named("validator-1.network.io");
+    assert_eq!(Info::decode(&info.encode()), Ok(info));
+}
+
+#[test]
+fn info_verifier_accepts_dns_ingress() {
+    let answer = judged(vec![named("peer.network.com")], NOW, 4);
+    assert_eq!(answer, Received::Applied(1));
+}
+
+#[test]
+fn info_verifier_accepts_dns_ingress_with_internal_hostname() {
+    let answer = judged(vec![named("internal.local")], NOW, 4);
+    assert_eq!(answer, Received::Applied(1));
+}
+
+#[test]
+fn info_verifier_validates_greeting_without_gossip_limit() {
+    let mut setup = setup(9);
+    setup.peer_gossip_max_count = 0;
+    let mut node = Node::new(&setup).unwrap();
+    let greeting = Payload::Greeting(info(1, 0)).encode();
+    assert_eq!(node.receive(&greeting, NOW, verify), Received::Greeted);
+    let list = Payload::Peers(vec![info(1, 0)]).encode();
+    assert_eq!(
+        node.receive(&list, NOW, verify),
+        Received::Invalid(Error::TooManyPeers(1))
+    );
+}
+
+#[test]
+fn a_set_with_a_repeat_is_refused() {
+    assert!(OrderedSet::try_from([key(1), key(1)]).is_err());
+    assert!(OrderedSet::try_from([key(2), key(1)]).is_ok());
+}

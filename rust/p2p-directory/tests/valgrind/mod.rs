@@ -1,0 +1,27 @@
+//! Tests of the program that runs, under valgrind.
+
+use std::env;
+use std::process::Command;
+
+/// Runs these tests under valgrind, where it is installed. Panics where it finds room that is lost, or touched though it
+/// is nobody's.
+pub fn finds_nothing(names: &[&str]) {
+    if Command::new("valgrind").arg("--version").output().is_err() {
+        println!("valgrind is not installed");
+        return;
+    }
+    let test = env::current_exe().unwrap();
+    for name in names {
+        let done = Command::new("valgrind")
+            .args(["--quiet", "--error-exitcode=9", "--leak-check=full"])
+            .args(["--errors-for-leak-kinds=definite,indirect"])
+            .arg(&test)
+            .args(["--exact", name, "--test-threads=1"])
+            .output()
+            .unwrap();
+        let told = String::from_utf8_lossy(&done.stderr);
+        assert!(done.status.success(), "{name}: {told}");
+        let ran = String::from_utf8_lossy(&done.stdout);
+        assert!(ran.contains("1 passed"), "no test is called {name}: {ran}");
+    }
+}

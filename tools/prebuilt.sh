@@ -1,0 +1,41 @@
+#!/bin/sh
+# Makes the archive that the Rust crates carry, rust/p2p-directory-sys/prebuilt/x86_64-unknown-linux-gnu, from what
+# tools/archive.sh left: libp2p_session.a, whose members are the library and the toolchain's heap, and PROVED beside it,
+# with its hash. With --check it says whether the one that is there is the same. It proves nothing.
+#
+# usage: tools/prebuilt.sh [--check] [FOLDER], with libp2p_session_c.a, liblibc_c.a and PROVED
+set -eu
+cd "$(dirname "$0")/.."
+checks=
+if [ "${1:-}" = --check ]; then
+    checks=1
+    shift
+fi
+from=$(realpath "${1:-crates/p2p_session_c/out}")
+target=rust/p2p-directory-sys/prebuilt/x86_64-unknown-linux-gnu
+made=$(mktemp -d)
+trap 'rm -rf "$made"' EXIT
+
+[ -f "$from/PROVED" ] || {
+    echo "there is no $from/PROVED: tools/proved.sh LOG prints it, of what the prover printed" >&2
+    exit 1
+}
+if [ -z "$checks" ] && grep ': no verdict$' "$from/PROVED" >&2; then
+    echo "$from/PROVED lacks these: a proof from nothing tells them all, by .ci/run --anew, or by tools/archive.sh where" \
+        "there is no crates/*/out; tools/proved.sh reads them from logs" >&2
+    exit 1
+fi
+(cd "$made" && ar x "$from/libp2p_session_c.a" p2p_session_c.o && ar x "$from/liblibc_c.a" heap.pic.o)
+(cd "$made" && ar rcsD libp2p_session.a p2p_session_c.o heap.pic.o)
+{ cat "$from/PROVED" && (cd "$made" && sha256sum libp2p_session.a); } > "$made/PROVED"
+
+if [ -z "$checks" ]; then
+    mkdir -p "$target"
+    cp "$made/libp2p_session.a" "$made/PROVED" "$target/"
+    echo "$target: $(wc -c < "$target/libp2p_session.a") bytes"
+elif ! cmp "$made/libp2p_session.a" "$target/libp2p_session.a" ||
+    [ "$(tail -n 2 "$made/PROVED")" != "$(tail -n 2 "$target/PROVED")" ] ||
+    [ "$(head -n 1 "$made/PROVED")" != "$(head -n 1 "$target/PROVED")" ]; then
+    echo "$target is not what the sources give: run tools/release.sh --prebuilt and commit what it writes" >&2
+    exit 1
+fi

@@ -1,0 +1,20 @@
+#!/bin/sh
+# Puts the library, its header, its files for pkg-config and CMake, and its licences below PREFIX.
+#
+# usage: install.sh PREFIX
+set -eu
+[ $# -eq 1 ] || { echo 'usage: install.sh PREFIX' >&2; exit 2; }
+from=$(cd "$(dirname "$0")" && pwd)
+put() {
+    mkdir -p "$(dirname "$2")"
+    cp "$from/$1" "$2"
+    chmod 644 "$2"
+}
+for file in include/p2p_session.h lib/libp2p_session.a lib/pkgconfig/p2p_session.pc \
+    lib/cmake/p2p_session/p2p_session-config.cmake lib/cmake/p2p_session/p2p_session-config-version.cmake; do
+    put "$file" "$1/$file"
+done
+for file in LICENSE LICENSE-MIT LICENSE-APACHE LICENSE-bytes PROVED; do
+    put "$file" "$1/share/doc/p2p_session/$file"
+done
+echo "installed below $1"
