@@ -91,9 +91,13 @@ fn a_message_is_handed_on() {
         channel: 7,
         message: vec![1; 4000],
     };
-    let frame = Payload::Data(data.clone()).encode();
+    let frame = Payload::Data(data).encode();
     let answer = node.receive(&frame, seconds(1), |_, _, _, _| unreachable!());
-    assert_eq!(answer, Received::Data(data));
+    let message = Received::Data {
+        channel: 7,
+        message: 4..4004,
+    };
+    assert_eq!(answer, message);
 }
 
 #[test]
@@ -172,7 +176,7 @@ fn a_scheme_of_ones_own_judges() {
     let answer = node.receive(&greeting, seconds(1), |key, _, _, signature| {
         signature.0[..32] == key.0 && signature.0[32..] == key.0
     });
-    assert_eq!(answer, Received::Greeted);
+    assert_eq!(answer, Received::Greeted(key(1)));
     assert_eq!(bits(&node), [true]);
 }
 
@@ -209,7 +213,10 @@ fn a_node_takes_no_frame_for_another_directory() {
     assert!(receives.is_err() && checks.is_err() && asks.is_err());
     assert_eq!(one.directory().tracked(), 0);
     mem::swap(one.directory_mut(), &mut other);
-    assert_eq!(one.receive_judged(judged).unwrap(), Received::Greeted);
+    assert_eq!(
+        one.receive_judged(judged).unwrap(),
+        Received::Greeted(key(1))
+    );
     assert_eq!(bits(&one), [true, false]);
 }
 
@@ -242,5 +249,5 @@ fn a_bound_below_a_second_counts() {
     let greeting = |timestamp| Payload::Greeting(info(1, timestamp)).encode();
     let mut received = |timestamp| node.receive(&greeting(timestamp), seconds(100), verify);
     assert_eq!(received(101_003), Received::Invalid(Error::SynchronyBound));
-    assert_eq!(received(101_002), Received::Greeted);
+    assert_eq!(received(101_002), Received::Greeted(key(1)));
 }

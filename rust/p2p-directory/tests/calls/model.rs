@@ -3,8 +3,8 @@
 use super::call::{Call, OWN};
 use p2p_directory::testing::{NAMESPACE, key, verify};
 use p2p_directory::{
-    BitVec, CodecError, ConnectError, Error, Info, Ingress, Key, Moment, NotReservedError,
-    OrderedSet, OutOfMemory, Payload, Received, Setup, Status, TrackedPeers,
+    BitVec, CodecError, ConnectError, EncodedData, Error, Info, Ingress, Key, Moment,
+    NotReservedError, OrderedSet, OutOfMemory, Payload, Received, Setup, Status, TrackedPeers,
 };
 use std::collections::{BTreeMap, BTreeSet};
 use std::fmt::Debug;
@@ -378,7 +378,14 @@ impl Model {
             return Received::Codec(CodecError::InvalidLength(length as u64));
         }
         match payload {
-            Payload::Data(data) => Received::Data(data.clone()),
+            Payload::Data(data) => {
+                let header = EncodedData::new(data.channel, data.message.len() as u32);
+                let begin = header.as_bytes().len();
+                Received::Data {
+                    channel: data.channel,
+                    message: begin..begin + data.message.len(),
+                }
+            }
             Payload::BitVec(bits) => match self.infos(bits, now) {
                 Some(infos) => Received::Reply(Payload::Peers(infos).encode()),
                 None => Received::Malformed,
@@ -387,7 +394,7 @@ impl Model {
                 Err(error) => Received::Invalid(error),
                 Ok(()) => {
                     self.update(std::slice::from_ref(info));
-                    Received::Greeted
+                    Received::Greeted(info.public_key)
                 }
             },
             Payload::Peers(infos) => match self.all_judged(infos, now) {

@@ -5,7 +5,7 @@ use super::shared::{Listed, Outgoing, Shared, random};
 use super::wire::{DATA, GREETING, read_frame, write_frame};
 use p2p_directory::testing::verify;
 use p2p_directory::{
-    EncodedData, Error, Key, OutOfMemory, Payload, Question, Questions, Received, Reservation,
+    Data, EncodedData, Error, Key, OutOfMemory, Question, Questions, Received, Reservation,
 };
 use std::convert::Infallible;
 use std::fmt;
@@ -196,34 +196,44 @@ fn read(
     stream.set_read_timeout(Some(shared.settings.silence))?;
     let mut reader = BufReader::new(stream);
     let greeting = read_frame(&mut reader, shared.limits)?;
-    match Payload::decode(&greeting, &shared.settings.payload) {
-        Ok(Payload::Greeting(info)) if info.public_key == peer => {}
-        _ => return Err(End::Broken("the first frame doesn't greet".to_owned())),
+    let greets = greeting.first() == Some(&GREETING);
+    if !greets || take(shared, peer, outbox, &greeting)? != Some(peer) {
+        return Err(End::Broken("the first frame doesn't greet".to_owned()));
     }
-    take(shared, peer, outbox, &greeting)?;
     let mut allowance = Allowance::new();
     loop {
         let frame = read_frame(&mut reader, shared.limits)?;
         match frame.first() {
             Some(&GREETING) => return Err(End::Broken("a second greeting".to_owned())),
-            Some(&DATA) => take(shared, peer, outbox, &frame)?,
-            _ if allowance.admits(shared.settings.gossip) => take(shared, peer, outbox, &frame)?,
-            _ => shared.tell(Event::Ignored(peer)),
+            Some(&DATA) => {}
+            _ if allowance.admits(shared.settings.gossip) => {}
+            _ => {
+                shared.tell(Event::Ignored(peer));
+                continue;
+            }
         }
+        take(shared, peer, outbox, &frame)?;
     }
 }
 
-/// Hands a frame to the node, and does what its answer says.
+/// Hands a frame to the node, and does what its answer says. Returns who greeted, if the frame greets.
 fn take(
     shared: &Shared,
     peer: Key,
     outbox: &SyncSender<Outgoing>,
     frame: &[u8],
-) -> Result<(), End> {
+) -> Result<Option<Key>, End> {
     match receive(shared, frame)? {
-        Received::Data(data) => shared.tell(Event::Message(peer, data)),
+        Received::Data { channel, message } => {
+            let message = frame[message].to_vec();
+            shared.tell(Event::Message(peer, Data { channel, message }));
+        }
         // An address may have come that can be dialled now.
-        Received::Greeted | Received::Applied(_) => shared.wake(),
+        Received::Greeted(greeter) => {
+            shared.wake();
+            return Ok(Some(greeter));
+        }
+        Received::Applied(_) => shared.wake(),
         // A peer that doesn't read its replies misses them: it asks again.
         Received::Reply(reply) => {
             let _ = outbox.try_send(Outgoing::Frame(reply));
@@ -233,7 +243,7 @@ fn take(
         Received::Invalid(Error::SynchronyBound) => return Err(End::Left("an info of the future")),
         refused => return Err(End::Broken(format!("{refused:?}"))),
     }
-    Ok(())
+    Ok(None)
 }
 
 /// What the node answers to a frame. Signatures are verified while it isn't locked.
