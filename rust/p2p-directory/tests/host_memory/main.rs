@@ -16,10 +16,10 @@ use crate::questions::told;
 use crate::state::{
     State, dialling, empty, introduced, known, named_info, new, peers, retaining, seconds,
 };
-use p2p_directory::testing::{config, info, key, setup};
+use p2p_directory::testing::{NAMESPACE, config, info, key, setup, verify};
 use p2p_directory::{
     BitVec, Data, Directory, Info, Ingress, Key, Metadata, Moment, OutOfMemory, Payload, Received,
-    SetupError, TrackedPeers,
+    SetupError, TrackedPeers, ValidateError,
 };
 use std::fmt::Debug;
 use std::sync::{Mutex, MutexGuard, PoisonError};
@@ -231,6 +231,31 @@ fn questions_are_answered_or_refused() {
     refuse_each(2, known, nobody, |state, bits: BitVec| {
         state.directory().infos(&bits, NOW)
     });
+}
+
+#[test]
+fn infos_are_judged_or_memory_is_refused() {
+    let _alone = alone();
+    let infos = [info(1, 0), named_info(2, 0, "a.b")];
+    let made = || Info::verifier(key(9), 2, Duration::ZERO, NAMESPACE);
+    // Whether it was refused, and then answers once there is memory.
+    let is_refused = |plan| {
+        let (verifier, refused) = while_refused(plan, made);
+        if refused > 0 {
+            assert_eq!(verifier.err(), Some(SetupError::OutOfMemory), "{plan:?}");
+            return true;
+        }
+        let verifier = verifier.expect("memory");
+        let judged = || verifier.validate(NOW, &infos, verify);
+        let (answer, refused) = while_refused(Refused::Only(1), judged);
+        assert_eq!((answer, refused), (Err(ValidateError::OutOfMemory), 1));
+        assert_eq!(judged(), Ok(()));
+        false
+    };
+    let count = (1..)
+        .take_while(|nth| is_refused(Refused::Only(*nth)))
+        .count();
+    assert!(count > 0);
 }
 
 #[test]

@@ -4,9 +4,7 @@ use super::Event;
 use super::shared::{Listed, Outgoing, Shared, random};
 use super::wire::{DATA, GREETING, read_frame, write_frame};
 use p2p_directory::testing::verify;
-use p2p_directory::{
-    Data, EncodedData, Error, Key, OutOfMemory, Question, Questions, Received, Reservation,
-};
+use p2p_directory::{Data, EncodedData, Error, Key, OutOfMemory, Received, Reservation};
 use std::convert::Infallible;
 use std::fmt;
 use std::io::{self, BufReader, ErrorKind};
@@ -152,7 +150,7 @@ fn write(shared: &Shared, stream: &TcpStream, outgoing: &Receiver<Outgoing>) -> 
 fn ask(shared: &Shared, stream: &TcpStream) -> io::Result<()> {
     let question = {
         let state = shared.lock();
-        let place = random() as usize % state.retained.max(1);
+        let place = random() as usize % state.node.directory().retained().max(1);
         state.node.ask(place)
     };
     match question {
@@ -253,28 +251,7 @@ fn receive(shared: &Shared, frame: &[u8]) -> Result<Received, End> {
         let now = state.now();
         state.node.check(frame, now)?
     };
-    let verdicts = verdicts(&questions);
-    let judged = questions.judged(verdicts);
-    let judged = judged.expect("there is a verdict for each question, or the last is false");
+    let judged = questions.judged_by(verify);
     let received = shared.lock().node.receive_judged(judged);
     Ok(received.expect("this node checked the frame"))
-}
-
-/// Whether each signature is right, up to the first that isn't.
-fn verdicts(questions: &Questions<'_>) -> Vec<bool> {
-    let mut verdicts = Vec::new();
-    for question in questions {
-        let Question {
-            public_key,
-            message,
-            signature,
-            ..
-        } = question;
-        let is_right = verify(&public_key, questions.namespace(), message, &signature);
-        verdicts.push(is_right);
-        if !is_right {
-            break;
-        }
-    }
-    verdicts
 }
