@@ -52,8 +52,8 @@ ghost use Rattle.p2p_directory.specs.Laws.Network as network;
 
 use p2p_discovery::codec::PublicKey;
 
-/// The main law. For every setup with at least one set, every list of accepted calls, the newest
-/// first, and one more call: the world recomputed from all these calls is one step from the world
+/// The main law, for every setup with at least one set, every list of accepted calls, the newest
+/// first, and one more call. The world recomputed from all these calls is one step from the world
 /// recomputed from the calls before.
 pub fn recomputed_is_one_step<C: PublicKey>()
     ensures { (s : Settings C C.Signature) → s.cmp ≡ C.cmp → 1 ≤ s.max_sets →
@@ -61,20 +61,20 @@ pub fn recomputed_is_one_step<C: PublicKey>()
         world_at s (past s (c ∷ cs)) ≡ step s (world_at s (past s cs)) c }
 {}
 
-/// Whoever goes on with a directory that a run or a node leaves gets the answers of the world that
-/// the accepted calls make. Where the directory refines that world, as the clause `directory` of
-/// [`run`](crate::run::run) says of the one that it hands back, each answer by what is kept, in the
-/// words of the calls of [`Directory`](p2p_tracker::directory::Directory), is that of the world: those
-/// of each question, who is granted, whether a block has ended, and how many cooldowns. The limit of
-/// failures fits `usize`, as in each `Config`.
+/// If a directory refines the world that the accepted calls make, its results are those of that
+/// world. By its clause `directory`, [`run`](crate::run::run) returns such a directory. So this law
+/// is for callers that go on with a directory that a run or a node leaves. The results are those of
+/// the calls of [`Directory`](p2p_tracker::directory::Directory): of each query, who is granted,
+/// whether a block has ended, and how many cooldowns. The failure limit fits `usize`, as in each
+/// `Config`.
 pub fn refined_answers<C: PublicKey>()
     ensures { (s : Settings C C.Signature) → s.cmp ≡ C.cmp → s.dial_fail_limit < 2 ^ 64 →
         (cs : List (Call C C.Signature)) (d : DirectoryView C C.Signature) →
         Refines s (world_after s cs) d → AnswersAs s (world_after s cs) d }
 {}
 
-/// An answer that lists the keys with a property, tells the least moment of some keys, or counts
-/// the tracked or the cooled keys of a world, is the only one.
+/// A result that lists the keys with a property, gives the earliest time of some keys, or counts
+/// the tracked or the cooled keys of a world, is unique.
 pub fn answers_are_determined<C: PublicKey>()
     ensures lists { (s : Settings C C.Signature) → s.cmp ≡ C.cmp →
         (test : C → Bool) (xs ys : List C) → Lists s.cmp test xs → Lists s.cmp test ys → xs ≡ ys }
@@ -89,7 +89,8 @@ pub fn answers_are_determined<C: PublicKey>()
 {}
 
 /// Calls on other single peers, and the infos of others in updates, may be left out of the accepted
-/// calls: all that is said of p is the same, and so are the answers on p and what calls on p do.
+/// calls. All that is said of p is the same, and so are the results on p and the effects of calls
+/// on p.
 pub fn others_may_be_left_out<C: PublicKey>()
     ensures same { (s : Settings C C.Signature) → s.cmp ≡ C.cmp → 1 ≤ s.max_sets →
         (p : C) (cs : List (Call C C.Signature)) →
@@ -100,7 +101,7 @@ pub fn others_may_be_left_out<C: PublicKey>()
         SameFor p w w2 → SameFor p v v2 → is_torn_down s w v p ≡ is_torn_down s w2 v2 p }
 {}
 
-/// Call by call: a call on another single peer leaves all that is said of p as it was, an update
+/// Call by call: a call on another single peer leaves all that is said of p as it was; an update
 /// changes it by p's infos alone.
 pub fn each_call_keeps_others<C: PublicKey>()
     ensures another { (s : Settings C C.Signature) → 1 ≤ s.max_sets →
@@ -111,10 +112,10 @@ pub fn each_call_keeps_others<C: PublicKey>()
         (c : Call C C.Signature) → SameFor p (step s w c) (step s w (narrowed s p c)) }
 {}
 
-/// Call by call, on a directory: what `dial` and `listen`, `connect`, `release` and `block` do to
-/// one peer leaves the retained sets as they are, and of each other peer what is kept, until when
-/// it is blocked, and the moments of its cooldown. Infos that are offered change what is kept of a
-/// peer by those of its own key alone, and nothing else.
+/// Call by call, on a directory: what `dial`, `listen`, `connect`, `release` and `block` do to one
+/// peer leaves the retained sets as they are. They also leave each other peer's record, block and
+/// cooldown as they are. Infos that are offered change a peer's record by those of its own key
+/// alone, and nothing else.
 pub fn effects_keep_others<C: PublicKey>()
     ensures reserves { (old new : DirectoryView C C.Signature) (p : C) (now draw : ℕ) →
         Reserves C.cmp old new p now draw → LeavesOthers C.cmp old new p }
@@ -131,8 +132,8 @@ pub fn effects_keep_others<C: PublicKey>()
         (new.sets ≡ old.sets) × IsAsBefore C.cmp other new q }
 {}
 
-/// The order of infos in an update, or in several that follow each other directly, is of no matter
-/// where no two infos of one key have one timestamp.
+/// The order of infos in an update, or in several that follow each other directly, doesn't matter
+/// if no two infos of one key have the same timestamp.
 pub fn order_is_free<C: PublicKey>()
     ensures alike { (s : Settings C C.Signature) (w : World C C.Signature)
         (xs ys : List (Info C C.Signature)) → HaveSame xs ys → IsUnambiguous s xs →
@@ -149,8 +150,9 @@ pub fn order_is_free<C: PublicKey>()
         Updates C.cmp old new xs → Updates C.cmp old new ys }
 {}
 
-/// Where each set that was taken names at most n distinct peers, the present keys are at most n for
-/// each set that may be retained, the persistent keys, and the peers not inert that no set names.
+/// If each registered set names at most n distinct peers, the present keys are at most n for each
+/// set that may be retained, plus the persistent keys and the peers that are not inert and in no
+/// set.
 pub fn presence_is_bounded<C: PublicKey>()
     ensures { (s : Settings C C.Signature) → s.cmp ≡ C.cmp →
         (n : ℕ) (cs : List (Call C C.Signature)) →
@@ -158,33 +160,33 @@ pub fn presence_is_bounded<C: PublicKey>()
         IsBounded s n (world_at s (past s cs)) }
 {}
 
-/// Of a peer that is absent info and failures are forgotten: what is known of it is what is known
-/// of a new peer.
+/// The info and failures of an absent peer are forgotten: what is known of it is what is known of a
+/// new peer.
 pub fn absent_are_forgotten<C: PublicKey>()
     ensures { (s : Settings C C.Signature) (cs : List (Call C C.Signature)) (p : C) →
         is_present_in s (world_at s (past s cs)) p ≡ false →
         ((world_at s (past s cs)).peer p).known ≡ new_known s p }
 {}
 
-/// Two consecutive grants of a peer, with no forgetting of the first between them: the second comes
-/// no earlier than the cooldown after the first, at most the greatest moment, also where its record
-/// was deleted and made again in between. Moments may go back.
+/// For two consecutive grants of a peer, if the first isn't forgotten in between: the second comes
+/// no earlier than the cooldown after the first, capped at `Duration::MAX`. This also holds if its
+/// record was deleted and made again in between. Times may go backwards.
 pub fn grants_are_spaced<C: PublicKey>()
     ensures { (s : Settings C C.Signature) → s.cmp ≡ C.cmp →
         (p : C) (cs : List (Call C C.Signature)) → KeepsCooldownUnlessForgotten s p (past s cs) }
 {}
 
-/// Where the moments of the calls never go back, two consecutive grants of a peer are at least the
-/// cooldown apart, at most the greatest moment, whatever was forgotten and also where its record
-/// was deleted and made again in between.
+/// If the times of the calls never go backwards, two consecutive grants of a peer are at least the
+/// cooldown apart, capped at `Duration::MAX`. This holds whatever was forgotten, and also if its
+/// record was deleted and made again in between.
 pub fn cooldown_lasts<C: PublicKey>()
     ensures { (s : Settings C C.Signature) → s.cmp ≡ C.cmp →
         (p : C) (cs : List (Call C C.Signature)) (now : ℕ) → NeverGoBack s now cs →
         KeepsCooldown s p (past s cs) }
 {}
 
-/// Where the moments of the calls never go back, a peer whose block was taken is granted by no
-/// later call before the block's end, at most the greatest moment, also where its record was
+/// If the times of the calls never go backwards, a peer whose block was accepted is granted by no
+/// later call before the block's end, capped at `Duration::MAX`. This also holds if its record was
 /// deleted and made again in between.
 pub fn blocks_hold<C: PublicKey>()
     ensures { (s : Settings C C.Signature) → s.cmp ≡ C.cmp →
@@ -192,9 +194,9 @@ pub fn blocks_hold<C: PublicKey>()
         KeepsBlocks s p (past s cs) }
 {}
 
-/// Dials of the peers that an answer of `dialable` lists, at the same moment, one directly after
-/// the other and with any draws, are all granted: of the whole list in its order, and of any of
-/// them in any order, each once.
+/// Dials of the peers that a result of `dialable` lists are all granted if they are made at the
+/// same time and directly one after the other, with any draws. They may be dials of the whole list
+/// in its order, or of any of its peers in any order, each once.
 pub fn dialable_are_granted<C: PublicKey>()
     ensures whole { (s : Settings C C.Signature) → s.cmp ≡ C.cmp → 1 ≤ s.max_sets →
         (cs : List (Call C C.Signature)) (t : ℕ) (xs : List (C × ℕ)) (next : Option ℕ) →
@@ -205,8 +207,8 @@ pub fn dialable_are_granted<C: PublicKey>()
         IsDialable s (world_at s (past s cs)) t ps next → AreChosen s ps xs → AreDialled s t xs cs }
 {}
 
-/// Where nothing is called in between, an answer of `dialable` stays until its next query, and for
-/// ever where it has none: the peers and the next query. Each moment has one answer.
+/// If nothing is called in between, a result of `dialable` stays the same until its next query, or
+/// for ever if it has none: both the peers and the next query. Each time has one result.
 pub fn dialable_is_quiet<C: PublicKey>()
     ensures stays { (s : Settings C C.Signature) (w : World C C.Signature) (t u : ℕ) (ps : List C)
         (next : Option ℕ) →
@@ -216,14 +218,19 @@ pub fn dialable_is_quiet<C: PublicKey>()
         IsDialable s w t ps next → IsDialable s w t qs after → (ps ≡ qs) × (next ≡ after) }
 {}
 
-/// Spacing and blocks by the replies to a run from its start. Of two consecutive grants of a peer,
-/// for a dial or for a peer that comes, the later is no earlier than the cooldown after the first,
-/// at most the greatest moment, where the first isn't forgotten in between, and also, whatever was
-/// forgotten, where the moments of the commands that may grant, block, end a block or forget never
-/// go back; across deletion and rebirth of its record. Where these moments never go back, whatever
-/// the commands were replied, a peer whose block was taken is granted by no later command before the
-/// block's end, at most the greatest moment. Of any moments, each grant and each further block of a
-/// peer comes no earlier than the end of its last block that no accepted `UnblockExpired` has ended.
+/// Spacing and blocks by the replies to a run from its start.
+///
+/// Of two consecutive grants of a peer, for a dial or inbound, the later is no earlier than the
+/// cooldown after the first, capped at `Duration::MAX`. This holds if the first isn't forgotten in
+/// between. It also holds, whatever was forgotten, if the times of the commands that may grant,
+/// block, end a block or forget never go backwards. Deletion of the peer's record in between
+/// doesn't matter.
+///
+/// If these times never go backwards, whatever the replies were, a peer whose block was accepted is
+/// granted by no later command before the block's end, capped at `Duration::MAX`.
+///
+/// For any times, each grant and each further block of a peer comes no earlier than the end of its
+/// last block that no accepted `UnblockExpired` has ended.
 pub fn grants_of_a_run<C: PublicKey>()
     ensures spaced { (s : Settings C C.Signature) → s.cmp ≡ C.cmp →
         (p : C) (cs : List (Call C C.Signature)) (rs : List (Reply C C.Signature)) →
@@ -240,10 +247,10 @@ pub fn grants_of_a_run<C: PublicKey>()
 {}
 
 /// Dials by the replies to a run. After each reply to `dialable`, as long as the commands are dials
-/// at its moment of the peers that it lists, each once and in any order, each is granted, unless
-/// memory is refused. As long as the commands are questions, `dialable` at its moment or later, and
-/// before its next query where it has one, is replied the same peers and the same next query,
-/// unless memory is refused.
+/// at its time of the peers that it lists, each once and in any order, each is granted, unless an
+/// allocation fails. As long as the commands are queries, `dialable` at its time or later, and
+/// before its next query if it has one, gets the same peers and the same next query, unless an
+/// allocation fails.
 pub fn dials_of_a_run<C: PublicKey>()
     ensures { (s : Settings C C.Signature) → s.cmp ≡ C.cmp → 1 ≤ s.max_sets →
         (cs : List (Call C C.Signature)) (rs : List (Reply C C.Signature)) →
@@ -253,17 +260,17 @@ pub fn dials_of_a_run<C: PublicKey>()
 /// Isolation, order and bounds by the replies to a run from its start.
 ///
 /// At each point of the run, leave out of the accepted calls those on single other peers, and out
-/// of the updates the infos of others: all that is said of p is the same, a reply to a call on p
-/// answers it after these calls, too, and a reply to a track or to `dialable` lists p just where it
-/// is listed after these.
+/// of the updates the infos of others. All that is said of p is the same. A reply to a call on p is
+/// also the reply after these calls. A reply to a track or to `dialable` lists p exactly if p is
+/// listed after these.
 ///
-/// Where updates that follow each other directly hold no two infos of one key with one timestamp,
-/// other updates may give the infos in their place, in any order: all replies after them are
-/// answers then, too, and at each point after them all stands as it does.
+/// If updates that follow each other directly have no two infos of one key with the same timestamp,
+/// other updates may pass the same infos, in any order. All replies after them are then replies
+/// after these, too, and at each point after them everything is as it was.
 ///
-/// At each point at which the sets that were taken name at most n distinct peers each, the present
-/// keys are at most n for each set that may be retained, the persistent keys, and the peers not
-/// inert that no set names; so is the number that is replied.
+/// At each point at which the registered sets name at most n distinct peers each, the present keys
+/// are at most n for each set that may be retained, plus the persistent keys and the peers that are
+/// not inert and in no set. The number that `tracked` returns is within this bound, too.
 pub fn isolation_of_a_run<C: PublicKey>()
     ensures isolation { (s : Settings C C.Signature) → s.cmp ≡ C.cmp → 1 ≤ s.max_sets →
         (p : C) (cs : List (Call C C.Signature)) (rs : List (Reply C C.Signature)) →
@@ -276,12 +283,16 @@ pub fn isolation_of_a_run<C: PublicKey>()
         AreAnswers s [] cs rs → KeepBound s n [] cs rs }
 {}
 
-/// A frame of infos that are signed in the namespace of a node, none with its own key, none with a
-/// timestamp above the milliseconds of a moment, of any number that the node takes, at a moment
-/// from which that one is at most the bound ahead, is applied, unless memory is refused, whatever
-/// was done to the node before. Afterwards the node's info of each of their peers that has a record
-/// is at least as new. Nothing changes where all were so before, and by a copy that follows at
-/// once.
+/// Late infos. A frame of infos is applied by a node, whatever was done to the node before, unless
+/// an allocation fails, under these premises:
+///
+/// - The infos are signed in the namespace of the node, and none has its own key.
+/// - None has a timestamp above the milliseconds of a time which is at most the bound after the
+///   time of the call.
+/// - The node accepts this number of infos.
+///
+/// Afterwards the node's info of each of their peers that has a record is at least as new. Nothing
+/// changes if all were so before, or by a copy that follows at once.
 pub fn infos_may_come_late<C: PublicKey>()
     ensures { (m : Made C C.Signature) → IsMade C.cmp m →
         (calls : List (Call C C.Signature)) (frame : List ℕ) (now : ℕ) (r : Received)
@@ -292,35 +303,38 @@ pub fn infos_may_come_late<C: PublicKey>()
         TakesLateAt wire C.IsValue C.Signature.IsValue m calls frame now r }
 {}
 
-/// Gossip of any number of nodes by the replies to what is done to them from their start.
+/// Gossip of any number of nodes, by the replies to what is done to them from their start.
 ///
-/// Exchanges: at each point, where all own infos, and the infos of each command to any node and of
-/// each frame that any node accepted before, are signed in the namespaces of the asker and the
-/// replier, an exchange of a set whose primary peers the replier retains at its index, within the
-/// limits of both and with the replier's moment at most the asker's bound ahead, is applied with
-/// exactly the wanted infos that may be shared, unless memory is refused. Afterwards the asker's
+/// Exchanges: at each point, let all local infos, and the infos of each command to any node and of
+/// each frame that any node accepted before, be signed in the namespaces of the asker and the
+/// replier. Take an exchange of a set whose primary peers the replier retains at its index, within
+/// the limits of both, with the replier's time at most the asker's bound ahead. It is applied with
+/// exactly the wanted infos that may be shared, unless an allocation fails. Afterwards the asker's
 /// info of each of their peers is at least as new. The same exchange directly repeated is applied
-/// and changes nothing at any node, unless memory is refused.
+/// and changes nothing at any node, unless an allocation fails.
 ///
-/// Provenance, without any premise: each info that any node holds is the own info of some node, or
-/// was given to some node by a command, or by a frame that it accepted, before. Infos: where all
-/// that is given is signed for a node, so is all that any node holds.
+/// Provenance, without any premise: each info that any node holds is the local info of some node,
+/// or was passed to some node before, by a command or by a frame that it accepted. Infos: if all
+/// infos that are passed in are signed for a node, so are all that any node holds.
 ///
 /// Newer: what a node holds of a peer is at least as new later, as long as the peer stays present
-/// at it. Reach: of each primary peer of the set of an exchange that was applied under its
-/// premises, whose info the asker wanted and the replier might share, the asker holds an info at
+/// at it. Reach: take an exchange that was applied under its premises, and a primary peer of its
+/// set whose info the asker wanted and the replier might share. The asker holds an info of it at
 /// least as new directly afterwards, and as long as the peer stays present at it.
 ///
-/// Greetings: one with the own info of any node, signed for the node that takes it, is taken,
-/// unless memory is refused, where the own keys differ and its timestamp is within the bound.
-/// Replies: to bits that any node was asked for earlier, where the replier retains a set of their
-/// index with the primary peers that the set at the place then had, a reply is a frame of infos
-/// that are signed for both, none with the asker's key, none with a timestamp above the present
-/// milliseconds. Late: such a frame is taken by any node, as [`infos_may_come_late`] says.
+/// Greetings: one with the local info of any node, signed for the node that receives it, is
+/// accepted, unless an allocation fails, if the local keys differ and its timestamp is within the
+/// bound.
 ///
-/// Acquaintance: as reach, for some info of each other peer of the list, wanted or not. Isolation
-/// and order: as for one directory, over the calls that each node accepted. Others: a command to
-/// one node leaves every other as it was, and an exchange leaves all but the asker.
+/// Replies: to bits that any node was asked for earlier, if the replier retains a set of their
+/// index with the primary peers that the set at the position then had, a reply is a frame of infos.
+/// They are signed for both, none has the asker's key, and none has a timestamp above the present
+/// milliseconds. Late: such a frame is accepted by any node, as [`infos_may_come_late`] says.
+///
+/// Acquaintance: the same as reach, for some info of each other peer of the set, wanted or not.
+/// Isolation and order: the same as for one directory, over the calls that each node accepted.
+/// Others: a command to one node leaves every other as it was, and an exchange leaves all but the
+/// asker.
 pub fn gossip_of_a_network<C: PublicKey>()
     ensures exchanges { (wire : Wire C C.Signature) (size : ℕ) (node : ℕ → Made C C.Signature) →
         AreMade wire size node C.cmp →

@@ -1,4 +1,4 @@
-//! The directory of peers: who may be dialled or listened for, and what is known of each.
+//! The directory of peers: who may be dialled or accepted, and what is known of each.
 #![tactic(auto)]
 
 pub mod laws;

@@ -1,4 +1,4 @@
-//! A node: a directory that judges what it is told by frames, and answers them.
+//! A node: a directory that receives frames, verifies their infos and replies to them.
 
 ghost use Rattle.std.specs.Prelude.{◌≡◌, ◌-◌, ◌<◌, ◌^◌, [], true, false, IfOk, OnErr, option_map};
 ghost use Rattle.std.specs.Duration.{as_nanos};
@@ -42,50 +42,52 @@ mod pair;
 /// What a node is made from.
 #[derive(Drop)]
 pub struct Setup<C: PublicKey> {
-    /// The bootstrappers of its directory: a later one of a key replaces an earlier one.
+    /// The bootstrappers of its directory; if a key occurs twice, the later one counts.
     pub bootstrappers: Vec<(C, Ingress)>,
-    /// The own info.
+    /// The local info.
     pub myself: Info<C>,
     /// How its directory behaves.
     pub cfg: Config,
     /// The limits under which it reads frames.
     pub payload: PayloadConfig,
-    /// How many infos it takes at a time.
+    /// How many infos it accepts at a time.
     pub peer_gossip_max_count: usize,
-    /// How far ahead the timestamp of an info may lie.
+    /// How far ahead the timestamp of an info may be.
     pub synchrony_bound: Duration,
     /// The namespace in which infos are signed.
     pub namespace: Vec<u8>,
 }
 
-/// What a node answers to a frame.
+/// What a node returns for a frame.
 #[derive(Debug, Drop)]
 pub enum Received {
-    /// A message on a channel, which is a cut of the frame. Nothing has changed.
+    /// A message on a channel, which is a slice of the frame. Nothing has changed.
     Data(Data),
     /// The info of a greeting was applied.
     Greeted,
-    /// A frame with the infos for one who knows the bits that came. Nothing has changed.
+    /// A frame with the infos for the bits that were received. Nothing has changed.
     Reply(Bytes),
-    /// All infos of the frame were applied, so many of them.
+    /// All infos of the frame were applied: their number.
     Applied(usize),
-    /// The frame spells no payload that the limits admit: its first fault. Nothing has changed.
+    /// The frame encodes no payload within the limits: its first error. Nothing has changed.
     Codec(CodecError),
-    /// The bits that came are of another number than the primary peers. Nothing has changed.
+    /// The number of bits that were received differs from the number of primary peers. Nothing has
+    /// changed.
     Malformed,
-    /// An info is refused, or their number. Nothing has changed.
+    /// An info or the number of infos is invalid. Nothing has changed.
     Invalid(Error),
-    /// Memory was refused. Nothing has changed.
+    /// An allocation failed. Nothing has changed.
     Memory,
 }
 
-/// The verdicts that were given are not as many as the infos of the frame. Nothing has changed.
+/// The number of verification results that were passed differs from the number of infos of the
+/// frame. Nothing has changed.
 #[derive(Clone, Copy, Debug, PartialEq, Eq)]
 pub struct Miscounted;
 
-/// A directory with what is held of its grants, by what infos are judged, and the limits under
-/// which frames are read. A contract sees these four. It must be spent, by
-/// [`Node::finish`] or [`Node::parts`].
+/// A directory with its open reservations, the verifier of infos, and the limits under which frames
+/// are read. A contract sees these four. It must be consumed by [`Node::finish`] or
+/// [`Node::parts`].
 pub struct Node<C: PublicKey> {
     endpoint: Endpoint<C>,
 }
@@ -100,8 +102,8 @@ impl<C: PublicKey> Model for Node<C> {
 }
 
 impl<C: PublicKey> Node<C> {
-    /// A node of this setup: its directory is new, nothing is held, and the infos that it receives
-    /// are judged by the key of its own info.
+    /// A node of this setup: its directory is new, it holds no reservation, and its verifier of
+    /// infos has the key of the local info.
     ///
     /// # Conditions
     ///
@@ -110,11 +112,11 @@ impl<C: PublicKey> Node<C> {
     ///
     /// # Errors
     ///
-    /// `AllocError` where memory is refused.
+    /// `AllocError` if an allocation fails.
     ///
     /// # Cost
     ///
-    /// That of [`Directory::init`], and one pass over the spelling of the own info.
+    /// That of [`Directory::init`], and one pass over the encoding of the local info.
     pub fn new(alloc: Global, setup: Setup<C>) -> Result<Self, AllocError>
         requires sets { non_zero_usize_get setup.cfg.max_sets < 2 ^ 64 - 1 }
         requires bits { setup.payload.max_bit_vec < 2 ^ 32 }
@@ -131,7 +133,7 @@ impl<C: PublicKey> Node<C> {
             synchrony_bound,
             namespace,
         } = setup;
-        // For the proof: the own info has a spelling.
+        // For the proof: the local info has an encoding.
         let _greeting = myself.encode(alloc)?;
         let me = myself.public_key;
         let directory = Directory::init(alloc, bootstrappers, myself, cfg)?;
@@ -142,11 +144,11 @@ impl<C: PublicKey> Node<C> {
         })
     }
 
-    /// Serves one command, as [`run`](crate::run::run) does: what is granted is held, and a command
-    /// that is replied `NotReserved`, `NotHeld` or `OutOfMemory` changes nothing.
+    /// Serves one command, as [`run`](crate::run::run) does: a granted reservation is held, and a
+    /// command whose reply is `NotReserved`, `NotHeld` or `OutOfMemory` changes nothing.
     ///
-    /// Room for a reservation is taken before a `Dial` or a `Listen`, so both may be replied
-    /// `OutOfMemory` where that is refused.
+    /// Space for a reservation is allocated before a `Dial` or a `Listen`, so the reply to both may
+    /// be `OutOfMemory` if that fails.
     ///
     /// # Examples
     ///
@@ -154,8 +156,8 @@ impl<C: PublicKey> Node<C> {
     ///
     /// # Cost
     ///
-    /// That of the call. For a `Dial`, a `Listen` and a `Release` also some searches in what is held,
-    /// and for a `Connect` one of the records, as [`Node::connect`] says.
+    /// That of the call. For a `Dial`, a `Listen` and a `Release` also some searches among the
+    /// reservations, and for a `Connect` one among the records, as [`Node::connect`] says.
     pub fn step(&mut self, command: Command<C>) -> Reply<C>
         ensures stepped { IsStepped C.cmp command result self.old self.new }
         ensures unchanged { was_made result ≡ false → self.new ≡ self.old }
@@ -165,9 +167,9 @@ impl<C: PublicKey> Node<C> {
         self.endpoint.step(command)
     }
 
-    /// Takes a peer set, as [`Node::step`] of `Command::Track` does. No more peers are torn down than
-    /// there are records, but for that of the local node, so whoever has room for so many keys has
-    /// room for the answer.
+    /// Registers a peer set, as [`Node::step`] of `Command::Track` does. It returns no more peers
+    /// than there are records without that of the local node, so a buffer for so many keys is long
+    /// enough for the result.
     ///
     /// # Cost
     ///
@@ -182,14 +184,14 @@ impl<C: PublicKey> Node<C> {
         self.endpoint.track(index, peers)
     }
 
-    /// Reserves the peer for a dial at the moment `now`, a time since the epoch, with the draw of its
-    /// jitter, as [`Node::step`] of `Command::Dial` does: what is granted is held, and want of memory
-    /// is `Reply::OutOfMemory`.
+    /// Reserves the peer for a dial at the time `now`, a duration since the epoch, with the draw
+    /// for its jitter, as [`Node::step`] of `Command::Dial` does. A granted reservation is held. If
+    /// an allocation fails, it returns `Reply::OutOfMemory`.
     ///
     /// # Cost
     ///
-    /// That of [`Directory::dial`], and three searches in what is held where it is granted; else two
-    /// where one is held of the peer already, and four where none is.
+    /// That of [`Directory::dial`], and three searches among the reservations if it is granted;
+    /// otherwise two if one of the peer is held already, and four if none is.
     pub fn dial(&mut self, peer: &C, now: Duration, draw: Duration) -> Reply<C>
         ensures stepped { IsStepped C.cmp (Command.Dial peer.now now draw) result
             self.old self.new }
@@ -200,14 +202,14 @@ impl<C: PublicKey> Node<C> {
         self.endpoint.dial(peer, now, draw)
     }
 
-    /// Reserves the peer that comes at the moment `now`, a time since the epoch, with the draw of its
-    /// jitter, as [`Node::step`] of `Command::Listen` does: what is granted is held, and want of
-    /// memory is `Reply::OutOfMemory`.
+    /// Reserves an inbound peer at the time `now`, a duration since the epoch, with the draw for
+    /// its jitter, as [`Node::step`] of `Command::Listen` does. A granted reservation is held. If
+    /// an allocation fails, it returns `Reply::OutOfMemory`.
     ///
     /// # Cost
     ///
-    /// That of [`Directory::listen`], and three searches in what is held where it is granted; else
-    /// two where one is held of the peer already, and four where none is.
+    /// That of [`Directory::listen`], and three searches among the reservations if it is granted;
+    /// otherwise two if one of the peer is held already, and four if none is.
     pub fn listen(&mut self, peer: &C, now: Duration, draw: Duration) -> Reply<C>
         ensures stepped { IsStepped C.cmp (Command.Listen peer.now now draw) result
             self.old self.new }
@@ -218,8 +220,8 @@ impl<C: PublicKey> Node<C> {
         self.endpoint.listen(peer, now, draw)
     }
 
-    /// Connects the peer, where it is reserved, as [`Node::step`] of `Command::Connect` does. Takes
-    /// no memory.
+    /// Connects the peer if it is reserved, as [`Node::step`] of `Command::Connect` does. It
+    /// doesn't allocate.
     ///
     /// # Cost
     ///
@@ -234,12 +236,12 @@ impl<C: PublicKey> Node<C> {
         self.endpoint.connect(peer, dialer)
     }
 
-    /// Releases the reservation of the peer, where one is held, as [`Node::step`] of
-    /// `Command::Release` does. Takes no memory.
+    /// Releases the reservation of the peer if one is held, as [`Node::step`] of `Command::Release`
+    /// does. It doesn't allocate.
     ///
     /// # Cost
     ///
-    /// A search in what is held, and that of [`Directory::release`].
+    /// A search among the reservations, and that of [`Directory::release`].
     pub fn release(&mut self, peer: &C) -> Reply<C>
         ensures stepped { IsStepped C.cmp (Command.Release peer.now) result self.old self.new }
         ensures unchanged { was_made result ≡ false → self.new ≡ self.old }
@@ -249,8 +251,8 @@ impl<C: PublicKey> Node<C> {
         self.endpoint.release(peer)
     }
 
-    /// Blocks the peer at the moment `now`, a time since the epoch, as [`Node::step`] of
-    /// `Command::Block` does: want of memory is `Reply::OutOfMemory`.
+    /// Blocks the peer at the time `now`, a duration since the epoch, as [`Node::step`] of
+    /// `Command::Block` does. If an allocation fails, it returns `Reply::OutOfMemory`.
     ///
     /// # Cost
     ///
@@ -264,9 +266,9 @@ impl<C: PublicKey> Node<C> {
         self.endpoint.block(peer, now)
     }
 
-    /// Ends the blocks that hold until the moment `now`, a time since the epoch, or until an earlier
-    /// one, and says whether there were any: what [`Node::step`] replies to
-    /// `Command::UnblockExpired`. Takes no memory.
+    /// Ends the blocks that hold until the time `now`, a duration since the epoch, or until an
+    /// earlier time, and returns whether there were any, as [`Node::step`] replies to
+    /// `Command::UnblockExpired`. It doesn't allocate.
     ///
     /// # Cost
     ///
@@ -280,9 +282,9 @@ impl<C: PublicKey> Node<C> {
         self.endpoint.unblock_expired(now)
     }
 
-    /// Forgets the cooldowns whose dial moment is at or before the moment `now`, a time since the
-    /// epoch, and says how many: what [`Node::step`] replies to `Command::ForgetCooled`. Takes no
-    /// memory.
+    /// Forgets the cooldowns whose dial time is at or before the time `now`, a duration since the
+    /// epoch, and returns how many, as [`Node::step`] replies to `Command::ForgetCooled`. It
+    /// doesn't allocate.
     ///
     /// # Cost
     ///
@@ -296,8 +298,8 @@ impl<C: PublicKey> Node<C> {
         self.endpoint.forget_cooled(now)
     }
 
-    /// The least moment until which a block holds, a time since the epoch: what [`Node::step`]
-    /// replies to `Command::NextUnblock`. Takes no memory, and changes nothing.
+    /// When the first block ends, a duration since the epoch, as [`Node::step`] replies to
+    /// `Command::NextUnblock`. It doesn't allocate, and changes nothing.
     ///
     /// # Cost
     ///
@@ -308,8 +310,8 @@ impl<C: PublicKey> Node<C> {
         self.endpoint.next_unblock()
     }
 
-    /// The index of the latest set: what [`Node::step`] replies to `Command::LatestSetIndex`. Takes
-    /// no memory, and changes nothing.
+    /// The index of the latest set, as [`Node::step`] replies to `Command::LatestSetIndex`. It
+    /// doesn't allocate, and changes nothing.
     ///
     /// # Cost
     ///
@@ -321,9 +323,8 @@ impl<C: PublicKey> Node<C> {
         self.endpoint.latest_set_index()
     }
 
-    /// Whether the peer is connected, or `None` where there is no record of it: what [`Node::step`]
-    /// replies to `Command::Status`.
-    /// Takes no memory, and changes nothing.
+    /// Whether the peer is connected, or `None` if there is no record of it, as [`Node::step`]
+    /// replies to `Command::Status`. It doesn't allocate, and changes nothing.
     ///
     /// # Cost
     ///
@@ -335,9 +336,8 @@ impl<C: PublicKey> Node<C> {
         self.endpoint.status(peer)
     }
 
-    /// Whether the peer may be connected at the moment `now`, a time since the epoch: what
-    /// [`Node::step`] replies to `Command::Eligible`.
-    /// Takes no memory, and changes nothing.
+    /// Whether the peer may be connected at the time `now`, a duration since the epoch, as
+    /// [`Node::step`] replies to `Command::Eligible`. It doesn't allocate, and changes nothing.
     ///
     /// # Cost
     ///
@@ -349,9 +349,9 @@ impl<C: PublicKey> Node<C> {
         self.endpoint.eligible(peer, now)
     }
 
-    /// Whether a connection of the peer may be accepted at the moment `now`, a time since the epoch:
-    /// what [`Node::step`] replies to `Command::Acceptable`.
-    /// Takes no memory, and changes nothing.
+    /// Whether an inbound connection of the peer may be accepted at the time `now`, a duration
+    /// since the epoch, as [`Node::step`] replies to `Command::Acceptable`. It doesn't allocate,
+    /// and changes nothing.
     ///
     /// # Cost
     ///
@@ -363,9 +363,8 @@ impl<C: PublicKey> Node<C> {
         self.endpoint.acceptable(peer, now)
     }
 
-    /// How many peers have a record, but for the local node: what [`Node::step`] replies to
-    /// `Command::Tracked`.
-    /// Takes no memory, and changes nothing.
+    /// How many peers have a record, not counting the local node, as [`Node::step`] replies to
+    /// `Command::Tracked`. It doesn't allocate, and changes nothing.
     ///
     /// # Cost
     ///
@@ -383,12 +382,12 @@ impl<C: PublicKey> Node<C> {
         self.endpoint.directory()
     }
 
-    /// The frame that asks for what is wanted of the retained set at a place, counted from 0 in
-    /// order of index: the spelling of its bits. `None` where there is no such place.
+    /// The frame that asks for the wanted infos of the retained set at a position, counted from 0
+    /// in order of index: the encoding of its bits. `None` if there is no such position.
     ///
     /// # Errors
     ///
-    /// `AllocError` where memory is refused; that is, where there is such a place.
+    /// `AllocError` if an allocation fails. It allocates only if there is such a position.
     ///
     /// # Cost
     ///
@@ -404,25 +403,25 @@ impl<C: PublicKey> Node<C> {
         self.endpoint.ask(place)
     }
 
-    /// Takes a frame at the moment `now`, a time since the epoch, and answers it.
+    /// Processes a frame that was received at the time `now`, a duration since the epoch.
     ///
-    /// The frame is read under the limits of the node. The info of a greeting is judged by
+    /// The frame is read under the limits of the node. The info of a greeting is verified by
     /// [`validate_info`](p2p_discovery::discovery::InfoVerifier::validate_info), and then applied.
-    /// Bits are answered with the spelling of the infos that [`Directory::infos`] gives for them,
-    /// also where there are none. Infos are judged by
+    /// Bits are answered with the encoding of the infos that [`Directory::infos`] returns for them,
+    /// even if there are none. Infos are verified by
     /// [`validate`](p2p_discovery::discovery::InfoVerifier::validate), all of them, before any is
     /// applied. Infos are applied by [`Directory::update_peers`].
     ///
-    /// All but `Greeted` and `Applied` leave the node as it was. `Memory` is answered only where
-    /// memory was refused: for a message, a name, bits or infos of the frame, for a greeting that
+    /// All but `Greeted` and `Applied` leave the node as it was. `Memory` is returned only if an
+    /// allocation failed: for a message, a name, bits or infos of the frame, for a greeting that
     /// would be applied, and for a reply.
     ///
-    /// Infos may come late, and more than once. Where each is signed in the namespace of the node
-    /// and of another key, and none has a timestamp above the milliseconds of a moment that is at
-    /// most the bound ahead, a frame of so many as the limit and the count admit is `Applied`,
-    /// unless memory is refused. Afterwards the info of each of their peers that has a record is at
-    /// least as new; where all were so before, nothing changes, and nothing by a copy that follows
-    /// at once.
+    /// Infos may arrive late, and more than once. A frame of infos is `Applied`, unless an
+    /// allocation fails, if each is signed in the namespace of the node and of another key, none
+    /// has a timestamp above the milliseconds of a time that is at most the bound ahead, and their
+    /// number is within the limit and the count. Afterwards the info of each of their peers that
+    /// has a record is at least as new. If all were so before, nothing changes; nor does anything
+    /// by a copy that follows at once.
     ///
     /// # Examples
     ///
@@ -430,7 +429,7 @@ impl<C: PublicKey> Node<C> {
     ///
     /// # Cost
     ///
-    /// One pass over the frame, one signature judged for each info, and the cost of the call.
+    /// One pass over the frame, one signature verified for each info, and the cost of the call.
     pub fn receive(&mut self, frame: Bytes, now: Duration) -> Received
         ensures seen { AnswersFrame C.cmp (wire_of C.SIZE C.spelled C.value
             C.Signature.SIZE C.Signature.spelled C.Signature.value C.verifies)
@@ -450,15 +449,15 @@ impl<C: PublicKey> Node<C> {
         self.endpoint.answer(frame, now)
     }
 
-    /// Takes a frame at the moment `now` as [`Node::receive`] does, given whether the signature of
-    /// each of its infos is right, in the order of the frame: no signature is judged here. A
-    /// greeting has one info, bits and data have none. All is answered as where these were the
-    /// values of [`PublicKey::verify`].
+    /// Processes a frame that was received at the time `now` as [`Node::receive`] does, given
+    /// whether the signature of each of its infos is valid, in the order of the frame. No signature
+    /// is verified here. A greeting has one info, bits and data have none. The result is the one of
+    /// [`Node::receive`] if [`PublicKey::verify`] returned these values.
     ///
     /// # Errors
     ///
-    /// `Miscounted` where the frame spells a payload with another number of infos than there are
-    /// verdicts. Nothing has changed.
+    /// `Miscounted` if the number of infos of the payload that the frame encodes differs from the
+    /// number of verification results. Nothing has changed.
     ///
     /// # Cost
     ///
@@ -491,7 +490,8 @@ impl<C: PublicKey> Node<C> {
         self.endpoint.answer_by(frame, now, verdicts)
     }
 
-    /// The payload that a frame spells, as [`Node::receive`] reads it: under the limits of the node.
+    /// The payload that a frame encodes, as [`Node::receive`] reads it: under the limits of the
+    /// node.
     ///
     /// # Errors
     ///
@@ -507,7 +507,7 @@ impl<C: PublicKey> Node<C> {
         self.endpoint.read_frame(frame)
     }
 
-    /// By what infos are judged.
+    /// The verifier of infos.
     pub fn verifier(&self) -> &InfoVerifier<C>
         ensures { result.now ≡ self.now.verifier }
     {
@@ -521,25 +521,25 @@ impl<C: PublicKey> Node<C> {
         self.endpoint.limits()
     }
 
-    /// Whom the reservation of the peer is for, and in which direction, or `None` where none is
-    /// held. Takes no memory.
+    /// Whom the reservation of the peer is for, and who dials, or `None` if none is held. It
+    /// doesn't allocate.
     ///
     /// # Cost
     ///
-    /// Logarithmic in what is held.
+    /// Logarithmic in the number of reservations.
     pub fn held(&self, peer: &C) -> Option<&Metadata<C>>
         ensures { option_map (λ m. m.now) result ≡ held_of C.cmp self.now.held peer.now }
     {
         self.endpoint.held(peer)
     }
 
-    /// The directory, and the reservations that it granted and that were not released: they are
-    /// those of exactly the peers that are reserved or connected. Takes no memory.
+    /// The directory, and the reservations that it granted and that were not released. They are
+    /// those of exactly the peers that are reserved or connected. It doesn't allocate.
     ///
     /// # Cost
     ///
-    /// Constant; of a node of a pair or a network that was run one step more for each peer of whom
-    /// none is held before the first of whom one is.
+    /// Constant. For a node of a pair or a network that was run, one step more for each peer
+    /// without a reservation before the first that has one.
     pub fn parts(self) -> (Directory<C>, Held<C>)
         ensures directory { result.0 ≡ self.directory }
         ensures held { (q : C) → held_of C.cmp result.1 q ≡ held_of C.cmp self.held q }
@@ -549,7 +549,7 @@ impl<C: PublicKey> Node<C> {
         endpoint.into_parts()
     }
 
-    /// Releases all that is held, and answers the directory. Takes no memory.
+    /// Releases all reservations, and returns the directory. It doesn't allocate.
     ///
     /// # Cost
     ///

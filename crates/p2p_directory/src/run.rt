@@ -38,50 +38,49 @@ pub(crate) mod server;
 pub(crate) mod slots;
 
 /// Makes a directory and serves the commands in turn. Each reply is that of the call, by what was
-/// called before it; a command that is replied `NotReserved`, `NotHeld` or `OutOfMemory` is as not
-/// given.
+/// called before it. A command whose reply is `NotReserved`, `NotHeld` or `OutOfMemory` has no
+/// effect.
 ///
-/// Room for all replies and all reservations is taken before the first command, so only these may
-/// be replied `OutOfMemory`: a `Track` whose set and a `Block` that would be taken, a `Dial` and a
-/// `Listen` that would be granted, an `Info` of a peer whose info may be told, an `Infos` where an
-/// info is shared, a `GetRandomBitVec` of a place that there is, a `GetPeerSet` of a set with a
-/// peer, `LatestUpdate` and `All` where some retained set has a peer, and `BlockedPeers` and
-/// `Dialable` where somebody is listed.
+/// Space for all replies and all reservations is allocated before the first command, so only these
+/// may get `OutOfMemory`: a `Track` whose set and a `Block` that would be accepted, a `Dial` and a
+/// `Listen` that would be granted, an `Info` of a peer whose info may be shared, an `Infos` if an
+/// info is shared, a `GetRandomBitVec` of a position that exists, a `GetPeerSet` of a set with a
+/// peer, `LatestUpdate` and `All` if some retained set has a peer, and `BlockedPeers` and
+/// `Dialable` if they list a peer.
 ///
-/// The replies keep these rules. Moments are durations since the epoch, exact to the nanosecond; a
-/// moment and a duration make at most the greatest `Duration`.
+/// The replies keep these rules. Times are durations since the epoch, exact to the nanosecond; the
+/// sum of a time and a duration is capped at `Duration::MAX`.
 ///
 /// - Cooldown: each grant of a peer, for a `Dial` or a `Listen`, comes no earlier than
-///   `peer_connection_cooldown` after the grant of it before, also where there was no record of the
-///   peer in between. So it is where no `ForgetCooled` between the two comes at or after the dial
-///   moment of the first, and also, whatever was forgotten, as long as the moments of all `Dial`,
-///   `Listen`, `Block`, `UnblockExpired` and `ForgetCooled` never go back.
-/// - Blocks: as long as these moments never go back, whatever the commands are replied, a peer whose
-///   block was taken is granted by no later command before the block's end, `block_duration` after
-///   its moment, also where there was no record of the peer in between. Whether moments go back or
-///   not, each grant of a peer, and each further block, comes no earlier than the end of its last
-///   block, unless an `UnblockExpired` at that end or later came in between.
-/// - Dials: directly after a reply to `Dialable` at a moment, `Dial` commands at that moment of the
+///   `peer_connection_cooldown` after the grant of it before, even if there was no record of the
+///   peer in between. This holds if no `ForgetCooled` between the two comes at or after the dial
+///   time of the first. It also holds, whatever was forgotten, as long as the times of all `Dial`,
+///   `Listen`, `Block`, `UnblockExpired` and `ForgetCooled` never go backwards.
+/// - Blocks: as long as these times never go backwards, whatever the replies are, a peer whose
+///   block was accepted is granted by no later command before the block's end, `block_duration`
+///   after its time, even if there was no record of the peer in between. Whether times go backwards
+///   or not, each grant of a peer, and each further block, comes no earlier than the end of its
+///   last block, unless an `UnblockExpired` at that end or later came in between.
+/// - Dials: directly after a reply to `Dialable` at some time, `Dial` commands at that time of the
 ///   peers that it lists, each once, one after the other and in any order, are all granted, unless
-///   replied `OutOfMemory`.
-/// - Quiet time: as long as only questions follow a reply to `Dialable`, `Dialable` at the same
-///   moment or later, but before `next_query_at` where there is one, is replied the same peers and
-///   the same `next_query_at`, unless replied `OutOfMemory`. A question is a command that changes
-///   nothing: `NextUnblock`, `BlockedPeers`, `Status`, `GetPeerSet`, `LatestUpdate`,
-///   `LatestSetIndex`, `All`, `Info`, `Infos`, `GetRandomBitVec`, `Eligible`, `Acceptable`,
-///   `Dialable` and `Tracked`.
+///   the reply is `OutOfMemory`.
+/// - Quiet time: as long as only queries follow a reply to `Dialable`, `Dialable` at the same time
+///   or later, but before `next_query_at` if there is one, gets the same peers and the same
+///   `next_query_at`, unless the reply is `OutOfMemory`. A query is a command that changes nothing:
+///   `NextUnblock`, `BlockedPeers`, `Status`, `GetPeerSet`, `LatestUpdate`, `LatestSetIndex`,
+///   `All`, `Info`, `Infos`, `GetRandomBitVec`, `Eligible`, `Acceptable`, `Dialable` and `Tracked`.
 /// - Isolation: leave out of the commands accepted so far those that dial, listen for, connect,
-///   release or block another peer than one, and out of each `UpdatePeers` the infos of others. All
-///   that is kept of the one peer is the same, and so are the replies to the commands that name it
+///   release or block a peer other than one, and out of each `UpdatePeers` the infos of others. All
+///   that is known of the one peer is the same. So are the replies to the commands that name it
 ///   alone, and whether `Track` and `Dialable` list it.
-/// - Order: infos of one `UpdatePeers`, or of several that follow each other directly, may be given
-///   in any order, and by other `UpdatePeers` in their place, where no two are of one peer with one
-///   timestamp: all that is kept is the same after them, and so are all later replies.
-/// - Bounds: where each set that was taken names at most n distinct peers, the peers with a record
-///   are at most `n * max_sets`, beside the local node, the bootstrappers, and the peers that are
-///   not `Inert` and that no retained set names. `Tracked` is replied no greater number.
+/// - Order: infos of one `UpdatePeers`, or of several that follow each other directly, may be
+///   passed in any order, and by other `UpdatePeers` instead, if no two are of one peer with the
+///   same timestamp. The state is the same after them, and so are all later replies.
+/// - Bounds: if each registered set names at most n distinct peers, the peers with a record are at
+///   most `n * max_sets`, in addition to the local node, the bootstrappers, and the peers that are
+///   not `Inert` and in no retained set. `Tracked` gets no greater number.
 ///
-/// What is left is given back by [`Run::finish`].
+/// The result is consumed by [`Run::finish`].
 ///
 /// # Conditions
 ///
@@ -89,7 +88,7 @@ pub(crate) mod slots;
 ///
 /// # Errors
 ///
-/// `AllocError` where memory is refused before the first command.
+/// `AllocError` if an allocation fails before the first command.
 ///
 /// # Cost
 ///
@@ -147,7 +146,7 @@ pub fn run<C: PublicKey>(
     Ok(server.into_run(replies))
 }
 
-// A slot for each peer that the commands may be granted a reservation of.
+// A slot for each peer of which the commands may be granted a reservation.
 fn slots_for<C: PublicKey>(alloc: Global, commands: &[Command<C>]) -> Result<Slots<C>, AllocError>
     ensures room { IfOk result (λ slots. AllPass (has_slot_for C.cmp slots) commands.now) }
     ensures empty { IfOk result (λ slots. (q : C) → held_in C.cmp slots q ≡ None) }
@@ -156,7 +155,7 @@ fn slots_for<C: PublicKey>(alloc: Global, commands: &[Command<C>]) -> Result<Slo
     Slots::of_peers(alloc, peers)
 }
 
-// The peers that the commands may be granted a reservation of.
+// The peers of which the commands may be granted a reservation.
 fn reserved_peers<C: PublicKey>(
     alloc: Global,
     commands: &[Command<C>],
@@ -172,7 +171,7 @@ fn reserved_peers<C: PublicKey>(
     Ok(peers)
 }
 
-// The peer that the command may be granted a reservation of, if there is one.
+// The peer of which the command may be granted a reservation, if there is one.
 fn reserved_peer<C: PublicKey>(command: &Command<C>) -> Option<C>
     ensures { result ≡ reserved_peer command.now }
 {
@@ -182,7 +181,7 @@ fn reserved_peer<C: PublicKey>(command: &Command<C>) -> Option<C>
     }
 }
 
-// A slot for the peer that the command may be granted a reservation of, if there is one.
+// Makes a slot for the peer of which the command may be granted a reservation, if there is one.
 fn make_slot<C: PublicKey>(slots: &mut Slots<C>, command: &Command<C>) -> Result<(), AllocError>
     ensures err { OnErr result (slots.new ≡ slots.old) }
     ensures reserves { OnErr result (may_reserve (call_of command.now) ≡ true) }

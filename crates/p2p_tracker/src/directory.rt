@@ -48,9 +48,9 @@ pub struct Config {
     pub allow_dns: bool,
     /// How many peer sets are retained.
     pub max_sets: NonZeroUsize,
-    /// After how many failed dials a peer's info is asked for again.
+    /// After how many failed dials a peer's info is requested again.
     pub dial_fail_limit: usize,
-    /// The least time between two reservations of one peer.
+    /// The minimum time between two reservations of one peer.
     pub peer_connection_cooldown: Duration,
     /// How long a block lasts.
     pub block_duration: Duration,
@@ -74,7 +74,7 @@ impl<C: PublicKey> TrackedPeers<C> {
     }
 }
 
-/// What is told of the latest set: its index and its peers, and the peers of all retained sets.
+/// The latest set with its index and peers, and the peers of all retained sets.
 #[derive(Debug, Drop)]
 pub struct PeerSetUpdate<C: PublicKey> {
     /// The index of the latest set.
@@ -85,12 +85,12 @@ pub struct PeerSetUpdate<C: PublicKey> {
     pub all: TrackedPeers<C>,
 }
 
-/// Whom a reservation is for, and in which direction the connection goes.
+/// Whom a reservation is for, and who dials.
 #[derive(Drop)]
 pub enum Metadata<P: PublicKey> {
     /// The peer is dialled at this address.
     Dialer(P, Ingress),
-    /// The peer comes.
+    /// The peer is inbound.
     Listener(P),
 }
 
@@ -108,8 +108,8 @@ impl<P: PublicKey> Metadata<P> {
     }
 }
 
-/// The leave to connect with a peer. It is made by the directory alone and has to be given back to
-/// it, by [`Directory::release`].
+/// Permission to connect to a peer. Only the directory makes one, and [`Directory::release`] must
+/// take it back.
 pub struct Reservation<P: PublicKey> {
     metadata: Metadata<P>,
 }
@@ -123,7 +123,7 @@ impl<P: PublicKey> Model for Reservation<P> {
 }
 
 impl<P: PublicKey> Reservation<P> {
-    /// Whom the reservation is for, and in which direction.
+    /// Whom the reservation is for, and who dials.
     pub fn metadata(&self) -> &Metadata<P>
         ensures { result.now ≡ self.now }
     {
@@ -131,9 +131,10 @@ impl<P: PublicKey> Reservation<P> {
     }
 }
 
-/// The directory of peers. A contract sees its configuration, its retained sets, the oldest first,
-/// and for each key what is kept of the peer, its record or nothing, until when it is blocked, if
-/// it is, and the moments of its last grant, if there was one and it isn't forgotten.
+/// The directory of peers. A contract sees its configuration and its retained sets, the oldest
+/// first. For each key it sees the record, if there is one, until when the peer is blocked, if it
+/// is, and its cooldown. The cooldown has the times from which the peer may be reserved and dialled
+/// again after its last grant. There is none if no grant was made or it is forgotten.
 #[derive(Drop)]
 pub struct Directory<C: PublicKey> {
     alloc: Global,
@@ -177,17 +178,17 @@ impl<C: PublicKey> Directory<C> {
     ghost use Rattle.p2p_tracker.specs.Directory.{other_keys};
     ghost use Rattle.p2p_tracker.specs.Directory.{may_listen_in, may_dial_in, ingress_in};
 
-    /// A directory that retains no set and blocks nobody. Its records are the own one and those of
-    /// the bootstrappers: a later bootstrapper of the same key replaces an earlier one, and the own
-    /// record one of its key.
+    /// A directory that retains no set and blocks nobody. It has a record of the local node and one
+    /// of each bootstrapper. If a key occurs twice among the bootstrappers, the later one counts;
+    /// the local node's record replaces one with its key.
     ///
     /// # Conditions
     ///
-    /// `cfg.max_sets` is below the greatest `usize`.
+    /// `cfg.max_sets` is below `usize::MAX`.
     ///
     /// # Errors
     ///
-    /// `AllocError` where memory is refused.
+    /// `AllocError` if an allocation fails.
     ///
     /// # Cost
     ///
@@ -219,17 +220,17 @@ impl<C: PublicKey> Directory<C> {
         })
     }
 
-    /// Takes a peer set, where its index is above that of each set that was taken before: it is
-    /// counted for its peers, and then the oldest retained set goes, where there is one too many.
-    /// A peer in both roles is primary only.
+    /// Registers a peer set if its index is above that of each set registered before. It is counted
+    /// for its peers; then the oldest retained set is dropped if there is one too many. A peer in
+    /// both roles is primary only.
     ///
-    /// Answers `None`, takes no memory and changes nothing where the index is not above. Else it
-    /// answers the peers whose connections have to end: those that are reserved or connected, were
-    /// eligible and are no longer. Whoever is reserved or connected stays so.
+    /// If the index isn't above, it returns `None`, doesn't allocate and changes nothing. Otherwise
+    /// it returns the peers that must be disconnected: those that are reserved or connected, were
+    /// eligible and no longer are. Whoever is reserved or connected stays so.
     ///
     /// # Errors
     ///
-    /// `AllocError` where memory is refused; then nothing has changed.
+    /// `AllocError` if an allocation fails; then nothing has changed.
     ///
     /// # Examples
     ///
@@ -238,13 +239,17 @@ impl<C: PublicKey> Directory<C> {
     ///
     /// # Cost
     ///
-    /// Constant where the index is not above. Else one search of the new set's primary peers for
-    /// each of its secondary ones; one search among the records for each peer of the new set, and one
-    /// among the kept moments for each that has no record yet; two walks along the places of the
-    /// primary peers of all retained sets, and one more where a set goes. For the set that goes, and
-    /// each role of its peers: two walks along the records, or where there are more than about five
-    /// for each of the peers, one search among them for each, and one more for each record that goes
-    /// with it; and one sort of the answer.
+    /// Constant if the index isn't above. Otherwise:
+    ///
+    /// - one search of the new set's primary peers for each of its secondary ones;
+    /// - one search among the records for each peer of the new set, and one among the cooldowns for
+    ///   each that has no record yet;
+    /// - two walks along the positions of the primary peers of all retained sets, and one more if a
+    ///   set is dropped;
+    /// - for each role of a set that is dropped: two walks along the records, or, if these are more
+    ///   than about five times as many as its peers, one search for each peer and one more for each
+    ///   record that is removed;
+    /// - one sort of the result.
     pub fn track(
         &mut self,
         index: u64,
@@ -274,20 +279,20 @@ impl<C: PublicKey> Directory<C> {
         Ok(Some(drop_oldest(&mut self.sets, &mut self.records, max_sets, torn)))
     }
 
-    /// Reserves the peer for a dial at the moment `now`, a time since the epoch, at the address
-    /// that is known of it.
+    /// Reserves the peer for a dial at the time `now`, a duration since the epoch, at its known
+    /// address.
     ///
-    /// Answers `None`, takes no memory and changes nothing where the peer is blocked or has no
+    /// Returns `None`, doesn't allocate and changes nothing if the peer is blocked or has no
     /// record, its dial status is [`Unavailable`](crate::record::DialStatus::Unavailable), or `now`
-    /// is before its reservable moment. The dial moment is not asked for. Else the peer is reserved
-    /// and its moments are set as by [`Record::reserve`](crate::record::Record::reserve), with the
-    /// draw. They are kept until [`Directory::forget_cooled`] forgets them, also where the record
-    /// goes. The reservation has the very address that is to be dialled. Whoever is reserved or
-    /// connected stays so.
+    /// is before its reservable time. The dial time isn't considered. Otherwise the peer is
+    /// reserved, and its reservable and dial times are set as by
+    /// [`Record::reserve`](crate::record::Record::reserve), with this draw. They are kept until
+    /// [`Directory::forget_cooled`] forgets them, even if the record is removed. The reservation
+    /// has the address to dial. Whoever is reserved or connected stays so.
     ///
     /// # Errors
     ///
-    /// `AllocError` where memory is refused, for that address or for the moments; then nothing has
+    /// `AllocError` if the allocation for that address or for the times fails; then nothing has
     /// changed.
     ///
     /// # Examples
@@ -296,8 +301,8 @@ impl<C: PublicKey> Directory<C> {
     ///
     /// # Cost
     ///
-    /// One search among the blocks, where the peer is not blocked one among the records, and where
-    /// it is reserved one among the kept moments.
+    /// One search among the blocks; if the peer isn't blocked, one among the records; and if it is
+    /// reserved, one among the cooldowns.
     pub fn dial(
         &mut self,
         peer: &C,
@@ -333,19 +338,18 @@ impl<C: PublicKey> Directory<C> {
         }
     }
 
-    /// Reserves the peer for a connection that it asks for at the moment `now`, a time since the
-    /// epoch.
+    /// Reserves the peer for an inbound connection at the time `now`, a duration since the epoch.
     ///
-    /// Answers `None`, takes no memory and changes nothing where the peer is blocked or has no
-    /// record, it is not eligible, not inert, or `now` is before its reservable moment. Else the
-    /// peer is reserved and its moments are set as by
-    /// [`Record::reserve`](crate::record::Record::reserve), with the draw. They are kept until
-    /// [`Directory::forget_cooled`] forgets them, also where the record goes. Whoever is reserved
-    /// or connected stays so.
+    /// Returns `None`, doesn't allocate and changes nothing if the peer is blocked or has no
+    /// record, it is not eligible, not inert, or `now` is before its reservable time. Otherwise the
+    /// peer is reserved, and its reservable and dial times are set as by
+    /// [`Record::reserve`](crate::record::Record::reserve), with this draw. They are kept until
+    /// [`Directory::forget_cooled`] forgets them, even if the record is removed. Whoever is
+    /// reserved or connected stays so.
     ///
     /// # Errors
     ///
-    /// `AllocError` where memory for the moments is refused; then nothing has changed.
+    /// `AllocError` if the allocation for the times fails; then nothing has changed.
     ///
     /// # Examples
     ///
@@ -354,8 +358,8 @@ impl<C: PublicKey> Directory<C> {
     ///
     /// # Cost
     ///
-    /// One search among the blocks, where the peer is not blocked one among the records, and where
-    /// it is reserved one among the kept moments.
+    /// One search among the blocks; if the peer isn't blocked, one among the records; and if it is
+    /// reserved, one among the cooldowns.
     pub fn listen(
         &mut self,
         peer: &C,
@@ -387,19 +391,20 @@ impl<C: PublicKey> Directory<C> {
         }))
     }
 
-    /// Takes a reservation back: its peer is inert, a dialler's counts a failure at the address
-    /// that was dialled, and a record that is deletable then goes; the moments of its cooldown stay
-    /// kept. Every other peer that is reserved or connected stays so. Takes no memory.
+    /// Releases a reservation: its peer is inert. If it was for a dial, this counts one failure at
+    /// the address that was dialled. If the record is deletable then, it is removed; the cooldown
+    /// stays. Every other peer that is reserved or connected stays so. It doesn't allocate.
     ///
     /// # Conditions
     ///
-    /// The peer has a record that is not inert: the directory is one that granted the reservation.
+    /// The peer has a record that is not inert, as it has in the directory that granted the
+    /// reservation.
     ///
     /// # Cost
     ///
-    /// One search among the records, and one more where the record goes. Where the peer's info
-    /// comes to be wanted or not, one search among the places, and for each retained set that has
-    /// the peer as primary the search of that set by its index, and one bit.
+    /// One search among the records, and one more if the record is removed. If the peer's info
+    /// becomes wanted or is no longer wanted, one search among the positions, and for each retained
+    /// set that has the peer as primary the search of that set by its index, and one bit.
     pub fn release(&mut self, reservation: Reservation<C>)
         requires { IsBusy C.cmp self.old (key_of reservation) }
         ensures released { Releases C.cmp self.old self.new reservation }
@@ -414,9 +419,8 @@ impl<C: PublicKey> Directory<C> {
         self.sets.renew(metadata.public_key(), known);
     }
 
-    /// Connects a peer that is reserved, as its dialer or not: it is active, and where the local
-    /// node dialled it, its dials have not failed any more. Every other peer that is reserved or
-    /// connected stays so. Takes no memory.
+    /// Connects a reserved peer: it is active. If the local node dialled it, its failure count is
+    /// reset. Every other peer that is reserved or connected stays so. It doesn't allocate.
     ///
     /// # Conditions
     ///
@@ -424,9 +428,9 @@ impl<C: PublicKey> Directory<C> {
     ///
     /// # Cost
     ///
-    /// One search among the records. Where the peer's info comes to be wanted or not, one among the
-    /// places, and for each retained set that has the peer as primary the search of that set by its
-    /// index, and one bit.
+    /// One search among the records. If the peer's info becomes wanted or is no longer wanted, one
+    /// among the positions, and for each retained set that has the peer as primary the search of
+    /// that set by its index, and one bit.
     pub fn connect(&mut self, peer: &C, dialer: bool)
         requires { IsReserved C.cmp self.old peer.now }
         ensures connected { Connects C.cmp self.old self.new peer.now dialer }
@@ -439,16 +443,16 @@ impl<C: PublicKey> Directory<C> {
         self.sets.renew(peer, known);
     }
 
-    /// Offers infos to the records of their peers, in whichever order they stand: each peer's is
-    /// then the first of greatest timestamp among the one that was known and those of the list. One
-    /// that is new has not failed yet. That of the local node stays, and an info of a peer that has
-    /// no record is dropped. Whoever is reserved or connected stays so. Takes no memory.
+    /// Offers infos to the records of their peers. Of the known info of a peer and those in the
+    /// list, the record keeps the first with the greatest timestamp. A new one has no failures yet.
+    /// The local node's info stays, and an info of a peer that has no record is dropped. Whoever is
+    /// reserved or connected stays so. It doesn't allocate.
     ///
     /// # Cost
     ///
-    /// For each info one search among the records, and where the peer's info comes to be wanted or
-    /// not one among the places, and for each retained set that has the peer as primary the search
-    /// of that set by its index, and one bit.
+    /// For each info one search among the records. If the peer's info becomes wanted or is no
+    /// longer wanted, one among the positions, and for each retained set that has the peer as
+    /// primary the search of that set by its index, and one bit.
     pub fn update_peers(&mut self, infos: Vec<Info<C>>)
         ensures updated { Updates C.cmp self.old self.new infos.items }
         ensures busy { StayBusy C.cmp self.old self.new }
@@ -458,7 +462,7 @@ impl<C: PublicKey> Directory<C> {
         update_each(&mut self.sets, &mut self.records, infos, limit);
     }
 
-    /// How many peers have a record, but for the local node. Takes no memory.
+    /// How many peers have a record, not counting the local node. It doesn't allocate.
     ///
     /// # Cost
     ///
@@ -470,7 +474,7 @@ impl<C: PublicKey> Directory<C> {
         self.records.len() - 1
     }
 
-    /// Whether the peer is connected, or `None` where there is no record of it. Takes no memory.
+    /// Whether the peer is connected, or `None` if there is no record of it. It doesn't allocate.
     ///
     /// # Cost
     ///
@@ -484,7 +488,7 @@ impl<C: PublicKey> Directory<C> {
         }
     }
 
-    /// The allocator of its collections, for what is built from its answers.
+    /// The allocator of its collections, for what is built from its results.
     pub fn allocator(&self) -> Global {
         self.alloc
     }

@@ -1,4 +1,4 @@
-//! What is retained of peer sets, with a bit beside each primary peer. It knows nothing of records.
+//! The retained peer sets, with a bit for each primary peer. This module doesn't know of records.
 
 ghost use Rattle.std.specs.Prelude.{◌≡◌, ◌++◌, ◌∷◌, [], true, false, not, map, length, slice_get};
 ghost use Rattle.std.specs.Prelude.{IfNone, IfSome, IfOk, IfErr, OnErr, OnOk, None, Some};
@@ -30,11 +30,11 @@ pub mod blocks;
 pub mod cooldowns;
 pub mod places;
 
-/// Lets a value go. Its drop, which branches on what it holds, stands here and not in the caller.
+/// Drops a value. Its drop, which branches on the contents, is here and not in the caller.
 pub fn forget<T: Drop>(_value: T) {}
 
-/// Gives the key this value in place of the one that it may have, or leaves all as it was where
-/// memory is refused.
+/// Sets the value of the key, replacing any that it had. If an allocation fails, nothing has
+/// changed.
 pub fn put<C: PublicKey, V: Drop>(
     map: &mut BTreeMap<C, V>,
     key: C,
@@ -56,7 +56,7 @@ pub fn put<C: PublicKey, V: Drop>(
     }
 }
 
-/// Whether a peer's info is known, and not wanted, before a change and after it.
+/// Whether a peer's info is known and not wanted, before a change and after it.
 #[derive(Clone, Copy)]
 pub struct Known {
     pub before: bool,
@@ -135,7 +135,7 @@ impl<C: PublicKey> PeerSet<C> {
         &self.secondary
     }
 
-    /// Sets the bit of the primary peer at a place, if there is one.
+    /// Sets the bit of the primary peer at a position, if there is one.
     pub fn set_bit(&mut self, place: usize, known: bool)
         ensures { self.new ≡
             record self.old { primary = with_bit self.old.primary place known } }
@@ -144,7 +144,7 @@ impl<C: PublicKey> PeerSet<C> {
     }
 }
 
-/// The retained sets. A contract sees the list of them, with a bit beside each primary peer, in
+/// The retained sets. A contract sees the list of them, with a bit for each primary peer, in
 /// ascending order of their indices.
 #[derive(Drop)]
 pub struct Window<C: PublicKey> {
@@ -184,7 +184,7 @@ impl<C: PublicKey> Window<C> {
         self.sets.len()
     }
 
-    /// The set at a place, counted from 0 in order of index.
+    /// The set at a position, counted from 0 in order of index.
     pub fn at(&self, place: usize) -> Option<&PeerSet<C>>
         ensures { option_copied result ≡ slice_get self.now place }
     {
@@ -225,11 +225,12 @@ impl<C: PublicKey> Window<C> {
         }
     }
 
-    /// How many peers the oldest set has, where it goes when one more comes: there are `max` sets.
+    /// How many peers the oldest set has if adding one more drops it, that is, if there are `max`
+    /// sets.
     ///
     /// # Errors
     ///
-    /// `AllocError` where there are more than any list could hold.
+    /// `AllocError` if there are more than any list could hold.
     pub fn leaving_count(&self, max: usize) -> Result<usize, AllocError>
         ensures { IfOk result (λ count. count ≡ leaving_count max (plain_sets self.now)) }
     {
@@ -244,8 +245,8 @@ impl<C: PublicKey> Window<C> {
         }
     }
 
-    /// Takes in a set as the latest. Where memory is refused all is as it was, and the set comes
-    /// back.
+    /// Adds a set as the latest. If an allocation fails, nothing has changed, and the set is
+    /// returned.
     ///
     /// # Conditions
     ///
@@ -253,8 +254,8 @@ impl<C: PublicKey> Window<C> {
     ///
     /// # Cost
     ///
-    /// Two walks along the places of the primary peers of all retained sets, and along those of the
-    /// set at once.
+    /// Two walks along the positions of the primary peers of all retained sets, and along those of
+    /// the set together.
     pub fn push(&mut self, set: PeerSet<C>) -> Result<(), PeerSet<C>>
         requires { is_above set.index (latest_index (plain_sets self.old)) ≡ true }
         ensures ok { OnOk result (self.new ≡ self.old ++ set ∷ []) }
@@ -264,11 +265,11 @@ impl<C: PublicKey> Window<C> {
         push_set(&mut self.sets, &mut self.links, &mut self.places, set)
     }
 
-    /// Takes out the set with the least index. Takes no memory.
+    /// Removes the set with the lowest index. It doesn't allocate.
     ///
     /// # Cost
     ///
-    /// A walk along the places of the primary peers of all retained sets.
+    /// A walk along the positions of the primary peers of all retained sets.
     pub fn pop_first(&mut self) -> Option<PeerSet<C>>
         ensures sets { self.old ≡ option_to_list result ++ self.new }
         ensures none { IfNone result (length self.old ≡ 0) }
@@ -276,12 +277,12 @@ impl<C: PublicKey> Window<C> {
         pop_set(&mut self.sets, &mut self.links, &mut self.places)
     }
 
-    /// Sets the peer's bit in every set that has it as primary, and answers in how many. Takes no
-    /// memory.
+    /// Sets the peer's bit in every set that has it as primary, and returns in how many. It doesn't
+    /// allocate.
     ///
     /// # Cost
     ///
-    /// One search among the places, and for each set that has the peer as primary the search of
+    /// One search among the positions, and for each set that has the peer as primary the search of
     /// that set by its index, and one bit, and one such search more. No other set is looked at, and
     /// no list of peers is searched.
     pub fn refresh(&mut self, peer: &C, known: bool) -> usize
@@ -291,8 +292,8 @@ impl<C: PublicKey> Window<C> {
         refresh_places(&mut self.sets, &self.links, &self.places, peer, known)
     }
 
-    /// Sets the peer's bit in every set that has it as primary, where it was another before. Takes
-    /// no memory.
+    /// Sets the peer's bit in every set that has it as primary if it was another before. It doesn't
+    /// allocate.
     ///
     /// # Conditions
     ///
@@ -300,7 +301,7 @@ impl<C: PublicKey> Window<C> {
     ///
     /// # Cost
     ///
-    /// Constant where the bit stays, else that of [`Window::refresh`].
+    /// Constant if the bit stays, otherwise that of [`Window::refresh`].
     pub fn renew(&mut self, peer: &C, known: Known)
         requires { map (with_bit_of C.cmp peer.now known.before) self.old ≡ self.old }
         ensures { self.new ≡ map (with_bit_of C.cmp peer.now known.after) self.old }
@@ -324,7 +325,7 @@ fn set_with_index<C: PublicKey>(sets: &VecDeque<PeerSet<C>>, index: u64) -> Opti
     None
 }
 
-// Takes in a set as the latest with the places of its primary peers, or leaves all as it was.
+// Adds a set as the latest with the positions of its primary peers, or leaves everything as it was.
 fn push_set<C: PublicKey>(
     sets: &mut VecDeque<PeerSet<C>>,
     links: &mut VecDeque<Links>,
@@ -354,7 +355,7 @@ fn push_set<C: PublicKey>(
     }
 }
 
-// Takes out the first set with the places of its primary peers.
+// Removes the first set with the positions of its primary peers.
 fn pop_set<C: PublicKey>(
     sets: &mut VecDeque<PeerSet<C>>,
     links: &mut VecDeque<Links>,
@@ -371,7 +372,7 @@ fn pop_set<C: PublicKey>(
     Some(oldest)
 }
 
-// Sets the bit at each place of the peer, and answers how many there are.
+// Sets the bit at each position of the peer, and returns how many there are.
 fn refresh_places<C: PublicKey>(
     sets: &mut VecDeque<PeerSet<C>>,
     links: &VecDeque<Links>,
@@ -386,7 +387,7 @@ fn refresh_places<C: PublicKey>(
     set_bits(sets, links, places.get(peer), known)
 }
 
-// Sets the bit at each place that a walk meets, and answers how many there are.
+// Sets the bit at each position that a walk visits, and returns how many there are.
 fn set_bits<C: PublicKey>(
     sets: &mut VecDeque<PeerSet<C>>,
     links: &VecDeque<Links>,
@@ -412,7 +413,7 @@ fn set_bits<C: PublicKey>(
     sets.len()
 }
 
-// What stands beside a peer of one of the sets.
+// The link stored for a peer of one of the sets.
 fn link_at(links: &VecDeque<Links>, found: usize, at: usize) -> Option<Place>
     ensures { result ≡ get_or (get_or links.now.items found []) at None }
 {
@@ -422,7 +423,7 @@ fn link_at(links: &VecDeque<Links>, found: usize, at: usize) -> Option<Place>
     }
 }
 
-// Sets the bit at a place, in the set with its index, and answers where that set is.
+// Sets the bit at a position, in the set with its index, and returns which set that is.
 fn set_bit_at<C: PublicKey>(
     sets: &mut VecDeque<PeerSet<C>>,
     place: &Place,

@@ -1,5 +1,6 @@
-//! One directory of peers: who may be dialled or listened for, what is known of each, and what is
-//! remembered when a peer goes. `p2p_directory` shows its modules and serves lists of calls on them.
+//! The directory of peers: who may be dialled or accepted, what is known of each peer, and what is
+//! remembered when its record is removed. `p2p_directory` re-exports its modules and serves lists
+//! of calls on them.
 #![tactic(auto)]
 
 pub mod directory;

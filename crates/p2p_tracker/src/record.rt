@@ -34,9 +34,9 @@ pub enum Address<C: PublicKey> {
     Unknown,
     /// The peer is the local node.
     Myself(Info<C>),
-    /// The address was given when the directory was made.
+    /// The address was passed in when the directory was made.
     Bootstrapper(Ingress),
-    /// The peer's own info, and how often a dial at its ingress has failed since.
+    /// The peer's own info, and how many dials at its ingress have failed since.
     Discovered(Info<C>, usize),
 }
 
@@ -45,25 +45,25 @@ pub enum Address<C: PublicKey> {
 pub enum Status {
     /// Neither reserved nor connected.
     Inert,
-    /// Reserved by whoever is about to connect.
+    /// Reserved for a connection that is about to be made.
     Reserved,
     /// Connected.
     Active,
 }
 
-/// The part that a peer has in a set.
+/// The role of a peer in a set.
 #[derive(Clone, Copy, Debug, PartialEq, Eq)]
 pub(crate) enum Role {
     Primary,
     Secondary,
 }
 
-/// The answer to a request for a reservation.
+/// The result of a request for a reservation.
 #[derive(Clone, Copy, Debug, PartialEq, Eq)]
 pub enum ReserveResult {
     /// The peer is reserved now.
     Reserved,
-    /// The last reservation was too short a time ago.
+    /// The last reservation was too recent.
     RateLimited,
     /// The peer is the local node, or is reserved or connected already.
     Unavailable,
@@ -74,24 +74,24 @@ pub enum ReserveResult {
 pub enum DialStatus {
     /// Now.
     Now,
-    /// After this moment, a duration since the epoch.
+    /// After this time, a duration since the epoch.
     After(Duration),
     /// The peer is not to be dialled, is reserved or connected already, or has no valid ingress.
     Unavailable,
 }
 
-/// The peers that may be dialled, and when it is worth to ask again.
+/// The peers that may be dialled, and when asking again is useful.
 #[derive(Debug, Drop)]
 pub struct Dialable<C: PublicKey> {
     /// The peers that may be dialled now, in ascending order.
     pub peers: Vec<C>,
-    /// The least moment at which another peer may become dialable, a duration since the epoch, if
+    /// The earliest time, a duration since the epoch, at which another peer may become dialable, if
     /// there is one.
     pub next_query_at: Option<Duration>,
 }
 
 impl<C: PublicKey> Dialable<C> {
-    /// Nobody may be dialled, and no moment is known at which somebody may. Takes no memory.
+    /// No peer may be dialled, and no time is known at which one may. It doesn't allocate.
     pub fn new(alloc: Global) -> Self
         ensures peers { result.peers.items ≡ [] }
         ensures moment { result.next_query_at ≡ None }
@@ -107,7 +107,7 @@ impl<C: PublicKey> Dialable<C> {
 /// when it may be reserved and dialled again.
 #[derive(Drop)]
 pub struct Record<C: PublicKey> {
-    // What most calls look at stands together, for fields lie in this order.
+    // What most calls read is together, for fields are laid out in this order.
     status: Status,
     persistent: bool,
     primary_sets: usize,
@@ -135,8 +135,8 @@ impl<C: PublicKey> Model for Record<C> {
 }
 
 impl<C: PublicKey> Record<C> {
-    /// The record of a peer of which nothing is known: in no set, not persistent, inert, and free
-    /// to be reserved and dialled from the epoch on.
+    /// The record of a peer of which nothing is known: in no set, not persistent, inert, and
+    /// reservable and dialable from the epoch on.
     pub fn unknown() -> Self
         ensures { result ≡ new_record Address.Unknown false }
     {
@@ -171,7 +171,7 @@ impl<C: PublicKey> Record<C> {
         }
     }
 
-    // The record of a peer of which nothing is known but these moments of its cooldown, if any.
+    // The record of a peer of which nothing is known but this cooldown, if there is one.
     pub(crate) fn cooled(cooldown: Option<(Duration, Duration)>) -> Self
         ensures { result ≡ fresh (option_map cooldown_view cooldown) }
     {
@@ -182,9 +182,10 @@ impl<C: PublicKey> Record<C> {
         record
     }
 
-    /// Takes a peer's info, and answers whether it was taken: of the local node never, where no
-    /// info is known always, else where the timestamp is above that of the known one. An info that
-    /// is taken has not failed yet. Keys are not compared, and nothing else changes.
+    /// Updates a peer's info, and returns whether it was accepted. For the local node it never is.
+    /// If no info is known, it always is; otherwise it is if its timestamp is above that of the
+    /// known one. An accepted info has no failures yet. Keys are not compared, and nothing else
+    /// changes.
     pub fn update(&mut self, info: Info<C>) -> bool
         ensures taken { result ≡ takes_info info self.old.address }
         ensures after { self.new ≡
@@ -205,7 +206,7 @@ impl<C: PublicKey> Record<C> {
     ///
     /// # Conditions
     ///
-    /// The count is below the greatest `usize`.
+    /// The count is below `usize::MAX`.
     pub fn increment_primary(&mut self)
         requires { self.old.primary_sets < 2 ^ 64 - 1 }
         ensures { self.new ≡ record self.old { primary_sets = self.old.primary_sets + 1 } }
@@ -229,7 +230,7 @@ impl<C: PublicKey> Record<C> {
     ///
     /// # Conditions
     ///
-    /// The count is below the greatest `usize`.
+    /// The count is below `usize::MAX`.
     pub fn increment_secondary(&mut self)
         requires { self.old.secondary_sets < 2 ^ 64 - 1 }
         ensures { self.new ≡ record self.old { secondary_sets = self.old.secondary_sets + 1 } }
@@ -249,13 +250,14 @@ impl<C: PublicKey> Record<C> {
         self.secondary_sets -= 1;
     }
 
-    /// Asks for a reservation at the moment `now`.
+    /// Requests a reservation at the time `now`.
     ///
-    /// `Unavailable` for the local node or a peer that is not inert; else `RateLimited` where `now`
-    /// is before the reservable moment; else `Reserved`. Then the peer is reserved, it is
-    /// reservable again at `now + interval`, and may be dialled from that moment and the jitter on:
-    /// the draw, at most twice half the interval, the halving rounded down to nanoseconds. Both
-    /// sums are capped at the greatest `Duration`. Nothing changes unless the answer is `Reserved`.
+    /// Returns `Unavailable` for the local node or a peer that is not inert, else `RateLimited` if
+    /// `now` is before the reservable time, else `Reserved`. In the last case the peer is reserved.
+    /// It is reservable again at `now + interval`, and may be dialled from that time plus the
+    /// jitter on. The jitter is the draw, at most twice half the interval, where the half is
+    /// rounded down to nanoseconds. Both sums are capped at `Duration::MAX`. Nothing changes unless
+    /// the result is `Reserved`.
     pub fn reserve(&mut self, now: Duration, draw: Duration, interval: Duration) -> ReserveResult
         ensures answer { result ≡ reserve_answer (as_nanos now) self.old }
         ensures after { self.new ≡
@@ -268,7 +270,7 @@ impl<C: PublicKey> Record<C> {
         answer
     }
 
-    // What the peer is told that asks for a reservation at the moment `now`.
+    // The result of a request for a reservation at the time `now`.
     pub(crate) fn reserve_result(&self, now: Duration) -> ReserveResult
         ensures { result ≡ reserve_answer (as_nanos now) self.now }
     {
@@ -284,7 +286,7 @@ impl<C: PublicKey> Record<C> {
         ReserveResult::Reserved
     }
 
-    // Reserves the peer at the moment `now`.
+    // Reserves the peer at the time `now`.
     pub(crate) fn set_reserved(&mut self, now: Duration, draw: Duration, interval: Duration)
         ensures { self.new ≡
             reserved_record (as_nanos now) (as_nanos draw) (as_nanos interval) self.old }
@@ -318,8 +320,8 @@ impl<C: PublicKey> Record<C> {
         self.status = Status::Inert;
     }
 
-    /// Counts one more failure, capped at the greatest `usize`, where the peer's own info is known
-    /// with this ingress. Nothing else changes.
+    /// Counts one more failure, capped at `usize::MAX`, if the peer's own info is known with this
+    /// ingress. Nothing else changes.
     pub fn dial_failure(&mut self, ingress: &Ingress)
         ensures { self.new ≡
             record self.old { address = after_failure ingress.now self.old.address } }
@@ -331,7 +333,7 @@ impl<C: PublicKey> Record<C> {
         }
     }
 
-    /// Counts no failure any more, where the peer's own info is known. Nothing else changes.
+    /// Resets the failure count if the peer's own info is known. Nothing else changes.
     pub fn dial_success(&mut self)
         ensures { self.new ≡ record self.old { address = after_success self.old.address } }
     {
@@ -340,8 +342,8 @@ impl<C: PublicKey> Record<C> {
         }
     }
 
-    /// Whether the peer's info is wanted: of the local node never, where none is known always, else
-    /// where the peer is not connected and dials failed at least `limit` times.
+    /// Whether the peer's info is wanted: for the local node never; if none is known, always;
+    /// otherwise if the peer is not connected and at least `limit` dials failed.
     pub fn want(&self, limit: usize) -> bool
         ensures { result ≡ wants_info limit self.now }
     {
@@ -352,12 +354,12 @@ impl<C: PublicKey> Record<C> {
         }
     }
 
-    /// The info that may be told to others: the own info always, another peer's while it is
-    /// connected. It takes memory only for an info whose ingress is a name.
+    /// The info that may be shared: that of the local node always, another peer's while it is
+    /// connected. It allocates only for an info whose ingress is a name.
     ///
     /// # Errors
     ///
-    /// `AllocError` where memory is refused.
+    /// `AllocError` if an allocation fails.
     pub fn sharable(&self) -> Result<Option<Info<C>>, AllocError>
         ensures info { IfOk result (λ info. info ≡ sharable_by self.now.status self.now.address) }
         ensures none { sharable_by self.now.status self.now.address ≡ None → IsOk result }
@@ -370,7 +372,7 @@ impl<C: PublicKey> Record<C> {
         }
     }
 
-    // The info that may be told to others, where it stands.
+    // A reference to the info that may be shared.
     pub(crate) fn sharable_info(&self) -> Option<&Info<C>>
         ensures { option_copied result ≡ sharable_by self.now.status self.now.address }
     {
@@ -381,11 +383,11 @@ impl<C: PublicKey> Record<C> {
         }
     }
 
-    /// When the peer may be dialled, asked at the moment `now`.
+    /// When the peer may be dialled, asked at the time `now`.
     ///
-    /// `Unavailable` unless the peer is inert and to be dialled, is a bootstrapper or of known
-    /// info, and its ingress is valid under what is allowed; then `After` its dial moment where
-    /// that is later than `now`; else `Now`. Moments are durations since the epoch.
+    /// `Unavailable` unless the peer is inert and an outbound target, is a bootstrapper or has a
+    /// known info, and its ingress is valid under the two flags. Otherwise `After` its dial time if
+    /// that is later than `now`, else `Now`. Times are durations since the epoch.
     pub fn dialable(&self, now: Duration, allow_private_ips: bool, allow_dns: bool) -> DialStatus
         ensures { dial_view result ≡
             dial_status (as_nanos now) allow_private_ips allow_dns self.now }
@@ -418,21 +420,21 @@ impl<C: PublicKey> Record<C> {
         }
     }
 
-    /// Whether a connection of the peer may be accepted: it is eligible and inert.
+    /// Whether an inbound connection of the peer may be accepted: it is eligible and inert.
     pub fn acceptable(&self) -> bool
         ensures { result ≡ is_acceptable self.now }
     {
         self.eligible() && self.status == Status::Inert
     }
 
-    /// Whether the connection has to end: the peer is not inert and not eligible.
+    /// Whether the peer must be disconnected: it is not inert and not eligible.
     pub fn needs_teardown(&self) -> bool
         ensures { result ≡ needs_teardown self.now }
     {
         self.status != Status::Inert && !self.eligible()
     }
 
-    /// Whether the record may go: the peer is in no set, not persistent and inert.
+    /// Whether the record may be removed: the peer is in no set, not persistent and inert.
     pub fn deletable(&self) -> bool
         ensures { result ≡ is_deletable self.now }
     {
@@ -456,7 +458,7 @@ impl<C: PublicKey> Record<C> {
         !matches!(&self.address, Address::Myself(_))
     }
 
-    /// Where the peer is reached, if that is known.
+    /// The ingress at which the peer is reached, if it is known.
     pub fn ingress(&self) -> Option<&Ingress>
         ensures { option_copied result ≡ ingress_of self.now.address }
     {
@@ -468,7 +470,7 @@ impl<C: PublicKey> Record<C> {
         }
     }
 
-    // Counts one set of the role more, at most to the greatest `usize`.
+    // Counts one more set of the role, up to `usize::MAX`.
     pub(crate) fn count_more(&mut self, role: Role)
         ensures { self.new ≡ with_one_more role self.old }
     {
@@ -478,7 +480,7 @@ impl<C: PublicKey> Record<C> {
         }
     }
 
-    // Counts one set of the role less, if there is one.
+    // Counts one set less of the role, if there is one.
     pub(crate) fn count_less(&mut self, role: Role)
         ensures { self.new ≡ with_one_less role self.old }
     {
@@ -488,8 +490,8 @@ impl<C: PublicKey> Record<C> {
         }
     }
 
-    // Whether the connection has to end once one set of the role less has the peer: the peer is not
-    // inert, is eligible, and would not be any longer.
+    // Whether the peer must be disconnected once one set less of the role has it: it is not inert,
+    // is eligible, and would no longer be.
     #[tactic(auto, unfolding(crate::specs::Private::Counts::is_torn_down_without))]
     pub(crate) fn is_torn_down_without(&self, role: Role) -> bool
         ensures { result ≡ is_torn_down_without role self.now }
@@ -531,7 +533,7 @@ impl<C: PublicKey> Record<C> {
         (self.next_reservable_at, self.next_dial_at)
     }
 
-    /// From when the peer may be reserved again, and from when it may be dialled again, is set:
+    /// Sets from when the peer may be reserved again, and from when it may be dialled again:
     /// durations since the epoch. Nothing else changes.
     pub fn set_cooldown(&mut self, reservable: Duration, dial: Duration)
         ensures { self.new ≡ record self.old {
@@ -552,7 +554,7 @@ impl<C: PublicKey> Record<C> {
 }
 
 /// From when a peer may be reserved again, and from when it may be dialled again, after a grant at
-/// the moment `now`.
+/// the time `now`.
 pub(crate) fn next_moments(
     now: Duration,
     draw: Duration,
@@ -565,7 +567,7 @@ pub(crate) fn next_moments(
     (reservable, jittered(reservable, draw, interval))
 }
 
-// The moment with the jitter added.
+// The time with the jitter added.
 fn jittered(moment: Duration, draw: Duration, cooldown: Duration) -> Duration
     ensures { as_nanos result ≡ cap (as_nanos moment + jitter (as_nanos draw) (as_nanos cooldown)) }
 {

@@ -1,4 +1,4 @@
-//! What a node is: a directory that serves commands, by what infos are judged, and limits.
+//! The parts of a node: a directory that serves commands, the verifier of infos, and limits.
 
 ghost use Rattle.std.specs.Prelude.{◌≡◌, ◌<◌, ◌^◌, [], true, false, None, IfOk, IfSome, OnOk, OnErr};
 ghost use Rattle.std.specs.Prelude.{length};
@@ -40,8 +40,8 @@ mod exchanges;
 mod reservations;
 mod single;
 
-/// A server, by what infos are judged, and the limits under which frames are read. A contract sees
-/// its directory and its slots, and these two. It must be spent, by [`Endpoint::into_parts`].
+/// A server, the verifier of infos, and the limits under which frames are read. A contract sees its
+/// directory and its slots, and these two. It must be consumed by [`Endpoint::into_parts`].
 pub struct Endpoint<C: PublicKey> {
     server: Server<C>,
     verifier: InfoVerifier<C>,
@@ -68,7 +68,7 @@ impl<C: PublicKey> Model for Endpoint<C> {
 }
 
 impl<C: PublicKey> Endpoint<C> {
-    /// An endpoint of this server, which judges and reads by these.
+    /// An endpoint of this server, with this verifier and these limits.
     pub fn new(server: Server<C>, verifier: InfoVerifier<C>, payload: PayloadConfig) -> Self
         requires { payload.max_bit_vec < 2 ^ 32 }
         ensures { result ≡ record {
@@ -86,7 +86,7 @@ impl<C: PublicKey> Endpoint<C> {
         }
     }
 
-    /// Serves one command, where there is a slot for what it may be granted.
+    /// Serves one command, if there is a slot for the reservation that it may be granted.
     pub fn serve(&mut self, command: Command<C>) -> Reply<C>
         requires room { has_slot_for C.cmp self.old.slots command ≡ true }
         ensures served { IsServedBy C.cmp command result self.old self.new }
@@ -101,7 +101,7 @@ impl<C: PublicKey> Endpoint<C> {
         reply
     }
 
-    /// Makes a slot for what the command may be granted, where there is none.
+    /// Makes a slot for the reservation that the command may be granted, if there is none.
     pub fn make_room(&mut self, command: &Command<C>) -> Result<(), AllocError>
         ensures err { OnErr result (self.new ≡ self.old) }
         ensures reserves { OnErr result (may_reserve (call_of command.now) ≡ true) }
@@ -117,7 +117,7 @@ impl<C: PublicKey> Endpoint<C> {
         made
     }
 
-    /// Takes the slot of the peer out, where it is empty. Takes no memory.
+    /// Removes the slot of the peer if it is empty. It doesn't allocate.
     pub fn drop_room(&mut self, peer: Option<C>)
         ensures dropped { IfSome peer (λ p. held_in C.cmp self.old.slots p ≡ None →
             has_slot C.cmp self.new.slots p ≡ false) }
@@ -129,7 +129,7 @@ impl<C: PublicKey> Endpoint<C> {
         self.server.in_order();
     }
 
-    /// Serves one command, with a slot for what it may be granted while it does.
+    /// Serves one command, with a slot for the reservation that it may be granted while it does.
     pub fn step(&mut self, command: Command<C>) -> Reply<C>
         ensures stepped { IsStepped C.cmp command result (node_of self.old) (node_of self.new) }
         ensures unchanged { was_made result ≡ false → node_of self.new ≡ node_of self.old }
@@ -145,7 +145,7 @@ impl<C: PublicKey> Endpoint<C> {
         reply
     }
 
-    /// Takes a peer set, as [`Endpoint::step`] does.
+    /// Registers a peer set, as [`Endpoint::step`] does.
     pub fn track(&mut self, index: u64, peers: TrackedPeers<C>) -> Reply<C>
         ensures stepped { IsStepped C.cmp (Command.Track index peers) result
             (node_of self.old) (node_of self.new) }
@@ -166,7 +166,7 @@ impl<C: PublicKey> Endpoint<C> {
         self.server.directory()
     }
 
-    /// The payload that a frame spells.
+    /// The payload that a frame encodes.
     pub fn read_frame(&self, frame: Bytes) -> Result<Payload<C>, CodecError>
         ensures { Gives result [] (whole (payload_at C.SIZE C.value
             C.Signature.SIZE C.Signature.value self.now.limits) frame) }
@@ -174,7 +174,7 @@ impl<C: PublicKey> Endpoint<C> {
         Payload::<C>::decode_cfg(self.server.directory().allocator(), frame, &self.payload)
     }
 
-    /// By what infos are judged.
+    /// The verifier of infos.
     pub fn verifier(&self) -> &InfoVerifier<C>
         ensures { result.now ≡ self.now.verifier }
     {
@@ -196,7 +196,7 @@ impl<C: PublicKey> Endpoint<C> {
         self.server.held(peer)
     }
 
-    /// The frame of the bits of the set at a place, or `None` where there is no such place.
+    /// The frame of the bits of the set at a position, or `None` if there is no such position.
     pub fn ask(&self, place: usize) -> Result<Option<Bytes>, AllocError>
         ensures seen { AsksWith C.cmp (wire_of C.SIZE C.spelled C.value
             C.Signature.SIZE C.Signature.spelled C.Signature.value C.verifies)
@@ -216,7 +216,7 @@ impl<C: PublicKey> Endpoint<C> {
         }
     }
 
-    /// Takes a frame at a moment, and answers it.
+    /// Processes a frame that was received at this time.
     pub fn answer(&mut self, frame: Bytes, now: Duration) -> Received
         ensures seen { AnswersFrame C.cmp (wire_of C.SIZE C.spelled C.value
             C.Signature.SIZE C.Signature.spelled C.Signature.value C.verifies)
@@ -237,8 +237,9 @@ impl<C: PublicKey> Endpoint<C> {
         }
     }
 
-    /// Takes a frame at a moment, given whether the signatures of its infos are right, and answers
-    /// it. The verdicts have to be as many as the infos of the frame, if it spells a payload.
+    /// Processes a frame that was received at this time, given whether the signatures of its infos
+    /// are valid. There must be as many verification results as infos in the frame, if it encodes a
+    /// payload.
     pub fn answer_by(
         &mut self,
         frame: Bytes,
@@ -269,7 +270,7 @@ impl<C: PublicKey> Endpoint<C> {
         }
     }
 
-    /// Releases all that is held, and answers the directory. Takes no memory.
+    /// Releases all reservations, and returns the directory. It doesn't allocate.
     pub fn finish(self) -> Directory<C>
         ensures { ReleasesAll C.cmp (contents self.slots) self.directory result }
     {
@@ -278,7 +279,7 @@ impl<C: PublicKey> Endpoint<C> {
         directory
     }
 
-    /// The directory, and what is held. Takes no memory.
+    /// The directory, and the reservations. It doesn't allocate.
     pub fn into_parts(self) -> (Directory<C>, Held<C>)
         ensures directory { result.0 ≡ self.directory }
         ensures held { (q : C) →
@@ -293,7 +294,7 @@ impl<C: PublicKey> Endpoint<C> {
         server.into_parts()
     }
 
-    // Answers a payload, given whether the signatures of its infos are right.
+    // Processes a payload, given whether the signatures of its infos are valid.
     fn answer_payload_by(
         &mut self,
         payload: Payload<C>,
@@ -327,7 +328,7 @@ impl<C: PublicKey> Endpoint<C> {
         })
     }
 
-    // Judges the info of a greeting, and applies it.
+    // Verifies the info of a greeting, and applies it.
     fn greet(&mut self, info: Info<C>, now: Duration) -> Received
         ensures unchanged { applies result ≡ false → self.new ≡ self.old }
         ensures seen { let o = greeted (wire_of C.SIZE C.spelled C.value
@@ -342,7 +343,7 @@ impl<C: PublicKey> Endpoint<C> {
         self.apply_greeting(info)
     }
 
-    // Judges the info of a greeting, given whether its signature is right, and applies it.
+    // Verifies the info of a greeting, given whether its signature is valid, and applies it.
     fn greet_by(&mut self, info: Info<C>, now: Duration, right: bool) -> Received
         ensures unchanged { applies result ≡ false → self.new ≡ self.old }
         ensures seen { let o = greeted (wire_of C.SIZE C.spelled C.value
@@ -375,7 +376,7 @@ impl<C: PublicKey> Endpoint<C> {
         }
     }
 
-    // Answers bits with the infos for them.
+    // Replies to bits with the infos for them.
     fn reply(&self, bits: &BitVec, now: Duration) -> Received
         requires { length bits.now.bits < 2 ^ 32 }
         ensures seen { let o = replied (wire_of C.SIZE C.spelled C.value
@@ -395,7 +396,7 @@ impl<C: PublicKey> Endpoint<C> {
         }
     }
 
-    // The frame of the infos for bits, or `None` where they are of another number than the peers.
+    // The frame of the infos for bits, or `None` if their number differs from that of the peers.
     fn reply_frame(&self, bits: &BitVec, now: Duration) -> Result<Option<Bytes>, AllocError>
         requires { length bits.now.bits < 2 ^ 32 }
         ensures frame { IfOk result (λ frame. frame ≡ option_map
@@ -419,7 +420,7 @@ impl<C: PublicKey> Endpoint<C> {
         }
     }
 
-    // Judges infos, all of them, and applies them.
+    // Verifies infos, all of them, and applies them.
     fn take(&mut self, infos: Infos<C>, now: Duration) -> Received
         ensures unchanged { applies result ≡ false → self.new ≡ self.old }
         ensures seen { Answers C.cmp false (taken (wire_of C.SIZE C.spelled C.value
@@ -434,7 +435,7 @@ impl<C: PublicKey> Endpoint<C> {
         self.apply(infos)
     }
 
-    // Judges infos, all of them, given whether their signatures are right, and applies them.
+    // Verifies infos, all of them, given whether their signatures are valid, and applies them.
     fn take_by(&mut self, infos: Infos<C>, now: Duration, verdicts: &[bool]) -> Received
         ensures unchanged { applies result ≡ false → self.new ≡ self.old }
         ensures seen { Answers C.cmp false (taken (wire_of C.SIZE C.spelled C.value
@@ -464,7 +465,7 @@ impl<C: PublicKey> Endpoint<C> {
     }
 }
 
-// The spelling of a payload.
+// The encoding of a payload.
 fn frame_of<C: PublicKey>(alloc: Global, payload: Payload<C>) -> Result<Bytes, AllocError>
     requires { CanSpell payload }
     ensures frame { IfOk result (λ frame.
@@ -486,7 +487,7 @@ fn count_infos<C: PublicKey>(payload: &Payload<C>) -> usize
     }
 }
 
-// Whether the first verdict says that a signature is right.
+// Whether the first verification result says that a signature is valid.
 fn is_first_right(verdicts: &[bool]) -> bool
     ensures { result ≡ first_verdict verdicts.now }
 {
@@ -496,7 +497,7 @@ fn is_first_right(verdicts: &[bool]) -> bool
     }
 }
 
-// A fault of a frame, or want of memory.
+// The error of a frame, or out of memory.
 fn refused(fault: CodecError) -> Received
     ensures { result ≡ fault_answer fault }
 {

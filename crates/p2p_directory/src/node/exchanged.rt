@@ -11,20 +11,20 @@ use p2p_discovery::discovery::{Error, Info};
 use std::fmt;
 use std::time::Duration;
 
-/// What an exchange comes to.
+/// The result of an exchange.
 #[derive(Drop)]
 pub enum Exchanged<C: PublicKey> {
-    /// The asker retains no set at the place. Nothing has changed.
+    /// The asker retains no set at the position. Nothing has changed.
     NoSet,
-    /// The replier's limits do not admit the asker's bits: its first fault. Nothing has changed.
+    /// The asker's bits are not within the replier's limits: the first error. Nothing has changed.
     AskRefused(CodecError),
     /// The replier has another number of primary peers at the index. Nothing has changed.
     Malformed,
-    /// The asker's limits do not admit the reply: its first fault. Nothing has changed.
+    /// The reply is not within the asker's limits: the first error. Nothing has changed.
     ReplyRefused(CodecError),
-    /// The asker refuses an info of the reply, or their number. Nothing has changed.
+    /// The asker finds an info of the reply, or their number, invalid. Nothing has changed.
     Invalid(Error),
-    /// Memory was refused. Nothing has changed.
+    /// An allocation failed. Nothing has changed.
     Memory,
     /// All infos of the reply were applied: these, in their order.
     Applied(Vec<Info<C>>),
@@ -45,30 +45,30 @@ impl<C: PublicKey> fmt::Debug for Exchanged<C> {
     }
 }
 
-/// The asker asks the replier for what is wanted of the asker's retained set at a place, counted
-/// from 0 in order of index, and applies what is replied: as [`Node::ask`] of the asker,
+/// The asker asks the replier for the wanted infos of the asker's retained set at a position,
+/// counted from 0 in order of index, and applies the reply. This is [`Node::ask`] of the asker,
 /// [`Node::receive`] of that frame by the replier, and of its reply by the asker. The replier
-/// replies at `replier_now`, the asker judges at `asker_now`, times since the epoch. The replier
-/// stays as it was.
+/// replies at `replier_now`, and the asker verifies at `asker_now`, durations since the epoch. The
+/// replier stays as it was.
 ///
-/// It comes to the first of these that holds, unless memory is refused:
+/// The result is the first of these that holds, unless an allocation fails:
 ///
-/// - `NoSet`: there is no such place. No memory is taken.
-/// - `AskRefused`: the replier's limits do not admit the bits, one for each primary peer of the
-///   set. The fault is `InvalidLength` of their number.
+/// - `NoSet`: there is no such position. It doesn't allocate.
+/// - `AskRefused`: the bits, one for each primary peer of the set, are not within the replier's
+///   limits. The error is `InvalidLength` of their number.
 /// - `Malformed`: the replier retains a set of the index, with another number of primary peers.
-/// - `ReplyRefused`: the asker's limits do not admit the infos that
-///   [`infos`](p2p_tracker::directory::Directory::infos) of the replier gives for the bits. The fault
-///   is `InvalidLength` of their number.
-/// - `Invalid`: the asker refuses the infos, by
+/// - `ReplyRefused`: the infos that [`infos`](p2p_tracker::directory::Directory::infos) of the
+///   replier returns for the bits are not within the asker's limits. The error is `InvalidLength`
+///   of their number.
+/// - `Invalid`: the asker rejects the infos, by
 ///   [`validate`](p2p_discovery::discovery::InfoVerifier::validate), for the first reason.
-/// - `Applied`: the asker applied the infos, also where there are none, by
+/// - `Applied`: the asker applied the infos, even if there are none, by
 ///   [`update_peers`](p2p_tracker::directory::Directory::update_peers).
 ///
 /// # Errors
 ///
-/// `Memory` where memory is refused; that is, where there is such a place. All but `Applied` leave
-/// the asker as it was.
+/// `Memory` if an allocation fails. It allocates only if there is such a position. All but
+/// `Applied` leave the asker as it was.
 ///
 /// # Cost
 ///

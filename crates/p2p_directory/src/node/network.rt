@@ -1,4 +1,4 @@
-//! Any number of nodes that are given commands, asked, handed frames, and that exchange infos.
+//! Any number of nodes that serve commands, are asked, receive frames and exchange infos.
 
 ghost use Rattle.std.specs.Prelude.{◌≡◌, ◌<◌, ◌≤◌, ◌-◌, ◌^◌, [], IfOk, length, slice_index_or};
 ghost use Rattle.std.specs.Prelude.{MatchOption, ◌∷◌, IfSome, OnOk, OnErr};
@@ -31,14 +31,14 @@ use std::time::Duration;
 
 mod ends;
 
-/// What is done to one of several nodes, which are counted from 0, or to two of them.
+/// A command to one of several nodes, which are counted from 0, or to two of them.
 #[derive(Drop)]
 pub enum NetworkCommand<C: PublicKey> {
     /// The node serves the command as [`run`](crate::run::run) does.
     Call(usize, Command<C>),
-    /// [`Node::ask`](crate::node::Node::ask) of the node, for the set at this place.
+    /// [`Node::ask`](crate::node::Node::ask) of the node, for the set at this position.
     Ask(usize, usize),
-    /// [`Node::receive`](crate::node::Node::receive) by the node, of this frame at this moment.
+    /// [`Node::receive`](crate::node::Node::receive) by the node, of this frame at this time.
     Frame(usize, Bytes, Duration),
     /// [`exchange`](crate::node::exchange) of the asker with the replier.
     Exchange {
@@ -46,11 +46,11 @@ pub enum NetworkCommand<C: PublicKey> {
         asker: usize,
         /// The node that replies.
         replier: usize,
-        /// The place of the asker's set.
+        /// The position of the asker's set.
         place: usize,
-        /// The asker's present moment, as the time since the epoch.
+        /// The asker's present time, as a duration since the epoch.
         asker_now: Duration,
-        /// The replier's present moment, as the time since the epoch.
+        /// The replier's present time, as a duration since the epoch.
         replier_now: Duration,
     },
 }
@@ -60,13 +60,13 @@ pub enum NetworkCommand<C: PublicKey> {
 pub enum NetworkReply<C: PublicKey> {
     /// The reply to a command.
     Call(Reply<C>),
-    /// The frame that was asked for, where there is a set at the place.
+    /// The frame that was asked for, if there is a set at the position.
     Ask(Option<Bytes>),
-    /// The answer to a frame.
+    /// The result of a frame.
     Frame(Received),
-    /// What an exchange came to.
+    /// The result of an exchange.
     Exchange(Exchanged<C>),
-    /// Memory for the frame of an `Ask` was refused. Nothing has changed.
+    /// The allocation for the frame of an `Ask` failed. Nothing has changed.
     OutOfMemory,
     /// There is no such node, or a node was to exchange with itself. Nothing has changed.
     NoNode,
@@ -86,11 +86,11 @@ impl<C: PublicKey> fmt::Debug for NetworkReply<C> {
     }
 }
 
-/// Any number of nodes, which are counted from 0. A contract sees each of them. It must be spent,
+/// Any number of nodes, which are counted from 0. A contract sees each of them. It must be consumed
 /// by [`Network::finish`].
 pub struct Network<C: PublicKey> {
     ends: Vec<Endpoint<C>>,
-    // Room for the directories that are answered in the end.
+    // Capacity for the directories that are returned in the end.
     room: Vec<Directory<C>>,
 }
 
@@ -117,7 +117,7 @@ impl<C: PublicKey> Network<C> {
     ///
     /// # Errors
     ///
-    /// `AllocError` where memory is refused.
+    /// `AllocError` if an allocation fails.
     ///
     /// # Cost
     ///
@@ -146,7 +146,7 @@ impl<C: PublicKey> Network<C> {
         Ok(Network { ends, room })
     }
 
-    /// A network of no node. Takes no memory.
+    /// A network without nodes. It doesn't allocate.
     pub fn empty(alloc: Global) -> Self
         ensures { result ≡ [] }
     {
@@ -156,7 +156,7 @@ impl<C: PublicKey> Network<C> {
         }
     }
 
-    /// A further node of this setup, behind all others, as [`Node::new`] makes it.
+    /// Adds a node of this setup, after all others, as [`Node::new`] makes it.
     ///
     /// # Conditions
     ///
@@ -164,11 +164,11 @@ impl<C: PublicKey> Network<C> {
     ///
     /// # Errors
     ///
-    /// `AllocError` where memory is refused. Nothing has changed.
+    /// `AllocError` if an allocation fails. Nothing has changed.
     ///
     /// # Cost
     ///
-    /// That of [`Node::new`], and at times a move of all nodes.
+    /// That of [`Node::new`], and sometimes a move of all nodes.
     pub fn add(&mut self, alloc: Global, setup: Setup<C>) -> Result<(), AllocError>
         requires sets { non_zero_usize_get setup.cfg.max_sets < 2 ^ 64 - 1 }
         requires bits { setup.payload.max_bit_vec < 2 ^ 32 }
@@ -184,8 +184,8 @@ impl<C: PublicKey> Network<C> {
         Ok(())
     }
 
-    /// A new node of this setup in place of the one there, as [`Node::new`] makes it. All that the
-    /// old one held is released, and its directory is answered. `None` where there is no such node;
+    /// Replaces a node by a new node of this setup, as [`Node::new`] makes it. All reservations of
+    /// the old one are released, and its directory is returned. `None` if there is no such node;
     /// then none is made.
     ///
     /// # Conditions
@@ -194,7 +194,7 @@ impl<C: PublicKey> Network<C> {
     ///
     /// # Errors
     ///
-    /// `AllocError` where memory is refused. Nothing has changed.
+    /// `AllocError` if an allocation fails. Nothing has changed.
     ///
     /// # Cost
     ///
@@ -220,12 +220,12 @@ impl<C: PublicKey> Network<C> {
         Ok(Some(old.finish()))
     }
 
-    /// Serves one command. A command to a node that there isn't, and an exchange of a node with
-    /// itself, is replied `NoNode`. A command that wants memory, or is replied `NoNode`,
-    /// `NotReserved` or `NotHeld`, is as not given.
+    /// Serves one command. The reply to a command to a node that doesn't exist, or to an exchange
+    /// of a node with itself, is `NoNode`. A command that runs out of memory, or whose reply is
+    /// `NoNode`, `NotReserved` or `NotHeld`, has no effect.
     ///
-    /// A `Call` is served as [`Node::step`] does: room for a reservation is taken before a `Dial`
-    /// or a `Listen`, so both may be replied `OutOfMemory` where that is refused.
+    /// A `Call` is served as [`Node::step`] does: space for a reservation is allocated before a
+    /// `Dial` or a `Listen`, so the reply to both may be `OutOfMemory` if that fails.
     ///
     /// A command to one node leaves all others as they were, and an exchange all but the asker.
     ///
@@ -269,7 +269,7 @@ impl<C: PublicKey> Network<C> {
         self.ends.len()
     }
 
-    /// The directory of a node, or `None` where there is no such node.
+    /// The directory of a node, or `None` if there is no such node.
     pub fn directory(&self, node: usize) -> Option<&Directory<C>>
         ensures { MatchOption result (length self.now ≤ node) (λ directory.
             (v : NodeView C C.Signature) → (node < length self.now)
@@ -281,8 +281,8 @@ impl<C: PublicKey> Network<C> {
         Some(self.ends[node].directory())
     }
 
-    /// Releases all that is held, and answers the directories, in the order of their nodes. Takes
-    /// no memory.
+    /// Releases all reservations, and returns the directories, in the order of their nodes. It
+    /// doesn't allocate.
     ///
     /// # Cost
     ///
@@ -304,7 +304,7 @@ impl<C: PublicKey> Network<C> {
 }
 
 impl<C: PublicKey> Network<C> {
-    // The nodes, where there are two. Takes no memory.
+    // The nodes, if there are two. It doesn't allocate.
     pub(crate) fn into_both(self) -> (Node<C>, Node<C>)
         requires { length self ≡ 2 }
         ensures { self ≡ result.0 ∷ result.1 ∷ [] }
@@ -336,7 +336,7 @@ fn end_of<C: PublicKey>(alloc: Global, setup: Setup<C>) -> Result<Endpoint<C>, A
     Ok(endpoint)
 }
 
-/// What a run of a network leaves. It must be spent, by [`NetworkRun::finish`], or its nodes by
+/// What a run of a network leaves. It must be consumed by [`NetworkRun::finish`], or its nodes by
 /// [`Network::finish`].
 pub struct NetworkRun<C: PublicKey> {
     /// The nodes after the last command.
@@ -346,8 +346,8 @@ pub struct NetworkRun<C: PublicKey> {
 }
 
 impl<C: PublicKey> NetworkRun<C> {
-    /// Releases all that is held, and answers the directories, in the order of their nodes. Takes
-    /// no memory; the replies are dropped.
+    /// Releases all reservations, and returns the directories, in the order of their nodes. It
+    /// doesn't allocate. The replies are dropped.
     ///
     /// # Cost
     ///
@@ -361,60 +361,59 @@ impl<C: PublicKey> NetworkRun<C> {
 }
 
 /// Makes the nodes and serves the commands in turn. Each reply is that of the call, by what was
-/// done before it; a command that wants memory, or is replied `NoNode`, `NotReserved` or `NotHeld`,
-/// is as not given.
+/// done before it. A command that runs out of memory, or whose reply is `NoNode`, `NotReserved` or
+/// `NotHeld`, has no effect.
 ///
-/// Room for all replies, all reservations of all nodes and all directories is taken before the
-/// first command, so a `Call` is replied `OutOfMemory` only where [`run`](crate::run::run) may
-/// reply it, an `Ask` only where there is a set at the place, and a `Frame` and an `Exchange` are
-/// answered `Memory` only where [`Node::receive`] and [`exchange`](crate::node::exchange) may
-/// answer it.
+/// Space for all replies, all reservations of all nodes and all directories is allocated before the
+/// first command. So a `Call` gets `OutOfMemory` only if [`run`](crate::run::run) may reply it, and
+/// an `Ask` only if there is a set at the position. A `Frame` and an `Exchange` get `Memory` only
+/// if [`Node::receive`] and [`exchange`](crate::node::exchange) may return it.
 ///
-/// The replies keep these rules, at each point of the run. What is given is each own info, and each
-/// info of a command to any node, or of a frame that any node accepted before.
+/// The replies keep these rules, at each point of the run. The infos passed in are each node's
+/// local info, and each info of a command to any node, or of a frame that any node accepted before.
 ///
-/// - Exchanges: where all that is given is signed in the namespaces of the asker and the replier,
-///   the replier retains a set of the index of the asker's with the same primary peers, the limits
-///   of both admit the bits and the infos, and the replier's moment is at most the asker's bound
-///   past the asker's, an exchange is `Applied` with exactly the wanted infos that may be shared,
-///   unless memory is refused. Afterwards the asker's info of each of their peers is at least as
-///   new. The same exchange directly repeated is `Applied` and changes nothing at any node, unless
-///   memory is refused.
-/// - Provenance: each info that any node holds was given. Gossip invents nothing.
-/// - Infos: where all that is given is signed in the namespace of a node, so is all that any node
+/// - Exchanges: an exchange is `Applied` with exactly the wanted infos that may be shared, unless
+///   an allocation fails, under these premises. All infos passed in are signed in the namespaces of
+///   the asker and the replier. The replier retains a set of the index of the asker's with the same
+///   primary peers. The bits and the infos are within the limits of both. The replier's time is at
+///   most the asker's bound after the asker's. Afterwards the asker's info of each of their peers
+///   is at least as new. The same exchange directly repeated is `Applied` and changes nothing at
+///   any node, unless an allocation fails.
+/// - Provenance: each info that any node holds was passed in. Gossip invents nothing.
+/// - Infos: if all infos passed in are signed in the namespace of a node, so are all that any node
 ///   holds.
 /// - Newer: the info that a node holds of a peer only gets newer as long as the peer stays present
 ///   at it.
-/// - Reach: of each primary peer of the set of an exchange that was applied under the premises
-///   above, which the asker wanted and whose info the replier might share then, the asker holds an
-///   info at least as new directly afterwards, and as long as the peer stays present at it.
+/// - Reach: take an exchange that was applied under the premises above, and a primary peer of its
+///   set which the asker wanted and whose info the replier might share then. The asker holds an
+///   info of it at least as new directly afterwards, and as long as the peer stays present at it.
 /// - Acquaintance: of each other peer of the set whose info the replier might share then, wanted or
-///   not, the asker holds some info for as long. So whoever asks each of its neighbours once knows
-///   each peer that any of them knows.
-/// - Greetings: a frame with the greeting of the own info of any node, where it is signed in the
-///   namespace of the node that takes it, is `Greeted`, unless memory is refused, where the own
+///   not, the asker holds some info for as long. So a node that asks each of its neighbours once
+///   knows each peer that any of them knows.
+/// - Greetings: a frame with the greeting of the local info of any node, if it is signed in the
+///   namespace of the node that receives it, is `Greeted`, unless an allocation fails, if the local
 ///   keys differ and its timestamp is within the bound.
-/// - Replies: let a `Frame` hand a node the bits that another was earlier asked for, and let it
-///   retain a set of their index with the primary peers that the set at the place then had. Where
-///   all that is given is signed in the namespaces of both, what it replies spells infos that are
+/// - Replies: let a `Frame` pass to a node the bits that another was earlier asked for, and let it
+///   retain a set of their index with the primary peers that the set at the position then had. If
+///   all infos passed in are signed in the namespaces of both, its reply encodes infos that are
 ///   signed in both, none with the other's key, none with a timestamp above the present
 ///   milliseconds.
-/// - Late frames: a `Frame` of such infos, however late and however often it comes, is `Applied`
-///   with their number, unless memory is refused, where they are no more than the limit and the
-///   count of the node admit and the moment of the reply is at most its bound ahead. Afterwards its
-///   info of each of their peers that has a record is at least as new. Nothing changes where all
-///   were so before, and by a copy that follows at once.
+/// - Late frames: a `Frame` of such infos, however late and however often it arrives, is `Applied`
+///   with their number, unless an allocation fails. Their number must be within the limit and the
+///   count of the node, and the time of the reply at most its bound ahead. Afterwards its info of
+///   each of their peers that has a record is at least as new. Nothing changes if all were so
+///   before, or by a copy that follows at once.
 /// - Others: a command to one node leaves every other as it was, an exchange all but the asker.
-/// - Isolation and order: as for [`run`](crate::run::run), over the commands that a node accepted.
-///   Those on single other peers than one, and the infos of others, may be left out: all that is
-///   kept of the one is the same. Infos of `UpdatePeers`, frames and exchanges that follow each
-///   other directly at a node may be given in any order, where no two are of one peer with one
-///   timestamp: all that it keeps is the same.
+/// - Isolation and order: the same as for [`run`](crate::run::run), over the commands that a node
+///   accepted. Those on single peers other than one, and the infos of others, may be left out: all
+///   that is known of the one is the same. Infos of `UpdatePeers`, frames and exchanges that follow
+///   each other directly at a node may be passed in any order, if no two are of one peer with the
+///   same timestamp: the node's state is the same.
 ///
-/// It isn't said that any node answers, that lists are the same everywhere, or that infos spread by
-/// themselves: whoever gives the commands decides who asks whom.
+/// It isn't claimed that any node answers, that peer sets are the same everywhere, or that infos
+/// spread by themselves: the caller's commands decide which node asks which.
 ///
-/// What is left must be spent, by [`NetworkRun::finish`].
+/// The result must be consumed by [`NetworkRun::finish`].
 ///
 /// # Conditions
 ///
@@ -422,7 +421,7 @@ impl<C: PublicKey> NetworkRun<C> {
 ///
 /// # Errors
 ///
-/// `AllocError` where memory is refused before the first command.
+/// `AllocError` if an allocation fails before the first command.
 ///
 /// # Cost
 ///

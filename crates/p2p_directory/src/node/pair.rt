@@ -1,4 +1,4 @@
-//! Two nodes that are given commands, asked, handed frames, and that exchange infos.
+//! Two nodes that serve commands, are asked, receive frames and exchange infos.
 
 ghost use Rattle.std.specs.Prelude.{◌≡◌, ◌<◌, ◌≤◌, ◌-◌, ◌^◌, [], ◌∷◌, true, IfOk, length};
 ghost use Rattle.std.specs.Int.NonZero.{non_zero_usize_get};
@@ -33,25 +33,25 @@ pub enum Side {
     Right,
 }
 
-/// What is done to one of two nodes, or to both.
+/// A command to one of two nodes, or to both.
 #[derive(Drop)]
 pub enum PairCommand<C: PublicKey> {
-    /// The node at this side serves the command as [`run`](crate::run::run) does: room for what a
-    /// `Dial` or `Listen` may be granted is taken before the first command.
+    /// The node at this side serves the command as [`run`](crate::run::run) does: space for the
+    /// reservation that a `Dial` or `Listen` may be granted is allocated before the first command.
     Call(Side, Command<C>),
-    /// [`Node::ask`] of the node at this side, for the set at this place.
+    /// [`Node::ask`] of the node at this side, for the set at this position.
     Ask(Side, usize),
-    /// [`Node::receive`] by the node at this side, of this frame at this moment.
+    /// [`Node::receive`] by the node at this side, of this frame at this time.
     Frame(Side, Bytes, Duration),
     /// [`exchange`](crate::node::exchange) of the asker with the other node.
     Exchange {
         /// The side of the node that asks.
         asker: Side,
-        /// The place of the asker's set.
+        /// The position of the asker's set.
         place: usize,
-        /// The asker's present moment, as the time since the epoch.
+        /// The asker's present time, as a duration since the epoch.
         asker_now: Duration,
-        /// The replier's present moment, as the time since the epoch.
+        /// The replier's present time, as a duration since the epoch.
         replier_now: Duration,
     },
 }
@@ -61,13 +61,13 @@ pub enum PairCommand<C: PublicKey> {
 pub enum PairReply<C: PublicKey> {
     /// The reply to a command.
     Call(Reply<C>),
-    /// The frame that was asked for, where there is a set at the place.
+    /// The frame that was asked for, if there is a set at the position.
     Ask(Option<Bytes>),
-    /// The answer to a frame.
+    /// The result of a frame.
     Frame(Received),
-    /// What an exchange came to.
+    /// The result of an exchange.
     Exchange(Exchanged<C>),
-    /// Memory for the frame of an `Ask` was refused. Nothing has changed.
+    /// The allocation for the frame of an `Ask` failed. Nothing has changed.
     OutOfMemory,
 }
 
@@ -84,7 +84,7 @@ impl<C: PublicKey> fmt::Debug for PairReply<C> {
     }
 }
 
-/// What a run of two nodes leaves. Both must be spent, by [`Node::finish`] or [`Node::parts`].
+/// What a run of two nodes leaves. Both must be consumed by [`Node::finish`] or [`Node::parts`].
 pub struct PairRun<C: PublicKey> {
     /// The first node after the last command.
     pub left: Node<C>,
@@ -95,38 +95,38 @@ pub struct PairRun<C: PublicKey> {
 }
 
 /// Makes two nodes and serves the commands in turn, as [`run_network`] of two. Each reply is that
-/// of the call, by what was done before it; a command that wants memory, or is replied
-/// `NotReserved` or `NotHeld`, is as not given.
+/// of the call, by what was done before it. A command that runs out of memory, or whose reply is
+/// `NotReserved` or `NotHeld`, has no effect.
 ///
-/// Room for all replies and all reservations is taken before the first command, so a `Call` is
-/// replied `OutOfMemory` only where [`run`](crate::run::run) may reply it, an `Ask` only where
-/// there is a set at the place, and a `Frame` and an `Exchange` are answered `Memory` only where
-/// [`Node::receive`] and [`exchange`](crate::node::exchange) may answer it.
+/// Space for all replies and all reservations is allocated before the first command. So a `Call`
+/// gets `OutOfMemory` only if [`run`](crate::run::run) may reply it, and an `Ask` only if there is
+/// a set at the position. A `Frame` and an `Exchange` get `Memory` only if [`Node::receive`] and
+/// [`exchange`](crate::node::exchange) may return it.
 ///
-/// The replies keep these rules, where both own infos, and the infos of each command and of each
+/// The replies keep these rules, if both local infos, and the infos of each command and of each
 /// frame that was accepted before, are signed in the namespaces of both nodes:
 ///
-/// - Exchanges: where the replier retains a set of the index of the asker's with the same primary
-///   peers, the limits of both admit the bits and the infos, and the replier's moment is at most
-///   the asker's bound past the asker's, an exchange is `Applied` with exactly the wanted infos
-///   that may be shared, unless memory is refused. Afterwards the asker's info of each of their
-///   peers is at least as new. The same exchange directly repeated is `Applied` and changes
-///   nothing, unless memory is refused.
+/// - Exchanges: an exchange is `Applied` with exactly the wanted infos that may be shared, unless
+///   an allocation fails, under these premises. The replier retains a set of the index of the
+///   asker's with the same primary peers. The bits and the infos are within the limits of both. The
+///   replier's time is at most the asker's bound after the asker's. Afterwards the asker's info of
+///   each of their peers is at least as new. The same exchange directly repeated is `Applied` and
+///   changes nothing, unless an allocation fails.
 /// - Infos: each info that either node holds is signed in the namespaces of both.
-/// - Greetings: a frame with the greeting of the other node's own info is `Greeted`, unless memory
-///   is refused, where the own keys differ and its timestamp is within the bound.
-/// - Replies: let a `Frame` hand a node the bits that the other was earlier asked for, and let it
-///   retain a set of their index with the primary peers that the set at the place then had. What it
-///   replies spells infos that are signed in the namespaces of both, none with the other's key,
+/// - Greetings: a frame with the greeting of the other node's local info is `Greeted`, unless an
+///   allocation fails, if the local keys differ and its timestamp is within the bound.
+/// - Replies: let a `Frame` pass to a node the bits that the other was earlier asked for, and let
+///   it retain a set of their index with the primary peers that the set at the position then had.
+///   Its reply encodes infos that are signed in the namespaces of both, none with the other's key,
 ///   none with a timestamp above the present milliseconds.
 /// - Late frames: a `Frame` of such infos to that other node, however late and however often it
-///   comes, is `Applied` with their number, unless memory is refused, where they are no more than
-///   its limit and its count admit and the moment of the reply is at most its bound ahead.
-///   Afterwards its info of each of their peers that has a record is at least as new. Nothing
-///   changes where all were so before, and by a copy that follows at once. What else was given to
-///   either node is of no matter here.
+///   arrives, is `Applied` with their number, unless an allocation fails. Their number must be
+///   within its limit and its count, and the time of the reply at most its bound ahead. Afterwards
+///   its info of each of their peers that has a record is at least as new. Nothing changes if all
+///   were so before, or by a copy that follows at once. What else was passed to either node doesn't
+///   matter here.
 ///
-/// Both nodes that are left must be spent, by [`Node::finish`] or [`Node::parts`].
+/// Both resulting nodes must be consumed by [`Node::finish`] or [`Node::parts`].
 ///
 /// # Conditions
 ///
@@ -134,7 +134,7 @@ pub struct PairRun<C: PublicKey> {
 ///
 /// # Errors
 ///
-/// `AllocError` where memory is refused before the first command.
+/// `AllocError` if an allocation fails before the first command.
 ///
 /// # Cost
 ///
@@ -211,7 +211,7 @@ fn both<C: PublicKey>(
     Ok(setups)
 }
 
-// The commands, as to a network.
+// The commands, as those to a network.
 fn network_commands<C: PublicKey>(
     alloc: Global,
     commands: Vec<PairCommand<C>>,
@@ -225,7 +225,7 @@ fn network_commands<C: PublicKey>(
     Ok(given)
 }
 
-// The command, as to a network.
+// The command, as one to a network.
 fn network_command<C: PublicKey>(command: PairCommand<C>) -> NetworkCommand<C>
     ensures { result ≡ command_in command }
 {
@@ -258,7 +258,7 @@ fn index(side: Side) -> usize
     }
 }
 
-// The side with which one exchanges.
+// The other side.
 fn other(side: Side) -> Side
     ensures { result ≡ pairs.other side }
 {
@@ -268,7 +268,7 @@ fn other(side: Side) -> Side
     }
 }
 
-// What a network replied, as a pair does: there are both nodes. Takes no memory.
+// The replies of a network, as those of a pair: both nodes exist. It doesn't allocate.
 fn pair_replies<C: PublicKey>(
     told: Vec<NetworkReply<C>>,
     replies: Vec<PairReply<C>>,

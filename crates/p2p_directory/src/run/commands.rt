@@ -11,29 +11,31 @@ use std::time::Duration;
 /// One call of a directory.
 #[derive(Drop)]
 pub enum Command<C: PublicKey> {
-    /// [`Directory::track`]: takes a peer set.
+    /// [`Directory::track`]: registers a peer set.
     Track {
         /// The index of the set.
         index: u64,
         /// Its peers.
         peers: TrackedPeers<C>,
     },
-    /// [`Directory::dial`]: reserves a peer that is to be dialled. What is granted is held.
+    /// [`Directory::dial`]: reserves a peer to be dialled. A granted reservation is held.
     Dial {
         /// The peer to be dialled.
         peer: C,
-        /// The present moment, as the time since the epoch.
+        /// The present time, as a duration since the epoch.
         now: Duration,
-        /// How much later than reservable the peer is to be dialable again, within its bound.
+        /// The jitter: how much later than reservable the peer becomes dialable again, within its
+        /// bound.
         draw: Duration,
     },
-    /// [`Directory::listen`]: reserves a peer that comes. What is granted is held.
+    /// [`Directory::listen`]: reserves an inbound peer. A granted reservation is held.
     Listen {
-        /// The peer that comes.
+        /// The inbound peer.
         peer: C,
-        /// The present moment, as the time since the epoch.
+        /// The present time, as a duration since the epoch.
         now: Duration,
-        /// How much later than reservable the peer is to be dialable again, within its bound.
+        /// The jitter: how much later than reservable the peer becomes dialable again, within its
+        /// bound.
         draw: Duration,
     },
     /// [`Directory::connect`] of a peer that is reserved.
@@ -43,7 +45,7 @@ pub enum Command<C: PublicKey> {
         /// Whether the local node dialled it.
         dialer: bool,
     },
-    /// [`Directory::release`] of the reservation that is held of this peer.
+    /// [`Directory::release`] of this peer's reservation, if one is held.
     Release(C),
     /// [`Directory::update_peers`] with these infos.
     UpdatePeers(Vec<Info<C>>),
@@ -51,16 +53,16 @@ pub enum Command<C: PublicKey> {
     Block {
         /// The peer.
         peer: C,
-        /// The present moment, as the time since the epoch.
+        /// The present time, as a duration since the epoch.
         now: Duration,
     },
-    /// [`Directory::unblock_expired`] at this moment, the time since the epoch.
+    /// [`Directory::unblock_expired`] at this time, a duration since the epoch.
     UnblockExpired(Duration),
-    /// [`Directory::forget_cooled`] at this moment, the time since the epoch.
+    /// [`Directory::forget_cooled`] at this time, a duration since the epoch.
     ForgetCooled(Duration),
     /// [`Directory::next_unblock`].
     NextUnblock,
-    /// [`Directory::blocked_peers`] at this moment, the time since the epoch.
+    /// [`Directory::blocked_peers`] at this time, a duration since the epoch.
     BlockedPeers(Duration),
     /// [`Directory::status`] of this peer.
     Status(C),
@@ -74,44 +76,44 @@ pub enum Command<C: PublicKey> {
     All,
     /// [`Directory::info`] of this peer.
     Info(C),
-    /// [`Directory::infos`] for one who knows some bits.
+    /// [`Directory::infos`] for a peer that sent some bits.
     Infos {
         /// The bits, with the index of their set.
         bit_vec: BitVec,
-        /// The present moment, as the time since the epoch.
+        /// The present time, as a duration since the epoch.
         now: Duration,
     },
-    /// [`Directory::get_random_bit_vec`] at this place.
+    /// [`Directory::get_random_bit_vec`] at this position.
     GetRandomBitVec(usize),
     /// [`Directory::eligible`] of a peer.
     Eligible {
         /// The peer.
         peer: C,
-        /// The present moment, as the time since the epoch.
+        /// The present time, as a duration since the epoch.
         now: Duration,
     },
     /// [`Directory::acceptable`] of a peer.
     Acceptable {
         /// The peer.
         peer: C,
-        /// The present moment, as the time since the epoch.
+        /// The present time, as a duration since the epoch.
         now: Duration,
     },
-    /// [`Directory::dialable`] at this moment, the time since the epoch.
+    /// [`Directory::dialable`] at this time, a duration since the epoch.
     Dialable(Duration),
     /// [`Directory::tracked`].
     Tracked,
 }
 
-/// What a command is answered.
+/// The reply to a command.
 #[derive(Drop)]
 pub enum Reply<C: PublicKey> {
-    /// The answer of [`Directory::track`]: the peers whose connections have to end, or `None`
-    /// where the set was not taken.
+    /// The result of [`Directory::track`]: the peers that must be disconnected, or `None` if the
+    /// set was not accepted.
     Track(Option<OrderedSet<C>>),
     /// Whether the reservation was granted, for a dial.
     Dial(bool),
-    /// Whether the reservation was granted, for a peer that comes.
+    /// Whether the reservation was granted, for an inbound peer.
     Listen(bool),
     /// The peer is connected.
     Connect,
@@ -119,46 +121,48 @@ pub enum Reply<C: PublicKey> {
     Release,
     /// The infos were offered to the records of their peers.
     UpdatePeers,
-    /// The answer of [`Directory::block`]: whether the block was taken.
+    /// The result of [`Directory::block`]: whether the block was accepted.
     Block(bool),
-    /// The answer of [`Directory::unblock_expired`]: whether any block had ended.
+    /// The result of [`Directory::unblock_expired`]: whether any block had ended.
     UnblockExpired(bool),
-    /// The answer of [`Directory::forget_cooled`]: how many cooldowns were forgotten.
+    /// The result of [`Directory::forget_cooled`]: how many cooldowns were forgotten.
     ForgetCooled(usize),
-    /// The answer of [`Directory::next_unblock`]: `None` where there is no block.
+    /// The result of [`Directory::next_unblock`]: `None` if there is no block.
     NextUnblock(Option<Duration>),
-    /// The answer of [`Directory::blocked_peers`].
+    /// The result of [`Directory::blocked_peers`].
     BlockedPeers(OrderedSet<C>),
-    /// The answer of [`Directory::status`]: `None` where there is no record of the peer.
+    /// The result of [`Directory::status`]: `None` if there is no record of the peer.
     Status(Option<Status>),
-    /// The answer of [`Directory::get_peer_set`]: `None` where no retained set has the index.
+    /// The result of [`Directory::get_peer_set`]: `None` if no retained set has the index.
     GetPeerSet(Option<TrackedPeers<C>>),
-    /// The answer of [`Directory::latest_set_index`]: `None` where no set was taken.
+    /// The result of [`Directory::latest_set_index`]: `None` if no set was registered.
     LatestSetIndex(Option<u64>),
-    /// The answer of [`Directory::latest_update`]: `None` where no set was taken.
+    /// The result of [`Directory::latest_update`]: `None` if no set was registered.
     LatestUpdate(Option<PeerSetUpdate<C>>),
-    /// The answer of [`Directory::all`]: the peers of the retained sets, by role.
+    /// The result of [`Directory::all`]: the peers of the retained sets, by role.
     All(TrackedPeers<C>),
-    /// The answer of [`Directory::info`]: `None` where there is no info that others may be told.
+    /// The result of [`Directory::info`]: `None` if there is no info that may be shared.
     Info(Option<Info<C>>),
-    /// The answer of [`Directory::infos`]: `None` where the bits are of another number than the
+    /// The result of [`Directory::infos`]: `None` if the number of bits differs from the number of
     /// primary peers of the set.
     Infos(Option<Vec<Info<C>>>),
-    /// The answer of [`Directory::get_random_bit_vec`]: `None` where there is no such place.
+    /// The result of [`Directory::get_random_bit_vec`]: `None` if there is no such position.
     GetRandomBitVec(Option<BitVec>),
-    /// The answer of [`Directory::eligible`]: whether the peer may be connected.
+    /// The result of [`Directory::eligible`]: whether the peer may be connected.
     Eligible(bool),
-    /// The answer of [`Directory::acceptable`]: whether a connection of the peer may be accepted.
+    /// The result of [`Directory::acceptable`]: whether an inbound connection of the peer may be
+    /// accepted.
     Acceptable(bool),
-    /// The answer of [`Directory::dialable`]: who may be dialled, and when to ask again.
+    /// The result of [`Directory::dialable`]: who may be dialled, and when to ask again.
     Dialable(Dialable<C>),
-    /// The answer of [`Directory::tracked`]: how many peers have a record, but for the local node.
+    /// The result of [`Directory::tracked`]: how many peers have a record, not counting the local
+    /// node.
     Tracked(usize),
     /// There is nothing to connect: the peer is not reserved, and nothing has changed.
     NotReserved,
     /// There is nothing to release: no reservation of the peer is held, and nothing has changed.
     NotHeld,
-    /// Memory was refused, and nothing has changed.
+    /// An allocation failed, and nothing has changed.
     OutOfMemory,
 }
 

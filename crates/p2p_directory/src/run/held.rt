@@ -14,10 +14,10 @@ use p2p_discovery::codec::PublicKey;
 use p2p_tracker::directory::{Directory, Reservation};
 use std::marker::Model;
 
-/// The reservations that are held, in ascending order of their peers. A contract sees the list of
-/// what they are for. It must be spent, by [`Held::release_all`] or [`Held::close`].
+/// The open reservations, in ascending order of their peers. A contract sees the list of what they
+/// are for. It must be consumed by [`Held::release_all`] or [`Held::close`].
 pub struct Held<C: PublicKey> {
-    // The empty ones are of peers of whom none is held. The first is not empty.
+    // The empty slots are of peers without a reservation. The first is not empty.
     slots: Slots<C>,
 }
 
@@ -35,7 +35,7 @@ impl<C: PublicKey> Model for Held<C> {
 }
 
 impl<C: PublicKey> Held<C> {
-    // What is held in these slots.
+    // The reservations in these slots.
     pub(crate) fn new(mut slots: Slots<C>) -> Self
         ensures { (q : C) → held_of C.cmp result q ≡ held_in C.cmp slots q }
     {
@@ -45,12 +45,12 @@ impl<C: PublicKey> Held<C> {
         Held { slots }
     }
 
-    /// The least of the peers whose reservations are held, or `None` where none is held. Takes no
-    /// memory.
+    /// The least of the peers whose reservations are held, or `None` if none is held. It doesn't
+    /// allocate.
     ///
     /// # Cost
     ///
-    /// At most logarithmic in what is held.
+    /// At most logarithmic in the number of reservations.
     pub fn first(&self) -> Option<C>
         ensures least { result ≡ option_map key_of (slice_get self.now 0) }
         ensures ascending { IsStrictlySortedBy C.cmp (map key_of self.now) }
@@ -60,13 +60,13 @@ impl<C: PublicKey> Held<C> {
         self.slots.first()
     }
 
-    /// Hands out the reservation of the peer; all others stay. Answers `None`, and changes
-    /// nothing, where none of that peer is held. Takes no memory.
+    /// Removes and returns the reservation of the peer; all others stay. Returns `None`, and
+    /// changes nothing, if none of that peer is held. It doesn't allocate.
     ///
     /// # Cost
     ///
-    /// Logarithmic in what is held, and after a run in how many peers its commands dialled or
-    /// listened for; for each of these of whom none is held one step more, once in all.
+    /// Logarithmic in the number of reservations, and after a run in how many peers its commands
+    /// dialled or listened for. For each of these without a reservation one step more, once in all.
     pub fn take(&mut self, peer: &C) -> Option<Reservation<C>>
         ensures taken { result ≡ held_of C.cmp self.old peer.now }
         ensures peer { IfSome result (λ metadata. key_of metadata ≡ peer.now) }
@@ -83,17 +83,17 @@ impl<C: PublicKey> Held<C> {
         taken
     }
 
-    /// Releases all that is held, in the directory that granted it. Takes no memory.
+    /// Releases all reservations, in the directory that granted them. It doesn't allocate.
     ///
     /// # Conditions
     ///
     /// A reservation is held of exactly the peers that are reserved or connected in the directory,
-    /// as it is after a run and of the parts of a node.
+    /// as it is after a run and for the parts of a node.
     ///
     /// # Cost
     ///
-    /// One pass over what is held, with a [`Directory::release`] of each, and after a run over the
-    /// other peers that its commands dialled or listened for.
+    /// One pass over the reservations, with a [`Directory::release`] of each, and after a run over
+    /// the other peers that its commands dialled or listened for.
     pub fn release_all(self, directory: &mut Directory<C>)
         requires { AreHeld C.cmp directory.old (held_of C.cmp self) }
         ensures { ReleasesAll C.cmp self directory.old directory.new }
@@ -108,7 +108,7 @@ impl<C: PublicKey> Held<C> {
         slots.destroy_empty();
     }
 
-    /// Ends it. Takes no memory. What is held goes first, by [`Held::release_all`].
+    /// Consumes it. It doesn't allocate. Release the reservations before, by [`Held::release_all`].
     ///
     /// # Conditions
     ///
@@ -121,7 +121,7 @@ impl<C: PublicKey> Held<C> {
     }
 }
 
-// Takes out the first slots, as long as they are empty.
+// Removes the first slots, as long as they are empty.
 fn drop_empty_first<C: PublicKey>(slots: &mut Slots<C>)
     requires { AreSlots C.cmp slots.old }
     ensures full { BeginFull C.cmp slots.new }

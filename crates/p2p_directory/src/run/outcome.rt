@@ -1,4 +1,4 @@
-//! What a run leaves, and how it is given back.
+//! What a run leaves, and how it is released.
 
 ghost use Rattle.p2p_directory.specs.Held.{held_of, AreHeld};
 
@@ -22,7 +22,7 @@ pub struct Run<C: PublicKey> {
 impl<C: PublicKey> Run<C> {
     ghost use Rattle.p2p_directory.specs.Held.{ReleasesAll};
 
-    /// Releases all that is held, and answers the directory. Takes no memory; the replies are
+    /// Releases all reservations, and returns the directory. It doesn't allocate. The replies are
     /// dropped.
     ///
     /// # Cost

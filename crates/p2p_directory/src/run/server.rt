@@ -1,4 +1,4 @@
-//! A directory that serves commands, and holds what it grants.
+//! A directory that serves commands, and holds the reservations that it grants.
 
 ghost use Rattle.std.specs.Prelude.{◌≡◌, true, false, None, OnOk, OnErr, IfSome, option_map};
 ghost use Rattle.p2p_tracker.specs.Directory.{Updates};
@@ -43,7 +43,7 @@ impl<C: PublicKey> Model for Server<C> {
 }
 
 impl<C: PublicKey> Server<C> {
-    /// A server with what is held in the slots.
+    /// A server with the reservations in the slots.
     pub fn new(directory: Directory<C>, slots: Slots<C>) -> Self
         requires { AreHeld C.cmp directory (held_in C.cmp slots) }
         ensures { result ≡ record { directory = directory; slots = slots } }
@@ -51,7 +51,7 @@ impl<C: PublicKey> Server<C> {
         Server { directory, slots }
     }
 
-    /// Serves one command, where there is a slot for what it may be granted.
+    /// Serves one command, if there is a slot for the reservation that it may be granted.
     pub fn serve(&mut self, command: Command<C>) -> Reply<C>
         requires room { has_slot_for C.cmp self.old.slots command ≡ true }
         ensures served { IsServed C.cmp command result self.old self.new }
@@ -93,7 +93,7 @@ impl<C: PublicKey> Server<C> {
         &self.directory
     }
 
-    /// Makes a slot for what the command may be granted, where there is none.
+    /// Makes a slot for the reservation that the command may be granted, if there is none.
     pub fn make_room(&mut self, command: &Command<C>) -> Result<(), AllocError>
         ensures err { OnErr result (self.new ≡ self.old) }
         ensures reserves { OnErr result (may_reserve (call_of command.now) ≡ true) }
@@ -107,7 +107,7 @@ impl<C: PublicKey> Server<C> {
         make_slot(&mut self.slots, command)
     }
 
-    /// Makes a slot for the peer, where there is none.
+    /// Makes a slot for the peer if there is none.
     pub fn make_slot(&mut self, peer: &C) -> Result<(), AllocError>
         ensures err { OnErr result (self.new ≡ self.old) }
         ensures room { OnOk result (has_slot C.cmp self.new.slots peer.now ≡ true) }
@@ -118,7 +118,7 @@ impl<C: PublicKey> Server<C> {
         self.slots.make(*peer)
     }
 
-    /// Takes the slot of the peer out, where it is empty. Takes no memory.
+    /// Removes the slot of the peer if it is empty. It doesn't allocate.
     pub fn drop_room(&mut self, peer: Option<C>)
         ensures dropped { IfSome peer (λ p. held_in C.cmp self.old.slots p ≡ None →
             has_slot C.cmp self.new.slots p ≡ false) }
@@ -131,7 +131,7 @@ impl<C: PublicKey> Server<C> {
         }
     }
 
-    /// Whom the reservation of the peer is for, if one is held. Takes no memory.
+    /// Whom the reservation of the peer is for, if one is held. It doesn't allocate.
     pub fn held(&self, peer: &C) -> Option<&Metadata<C>>
         ensures { option_map (λ m. m.now) result ≡ held_in C.cmp self.now.slots peer.now }
     {
@@ -145,7 +145,7 @@ impl<C: PublicKey> Server<C> {
         self.slots.in_order();
     }
 
-    /// Offers infos to the records of their peers. Takes no memory.
+    /// Offers infos to the records of their peers. It doesn't allocate.
     pub fn update(&mut self, infos: Vec<Info<C>>)
         ensures updated { Updates C.cmp self.old.directory self.new.directory infos.items }
         ensures slots { self.new.slots ≡ self.old.slots }
@@ -153,7 +153,7 @@ impl<C: PublicKey> Server<C> {
         self.directory.update_peers(infos);
     }
 
-    /// The directory, and what is held. Takes no memory.
+    /// The directory, and the reservations. It doesn't allocate.
     pub fn into_parts(self) -> (Directory<C>, Held<C>)
         ensures directory { result.0 ≡ self.directory }
         ensures held { (q : C) → held_of C.cmp result.1 q ≡ held_in C.cmp self.slots q }
@@ -163,7 +163,7 @@ impl<C: PublicKey> Server<C> {
         (directory, slots.into_held())
     }
 
-    /// Takes a peer set.
+    /// Registers a peer set.
     pub fn track(&mut self, index: u64, peers: TrackedPeers<C>) -> Reply<C>
         ensures served { IsServed C.cmp (Command.Track index peers) result self.old self.new }
         ensures unchanged { was_made result ≡ false → self.new ≡ self.old }
@@ -176,7 +176,7 @@ impl<C: PublicKey> Server<C> {
         }
     }
 
-    /// Reserves the peer for a dial, where that is granted.
+    /// Reserves the peer for a dial if that is granted.
     pub fn dial(&mut self, peer: &C, now: Duration, draw: Duration) -> Reply<C>
         requires room { has_slot C.cmp self.old.slots peer.now ≡ true }
         ensures served { IsServed C.cmp (Command.Dial peer.now now draw)
@@ -195,7 +195,7 @@ impl<C: PublicKey> Server<C> {
         }
     }
 
-    /// Reserves the peer that comes, where that is granted.
+    /// Reserves the inbound peer if that is granted.
     pub fn listen(&mut self, peer: &C, now: Duration, draw: Duration) -> Reply<C>
         requires room { has_slot C.cmp self.old.slots peer.now ≡ true }
         ensures served { IsServed C.cmp (Command.Listen peer.now now draw)
@@ -214,7 +214,7 @@ impl<C: PublicKey> Server<C> {
         }
     }
 
-    /// Connects the peer, where it is reserved.
+    /// Connects the peer if it is reserved.
     pub fn connect(&mut self, peer: &C, dialer: bool) -> Reply<C>
         ensures served { IsServed C.cmp (Command.Connect peer.now dialer)
             result self.old self.new }
@@ -230,7 +230,7 @@ impl<C: PublicKey> Server<C> {
         }
     }
 
-    /// Releases the reservation of the peer, where one is held.
+    /// Releases the reservation of the peer if one is held.
     pub fn release(&mut self, peer: &C) -> Reply<C>
         ensures served { IsServed C.cmp (Command.Release peer.now) result self.old self.new }
         ensures unchanged { was_made result ≡ false → self.new ≡ self.old }
@@ -246,7 +246,7 @@ impl<C: PublicKey> Server<C> {
         }
     }
 
-    /// Releases the reservation of the peer, where one is held, and takes its slot out.
+    /// Releases the reservation of the peer if one is held, and removes its slot.
     pub fn release_slot(&mut self, peer: &C) -> Reply<C>
         ensures served { IsServed C.cmp (Command.Release peer.now) result self.old self.new }
         ensures directory { was_made result ≡ false → self.new.directory ≡ self.old.directory }
@@ -285,8 +285,8 @@ impl<C: PublicKey> Server<C> {
         }
     }
 
-    /// Ends the blocks that hold until the moment, or until an earlier one, and says whether there
-    /// were any.
+    /// Ends the blocks that hold until this time, or until an earlier one, and returns whether
+    /// there were any.
     pub fn unblock_expired(&mut self, now: Duration) -> bool
         ensures served { IsServed C.cmp (Command.UnblockExpired now) (Reply.UnblockExpired result)
             self.old self.new }
@@ -295,7 +295,7 @@ impl<C: PublicKey> Server<C> {
         self.directory.unblock_expired(now)
     }
 
-    /// Forgets the cooldowns whose dial moment is at or before the moment, and says how many.
+    /// Forgets the cooldowns whose dial time is at or before this time, and returns how many.
     pub fn forget_cooled(&mut self, now: Duration) -> usize
         ensures served { IsServed C.cmp (Command.ForgetCooled now) (Reply.ForgetCooled result)
             self.old self.new }
@@ -304,7 +304,7 @@ impl<C: PublicKey> Server<C> {
         self.directory.forget_cooled(now)
     }
 
-    /// The directory, what is held, and these replies. Takes no memory.
+    /// The directory, the reservations, and these replies. It doesn't allocate.
     pub fn into_run(self, replies: Vec<Reply<C>>) -> Run<C>
         ensures directory { result.directory ≡ self.directory }
         ensures held { (q : C) → held_of C.cmp result.held q ≡ held_in C.cmp self.slots q }

@@ -1,5 +1,5 @@
-//! Slots for the reservations that may be granted: those of a run are made before its first
-//! command, that of a node's command before it.
+//! Slots for the reservations that may be granted. Those of a run are made before its first
+//! command, that of a node's command before the command.
 
 ghost use Rattle.std.specs.Prelude.{◌≡◌, ◌∷◌, [], false, true, not, ◌||◌, if◌then◌else◌};
 ghost use Rattle.std.specs.Prelude.{IfSome, IfNone, IfOk, OnOk, OnErr, None, Some, Option};
@@ -22,15 +22,15 @@ use tree::Tree;
 mod listed;
 mod tree;
 
-/// A slot for each of some peers, empty or with its reservation. A contract sees the peers and
-/// what is in the slots, in ascending order. It must be spent, by [`Slots::into_held`],
+/// A slot for each of some peers, empty or with its reservation. A contract sees the peers and what
+/// is in the slots, in ascending order. It must be consumed by [`Slots::into_held`],
 /// [`Slots::close`] or [`Slots::destroy_empty`].
 pub struct Slots<C: PublicKey> {
     table: Table<C>,
 }
 
 // A list is sorted once, and a search in it is the fastest; a tree is for slots that are made and
-// taken out one by one.
+// removed one by one.
 enum Table<C: PublicKey> {
     Listed(Listed<C>),
     Tree(Tree<C>),
@@ -48,7 +48,7 @@ impl<C: PublicKey> Model for Slots<C> {
 }
 
 impl<C: PublicKey> Slots<C> {
-    /// No slots, to be made and taken out one by one.
+    /// No slots, to be made and removed one by one.
     pub fn new(alloc: Global) -> Self
         ensures { result ≡ [] }
     {
@@ -57,7 +57,7 @@ impl<C: PublicKey> Slots<C> {
         }
     }
 
-    /// An empty slot for each of the peers, in whatever order and however often each of them comes.
+    /// An empty slot for each of the peers, which may be in any order and repeat.
     ///
     /// # Cost
     ///
@@ -73,7 +73,7 @@ impl<C: PublicKey> Slots<C> {
         })
     }
 
-    /// Makes an empty slot for the peer, where it has none.
+    /// Makes an empty slot for the peer if it has none.
     pub fn make(&mut self, peer: C) -> Result<(), AllocError>
         ensures err { OnErr result (self.new ≡ self.old) }
         ensures slots { OnOk result ((q : C) →
@@ -86,7 +86,7 @@ impl<C: PublicKey> Slots<C> {
         }
     }
 
-    /// Puts a reservation into the slot of its peer. Takes no memory.
+    /// Puts a reservation into the slot of its peer. It doesn't allocate.
     pub fn put(&mut self, reservation: Reservation<C>)
         requires slot { has_slot C.cmp self.old (key_of reservation) ≡ true }
         requires empty { held_in C.cmp self.old (key_of reservation) ≡ None }
@@ -101,7 +101,8 @@ impl<C: PublicKey> Slots<C> {
         }
     }
 
-    /// Takes the reservation of the peer out of its slot, which stays. Takes no memory.
+    /// Removes the reservation of the peer from its slot, which stays, and returns it. It doesn't
+    /// allocate.
     pub fn take(&mut self, peer: &C) -> Option<Reservation<C>>
         ensures taken { result ≡ held_in C.cmp self.old peer.now }
         ensures peer { IfSome result (λ metadata. key_of metadata ≡ peer.now) }
@@ -116,8 +117,8 @@ impl<C: PublicKey> Slots<C> {
         }
     }
 
-    /// Takes the reservation of the peer out. Its slot goes where it is in a tree, and stays,
-    /// empty, where it is listed. Takes no memory.
+    /// Removes the reservation of the peer, and returns it. Its slot is removed from a tree, and
+    /// stays, empty, in a list. It doesn't allocate.
     ///
     /// # Cost
     ///
@@ -134,12 +135,12 @@ impl<C: PublicKey> Slots<C> {
         }
     }
 
-    /// Takes the slot of the peer out, with the reservation that is in it, if there is one. Takes
-    /// no memory.
+    /// Removes the slot of the peer, and returns the reservation that is in it, if there is one. It
+    /// doesn't allocate.
     ///
     /// # Cost
     ///
-    /// One search among the slots, and where they are listed a move of those before or after it.
+    /// One search among the slots, and in a list a move of those before or after it.
     pub fn remove(&mut self, peer: &C) -> Option<Reservation<C>>
         ensures taken { result ≡ held_in C.cmp self.old peer.now }
         ensures peer { IfSome result (λ metadata. key_of metadata ≡ peer.now) }
@@ -153,7 +154,7 @@ impl<C: PublicKey> Slots<C> {
         }
     }
 
-    /// Whom the reservation of the peer is for, if one is held. Takes no memory.
+    /// Whom the reservation of the peer is for, if one is held. It doesn't allocate.
     pub fn held(&self, peer: &C) -> Option<&Metadata<C>>
         ensures { option_map (λ m. m.now) result ≡ held_in C.cmp self.now peer.now }
     {
@@ -163,11 +164,11 @@ impl<C: PublicKey> Slots<C> {
         }
     }
 
-    /// Takes the slot of the peer out, where it is empty. Takes no memory.
+    /// Removes the slot of the peer if it is empty. It doesn't allocate.
     ///
     /// # Cost
     ///
-    /// One search among the slots, and that of [`Slots::remove`] where it goes.
+    /// One search among the slots, and that of [`Slots::remove`] if it is removed.
     pub fn drop_empty(&mut self, peer: &C)
         ensures dropped { held_in C.cmp self.old peer.now ≡ None →
             has_slot C.cmp self.new peer.now ≡ false }
@@ -189,7 +190,7 @@ impl<C: PublicKey> Slots<C> {
         }
     }
 
-    /// The peer of the first slot, or `None` where there is no slot. Takes no memory.
+    /// The peer of the first slot, or `None` if there is no slot. It doesn't allocate.
     pub fn first(&self) -> Option<C>
         ensures some { IfSome result (λ peer. (slot : Option (Metadata C C.Signature))
             × (slice_get self.now 0 ≡ Some (peer, slot))) }
@@ -201,7 +202,7 @@ impl<C: PublicKey> Slots<C> {
         }
     }
 
-    /// Whether there is a first slot, and it is empty. Takes no memory.
+    /// Whether there is a first slot, and it is empty. It doesn't allocate.
     pub fn begins_empty(&self) -> bool
         ensures { result ≡ not (begins_full self.now) }
     {
@@ -211,7 +212,7 @@ impl<C: PublicKey> Slots<C> {
         }
     }
 
-    /// Takes the first slot out, with what is in it. Takes no memory.
+    /// Removes the first slot, and returns it with its contents. It doesn't allocate.
     pub fn pop_first(&mut self) -> Option<(C, Option<Reservation<C>>)>
         ensures first { IfSome result (λ slot. self.old ≡ slot ∷ self.new) }
         ensures none { IfNone result (self.old ≡ []) }
@@ -223,7 +224,7 @@ impl<C: PublicKey> Slots<C> {
         }
     }
 
-    /// Ends it, where there is no slot.
+    /// Consumes it, if there is no slot.
     pub fn destroy_empty(self)
         requires { self ≡ [] }
     {
@@ -234,14 +235,14 @@ impl<C: PublicKey> Slots<C> {
         }
     }
 
-    /// What is held. Takes no memory.
+    /// The reservations in the slots. It doesn't allocate.
     pub fn into_held(self) -> Held<C>
         ensures { (q : C) → held_of C.cmp result q ≡ held_in C.cmp self q }
     {
         Held::new(self)
     }
 
-    /// Ends the slots, where nothing is held in them.
+    /// Consumes the slots, if no reservation is in them.
     pub fn close(self)
         requires { (q : C) → held_in C.cmp self q ≡ None }
     {
@@ -249,7 +250,7 @@ impl<C: PublicKey> Slots<C> {
     }
 }
 
-// What is in no slot needs no release.
+// An empty slot needs no release.
 pub(super) fn spend_empty<C: PublicKey>(slot: Option<Reservation<C>>)
     requires { slot ≡ None }
 {

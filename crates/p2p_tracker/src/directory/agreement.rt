@@ -15,11 +15,14 @@ impl<C: PublicKey> Directory<C> {
     ghost use Rattle.p2p_tracker.specs.declared.record.Role.TheVariants as Role;
     ghost use Rattle.p2p_tracker.specs.PeerSets.{set_count};
 
-    /// What holds between calls: a record counts the retained sets that have its peer, a peer that
-    /// some set has is one with a record, no record is kept that may go, each record has the moments
-    /// that are kept of its peer, or the epoch where none are, and the bits of a retained set, which
-    /// [`Directory::get_random_bit_vec`] answers, are for each primary peer in order the opposite of
-    /// want. Does nothing.
+    /// Does nothing. Its contract says what holds between calls:
+    ///
+    /// - each record's two counts are the numbers of retained sets that name its peer in that role;
+    /// - each peer of a set has a record;
+    /// - no record is deletable;
+    /// - each record has its peer's cooldown, or the epoch twice if there is none;
+    /// - for each primary peer in order, the bits of a retained set, which
+    ///   [`Directory::get_random_bit_vec`] returns, are the opposite of want.
     pub fn agrees(&self)
         ensures counts { (q : C) → IfSome (record_of C.cmp self.now q) (λ r.
             (r.primary_sets ≡ set_count C.cmp Role.Primary q self.now.sets)

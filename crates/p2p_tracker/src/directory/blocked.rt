@@ -1,4 +1,4 @@
-//! Blocks: who is blocked until when, and who is at a moment.
+//! Blocks: who is blocked until when, and who is blocked at a time.
 
 ghost use Rattle.std.specs.Prelude.{◌≡◌, ◌+◌, true, false, IfOk, OnErr};
 ghost use Rattle.std.specs.Duration.{as_nanos};
@@ -29,24 +29,23 @@ impl<C: PublicKey> Directory<C> {
     ghost use Rattle.p2p_tracker.specs.Lists.{IsLeastOf};
     ghost use Rattle.p2p_tracker.specs.Moments.{cap};
 
-    /// Blocks the peer from the moment `now` on, a time since the epoch, for the duration of the
-    /// configuration, whether there is a record of it or not. The sum is capped at the greatest
-    /// `Duration`.
+    /// Blocks the peer from the time `now` on, a duration since the epoch, for the configured
+    /// duration, whether or not it has a record. The sum is capped at `Duration::MAX`.
     ///
-    /// Answers false, takes no memory and changes nothing for the local node, or a peer that is
-    /// blocked at `now`. Else it answers true, and the peer is blocked until then; an earlier block
-    /// that had ended is replaced. A connection of the peer stays.
+    /// Returns false, doesn't allocate and changes nothing for the local node, or a peer that is
+    /// blocked at `now`. Otherwise it returns true, and the peer is blocked until then; an earlier
+    /// block that had ended is replaced. A connection of the peer stays.
     ///
     /// # Errors
     ///
-    /// `AllocError` where memory is refused; then nothing has changed.
+    /// `AllocError` if an allocation fails; then nothing has changed.
     ///
     /// # Cost
     ///
-    /// Constant for the local node, and for another peer one search among the blocks. Where the
-    /// block is taken one more among the blocks, and one among their moments, or two where an ended
-    /// block is replaced; and where the block is then the first to end, or the one that it replaces
-    /// was, one more of each.
+    /// Constant for the local node, and for another peer one search among the blocks. If the block
+    /// is accepted, one more among the blocks and one among their ends, or two if it replaces an
+    /// ended block. If it is then the first to end, or the one that it replaces was, one more of
+    /// each.
     pub fn block(&mut self, peer: &C, now: Duration) -> Result<bool, AllocError>
         ensures err { OnErr result (self.new ≡ self.old) }
         ensures untaken { may_block C.cmp self.old (as_nanos now) peer.now ≡ false →
@@ -67,13 +66,13 @@ impl<C: PublicKey> Directory<C> {
         Ok(true)
     }
 
-    /// Ends the blocks that hold until the moment `now`, a time since the epoch, or until an
-    /// earlier one, and answers whether there were any. All else stays. Takes no memory.
+    /// Ends the blocks that hold until the time `now`, a duration since the epoch, or until an
+    /// earlier time, and returns whether there were any. Nothing else changes. It doesn't allocate.
     ///
     /// # Cost
     ///
-    /// Constant where none ends. Else for each block that ends one removal of the first of their
-    /// moments and one among the blocks, and at the end one search for the least that is left.
+    /// Constant if none ends. Otherwise, for each block that ends, one removal of the first of the
+    /// ends and one among the blocks, and then one search for the first block that is left.
     pub fn unblock_expired(&mut self, now: Duration) -> bool
         ensures answer { IsAnyUntil (unblock_of C.cmp self.old) (as_nanos now) result }
         ensures ended { EndsBlocks C.cmp self.old self.new (as_nanos now) }
@@ -83,9 +82,9 @@ impl<C: PublicKey> Directory<C> {
         self.blocks.drop_until(now) > 0
     }
 
-    /// The least moment until which a block holds, as the time since the epoch, or `None` where
-    /// there is no block. A block that has ended counts until [`Directory::unblock_expired`] ends
-    /// it. Takes no memory.
+    /// When the first block ends, as a duration since the epoch, or `None` if there is no block. A
+    /// block that has ended counts until [`Directory::unblock_expired`] removes it. It doesn't
+    /// allocate.
     ///
     /// # Cost
     ///
@@ -99,12 +98,12 @@ impl<C: PublicKey> Directory<C> {
         }
     }
 
-    /// The peers that are blocked at the moment `now`, a time since the epoch: those whose block
-    /// holds until later.
+    /// The peers that are blocked at the time `now`, a duration since the epoch: those whose block
+    /// ends later.
     ///
     /// # Errors
     ///
-    /// `AllocError` where memory is refused; that is, where somebody is blocked.
+    /// `AllocError` if an allocation fails. It allocates only if a peer is blocked.
     ///
     /// # Cost
     ///
@@ -125,11 +124,11 @@ impl<C: PublicKey> Directory<C> {
     }
 }
 
-/// The peers whose blocks hold at the moment `now`, a time since the epoch.
+/// The peers whose blocks hold at the time `now`, a duration since the epoch.
 ///
 /// # Errors
 ///
-/// `AllocError` where memory is refused: the list takes some only where there is such a peer.
+/// `AllocError` if an allocation fails. It allocates only if there is such a peer.
 ///
 /// # Cost
 ///
@@ -148,7 +147,7 @@ pub fn blocked_at<C: PublicKey>(
     Ok(ordered(peers))
 }
 
-// Those of the peers whose moment is after `now`, in their order.
+// Those of the peers whose blocks end after `now`, in their order.
 fn peers_after<C: PublicKey>(
     alloc: Global,
     blocks: btree_map::Iter<'_, C, Duration>,

@@ -1,4 +1,4 @@
-//! Cooldowns that are forgotten.
+//! Forgetting of cooldowns.
 
 ghost use Rattle.std.specs.Prelude.{◌≡◌, ◌∷◌, [], Some, length, if◌then◌else◌};
 ghost use Rattle.std.specs.Option.{option_map};
@@ -23,15 +23,15 @@ impl<C: PublicKey> Directory<C> {
     ghost use Rattle.p2p_tracker.specs.Directory.{IsNumberCooledIn, ForgetsCooled, dial_moment_in};
     ghost use Rattle.p2p_tracker.specs.Lists.{IsLeastOf};
 
-    /// Forgets the moments of each peer whose dial moment is at or before `now`, a time since the
-    /// epoch, and answers how many there were: such a peer is reservable and dialable from the
-    /// epoch on, as by its record where it has one. All else stays. Takes no memory.
+    /// Forgets the cooldown of each peer whose dial time is at or before `now`, a duration since
+    /// the epoch, and returns how many there were. Such a peer is reservable and dialable from the
+    /// epoch on, also in its record if it has one. Nothing else changes. It doesn't allocate.
     ///
     /// # Cost
     ///
-    /// Constant while `now` is before the dial moments that were left when some were last forgotten,
-    /// and before those of all grants since. Else three passes over the kept moments, and for each
-    /// such peer one search among the records.
+    /// Constant while `now` is before the dial times that were left by the last call that forgot
+    /// any, and before those of all grants since. Otherwise three passes over the cooldowns, and
+    /// for each such peer one search among the records.
     pub fn forget_cooled(&mut self, now: Duration) -> usize
         ensures answer { IsNumberCooledIn C.cmp self.old (as_nanos now) result }
         ensures forgotten { ForgetsCooled C.cmp self.old self.new (as_nanos now) }
@@ -42,22 +42,23 @@ impl<C: PublicKey> Directory<C> {
         forget_each(&mut self.records, &mut self.cooldowns, now)
     }
 
-    /// The least time since the epoch at which [`Directory::forget_cooled`] forgets something, or
-    /// `None` if no moments are kept: the least of the dial moments. Takes no memory.
+    /// The earliest time, a duration since the epoch, at which [`Directory::forget_cooled`] forgets
+    /// something: the earliest of the dial times. `None` if there are no cooldowns. It doesn't
+    /// allocate.
     ///
     /// # Cost
     ///
-    /// One pass over the kept moments.
+    /// One pass over the cooldowns.
     pub fn next_cooled(&self) -> Option<Duration>
         ensures { IsLeastOf (dial_moment_in C.cmp self.now) (option_map as_nanos result) }
     {
-        // For the proof: the clauses of `len` say that the keys are in order.
+        // For the proof: the contract of `len` says that the keys are in order.
         let _kept = self.cooldowns.len();
         next_dial(&self.cooldowns)
     }
 }
 
-// The least of the dial moments.
+// The earliest of the dial times.
 fn next_dial<C: PublicKey>(cooldowns: &Cooldowns<C>) -> Option<Duration>
     ensures { option_map as_nanos result ≡ least_by (λ e. Some e.1.dial_at) cooldowns.now }
 {
@@ -68,8 +69,8 @@ fn next_dial<C: PublicKey>(cooldowns: &Cooldowns<C>) -> Option<Duration>
     next
 }
 
-// Forgets the moments of each peer whose dial moment is at or before `now`, in its record too, and
-// answers how many there were.
+// Forgets the cooldown of each peer whose dial time is at or before `now`, in its record too, and
+// returns how many there were.
 fn forget_each<C: PublicKey>(
     records: &mut Records<C>,
     cooldowns: &mut Cooldowns<C>,
@@ -82,7 +83,7 @@ fn forget_each<C: PublicKey>(
     ensures records { (q : C) → record_at C.cmp records.new q ≡ option_map
         (with_cooldown (cooldown_in C.cmp cooldowns.new q)) (record_at C.cmp records.old q) }
 {
-    // For the proof: the clauses of `len` say that the keys are in order.
+    // For the proof: the contract of `len` says that the keys are in order.
     let _most = cooldowns.len();
     if !cooldowns.may_have_cooled(now) {
         return 0;
@@ -92,8 +93,8 @@ fn forget_each<C: PublicKey>(
     count
 }
 
-// Clears the moments in the record of each peer whose dial moment is at or before `now`, and
-// answers how many such peers there are.
+// Clears the cooldown in the record of each peer whose dial time is at or before `now`, and returns
+// how many such peers there are.
 fn clear_each<C: PublicKey>(
     records: &mut Records<C>,
     cooldowns: &Cooldowns<C>,
@@ -111,8 +112,8 @@ fn clear_each<C: PublicKey>(
     count
 }
 
-// Clears these moments in the record of the peer, where the dial moment is at or before `now`, and
-// answers how many that are.
+// Clears this cooldown in the record of the peer if its dial time is at or before `now`, and
+// returns how many that are: 0 or 1.
 fn clear_one<C: PublicKey>(
     records: &mut Records<C>,
     peer: &C,

@@ -16,12 +16,12 @@ impl<C: PublicKey> Directory<C> {
     ghost use Rattle.p2p_tracker.specs.Lists.{Somebody};
     ghost use Rattle.p2p_tracker.specs.Record.{is_eligible, is_acceptable};
 
-    /// Whether the peer may be connected at the moment `now`, a time since the epoch: it is not
-    /// blocked, and its record is eligible. False where there is no record. Takes no memory.
+    /// Whether the peer may be connected at the time `now`, a duration since the epoch: it is not
+    /// blocked, and its record is eligible. False if there is no record. It doesn't allocate.
     ///
     /// # Cost
     ///
-    /// One search among the records, and where there is a record one among the blocks.
+    /// One search among the records, and if there is a record, one among the blocks.
     pub fn eligible(&self, peer: &C, now: Duration) -> bool
         ensures { result ≡ is_free_and C.cmp is_eligible self.now (as_nanos now) peer.now }
     {
@@ -31,13 +31,13 @@ impl<C: PublicKey> Directory<C> {
         }
     }
 
-    /// Whether a connection of the peer may be accepted at the moment `now`, a time since the
-    /// epoch: it is not blocked, and its record is acceptable. False where there is no record.
-    /// Takes no memory.
+    /// Whether an inbound connection of the peer may be accepted at the time `now`, a duration
+    /// since the epoch: it is not blocked, and its record is acceptable. False if there is no
+    /// record. It doesn't allocate.
     ///
     /// # Cost
     ///
-    /// One search among the records, and where there is a record one among the blocks.
+    /// One search among the records, and if there is a record, one among the blocks.
     pub fn acceptable(&self, peer: &C, now: Duration) -> bool
         ensures { result ≡ is_free_and C.cmp is_acceptable self.now (as_nanos now) peer.now }
     {
@@ -47,16 +47,16 @@ impl<C: PublicKey> Directory<C> {
         }
     }
 
-    /// The peers that may be dialled at the moment `now`, a time since the epoch, in ascending
+    /// The peers that may be dialled at the time `now`, a duration since the epoch, in ascending
     /// order: those whose dial status is [`Now`](crate::record::DialStatus::Now) and that are not
-    /// blocked. With them the moment from which it is worth to ask again: the least of the unblock
-    /// moments of blocked peers that have a record, and of the dial moments of the others whose
+    /// blocked. `next_query_at` says from when asking again is useful. It is the earliest of the
+    /// ends of the blocks of peers that have a record, and of the dial times of the others whose
     /// status is [`After`](crate::record::DialStatus::After). While nothing is called in between,
-    /// the answer stays the same up to before that moment, and for ever where there is none.
+    /// the result stays the same before that time, or for ever if there is none.
     ///
     /// # Errors
     ///
-    /// `AllocError` where memory is refused; that is, where somebody may be dialled.
+    /// `AllocError` if an allocation fails. It allocates only if a peer may be dialled.
     ///
     /// # Cost
     ///

@@ -1,4 +1,4 @@
-//! Whether a grant may be made, and what it changes.
+//! Whether a reservation may be granted, and what that changes.
 
 ghost use Rattle.std.specs.Prelude.{◌≡◌, false, true, IfOk, IfSome, IfNone, OnErr, Some, None};
 ghost use Rattle.std.specs.Prelude.{is_some};
@@ -18,7 +18,8 @@ impl<C: PublicKey> Directory<C> {
     ghost use Rattle.p2p_tracker.specs.Directory.{IsBusy, IsReserved, StayBusy, StayReserved};
     ghost use Rattle.p2p_tracker.specs.Directory.{is_blocked_in};
 
-    // Reserves the peer, where it may come at the moment `now`, and says whether it was reserved.
+    // Reserves the inbound peer if that may be granted at the time `now`, and returns whether it
+    // was reserved.
     pub(super) fn grant_coming(
         &mut self,
         peer: &C,
@@ -49,8 +50,7 @@ impl<C: PublicKey> Directory<C> {
         Ok(false)
     }
 
-    // Reserves the peer, where it may be dialled at the moment `now`, and answers the ingress of the
-    // dial.
+    // Reserves the peer if it may be dialled at the time `now`, and returns the ingress to dial.
     pub(super) fn grant_dialled(
         &mut self,
         peer: &C,
@@ -86,7 +86,7 @@ impl<C: PublicKey> Directory<C> {
         Ok(Some(ingress))
     }
 
-    // Whether the peer is blocked at a moment.
+    // Whether the peer is blocked at this time.
     pub(super) fn is_blocked(&self, peer: &C, now: Duration) -> bool
         ensures { result ≡ is_blocked_in C.cmp self.now (as_nanos now) peer.now }
     {

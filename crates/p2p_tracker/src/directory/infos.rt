@@ -1,4 +1,4 @@
-//! What others are told: infos, and which of them are known.
+//! What is shared with others: infos, and which of them are known.
 
 ghost use Rattle.std.specs.Prelude.{◌≡◌, ◌<◌, ◌≤◌, ◌+◌, ◌++◌, length, slice_get, None, true};
 ghost use Rattle.std.specs.Prelude.{option_map, option_to_list, drop, zip};
@@ -25,12 +25,12 @@ const SPARSE: usize = 8;
 impl<C: PublicKey> Directory<C> {
     ghost use Rattle.p2p_tracker.specs.Directory.{sharable_in, infos_in, bit_vec_at};
 
-    /// The info of the peer that others may be told: that of the local node, and that of a peer
-    /// that is connected. Takes memory only for an info whose ingress is a name.
+    /// The info of the peer that may be shared: that of the local node, and that of a connected
+    /// peer. It allocates only for an info whose ingress is a name.
     ///
     /// # Errors
     ///
-    /// `AllocError` where memory is refused.
+    /// `AllocError` if an allocation fails.
     ///
     /// # Cost
     ///
@@ -47,25 +47,25 @@ impl<C: PublicKey> Directory<C> {
         }
     }
 
-    /// The infos for one who knows these bits, asked at the moment `now`, a time since the epoch:
-    /// of the primary peers of the retained set with the index whose bit is false, in their order,
-    /// those infos that others may be told and whose timestamp is not above the whole milliseconds
-    /// of `now`.
+    /// The infos to send to a peer that sent these bits, at the time `now`, a duration since the
+    /// epoch. They are those of the primary peers whose bit is false, in order, of the retained set
+    /// with the index. An info is left out if it may not be shared, or its timestamp is above the
+    /// whole milliseconds of `now`.
     ///
-    /// Answers an empty list where no retained set has the index, and `None` where the bits are of
-    /// another number than its primary peers. Takes memory only where an info is shared: for the
-    /// list as it grows, and for ingresses that are names.
+    /// Returns an empty list if no retained set has the index, and `None` if the number of bits
+    /// differs from the number of its primary peers. It allocates only if an info is shared: for
+    /// the list as it grows, and for ingresses that are names.
     ///
     /// # Errors
     ///
-    /// `AllocError` where memory is refused; that is, where an info is shared.
+    /// `AllocError` if an allocation fails. It allocates only if an info is shared.
     ///
     /// # Cost
     ///
-    /// One pass over the retained sets, and one over the bits. Then, where there are at most about 8
-    /// records for each false bit, one pass over the primary peers and the records, at most up to
-    /// the last peer whose bit is false; else one pass over the peers, with one search among the
-    /// records for each whose bit is false.
+    /// One pass over the retained sets, and one over the bits. Then, if there are at most about 8
+    /// records for each false bit, one pass over the primary peers and the records, up to the last
+    /// peer whose bit is false at most; otherwise one pass over the peers, with one search among
+    /// the records for each whose bit is false.
     pub fn infos(&self, bit_vec: &BitVec, now: Duration) -> Result<Option<Vec<Info<C>>>, AllocError>
         ensures infos { IfOk result (λ infos. option_map (λ v. v.items) infos
             ≡ infos_in C.cmp self.now bit_vec.now.index bit_vec.now.bits (as_nanos now)) }
@@ -89,17 +89,17 @@ impl<C: PublicKey> Directory<C> {
         }
     }
 
-    /// The bits of the retained set at a place, counted from 0 in order of index, with its index:
-    /// for each primary peer in order whether its info is known, and not wanted. `None` where there
-    /// is no such place.
+    /// The bits of the retained set at a position, counted from 0 in order of index, with its
+    /// index: for each primary peer in order whether its info is known and not wanted. `None` if
+    /// there is no such position.
     ///
     /// # Errors
     ///
-    /// `AllocError` where memory is refused.
+    /// `AllocError` if an allocation fails.
     ///
     /// # Cost
     ///
-    /// Proportional to the bytes of the answer.
+    /// Proportional to the bytes of the result.
     pub fn get_random_bit_vec(&self, place: usize) -> Result<Option<BitVec>, AllocError>
         ensures bits { IfOk result (λ bits. bits ≡ bit_vec_at C.cmp self.now place) }
         ensures none { slice_get self.now.sets place ≡ None → IsOk result }
@@ -114,19 +114,19 @@ impl<C: PublicKey> Directory<C> {
     }
 }
 
-/// The whole milliseconds of a moment, at most the greatest `u64`.
+/// The whole milliseconds of a time, at most `u64::MAX`.
 pub fn epoch_millis(now: Duration) -> u64
     ensures { result ≡ epoch_millis (as_nanos now) }
 {
     u64::try_from(now.as_millis()).unwrap_or(u64::MAX)
 }
 
-/// The infos of these peers that are shared with one who knows the bits, or `None` where these are
-/// of another number. Those with a timestamp above the milliseconds are left out.
+/// The infos of these peers that are shared with a peer that sent the bits, or `None` if the number
+/// of bits differs. Those with a timestamp above the milliseconds are left out.
 ///
 /// # Errors
 ///
-/// `AllocError` where memory is refused: only where an info is shared.
+/// `AllocError` if an allocation fails. It allocates only if an info is shared.
 pub fn shared_for<C: PublicKey>(
     alloc: Global,
     records: &Records<C>,
@@ -162,8 +162,8 @@ fn count_unknown(bits: &BitMap) -> usize {
     count
 }
 
-// Appends copies of the infos of these peers that are shared, by a walk along the records and the
-// peers at once, which are both in order.
+// Appends copies of the infos of these peers that are shared, by one walk along the records and the
+// peers together, which are both in order.
 fn copy_walked<C: PublicKey>(
     infos: &mut Vec<Info<C>>,
     records: &Records<C>,
@@ -192,7 +192,7 @@ fn copy_walked<C: PublicKey>(
     Ok(())
 }
 
-// The first place, from that one on, of a peer whose bit is false and that is not below the key.
+// The first position, from that one on, of a peer whose bit is false and that is not below the key.
 fn first_from<C: PublicKey>(peers: &[C], bits: &BitMap, place: usize, key: &C) -> usize
     requires same { length bits.now ≡ length peers.now }
     requires within { place ≤ length peers.now }
@@ -208,7 +208,7 @@ fn first_from<C: PublicKey>(peers: &[C], bits: &BitMap, place: usize, key: &C) -
     peers.len()
 }
 
-// .. by one search among the records for each whose bit is false.
+// The same by one search among the records for each peer whose bit is false.
 fn copy_shared<C: PublicKey>(
     infos: &mut Vec<Info<C>>,
     records: &Records<C>,
@@ -229,7 +229,7 @@ fn copy_shared<C: PublicKey>(
     Ok(())
 }
 
-// The info of the peer that is shared, where its bit is this one.
+// The info of the peer that is shared if this is its bit.
 fn shared<'a, C: PublicKey>(
     records: &'a Records<C>,
     peer: &C,
@@ -244,7 +244,7 @@ fn shared<'a, C: PublicKey>(
     shared_by(records.get(peer)?, millis)
 }
 
-// The info of the record that is shared.
+// The record's info, if it is shared.
 fn shared_by<C: PublicKey>(found: &Record<C>, millis: u64) -> Option<&Info<C>>
     ensures { option_copied result ≡ shared_of_record millis found.now }
 {

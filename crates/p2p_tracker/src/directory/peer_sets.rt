@@ -1,4 +1,4 @@
-//! Questions about the retained sets.
+//! Queries of the retained sets.
 
 ghost use Rattle.std.specs.Prelude.{◌≡◌, true, IfOk, OnErr, length};
 ghost use Rattle.std.specs.Option.{IsSomeAnd};
@@ -15,11 +15,11 @@ impl<C: PublicKey> Directory<C> {
     ghost use Rattle.p2p_tracker.specs.Directory.{peer_set_in, is_named_of, AreAllOf, IsUpdateOf};
     ghost use Rattle.p2p_tracker.specs.Lists.{Somebody};
 
-    /// The peers of the retained set with an index, by role, or `None` where there is no such set.
+    /// The peers of the retained set with this index, by role, or `None` if there is no such set.
     ///
     /// # Errors
     ///
-    /// `AllocError` where memory is refused; that is, where the set has a peer.
+    /// `AllocError` if an allocation fails. It allocates only if the set has a peer.
     ///
     /// # Cost
     ///
@@ -35,12 +35,12 @@ impl<C: PublicKey> Directory<C> {
         }
     }
 
-    /// The latest set with its index, and the peers of all retained sets, or `None` where no set
-    /// was taken.
+    /// The latest set with its index, and the peers of all retained sets, or `None` if no set was
+    /// registered.
     ///
     /// # Errors
     ///
-    /// `AllocError` where memory is refused; that is, where a retained set has a peer.
+    /// `AllocError` if an allocation fails. It allocates only if a retained set has a peer.
     ///
     /// # Cost
     ///
@@ -59,7 +59,7 @@ impl<C: PublicKey> Directory<C> {
         }
     }
 
-    /// The index of the latest peer set, or `None` where none was taken. Takes no memory.
+    /// The index of the latest peer set, or `None` if none was registered. It doesn't allocate.
     ///
     /// # Cost
     ///
@@ -70,8 +70,8 @@ impl<C: PublicKey> Directory<C> {
         self.sets.latest_index()
     }
 
-    /// How many peer sets are retained: at most [`Config::max_sets`](crate::directory::Config). Takes
-    /// no memory.
+    /// How many peer sets are retained: at most [`Config::max_sets`](crate::directory::Config). It
+    /// doesn't allocate.
     ///
     /// # Cost
     ///
@@ -86,7 +86,7 @@ impl<C: PublicKey> Directory<C> {
     ///
     /// # Errors
     ///
-    /// `AllocError` where memory is refused; that is, where a retained set has a peer.
+    /// `AllocError` if an allocation fails. It allocates only if a retained set has a peer.
     ///
     /// # Cost
     ///

@@ -1,4 +1,4 @@
-//! What a directory keeps of each peer, seen at each key.
+//! What a directory knows of each peer, by key.
 
 ghost use Rattle.std.specs.Prelude.{◌≡◌, ◌∷◌, [], false, true, IfOk, IfSome, IfNone, Some};
 ghost use Rattle.std.specs.Prelude.{None, OnErr, OnOk, if◌then◌else◌};
@@ -52,7 +52,7 @@ impl<C: PublicKey> Model for Records<C> {
 }
 
 impl<C: PublicKey> Records<C> {
-    /// The records that a directory is made with.
+    /// The records that a directory starts with.
     pub fn first(
         alloc: Global,
         bootstrappers: Vec<(C, Ingress)>,
@@ -76,8 +76,9 @@ impl<C: PublicKey> Records<C> {
         self.map.get(peer)
     }
 
-    /// Reserves the peer at the moment `now`, where it may come then, and keeps the moments of this
-    /// grant: one search serves both. Says whether it was reserved; else nothing has changed.
+    /// Reserves the inbound peer at the time `now` if that may be granted, and stores the times of
+    /// its cooldown. One search serves both. Returns whether it was reserved; if not, nothing has
+    /// changed.
     pub fn reserve_coming(
         &mut self,
         cooldowns: &mut Cooldowns<C>,
@@ -107,9 +108,9 @@ impl<C: PublicKey> Records<C> {
         Ok(true)
     }
 
-    /// Reserves the peer at the moment `now`, where it may be dialled then, and keeps the moments of
-    /// this grant: one search serves both. Answers the ingress of the dial; where there is none,
-    /// nothing has changed.
+    /// Reserves the peer at the time `now` if it may be dialled then, and stores the times of its
+    /// cooldown. One search serves both. Returns the ingress to dial; if there is none, nothing has
+    /// changed.
     pub fn reserve_dialled(
         &mut self,
         cooldowns: &mut Cooldowns<C>,
@@ -149,8 +150,8 @@ impl<C: PublicKey> Records<C> {
         }
     }
 
-    /// Ends the reservation of its peer, and takes out the record where it is deletable then. Says
-    /// what the sets have to know of it.
+    /// Ends the reservation of its peer, and removes the record if it is deletable then. Returns
+    /// whether the peer's info is known and not wanted, before and after.
     pub fn release(&mut self, metadata: &Metadata<C>, limit: usize) -> Known
         requires { is_busy (record_at C.cmp self.old (key_of metadata.now)) ≡ true }
         ensures change { ChangesAt C.cmp self.old self.new (key_of metadata.now)
@@ -177,7 +178,8 @@ impl<C: PublicKey> Records<C> {
         known
     }
 
-    /// Connects the peer, as its dialer or not. Says what the sets have to know of it.
+    /// Connects the peer; `dialer` says whether the local node dialled it. Returns whether the
+    /// peer's info is known and not wanted, before and after.
     pub fn connect(&mut self, peer: &C, dialer: bool, limit: usize) -> Known
         requires { has_status is_reserved (record_at C.cmp self.old peer.now) ≡ true }
         ensures change { ChangesAt C.cmp self.old self.new peer.now
@@ -201,8 +203,8 @@ impl<C: PublicKey> Records<C> {
         }
     }
 
-    /// Offers an info to the record of its peer. Where it is taken, says what the sets have to know
-    /// of the peer; else nothing has changed.
+    /// Offers an info to the record of its peer. If it is accepted, returns whether the peer's info
+    /// is known and not wanted, before and after; if not, nothing has changed.
     pub fn update(&mut self, info: Info<C>, limit: usize) -> Option<Known>
         ensures change { ChangesAt C.cmp self.old self.new info.public_key
             (option_map (updated_record (info ∷ []))) }
@@ -226,7 +228,7 @@ impl<C: PublicKey> Records<C> {
         None
     }
 
-    /// The records in ascending order of their keys. Takes no memory.
+    /// The records in ascending order of their keys. It doesn't allocate.
     pub fn iter(&self) -> btree_map::Iter<'_, C, Record<C>>
         ensures all { result ≡ self.now }
         ensures sorted { IsStrictlySortedBy C.cmp (keys_of self.now) }
@@ -243,15 +245,15 @@ impl<C: PublicKey> Records<C> {
     }
 }
 
-// Whether the peer of the record may come at the moment `now`.
+// Whether an inbound connection of the record's peer may be granted at the time `now`.
 fn comes<C: PublicKey>(found: &Record<C>, now: Duration) -> bool
     ensures { result ≡ may_come (as_nanos now) found.now }
 {
     found.eligible() && found.reserve_result(now) == ReserveResult::Reserved
 }
 
-// Reserves the peer of the record at the moment `now`, and keeps its moments. The room for these is
-// taken before the record changes.
+// Reserves the peer of the record at the time `now`, and stores its times. The allocation for these
+// comes before the record changes.
 fn keep_reserved<C: PublicKey>(
     found: &mut Record<C>,
     cooldowns: &mut Cooldowns<C>,
@@ -273,7 +275,7 @@ fn keep_reserved<C: PublicKey>(
     Ok(())
 }
 
-// Connects the peer of the record, as its dialer or not.
+// Connects the peer of the record; `dialer` says whether the local node dialled it.
 fn connect_record<C: PublicKey>(found: &mut Record<C>, dialer: bool)
     requires { is_reserved found.old.status ≡ true }
     ensures { found.new ≡ connected_record dialer found.old }
@@ -284,7 +286,7 @@ fn connect_record<C: PublicKey>(found: &mut Record<C>, dialer: bool)
     }
 }
 
-// The ingress that a dial of the record's peer at the moment `now` is granted for.
+// The ingress to dial if a dial of the record's peer is granted at the time `now`.
 fn dialled_by<C: PublicKey>(
     found: &Record<C>,
     now: Duration,

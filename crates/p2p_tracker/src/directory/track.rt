@@ -1,4 +1,4 @@
-//! What changes when a set comes or goes.
+//! What changes when a set is added or dropped.
 
 ghost use Rattle.std.specs.Prelude.{◌≡◌, ◌≤◌, ◌++◌, ◌∷◌, [], true, OnOk, OnErr, vec_capacity};
 ghost use Rattle.std.specs.List.Sorted.{IsStrictlySortedBy};
@@ -19,8 +19,8 @@ use p2p_discovery::codec::PublicKey;
 use p2p_discovery::sets::OrderedSet;
 use std::alloc::AllocError;
 
-/// Counts a set for its peers, sets its bits, and adds it as the latest. Where memory is refused all
-/// is as it was.
+/// Counts a set for its peers, sets its bits, and adds it as the latest. If an allocation fails,
+/// nothing has changed.
 pub fn add<C: PublicKey>(
     sets: &mut Window<C>,
     records: &mut Records<C>,
@@ -52,8 +52,8 @@ pub fn add<C: PublicKey>(
     }
 }
 
-/// Drops the oldest set, where there is one too many, and counts it less for its peers. Answers the
-/// peers whose connections have to end, in the list that is handed in.
+/// Drops the oldest set if there is one too many, and counts one set less for its peers. Returns
+/// the peers that must be disconnected, in the list that is passed in.
 pub fn drop_oldest<C: PublicKey>(
     sets: &mut Window<C>,
     records: &mut Records<C>,

@@ -12,7 +12,7 @@ use crate::kept::Window;
 use p2p_discovery::codec::PublicKey;
 use p2p_discovery::discovery::Info;
 
-/// Offers each info to the record of its peer, and sets the peer's bits anew where it is taken.
+/// Offers each info to the record of its peer, and updates the peer's bits if it is accepted.
 pub fn update_each<C: PublicKey>(
     sets: &mut Window<C>,
     records: &mut Records<C>,

@@ -1,4 +1,4 @@
-//! Until when the blocks of peers hold.
+//! When the blocks of peers end.
 
 ghost use Rattle.std.specs.Prelude.{ℕ, ◌≡◌, ◌≤◌, ◌<◌, [], length, not, true, false, if◌then◌else◌};
 ghost use Rattle.std.specs.Prelude.{nat_le, IfNone, IfSome, IsSome, OnErr, OnOk, Some};
@@ -21,12 +21,13 @@ use std::collections::{BTreeMap, BTreeSet, btree_map};
 use std::marker::Model;
 use std::time::Duration;
 
-/// Peers, each with the moment until which its block holds: a time since the epoch. A contract sees
-/// the list of them in ascending order of their keys, with the moments in nanoseconds.
+/// Peers, each with the end of its block: a duration since the epoch. A contract sees the list of
+/// them in ascending order of their keys, with the ends in nanoseconds.
 #[derive(Drop)]
 pub struct Blocks<C: PublicKey> {
     moments: BTreeMap<C, Duration>,
-    // Exactly the same pairs in order of their moments, in nanoseconds, and of keys where these are equal.
+    // Exactly the same pairs in order of their ends, in nanoseconds, and of keys if these are
+    // equal.
     ends: BTreeSet<(u128, C)>,
     // The first of them.
     first: Option<(Duration, C)>,
@@ -46,7 +47,7 @@ impl<C: PublicKey> Model for Blocks<C> {
 }
 
 impl<C: PublicKey> Blocks<C> {
-    /// No block. Takes no memory.
+    /// No block. It doesn't allocate.
     pub fn new(alloc: Global) -> Self
         ensures { result ≡ [] }
     {
@@ -57,17 +58,17 @@ impl<C: PublicKey> Blocks<C> {
         }
     }
 
-    /// Gives the peer this moment, in place of the one that it may have. Other peers keep theirs.
+    /// Sets the end of the peer's block, replacing any that it had. Other peers keep theirs.
     ///
     /// # Errors
     ///
-    /// `AllocError` where memory is refused; then nothing has changed.
+    /// `AllocError` if an allocation fails; then nothing has changed.
     ///
     /// # Cost
     ///
-    /// One search among the blocks and one among their moments, one more there where the peer had
-    /// another moment or memory is refused, and one more of each where its block was the first to
-    /// end, or is now.
+    /// One search among the blocks and one among their ends, and one more there if the peer had
+    /// another end or an allocation fails. If its block was the first to end, or is now, one more
+    /// of each.
     pub fn put(&mut self, key: C, moment: Duration) -> Result<(), AllocError>
         ensures err { OnErr result (self.new ≡ self.old) }
         ensures ok { OnOk result ((q : C) → unblock_in C.cmp self.new q ≡
@@ -83,7 +84,7 @@ impl<C: PublicKey> Blocks<C> {
         )
     }
 
-    /// The moment of the peer, or `None` where it has none. Takes no memory.
+    /// The end of the peer's block, or `None` if it has none. It doesn't allocate.
     ///
     /// # Cost
     ///
@@ -94,8 +95,8 @@ impl<C: PublicKey> Blocks<C> {
         self.moments.get(key).copied()
     }
 
-    /// The least moment, with the least key of those that have it, or `None` where there is no block.
-    /// Takes no memory.
+    /// The earliest end, with the least key of those that have it, or `None` if there is no block.
+    /// It doesn't allocate.
     ///
     /// # Cost
     ///
@@ -106,13 +107,13 @@ impl<C: PublicKey> Blocks<C> {
         self.first
     }
 
-    /// Takes out each peer whose moment is at or before `now`, a time since the epoch, and answers
-    /// how many there were. Other peers keep theirs. Takes no memory.
+    /// Removes each peer whose block ends at or before `now`, a duration since the epoch, and
+    /// returns how many there were. Other peers keep theirs. It doesn't allocate.
     ///
     /// # Cost
     ///
-    /// Constant where there is none. Else for each such peer one removal of the first of the moments
-    /// and one among the blocks, and at the end one search for the least that is left.
+    /// Constant if there is none. Otherwise, for each such peer, one removal of the first of the
+    /// ends and one among the blocks, and then one search for the first block that is left.
     pub fn drop_until(&mut self, now: Duration) -> usize
         ensures sorted { IsStrictlySortedBy C.cmp (keys_of self.old) }
         ensures left { self.new ≡ filter (is_later (as_nanos now)) self.old }
@@ -122,7 +123,8 @@ impl<C: PublicKey> Blocks<C> {
         drop_ended(&mut self.moments, &mut self.ends, &mut self.first, now)
     }
 
-    /// The peers in ascending order of their keys, each with its moment. Takes no memory.
+    /// The peers in ascending order of their keys, each with the end of its block. It doesn't
+    /// allocate.
     pub fn iter(&self) -> btree_map::Iter<'_, C, Duration>
         ensures all { in_nanos result ≡ self.now }
         ensures sorted { IsStrictlySortedBy C.cmp (keys_of self.now) }
@@ -131,7 +133,7 @@ impl<C: PublicKey> Blocks<C> {
     }
 }
 
-// Gives the key this moment, and looks for the first end anew where it may be another then.
+// Sets the end of the key's block, and finds the first to end again if it may have changed.
 fn put_block<C: PublicKey>(
     moments: &mut BTreeMap<C, Duration>,
     ends: &mut BTreeSet<(u128, C)>,
@@ -154,7 +156,8 @@ fn put_block<C: PublicKey>(
     Ok(())
 }
 
-// Whether the first of the ends is another key's, and not behind that of the key at this moment.
+// Whether the first of the ends belongs to another key, and isn't after that of this key at this
+// time.
 fn stays_first<C: PublicKey>(first: &Option<(Duration, C)>, key: &C, moment: Duration) -> bool
     ensures behind { result ≡ true → IfSome (end_in_nanos first.now)
         (λ e. (is_at (C.cmp key.now) e.1 ≡ false)
@@ -171,7 +174,7 @@ fn stays_first<C: PublicKey>(first: &Option<(Duration, C)>, key: &C, moment: Dur
     }
 }
 
-// Gives the key this moment in both. Where memory is refused both have the same pairs as before.
+// Sets this end for the key in both. If an allocation fails, both have the same pairs as before.
 fn put_end<C: PublicKey>(
     moments: &mut BTreeMap<C, Duration>,
     ends: &mut BTreeSet<(u128, C)>,
@@ -205,7 +208,7 @@ fn put_end<C: PublicKey>(
     }
 }
 
-// The first of the ends, with its moment as it was given.
+// The first of the ends, with its time as it was passed in.
 fn first_to_end<C: PublicKey>(
     moments: &BTreeMap<C, Duration>,
     ends: &BTreeSet<(u128, C)>,
@@ -219,7 +222,7 @@ fn first_to_end<C: PublicKey>(
     Some((*moment, *key))
 }
 
-// Takes the first of the ends, where it is at or before `now`.
+// Removes the first of the ends if it is at or before `now`.
 fn take_ended<C: PublicKey>(ends: &mut BTreeSet<(u128, C)>, now: Duration) -> Option<(u128, C)>
     ensures some { IfSome result (λ end. (end.0 ≤ as_nanos now)
         × (contains (end_cmp C.cmp) ends.old end ≡ true)
@@ -236,7 +239,7 @@ fn take_ended<C: PublicKey>(ends: &mut BTreeSet<(u128, C)>, now: Duration) -> Op
     }
 }
 
-// Takes out each block whose moment is at or before `now`, and answers how many there were.
+// Removes each block that ends at or before `now`, and returns how many there were.
 fn drop_ended<C: PublicKey>(
     moments: &mut BTreeMap<C, Duration>,
     ends: &mut BTreeSet<(u128, C)>,
@@ -251,7 +254,7 @@ fn drop_ended<C: PublicKey>(
     ensures count { result ≡
         count_by (λ e. not (is_later (as_nanos now) e)) (in_nanos moments.old.entries) }
 {
-    // For the proof: the clauses of `len` say that the keys are in order.
+    // For the proof: the contract of `len` says that the keys are in order.
     let _most = moments.len();
     if !has_ended(first, now) {
         return 0;
@@ -272,7 +275,7 @@ fn has_ended<C: PublicKey>(first: &Option<(Duration, C)>, now: Duration) -> bool
     }
 }
 
-// Takes out each pair whose moment is at or before `now`, and answers how many there were.
+// Removes each pair whose end is at or before `now`, and returns how many there were.
 fn take_each<C: PublicKey>(
     moments: &mut BTreeMap<C, Duration>,
     ends: &mut BTreeSet<(u128, C)>,

@@ -18,13 +18,13 @@ use std::collections::{BTreeMap, btree_map};
 use std::marker::Model;
 use std::time::Duration;
 
-/// Peers, each with two moments, times since the epoch: from when it may be reserved again, and
-/// from when it is dialable again. A contract sees the list of them in ascending order of their
-/// keys, with the moments in nanoseconds.
+/// Peers, each with its cooldown, two durations since the epoch: from when it may be reserved
+/// again, and from when it is dialable again. A contract sees the list of them in ascending order
+/// of their keys, with the times in nanoseconds.
 #[derive(Drop)]
 pub struct Cooldowns<C: PublicKey> {
     moments: BTreeMap<C, (Duration, Duration)>,
-    // No dial moment is less, in nanoseconds.
+    // No dial time is less, in nanoseconds.
     bound: u128,
 }
 
@@ -45,7 +45,7 @@ impl<C: PublicKey> Model for Cooldowns<C> {
 }
 
 impl<C: PublicKey> Cooldowns<C> {
-    /// No peer. Takes no memory.
+    /// No peer. It doesn't allocate.
     pub fn new(alloc: Global) -> Self
         ensures { result ≡ [] }
     {
@@ -55,11 +55,11 @@ impl<C: PublicKey> Cooldowns<C> {
         }
     }
 
-    /// Gives the peer these moments, in place of those that it may have. Other peers keep theirs.
+    /// Sets the peer's cooldown, replacing any that it had. Other peers keep theirs.
     ///
     /// # Errors
     ///
-    /// `AllocError` where memory is refused; then nothing has changed.
+    /// `AllocError` if an allocation fails; then nothing has changed.
     ///
     /// # Cost
     ///
@@ -73,7 +73,7 @@ impl<C: PublicKey> Cooldowns<C> {
         put_cooldown(&mut self.moments, &mut self.bound, key, moments)
     }
 
-    /// The moments of the peer, or `None` where it has none. Takes no memory.
+    /// The cooldown of the peer, or `None` if it has none. It doesn't allocate.
     ///
     /// # Cost
     ///
@@ -84,7 +84,7 @@ impl<C: PublicKey> Cooldowns<C> {
         self.moments.get(key).copied()
     }
 
-    /// How many peers there are. Takes no memory.
+    /// How many peers there are. It doesn't allocate.
     pub fn len(&self) -> usize
         ensures count { result ≡ length self.now }
         ensures sorted { IsStrictlySortedBy C.cmp (keys_of self.now) }
@@ -92,8 +92,8 @@ impl<C: PublicKey> Cooldowns<C> {
         self.moments.len()
     }
 
-    /// False only where no dial moment is at or before `now`, a time since the epoch. Takes no
-    /// memory.
+    /// False only if no dial time is at or before `now`, a duration since the epoch. It doesn't
+    /// allocate.
     ///
     /// # Cost
     ///
@@ -105,15 +105,15 @@ impl<C: PublicKey> Cooldowns<C> {
         self.bound <= now.as_nanos()
     }
 
-    /// The peers in ascending order of their keys, each with its moments. Takes no memory.
+    /// The peers in ascending order of their keys, each with its cooldown. It doesn't allocate.
     pub fn iter(&self) -> btree_map::Iter<'_, C, (Duration, Duration)>
         ensures all { cooldowns_view result ≡ self.now }
     {
         self.moments.iter()
     }
 
-    /// Takes out each peer whose dial moment is at or before `now`, a time since the epoch. Other
-    /// peers keep theirs. Takes no memory.
+    /// Removes each peer whose dial time is at or before `now`, a duration since the epoch. Other
+    /// peers keep theirs. It doesn't allocate.
     ///
     /// # Cost
     ///
@@ -126,7 +126,7 @@ impl<C: PublicKey> Cooldowns<C> {
     }
 }
 
-// Gives the key these moments, and lowers the bound where their dial moment is less.
+// Sets the key's cooldown, and lowers the bound if its dial time is less.
 fn put_cooldown<C: PublicKey>(
     moments: &mut BTreeMap<C, (Duration, Duration)>,
     bound: &mut u128,
@@ -152,7 +152,7 @@ fn put_cooldown<C: PublicKey>(
     }
 }
 
-// Takes out each peer whose dial moment is at or before `now`.
+// Removes each peer whose dial time is at or before `now`.
 fn keep_later<C: PublicKey>(moments: &mut BTreeMap<C, (Duration, Duration)>, now: Duration)
     ensures { cooldowns_view moments.new.entries ≡
         filter (λ e. not (has_cooled (as_nanos now) e)) (cooldowns_view moments.old.entries) }
@@ -160,7 +160,7 @@ fn keep_later<C: PublicKey>(moments: &mut BTreeMap<C, (Duration, Duration)>, now
     moments.retain(|_, cooldown| now.as_nanos() < cooldown.1.as_nanos());
 }
 
-// The least dial moment in nanoseconds, or the greatest number where there is none.
+// The earliest dial time in nanoseconds, or `u128::MAX` if there is none.
 fn least_dial<C: PublicKey>(moments: &BTreeMap<C, (Duration, Duration)>) -> u128
     ensures { All (λ m. result ≤ as_nanos m.1) (values_of moments.now.entries) }
 {

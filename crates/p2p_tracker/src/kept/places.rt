@@ -1,4 +1,4 @@
-//! The latest place at which each key stands, and from each place the one before it.
+//! The latest position of each key, and from each position the one before it.
 
 ghost use Rattle.std.specs.Prelude.{◌≡◌, ◌+◌, ◌<◌, ◌≤◌, ◌++◌, [], true, None, Some, map, length};
 ghost use Rattle.std.specs.Prelude.{drop, get_or, not, is_some, vec_capacity};
@@ -16,16 +16,16 @@ use std::alloc::{AllocError, Global};
 use std::cmp::Ordering;
 use std::marker::Model;
 
-/// Where a key stands: the index of a set, and the place in its list of primary peers.
+/// The position of a key: the index of a set, and the position in its list of primary peers.
 #[derive(Clone, Copy, Drop)]
 pub struct Place {
     pub set: u64,
     pub at: usize,
 }
 
-/// What stands beside the primary peers of a set: for each the place that was its latest when the
-/// set came, if it had one. A contract sees the list of them. Where there was none, its own place in
-/// the set is kept, for that takes no more room than a place.
+/// The links of a set: for each primary peer the position that was its latest when the set was
+/// added, if it had one. A contract sees the list of them. If it had none, its own position in the
+/// set is stored, which takes no more space.
 #[derive(Drop)]
 pub struct Links {
     set: u64,
@@ -43,7 +43,7 @@ impl Model for Links {
 }
 
 impl Links {
-    /// What stands beside the peer at a place, if there is one.
+    /// The link of the peer at a position, if it has one.
     pub fn get(&self, at: usize) -> Option<Place>
         ensures { result ≡ get_or self.now at None }
     {
@@ -54,8 +54,8 @@ impl Links {
     }
 }
 
-/// Keys, each with its latest place. A contract sees the list of them in ascending order of their
-/// keys.
+/// Keys, each with its latest position. A contract sees the list of them in ascending order of
+/// their keys.
 #[derive(Drop)]
 pub struct Places<C: PublicKey> {
     latest: Vec<(C, Place)>,
@@ -75,7 +75,7 @@ impl<C: PublicKey> Model for Places<C> {
 }
 
 impl<C: PublicKey> Places<C> {
-    /// No key. Takes no memory.
+    /// No key. It doesn't allocate.
     pub fn new(alloc: Global) -> Self
         ensures { result ≡ [] }
     {
@@ -84,7 +84,7 @@ impl<C: PublicKey> Places<C> {
         }
     }
 
-    /// The latest place of the key.
+    /// The latest position of the key.
     ///
     /// # Cost
     ///
@@ -98,21 +98,21 @@ impl<C: PublicKey> Places<C> {
         }
     }
 
-    /// Makes where each of the keys stands among them, in the set with an index, its latest place,
-    /// and answers the ones before.
+    /// Makes the position of each of the keys in this list, in the set with this index, its latest,
+    /// and returns the positions before.
     ///
     /// # Conditions
     ///
-    /// The keys ascend, and no place is in that set or in one above it.
+    /// The keys ascend, and no position is in that set or in one above it.
     ///
     /// # Errors
     ///
-    /// `AllocError` where memory is refused; then each key has the place that it had.
+    /// `AllocError` if an allocation fails; then each key has the position that it had.
     ///
     /// # Cost
     ///
-    /// Two walks along the places and the keys at once. Where one of the keys had no place, a list
-    /// of all places, of its own size, stands beside the one before until that goes.
+    /// Two walks along the positions and the keys together. If one of the keys had no position, a
+    /// list of all positions, of its own size, exists next to the old one until that is freed.
     pub fn add_each(&mut self, keys: &[C], set: u64) -> Result<Links, AllocError>
         requires keys { IsStrictlySortedBy C.cmp keys.now }
         requires below { (q : C) → IfSome (place_of C.cmp self.old q) (λ place. place.set < set) }
@@ -135,11 +135,11 @@ impl<C: PublicKey> Places<C> {
         Ok(links)
     }
 
-    /// Takes out the keys whose latest place is in the set with an index. Takes no memory.
+    /// Removes the keys whose latest position is in the set with this index. It doesn't allocate.
     ///
     /// # Cost
     ///
-    /// A walk along the places.
+    /// A walk along the positions.
     pub fn remove_set(&mut self, set: u64)
         ensures { (q : C) → place_of C.cmp self.new q ≡
             unless_in set (place_of C.cmp self.old q) }
@@ -148,7 +148,7 @@ impl<C: PublicKey> Places<C> {
     }
 }
 
-// The latest place of each of the keys, beside which they are to stand in the set with an index.
+// The latest position of each of the keys: the links of the set with this index.
 fn links_of<C: PublicKey>(
     alloc: Global,
     latest: &[(C, Place)],
@@ -170,7 +170,7 @@ fn links_of<C: PublicKey>(
     Ok(Links { set, older })
 }
 
-// Of what stands from a place on: the place behind the key, and what stands beside the key.
+// From a position of the list on: the position after the key, and what is stored for the key.
 fn place_from<C: PublicKey>(latest: &[(C, Place)], from: usize, key: &C) -> (usize, Option<Place>)
     requires { IsStrictlySortedBy C.cmp (keys_of latest.now) }
     ensures rest { drop result.0 latest.now ≡ behind_key C.cmp key.now (drop from latest.now) }
@@ -187,7 +187,7 @@ fn place_from<C: PublicKey>(latest: &[(C, Place)], from: usize, key: &C) -> (usi
     (latest.len(), None)
 }
 
-// How many keys had no place.
+// How many keys had no position.
 fn count_new(links: &Links) -> usize
     ensures { result ≡ count_by (λ place. not (is_some place)) links.now }
 {
@@ -200,7 +200,7 @@ fn count_new(links: &Links) -> usize
     count
 }
 
-// Makes where each of the keys stands among them, in the set with an index, its latest place. Each
+// Makes the position of each of the keys in this list, in the set with this index, its latest. Each
 // has one already.
 fn write_each<C: PublicKey>(latest: &mut [(C, Place)], keys: &[C], set: u64)
     requires places { IsStrictlySortedBy C.cmp (keys_of latest.old) }
@@ -219,7 +219,7 @@ fn write_each<C: PublicKey>(latest: &mut [(C, Place)], keys: &[C], set: u64)
     }
 }
 
-// Where the key stands, which is one of those from a place on.
+// The position in the list of a key, which is one of those from a position on.
 fn find_from<C: PublicKey>(latest: &[(C, Place)], from: usize, key: &C) -> usize
     requires sorted { IsStrictlySortedBy C.cmp (keys_of latest.now) }
     requires met { has_key C.cmp (drop from (keys_of latest.now)) key.now ≡ true }
@@ -238,8 +238,8 @@ fn find_from<C: PublicKey>(latest: &[(C, Place)], from: usize, key: &C) -> usize
     unreachable!()
 }
 
-// Writes the keys with their latest places, after the set with an index has come with its keys, to a
-// list that has room for them.
+// Writes the keys with their latest positions, after the set with this index has been added with
+// its keys, to a list that has capacity for them.
 fn merge<C: PublicKey>(latest: &[(C, Place)], keys: &[C], set: u64, merged: &mut Vec<(C, Place)>)
     requires places { IsStrictlySortedBy C.cmp (keys_of latest.now) }
     requires keys { IsStrictlySortedBy C.cmp keys.now }
@@ -259,7 +259,7 @@ fn merge<C: PublicKey>(latest: &[(C, Place)], keys: &[C], set: u64, merged: &mut
     copy_rest(latest, from, merged);
 }
 
-// Copies what stands before the key, from a place on, and answers the place behind the key.
+// Copies what is before the key, from a position on, and returns the position after the key.
 fn copy_before<C: PublicKey>(
     latest: &[(C, Place)],
     from: usize,
@@ -285,7 +285,7 @@ fn copy_before<C: PublicKey>(
     latest.len()
 }
 
-// Copies what stands from a place on.
+// Copies everything from a position on.
 fn copy_rest<C: PublicKey>(latest: &[(C, Place)], from: usize, copied: &mut Vec<(C, Place)>)
     requires { length copied.old.items + length (drop from latest.now) ≤ vec_capacity copied.old }
     ensures { copied.new.items ≡ copied.old.items ++ drop from latest.now }

@@ -1,4 +1,4 @@
-//! An exchange of infos: the asker's bits and the replier's infos are spelled, and read.
+//! An exchange of infos: the asker's bits and the replier's infos are encoded, and read.
 
 ghost use Rattle.std.specs.Prelude.{◌≡◌, ◌<◌, ◌^◌, true, None, Some, List, IfOk, length, nat_lt};
 ghost use Rattle.std.specs.Duration.{as_nanos};
@@ -26,7 +26,7 @@ use std::alloc::{AllocError, Global};
 use std::time::Duration;
 
 impl<C: PublicKey> Endpoint<C> {
-    /// Asks the replier for what is wanted of the set at a place, and applies what it replies.
+    /// Asks the replier for the wanted infos of the set at a position, and applies its reply.
     pub fn exchange_with(
         &mut self,
         replier: &Endpoint<C>,
@@ -48,7 +48,7 @@ impl<C: PublicKey> Endpoint<C> {
         }
     }
 
-    // Hands a frame of bits to the replier, and takes what it replies.
+    // Passes a frame of bits to the replier, and accepts its reply.
     fn hand_to(
         &mut self,
         replier: &Endpoint<C>,
@@ -109,7 +109,7 @@ impl<C: PublicKey> Endpoint<C> {
         }
     }
 
-    // The asker's part: reads a frame of infos, and takes them.
+    // The asker's part: reads a frame of infos, and applies them.
     fn take_reply(&mut self, reply: Bytes, now: Duration) -> Exchanged<C>
         requires { SpellsInfos C.IsValue C.Signature.IsValue
             (payload_spelling C.spelled C.Signature.spelled) reply }
@@ -131,7 +131,7 @@ impl<C: PublicKey> Endpoint<C> {
         }
     }
 
-    // Judges infos, all of them, and applies them. A copy of them is told.
+    // Verifies infos, all of them, and applies them. A copy of them is returned.
     fn take_infos(&mut self, infos: Infos<C>, now: Duration) -> Exchanged<C>
         ensures answer { IsExchangeAnswer true (judged_at infos (list_refusal
             (judge_of C.cmp C.verifies self.old.verifier) (as_nanos now) infos)) result }
@@ -182,7 +182,7 @@ fn copied<C: PublicKey>(alloc: Global, infos: &[Info<C>]) -> Result<Vec<Info<C>>
     Ok(copy)
 }
 
-// The bits cannot be read, or memory was refused.
+// The bits cannot be read, or an allocation failed.
 fn ask_refused<C: PublicKey>(fault: CodecError) -> Exchanged<C>
     ensures { result ≡ ask_fault fault }
 {
@@ -192,7 +192,7 @@ fn ask_refused<C: PublicKey>(fault: CodecError) -> Exchanged<C>
     }
 }
 
-// The infos cannot be read, or memory was refused.
+// The infos cannot be read, or an allocation failed.
 fn reply_refused<C: PublicKey>(fault: CodecError) -> Exchanged<C>
     ensures { result ≡ reply_fault fault }
 {

@@ -1,5 +1,5 @@
-//! Calls that reserve a peer or release it: what [`Endpoint::step`] does of their commands, with no
-//! command made. A peer has a slot while it is reserved or connected.
+//! Calls that reserve a peer or release it: the same as [`Endpoint::step`] of their commands,
+//! without making a command. A peer has a slot while it is reserved or connected.
 
 ghost use Rattle.std.specs.Prelude.{◌≡◌, true, false, None, OnOk, OnErr};
 ghost use Rattle.p2p_directory.specs.Run.{was_made};
@@ -15,7 +15,7 @@ use std::alloc::AllocError;
 use std::time::Duration;
 
 impl<C: PublicKey> Endpoint<C> {
-    /// Reserves the peer for a dial, where that is granted.
+    /// Reserves the peer for a dial if that is granted.
     pub fn dial(&mut self, peer: &C, now: Duration, draw: Duration) -> Reply<C>
         ensures stepped { IsStepped C.cmp (Command.Dial peer.now now draw) result
             (node_of self.old) (node_of self.new) }
@@ -31,7 +31,7 @@ impl<C: PublicKey> Endpoint<C> {
         reply
     }
 
-    /// Reserves the peer that comes, where that is granted.
+    /// Reserves the inbound peer if that is granted.
     pub fn listen(&mut self, peer: &C, now: Duration, draw: Duration) -> Reply<C>
         ensures stepped { IsStepped C.cmp (Command.Listen peer.now now draw) result
             (node_of self.old) (node_of self.new) }
@@ -47,7 +47,7 @@ impl<C: PublicKey> Endpoint<C> {
         reply
     }
 
-    /// Releases the reservation of the peer, where one is held. Its slot goes.
+    /// Releases the reservation of the peer if one is held. Its slot is removed.
     pub fn release(&mut self, peer: &C) -> Reply<C>
         ensures stepped { IsStepped C.cmp (Command.Release peer.now) result
             (node_of self.old) (node_of self.new) }
@@ -63,7 +63,7 @@ impl<C: PublicKey> Endpoint<C> {
         reply
     }
 
-    // Makes a slot for the peer, where there is none.
+    // Makes a slot for the peer if there is none.
     fn make_slot(&mut self, peer: &C) -> Result<(), AllocError>
         ensures err { OnErr result (self.new ≡ self.old) }
         ensures room { OnOk result (has_slot C.cmp self.new.slots peer.now ≡ true) }
@@ -76,7 +76,7 @@ impl<C: PublicKey> Endpoint<C> {
         made
     }
 
-    // Reserves the peer for a dial, where that is granted and there is a slot for it.
+    // Reserves the peer for a dial if that is granted and there is a slot for it.
     fn serve_dial(&mut self, peer: &C, now: Duration, draw: Duration) -> Reply<C>
         requires { has_slot C.cmp self.old.slots peer.now ≡ true }
         ensures served { IsServedBy C.cmp (Command.Dial peer.now now draw) result
@@ -90,7 +90,7 @@ impl<C: PublicKey> Endpoint<C> {
         reply
     }
 
-    // Reserves the peer that comes, where that is granted and there is a slot for it.
+    // Reserves the inbound peer if that is granted and there is a slot for it.
     fn serve_listen(&mut self, peer: &C, now: Duration, draw: Duration) -> Reply<C>
         requires { has_slot C.cmp self.old.slots peer.now ≡ true }
         ensures served { IsServedBy C.cmp (Command.Listen peer.now now draw) result
@@ -104,7 +104,7 @@ impl<C: PublicKey> Endpoint<C> {
         reply
     }
 
-    // Takes the slot of the peer out, where it is empty, unless a reservation was just granted.
+    // Removes the slot of the peer if it is empty, unless a reservation was just granted.
     fn drop_slot_unless(&mut self, granted: bool, peer: &C)
         ensures dropped { granted ≡ false → held_in C.cmp self.old.slots peer.now ≡ None →
             has_slot C.cmp self.new.slots peer.now ≡ false }

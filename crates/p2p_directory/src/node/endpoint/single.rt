@@ -1,5 +1,5 @@
-//! Calls that answer a number or a moment alone and need no slot: what [`Endpoint::step`] does of
-//! their commands, with no command made.
+//! Calls that return only a number or a time and need no slot: the same as [`Endpoint::step`] of
+//! their commands, without making a command.
 
 ghost use Rattle.std.specs.Prelude.{◌≡◌, false};
 ghost use Rattle.p2p_directory.specs.Run.{was_made};
@@ -14,7 +14,7 @@ use p2p_tracker::record::Status;
 use std::time::Duration;
 
 impl<C: PublicKey> Endpoint<C> {
-    /// Connects the peer, where it is reserved.
+    /// Connects the peer if it is reserved.
     pub fn connect(&mut self, peer: &C, dialer: bool) -> Reply<C>
         ensures stepped { IsStepped C.cmp (Command.Connect peer.now dialer) result
             (node_of self.old) (node_of self.new) }
@@ -40,8 +40,8 @@ impl<C: PublicKey> Endpoint<C> {
         reply
     }
 
-    /// Ends the blocks that hold until the moment, or until an earlier one, and says whether there
-    /// were any.
+    /// Ends the blocks that hold until this time, or until an earlier one, and returns whether
+    /// there were any.
     pub fn unblock_expired(&mut self, now: Duration) -> bool
         ensures stepped { IsStepped C.cmp (Command.UnblockExpired now) (Reply.UnblockExpired result)
             (node_of self.old) (node_of self.new) }
@@ -53,7 +53,7 @@ impl<C: PublicKey> Endpoint<C> {
         ended
     }
 
-    /// Forgets the cooldowns whose dial moment is at or before the moment, and says how many.
+    /// Forgets the cooldowns whose dial time is at or before this time, and returns how many.
     pub fn forget_cooled(&mut self, now: Duration) -> usize
         ensures stepped { IsStepped C.cmp (Command.ForgetCooled now) (Reply.ForgetCooled result)
             (node_of self.old) (node_of self.new) }
@@ -65,7 +65,7 @@ impl<C: PublicKey> Endpoint<C> {
         count
     }
 
-    /// The least moment until which a block holds.
+    /// When the first block ends.
     pub fn next_unblock(&self) -> Option<Duration>
         ensures { IsStepped C.cmp Command.NextUnblock (Reply.NextUnblock result)
             (node_of self.now) (node_of self.now) }
@@ -81,7 +81,7 @@ impl<C: PublicKey> Endpoint<C> {
         self.server.latest_set_index()
     }
 
-    /// Whether the peer is connected, or `None` where there is no record of it.
+    /// Whether the peer is connected, or `None` if there is no record of it.
     pub fn status(&self, peer: &C) -> Option<Status>
         ensures { IsStepped C.cmp (Command.Status peer.now) (Reply.Status result)
             (node_of self.now) (node_of self.now) }
@@ -97,7 +97,7 @@ impl<C: PublicKey> Endpoint<C> {
         self.server.eligible(peer, now)
     }
 
-    /// Whether a connection of the peer may be accepted.
+    /// Whether an inbound connection of the peer may be accepted.
     pub fn acceptable(&self, peer: &C, now: Duration) -> bool
         ensures { IsStepped C.cmp (Command.Acceptable peer.now now) (Reply.Acceptable result)
             (node_of self.now) (node_of self.now) }
@@ -105,7 +105,7 @@ impl<C: PublicKey> Endpoint<C> {
         self.server.acceptable(peer, now)
     }
 
-    /// How many peers have a record, but for the local node.
+    /// How many peers have a record, not counting the local node.
     pub fn tracked(&self) -> usize
         ensures { IsStepped C.cmp Command.Tracked (Reply.Tracked result)
             (node_of self.now) (node_of self.now) }

@@ -21,7 +21,7 @@ use std::alloc::AllocError;
 use std::mem::replace;
 use std::time::Duration;
 
-/// Makes slots for what the commands may be granted.
+/// Makes slots for the reservations that the commands may be granted.
 pub fn make_room<C: PublicKey>(
     ends: &mut [Endpoint<C>],
     commands: &[NetworkCommand<C>],
@@ -35,7 +35,7 @@ pub fn make_room<C: PublicKey>(
     Ok(())
 }
 
-// Makes a slot for what the command may be granted, if it may be.
+// Makes a slot for the reservation that the command may be granted, if it may be.
 fn make_one<C: PublicKey>(
     ends: &mut [Endpoint<C>],
     command: &NetworkCommand<C>,
@@ -50,7 +50,7 @@ fn make_one<C: PublicKey>(
     }
 }
 
-// Makes a slot at the node for what its command may be granted, if it may be.
+// Makes a slot at the node for the reservation that its command may be granted, if it may be.
 fn room_at<C: PublicKey>(
     ends: &mut [Endpoint<C>],
     node: usize,
@@ -67,7 +67,7 @@ fn room_at<C: PublicKey>(
     ends[node].make_room(command)
 }
 
-/// Puts an endpoint in the place of another, which is answered.
+/// Replaces an endpoint by another, and returns the old one.
 pub fn swap_at<C: PublicKey>(ends: &mut [Endpoint<C>], node: usize, end: Endpoint<C>) -> Endpoint<C>
     requires { node < length ends.old }
     ensures rest { ends.new ≡ slice_set ends.old node end }
@@ -76,7 +76,8 @@ pub fn swap_at<C: PublicKey>(ends: &mut [Endpoint<C>], node: usize, end: Endpoin
     replace(&mut ends[node], end)
 }
 
-/// Serves one command among the endpoints, where there is room for what it may be granted.
+/// Serves one command among the endpoints, if there is a slot for the reservation that it may be
+/// granted.
 pub fn serve<C: PublicKey>(ends: &mut [Endpoint<C>], command: NetworkCommand<C>) -> NetworkReply<C>
     requires room { HasRoomFor C.cmp ends.old command }
     ensures answered { IsNetworkAnswered C.cmp (wire_of C.SIZE C.spelled C.value
@@ -115,7 +116,7 @@ fn call<C: PublicKey>(ends: &mut [Endpoint<C>], node: usize, command: Command<C>
     NetworkReply::Call(ends[node].serve(command))
 }
 
-/// The node serves a command, with room made for what it may be granted while it does.
+/// The node serves a command, with a slot for the reservation that it may be granted while it does.
 pub fn step<C: PublicKey>(
     ends: &mut [Endpoint<C>],
     node: usize,
@@ -134,7 +135,7 @@ pub fn step<C: PublicKey>(
     NetworkReply::Call(ends[node].step(command))
 }
 
-/// The node is asked for the frame of the bits at a place.
+/// The node is asked for the frame of the bits at a position.
 pub fn ask<C: PublicKey>(ends: &[Endpoint<C>], node: usize, place: usize) -> NetworkReply<C>
     ensures answered { IsNetworkAnswered C.cmp (wire_of C.SIZE C.spelled C.value
         C.Signature.SIZE C.Signature.spelled C.Signature.value C.verifies)
@@ -153,7 +154,7 @@ pub fn ask<C: PublicKey>(ends: &[Endpoint<C>], node: usize, place: usize) -> Net
     reply_to_ask(ends[node].ask(place))
 }
 
-// The reply that the answer to an `Ask` is.
+// The reply for a result of `ask`.
 fn reply_to_ask<C: PublicKey>(frame: Result<Option<Bytes>, AllocError>) -> NetworkReply<C>
     ensures { result ≡ networks.reply_to_ask frame }
 {
@@ -163,7 +164,7 @@ fn reply_to_ask<C: PublicKey>(frame: Result<Option<Bytes>, AllocError>) -> Netwo
     }
 }
 
-/// The node takes a frame.
+/// The node receives a frame.
 pub fn receive<C: PublicKey>(
     ends: &mut [Endpoint<C>],
     node: usize,

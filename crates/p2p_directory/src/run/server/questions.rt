@@ -12,7 +12,7 @@ use std::alloc::AllocError;
 use std::time::Duration;
 
 impl<C: PublicKey> Server<C> {
-    /// The least moment until which a block holds.
+    /// When the first block ends.
     pub fn next_unblock(&self) -> Option<Duration>
         ensures { IsServed C.cmp Command.NextUnblock (Reply.NextUnblock result)
             self.now self.now }
@@ -20,7 +20,7 @@ impl<C: PublicKey> Server<C> {
         self.directory.next_unblock()
     }
 
-    // The peers that are blocked at a moment.
+    // The peers that are blocked at this time.
     pub(super) fn blocked_peers(&self, now: Duration) -> Reply<C>
         ensures { IsServed C.cmp (Command.BlockedPeers now) result self.now self.now }
     {
@@ -30,7 +30,7 @@ impl<C: PublicKey> Server<C> {
         }
     }
 
-    /// Whether the peer is connected, or `None` where there is no record of it.
+    /// Whether the peer is connected, or `None` if there is no record of it.
     pub fn status(&self, peer: &C) -> Option<Status>
         ensures { IsServed C.cmp (Command.Status peer.now) (Reply.Status result)
             self.now self.now }
@@ -38,7 +38,7 @@ impl<C: PublicKey> Server<C> {
         self.directory.status(peer)
     }
 
-    // The peers of the retained set with an index.
+    // The peers of the retained set with this index.
     pub(super) fn get_peer_set(&self, index: u64) -> Reply<C>
         ensures { IsServed C.cmp (Command.GetPeerSet index) result self.now self.now }
     {
@@ -76,7 +76,7 @@ impl<C: PublicKey> Server<C> {
         }
     }
 
-    // The info of the peer that others may be told.
+    // The info of the peer that may be shared.
     pub(super) fn info(&self, peer: &C) -> Reply<C>
         ensures { IsServed C.cmp (Command.Info peer.now) result self.now self.now }
     {
@@ -86,7 +86,7 @@ impl<C: PublicKey> Server<C> {
         }
     }
 
-    // The infos for one who knows the bits.
+    // The infos for a peer that sent the bits.
     pub(super) fn infos(&self, bit_vec: &BitVec, now: Duration) -> Reply<C>
         ensures { IsServed C.cmp (Command.Infos bit_vec.now now) result self.now self.now }
     {
@@ -96,7 +96,7 @@ impl<C: PublicKey> Server<C> {
         }
     }
 
-    // The bits of the retained set at the place.
+    // The bits of the retained set at the position.
     pub(super) fn get_random_bit_vec(&self, place: usize) -> Reply<C>
         ensures { IsServed C.cmp (Command.GetRandomBitVec place) result self.now self.now }
     {
@@ -114,7 +114,7 @@ impl<C: PublicKey> Server<C> {
         self.directory.eligible(peer, now)
     }
 
-    /// Whether a connection of the peer may be accepted.
+    /// Whether an inbound connection of the peer may be accepted.
     pub fn acceptable(&self, peer: &C, now: Duration) -> bool
         ensures { IsServed C.cmp (Command.Acceptable peer.now now) (Reply.Acceptable result)
             self.now self.now }
@@ -122,7 +122,7 @@ impl<C: PublicKey> Server<C> {
         self.directory.acceptable(peer, now)
     }
 
-    // The peers that may be dialled at a moment, and when to ask again.
+    // The peers that may be dialled at this time, and when to ask again.
     pub(super) fn dialable(&self, now: Duration) -> Reply<C>
         ensures { IsServed C.cmp (Command.Dialable now) result self.now self.now }
     {
@@ -132,7 +132,7 @@ impl<C: PublicKey> Server<C> {
         }
     }
 
-    /// How many peers have a record, but for the local node.
+    /// How many peers have a record, not counting the local node.
     pub fn tracked(&self) -> usize
         ensures { IsServed C.cmp Command.Tracked (Reply.Tracked result) self.now self.now }
     {

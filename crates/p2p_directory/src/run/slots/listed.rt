@@ -1,4 +1,4 @@
-//! Slots that are listed: those of [`run`](crate::run::run), made at once before its first command.
+//! Slots in a list: those of [`run`](crate::run::run), made at once before its first command.
 
 ghost use Rattle.std.specs.Prelude.{◌≡◌, ◌∷◌, [], false, true, not, ◌||◌, if◌then◌else◌};
 ghost use Rattle.std.specs.Prelude.{IfSome, IfNone, IfOk, IfErr, OnOk, OnErr, None, Some, Option};
@@ -21,8 +21,8 @@ use std::collections::VecDeque;
 use std::marker::Model;
 use std::mem;
 
-/// A slot for each of some peers, empty or with its reservation. A contract sees the peers and
-/// what is in the slots, in ascending order. It must be spent, by [`Listed::destroy_empty`].
+/// A slot for each of some peers, empty or with its reservation. A contract sees the peers and what
+/// is in the slots, in ascending order. It must be consumed by [`Listed::destroy_empty`].
 pub struct Listed<C: PublicKey> {
     rows: VecDeque<(C, Option<Reservation<C>>)>,
 }
@@ -41,7 +41,7 @@ impl<C: PublicKey> Model for Listed<C> {
 }
 
 impl<C: PublicKey> Listed<C> {
-    /// An empty slot for each of the peers, in whatever order and however often each of them comes.
+    /// An empty slot for each of the peers, which may be in any order and repeat.
     ///
     /// # Cost
     ///
@@ -60,11 +60,11 @@ impl<C: PublicKey> Listed<C> {
         Ok(Listed { rows })
     }
 
-    /// Makes an empty slot for the peer, where it has none.
+    /// Makes an empty slot for the peer if it has none.
     ///
     /// # Cost
     ///
-    /// One search, and where a slot is made a move of those before or after it.
+    /// One search, and if a slot is made, a move of those before or after it.
     pub fn make(&mut self, peer: C) -> Result<(), AllocError>
         ensures err { OnErr result (self.new ≡ self.old) }
         ensures slots { OnOk result ((q : C) →
@@ -83,7 +83,7 @@ impl<C: PublicKey> Listed<C> {
         }
     }
 
-    /// Puts a reservation into the slot of its peer. Takes no memory.
+    /// Puts a reservation into the slot of its peer. It doesn't allocate.
     pub fn put(&mut self, reservation: Reservation<C>)
         requires slot { has_slot C.cmp self.old (key_of reservation) ≡ true }
         requires empty { held_in C.cmp self.old (key_of reservation) ≡ None }
@@ -99,7 +99,8 @@ impl<C: PublicKey> Listed<C> {
         }
     }
 
-    /// Takes the reservation of the peer out of its slot, which stays. Takes no memory.
+    /// Removes the reservation of the peer from its slot, which stays, and returns it. It doesn't
+    /// allocate.
     pub fn take(&mut self, peer: &C) -> Option<Reservation<C>>
         ensures taken { result ≡ held_in C.cmp self.old peer.now }
         ensures peer { IfSome result (λ metadata. key_of metadata ≡ peer.now) }
@@ -117,12 +118,12 @@ impl<C: PublicKey> Listed<C> {
         }
     }
 
-    /// Takes the slot of the peer out, with the reservation that is in it, if there is one. Takes
-    /// no memory.
+    /// Removes the slot of the peer, and returns the reservation that is in it, if there is one. It
+    /// doesn't allocate.
     ///
     /// # Cost
     ///
-    /// One search, and where there is a slot a move of those before or after it.
+    /// One search, and if there is a slot, a move of those before or after it.
     pub fn remove(&mut self, peer: &C) -> Option<Reservation<C>>
         ensures taken { result ≡ held_in C.cmp self.old peer.now }
         ensures peer { IfSome result (λ metadata. key_of metadata ≡ peer.now) }
@@ -139,7 +140,7 @@ impl<C: PublicKey> Listed<C> {
         }
     }
 
-    /// Whom the reservation of the peer is for, if one is held. Takes no memory.
+    /// Whom the reservation of the peer is for, if one is held. It doesn't allocate.
     pub fn held(&self, peer: &C) -> Option<&Metadata<C>>
         ensures { option_map (λ m. m.now) result ≡ held_in C.cmp self.now peer.now }
     {
@@ -152,7 +153,7 @@ impl<C: PublicKey> Listed<C> {
         }
     }
 
-    /// Takes the slot of the peer out, where it is empty. Takes no memory.
+    /// Removes the slot of the peer if it is empty. It doesn't allocate.
     ///
     /// # Cost
     ///
@@ -174,7 +175,7 @@ impl<C: PublicKey> Listed<C> {
         let _count = self.rows.len();
     }
 
-    /// The peer of the first slot, or `None` where there is no slot. Takes no memory.
+    /// The peer of the first slot, or `None` if there is no slot. It doesn't allocate.
     pub fn first(&self) -> Option<C>
         ensures some { IfSome result (λ peer. (slot : Option (Metadata C C.Signature))
             × (slice_get self.now 0 ≡ Some (peer, slot))) }
@@ -186,7 +187,7 @@ impl<C: PublicKey> Listed<C> {
         }
     }
 
-    /// Whether there is a first slot, and it is empty. Takes no memory.
+    /// Whether there is a first slot, and it is empty. It doesn't allocate.
     pub fn begins_empty(&self) -> bool
         ensures { result ≡ not (begins_full self.now) }
     {
@@ -196,7 +197,7 @@ impl<C: PublicKey> Listed<C> {
         }
     }
 
-    /// Takes the first slot out, with what is in it. Takes no memory.
+    /// Removes the first slot, and returns it with its contents. It doesn't allocate.
     pub fn pop_first(&mut self) -> Option<(C, Option<Reservation<C>>)>
         ensures first { IfSome result (λ slot. self.old ≡ slot ∷ self.new) }
         ensures none { IfNone result (self.old ≡ []) }
@@ -205,7 +206,7 @@ impl<C: PublicKey> Listed<C> {
         self.rows.pop_front()
     }
 
-    /// Ends it, where there is no slot.
+    /// Consumes it, if there is no slot.
     pub fn destroy_empty(self)
         requires { self ≡ [] }
     {
@@ -214,7 +215,7 @@ impl<C: PublicKey> Listed<C> {
     }
 }
 
-// Where the slot of the peer is, or where it would come.
+// The position of the peer's slot, or the one at which it would be inserted.
 fn place_of<C: PublicKey>(
     rows: &VecDeque<(C, Option<Reservation<C>>)>,
     peer: &C,
@@ -225,7 +226,7 @@ fn place_of<C: PublicKey>(
     rows.binary_search_by(|row| row.0.cmp(peer))
 }
 
-// Puts this into the slot of the peer, and hands out what was in it; or hands it back, where the
+// Puts this into the slot of the peer, and returns what was in it; or returns it as an error if the
 // peer has no slot.
 fn exchange<C: PublicKey>(
     rows: &mut VecDeque<(C, Option<Reservation<C>>)>,

@@ -1,5 +1,5 @@
-//! Slots that are made and taken out one by one: those of a node, and of a pair or a network that
-//! is run.
+//! Slots that are made and removed one by one: those of a node, and of a pair or a network that is
+//! run.
 
 ghost use Rattle.std.specs.Prelude.{◌≡◌, ◌∷◌, [], false, true, not, ◌||◌, if◌then◌else◌};
 ghost use Rattle.std.specs.Prelude.{IfSome, IfNone, OnOk, OnErr, None, Some, Option};
@@ -16,8 +16,8 @@ use std::alloc::{AllocError, AllocFailed, Global};
 use std::collections::BTreeMap;
 use std::marker::Model;
 
-/// A slot for each of some peers, empty or with its reservation. A contract sees the peers and
-/// what is in the slots, in ascending order. It must be spent, by [`Tree::destroy_empty`].
+/// A slot for each of some peers, empty or with its reservation. A contract sees the peers and what
+/// is in the slots, in ascending order. It must be consumed by [`Tree::destroy_empty`].
 pub struct Tree<C: PublicKey> {
     reservations: BTreeMap<C, Option<Reservation<C>>>,
 }
@@ -45,7 +45,7 @@ impl<C: PublicKey> Tree<C> {
         }
     }
 
-    /// Makes an empty slot for the peer, where it has none.
+    /// Makes an empty slot for the peer if it has none.
     pub fn make(&mut self, peer: C) -> Result<(), AllocError>
         ensures err { OnErr result (self.new ≡ self.old) }
         ensures slots { OnOk result ((q : C) →
@@ -65,7 +65,7 @@ impl<C: PublicKey> Tree<C> {
         }
     }
 
-    /// Puts a reservation into the slot of its peer. Takes no memory.
+    /// Puts a reservation into the slot of its peer. It doesn't allocate.
     pub fn put(&mut self, reservation: Reservation<C>)
         requires slot { has_slot C.cmp self.old (key_of reservation) ≡ true }
         requires empty { held_in C.cmp self.old (key_of reservation) ≡ None }
@@ -82,7 +82,8 @@ impl<C: PublicKey> Tree<C> {
         }
     }
 
-    /// Takes the reservation of the peer out of its slot, which stays. Takes no memory.
+    /// Removes the reservation of the peer from its slot, which stays, and returns it. It doesn't
+    /// allocate.
     pub fn take(&mut self, peer: &C) -> Option<Reservation<C>>
         ensures taken { result ≡ held_in C.cmp self.old peer.now }
         ensures peer { IfSome result (λ metadata. key_of metadata ≡ peer.now) }
@@ -97,8 +98,8 @@ impl<C: PublicKey> Tree<C> {
         slot.take()
     }
 
-    /// Takes the slot of the peer out, with the reservation that is in it, if there is one. Takes
-    /// no memory.
+    /// Removes the slot of the peer, and returns the reservation that is in it, if there is one. It
+    /// doesn't allocate.
     ///
     /// # Cost
     ///
@@ -113,7 +114,7 @@ impl<C: PublicKey> Tree<C> {
         self.reservations.remove(peer).flatten()
     }
 
-    /// Whom the reservation of the peer is for, if one is held. Takes no memory.
+    /// Whom the reservation of the peer is for, if one is held. It doesn't allocate.
     pub fn held(&self, peer: &C) -> Option<&Metadata<C>>
         ensures { option_map (λ m. m.now) result ≡ held_in C.cmp self.now peer.now }
     {
@@ -123,11 +124,11 @@ impl<C: PublicKey> Tree<C> {
         }
     }
 
-    /// Takes the slot of the peer out, where it is empty. Takes no memory.
+    /// Removes the slot of the peer if it is empty. It doesn't allocate.
     ///
     /// # Cost
     ///
-    /// One search among the slots, and one more where it goes.
+    /// One search among the slots, and one more if it is removed.
     pub fn drop_empty(&mut self, peer: &C)
         ensures dropped { held_in C.cmp self.old peer.now ≡ None →
             has_slot C.cmp self.new peer.now ≡ false }
@@ -143,7 +144,7 @@ impl<C: PublicKey> Tree<C> {
         let _count = self.reservations.len();
     }
 
-    /// The peer of the first slot, or `None` where there is no slot. Takes no memory.
+    /// The peer of the first slot, or `None` if there is no slot. It doesn't allocate.
     pub fn first(&self) -> Option<C>
         ensures some { IfSome result (λ peer. (slot : Option (Metadata C C.Signature))
             × (slice_get self.now 0 ≡ Some (peer, slot))) }
@@ -155,7 +156,7 @@ impl<C: PublicKey> Tree<C> {
         }
     }
 
-    /// Whether there is a first slot, and it is empty. Takes no memory.
+    /// Whether there is a first slot, and it is empty. It doesn't allocate.
     pub fn begins_empty(&self) -> bool
         ensures { result ≡ not (begins_full self.now) }
     {
@@ -165,7 +166,7 @@ impl<C: PublicKey> Tree<C> {
         }
     }
 
-    /// Takes the first slot out, with what is in it. Takes no memory.
+    /// Removes the first slot, and returns it with its contents. It doesn't allocate.
     pub fn pop_first(&mut self) -> Option<(C, Option<Reservation<C>>)>
         ensures first { IfSome result (λ slot. self.old ≡ slot ∷ self.new) }
         ensures none { IfNone result (self.old ≡ []) }
@@ -174,7 +175,7 @@ impl<C: PublicKey> Tree<C> {
         self.reservations.pop_first()
     }
 
-    /// Ends it, where there is no slot.
+    /// Consumes it, if there is no slot.
     pub fn destroy_empty(self)
         requires { self ≡ [] }
     {
@@ -183,7 +184,7 @@ impl<C: PublicKey> Tree<C> {
     }
 }
 
-// Takes the slot of the peer out, where it is empty.
+// Removes the slot of the peer if it is empty.
 fn remove_empty<C: PublicKey>(slots: &mut BTreeMap<C, Option<Reservation<C>>>, peer: &C)
     requires { AreSlots C.cmp slots.old.entries }
     ensures slots { AreSlots C.cmp slots.new.entries }

@@ -33,8 +33,8 @@ use std::collections::btree_map::Entry;
 const SPARSE: usize = 5;
 
 impl<C: PublicKey> Records<C> {
-    // Counts one set of the peer more, in a new record with its moments where it has none, and says
-    // whether the peer's info is known, and not wanted.
+    // Counts one more set of the peer, in a new record with its cooldown if it has none. Returns
+    // whether the peer's info is known and not wanted.
     fn join_one(
         &mut self,
         peer: &C,
@@ -67,8 +67,8 @@ impl<C: PublicKey> Records<C> {
         }
     }
 
-    // Counts one set of the peer less, takes out its record where that is deletable then, and says
-    // whether its connection has to end.
+    // Counts one set less of the peer, and removes its record if that is deletable then. Returns
+    // whether the peer must be disconnected.
     fn leave_one(&mut self, peer: &C, role: Role) -> bool
         ensures records { ChangesAt C.cmp self.old self.new peer.now (one_set_less role) }
         ensures torn { result ≡ option_map_or (is_torn_down_without role)
@@ -85,7 +85,7 @@ impl<C: PublicKey> Records<C> {
         torn
     }
 
-    // Counts one set of each peer less, and adds to a list those whose connections have to end.
+    // Counts one set less of each peer, and adds to a list those that must be disconnected.
     fn leave_each(&mut self, peers: &[C], role: Role, torn: &mut Vec<C>)
         requires sorted { IsStrictlySortedBy C.cmp peers.now }
         requires room { length torn.old.items + length peers.now ≤ vec_capacity torn.old }
@@ -104,7 +104,7 @@ impl<C: PublicKey> Records<C> {
         }
     }
 
-    // Counts one set of each peer less, where nobody's connection has to end by it.
+    // Counts one set less of each peer, when no peer must be disconnected by that.
     fn undo_each(&mut self, peers: &[C], role: Role)
         requires { IsStrictlySortedBy C.cmp peers.now }
         ensures { (q : C) → record_at C.cmp self.new q ≡
@@ -116,7 +116,7 @@ impl<C: PublicKey> Records<C> {
         }
     }
 
-    // Counts one set of each peer more, or leaves all as it was.
+    // Counts one more set of each peer, or leaves everything as it was.
     fn join_secondary(
         &mut self,
         peers: &[C],
@@ -144,7 +144,7 @@ impl<C: PublicKey> Records<C> {
         Ok(())
     }
 
-    // Counts one set of each primary peer more and sets its bit, or leaves all records as they
+    // Counts one more set of each primary peer and sets its bit, or leaves all records as they
     // were.
     fn join_primary(
         &mut self,
@@ -166,7 +166,7 @@ impl<C: PublicKey> Records<C> {
             (record_at C.cmp self.old q)) →
             record_at C.cmp self.new q ≡ record_at C.cmp self.old q) }
     {
-        // For the proof: the clauses of `as_slice` say that the peers are in order.
+        // For the proof: the contract of `as_slice` says that the peers are in order.
         let _peers = set.primary().ordered().as_slice();
         for place in 0..set.primary().len() {
             let peer = set.primary()[place];
@@ -181,7 +181,7 @@ impl<C: PublicKey> Records<C> {
         Ok(())
     }
 
-    // Counts a set more for the peers of each role and sets its bits, or leaves what is kept of
+    // Counts one more set for the peers of each role and sets its bits, or leaves what is known of
     // each peer as it was.
     fn join_roles(
         &mut self,
@@ -211,8 +211,8 @@ impl<C: PublicKey> Records<C> {
         Ok(())
     }
 
-    /// Counts a set that comes for each of its peers and sets its bits, or leaves all records as
-    /// they were where memory is refused. A peer that has no record gets one, with its moments.
+    /// Counts a new set for each of its peers and sets its bits. If an allocation fails, all
+    /// records are as they were. A peer that has no record gets one, with its cooldown.
     pub fn join(
         &mut self,
         set: &mut PeerSet<C>,
@@ -231,14 +231,14 @@ impl<C: PublicKey> Records<C> {
             (record_at C.cmp self.old q)) →
             self.new ≡ self.old) }
     {
-        // For the proof: the clauses of `len` say that the keys are in order.
+        // For the proof: the contract of `len` says that the keys are in order.
         let _before = self.map.len();
         let joined = self.join_roles(set, limit, cooldowns);
         let _after = self.map.len();
         joined
     }
 
-    /// Counts a set less for each of its peers, where nobody's connection has to end by it.
+    /// Counts one set less for each of its peers, when no peer must be disconnected by that.
     pub fn undo(&mut self, set: &PeerSet<C>)
         ensures map { IsOfMap C.cmp self.new }
         ensures records { (q : C) → record_at C.cmp self.new q ≡
@@ -246,13 +246,13 @@ impl<C: PublicKey> Records<C> {
     {
         self.undo_each(set.primary().ordered().as_slice(), Role::Primary);
         self.undo_each(set.secondary().as_slice(), Role::Secondary);
-        // For the proof: the clauses of `len` say that the keys are in order.
+        // For the proof: the contract of `len` says that the keys are in order.
         let _after = self.map.len();
     }
 
-    // Counts one set of each peer less, takes out the records that are deletable then, and adds to a
-    // list the peers whose connections have to end: by a walk along the records and the peers, or by
-    // one search for each peer where there are few.
+    // Counts one set less of each peer, removes the records that are deletable then, and adds to a
+    // list the peers that must be disconnected. It walks along the records and the peers, or
+    // searches for each peer if there are few.
     fn leave_role(&mut self, peers: &OrderedSet<C>, role: Role, torn: &mut Vec<C>)
         requires room { length torn.old.items + length peers.now ≤ vec_capacity torn.old }
         ensures records { (q : C) → record_at C.cmp self.new q ≡
@@ -274,9 +274,9 @@ impl<C: PublicKey> Records<C> {
         }
     }
 
-    /// Counts a set that goes for each of its peers, and takes out the records that are deletable
-    /// then. Answers the peers whose connections have to end, in the list that is handed in: there
-    /// is room in it for all peers of the set.
+    /// Counts a dropped set for each of its peers, and removes the records that are deletable then.
+    /// Returns the peers that must be disconnected, in the list that is passed in, which has
+    /// capacity for all peers of the set.
     pub fn leave(&mut self, set: &PeerSet<C>, mut torn: Vec<C>) -> OrderedSet<C>
         requires empty { torn.items ≡ [] }
         requires room { length set.now.primary + length set.now.secondary ≤ vec_capacity torn }
@@ -293,7 +293,7 @@ impl<C: PublicKey> Records<C> {
     }
 }
 
-// Adds the peer to a list that has room for it, where it is to be added.
+// Adds the peer to a list that has capacity for it, if `is_added` is true.
 fn push_if<C: PublicKey>(list: &mut Vec<C>, peer: C, is_added: bool)
     requires { length list.old.items < vec_capacity list.old }
     ensures items { list.new.items ≡ list.old.items ++ (if is_added then peer ∷ [] else []) }

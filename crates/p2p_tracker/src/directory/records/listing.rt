@@ -1,4 +1,4 @@
-//! What is listed by one pass over all records.
+//! Lists that are made by one pass over all records.
 
 ghost use Rattle.std.specs.Prelude.{◌≡◌, ◌++◌, ◌∷◌, [], false, true, if◌then◌else◌};
 ghost use Rattle.std.specs.Prelude.{IfOk, OnOk, OnErr, Some, ◌||◌};
@@ -24,7 +24,7 @@ use std::collections::BTreeMap;
 use std::time::Duration;
 
 impl<C: PublicKey> Records<C> {
-    /// The peers that may be dialled at a moment, and when to ask again, with these blocks.
+    /// The peers that may be dialled at this time, with these blocks, and when to ask again.
     pub fn dialable(
         &self,
         alloc: Global,
@@ -42,7 +42,7 @@ impl<C: PublicKey> Records<C> {
             (λ r. is_now (entry_state C.cmp blocks.now cfg.now (as_nanos now) (q, r)))
             (record_at C.cmp self.now q) false)) }
     {
-        // For the proof: the clauses of `len` say that the keys are in order.
+        // For the proof: the contract of `len` says that the keys are in order.
         let _count = self.map.len();
         dialable_in(alloc, &self.map, blocks, now, cfg)
     }
@@ -56,7 +56,7 @@ impl<C: PublicKey> Records<C> {
         ensures err { OnErr result (Somebody (λ q.
             option_map_or is_record_in_set (record_at C.cmp self.now q) false)) }
     {
-        // For the proof: the clauses of `len` say that the keys are in order.
+        // For the proof: the contract of `len` says that the keys are in order.
         let _count = self.map.len();
         let (primary, secondary) = by_role(alloc, &self.map)?;
         Ok(TrackedPeers {
@@ -66,7 +66,7 @@ impl<C: PublicKey> Records<C> {
     }
 }
 
-// The peers that may be dialled at a moment, and when to ask again.
+// The peers that may be dialled at this time, and when to ask again.
 fn dialable_in<C: PublicKey>(
     alloc: Global,
     map: &BTreeMap<C, Record<C>>,
@@ -94,7 +94,7 @@ fn dialable_in<C: PublicKey>(
     Ok(answer)
 }
 
-// When the record's peer may be dialled, asked at a moment: where it is blocked, after its block.
+// The dial status of the record's peer at this time; if it is blocked, after its block.
 fn status_of<C: PublicKey>(
     found: &Record<C>,
     unblock: Option<Duration>,
@@ -110,7 +110,8 @@ fn status_of<C: PublicKey>(
     }
 }
 
-// Adds the peer, where it may be dialled now, or the moment from which it may.
+// Adds the peer if it may be dialled now; otherwise notes the time from which it may be, if there
+// is one.
 fn note<C: PublicKey>(
     answer: &mut Dialable<C>,
     peer: C,
@@ -132,7 +133,7 @@ fn note<C: PublicKey>(
     Ok(())
 }
 
-/// The lesser of two moments.
+/// The earlier of two times.
 pub fn earliest(known: Option<Duration>, moment: Duration) -> Duration
     ensures { Some (as_nanos result) ≡
         earliest (option_map as_nanos known) (Some (as_nanos moment)) }
@@ -162,7 +163,7 @@ fn by_role<C: PublicKey>(
     Ok((primary, secondary))
 }
 
-// Adds the peer to the list of its role, where it is in a set.
+// Adds the peer to the list of its role if it is in a set.
 fn push_by_role<C: PublicKey>(
     primary: &mut Vec<C>,
     secondary: &mut Vec<C>,

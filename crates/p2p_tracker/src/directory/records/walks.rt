@@ -1,5 +1,5 @@
-//! The counts of sets in the records of many peers, by walks along the records and the peers at
-//! once, which are both in order.
+//! The counts of sets in the records of many peers, by walks along the records and the peers
+//! together, which are both in order.
 
 ghost use Rattle.std.specs.Prelude.{◌≡◌, ◌≤◌, ◌+◌, ◌++◌, drop, false, length, vec_capacity};
 ghost use Rattle.std.specs.Prelude.{Option, Some, None, if◌then◌else◌};
@@ -18,13 +18,14 @@ use p2p_discovery::sets::OrderedSet;
 use std::cmp::Ordering;
 use std::collections::BTreeMap;
 
-/// What counts the sets of a peer, and may go with one of them. The walk is over any such values,
-/// since the borrow checker doesn't cover yet a closure over keys and values of one type parameter.
+/// A value that counts the sets of a peer, and may be removed when one of them is. The walk is over
+/// any such values, since the borrow checker doesn't yet support a closure over keys and values of
+/// one type parameter.
 pub trait Counted: Drop {
-    // What is kept of it once one set of the role less has its peer.
+    // What is left of it after one set less of the role has its peer.
     ghost left: { Role → Self → Option Self };
 
-    /// Counts one set of the role less, and says whether anything is kept then.
+    /// Counts one set less of the role, and returns whether the value stays.
     fn leave(&mut self, role: Role) -> bool
         ensures { (if result then Some self.new else None) ≡ Self.left role self.old };
 }
@@ -41,8 +42,8 @@ impl<C: PublicKey> Counted for Record<C> {
     }
 }
 
-/// Adds to a list those of the peers whose connections have to end once one set of the role less has
-/// them. There is room for all of them.
+/// Adds to a list the peers that must be disconnected once one set less of the role has them. The
+/// list has capacity for all of them.
 pub fn list_torn<C: PublicKey>(
     map: &BTreeMap<C, Record<C>>,
     peers: &OrderedSet<C>,
@@ -64,7 +65,7 @@ pub fn list_torn<C: PublicKey>(
     }
 }
 
-/// Counts one set of each peer less, and takes out what isn't kept then.
+/// Counts one set less of each peer, and removes what doesn't stay.
 pub fn leave_walked<C: PublicKey, V: Counted>(
     map: &mut BTreeMap<C, V>,
     peers: &OrderedSet<C>,
@@ -86,8 +87,8 @@ pub fn leave_walked<C: PublicKey, V: Counted>(
     );
 }
 
-// Counts one set less where the key is one of the peers from a place on, and says whether what is
-// kept of it stays. The place goes behind the key.
+// Counts one set less if the key is one of the peers from a position on, and returns whether its
+// value stays. The position moves past the key.
 fn stays<C: PublicKey, V: Counted>(
     peers: &OrderedSet<C>,
     at: &mut usize,
@@ -107,7 +108,7 @@ fn stays<C: PublicKey, V: Counted>(
     }
 }
 
-// Says whether the key is one of the peers from a place on. The place goes behind the key.
+// Returns whether the key is one of the peers from a position on. The position moves past the key.
 fn meet<C: PublicKey>(peers: &OrderedSet<C>, at: &mut usize, key: &C) -> bool
     ensures rest { drop at.new peers.now ≡ above C.cmp key.now (drop at.old peers.now) }
     ensures met { result ≡ has_key C.cmp (drop at.old peers.now) key.now }
@@ -118,7 +119,7 @@ fn meet<C: PublicKey>(peers: &OrderedSet<C>, at: &mut usize, key: &C) -> bool
     met
 }
 
-// The place behind the key, and whether the key stands before it.
+// The position after the key, and whether the key itself is before it.
 fn met_from<C: PublicKey>(peers: &[C], from: usize, key: &C) -> (usize, bool)
     requires { IsStrictlySortedBy C.cmp peers.now }
     ensures rest { drop result.0 peers.now ≡ above C.cmp key.now (drop from peers.now) }
