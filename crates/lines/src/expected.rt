@@ -1,8 +1,8 @@
-//! Whether a value is printed as a text.
+//! Whether a value's printed form is a given text.
 
 use std::fmt::{self, Display, Write};
 
-// What has still to be printed of a text.
+// What remains to be printed of a text.
 #[derive(Drop)]
 struct Rest<'a> {
     text: &'a [u8],
@@ -20,7 +20,7 @@ impl Write for Rest<'_> {
     }
 }
 
-/// Whether the value is printed as this text. Takes no memory.
+/// Whether the value's printed form is this text. It doesn't allocate.
 pub fn is_printed_as(value: &impl Display, text: &str) -> bool {
     let mut rest = Rest {
         text: text.as_bytes(),

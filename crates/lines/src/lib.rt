@@ -48,7 +48,7 @@ impl fmt::Display for Hex<'_> {
 #[derive(Drop)]
 struct Keys<'a>(&'a [TestKey]);
 
-/// Truth values as a digit each, and no values as a hyphen.
+/// Bools as a digit each, and no bools as a hyphen.
 #[derive(Drop)]
 struct Bits<'a>(&'a BitMap);
 
@@ -129,7 +129,7 @@ impl fmt::Display for Line<'_, Info<TestKey>> {
     }
 }
 
-/// Infos in brackets, with commas between.
+/// Infos in brackets, separated by commas.
 #[derive(Drop)]
 struct InfoList<'a>(&'a [Info<TestKey>]);
 

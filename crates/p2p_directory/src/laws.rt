@@ -150,9 +150,9 @@ pub fn order_is_free<C: PublicKey>()
         Updates C.cmp old new xs → Updates C.cmp old new ys }
 {}
 
-/// If each registered set names at most n distinct peers, the present keys are at most n for each
-/// set that may be retained, plus the persistent keys and the peers that are not inert and in no
-/// set.
+/// If each registered set names at most n distinct peers, the number of present keys is bounded.
+/// The bound is n for each set that may be retained, plus the persistent keys, plus the peers that
+/// are not inert and in no set.
 pub fn presence_is_bounded<C: PublicKey>()
     ensures { (s : Settings C C.Signature) → s.cmp ≡ C.cmp →
         (n : ℕ) (cs : List (Call C C.Signature)) →
@@ -248,9 +248,9 @@ pub fn grants_of_a_run<C: PublicKey>()
 
 /// Dials by the replies to a run. After each reply to `dialable`, as long as the commands are dials
 /// at its time of the peers that it lists, each once and in any order, each is granted, unless an
-/// allocation fails. As long as the commands are queries, `dialable` at its time or later, and
-/// before its next query if it has one, gets the same peers and the same next query, unless an
-/// allocation fails.
+/// allocation fails. Then consider the commands as long as they are queries. `dialable` at its time
+/// or later, and before its next query if it has one, gets the same reply, unless an allocation
+/// fails.
 pub fn dials_of_a_run<C: PublicKey>()
     ensures { (s : Settings C C.Signature) → s.cmp ≡ C.cmp → 1 ≤ s.max_sets →
         (cs : List (Call C C.Signature)) (rs : List (Reply C C.Signature)) →
@@ -268,9 +268,10 @@ pub fn dials_of_a_run<C: PublicKey>()
 /// other updates may pass the same infos, in any order. All replies after them are then replies
 /// after these, too, and at each point after them everything is as it was.
 ///
-/// At each point at which the registered sets name at most n distinct peers each, the present keys
-/// are at most n for each set that may be retained, plus the persistent keys and the peers that are
-/// not inert and in no set. The number that `tracked` returns is within this bound, too.
+/// At each point at which the registered sets name at most n distinct peers each, the number of
+/// present keys is bounded. The bound is n for each set that may be retained, plus the persistent
+/// keys, plus the peers that are not inert and in no set. The number that `tracked` returns is
+/// within this bound, too.
 pub fn isolation_of_a_run<C: PublicKey>()
     ensures isolation { (s : Settings C C.Signature) → s.cmp ≡ C.cmp → 1 ≤ s.max_sets →
         (p : C) (cs : List (Call C C.Signature)) (rs : List (Reply C C.Signature)) →
@@ -305,13 +306,13 @@ pub fn infos_may_come_late<C: PublicKey>()
 
 /// Gossip of any number of nodes, by the replies to what is done to them from their start.
 ///
-/// Exchanges: at each point, let all local infos, and the infos of each command to any node and of
-/// each frame that any node accepted before, be signed in the namespaces of the asker and the
-/// replier. Take an exchange of a set whose primary peers the replier retains at its index, within
-/// the limits of both, with the replier's time at most the asker's bound ahead. It is applied with
-/// exactly the wanted infos that may be shared, unless an allocation fails. Afterwards the asker's
-/// info of each of their peers is at least as new. The same exchange directly repeated is applied
-/// and changes nothing at any node, unless an allocation fails.
+/// Exchanges: at each point, consider all local infos, and the infos of each command to any node
+/// and of each frame that any node accepted before. Let them be signed in the namespaces of the
+/// asker and the replier. Take an exchange of a set whose primary peers the replier retains at its
+/// index, within the limits of both, with the replier's time at most the asker's bound ahead. It is
+/// applied with exactly the wanted infos that may be shared, unless an allocation fails. Afterwards
+/// the asker's info of each of their peers is at least as new. The same exchange directly repeated
+/// is applied and changes nothing at any node, unless an allocation fails.
 ///
 /// Provenance, without any premise: each info that any node holds is the local info of some node,
 /// or was passed to some node before, by a command or by a frame that it accepted. Infos: if all
@@ -326,10 +327,11 @@ pub fn infos_may_come_late<C: PublicKey>()
 /// accepted, unless an allocation fails, if the local keys differ and its timestamp is within the
 /// bound.
 ///
-/// Replies: to bits that any node was asked for earlier, if the replier retains a set of their
-/// index with the primary peers that the set at the position then had, a reply is a frame of infos.
-/// They are signed for both, none has the asker's key, and none has a timestamp above the present
-/// milliseconds. Late: such a frame is accepted by any node, as [`infos_may_come_late`] says.
+/// Replies: take bits that any node was asked for earlier, and a replier that retains a set of
+/// their index with the primary peers that the set at the position then had. A reply to them is a
+/// frame of infos. These are signed for both, none has the asker's key, and none has a timestamp
+/// above the present milliseconds. Late: such a frame is accepted by any node, as
+/// [`infos_may_come_late`] says.
 ///
 /// Acquaintance: the same as reach, for some info of each other peer of the set, wanted or not.
 /// Isolation and order: the same as for one directory, over the calls that each node accepted.

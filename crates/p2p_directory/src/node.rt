@@ -417,11 +417,11 @@ impl<C: PublicKey> Node<C> {
     /// would be applied, and for a reply.
     ///
     /// Infos may arrive late, and more than once. A frame of infos is `Applied`, unless an
-    /// allocation fails, if each is signed in the namespace of the node and of another key, none
-    /// has a timestamp above the milliseconds of a time that is at most the bound ahead, and their
-    /// number is within the limit and the count. Afterwards the info of each of their peers that
-    /// has a record is at least as new. If all were so before, nothing changes; nor does anything
-    /// by a copy that follows at once.
+    /// allocation fails, if their number is within the limit and the count, and each is signed in
+    /// the namespace of the node and of another key. None may have a timestamp above the
+    /// milliseconds of a time that is at most the bound ahead. Afterwards the info of each of their
+    /// peers that has a record is at least as new. If all were so before, nothing changes; nor does
+    /// anything by a copy that follows at once.
     ///
     /// # Examples
     ///

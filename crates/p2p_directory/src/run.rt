@@ -42,11 +42,14 @@ pub(crate) mod slots;
 /// effect.
 ///
 /// Space for all replies and all reservations is allocated before the first command, so only these
-/// may get `OutOfMemory`: a `Track` whose set and a `Block` that would be accepted, a `Dial` and a
-/// `Listen` that would be granted, an `Info` of a peer whose info may be shared, an `Infos` if an
-/// info is shared, a `GetRandomBitVec` of a position that exists, a `GetPeerSet` of a set with a
-/// peer, `LatestUpdate` and `All` if some retained set has a peer, and `BlockedPeers` and
-/// `Dialable` if they list a peer.
+/// may get `OutOfMemory`:
+///
+/// - a `Track` whose set and a `Block` that would be accepted;
+/// - a `Dial` and a `Listen` that would be granted;
+/// - an `Info` of a peer whose info may be shared, and an `Infos` if an info is shared;
+/// - a `GetRandomBitVec` of a position that exists, and a `GetPeerSet` of a set with a peer;
+/// - `LatestUpdate` and `All` if some retained set has a peer;
+/// - `BlockedPeers` and `Dialable` if they list a peer.
 ///
 /// The replies keep these rules. Times are durations since the epoch, exact to the nanosecond; the
 /// sum of a time and a duration is capped at `Duration::MAX`.
@@ -57,28 +60,30 @@ pub(crate) mod slots;
 ///   time of the first. It also holds, whatever was forgotten, as long as the times of all `Dial`,
 ///   `Listen`, `Block`, `UnblockExpired` and `ForgetCooled` never go backwards.
 /// - Blocks: as long as these times never go backwards, whatever the replies are, a peer whose
-///   block was accepted is granted by no later command before the block's end, `block_duration`
-///   after its time, even if there was no record of the peer in between. Whether times go backwards
-///   or not, each grant of a peer, and each further block, comes no earlier than the end of its
-///   last block, unless an `UnblockExpired` at that end or later came in between.
-/// - Dials: directly after a reply to `Dialable` at some time, `Dial` commands at that time of the
-///   peers that it lists, each once, one after the other and in any order, are all granted, unless
-///   the reply is `OutOfMemory`.
-/// - Quiet time: as long as only queries follow a reply to `Dialable`, `Dialable` at the same time
-///   or later, but before `next_query_at` if there is one, gets the same peers and the same
-///   `next_query_at`, unless the reply is `OutOfMemory`. A query is a command that changes nothing:
-///   `NextUnblock`, `BlockedPeers`, `Status`, `GetPeerSet`, `LatestUpdate`, `LatestSetIndex`,
-///   `All`, `Info`, `Infos`, `GetRandomBitVec`, `Eligible`, `Acceptable`, `Dialable` and `Tracked`.
+///   block was accepted is granted by no later command before the block's end. The end is
+///   `block_duration` after the block's time. This also holds if there was no record of the peer in
+///   between. Even if times go backwards, each grant of a peer, and each further block, comes no
+///   earlier than the end of its last block, unless an `UnblockExpired` at that end or later came
+///   in between.
+/// - Dials: consider `Dial` commands directly after a reply to `Dialable`, at the same time, of the
+///   peers that it lists. Each once, one after the other and in any order, they are all granted,
+///   unless the reply is `OutOfMemory`.
+/// - Quiet time: consider the commands after a reply to `Dialable` as long as they are queries.
+///   `Dialable` at the same time or later, but before `next_query_at` if there is one, gets the
+///   same peers and the same `next_query_at`, unless the reply is `OutOfMemory`. A query is a
+///   command that changes nothing: `NextUnblock`, `BlockedPeers`, `Status`, `GetPeerSet`,
+///   `LatestUpdate`, `LatestSetIndex`, `All`, `Info`, `Infos`, `GetRandomBitVec`, `Eligible`,
+///   `Acceptable`, `Dialable` and `Tracked`.
 /// - Isolation: leave out of the commands accepted so far those that dial, listen for, connect,
 ///   release or block a peer other than one, and out of each `UpdatePeers` the infos of others. All
 ///   that is known of the one peer is the same. So are the replies to the commands that name it
 ///   alone, and whether `Track` and `Dialable` list it.
 /// - Order: infos of one `UpdatePeers`, or of several that follow each other directly, may be
-///   passed in any order, and by other `UpdatePeers` instead, if no two are of one peer with the
+///   passed in any order, and by other `UpdatePeers` instead. No two may be of one peer with the
 ///   same timestamp. The state is the same after them, and so are all later replies.
-/// - Bounds: if each registered set names at most n distinct peers, the peers with a record are at
-///   most `n * max_sets`, in addition to the local node, the bootstrappers, and the peers that are
-///   not `Inert` and in no retained set. `Tracked` gets no greater number.
+/// - Bounds: if each registered set names at most n distinct peers, the number of peers with a
+///   record is bounded. The bound is `n * max_sets`, plus the local node, the bootstrappers, and
+///   the peers that are not `Inert` and in no retained set. The reply to `Tracked` is no greater.
 ///
 /// The result is consumed by [`Run::finish`].
 ///
@@ -92,8 +97,8 @@ pub(crate) mod slots;
 ///
 /// # Cost
 ///
-/// That of the calls, one sort of the peers that the commands dial or listen for, a binary search
-/// among them for each grant and each `Release`, and for a `Connect` one more of the records.
+/// That of the calls, and one sort of the peers that the commands dial or listen for. Each grant
+/// and each `Release` takes a binary search among them, and a `Connect` one more of the records.
 pub fn run<C: PublicKey>(
     alloc: Global,
     bootstrappers: Vec<(C, Ingress)>,

@@ -403,8 +403,8 @@ impl<C: PublicKey> Directory<C> {
     /// # Cost
     ///
     /// One search among the records, and one more if the record is removed. If the peer's info
-    /// becomes wanted or is no longer wanted, one search among the positions, and for each retained
-    /// set that has the peer as primary the search of that set by its index, and one bit.
+    /// becomes wanted or is no longer wanted, one search among the positions. Then, for each
+    /// retained set that has the peer as primary, the search of that set by its index, and one bit.
     pub fn release(&mut self, reservation: Reservation<C>)
         requires { IsBusy C.cmp self.old (key_of reservation) }
         ensures released { Releases C.cmp self.old self.new reservation }
@@ -429,7 +429,7 @@ impl<C: PublicKey> Directory<C> {
     /// # Cost
     ///
     /// One search among the records. If the peer's info becomes wanted or is no longer wanted, one
-    /// among the positions, and for each retained set that has the peer as primary the search of
+    /// among the positions. Then, for each retained set that has the peer as primary, the search of
     /// that set by its index, and one bit.
     pub fn connect(&mut self, peer: &C, dialer: bool)
         requires { IsReserved C.cmp self.old peer.now }
@@ -451,8 +451,8 @@ impl<C: PublicKey> Directory<C> {
     /// # Cost
     ///
     /// For each info one search among the records. If the peer's info becomes wanted or is no
-    /// longer wanted, one among the positions, and for each retained set that has the peer as
-    /// primary the search of that set by its index, and one bit.
+    /// longer wanted, one among the positions. Then, for each retained set that has the peer as
+    /// primary, the search of that set by its index, and one bit.
     pub fn update_peers(&mut self, infos: Vec<Info<C>>)
         ensures updated { Updates C.cmp self.old self.new infos.items }
         ensures busy { StayBusy C.cmp self.old self.new }

@@ -7,25 +7,25 @@ use std::fmt;
 /// What is wrong with a line, and what was expected.
 #[derive(Clone, Copy, Debug, PartialEq, Eq)]
 pub enum Fault {
-    /// Memory for what the line spells was refused.
+    /// The allocation for what the line encodes failed.
     Memory,
-    /// There is no such name of this kind of things; the nearest.
+    /// There is no such name of this kind; the nearest one.
     Unknown(&'static str, &'static str),
-    /// An argument is missing behind this command.
+    /// An argument is missing after this command.
     Missing(Usage),
-    /// There is an argument too many behind this command.
+    /// There is an excess argument after this command.
     Excess(Usage),
     /// An argument has another form than this.
     Form(&'static str),
-    /// A number of this kind is above the greatest.
+    /// A number of this kind is above its maximum.
     TooLarge(&'static str, u64),
     /// The last byte has one digit.
     OddDigits,
     /// No node has the name.
     NoNode,
-    /// The line is longer than a line may be.
+    /// The line is longer than allowed.
     TooLong(usize),
-    /// The bytes of the line are no text.
+    /// The bytes of the line are not text.
     NoText,
 }
 

@@ -1,4 +1,4 @@
-//! Serves lines that are typed to nodes: `echo 'track 0 1,2' | play`.
+//! Serves typed lines to nodes: `echo 'track 0 1,2' | play`.
 #![tactic(auto)]
 
 mod fault;
@@ -17,7 +17,7 @@ use std::process::ExitCode;
 use std::{env, io};
 use usage::Help;
 
-// Whether all was as expected, and each line could be read.
+// Whether everything was as expected, and each line could be read.
 type Ended = Result<bool, Stop>;
 
 fn main(rt: HostRuntime) -> ExitCode {
@@ -42,7 +42,7 @@ fn run(rt: &HostRuntime) -> Ended {
     }
 }
 
-// The words behind the name of the program.
+// The words after the name of the program.
 fn words(rt: &HostRuntime) -> Result<Vec<String>, Stop> {
     let Ok(words) = env::args(rt) else {
         return Err(Stop::Memory);
@@ -83,7 +83,7 @@ fn play_input<W: Write>(rt: &HostRuntime, mode: Mode, out: &mut W) -> Ended {
     Ok(tally.is_good())
 }
 
-// Plays each file from new nodes.
+// Plays each file, starting from new nodes.
 fn play_files<W: Write>(rt: &HostRuntime, mode: Mode, files: &[String], out: &mut W) -> Ended {
     let mut good = true;
     for name in files {

@@ -1,4 +1,4 @@
-//! What a line asks for.
+//! What a line requests.
 
 ghost use Rattle.std.specs.Prelude.{◌<◌, ◌-◌, ◌^◌, IfOk, length};
 ghost use Rattle.play.specs.Requests.{CanServe};
@@ -24,7 +24,7 @@ mod nearest;
 mod settings;
 mod words;
 
-/// What the line asks for of the session.
+/// What the line requests from the session.
 pub fn request(
     alloc: Global,
     line: &str,
@@ -43,7 +43,7 @@ pub fn request(
     }
 }
 
-// The first word, and what is behind it.
+// The first word, and what follows it.
 fn first_word(text: &str) -> (&str, &str) {
     match text.trim_start().split_once(char::is_whitespace) {
         Some(parts) => parts,
@@ -58,7 +58,7 @@ fn node_named(session: &Session<TestKey>, name: &str) -> Result<usize, Fault> {
     }
 }
 
-// What the command of this name asks for with the arguments; of this node, where it names one.
+// What the command of this name requests with the arguments; it is for this node if it names one.
 fn request_to(
     alloc: Global,
     name: &str,

@@ -1,4 +1,4 @@
-//! Serves lines, and looks whether the replies are those that are expected.
+//! Serves lines, and compares the replies with those that are expected.
 
 ghost use Rattle.std.specs.Prelude.{◌≡◌, IfOk, OnErr};
 ghost use Rattle.p2p_directory.specs.Received.{wire_of};
@@ -14,13 +14,13 @@ use std::alloc::{AllocError, Global};
 use std::fmt::{self, Display};
 use std::io::{self, BufRead, BufReader, ErrorKind, Read, Write};
 
-// How many bytes a line may have.
+// The maximum length of a line, in bytes.
 const LONGEST: usize = 1 << 20;
 
 /// Why lines are no longer served.
 #[derive(Debug, Drop)]
 pub enum Stop {
-    /// Memory for a first node was refused.
+    /// The allocation for a first node failed.
     Memory,
     /// The lines could not be read.
     Read,
@@ -33,25 +33,25 @@ pub enum Stop {
 pub enum Mode {
     /// The replies, and what is not as expected.
     Replies,
-    /// What is not as expected, alone.
+    /// Only what is not as expected.
     Checks,
 }
 
-/// How many lines were replied, and how many replies are as expected.
+/// How many lines got a reply, and how many replies are as expected.
 #[derive(Clone, Copy, Debug)]
 pub struct Tally {
-    /// Replies, of lines that could not be read, too.
+    /// Replies, including those to lines that could not be read.
     pub replies: u64,
     /// Replies that are as expected.
     pub expected: u64,
-    /// Replies that are not.
+    /// Replies that are not as expected.
     pub otherwise: u64,
     /// Lines that could not be read and were not expected to be.
     pub unreadable: u64,
 }
 
 impl Tally {
-    /// All was as expected, and each line could be read.
+    /// Whether everything was as expected, and each line could be read.
     pub fn is_good(&self) -> bool {
         self.otherwise == 0 && self.unreadable == 0
     }
@@ -72,7 +72,7 @@ impl Display for Tally {
     }
 }
 
-// What a line was answered.
+// The reply to a line.
 #[derive(Drop)]
 enum Said {
     Answer(Answer<TestKey>),
@@ -97,7 +97,7 @@ struct Record {
     tally: Tally,
     // The reply to the last line that has one.
     last: Option<Said>,
-    // It is a fault that was not expected so far.
+    // Whether it is a fault that was not expected so far.
     is_open: bool,
 }
 
@@ -105,9 +105,9 @@ fn print<W: Write>(out: &mut W, line: &impl Display) -> Result<(), Stop> {
     writeln!(out, "{line}").map_err(|_error: io::Error| Stop::Write)
 }
 
-/// Serves the lines of the input from a session with one node of no name and no settings, and
-/// writes the replies. A line is replied before the next is waited for. In the end all that is held
-/// is released.
+/// Serves the lines of the input from a session with one node without a name and without settings,
+/// and writes the replies. A line gets its reply before the next one is waited for. At the end all
+/// reservations are released.
 pub fn play<R: Read + Drop, W: Write>(
     alloc: Global,
     input: &mut BufReader<R>,
@@ -174,13 +174,13 @@ fn flush<W: Write>(out: &mut W) -> Result<(), Stop> {
 // Why there is no line.
 #[derive(Drop)]
 enum Unread {
-    // It is not held, and the next can be read.
+    // The line is not held, and the next can be read.
     Fault(Fault),
     Stop,
 }
 
-// Reads the next line into the buffer, without its end; false at the end of the input. A line that
-// is too long is passed over, and so is one that memory is refused for.
+// Reads the next line into the buffer, without its end; returns false at the end of the input. A
+// line that is too long is skipped, and so is one whose allocation fails.
 fn next_line<R: BufRead + Drop>(input: &mut R, bytes: &mut Vec<u8>) -> Result<bool, Unread> {
     bytes.clear();
     let read = input
@@ -200,7 +200,7 @@ fn next_line<R: BufRead + Drop>(input: &mut R, bytes: &mut Vec<u8>) -> Result<bo
     }
 }
 
-// Passes over the rest of a line.
+// Skips the rest of a line.
 fn pass_over<R: BufRead + Drop>(input: &mut R, fault: Fault) -> Result<bool, Unread> {
     match input.skip_until(b'\n') {
         Ok(_) => Err(Unread::Fault(fault)),
@@ -237,7 +237,7 @@ impl Record {
         }
     }
 
-    // Counts and prints a reply, and keeps it for what is expected of it.
+    // Counts and prints a reply, and keeps it for a comparison with what is expected.
     fn reply<W: Write>(&mut self, said: Said, out: &mut W) -> Result<(), Stop> {
         self.settle(out)?;
         if self.mode == Mode::Replies {
@@ -249,7 +249,7 @@ impl Record {
         Ok(())
     }
 
-    // Counts the last reply where it is a fault that was not expected.
+    // Counts the last reply if it is a fault that was not expected.
     fn settle<W: Write>(&mut self, out: &mut W) -> Result<(), Stop> {
         if !self.is_open {
             return Ok(());
@@ -279,7 +279,7 @@ impl Record {
     }
 }
 
-// Answers a line. One that can't be read changes nothing.
+// Replies to a line. One that can't be read changes nothing.
 fn answer(
     alloc: Global,
     session: &mut Session<TestKey>,

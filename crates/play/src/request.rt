@@ -1,4 +1,4 @@
-//! What a line asks for, and what it is answered.
+//! What a line requests, and the reply to it.
 
 ghost use Rattle.std.specs.Prelude.{◌≡◌};
 ghost use Rattle.p2p_directory.specs.Received.{wire_of};
@@ -13,14 +13,14 @@ use p2p_discovery::codec::{CodecError, PublicKey, TestKey};
 use std::alloc::{AllocError, Global};
 use std::fmt;
 
-/// What a line asks for.
+/// What a line requests.
 #[derive(Drop)]
 pub enum Request<C: PublicKey> {
     /// A new node of this name and setup.
     Node(String, Setup<C>),
     /// A command to one node or to two.
     Command(NetworkCommand<C>),
-    /// The value of a kind that these bytes spell.
+    /// The value of a kind that these bytes encode.
     Decode(Kind, Bytes),
     /// The bytes of that value.
     Recode(Kind, Bytes),
@@ -28,10 +28,10 @@ pub enum Request<C: PublicKey> {
     Encode(Value<C>),
 }
 
-/// What a line is answered.
+/// The reply to a line.
 #[derive(Drop)]
 pub enum Answer<C: PublicKey> {
-    /// There is a new node.
+    /// A new node was made.
     Ready,
     /// The reply to a command.
     Reply(NetworkReply<C>),
@@ -39,9 +39,9 @@ pub enum Answer<C: PublicKey> {
     Value(Value<C>),
     /// The bytes of a value.
     Bytes(Bytes),
-    /// Why bytes are not read, or a value is not written.
+    /// Why bytes are not decoded, or a value is not encoded.
     Refused(CodecError),
-    /// Memory for a new node was refused.
+    /// The allocation for a new node failed.
     OutOfMemory,
 }
 
@@ -58,8 +58,8 @@ impl fmt::Display for Answer<TestKey> {
     }
 }
 
-/// Does what is asked for. A node is made, or a command is given to the nodes that it names; all
-/// else leaves the session as it was.
+/// Serves a request: makes a node, or passes a command to the nodes that it names. Anything else
+/// leaves the session as it was.
 ///
 /// # Conditions
 ///

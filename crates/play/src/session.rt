@@ -1,4 +1,4 @@
-//! Nodes that are called by names.
+//! Nodes with names.
 
 ghost use Rattle.std.specs.Prelude.{◌≡◌, ◌<◌, ◌-◌, ◌^◌, [], IfSome, IfNone, OnOk, OnErr};
 ghost use Rattle.std.specs.Prelude.{IfOk, length, slice_index_or, string_bytes};
@@ -16,12 +16,12 @@ use std::marker::Model;
 
 mod label;
 
-/// Nodes that are called by names, which are all different. A contract sees the names and the
-/// nodes. It must be spent, by [`Session::finish`].
+/// Nodes with names, which are all different. A contract sees the names and the nodes. It must be
+/// consumed by [`Session::finish`].
 pub struct Session<C: PublicKey> {
     labels: Vec<Label>,
     nodes: Network<C>,
-    // The node that was made or named last.
+    // The node that was last made or named.
     latest: usize,
 }
 
@@ -37,7 +37,7 @@ impl<C: PublicKey> Model for Session<C> {
 }
 
 impl<C: PublicKey> Session<C> {
-    /// A session of no node.
+    /// A session without nodes.
     pub fn new(alloc: Global) -> Session<C>
         ensures { result ≡ record { labels = []; nodes = [] } }
     {
@@ -48,7 +48,7 @@ impl<C: PublicKey> Session<C> {
         }
     }
 
-    /// The number of the node of this name, or `None` where no node has it.
+    /// The number of the node of this name, or `None` if no node has it.
     pub fn place_of(&self, name: &str) -> Option<usize>
         ensures found { IfSome result (λ i. i < length self.now.labels) }
         ensures called { IfSome result (λ i. (l : Label) →
@@ -59,18 +59,18 @@ impl<C: PublicKey> Session<C> {
         place_in(&self.labels, name)
     }
 
-    /// The number of the node that was made or named last; 0 where there is none.
+    /// The number of the node that was last made or named; 0 if there is none.
     pub fn latest(&self) -> usize {
         self.latest
     }
 
-    /// What a node is called, or `None` where there is no such node.
+    /// The name of a node, or `None` if there is no such node.
     pub fn label(&self, node: usize) -> Option<&Label> {
         self.labels.get(node)
     }
 
-    /// A new node of this name and setup, in place of the one of that name, of which all that was
-    /// held is released.
+    /// Adds a new node of this name and setup. If there is one of that name, it is replaced, and
+    /// all its reservations are released.
     ///
     /// # Conditions
     ///
@@ -78,7 +78,7 @@ impl<C: PublicKey> Session<C> {
     ///
     /// # Errors
     ///
-    /// `AllocError` where memory is refused. Nothing has changed.
+    /// `AllocError` if an allocation fails. Nothing has changed.
     pub fn put(&mut self, alloc: Global, name: &str, setup: Setup<C>) -> Result<(), AllocError>
         requires sets { non_zero_usize_get setup.cfg.max_sets < 2 ^ 64 - 1 }
         requires bits { setup.payload.max_bit_vec < 2 ^ 32 }
@@ -104,8 +104,8 @@ impl<C: PublicKey> Session<C> {
         }
     }
 
-    /// Gives the command to the node or the nodes that it names by their numbers. A command to a
-    /// node that there isn't, and an exchange of a node with itself, is replied `NoNode`.
+    /// Passes the command to the node or the nodes that it names by their numbers. The reply to a
+    /// command to a node that doesn't exist, or to an exchange of a node with itself, is `NoNode`.
     pub fn serve(&mut self, command: NetworkCommand<C>) -> NetworkReply<C>
         ensures labels { self.new.labels ≡ self.old.labels }
         ensures served { IsServedAmong C.cmp (wire_of C.SIZE C.spelled C.value
@@ -116,7 +116,7 @@ impl<C: PublicKey> Session<C> {
         self.nodes.serve(command)
     }
 
-    /// Releases all that is held.
+    /// Releases all reservations.
     pub fn finish(self) {
         let Session {
             labels: _,
@@ -137,7 +137,7 @@ fn named_by<C: PublicKey>(command: &NetworkCommand<C>) -> usize {
     }
 }
 
-// The place of the label with this name.
+// The position of the label with this name.
 fn place_in(labels: &[Label], name: &str) -> Option<usize>
     ensures found { IfSome result (λ i. i < length labels.now) }
     ensures called { IfSome result (λ i. (l : Label) →
@@ -147,7 +147,7 @@ fn place_in(labels: &[Label], name: &str) -> Option<usize>
     labels.iter().position(|label| label.name.as_str() == name)
 }
 
-// The label of this name and of the namespace of the setup.
+// The label with this name and the namespace of the setup.
 fn label_of<C: PublicKey>(alloc: Global, name: &str, setup: &Setup<C>) -> Result<Label, AllocError>
     ensures { IfOk result (IsCalled name.now setup.now) }
 {

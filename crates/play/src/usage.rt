@@ -1,4 +1,4 @@
-//! The lines that there are, as `--help` prints them.
+//! The lines that can be typed, as `--help` prints them.
 
 use std::fmt;
 
@@ -7,7 +7,7 @@ use std::fmt;
 pub struct Usage {
     /// The name of the command.
     pub name: &'static str,
-    /// What is typed behind it.
+    /// What is typed after it.
     pub arguments: &'static str,
 }
 
@@ -23,7 +23,7 @@ impl fmt::Display for Usage {
     }
 }
 
-/// All commands: the name, what is typed behind it, and the reply.
+/// All commands: the name, what is typed after it, and the reply.
 pub static COMMANDS: [(&'static str, &'static str, &'static str); 31] = [
     (
         "node",
@@ -66,7 +66,7 @@ pub static COMMANDS: [(&'static str, &'static str, &'static str); 31] = [
     ("=", "TEXT", "none: the reply before has to be TEXT"),
 ];
 
-/// What is typed in place of the words in capitals.
+/// What is typed instead of the words in capitals.
 pub static WORDS: [(&'static str, &'static str); 13] = [
     ("P, I, PLACE", "whole numbers: a peer, an index, a place"),
     (
@@ -98,7 +98,7 @@ pub static WORDS: [(&'static str, &'static str); 13] = [
     ),
 ];
 
-/// The settings of a node, and what they are where they are left out.
+/// The settings of a node, with their default values.
 pub static SETTINGS: [(&'static str, &'static str); 16] = [
     ("max_sets", "1"),
     ("dial_fail_limit", "1"),

@@ -1,4 +1,4 @@
-//! Values that are read from bytes.
+//! Values that are decoded from bytes.
 
 ghost use Rattle.std.specs.Prelude.{◌<◌, ◌^◌};
 ghost use Rattle.p2p_discovery.specs.Payload.{CanSpell};
@@ -12,35 +12,35 @@ use p2p_discovery::types::{Address, Ingress};
 use std::alloc::Global;
 use std::fmt;
 
-/// As what bytes are read, and under which limits.
+/// What kind of value bytes are decoded as, and under which limits.
 #[derive(Clone, Copy)]
 pub enum Kind {
-    /// What peers tell each other.
+    /// What peers send each other.
     Payload(PayloadConfig),
     /// An info.
     Info,
-    /// So many infos.
+    /// A list of infos, with limits on their number.
     Infos(RangeCfg),
-    /// Where a peer is reached.
+    /// The address at which a peer is reached, or a name with a port.
     Ingress,
     /// The address of a peer.
     Address,
-    /// A message of so many bytes.
+    /// A message, with limits on its length.
     Data(RangeCfg),
-    /// At most so many bits, with an index.
+    /// Bits with an index, at most so many.
     Bits(u64),
 }
 
 /// A value of one of these kinds.
 #[derive(Drop)]
 pub enum Value<C: PublicKey> {
-    /// What peers tell each other.
+    /// What peers send each other.
     Payload(Payload<C>),
     /// An info.
     Info(Info<C>),
     /// Infos.
     Infos(Infos<C>),
-    /// Where a peer is reached.
+    /// The address at which a peer is reached, or a name with a port.
     Ingress(Ingress),
     /// The address of a peer.
     Address(Address),
@@ -51,7 +51,7 @@ pub enum Value<C: PublicKey> {
 }
 
 impl<C: PublicKey> Value<C> {
-    /// The value that the bytes spell.
+    /// The value that the bytes encode.
     pub fn decode(alloc: Global, kind: Kind, bytes: Bytes) -> Result<Value<C>, CodecError> {
         Ok(match kind {
             Kind::Payload(limits) => Value::Payload(Payload::decode_cfg(alloc, bytes, &limits)?),
@@ -64,7 +64,7 @@ impl<C: PublicKey> Value<C> {
         })
     }
 
-    /// The bytes that spell the value.
+    /// The encoding of the value.
     pub fn encode(&self, alloc: Global) -> Result<Bytes, CodecError> {
         match self {
             Value::Payload(payload) => encoded_payload(alloc, payload),
@@ -116,7 +116,7 @@ fn encoded_payload<C: PublicKey>(alloc: Global, payload: &Payload<C>) -> Result<
     Ok(payload.encode(alloc)?)
 }
 
-// The length of the message or of the list in a payload, where it has one.
+// The length of the message or of the list in a payload, if it has one.
 fn length_of<C: PublicKey>(payload: &Payload<C>) -> usize
     ensures { result < 2 ^ 32 → CanSpell payload.now }
 {

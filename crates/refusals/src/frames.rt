@@ -1,4 +1,4 @@
-//! Frames that are made of a message's buffers.
+//! Frames that are made from a message's buffers.
 
 ghost use Rattle.std.specs.Prelude.{◌<◌, ◌^◌, length, IfOk};
 ghost use Rattle.std.specs.List.{concat};
@@ -10,7 +10,7 @@ use std::alloc::{AllocError, Global};
 use std::collections::VecDeque;
 use std::fmt::Write;
 
-// So many times these buffers, which are not too long for a frame together.
+// These buffers, repeated so many times; together they are not too long for a frame.
 fn repeated(
     alloc: Global,
     parts: &[&'static [u8]],
@@ -32,14 +32,14 @@ fn repeated(
     Ok(buffers)
 }
 
-// Four buffers, behind which there is no room for another.
+// Four buffers in a list that has no capacity for another.
 fn buffers(alloc: Global) -> Result<VecDeque<Bytes>, AllocError>
     ensures { IfOk result (λ v. length (concat v.items) < 2 ^ 32) }
 {
     repeated(alloc, &[b"hello ", b"!"], 2)
 }
 
-/// `EncodedData::new`: refused, it hands back buffers that equal those handed in.
+/// `EncodedData::new`: on failure it returns buffers that equal those passed in.
 pub fn encoded(alloc: Global, text: &mut String) -> Result<bool, AllocError> {
     let message = buffers(alloc)?;
     let same = buffers(alloc)?;

@@ -1,4 +1,4 @@
-//! What is done: commands of a table, and the setting of the worked rows.
+//! What is done: commands of a table, and the setting of the worked examples.
 
 ghost use Rattle.std.specs.Prelude.{◌≡◌, ◌+◌, IfOk};
 ghost use Rattle.std.specs.Int.NonZero.{non_zero_usize_get};
@@ -14,12 +14,12 @@ use std::alloc::{AllocError, Global};
 use std::num::NonZeroUsize;
 use std::time::Duration;
 
-/// A moment or a draw: seconds and nanoseconds.
+/// A time or a draw: seconds and nanoseconds.
 #[derive(Clone, Copy)]
 pub struct At(pub u64, pub u32);
 
 impl At {
-    /// The moment.
+    /// The time.
     pub fn moment(self) -> Duration {
         Duration::from_secs(self.0).saturating_add(Duration::from_nanos(u64::from(self.1)))
     }
@@ -30,19 +30,19 @@ impl At {
 pub enum Given {
     /// `track` of an index, its primary and its secondary peers.
     Track(u64, &'static [u64], &'static [u64]),
-    /// `dial` of a peer at a moment, with a draw.
+    /// `dial` of a peer at a time, with a draw.
     Dial(u64, At, At),
-    /// `listen` of a peer at a moment.
+    /// `listen` of a peer at a time.
     Listen(u64, At),
-    /// `connect` of a peer that came.
+    /// `connect` of an inbound peer.
     Connect(u64),
     /// `release` of a peer.
     Release(u64),
     /// `update_peers` with the infos of keys, with timestamps and ports.
     Update(&'static [(u64, u64, u16)]),
-    /// `block` of a peer at a moment.
+    /// `block` of a peer at a time.
     Block(u64, At),
-    /// `blocked_peers` at a moment.
+    /// `blocked_peers` at a time.
     BlockedPeers(At),
     /// `status` of a peer.
     Status(u64),
@@ -54,9 +54,9 @@ pub enum Given {
     All,
     /// `info` of a peer.
     Info(u64),
-    /// `get_random_bit_vec` at a place.
+    /// `get_random_bit_vec` at a position.
     Bits(usize),
-    /// `dialable` at a moment.
+    /// `dialable` at a time.
     Dialable(At),
     /// `tracked`.
     Tracked,
@@ -98,7 +98,7 @@ impl Given {
         }
     }
 
-    // The question.
+    // The query.
     fn question(self) -> Command<TestKey> {
         match self {
             Given::BlockedPeers(now) => Command::BlockedPeers(now.moment()),
@@ -152,12 +152,12 @@ fn infos(alloc: Global, told: &[(u64, u64, u16)]) -> Result<Vec<Info<TestKey>>, 
     Ok(infos)
 }
 
-/// The own info of a node with this key, with timestamp 0.
+/// The local info of a node with this key, with timestamp 0.
 pub fn own_info(key: u64) -> Info<TestKey> {
     signed(key, ingress(8_000), 0)
 }
 
-/// The setting of the rows, where so many sets more than one are retained.
+/// The setting of the worked examples, with so many more sets than one retained.
 pub fn config(more: u8) -> Config
     ensures { non_zero_usize_get result.max_sets ≡ 1 + more }
 {
@@ -171,7 +171,7 @@ pub fn config(more: u8) -> Config
     }
 }
 
-/// What a node of this key is made from.
+/// The setup of a node with this key.
 pub fn setup(
     alloc: Global,
     key: u64,

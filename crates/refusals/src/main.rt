@@ -1,8 +1,10 @@
-//! Does one thing with whatever memory it gets, and says what is left: `refusals run12`.
+//! Performs one operation with whatever memory it gets, as in `refusals run12`, and prints the
+//! state afterwards.
 //!
-//! `tools/refused.sh` refuses each request for memory in turn while the thing is done. Before and
-//! after it a mark is requested, by which the script knows when. Once it is done there is memory
-//! again, and what is left is compared with what is left where what was refused was never asked.
+//! `tools/refused.sh` makes each allocation of the operation fail in turn. Before and after the
+//! operation a mark is requested, by which the script knows when it begins and ends. Afterwards
+//! there is memory again, and the state is compared with the one in which what failed was never
+//! requested.
 #![tactic(auto)]
 
 mod frames;
@@ -18,7 +20,7 @@ use std::env;
 use std::io::Write;
 use std::process::ExitCode;
 
-// The only word behind the name of the program.
+// The only word after the name of the program.
 fn word(rt: &HostRuntime) -> Option<String> {
     let Ok(mut words) = env::args(rt) else {
         return None;
@@ -26,7 +28,8 @@ fn word(rt: &HostRuntime) -> Option<String> {
     words.nth(1)
 }
 
-// Does what is called so, and says in the text what comes of it. Whether all is as it should be.
+// Performs the operation of this name, and says in the text what comes of it. Returns whether
+// everything is as it should be.
 fn is_as_before(alloc: Global, name: &str, text: &mut String) -> Result<bool, AllocError> {
     match name {
         "init" => starts::directory(alloc, text),

@@ -1,4 +1,4 @@
-//! A network: nodes come, one asks another, and one is replaced. What is refused is done again.
+//! A network: nodes are added, one asks another, and one is replaced. What fails is done again.
 
 use crate::given::{At, Given, setup};
 use crate::told::{compares, mark, tells};
@@ -10,13 +10,13 @@ use std::fmt::Write;
 
 #[derive(Clone, Copy)]
 enum Deed {
-    // A node of this key comes.
+    // A node of this key is added.
     Add(u64),
     // The node serves this.
     Call(usize, Given),
-    // The first node asks the second for the set at place 0, when it is 100 for both.
+    // The first node asks the second for the set at position 0, at time 100 for both.
     Exchange(usize, usize),
-    // A node of this key takes the place of another.
+    // A node of this key replaces another.
     Replace(usize, u64),
 }
 
@@ -68,7 +68,7 @@ fn does(alloc: Global, nodes: &mut Network<TestKey>, deed: Deed) -> Result<(), A
     }
 }
 
-// Does all in turn, and says whether something was refused.
+// Does all in turn, and returns whether an allocation failed.
 fn does_all(alloc: Global, nodes: &mut Network<TestKey>) -> Result<bool, AllocError> {
     let mut is_refused = false;
     for deed in &DEEDS {
@@ -80,7 +80,7 @@ fn does_all(alloc: Global, nodes: &mut Network<TestKey>) -> Result<bool, AllocEr
     Ok(is_refused)
 }
 
-// What all directories answer.
+// The results of all queries of the directories.
 fn questions_of(alloc: Global, nodes: &Network<TestKey>) -> Result<String, AllocError> {
     let mut words = String::new(alloc);
     for node in 0..nodes.nodes() {
@@ -91,7 +91,7 @@ fn questions_of(alloc: Global, nodes: &Network<TestKey>) -> Result<String, Alloc
     Ok(words)
 }
 
-// Whether something was refused, and what is answered in the end.
+// Whether an allocation failed, and the results of the queries at the end.
 #[derive(Drop)]
 struct Left {
     is_refused: bool,
@@ -115,7 +115,7 @@ fn left_of(alloc: Global, is_marked: bool) -> Result<Left, AllocError> {
     })
 }
 
-/// A network of three nodes, beside one that was never refused anything.
+/// A network of three nodes, compared with one in which no allocation failed.
 pub fn three(alloc: Global, text: &mut String) -> Result<bool, AllocError> {
     let ample = left_of(alloc, false)?;
     let left = left_of(alloc, true)?;

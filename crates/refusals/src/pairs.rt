@@ -13,17 +13,17 @@ use std::alloc::{AllocError, Global};
 use std::fmt::Write;
 use std::time::Duration;
 
-// What is done to two nodes: the asker is the left one, and place 0 is asked for.
+// What is done to two nodes: the asker is the left one, and it asks for position 0.
 #[derive(Clone, Copy)]
 enum Deed {
     Asker(Given),
     Replier(Given),
     Ask,
-    // The moments of the asker and of the replier.
+    // The times of the asker and of the replier.
     Exchange(At, At),
 }
 
-// The first part of row 16.
+// The first part of worked example 16.
 static DEEDS: [Deed; 12] = [
     Deed::Asker(Given::Track(0, &[1, 2], &[])),
     Deed::Replier(Given::Track(0, &[1, 2], &[])),
@@ -71,7 +71,7 @@ fn is_out_of_memory(reply: &PairReply<TestKey>) -> bool {
     }
 }
 
-// A run over these deeds, with ample memory.
+// A run of these steps, with ample memory.
 fn run_over(alloc: Global, deeds: &[Deed]) -> Result<PairRun<TestKey>, AllocError> {
     let commands = commands_of(alloc, deeds)?;
     let left = setup(alloc, 9, Vec::new(alloc))?;
@@ -89,7 +89,7 @@ fn finish(ended: PairRun<TestKey>) {
     right.finish();
 }
 
-// The replies that are not for want of memory.
+// The replies that are not out of memory.
 fn replies_of(alloc: Global, replies: &[PairReply<TestKey>]) -> Result<String, AllocError> {
     let mut text = String::new(alloc);
     for reply in replies {
@@ -100,7 +100,7 @@ fn replies_of(alloc: Global, replies: &[PairReply<TestKey>]) -> Result<String, A
     Ok(text)
 }
 
-// What both directories answer.
+// The results of all queries of both directories.
 fn questions_of(
     alloc: Global,
     left: &Directory<TestKey>,
@@ -111,7 +111,7 @@ fn questions_of(
     Ok(words)
 }
 
-// What was replied, and what both directories answer then.
+// The replies, and the results of all queries of both directories afterwards.
 #[derive(Drop)]
 struct Words {
     replies: String,
@@ -132,7 +132,7 @@ fn words_over(alloc: Global, deeds: &[Deed]) -> Result<Words, AllocError> {
     words
 }
 
-// What was not refused memory.
+// The steps that didn't run out of memory.
 fn accepted(alloc: Global, replies: &[PairReply<TestKey>]) -> Result<Vec<Deed>, AllocError> {
     let mut accepted = Vec::new(alloc);
     for (deed, reply) in DEEDS.iter().zip(replies) {
@@ -164,7 +164,7 @@ fn tells_of_two(
     Ok(is_same && answers)
 }
 
-/// `run_pair` of the first part of row 16.
+/// `run_pair` of the first part of worked example 16.
 pub fn run_of_two(alloc: Global, text: &mut String) -> Result<bool, AllocError> {
     let commands = commands_of(alloc, &DEEDS)?;
     let left = setup(alloc, 9, Vec::new(alloc))?;
@@ -212,7 +212,8 @@ fn asks(asker: &mut Node<TestKey>, replier: &Node<TestKey>) -> Exchanged<TestKey
     exchange(asker, replier, 0, hundred, hundred)
 }
 
-// Asks with whatever memory there is, and compares what is left. Refused, it asks again.
+// Asks with whatever memory there is, and compares the resulting states. If an allocation fails, it
+// asks again.
 fn tells_of_exchange(
     alloc: Global,
     text: &mut String,

@@ -1,4 +1,5 @@
-//! Runs of commands: what is replied is what the others alone are replied.
+//! Runs of commands: the replies are those that the other commands get without the ones that ran
+//! out of memory.
 
 use crate::given::{At, Given, config, own_info};
 use crate::told::{compares, mark, words_of};
@@ -8,7 +9,7 @@ use p2p_discovery::codec::TestKey;
 use std::alloc::{AllocError, Global};
 use std::fmt::Write;
 
-// The commands of a run that retains so many sets more than one.
+// The commands of a run that retains so many more sets than one.
 #[derive(Clone, Copy)]
 struct Row {
     name: &'static str,
@@ -110,7 +111,7 @@ fn commands_from(alloc: Global, given: &[Given]) -> Result<Vec<Command<TestKey>>
     Ok(commands)
 }
 
-// Whether this is replied by a call that may want memory.
+// Whether the reply is one of a call that may allocate.
 fn may_want_memory(reply: &Reply<TestKey>) -> bool {
     match reply {
         Reply::Track(torn) => torn.is_some(),
@@ -127,7 +128,7 @@ fn may_want_memory(reply: &Reply<TestKey>) -> bool {
     }
 }
 
-// The replies that are not for want of memory.
+// The replies that are not out of memory.
 fn replies_of(alloc: Global, left: &Run<TestKey>) -> Result<String, AllocError> {
     let mut text = String::new(alloc);
     for reply in &left.replies {
@@ -138,7 +139,7 @@ fn replies_of(alloc: Global, left: &Run<TestKey>) -> Result<String, AllocError> 
     Ok(text)
 }
 
-// What was replied, and what the directory answers then.
+// The replies, and the results of all queries of the directory afterwards.
 #[derive(Drop)]
 struct Words {
     replies: String,
@@ -153,7 +154,7 @@ fn read_words(alloc: Global, left: &Run<TestKey>) -> Result<Words, AllocError> {
 }
 
 impl Row {
-    // A run over these commands, with ample memory.
+    // A run of these commands, with ample memory.
     fn run_over(self, alloc: Global, given: &[Given]) -> Result<Run<TestKey>, AllocError> {
         let commands = commands_from(alloc, given)?;
         run(
@@ -172,7 +173,7 @@ impl Row {
         words
     }
 
-    // Whether the last of these commands may want memory after the others.
+    // Whether the last of these commands may allocate after the others.
     fn may_be_refused(self, alloc: Global, given: &[Given]) -> Result<bool, AllocError> {
         let left = self.run_over(alloc, given)?;
         let wants = left.replies.last().is_some_and(may_want_memory);
@@ -180,7 +181,7 @@ impl Row {
         Ok(wants)
     }
 
-    // The commands that were not refused memory; `None` where one was that wants none.
+    // The commands that didn't run out of memory; `None` if one that never allocates did.
     fn accepted(
         self,
         alloc: Global,
@@ -199,7 +200,7 @@ impl Row {
         Ok(Some(accepted))
     }
 
-    // Says what was replied, and compares it with what the others alone are replied.
+    // Prints the replies, and compares them with those that the other commands get by themselves.
     fn tells(
         self,
         alloc: Global,
@@ -250,7 +251,7 @@ impl Row {
     }
 }
 
-/// `run` of the row that is called so.
+/// `run` of the worked example of this name.
 pub fn row_called(alloc: Global, name: &str, text: &mut String) -> Result<bool, AllocError> {
     for row in ROWS {
         if row.name == name {

@@ -9,7 +9,8 @@ use p2p_discovery::types::Ingress;
 use std::alloc::{AllocError, Global};
 use std::fmt::Write;
 
-// More bootstrappers than one node of a tree holds; one key stands twice, and the own one among them.
+// More bootstrappers than one node of a tree holds; one key occurs twice, and the local key is
+// among them.
 fn bootstrappers(alloc: Global) -> Result<Vec<(TestKey, Ingress)>, AllocError> {
     let mut bootstrappers = Vec::new(alloc);
     for key in 1..18u16 {
@@ -19,7 +20,7 @@ fn bootstrappers(alloc: Global) -> Result<Vec<(TestKey, Ingress)>, AllocError> {
     Ok(bootstrappers)
 }
 
-// Says what was made, or that memory was refused; then it is made again.
+// Says what was made, or that an allocation failed; then it is made again.
 fn compares_with(
     alloc: Global,
     text: &mut String,
@@ -57,7 +58,7 @@ pub fn directory(alloc: Global, text: &mut String) -> Result<bool, AllocError> {
     compares_with(alloc, text, made, again)
 }
 
-// What is left of a node that was made.
+// The directory that remains of a node that was made.
 fn finished(made: Result<Node<TestKey>, AllocError>) -> Result<Directory<TestKey>, AllocError> {
     match made {
         Ok(node) => Ok(node.finish()),

@@ -1,4 +1,4 @@
-//! What a directory answers, as text that is to be compared, and the marks.
+//! The results of a directory's queries, as text to be compared, and the marks.
 
 use p2p_directory::directory::Directory;
 use p2p_discovery::codec::TestKey;
@@ -8,18 +8,18 @@ use std::alloc::{AllocError, Global};
 use std::fmt::Write;
 use std::time::Duration;
 
-// A request of just so many bytes is a mark.
+// A request of exactly so many bytes is a mark.
 const MARK: usize = 1_234_577;
 
-/// Requests a mark: what is requested from now on is counted, or is no longer.
+/// Requests a mark: from now on requests are counted, or no longer are.
 pub fn mark(alloc: Global) {
     let _mark: Result<Vec<u8>, AllocError> = Vec::with_capacity(alloc, MARK);
 }
 
-// The peers with keys below this are asked for.
+// The peers with keys below this are asked about.
 const KEYS: u64 = 20;
 
-// In seconds: before, between and after the moments of cooldowns and blocks.
+// In seconds: before, between and after the times of cooldowns and blocks.
 static MOMENTS: [u64; 8] = [0, 59, 60, 100, 105, 110, 160, 1_000];
 
 fn seconds(count: u64) -> Duration {
@@ -50,7 +50,7 @@ fn tells_of_moments(text: &mut String, directory: &Directory<TestKey>) -> Result
     Ok(())
 }
 
-// The set at a place, its bits, and what is told to one who knows nobody of it.
+// The set at a position, its bits, and what is shared with a peer that knows none of it.
 fn tells_of_set(
     text: &mut String,
     alloc: Global,
@@ -87,7 +87,7 @@ fn tells_of_sets(
     )
 }
 
-/// What a directory answers to each question.
+/// The results of all queries of a directory.
 pub fn tells(
     text: &mut String,
     alloc: Global,
@@ -98,7 +98,7 @@ pub fn tells(
     tells_of_sets(text, alloc, directory)
 }
 
-/// The same as a text of its own.
+/// The same as a new text.
 pub fn words_of(alloc: Global, directory: &Directory<TestKey>) -> Result<String, AllocError> {
     let mut words = String::new(alloc);
     tells(&mut words, alloc, directory)?;

@@ -1,4 +1,4 @@
-//! Runs one worked row of the discovery directory and prints its lines: `rows 6`.
+//! Runs one worked example of the discovery directory and prints its lines: `rows 6`.
 #![tactic(auto)]
 
 mod row;

@@ -1,4 +1,4 @@
-//! The worked rows, by their numbers.
+//! The worked examples, by their numbers.
 
 ghost use Rattle.std.specs.Prelude.{◌≤◌, ◌≡◌, Ok, Err, codes, map, string_bytes};
 ghost use Rattle.std.specs.Io.KnownBytes.{Appends};
@@ -16,10 +16,10 @@ mod pair;
 mod setting;
 mod sizes;
 
-/// Why a row ends early.
+/// Why an example ends early.
 #[derive(Debug, Drop)]
 enum Stop {
-    /// Memory was refused.
+    /// An allocation failed.
     Memory,
     /// A line could not be written.
     Write,
@@ -46,7 +46,7 @@ fn print<W: Write>(out: &mut W, line: &impl Display) -> Result<(), Stop> {
     writeln!(out, "{line}").map_err(|_error: io::Error| Stop::Write)
 }
 
-/// Says that memory ran out, and answers the exit status: 3, or 1 where that could not be written.
+/// Prints that memory ran out, and returns the exit status: 3, or 1 if that could not be written.
 pub fn out_of_memory<W: Write>(out: &mut W) -> u8
     ensures status { ¬ (result ≡ 3) → result ≡ 1 }
     ensures printed { result ≡ 3
@@ -58,7 +58,7 @@ pub fn out_of_memory<W: Write>(out: &mut W) -> u8
     }
 }
 
-/// Says that there is no such row, and answers the exit status: 2, or 1 where that could not be
+/// Prints that there is no such row, and returns the exit status: 2, or 1 if that could not be
 /// written.
 pub fn no_such_row<W: Write>(out: &mut W) -> u8
     ensures status { ¬ (result ≡ 2) → result ≡ 1 }
@@ -71,12 +71,12 @@ pub fn no_such_row<W: Write>(out: &mut W) -> u8
     }
 }
 
-/// Runs the worked row that the only word names, writes its lines to `out`, and answers the exit
-/// status of the program.
+/// Runs the worked example that the only word names, writes its lines to `out`, and returns the
+/// exit status of the program.
 ///
-/// The status is 0 where all lines were written; 2 after `no such row`, where there is not exactly
-/// one word or it is not the number of a row in decimal without leading zeros; 3 after `out of
-/// memory`, where memory was refused; and 1 where a line could not be written.
+/// The status is 0 if all lines were written. It is 2 after `no such row`, if there is not exactly
+/// one word or it is not the number of an example in decimal without leading zeros. It is 3 after
+/// `out of memory`, if an allocation failed, and 1 if a line could not be written.
 pub fn run_rows<W: Write>(alloc: Global, words: &[String], out: &mut W) -> u8
     ensures range { result ≤ 3 }
     ensures row { IsRow (map string_bytes words.now) → ¬ (result ≡ 2) }
@@ -117,13 +117,13 @@ pub fn run_rows<W: Write>(alloc: Global, words: &[String], out: &mut W) -> u8
     status_after(ended, out)
 }
 
-// Dials that fail, and again with no failure allowed.
+// Dials that fail; and again with a failure limit of 0.
 fn failed_dials<W: Write>(alloc: Global, out: &mut W) -> Result<(), Stop> {
     directory::print_row(alloc, &directory::dialling::FAILED_DIALS, out)?;
     directory::print_row(alloc, &directory::dialling::NO_FAILURE_ALLOWED, out)
 }
 
-// The exit status of a row that ended so.
+// The exit status of an example that ended like this.
 fn status_after<W: Write>(ended: Result<(), Stop>, out: &mut W) -> u8
     ensures range { result ≤ 3 }
     ensures row { ¬ (result ≡ 2) }

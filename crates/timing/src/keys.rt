@@ -36,7 +36,7 @@ impl Ord for Key32 {
     }
 }
 
-/// A signature of 64 bytes. It is right where it begins with the key.
+/// A signature of 64 bytes. It is valid if it begins with the key.
 #[derive(Clone, Copy, PartialEq, Eq)]
 pub(crate) struct Signature64([u8; 64]);
 

@@ -13,7 +13,7 @@ use std::alloc::{AllocError, Global};
 use std::num::NonZeroUsize;
 use std::time::Duration;
 
-/// In which namespace infos are signed.
+/// The namespace in which infos are signed.
 pub(crate) const NAMESPACE: &[u8] = b"rows";
 
 /// How many sets are retained.
@@ -33,7 +33,7 @@ pub(crate) fn config() -> Config
     }
 }
 
-/// Where peers can be dialled: this last byte stands in the address.
+/// An address at which peers can be dialled, with this last byte.
 pub(crate) fn ingress(last: u8) -> Ingress {
     Ingress::Socket(SocketAddr::new(IpAddr::V4([1, 2, 3, last]), 8000))
 }
@@ -57,7 +57,7 @@ pub(crate) fn infos_of(
     Ok(infos)
 }
 
-/// Primary peers alone.
+/// A set of these primary peers alone.
 pub(crate) fn tracked(alloc: Global, keys: &[Key32]) -> Result<TrackedPeers<Key32>, AllocError> {
     let primary = OrderedSet::from_iter_dedup(alloc, keys.iter().copied())?;
     let nobody: Vec<Key32> = Vec::new(alloc);
@@ -91,7 +91,7 @@ fn setup(
     })
 }
 
-/// A node of this number, which takes so many infos at a time.
+/// A node of this number, which accepts so many infos at a time.
 pub(crate) fn node(
     alloc: Global,
     number: u64,

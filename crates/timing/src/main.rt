@@ -1,11 +1,12 @@
-//! Times what no export reaches: calls of nodes without crossing, exchanges, runs and codecs.
+//! Times what no export reaches: calls of nodes within Rattle, exchanges, runs and codecs.
 //!
-//! - `timing SCENARIO N SAMPLES` times one call as often, with so many peers whose keys have 32
-//!   bytes, and prints its least nanoseconds, those in the middle, and how much was done. A further
-//!   word `32` changes nothing.
+//! - `timing SCENARIO N SAMPLES` times one call SAMPLES times, with N peers whose keys have 32
+//!   bytes. It prints the minimum and median nanoseconds, and how much was done. A further word
+//!   `32` changes nothing.
 //! - With no word the same calls are made with few peers, and what was done is printed.
 //!
-//! What is called from Rust is timed by the benchmark of the Rust crate, which takes the same words.
+//! What is called from Rust is timed by the benchmark of the Rust crate, which takes the same
+//! words.
 #![tactic(auto)]
 
 use crate::stop::Stop;

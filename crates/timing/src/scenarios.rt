@@ -65,8 +65,8 @@ fn of_calls(rt: &HostRuntime, name: &str, count: usize, samples: usize) -> Resul
     }
 }
 
-/// Times a scenario, and prints the least time, the time in the middle, and how much was done. A
-/// dot before its name is passed over.
+/// Times a scenario, and prints the minimum, the median, and how much was done. A dot before its
+/// name is ignored.
 pub(crate) fn measure(
     rt: &HostRuntime,
     name: &str,

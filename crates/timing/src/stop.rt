@@ -6,9 +6,9 @@ use std::io;
 /// Why a measurement ends early.
 #[derive(Debug, Drop)]
 pub(crate) enum Stop {
-    /// Memory was refused.
+    /// An allocation failed.
     Memory,
-    /// Something couldn't be written, or the clock not be read.
+    /// A write failed, or the clock could not be read.
     Io,
     /// The words of the command line name no measurement.
     Words,

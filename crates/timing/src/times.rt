@@ -1,11 +1,11 @@
-//! The times of some calls, and how many did what was wanted.
+//! The times of some calls, and how many of them succeeded.
 
 ghost use Rattle.std.specs.Prelude.{◌≡◌, ◌+◌, ◌-◌, ◌^◌, OnOk, length, min};
 
 use std::alloc::{AllocError, Global};
 use std::time::Duration;
 
-/// The times of some calls, and how many of them did what was wanted.
+/// The times of some calls, and how many of them succeeded.
 #[derive(Drop)]
 pub(crate) struct Times {
     nanos: Vec<u64>,
@@ -21,7 +21,7 @@ impl Times {
         }
     }
 
-    /// One more time, of calls of which so many did what was wanted.
+    /// Adds one more time, of calls of which so many succeeded.
     pub(crate) fn add(&mut self, time: Duration, done: usize) -> Result<(), AllocError>
         ensures times { OnOk result (length self.new.nanos.items ≡
             length self.old.nanos.items + 1) }
@@ -32,7 +32,7 @@ impl Times {
         Ok(())
     }
 
-    /// The least time, the time in the middle, and how many calls did what was wanted.
+    /// The minimum, the median, and how many calls succeeded.
     pub(crate) fn summary(mut self) -> Summary {
         self.nanos.sort_unstable();
         Summary {
@@ -46,11 +46,11 @@ impl Times {
 /// What is printed of times, in nanoseconds.
 #[derive(Clone, Copy)]
 pub(crate) struct Summary {
-    /// The least time.
+    /// The minimum time.
     pub(crate) least: u64,
-    /// The time in the middle.
+    /// The median time.
     pub(crate) median: u64,
-    /// How many calls did what was wanted.
+    /// How many calls succeeded.
     pub(crate) done: usize,
 }
 

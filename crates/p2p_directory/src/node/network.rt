@@ -390,10 +390,10 @@ impl<C: PublicKey> NetworkRun<C> {
 /// - Acquaintance: of each other peer of the set whose info the replier might share then, wanted or
 ///   not, the asker holds some info for as long. So a node that asks each of its neighbours once
 ///   knows each peer that any of them knows.
-/// - Greetings: a frame with the greeting of the local info of any node, if it is signed in the
-///   namespace of the node that receives it, is `Greeted`, unless an allocation fails, if the local
-///   keys differ and its timestamp is within the bound.
-/// - Replies: let a `Frame` pass to a node the bits that another was earlier asked for, and let it
+/// - Greetings: a frame with the greeting of the local info of any node is `Greeted`, unless an
+///   allocation fails. The info must be signed in the namespace of the node that receives it, the
+///   local keys must differ, and its timestamp be within the bound.
+/// - Replies: let a `Frame` pass to a node the bits that another was earlier asked for. Let it
 ///   retain a set of their index with the primary peers that the set at the position then had. If
 ///   all infos passed in are signed in the namespaces of both, its reply encodes infos that are
 ///   signed in both, none with the other's key, none with a timestamp above the present
@@ -407,8 +407,8 @@ impl<C: PublicKey> NetworkRun<C> {
 /// - Isolation and order: the same as for [`run`](crate::run::run), over the commands that a node
 ///   accepted. Those on single peers other than one, and the infos of others, may be left out: all
 ///   that is known of the one is the same. Infos of `UpdatePeers`, frames and exchanges that follow
-///   each other directly at a node may be passed in any order, if no two are of one peer with the
-///   same timestamp: the node's state is the same.
+///   each other directly at a node may be passed in any order: the node's state is the same. No two
+///   may be of one peer with the same timestamp.
 ///
 /// It isn't claimed that any node answers, that peer sets are the same everywhere, or that infos
 /// spread by themselves: the caller's commands decide which node asks which.

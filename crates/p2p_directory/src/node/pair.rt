@@ -115,10 +115,10 @@ pub struct PairRun<C: PublicKey> {
 /// - Infos: each info that either node holds is signed in the namespaces of both.
 /// - Greetings: a frame with the greeting of the other node's local info is `Greeted`, unless an
 ///   allocation fails, if the local keys differ and its timestamp is within the bound.
-/// - Replies: let a `Frame` pass to a node the bits that the other was earlier asked for, and let
-///   it retain a set of their index with the primary peers that the set at the position then had.
-///   Its reply encodes infos that are signed in the namespaces of both, none with the other's key,
-///   none with a timestamp above the present milliseconds.
+/// - Replies: let a `Frame` pass to a node the bits that the other was earlier asked for. Let it
+///   retain a set of their index with the primary peers that the set at the position then had. Its
+///   reply encodes infos that are signed in the namespaces of both, none with the other's key, none
+///   with a timestamp above the present milliseconds.
 /// - Late frames: a `Frame` of such infos to that other node, however late and however often it
 ///   arrives, is `Applied` with their number, unless an allocation fails. Their number must be
 ///   within its limit and its count, and the time of the reply at most its bound ahead. Afterwards

@@ -63,8 +63,8 @@ impl<C: PublicKey> Directory<C> {
     /// # Cost
     ///
     /// One pass over the retained sets, and one over the bits. Then, if there are at most about 8
-    /// records for each false bit, one pass over the primary peers and the records, up to the last
-    /// peer whose bit is false at most; otherwise one pass over the peers, with one search among
+    /// records for each false bit, one pass over the primary peers and the records, at most up to
+    /// the last peer whose bit is false. Otherwise one pass over the peers, with one search among
     /// the records for each whose bit is false.
     pub fn infos(&self, bit_vec: &BitVec, now: Duration) -> Result<Option<Vec<Info<C>>>, AllocError>
         ensures infos { IfOk result (λ infos. option_map (λ v. v.items) infos

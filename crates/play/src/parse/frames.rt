@@ -11,7 +11,7 @@ use p2p_discovery::data::Data;
 use p2p_discovery::discovery::{Infos, Payload, PayloadConfig};
 use std::alloc::Global;
 
-/// A kind of values with its limits, and bytes.
+/// A kind of value with its limits, and bytes.
 pub fn kind_and_bytes(alloc: Global, words: &mut Words<'_>) -> Result<(Kind, Bytes), Fault> {
     let kind = kind(words)?;
     Ok((kind, unhex(alloc, words.word()?)?))

@@ -13,7 +13,7 @@ const ADDRESS: Fault = Fault::Form("an address as 1.2.3.4:80, [::1]:80 or ~host.
 
 const INFO: Fault = Fault::Form("an info as 1@1000, 1@1000:8001 or 1@1000@1.2.3.4:8001");
 
-/// The port that the word is.
+/// Parses the word as a port.
 fn port(word: &str) -> Result<u16, Fault> {
     match word.parse::<u16>() {
         Ok(port) => Ok(port),
@@ -24,7 +24,7 @@ fn port(word: &str) -> Result<u16, Fault> {
     }
 }
 
-// The address of a machine that the word is.
+// Parses the word as the address of a machine.
 fn machine(word: &str) -> Result<IpAddr, Fault> {
     match word.strip_prefix('[') {
         Some(rest) => match rest.strip_suffix(']') {
@@ -53,7 +53,7 @@ fn host_name(alloc: Global, word: &str) -> Result<Hostname, Fault> {
     }
 }
 
-/// The ingress that the word is: `1.2.3.4:80`, `[::1]:80` or `~host.name:80`.
+/// Parses the word as an ingress: `1.2.3.4:80`, `[::1]:80` or `~host.name:80`.
 pub fn ingress(alloc: Global, word: &str) -> Result<Ingress, Fault> {
     let Some((host, end)) = word.rsplit_once(':') else {
         return Err(ADDRESS);
@@ -94,7 +94,7 @@ fn at_port(port: u16) -> Ingress {
     Ingress::Socket(SocketAddr::new(IpAddr::V4([1, 2, 3, 4]), port))
 }
 
-// The port of a peer that names none.
+// The port of a peer whose info names none.
 fn port_of(peer: u64) -> Result<u16, Fault> {
     match u16::try_from(peer.saturating_add(8_000)) {
         Ok(port) => Ok(port),
@@ -102,7 +102,7 @@ fn port_of(peer: u64) -> Result<u16, Fault> {
     }
 }
 
-// Where a peer is, and the timestamp, by what is typed behind the key.
+// The ingress of a peer and the timestamp, from what is typed after the key.
 fn place_and_time(alloc: Global, peer: u64, rest: &str) -> Result<(Ingress, u64), Fault> {
     if let Some((timestamp, at)) = rest.split_once('@') {
         return Ok((ingress(alloc, at)?, number(timestamp)?));
@@ -113,7 +113,7 @@ fn place_and_time(alloc: Global, peer: u64, rest: &str) -> Result<(Ingress, u64)
     }
 }
 
-/// The info that the word is, signed in the namespace where it names no other.
+/// Parses the word as an info, signed in the namespace if it names no other.
 pub fn info(alloc: Global, word: &str, namespace: &[u8]) -> Result<Info<TestKey>, Fault> {
     let (word, namespace) = match word.split_once('!') {
         Some((word, other)) => (word, other.as_bytes()),

@@ -2,7 +2,7 @@
 
 use crate::usage::{COMMANDS, SETTINGS};
 
-/// The command that begins as the word does the longest, and then is nearest to it in length.
+/// The command that shares the longest prefix with the word, and of those the nearest in length.
 pub fn nearest_command(word: &str) -> &'static str {
     COMMANDS
         .iter()
@@ -11,7 +11,7 @@ pub fn nearest_command(word: &str) -> &'static str {
         .unwrap_or("node")
 }
 
-/// The setting that begins as the word does the longest, and then is nearest to it in length.
+/// The setting that shares the longest prefix with the word, and of those the nearest in length.
 pub fn nearest_setting(word: &str) -> &'static str {
     SETTINGS
         .iter()
@@ -20,7 +20,7 @@ pub fn nearest_setting(word: &str) -> &'static str {
         .unwrap_or("own")
 }
 
-// How many bytes two words begin with alike, and how near their lengths are.
+// How many bytes the common prefix of two words has, and how near their lengths are.
 fn likeness(left: &str, right: &str) -> (usize, usize) {
     let alike = left
         .bytes()

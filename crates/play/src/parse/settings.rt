@@ -19,7 +19,7 @@ use std::time::Duration;
 /// The namespace of a node whose settings name none.
 pub const NAMESPACE: &[u8] = b"rows";
 
-/// What a node of no settings is made from.
+/// The setup of a node without settings.
 pub fn default_setup(alloc: Global) -> Result<Setup<TestKey>, AllocError>
     ensures sets { IfOk result (λ s. non_zero_usize_get s.cfg.max_sets < 2 ^ 64 - 1) }
     ensures bits { IfOk result (λ s. s.payload.max_bit_vec < 2 ^ 32) }
@@ -47,7 +47,7 @@ pub fn default_setup(alloc: Global) -> Result<Setup<TestKey>, AllocError>
     })
 }
 
-/// What a node of these settings is made from. Its own info is signed in its namespace.
+/// The setup of a node with these settings. Its local info is signed in its namespace.
 pub fn setup(alloc: Global, words: &mut Words<'_>) -> Result<Setup<TestKey>, Fault>
     ensures sets { IfOk result (λ s. non_zero_usize_get s.cfg.max_sets < 2 ^ 64 - 1) }
     ensures bits { IfOk result (λ s. s.payload.max_bit_vec < 2 ^ 32) }

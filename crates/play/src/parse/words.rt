@@ -1,4 +1,4 @@
-//! Words of a line: numbers, moments, lists and bytes.
+//! Words of a line: numbers, times, lists and bytes.
 
 use crate::fault::Fault;
 use crate::usage::Usage;
@@ -20,7 +20,7 @@ pub struct Words<'a> {
 }
 
 impl<'a> Words<'a> {
-    /// The words of the text, which are typed behind this command.
+    /// The words of the text, which are typed after this command.
     pub fn new(text: &'a str, usage: Usage) -> Words<'a> {
         Words {
             words: text.split_whitespace(),
@@ -41,7 +41,7 @@ impl<'a> Words<'a> {
         }
     }
 
-    /// There has to be no further word.
+    /// Fails if there is a further word.
     pub fn end(mut self) -> Result<(), Fault> {
         match self.words.next() {
             Some(_) => Err(Fault::Excess(self.usage)),
@@ -54,7 +54,7 @@ impl<'a> Words<'a> {
         number(self.word()?)
     }
 
-    /// The next word, a place or a length.
+    /// The next word, a position or a length.
     pub fn size(&mut self) -> Result<usize, Fault> {
         size(self.word()?)
     }
@@ -64,12 +64,12 @@ impl<'a> Words<'a> {
         Ok(TestKey(self.number()?))
     }
 
-    /// The next word, a truth value.
+    /// The next word, a bool.
     pub fn truth(&mut self) -> Result<bool, Fault> {
         truth(self.word()?)
     }
 
-    /// The next word, a moment.
+    /// The next word, a time.
     pub fn moment(&mut self) -> Result<Duration, Fault> {
         moment(self.word()?)
     }
@@ -94,7 +94,7 @@ impl<'a> Words<'a> {
     }
 }
 
-/// The whole number that the word is.
+/// Parses the word as a whole number.
 pub fn number(word: &str) -> Result<u64, Fault> {
     match word.parse::<u64>() {
         Ok(number) => Ok(number),
@@ -105,7 +105,7 @@ pub fn number(word: &str) -> Result<u64, Fault> {
     }
 }
 
-/// The place or the length that the word is.
+/// Parses the word as a position or a length.
 pub fn size(word: &str) -> Result<usize, Fault> {
     match usize::try_from(number(word)?) {
         Ok(size) => Ok(size),
@@ -113,7 +113,7 @@ pub fn size(word: &str) -> Result<usize, Fault> {
     }
 }
 
-/// The truth value that the word is.
+/// Parses the word as a bool.
 pub fn truth(word: &str) -> Result<bool, Fault> {
     match word.parse::<bool>() {
         Ok(truth) => Ok(truth),
@@ -121,7 +121,7 @@ pub fn truth(word: &str) -> Result<bool, Fault> {
     }
 }
 
-/// The moment that the word is: seconds with up to nine digits behind a point, or `M`.
+/// Parses the word as a time: seconds with up to nine digits after a point, or `M`.
 pub fn moment(word: &str) -> Result<Duration, Fault> {
     if word == "M" {
         return Ok(Duration::MAX);
@@ -135,7 +135,7 @@ pub fn moment(word: &str) -> Result<Duration, Fault> {
     }
 }
 
-// The nanoseconds that digits behind a point are.
+// The nanoseconds of the digits after a point.
 fn nanos(fraction: &str) -> Result<u64, Fault> {
     const SCALES: [u64; 10] = [
         1_000_000_000,
@@ -168,7 +168,7 @@ fn peers(alloc: Global, word: &str) -> Result<OrderedSet<TestKey>, Fault> {
     Ok(OrderedSet::from_iter_dedup(alloc, keys.into_iter())?)
 }
 
-/// The bits that the digits of the word are.
+/// Parses the digits of the word as bits.
 pub fn bits(alloc: Global, word: &str) -> Result<BitMap, Fault> {
     let mut bits = Vec::new(alloc);
     if word != "-" {
@@ -183,7 +183,7 @@ pub fn bits(alloc: Global, word: &str) -> Result<BitMap, Fault> {
     Ok(BitMap::from_bools(alloc, bits.as_slice())?)
 }
 
-/// The bytes that the hexadecimal digits of the word are.
+/// Parses the hexadecimal digits of the word as bytes.
 pub fn unhex(alloc: Global, word: &str) -> Result<Bytes, Fault> {
     let digits = if word == "-" { "" } else { word };
     let mut bytes = Vec::with_capacity(alloc, digits.len() / 2)?;

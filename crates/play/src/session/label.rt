@@ -1,6 +1,6 @@
-//! What a node is called.
+//! The label of a node.
 
-/// What a node is called, and the namespace that infos are signed in for it.
+/// The name of a node, and the namespace in which infos for it are signed.
 #[derive(Drop)]
 pub struct Label {
     /// The name.

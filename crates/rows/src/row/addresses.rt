@@ -1,4 +1,4 @@
-//! Rows about addresses.
+//! Worked examples of addresses.
 
 use crate::row::{Stop, print};
 use p2p_discovery::types::{Hostname, Ingress, IpAddr, SocketAddr};
@@ -6,8 +6,8 @@ use std::alloc::Global;
 use std::fmt;
 use std::io::Write;
 
-/// Whether an ingress is valid where private addresses and names are not allowed, where names
-/// alone are, where private addresses alone are, and where both are.
+/// Whether an ingress is valid if private addresses and names are both not allowed, if only names
+/// are, if only private addresses are, and if both are.
 #[derive(Drop)]
 struct Validity([bool; 4]);
 
@@ -31,7 +31,7 @@ fn socket(address: [u8; 4]) -> Ingress {
     Ingress::Socket(SocketAddr::new(IpAddr::V4(address), 8080))
 }
 
-/// Which addresses are valid by the configuration.
+/// Which addresses are valid under the configuration.
 pub fn valid_addresses<W: Write>(alloc: Global, out: &mut W) -> Result<(), Stop> {
     let host = match Hostname::new(alloc, "example.com") {
         Ok(host) => host,

@@ -1,4 +1,4 @@
-//! Rows about the calls of a directory.
+//! Worked examples of the calls of a directory.
 
 ghost use Rattle.std.specs.Prelude.{◌<◌, ◌-◌, ◌^◌};
 ghost use Rattle.std.specs.Int.NonZero.{non_zero_usize_get};
@@ -18,7 +18,8 @@ pub mod dialling;
 pub mod gossip;
 pub mod peer_sets;
 
-/// What is done to a directory of a setting: what is prepared is replied, too, and not printed.
+/// What is done to a directory of a setting: the preparation gets replies, too, which are not
+/// printed.
 #[derive(Clone, Copy)]
 pub struct Row {
     pub setting: Setting,
@@ -26,7 +27,8 @@ pub struct Row {
     pub steps: &'static [Step],
 }
 
-/// A reserved peer is torn down with the last set that names it, and its release ends its record.
+/// A reserved peer must be disconnected with the last set that names it, and its release removes
+/// its record.
 pub static TEARDOWN: Row = Row {
     setting: USUAL,
     prepared: &[],
@@ -43,7 +45,7 @@ pub static TEARDOWN: Row = Row {
     ],
 };
 
-/// A new set is counted before the oldest goes, so what is known of a peer that both have stays.
+/// A new set is counted before the oldest is dropped, so what is known of a peer of both stays.
 pub static KNOWLEDGE: Row = Row {
     setting: USUAL,
     prepared: &[],
@@ -56,7 +58,7 @@ pub static KNOWLEDGE: Row = Row {
     ],
 };
 
-/// A peer is reserved again after the cooldown, also where its record is made anew.
+/// A peer is reserved again after the cooldown, even if its record is made again.
 pub static COOLDOWN: Row = Row {
     setting: USUAL,
     prepared: &[],
@@ -73,7 +75,7 @@ pub static COOLDOWN: Row = Row {
     ],
 };
 
-/// A cooldown outlives the record of its peer, until it is forgotten from its dial moment on.
+/// A cooldown outlives the record of its peer; from its dial time on it can be forgotten.
 pub static FORGOTTEN_COOLDOWN: Row = Row {
     setting: USUAL,
     prepared: &[],
@@ -94,14 +96,14 @@ pub static FORGOTTEN_COOLDOWN: Row = Row {
     ],
 };
 
-/// Does what is prepared and then the steps, and prints a line for the reply to each step.
+/// Does the preparation and then the steps, and prints a line for the reply to each step.
 pub fn print_row<W: Write>(alloc: Global, row: &Row, out: &mut W) -> Result<(), Stop> {
     let commands = commands(alloc, row)?;
     let replies = replies(alloc, row.setting.config(), commands)?;
     print_replies(row.prepared.len(), replies.as_slice(), out)
 }
 
-// A line for each reply from a place on.
+// Prints a line for each reply from a position on.
 fn print_replies<W: Write>(
     first: usize,
     replies: &[Reply<TestKey>],
@@ -126,7 +128,7 @@ fn commands(alloc: Global, row: &Row) -> Result<Vec<Command<TestKey>>, AllocErro
     Ok(commands)
 }
 
-// The replies to the commands. What is held in the end is released.
+// The replies to the commands. At the end all reservations are released.
 fn replies(
     alloc: Global,
     cfg: Config,

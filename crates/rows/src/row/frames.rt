@@ -1,4 +1,4 @@
-//! Rows about frames and spellings.
+//! Worked examples of frames and encodings.
 
 ghost use Rattle.std.specs.Prelude.{◌<◌, ◌^◌, length};
 ghost use Rattle.std.specs.List.{concat};
@@ -20,7 +20,7 @@ const ANY_LENGTH: RangeCfg = RangeCfg {
     greatest: usize::MAX,
 };
 
-/// Why nothing was read.
+/// Why nothing was decoded.
 #[derive(Drop)]
 struct Refused(CodecError);
 
@@ -31,7 +31,7 @@ impl fmt::Display for Refused {
     }
 }
 
-// Prints what was read, or ends the row where memory was refused.
+// Prints what was decoded, or ends the example if an allocation failed.
 fn print_decoded<W: Write>(out: &mut W, decoded: Result<Data, CodecError>) -> Result<(), Stop> {
     match decoded {
         Ok(data) => print(out, &Line(&data)),
@@ -39,7 +39,7 @@ fn print_decoded<W: Write>(out: &mut W, decoded: Result<Data, CodecError>) -> Re
     }
 }
 
-// Prints why nothing was read, or ends the row where memory was refused.
+// Prints why nothing was decoded, or ends the example if an allocation failed.
 fn print_refused<W: Write>(out: &mut W, error: CodecError) -> Result<(), Stop> {
     match error {
         CodecError::Memory => Err(Stop::Memory),
@@ -47,7 +47,7 @@ fn print_refused<W: Write>(out: &mut W, error: CodecError) -> Result<(), Stop> {
     }
 }
 
-/// A data frame, and what limits on its message make of it.
+/// A data frame, decoded under several limits on its message.
 pub fn data_frame<W: Write>(alloc: Global, out: &mut W) -> Result<(), Stop> {
     let data = Data {
         channel: 12_345,
@@ -62,7 +62,7 @@ pub fn data_frame<W: Write>(alloc: Global, out: &mut W) -> Result<(), Stop> {
     Ok(())
 }
 
-/// What is left after a frame.
+/// What remains after a frame.
 pub fn rest_of_a_frame<W: Write>(alloc: Global, out: &mut W) -> Result<(), Stop> {
     let frame: Bytes = Bytes::from_static(b"\x03\0\x01\x02\x03\x04\x05\x06\x07\x08\x09");
     let mut rest = frame.clone()?;
@@ -93,7 +93,7 @@ fn print_buffers<W: Write>(alloc: Global, message: VecDeque<Bytes>, out: &mut W)
     Ok(())
 }
 
-/// Payloads of bits under a limit, bits that are padded wrongly, and a prefix that there is not.
+/// Payloads of bits under a limit, bits that are padded wrongly, and a prefix that doesn't exist.
 pub fn payloads<W: Write>(alloc: Global, out: &mut W) -> Result<(), Stop> {
     for (frame, max_bit_vec) in [
         (b"\x02\x05\x09\xff\x01".as_slice(), 8),
@@ -115,7 +115,7 @@ pub fn payloads<W: Write>(alloc: Global, out: &mut W) -> Result<(), Stop> {
     Ok(())
 }
 
-/// Numbers that are not spelled in their one way, the longest name, and one too long.
+/// Numbers in non-canonical encodings, the longest name, and one too long.
 pub fn odd_numbers<W: Write>(alloc: Global, out: &mut W) -> Result<(), Stop> {
     for frame in [
         b"\x80\0\0".as_slice(),
@@ -154,7 +154,7 @@ fn extend(frame: &mut Vec<u8>, byte: u8, count: usize) -> Result<(), AllocError>
     Ok(())
 }
 
-// Prints the size of the ingress that is spelled, or why it is none.
+// Prints the size of the encoded ingress, or why it isn't one.
 fn print_ingress_size<W: Write>(alloc: Global, frame: Bytes, out: &mut W) -> Result<(), Stop> {
     match Ingress::decode(alloc, frame) {
         Ok(ingress) => print(out, &ingress.encode_size()),

@@ -1,4 +1,4 @@
-//! Rows about infos that are judged.
+//! Worked examples of infos that are verified.
 
 use crate::row::setting::{NAMESPACE, info_in};
 use crate::row::{Stop, print};
@@ -9,7 +9,7 @@ use std::fmt;
 use std::io::Write;
 use std::time::Duration;
 
-/// That infos are fine, or why they are refused.
+/// That infos are valid, or why they are rejected.
 #[derive(Drop)]
 struct Judged(Result<(), Error>);
 
@@ -22,14 +22,14 @@ impl fmt::Display for Judged {
     }
 }
 
-// The verifier of peer 9, of so many infos at a time, and half a minute ahead.
+// The verifier of peer 9, which accepts so many infos at a time, up to half a minute ahead.
 fn verifier(alloc: Global, greatest: usize) -> Result<InfoVerifier<TestKey>, AllocError> {
     let namespace = NAMESPACE.to_vec(alloc)?;
     let bound = Duration::from_secs(30);
     Ok(Info::verifier(TestKey(9), greatest, bound, namespace))
 }
 
-/// Which infos are fine at moment 0, and why others are refused.
+/// Which infos are valid at time 0, and why others are rejected.
 pub fn judged_infos<W: Write>(alloc: Global, out: &mut W) -> Result<(), Stop> {
     let now = Duration::ZERO;
     let two = [info_in(NAMESPACE, 1, 0), info_in(NAMESPACE, 2, 0)];

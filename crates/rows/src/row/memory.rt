@@ -1,4 +1,4 @@
-//! What a row prints where memory is refused.
+//! What an example prints if an allocation fails.
 
 use crate::row::run_rows;
 use crate::row::tests::ROWS;
@@ -9,7 +9,7 @@ use std::test::Fail;
 
 const ROW_STEPS: usize = 2_048;
 
-/// Whether the lines are all there with status 0, or cut after one of them, with `out of memory`
+/// Whether all lines are printed with status 0, or they end after one of them, with `out of memory`
 /// and status 3.
 fn is_whole_or_cut(printed: &[u8], lines: &[u8], status: u8) -> bool {
     let Some(before) = printed.strip_suffix(b"out of memory\n") else {
@@ -18,7 +18,7 @@ fn is_whole_or_cut(printed: &[u8], lines: &[u8], status: u8) -> bool {
     status == 3 && lines.starts_with(before) && (before.is_empty() || before.ends_with(b"\n"))
 }
 
-/// Runs a row at each budget.
+/// Runs an example with each budget.
 fn runs_at_each_budget(
     rt: &impl Abort,
     alloc: Global,
@@ -52,7 +52,7 @@ fn rows_end_with_out_of_memory_or_whole(rt: HostRuntime) -> Result<(), Fail> {
     let alloc = rt.alloc();
     let mut memory = LowMemory::new(alloc)?;
     for (word, lines) in &ROWS {
-        // The others take none.
+        // The others don't allocate.
         if !matches!(*word, "2" | "17" | "21" | "22") {
             runs_at_each_budget(&rt, alloc, &mut memory, word, lines)?;
         }

@@ -1,4 +1,4 @@
-//! Rows about two nodes: one asks, the other replies.
+//! Worked examples of two nodes: one asks, the other replies.
 
 ghost use Rattle.std.specs.Prelude.{◌≡◌, ◌<◌, ◌^◌, IfOk};
 ghost use Rattle.std.specs.Int.NonZero.{non_zero_usize_get};
@@ -16,13 +16,13 @@ use std::alloc::{AllocError, Global};
 use std::io::Write;
 use std::time::Duration;
 
-// What is done to the two nodes: the asker is the left one, and place 0 is asked for.
+// What is done to the two nodes: the asker is the left one, and it asks for position 0.
 #[derive(Clone, Copy)]
 enum Deed {
     Asker(Step),
     Replier(Step),
     Ask,
-    // The moments of the asker and of the replier.
+    // The times of the asker and of the replier.
     Exchange(At, At),
 }
 
@@ -42,7 +42,7 @@ impl Deed {
     }
 }
 
-// How many bits and infos a node reads.
+// How many bits and infos a node decodes.
 #[derive(Clone, Copy)]
 struct Limits {
     bits: u32,
@@ -53,7 +53,7 @@ const EIGHT: Limits = Limits { bits: 8, infos: 8 };
 
 const HUNDRED: At = At(100, 0);
 
-// What is done to an asker and a replier of these limits: what is prepared is not printed.
+// What is done to an asker and a replier with these limits: the preparation is not printed.
 #[derive(Clone, Copy)]
 struct Part {
     asker: Limits,
@@ -62,10 +62,10 @@ struct Part {
     steps: &'static [Deed],
 }
 
-// Each way in which an exchange ends. Where the replier is connected to peer 1 it knows its info,
-// which is of the moment 100.
+// Each result of an exchange. If the replier is connected to peer 1, it knows its info, which is of
+// time 100.
 static PARTS: [Part; 7] = [
-    // The info that the asker wants is refused as long as it is too far ahead, and then applied.
+    // The info that the asker wants is rejected as long as it is too far ahead, and then applied.
     Part {
         asker: EIGHT,
         replier: EIGHT,
@@ -86,7 +86,7 @@ static PARTS: [Part; 7] = [
             Deed::Exchange(At(70, 0), HUNDRED),
         ],
     },
-    // The replier's list has the asker where the asker's has another peer.
+    // The replier's set has the asker in the position of another peer in the asker's.
     Part {
         asker: EIGHT,
         replier: EIGHT,
@@ -109,7 +109,7 @@ static PARTS: [Part; 7] = [
         ],
         steps: &[Deed::Exchange(HUNDRED, HUNDRED)],
     },
-    // More bits than the replier reads.
+    // More bits than the replier decodes.
     Part {
         asker: EIGHT,
         replier: Limits { bits: 1, infos: 8 },
@@ -136,7 +136,7 @@ static PARTS: [Part; 7] = [
         ],
         steps: &[Deed::Exchange(HUNDRED, HUNDRED)],
     },
-    // More infos than the asker reads.
+    // More infos than the asker decodes.
     Part {
         asker: Limits { bits: 8, infos: 0 },
         replier: EIGHT,
@@ -151,7 +151,7 @@ static PARTS: [Part; 7] = [
     },
 ];
 
-/// Exchanges between two nodes, each part with new ones: each way in which an exchange ends.
+/// Exchanges between two nodes, each part with new ones: each result of an exchange.
 pub fn exchanges<W: Write>(alloc: Global, out: &mut W) -> Result<(), Stop> {
     for part in &PARTS {
         print_part(alloc, part, out)?;
@@ -165,7 +165,7 @@ fn print_part<W: Write>(alloc: Global, part: &Part, out: &mut W) -> Result<(), S
     print_replies(part.prepared.len(), replies.as_slice(), out)
 }
 
-// A line for each reply from a place on.
+// Prints a line for each reply from a position on.
 fn print_replies<W: Write>(
     first: usize,
     replies: &[PairReply<TestKey>],
@@ -198,7 +198,7 @@ fn commands(alloc: Global, part: &Part) -> Result<Vec<PairCommand<TestKey>>, All
     Ok(commands)
 }
 
-// The replies to the commands. What is held in the end is released.
+// The replies to the commands. At the end all reservations are released.
 fn replies(
     alloc: Global,
     part: &Part,
@@ -216,7 +216,7 @@ fn replies(
     Ok(replies)
 }
 
-// What a node of the setting is made from, with its own info and its limits.
+// The setup of a node of the setting, with its local info and its limits.
 fn setup(alloc: Global, myself: Info<TestKey>, limits: Limits) -> Result<Setup<TestKey>, AllocError>
     ensures sets { IfOk result (λ setup. non_zero_usize_get setup.cfg.max_sets ≡ 1) }
     ensures bits { IfOk result (λ setup. setup.payload.max_bit_vec < 2 ^ 32) }

@@ -1,4 +1,4 @@
-//! The setting that the worked rows share.
+//! The setting that the worked examples share.
 
 ghost use Rattle.std.specs.Prelude.{◌≡◌, ◌<◌, ◌+◌, ◌-◌, ◌^◌};
 ghost use Rattle.std.specs.Int.NonZero.{non_zero_usize_get};
@@ -21,7 +21,7 @@ pub fn own_info() -> Info<TestKey> {
     own_info_of(9, [8, 8, 8, 8])
 }
 
-/// The own info of a node with this key, at this address and port 9000, with timestamp 0.
+/// The local info of a node with this key, at this address and port 9000, with timestamp 0.
 pub fn own_info_of(key: u64, address: [u8; 4]) -> Info<TestKey> {
     let ingress = Ingress::Socket(SocketAddr::new(IpAddr::V4(address), 9000));
     signed(TestKey(key), NAMESPACE, ingress, 0)
@@ -44,23 +44,23 @@ fn signed(key: TestKey, namespace: &[u8], ingress: Ingress, timestamp: u64) -> I
     })
 }
 
-/// A moment or a draw: seconds, and nanoseconds below a second, since the epoch or as a length.
+/// A time or a draw: seconds, and nanoseconds below a second, since the epoch or as a length.
 #[derive(Clone, Copy)]
 pub struct At(pub u64, pub u32);
 
 impl At {
-    /// The last moment: the greatest `Duration`.
+    /// The last time: `Duration::MAX`.
     pub const LAST: At = At(u64::MAX, 999_999_999);
 
-    /// The moment, or the length.
+    /// The time, or the length.
     pub fn moment(self) -> Duration {
         let At(seconds, nanoseconds) = self;
         Duration::from_secs(seconds).saturating_add(Duration::from_nanos(u64::from(nanoseconds)))
     }
 }
 
-/// What of its configuration a row sets: how many sets more than one are retained, how many dials
-/// may fail, and how long cooldowns and blocks are. Everything is allowed.
+/// What an example configures: how many more sets than one are retained, how many dials may fail,
+/// and how long cooldowns and blocks are. All addresses and names are allowed.
 #[derive(Clone, Copy)]
 pub struct Setting {
     pub more_sets: u8,
@@ -96,22 +96,22 @@ impl Setting {
 
 const NO_DRAW: At = At(0, 0);
 
-/// One call of a row, with keys as numbers. Where no draw is named it is 0.
+/// One call of an example, with keys as numbers. If no draw is given it is 0.
 #[derive(Clone, Copy)]
 pub enum Step {
     /// `track` of an index and its primary peers.
     Track(u64, &'static [u64]),
     /// `track` of an index, its primary and its secondary peers.
     TrackRoles(u64, &'static [u64], &'static [u64]),
-    /// `dial` of a peer at a moment.
+    /// `dial` of a peer at a time.
     Dial(u64, At),
-    /// `dial` of a peer at a moment, with a draw.
+    /// `dial` of a peer at a time, with a draw.
     DialDrawn(u64, At, At),
-    /// `listen` of a peer at a moment.
+    /// `listen` of a peer at a time.
     Listen(u64, At),
-    /// `listen` of a peer at a moment, with a draw.
+    /// `listen` of a peer at a time, with a draw.
     ListenDrawn(u64, At, At),
-    /// `connect` of a peer, as its dialer or not.
+    /// `connect` of a peer; the flag says whether the local node dialled it.
     Connect(u64, bool),
     /// `release` of a peer.
     Release(u64),
@@ -119,15 +119,15 @@ pub enum Step {
     Update(&'static [(u16, u64)]),
     /// `update_peers` with the infos of peers, each with a timestamp and a port.
     UpdateAt(&'static [(u16, u64, u16)]),
-    /// `block` of a peer at a moment.
+    /// `block` of a peer at a time.
     Block(u64, At),
-    /// `unblock_expired` at a moment.
+    /// `unblock_expired` at a time.
     UnblockExpired(At),
-    /// `forget_cooled` at a moment.
+    /// `forget_cooled` at a time.
     ForgetCooled(At),
     /// `next_unblock`.
     NextUnblock,
-    /// `blocked_peers` at a moment.
+    /// `blocked_peers` at a time.
     BlockedPeers(At),
     /// `status` of a peer.
     Status(u64),
@@ -141,20 +141,20 @@ pub enum Step {
     All,
     /// `info` of a peer.
     Info(u64),
-    /// `infos` for an index and bits, at a moment.
+    /// `infos` for an index and bits, at a time.
     Infos(u64, &'static [bool], At),
-    /// `get_random_bit_vec` at a place.
+    /// `get_random_bit_vec` at a position.
     Bits(usize),
-    /// `eligible` of a peer at a moment.
+    /// `eligible` of a peer at a time.
     Eligible(u64, At),
-    /// `dialable` at a moment.
+    /// `dialable` at a time.
     Dialable(At),
     /// `tracked`.
     Tracked,
 }
 
 impl Step {
-    /// The command that the step stands for.
+    /// The command of the step.
     pub fn command(self, alloc: Global) -> Result<Command<TestKey>, AllocError> {
         match self {
             Step::Track(index, primary) => track(alloc, index, primary, &[]),
@@ -166,7 +166,7 @@ impl Step {
         }
     }
 
-    // The command, which names one peer; another has no list.
+    // The command, which names one peer and has no list.
     fn of_one_peer(self) -> Command<TestKey> {
         match self {
             Step::Dial(peer, at) => dial(peer, at, NO_DRAW),

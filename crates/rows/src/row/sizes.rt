@@ -1,4 +1,4 @@
-//! Rows about sizes.
+//! Worked examples of sizes.
 
 use crate::row::{Stop, print};
 use p2p_discovery::codec::TestKey;
@@ -7,7 +7,7 @@ use p2p_discovery::sizing::{max_message_size, max_retained_peers, peer_set_limit
 use std::io::Write;
 use std::num::NonZeroUsize;
 
-/// Greatest sizes of gossip, and of an info.
+/// Maximum sizes of gossip, and of an info.
 pub fn gossip_sizes<W: Write>(out: &mut W) -> Result<(), Stop> {
     print(out, &max_gossip_size::<TestKey>(1_000, 32))?;
     print(out, &max_gossip_size::<TestKey>(100_000, 0))?;

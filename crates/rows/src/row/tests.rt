@@ -1,11 +1,11 @@
-//! The worked rows, refused words, and writers that fail.
+//! The worked examples, rejected words, and writers that fail.
 
 use super::*;
 use std::io::ErrorKind;
 use std::process::Abort;
 use std::test::Fail;
 
-/// A writer that takes so many bytes and then fails.
+/// A writer that accepts so many bytes and then fails.
 #[derive(Drop)]
 struct Short {
     taken: Vec<u8>,
@@ -28,7 +28,7 @@ impl Write for Short {
     }
 }
 
-/// The rows that there are: the word that names each, and the lines that it prints.
+/// All worked examples: the word that names each, and the lines that it prints.
 pub(crate) static ROWS: [(&'static str, &'static str); 24] = [
     (
         "1",

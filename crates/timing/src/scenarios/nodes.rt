@@ -1,4 +1,4 @@
-//! Calls of nodes without crossing, and exchanges.
+//! Calls of nodes within Rattle, and exchanges.
 
 ghost use Rattle.std.specs.Prelude.{◌≡◌, ◌<◌, ◌^◌};
 
@@ -20,7 +20,7 @@ use std::time::{Duration, Instant};
 pub(crate) enum Call {
     /// The status of each peer.
     Status,
-    /// Each peer listened for and released.
+    /// Each peer is accepted and released.
     Listen,
     /// A set of which a quarter is new.
     Track,
@@ -67,7 +67,7 @@ fn set_at(alloc: Global, keys: &[Key32], index: usize) -> Result<TrackedPeers<Ke
     )
 }
 
-// Makes a call ready.
+// Prepares a call.
 fn make_ready(
     alloc: Global,
     replier: &mut Node<Key32>,
@@ -112,7 +112,7 @@ fn cycles(node: &mut Node<Key32>, keys: &[Key32], now: Duration) -> usize {
     done
 }
 
-// Exchanges the infos of the last set, and says how many came.
+// Exchanges the infos of the last set, and returns how many were received.
 fn exchanged(asker: &mut Node<Key32>, replier: &mut Node<Key32>) -> usize {
     let now = Duration::from_secs(1_000_000);
     match exchange(asker, replier, 3, now, now) {
@@ -121,7 +121,7 @@ fn exchanged(asker: &mut Node<Key32>, replier: &mut Node<Key32>) -> usize {
     }
 }
 
-// Makes a call, and says how much it did.
+// Makes a call, and returns how much it did.
 fn make(nodes: &mut Nodes, keys: &[Key32], ready: Ready) -> usize {
     let Nodes { asker, replier } = nodes;
     match ready {
@@ -138,7 +138,8 @@ fn make(nodes: &mut Nodes, keys: &[Key32], ready: Ready) -> usize {
     }
 }
 
-// Sets of all these peers on both sides, as many as are retained; the replier is connected with each.
+// Sets of all these peers on both sides, as many as are retained; the replier is connected with
+// each.
 fn fill(alloc: Global, nodes: &mut Nodes, keys: &[Key32]) -> Result<(), Stop> {
     let Nodes { asker, replier } = nodes;
     for index in 0..SETS {
@@ -193,7 +194,7 @@ pub(crate) fn of_nodes(
     samples: usize,
     call: Call,
 ) -> Result<Times, Stop> {
-    // Where each dial counts as one too many, the infos of all peers are always wanted.
+    // With a failure limit of 0, the infos of all peers are always wanted.
     let limit = usize::from(!matches!(call, Call::Exchange));
     let asker = node(rt.alloc(), 9, limit, count)?;
     let replier = match node(rt.alloc(), 8, 1, count) {

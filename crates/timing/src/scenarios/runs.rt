@@ -8,10 +8,10 @@ use p2p_directory::run::{Command, run};
 use std::alloc::Global;
 use std::time::{Duration, Instant};
 
-/// What the commands are, behind those that track the sets.
+/// The commands that follow those that track the sets.
 #[derive(Clone, Copy)]
 pub(crate) enum Kind {
-    /// No more.
+    /// None.
     Tracks,
     /// A listen for each peer.
     Listens,
@@ -45,7 +45,7 @@ fn commands(alloc: Global, keys: &[Key32], kind: Kind) -> Result<Vec<Command<Key
     Ok(commands)
 }
 
-// Serves the commands, with the end of the run or without.
+// Serves the commands; `Kind::Whole` includes the end of the run.
 fn serve(
     rt: &HostRuntime,
     commands: Vec<Command<Key32>>,

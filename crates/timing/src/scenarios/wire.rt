@@ -1,4 +1,4 @@
-//! Values as bytes, bytes as values, and the judgement of infos.
+//! Encoding and decoding of values, and verification of infos.
 
 ghost use Rattle.std.specs.Prelude.{◌≡◌};
 ghost use Rattle.p2p_discovery.specs.Payload.{CanSpell};
@@ -15,12 +15,12 @@ use p2p_discovery::types::{Hostname, Ingress};
 use std::alloc::Global;
 use std::time::{Duration, Instant};
 
-/// Whether values are written or read.
+/// Whether values are encoded or decoded.
 #[derive(Clone, Copy)]
 pub(crate) enum Way {
-    /// Values are written.
+    /// Values are encoded.
     Encode,
-    /// Values are read.
+    /// Values are decoded.
     Decode,
 }
 
@@ -67,7 +67,7 @@ fn decode_each<T: Read<Cfg = ()> + Drop>(alloc: Global, frames: &[Bytes]) -> Res
     Ok(all)
 }
 
-// Reads these values, each by itself.
+// Decodes these values, each by itself.
 fn decodings<T: Read<Cfg = ()> + Drop>(
     rt: &HostRuntime,
     frames: &[Bytes],
@@ -186,7 +186,7 @@ pub(crate) fn bits(
     payload(rt, Payload::BitVec(BitVec { index: 3, bits }), samples, way)
 }
 
-/// The judgement of a list of infos.
+/// Verification of a list of infos.
 pub(crate) fn judgements(rt: &HostRuntime, count: usize, samples: usize) -> Result<Times, Stop> {
     let alloc = rt.alloc();
     let infos = infos_of(alloc, &keys(alloc, count)?, 1000)?;

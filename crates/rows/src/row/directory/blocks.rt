@@ -1,9 +1,9 @@
-//! Rows about blocks.
+//! Worked examples of blocks.
 
 use crate::row::directory::Row;
 use crate::row::setting::{At, Setting, Step, USUAL};
 
-/// A block of no time is taken and held, though nobody is blocked by it.
+/// A block of zero duration is accepted and stored, though it blocks nobody.
 pub static BLOCK_OF_NO_TIME: Row = Row {
     setting: Setting {
         block: At(0, 0),
@@ -20,7 +20,7 @@ pub static BLOCK_OF_NO_TIME: Row = Row {
     ],
 };
 
-/// A block outlasts the record of its peer, and its peer is torn down as any other.
+/// A block outlasts the record of its peer, and its peer is disconnected like any other.
 pub static BLOCK_OVER_REBIRTH: Row = Row {
     setting: USUAL,
     prepared: &[],
@@ -41,7 +41,7 @@ pub static BLOCK_OVER_REBIRTH: Row = Row {
     ],
 };
 
-/// The next query may come from a blocked peer that is not to be dialled.
+/// The next query may be due to a blocked peer that is not to be dialled.
 pub static QUERY_AFTER_A_BLOCK: Row = Row {
     setting: USUAL,
     prepared: &[Step::TrackRoles(0, &[1], &[2]), Step::Update(&[(1, 1_000)])],

@@ -1,4 +1,4 @@
-//! Rows about dials, and about what is known of a peer that is dialled.
+//! Worked examples of dials, and of what is known of a peer that is dialled.
 
 use crate::row::directory::Row;
 use crate::row::setting::{At, Setting, Step, USUAL};
@@ -17,7 +17,8 @@ pub static DIAL_BEFORE_LISTED: Row = Row {
     ],
 };
 
-/// The jitter is at most twice half the cooldown, rounded down, and moments end at the last one.
+/// The jitter is at most twice half the cooldown, rounded down, and times are capped at the last
+/// one.
 pub static JITTER_AND_LAST_MOMENT: Row = Row {
     setting: Setting {
         cooldown: At(0, 5),
@@ -35,7 +36,7 @@ pub static JITTER_AND_LAST_MOMENT: Row = Row {
     ],
 };
 
-/// The release of a dialled peer counts a failure, also after it was connected.
+/// The release of a dialled peer counts a failure, even after it was connected.
 pub static FAILED_DIALS: Row = Row {
     setting: USUAL,
     prepared: &[Step::Track(0, &[1]), Step::Update(&[(1, 1_000)])],
@@ -49,7 +50,7 @@ pub static FAILED_DIALS: Row = Row {
     ],
 };
 
-/// With no failure allowed an info is wanted at once.
+/// With a failure limit of 0 an info is wanted at once.
 pub static NO_FAILURE_ALLOWED: Row = Row {
     setting: Setting {
         dial_fail_limit: 0,
@@ -59,7 +60,7 @@ pub static NO_FAILURE_ALLOWED: Row = Row {
     steps: &[Step::Bits(0)],
 };
 
-/// The first info of greatest timestamp is kept, and failures are those of its address.
+/// The first info with the greatest timestamp is kept, and failures are those of its address.
 pub static NEWEST_INFO: Row = Row {
     setting: USUAL,
     prepared: &[

@@ -1,10 +1,10 @@
-//! Rows about what a directory tells other nodes.
+//! Worked examples of what a directory shares with other nodes.
 
 use crate::row::directory::Row;
 use crate::row::setting::{At, Step, USUAL};
 
-/// To one who knows some bits the other infos are told that may be: the own one and those of
-/// connected peers, not above the present millisecond.
+/// For a peer that sent some bits, the other infos that may be shared are returned: the local one
+/// and those of connected peers, not above the present millisecond.
 pub static INFOS_FOR_BITS: Row = Row {
     setting: USUAL,
     prepared: &[

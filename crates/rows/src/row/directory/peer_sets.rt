@@ -1,9 +1,9 @@
-//! Rows about the retained sets.
+//! Worked examples of the retained sets.
 
 use crate::row::directory::Row;
 use crate::row::setting::{At, Setting, Step, USUAL};
 
-/// After the greatest index no set is taken, and who may not be reserved is refused.
+/// After index `u64::MAX` no set is accepted, and a peer that may not be reserved is refused.
 pub static GREATEST_INDEX: Row = Row {
     setting: USUAL,
     prepared: &[],
@@ -21,7 +21,7 @@ pub static GREATEST_INDEX: Row = Row {
     ],
 };
 
-/// A peer in both roles is primary only, and a secondary peer is listened for and not dialled.
+/// A peer in both roles is primary only, and a secondary peer is accepted but not dialled.
 pub static ROLES: Row = Row {
     setting: Setting {
         more_sets: 1,
