@@ -65,8 +65,9 @@ pub(crate) mod slots;
 ///   between. Even if times go backwards, each grant of a peer, and each further block, comes no
 ///   earlier than the end of its last block, unless an `UnblockExpired` at that end or later came
 ///   in between.
-/// - Dials: directly after a reply to `Dialable`, `Dial` commands at the same time of the peers
-///   that it lists, each once and in any order, are all granted, unless the reply is `OutOfMemory`.
+/// - Dials: let only `Dial` commands follow a reply to `Dialable`, at the same time and of the
+///   peers that it lists, each once and in any order. They are all granted, unless the reply is
+///   `OutOfMemory`.
 /// - Quiet time: consider the commands after a reply to `Dialable` as long as they are queries.
 ///   `Dialable` at the same time or later, but before `next_query_at` if there is one, gets the
 ///   same peers and the same `next_query_at`, unless the reply is `OutOfMemory`. A query is a
