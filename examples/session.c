@@ -1,5 +1,5 @@
-// A node in C: it tracks a set of two peers, lets one of them come, asks for the infos of both, and takes them from a
-// frame whose signatures it verifies. C11 and C++17. tools/host_c.sh builds and runs it over the archive.
+// A node in C: it tracks a set of two peers, lets one of them come, which greets, asks for the infos of both, and takes
+// them from a frame whose signatures it verifies. C11 and C++17. tools/host_c.sh builds and runs it over the archive.
 #include "p2p_session.h"
 
 #include <inttypes.h>
@@ -167,11 +167,36 @@ static void receive(struct p2p_session *session, const uint8_t *frame, size_t le
     print_bytes("receive", answer, expected_length);
 }
 
+// Takes the greeting of the peer whose key has bytes 1: who greets is told. A message is told by its channel and length.
+static void greet_and_talk(struct p2p_session *session) {
+    uint8_t greeting[1 + INFO] = {1}, greeted[1 + KEY] = {1};
+    spell_info(1, 5, greeting + 1);
+    memset(greeted + 1, 1, KEY);
+    receive(session, greeting, sizeof greeting, greeted, sizeof greeted);
+
+    const uint8_t data[] = {0, 7, 5, 'h', 'e', 'l', 'l', 'o'};
+    const uint8_t told[] = {0, 0, 0, 0, 0, 0, 0, 0, 7, 0, 0, 0, 0, 0, 0, 0, 5};
+    receive(session, data, sizeof data, told, sizeof told);
+    printf("message: %.5s\n", (const char *)data + sizeof data - told[sizeof told - 1]);
+}
+
+// Questions that need no session: which addresses a name may resolve to, and what may be dialled.
+static void judge_addresses(void) {
+    const uint8_t local[] = {127, 0, 0, 1}, global[] = {8, 8, 8, 8};
+    expect("is_global", p2p_session_is_global(local, sizeof local), 0);
+    expect("is_global", p2p_session_is_global(global, sizeof global), 1);
+    expect("is_global of no address", p2p_session_is_global(NULL, 0), P2P_SESSION_BAD_INFO);
+    expect("is_valid", p2p_session_is_valid(local, sizeof local, true, false), 1);
+    expect("is_valid of a name", p2p_session_is_valid(NULL, 0, true, false), 0);
+}
+
 int main(void) {
+    judge_addresses();
     struct p2p_session *session = make_node();
     if (session == NULL)
         return 3;
     track_and_connect(session);
+    expect("retained", p2p_session_retained(session), 1);
     // The bits of set 0: of its two peers no info is known.
     const uint8_t nothing_known[] = {2, 0, 2, 0};
     ask(session, nothing_known, sizeof nothing_known);
@@ -192,6 +217,7 @@ int main(void) {
     receive(session, frame, sizeof frame, applied, sizeof applied);
     const uint8_t both_known[] = {2, 0, 2, 3};
     ask(session, both_known, sizeof both_known);
+    greet_and_talk(session);
 
     uint8_t peer[KEY];
     memset(peer, 1, KEY);

@@ -48,7 +48,7 @@ extern "C" {
 #define P2P_SESSION_MOMENT_SIZE 12
 
 // The minimum length of the buffer of p2p_session_receive.
-#define P2P_SESSION_RECEIVE_ROOM 10
+#define P2P_SESSION_RECEIVE_ROOM (1 + P2P_SESSION_KEY_SIZE)
 
 // The memory of a session begins at a multiple of it.
 #define P2P_SESSION_ALIGNMENT 16

@@ -4,7 +4,7 @@
 //! `cargo run --example two_nodes`
 
 use p2p_directory::testing::{info, key, setup, verify};
-use p2p_directory::{Key, Moment, Node, OrderedSet, Payload, Received, Reservation};
+use p2p_directory::{Key, Moment, Node, OrderedSet, Received, Reservation};
 use std::error::Error;
 use std::sync::mpsc::{Receiver, Sender, channel};
 use std::thread;
@@ -43,21 +43,18 @@ fn connected(number: u16, other: u16, known: u16) -> Result<Connected, Box<dyn E
 /// Greets, asks once, answers what comes, ends its connections, and says whose infos it knows. Where it fails, its
 /// connections end all the same, for reservations that are dropped are given back.
 fn talk(
-    number: u16,
     connected: Connected,
     frames: &Receiver<Vec<u8>>,
     other: &Sender<Vec<u8>>,
 ) -> Result<Vec<Key>, Box<dyn Error>> {
     let Connected { mut node, held } = connected;
-    let own = node.directory().info(&key(number))?;
-    let own = own.ok_or("no own info")?;
-    other.send(Payload::Greeting(own).encode())?;
+    other.send(node.greeting().to_vec())?;
     other.send(node.ask(0)?.ok_or("no set")?)?;
     // A greeting, a question, and the answer to the own question.
     for _ in 0..3 {
         match node.receive(&frames.recv()?, NOW, verify) {
             Received::Reply(reply) => other.send(reply)?,
-            Received::Greeted | Received::Applied(_) => {}
+            Received::Greeted(_) | Received::Applied(_) => {}
             refused => return Err(format!("{refused:?}").into()),
         }
     }
@@ -76,8 +73,8 @@ fn main() -> Result<(), Box<dyn Error>> {
     let (to_one, of_one) = channel();
     let (to_two, of_two) = channel();
     let (one, two) = (connected(1, 2, 3)?, connected(2, 1, 4)?);
-    let one = thread::spawn(move || talk(1, one, &of_one, &to_two).map_err(|e| e.to_string()));
-    let two = thread::spawn(move || talk(2, two, &of_two, &to_one).map_err(|e| e.to_string()));
+    let one = thread::spawn(move || talk(one, &of_one, &to_two).map_err(|e| e.to_string()));
+    let two = thread::spawn(move || talk(two, &of_two, &to_one).map_err(|e| e.to_string()));
     for (name, node) in [("one", one), ("two", two)] {
         let known = node.join().map_err(|_| "a thread panicked")??;
         println!(

@@ -66,7 +66,7 @@ pub(crate) fn unknown(answer: u64) -> ! {
 }
 
 /// What is read of the library's own answer, unless memory is refused.
-fn own<T>(read: Result<T, ReadError>) -> Result<T, OutOfMemory> {
+pub(crate) fn own<T>(read: Result<T, ReadError>) -> Result<T, OutOfMemory> {
     read.map_err(|error| match error {
         ReadError::Memory => OutOfMemory,
         ReadError::Codec(fault) => panic!("{OWN} can't be read: {fault}"),

@@ -4,7 +4,7 @@ use crate::answer::{OWN, Room, answered, certain, is_certain, is_done, is_true, 
 use crate::codec::{ReadError, Reader};
 use crate::error::{CodecError, NotReservedError, OutOfMemory, SetupError};
 use crate::info::{Info, try_write_infos};
-use crate::ingress::Ingress;
+use crate::ingress::{Ingress, MAX_HOSTNAME};
 use crate::key::{KEY_SIZE, Key};
 use crate::memory::give_back_large;
 use crate::moment::Moment;
@@ -189,6 +189,8 @@ pub struct Directory {
     // What is handed in, and what comes out.
     input: RefCell<Vec<u8>>,
     output: RefCell<Room>,
+    // Room for the name of the next host that is dialled.
+    name: String,
 }
 
 /// How many bytes what comes out has room for at first: enough for what a call that changes something
@@ -280,6 +282,7 @@ impl Directory {
             namespace: limits.namespace,
             input: RefCell::new(Vec::new()),
             output: RefCell::new(output),
+            name: String::new(),
         })
     }
 
@@ -365,10 +368,27 @@ impl Directory {
     ) -> Result<Option<Reservation>, OutOfMemory> {
         let (seconds, nanos) = now.parts();
         let (draw_seconds, draw_nanos) = (draw.as_secs(), draw.subsec_nanos());
+        // The longest name has room before anything is granted.
+        self.name.try_reserve_exact(MAX_HOSTNAME)?;
         let is_granted = self
             .held
             .grant(|session| session.dial(&peer.0, seconds, nanos, draw_seconds, draw_nanos))?;
-        Ok(is_granted.then(|| Reservation::new(*peer, true, self.held.origin())))
+        if !is_granted {
+            return Ok(None);
+        }
+        let metadata = Metadata::Dialer(*peer, self.dialled(peer));
+        Ok(Some(Reservation::new(metadata, self.held.origin())))
+    }
+
+    // The address of a grant. Takes no memory: there is room for the longest.
+    fn dialled(&mut self, peer: &Key) -> Ingress {
+        let mut out = [0; 1 + Ingress::MAX_ENCODE_SIZE];
+        let length = certain(self.held.session().reservation(&peer.0, &mut out));
+        let mut reader = Reader::new(&out[..length as usize]);
+        match reader.byte().expect(OWN) {
+            1 => Ingress::read_into(&mut self.name, &mut reader).expect(OWN),
+            other => unknown(other.into()),
+        }
     }
 
     /// Reserves the peer for a connection that it asks for at the moment `now`, where that is allowed: it
@@ -405,47 +425,7 @@ impl Directory {
         let is_granted = self
             .held
             .grant(|session| session.listen(&peer.0, seconds, nanos, draw_seconds, draw_nanos))?;
-        Ok(is_granted.then(|| Reservation::new(*peer, false, self.held.origin())))
-    }
-
-    /// Whom a reservation is for, and in which direction: with the very address that is to be dialled.
-    /// `None` for a reservation of another directory.
-    ///
-    /// # Errors
-    ///
-    /// [`OutOfMemory`].
-    ///
-    /// # Examples
-    ///
-    /// ```
-    /// # use p2p_directory::*; use std::time::Duration;
-    /// # let mut directory = testing::directory();
-    /// let peer = testing::key(1);
-    /// directory.track(0, &OrderedSet::from_iter_dedup([peer]).into())?;
-    /// # let now = Moment::from_secs(1);
-    /// let reservation = directory.listen(&peer, now, Duration::ZERO)?.expect("in a set");
-    /// assert_eq!(directory.metadata(&reservation)?, Some(Metadata::Listener(peer)));
-    /// # directory.release(reservation).expect("its own");
-    /// # Ok::<(), OutOfMemory>(())
-    /// ```
-    pub fn metadata(&self, reservation: &Reservation) -> Result<Option<Metadata>, OutOfMemory> {
-        let peer = *reservation.public_key();
-        if !reservation.is_of(self.held.origin()) {
-            return Ok(None);
-        }
-        if !reservation.is_dialer() {
-            return Ok(Some(Metadata::Listener(peer)));
-        }
-        self.question(
-            |session, out| session.reservation(&peer.0, out),
-            |bytes| {
-                let mut reader = Reader::new(bytes);
-                match reader.byte()? {
-                    1 => Ok(Metadata::Dialer(peer, Ingress::read(&mut reader)?)),
-                    other => unknown(other.into()),
-                }
-            },
-        )
+        Ok(is_granted.then(|| Reservation::new(Metadata::Listener(*peer), self.held.origin())))
     }
 
     /// Connects a peer that is reserved, as its dialer or not. As the dialer its failed dials are
@@ -496,7 +476,8 @@ impl Directory {
         if !reservation.is_of(self.held.origin()) {
             return Err(ConnectError::OfAnotherDirectory);
         }
-        Ok(self.connect(reservation.public_key(), reservation.is_dialer())?)
+        let metadata = reservation.metadata();
+        Ok(self.connect(metadata.public_key(), metadata.is_dialer())?)
     }
 
     /// Ends a reservation, and the connection that was made of it. A dialer's counts as one more failure

@@ -1,15 +1,18 @@
 //! Where a peer can be dialled.
 
+use crate::answer::is_certain;
 use crate::codec::{ReadError, Reader, varint_size, write_varint};
 use crate::error::{CodecError, ParseError, What};
+use p2p_directory_sys as exports;
 use std::cmp::Ordering;
 use std::fmt;
 use std::hash::{Hash, Hasher};
+use std::mem;
 use std::net::{IpAddr, SocketAddr};
 use std::str::FromStr;
 
 /// How many bytes a hostname has at most.
-const MAX_HOSTNAME: usize = 253;
+pub(crate) const MAX_HOSTNAME: usize = 253;
 
 /// How many bytes a label of a hostname has at most.
 const MAX_LABEL: usize = 63;
@@ -62,7 +65,7 @@ impl Hostname {
     /// ```
     pub fn new(text: &str) -> Result<Hostname, CodecError> {
         judge_length(text.len() as u64)?;
-        read_text(text.as_bytes()).map_err(ReadError::fault)
+        read_text(String::new(), text.as_bytes()).map_err(ReadError::fault)
     }
 
     /// The text.
@@ -84,10 +87,11 @@ impl Hostname {
         out.extend_from_slice(self.0.as_bytes());
     }
 
-    pub(crate) fn read(reader: &mut Reader<'_>) -> Result<Hostname, ReadError> {
+    // Reads a name into this room, and takes it.
+    fn read_into(name: &mut String, reader: &mut Reader<'_>) -> Result<Hostname, ReadError> {
         let length = reader.length()?;
         judge_length(length)?;
-        read_text(reader.take(length as usize)?)
+        read_text(mem::take(name), reader.take(length as usize)?)
     }
 }
 
@@ -126,12 +130,12 @@ fn judge_length(length: u64) -> Result<(), CodecError> {
     Ok(())
 }
 
-fn read_text(text: &[u8]) -> Result<Hostname, ReadError> {
+// The name is empty. It takes no memory where it has room.
+fn read_text(mut name: String, text: &[u8]) -> Result<Hostname, ReadError> {
     if !text.split(|byte| *byte == b'.').all(is_label) {
         return Err(CodecError::Invalid(What::Hostname).into());
     }
     let text = std::str::from_utf8(text).map_err(|_| CodecError::Invalid(What::Hostname))?;
-    let mut name = String::new();
     name.try_reserve_exact(text.len())?;
     name.push_str(text);
     Ok(Hostname(name))
@@ -173,6 +177,27 @@ pub enum Ingress {
         /// The port.
         port: u16,
     },
+}
+
+/// Whether an address is global: one that isn't reserved for private networks, documentation, tests and the like, by the
+/// table of `docs/FORMATS.md` of the repository. It is the one by which a directory with
+/// [`allow_private_ips`](crate::Config::allow_private_ips) false judges addresses, so that a host can judge what a name
+/// resolves to.
+///
+/// # Examples
+///
+/// ```
+/// use p2p_directory::is_global;
+///
+/// assert!(is_global([8, 8, 8, 8].into()));
+/// assert!(!is_global([192, 168, 0, 1].into()));
+/// ```
+#[must_use]
+pub fn is_global(address: IpAddr) -> bool {
+    is_certain(match address {
+        IpAddr::V4(address) => exports::is_global(&address.octets()),
+        IpAddr::V6(address) => exports::is_global(&address.octets()),
+    })
 }
 
 // What is told of an ingress to others, by which it is compared.
@@ -225,6 +250,29 @@ impl Ingress {
             Ingress::Socket(socket) => Some(socket.ip()),
             Ingress::Dns { .. } => None,
         }
+    }
+
+    /// Whether it may be dialled under these settings: an address where it is [global](is_global) or
+    /// `allow_private_ips`, a name where `allow_dns`. What a name resolves to is not looked at: that is judged by
+    /// [`is_global`], once it is known.
+    ///
+    /// # Examples
+    ///
+    /// ```
+    /// # use p2p_directory::{Hostname, Ingress};
+    /// let ingress: Ingress = "10.0.0.1:80".parse()?;
+    /// assert!(ingress.is_valid(true, false));
+    /// assert!(!ingress.is_valid(false, true));
+    /// # Ok::<(), p2p_directory::ParseError>(())
+    /// ```
+    #[must_use]
+    pub fn is_valid(&self, allow_private_ips: bool, allow_dns: bool) -> bool {
+        let is_valid = |address: &[u8]| exports::is_valid(address, allow_private_ips, allow_dns);
+        is_certain(match self.ip() {
+            None => is_valid(&[]),
+            Some(IpAddr::V4(address)) => is_valid(&address.octets()),
+            Some(IpAddr::V6(address)) => is_valid(&address.octets()),
+        })
     }
 
     /// The spelling.
@@ -313,10 +361,18 @@ impl Ingress {
     }
 
     pub(crate) fn read(reader: &mut Reader<'_>) -> Result<Ingress, ReadError> {
+        Ingress::read_into(&mut String::new(), reader)
+    }
+
+    /// Reads an ingress, and takes this room for its name where it has one. Takes no memory where a name has room.
+    pub(crate) fn read_into(
+        name: &mut String,
+        reader: &mut Reader<'_>,
+    ) -> Result<Ingress, ReadError> {
         match reader.byte()? {
             SOCKET_PREFIX => Ok(Ingress::Socket(read_socket(reader)?)),
             DNS_PREFIX => {
-                let host = Hostname::read(reader)?;
+                let host = Hostname::read_into(name, reader)?;
                 let port = reader.short()?;
                 Ok(Ingress::Dns { host, port })
             }

@@ -63,6 +63,7 @@ mod sizes;
 #[cfg(any(test, feature = "testing"))]
 pub mod testing;
 mod verification;
+mod verifier;
 
 pub use directory::{
     Config, ConnectError, Dialable, Directory, Metadata, PeerSetUpdate, ReleaseError, Reservation,
@@ -70,7 +71,7 @@ pub use directory::{
 };
 pub use error::{CodecError, Error, NotReservedError, OutOfMemory, ParseError, SetupError, What};
 pub use info::Info;
-pub use ingress::{Hostname, Ingress};
+pub use ingress::{Hostname, Ingress, is_global};
 pub use key::{KEY_SIZE, Key, SIGNATURE_SIZE, Signature};
 pub use moment::{BeforeEpochError, Moment};
 pub use node::{Node, Received, Setup};
@@ -80,6 +81,7 @@ pub use sizes::{EncodedData, MAX_PAYLOAD_OVERHEAD, max_gossip_size, max_size};
 pub use verification::{
     Judged, Question, Questions, QuestionsIter, ReceiveError, WrongVerdictsError,
 };
+pub use verifier::{InfoVerifier, ValidateError};
 
 #[cfg(doctest)]
 #[doc = include_str!("../README.md")]

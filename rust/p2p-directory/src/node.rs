@@ -1,6 +1,6 @@
 //! A node: a directory that judges what it is told by frames, and answers them.
 
-use crate::answer::{OWN, Room, unknown};
+use crate::answer::{OWN, Room, own, unknown};
 use crate::codec::{ReadError, Reader};
 use crate::directory::{Config, Directory, Limits};
 use crate::error::{CodecError, Error, OutOfMemory, SetupError, What};
@@ -9,8 +9,11 @@ use crate::ingress::Ingress;
 use crate::key::{Key, Signature};
 use crate::memory::{copied, give_back_large, lengthen};
 use crate::moment::Moment;
-use crate::payload::{Data, Payload, PayloadConfig, greeting_of};
-use crate::verification::{Judged, Question, Questions, ReceiveError, read_told};
+use crate::payload::{BitVec, Payload, PayloadConfig, greeting_of, reply_of};
+use crate::verification::{
+    Judged, NOTHING_TOLD, Questions, ReceiveError, read_told, write_verdicts,
+};
+use std::ops::Range;
 use std::time::Duration;
 
 /// What a node is made from.
@@ -53,10 +56,17 @@ pub struct Setup {
 #[non_exhaustive]
 pub enum Received {
     /// A message on a channel. Nothing has changed.
-    Data(Data),
-    /// The info of a greeting was applied.
-    Greeted,
-    /// A frame with the infos for one who knows the bits that came: send it back. Nothing has changed.
+    Data {
+        /// The channel.
+        channel: u64,
+        /// Where the message stands in the frame.
+        message: Range<usize>,
+    },
+    /// The info of a greeting was applied, which is this key's. Whether it is the key of the connection's peer, the host
+    /// compares.
+    Greeted(Key),
+    /// A frame with the infos for one who knows the bits that came: send it back. It has all of them, whatever the peer
+    /// takes at a time: for fewer there is [`Node::reply_at_most`]. Nothing has changed.
     Reply(Vec<u8>),
     /// All infos of the frame were applied, so many of them.
     Applied(usize),
@@ -258,6 +268,54 @@ impl Node {
         )
     }
 
+    /// The frame with infos for one who knows these bits, as [`Received::Reply`] has it, but for at most so many infos:
+    /// those from a place on that `draw` decides, in the order of the set and around its end. `draw` is drawn uniformly
+    /// from all numbers, anew for each reply: then each info is told as often as another, as nearly as that can be.
+    /// `None` where the bits are of another number than the primary peers of the set, a frame without infos where no
+    /// retained set has the index.
+    ///
+    /// # Errors
+    ///
+    /// [`OutOfMemory`].
+    ///
+    /// # Panics
+    ///
+    /// Where there are more bits than the greatest `u32`.
+    ///
+    /// # Examples
+    ///
+    /// ```
+    /// # use p2p_directory::*;
+    /// # let limits = testing::setup(9).payload;
+    /// # let mut node = Node::new(&testing::setup(9)).unwrap();
+    /// # let set = OrderedSet::from_iter_dedup([1, 9].map(testing::key));
+    /// # node.directory_mut().track(0, &set.into())?;
+    /// let (now, draw) = (Moment::from_secs(1), 4_711);
+    /// let question = [2, 0, 2, 0b00];
+    /// let Ok(Payload::BitVec(bits)) = Payload::decode(&question, &limits) else { panic!() };
+    /// let all = Payload::Peers(vec![testing::info(9, 0)]).encode();
+    /// assert_eq!(node.reply_at_most(&bits, now, 1, draw)?, Some(all));
+    /// assert_eq!(node.reply_at_most(&bits, now, 0, draw)?, Some(vec![3, 0]));
+    /// # Ok::<(), OutOfMemory>(())
+    /// ```
+    pub fn reply_at_most(
+        &self,
+        bits: &BitVec,
+        now: Moment,
+        count: usize,
+        draw: u64,
+    ) -> Result<Option<Vec<u8>>, OutOfMemory> {
+        let Some(mut infos) = self.directory.infos(bits, now)? else {
+            return Ok(None);
+        };
+        if count < infos.len() {
+            let first = draw % infos.len() as u64;
+            infos.rotate_left(first as usize);
+            infos.truncate(count);
+        }
+        Ok(Some(reply_of(&infos)?))
+    }
+
     /// Takes a frame at the moment `now`, and answers it.
     ///
     /// The closure says of a key, the namespace, signed bytes and a signature whether the signature is
@@ -279,7 +337,7 @@ impl Node {
     /// # let mut node = Node::new(&testing::setup(9)).unwrap();
     /// let greeting = Payload::Greeting(testing::info(1, 1000)).encode();
     /// let now = Moment::from_secs(1);
-    /// assert_eq!(node.receive(&greeting, now, testing::verify), Received::Greeted);
+    /// assert_eq!(node.receive(&greeting, now, testing::verify), Received::Greeted(testing::key(1)));
     /// assert_eq!(
     ///     node.receive(&greeting, now, |_, _, _, _| false),
     ///     Received::Invalid(Error::InvalidSignature)
@@ -382,7 +440,7 @@ impl Node {
     /// # let mut node = Node::new(&testing::setup(9)).unwrap();
     /// let frame = Payload::Greeting(testing::info(1, 1000)).encode();
     /// let judged = node.check(&frame, Moment::from_secs(1))?.judged([true])?;
-    /// assert_eq!(node.receive_judged(judged).unwrap(), Received::Greeted);
+    /// assert_eq!(node.receive_judged(judged).unwrap(), Received::Greeted(testing::key(1)));
     /// # Ok::<(), Box<dyn std::error::Error>>(())
     /// ```
     pub fn receive_judged<'f>(&mut self, judged: Judged<'f>) -> Result<Received, ReceiveError<'f>> {
@@ -404,13 +462,16 @@ impl Node {
     }
 }
 
-// Reads what the library asks of a frame.
+// Reads what the library asks of a frame: nothing where it can have no infos, which are all that is signed.
 fn told<T>(
     directory: &Directory,
     frame: &[u8],
     now: Moment,
     read: impl FnOnce(&[u8]) -> Result<T, ReadError>,
 ) -> Result<T, OutOfMemory> {
+    if !Payload::is_signed(frame) {
+        return own(read(&NOTHING_TOLD));
+    }
     let (seconds, nanos) = now.parts();
     let told = directory.question_in(
         Payload::room_to_check(frame),
@@ -432,9 +493,9 @@ fn received(
     let (seconds, nanos) = now.parts();
     let session = directory.session();
     let received = answer.asked(
-        Payload::room_to_receive(frame),
+        0,
         |out| session.receive(frame, seconds, nanos, verdicts, out),
-        read_received,
+        |bytes| read_received(bytes, frame.len()),
     )?;
     Ok(received.expect(OWN))
 }
@@ -443,32 +504,25 @@ fn received(
 fn judge(
     told: &[u8],
     namespace: &[u8],
-    mut verify: impl FnMut(&Key, &[u8], &[u8], &Signature) -> bool,
+    verify: impl FnMut(&Key, &[u8], &[u8], &Signature) -> bool,
     verdicts: &mut Vec<u8>,
 ) -> Result<(), ReadError> {
     let (infos, questions) = read_told(told)?;
     verdicts.clear();
     lengthen(verdicts, infos)?;
-    for (verdict, asked) in verdicts.iter_mut().zip(questions) {
-        let Question {
-            public_key,
-            message,
-            signature,
-        } = asked;
-        let is_right = verify(&public_key, namespace, message, &signature);
-        *verdict = is_right.into();
-        if !is_right {
-            break;
-        }
-    }
+    write_verdicts(verdicts, namespace, questions, verify);
     Ok(())
 }
 
-fn read_received(bytes: &[u8]) -> Result<Received, ReadError> {
+// The answer to a frame of so many bytes.
+fn read_received(bytes: &[u8], frame: usize) -> Result<Received, ReadError> {
     let mut reader = Reader::new(bytes);
     Ok(match reader.byte()? {
-        0 => Received::Data(Data::read(&mut reader, u64::MAX)?),
-        1 => Received::Greeted,
+        0 => Received::Data {
+            channel: reader.number()?,
+            message: frame - reader.number()? as usize..frame,
+        },
+        1 => Received::Greeted(Key(reader.array()?)),
         2 => Received::Reply(copied(reader.rest())?),
         3 => Received::Applied(reader.number()? as usize),
         4 => Received::Codec(read_fault(&mut reader)?),

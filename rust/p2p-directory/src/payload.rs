@@ -2,7 +2,7 @@
 
 use crate::codec::{MAX_VARINT_SIZE, ReadError, Reader, varint_size, write_length, write_varint};
 use crate::error::{CodecError, OutOfMemory, What};
-use crate::info::{Info, MIN_INFO_SIZE, read_infos, write_infos};
+use crate::info::{Info, MIN_INFO_SIZE, read_infos, try_write_infos, write_infos};
 use crate::memory::copied;
 
 const DATA_PREFIX: u8 = 0;
@@ -159,6 +159,15 @@ pub(crate) fn greeting_of(info: &Info) -> Result<Vec<u8>, OutOfMemory> {
     Ok(frame)
 }
 
+/// The frame that answers bits with infos, unless memory is refused.
+pub(crate) fn reply_of(infos: &[Info]) -> Result<Vec<u8>, OutOfMemory> {
+    let mut frame = Vec::new();
+    frame.try_reserve(1)?;
+    frame.push(PEERS_PREFIX);
+    try_write_infos(&mut frame, infos)?;
+    Ok(frame)
+}
+
 impl Payload {
     /// The frame.
     ///
@@ -255,12 +264,9 @@ impl Payload {
         }
     }
 
-    /// How long the answer to a frame is that has a message: it is spelled as it came.
-    pub(crate) fn room_to_receive(frame: &[u8]) -> usize {
-        match frame.first() {
-            Some(&DATA_PREFIX) => frame.len(),
-            _ => 0,
-        }
+    /// Whether a frame can have infos, which are all that is signed.
+    pub(crate) fn is_signed(frame: &[u8]) -> bool {
+        matches!(frame.first(), Some(&(GREETING_PREFIX | PEERS_PREFIX)))
     }
 
     fn read(reader: &mut Reader<'_>, limits: &PayloadConfig) -> Result<Payload, ReadError> {

@@ -55,7 +55,8 @@ pub struct Question<'q> {
 ///     verdicts.push(testing::verify(&public_key, questions.namespace(), message, &signature));
 /// }
 /// let judged = questions.judged(verdicts)?;
-/// assert_eq!(node.lock().unwrap().receive_judged(judged).unwrap(), Received::Greeted);
+/// let received = node.lock().unwrap().receive_judged(judged).unwrap();
+/// assert_eq!(received, Received::Greeted(testing::key(1)));
 /// # Ok::<(), Box<dyn std::error::Error>>(())
 /// ```
 #[derive(Debug)]
@@ -143,7 +144,7 @@ pub struct WrongVerdictsError;
 /// let frame = Payload::Greeting(testing::info(1, 1000)).encode();
 /// let judged = node.check(&frame, Moment::from_secs(1))?.judged([true])?;
 /// let ReceiveError { judged, .. } = other.receive_judged(judged).unwrap_err();
-/// assert_eq!(node.receive_judged(judged).unwrap(), Received::Greeted);
+/// assert_eq!(node.receive_judged(judged).unwrap(), Received::Greeted(testing::key(1)));
 /// # Ok::<(), Box<dyn std::error::Error>>(())
 /// ```
 #[derive(Debug)]
@@ -156,6 +157,9 @@ pub struct ReceiveError<'f> {
 /// The questions that stand one after the other in what the library told.
 #[derive(Clone, Debug)]
 pub(crate) struct Asked<'q>(&'q [u8]);
+
+/// What the library tells of a frame that has no infos.
+pub(crate) const NOTHING_TOLD: [u8; 8] = [0; 8];
 
 /// What the library told of a frame: how many infos it has, and the questions.
 pub(crate) fn read_told(told: &[u8]) -> Result<(usize, Asked<'_>), CodecError> {
@@ -186,6 +190,27 @@ impl<'q> Iterator for Asked<'q> {
         let question = read_question(&mut reader).expect(OWN);
         self.0 = reader.rest();
         Some(question)
+    }
+}
+
+/// Writes what the closure says of each question, in order up to the first false; the others stay as they are.
+pub(crate) fn write_verdicts(
+    verdicts: &mut [u8],
+    namespace: &[u8],
+    questions: Asked<'_>,
+    mut verify: impl FnMut(&Key, &[u8], &[u8], &Signature) -> bool,
+) {
+    for (verdict, question) in verdicts.iter_mut().zip(questions) {
+        let Question {
+            public_key,
+            message,
+            signature,
+        } = question;
+        let is_right = verify(&public_key, namespace, message, &signature);
+        *verdict = is_right.into();
+        if !is_right {
+            break;
+        }
     }
 }
 
@@ -299,7 +324,7 @@ impl<'f> Questions<'f> {
     /// # let mut node = Node::new(&testing::setup(9)).unwrap();
     /// let frame = Payload::Greeting(testing::info(1, 1000)).encode();
     /// let judged = node.check(&frame, Moment::from_secs(1))?.judged([true])?;
-    /// assert_eq!(node.receive_judged(judged).unwrap(), Received::Greeted);
+    /// assert_eq!(node.receive_judged(judged).unwrap(), Received::Greeted(testing::key(1)));
     /// # Ok::<(), Box<dyn std::error::Error>>(())
     /// ```
     pub fn judged(
@@ -325,6 +350,39 @@ impl<'f> Questions<'f> {
             node: self.node,
             verdicts: written,
         })
+    }
+
+    /// The frame with the closure's verdicts: it says of a key, the namespace, a message and a signature whether the
+    /// signature is right, and is asked once for each question, in order, up to the first false. It takes no memory.
+    ///
+    /// # Panics
+    ///
+    /// Where the closure does.
+    ///
+    /// # Examples
+    ///
+    /// ```
+    /// # use p2p_directory::*;
+    /// # let mut node = Node::new(&testing::setup(9)).unwrap();
+    /// let frame = Payload::Peers(vec![testing::info(1, 0), testing::info(2, 0)]).encode();
+    /// let judged = node.check(&frame, Moment::from_secs(1))?.judged_by(testing::verify);
+    /// assert_eq!(node.receive_judged(judged).unwrap(), Received::Applied(2));
+    /// # Ok::<(), OutOfMemory>(())
+    /// ```
+    #[must_use]
+    pub fn judged_by(
+        self,
+        verify: impl FnMut(&Key, &[u8], &[u8], &Signature) -> bool,
+    ) -> Judged<'f> {
+        let mut verdicts = self.verdicts;
+        let (namespace, asked) = self.bytes.split_at(self.namespace);
+        write_verdicts(&mut verdicts, namespace, Asked(asked), verify);
+        Judged {
+            frame: self.frame,
+            now: self.now,
+            node: self.node,
+            verdicts,
+        }
     }
 }
 

@@ -180,10 +180,7 @@ fn a_peer_is_dialable_later_than_reservable() {
     assert_eq!(told.next_query_at, Some(seconds(120)));
     let early = dial(&mut directory, 1, seconds(115)).unwrap();
     let address = Ingress::from(SocketAddr::from(([1, 2, 3, 4], 8001)));
-    assert_eq!(
-        directory.metadata(&early).unwrap(),
-        Some(Metadata::Dialer(key(1), address))
-    );
+    assert_eq!(early.metadata(), &Metadata::Dialer(key(1), address));
     directory.release(early).unwrap();
 }
 
@@ -324,8 +321,7 @@ fn a_later_bootstrapper_replaces_an_earlier_one() {
     let mut directory = Directory::init(&bootstrappers, &info(9, 0), config()).unwrap();
     assert_eq!(directory.tracked(), 1);
     let granted = dial(&mut directory, 1, seconds(1)).unwrap();
-    let metadata = directory.metadata(&granted).unwrap();
-    assert_eq!(metadata, Some(Metadata::Dialer(key(1), at(81))));
+    assert_eq!(granted.metadata(), &Metadata::Dialer(key(1), at(81)));
     directory.release(granted).unwrap();
 }
 

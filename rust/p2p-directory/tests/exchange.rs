@@ -2,9 +2,11 @@
 
 use p2p_directory::testing::{self, info, key, setup, verify};
 use p2p_directory::{
-    BitVec, Data, Error, Moment, Node, OrderedSet, Payload, Received, Reservation, Setup, Signature,
+    BitVec, Data, Error, Key, Moment, Node, OrderedSet, Payload, Received, Reservation, Setup,
+    Signature, TrackedPeers,
 };
 use std::mem;
+use std::num::NonZeroUsize;
 use std::panic::{AssertUnwindSafe, catch_unwind};
 use std::time::Duration;
 
@@ -91,9 +93,13 @@ fn a_message_is_handed_on() {
         channel: 7,
         message: vec![1; 4000],
     };
-    let frame = Payload::Data(data.clone()).encode();
+    let frame = Payload::Data(data).encode();
     let answer = node.receive(&frame, seconds(1), |_, _, _, _| unreachable!());
-    assert_eq!(answer, Received::Data(data));
+    let message = Received::Data {
+        channel: 7,
+        message: 4..4004,
+    };
+    assert_eq!(answer, message);
 }
 
 #[test]
@@ -172,7 +178,7 @@ fn a_scheme_of_ones_own_judges() {
     let answer = node.receive(&greeting, seconds(1), |key, _, _, signature| {
         signature.0[..32] == key.0 && signature.0[32..] == key.0
     });
-    assert_eq!(answer, Received::Greeted);
+    assert_eq!(answer, Received::Greeted(key(1)));
     assert_eq!(bits(&node), [true]);
 }
 
@@ -209,7 +215,10 @@ fn a_node_takes_no_frame_for_another_directory() {
     assert!(receives.is_err() && checks.is_err() && asks.is_err());
     assert_eq!(one.directory().tracked(), 0);
     mem::swap(one.directory_mut(), &mut other);
-    assert_eq!(one.receive_judged(judged).unwrap(), Received::Greeted);
+    assert_eq!(
+        one.receive_judged(judged).unwrap(),
+        Received::Greeted(key(1))
+    );
     assert_eq!(bits(&one), [true, false]);
 }
 
@@ -242,5 +251,79 @@ fn a_bound_below_a_second_counts() {
     let greeting = |timestamp| Payload::Greeting(info(1, timestamp)).encode();
     let mut received = |timestamp| node.receive(&greeting(timestamp), seconds(100), verify);
     assert_eq!(received(101_003), Received::Invalid(Error::SynchronyBound));
-    assert_eq!(received(101_002), Received::Greeted);
+    assert_eq!(received(101_002), Received::Greeted(key(1)));
+}
+
+// Who is connected with 1, 2 and 3, and knows where each is.
+fn gossiping() -> (Node, [Reservation; 3]) {
+    let mut node = node(9, &[1, 2, 3]);
+    let infos = [1, 2, 3].map(|number| info(number, 0));
+    node.directory_mut().update_peers(&infos).unwrap();
+    let held = [1, 2, 3].map(|number| connected(&mut node, number));
+    (node, held)
+}
+
+fn nothing_known(index: u64, count: usize) -> BitVec {
+    BitVec {
+        index,
+        bits: vec![false; count],
+    }
+}
+
+#[test]
+fn a_reply_is_cut_by_a_draw() {
+    let (node, _held) = gossiping();
+    let told = |count, draw| -> Vec<Key> {
+        let reply = node.reply_at_most(&nothing_known(0, 3), seconds(100), count, draw);
+        let limits = setup(9).payload;
+        match Payload::decode(&reply.unwrap().unwrap(), &limits) {
+            Ok(Payload::Peers(infos)) => infos.into_iter().map(|info| info.public_key).collect(),
+            other => panic!("{other:?}"),
+        }
+    };
+    let keys =
+        |numbers: &[u16]| -> Vec<Key> { numbers.iter().map(|number| key(*number)).collect() };
+    assert_eq!(told(1, 0), keys(&[1]));
+    assert_eq!(told(1, 1), keys(&[2]));
+    assert_eq!(told(2, 2), keys(&[3, 1]));
+    assert_eq!(told(2, 5), keys(&[3, 1]));
+    assert_eq!(told(3, 1), keys(&[1, 2, 3]));
+    assert_eq!(told(0, 1), keys(&[]));
+}
+
+#[test]
+fn a_reply_that_is_not_cut_is_that_of_a_frame() {
+    let (mut node, _held) = gossiping();
+    for (index, count) in [(0, 3), (1, 3), (0, 2)] {
+        let bits = nothing_known(index, count);
+        let reply = node.reply_at_most(&bits, seconds(100), 3, 7).unwrap();
+        let frame = Payload::BitVec(bits).encode();
+        let received = node.receive(&frame, seconds(100), verify);
+        assert_eq!(received, reply.map_or(Received::Malformed, Received::Reply));
+    }
+}
+
+#[test]
+fn a_greeting_says_who_greets() {
+    let mut node = node(9, &[1]);
+    let greeting = Payload::Greeting(info(2, 0)).encode();
+    let received = node.receive(&greeting, seconds(1), verify);
+    // It is nobody of the set, and the connection may be somebody else's: that is the host's to compare.
+    assert_eq!(received, Received::Greeted(key(2)));
+}
+
+#[test]
+fn sets_are_counted_while_they_are_retained() {
+    let mut setup = setup(9);
+    setup.cfg.max_sets = NonZeroUsize::new(2).unwrap();
+    let mut node = Node::new(&setup).unwrap();
+    let set = TrackedPeers::from(OrderedSet::from_iter_dedup([key(1)]));
+    let counts = [0, 1, 2].map(|index| {
+        node.directory_mut().track(index, &set).unwrap().unwrap();
+        let retained = node.directory().retained();
+        assert!(node.ask(retained - 1).unwrap().is_some());
+        assert_eq!(node.ask(retained), Ok(None));
+        retained
+    });
+    assert_eq!(counts, [1, 2, 2]);
 }

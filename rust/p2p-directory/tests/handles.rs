@@ -43,7 +43,10 @@ fn nodes_answer_frames_of_each_other() {
     };
     assert_eq!(asker.receive(&reply, NOW, verify), Received::Applied(1));
     let greeting = Payload::Greeting(info(3, 0)).encode();
-    assert_eq!(asker.receive(&greeting, NOW, verify), Received::Greeted);
+    assert_eq!(
+        asker.receive(&greeting, NOW, verify),
+        Received::Greeted(key(1))
+    );
     let none = asker.receive(&[9, 9], NOW, verify);
     assert!(matches!(none, Received::Codec(_)));
 }

@@ -97,10 +97,7 @@ fn test_bootstrapper_to_discovered() {
     directory.update_peers(&[info(1, 1000)]).unwrap();
     let granted = dial(&mut directory, 1, NOW).unwrap();
     let at = info(1, 1000).ingress;
-    assert_eq!(
-        directory.metadata(&granted).unwrap(),
-        Some(Metadata::Dialer(key(1), at))
-    );
+    assert_eq!(granted.metadata(), &Metadata::Dialer(key(1), at));
     directory.release(granted).unwrap();
     // It stays persistent.
     assert_eq!(directory.status(&key(1)), Some(Status::Inert));

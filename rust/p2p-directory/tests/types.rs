@@ -400,7 +400,8 @@ fn info_verifier_validates_greeting_without_gossip_limit() {
     setup.peer_gossip_max_count = 0;
     let mut node = Node::new(&setup).unwrap();
     let greeting = Payload::Greeting(info(1, 0)).encode();
-    assert_eq!(node.receive(&greeting, NOW, verify), Received::Greeted);
+    let greeted = node.receive(&greeting, NOW, verify);
+    assert_eq!(greeted, Received::Greeted(key(1)));
     let list = Payload::Peers(vec![info(1, 0)]).encode();
     assert_eq!(
         node.receive(&list, NOW, verify),

@@ -284,6 +284,46 @@ impl Directory {
         Ok(dialable.expect(OWN))
     }
 
+    /// How many sets are retained: [`Directory::get_random_bit_vec`] and [`Node::ask`](crate::Node::ask) have a set at
+    /// each place below this number.
+    ///
+    /// # Examples
+    ///
+    /// ```
+    /// # use p2p_directory::*;
+    /// # let mut directory = testing::directory();
+    /// assert_eq!(directory.retained(), 0);
+    /// directory.track(5, &OrderedSet::from_iter_dedup([testing::key(1)]).into())?;
+    /// assert_eq!(directory.retained(), 1);
+    /// # Ok::<(), OutOfMemory>(())
+    /// ```
+    #[must_use]
+    #[inline]
+    pub fn retained(&self) -> usize {
+        certain(self.session().retained()) as usize
+    }
+
+    /// When [`Directory::forget_cooled`] next forgets a cooldown: the least dial time of those that are kept, or `None`
+    /// where there is none. It may lie in the past.
+    ///
+    /// # Examples
+    ///
+    /// ```
+    /// # use p2p_directory::*; use std::time::Duration;
+    /// # let mut directory = testing::directory();
+    /// # let (peer, now) = (testing::key(1), Moment::from_secs(1));
+    /// # directory.track(0, &OrderedSet::from_iter_dedup([peer]).into())?;
+    /// assert_eq!(directory.next_cooled(), None);
+    /// // Its cooldown is ten seconds.
+    /// let reservation = directory.listen(&peer, now, Duration::from_secs(2))?;
+    /// assert_eq!(directory.next_cooled(), Some(Moment::from_secs(13)));
+    /// # Ok::<(), OutOfMemory>(())
+    /// ```
+    #[must_use]
+    pub fn next_cooled(&self) -> Option<Moment> {
+        self.certain_question(Session::next_cooled, |bytes| Reader::new(bytes).moment())
+    }
+
     /// How many peers have a record, but for the local node.
     ///
     /// # Examples

@@ -6,7 +6,6 @@ use crate::ingress::Ingress;
 use crate::key::Key;
 use std::error;
 use std::fmt;
-use std::mem;
 
 /// The leave to connect with a peer, made by [`Directory::dial`](crate::Directory::dial) and
 /// [`Directory::listen`](crate::Directory::listen). While it is held, the peer can't be reserved again.
@@ -35,9 +34,9 @@ use std::mem;
 /// ```
 #[must_use = "a reservation that is dropped is released by the next call of its directory"]
 pub struct Reservation {
-    peer: Key,
-    is_dialer: bool,
-    origin: Origin,
+    metadata: Metadata,
+    // `None` once it was given back.
+    origin: Option<Origin>,
 }
 
 /// Whom a reservation is for, and in which direction.
@@ -105,12 +104,33 @@ pub enum ConnectError {
 
 impl Reservation {
     #[inline]
-    pub(super) fn new(peer: Key, is_dialer: bool, origin: Origin) -> Reservation {
+    pub(super) fn new(metadata: Metadata, origin: Origin) -> Reservation {
         Reservation {
-            peer,
-            is_dialer,
-            origin,
+            metadata,
+            origin: Some(origin),
         }
+    }
+
+    /// Whom it is for, and in which direction: of a dial, with the address that is to be dialled. Takes no memory.
+    ///
+    /// # Examples
+    ///
+    /// ```
+    /// # use p2p_directory::*; use std::time::Duration;
+    /// # let mut directory = testing::directory();
+    /// let (peer, now) = (testing::key(1), Moment::from_secs(1));
+    /// directory.track(0, &OrderedSet::from_iter_dedup([peer]).into())?;
+    /// directory.update_peers(&[testing::info(1, 1000)])?;
+    /// let reservation = directory.dial(&peer, now, Duration::ZERO)?.expect("its address is known");
+    /// let Metadata::Dialer(key, ingress) = reservation.metadata() else { panic!() };
+    /// assert_eq!((key, ingress), (&peer, &testing::info(1, 1000).ingress));
+    /// # directory.release(reservation).expect("its own");
+    /// # Ok::<(), OutOfMemory>(())
+    /// ```
+    #[must_use]
+    #[inline]
+    pub fn metadata(&self) -> &Metadata {
+        &self.metadata
     }
 
     /// The key of the peer.
@@ -130,41 +150,37 @@ impl Reservation {
     #[must_use]
     #[inline]
     pub fn public_key(&self) -> &Key {
-        &self.peer
-    }
-
-    pub(super) fn is_dialer(&self) -> bool {
-        self.is_dialer
+        self.metadata.public_key()
     }
 
     #[inline]
     pub(super) fn is_of(&self, directory: Origin) -> bool {
-        self.origin.id() == directory.id()
+        self.origin
+            .is_some_and(|origin| origin.id() == directory.id())
     }
 
     /// Whose it is, without giving it back.
     #[inline]
-    pub(super) fn into_peer(self) -> Key {
-        let peer = self.peer;
-        // It holds nothing but what is copied.
-        mem::forget(self);
-        peer
+    pub(super) fn into_peer(mut self) -> Key {
+        self.origin = None;
+        *self.public_key()
     }
 }
 
 impl Drop for Reservation {
+    #[inline]
     fn drop(&mut self) {
-        self.origin.leave(self.peer);
+        if let Some(origin) = self.origin {
+            origin.leave(*self.public_key());
+        }
     }
 }
 
 impl fmt::Debug for Reservation {
     fn fmt(&self, f: &mut fmt::Formatter<'_>) -> fmt::Result {
         f.debug_struct("Reservation")
-            .field("peer", &self.peer)
-            .field("is_dialer", &self.is_dialer)
-            .field("directory", &self.origin.id())
-            .finish()
+            .field("metadata", &self.metadata)
+            .finish_non_exhaustive()
     }
 }
 
@@ -183,6 +199,11 @@ impl Metadata {
         match self {
             Metadata::Dialer(key, _) | Metadata::Listener(key) => key,
         }
+    }
+
+    #[inline]
+    pub(super) fn is_dialer(&self) -> bool {
+        matches!(self, Metadata::Dialer(..))
     }
 }
 

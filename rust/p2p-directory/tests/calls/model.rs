@@ -3,8 +3,9 @@
 use super::call::{Call, OWN};
 use p2p_directory::testing::{NAMESPACE, key, verify};
 use p2p_directory::{
-    BitVec, CodecError, ConnectError, Error, Info, Ingress, Key, Moment, NotReservedError,
-    OrderedSet, OutOfMemory, Payload, Received, Setup, Status, TrackedPeers,
+    BitVec, CodecError, ConnectError, EncodedData, Error, Info, Ingress, Key, Metadata, Moment,
+    NotReservedError, OrderedSet, OutOfMemory, Payload, Received, Setup, Status, TrackedPeers,
+    ValidateError,
 };
 use std::collections::{BTreeMap, BTreeSet};
 use std::fmt::Debug;
@@ -35,9 +36,26 @@ pub struct Model {
     blocks: BTreeMap<Key, Moment>,
 }
 
+/// To how many infos a reply is cut, by which draw.
+pub const CUTS: [(usize, u64); 6] = [(0, 1), (1, 0), (1, 1), (1, u64::MAX), (2, 2), (9, 1)];
+
 /// An answer as it is compared.
 pub fn shown(answer: impl Debug) -> String {
     format!("{answer:?}")
+}
+
+// The frame with so many of the infos from a place on, around the end, or with all.
+fn cut(infos: Vec<Info>, count: usize, draw: u64) -> Vec<u8> {
+    let length = infos.len();
+    let chosen = match count < length {
+        true => (0..count)
+            .map(|step| {
+                infos[((u128::from(draw) + step as u128) % length as u128) as usize].clone()
+            })
+            .collect(),
+        false => infos,
+    };
+    Payload::Peers(chosen).encode()
 }
 
 fn ordered(keys: impl IntoIterator<Item = Key>) -> OrderedSet {
@@ -73,8 +91,20 @@ impl Model {
             }
             Call::Block(peer, now) => shown(self.block(peer, *now)),
             Call::UnblockExpired(now) => shown(self.unblock_expired(*now)),
-            Call::ForgetCooled(now) => shown(self.forget_cooled(*now)),
-            Call::Receive(payload, now) => shown(self.receive(payload, *now)),
+            Call::ForgetCooled(now) => shown((
+                self.next_cooled(),
+                self.forget_cooled(*now),
+                self.next_cooled(),
+            )),
+            Call::Receive(payload, now) => {
+                let judged = match payload {
+                    Payload::Greeting(info) => self.judged(info, *now),
+                    Payload::Peers(infos) => self.all_judged(infos, *now),
+                    Payload::Data(_) | Payload::BitVec(_) => Ok(()),
+                };
+                let judged = judged.map_err(ValidateError::Invalid);
+                shown((judged, self.receive(payload, *now)))
+            }
             question => self.answer_question(question),
         }
     }
@@ -95,7 +125,11 @@ impl Model {
             Call::All => shown(self.all()),
             Call::Status(peer) => shown(self.is_present(peer).then(|| self.status(peer))),
             Call::Info(peer) => shown(self.sharable(peer)),
-            Call::Infos(bit_vec, now) => shown(self.infos(bit_vec, *now)),
+            Call::Infos(bit_vec, now) => {
+                let infos = self.infos(bit_vec, *now);
+                let cuts = CUTS.map(|(count, draw)| Some(cut(infos.clone()?, count, draw)));
+                shown((infos, cuts))
+            }
             Call::Bits(place) => shown(self.bits(*place)),
             Call::Ask(place) => shown(self.bits(*place).map(|bits| Payload::BitVec(bits).encode())),
             Call::Eligible(peer, now) => shown(self.is_eligible(peer, *now)),
@@ -105,10 +139,8 @@ impl Model {
             Call::Dialable(now) => shown(self.dialable(*now)),
             Call::Tracked => {
                 let all = (0..=u16::from(u8::MAX)).map(key);
-                shown(
-                    all.filter(|peer| *peer != key(OWN) && self.is_present(peer))
-                        .count(),
-                )
+                let others = all.filter(|peer| *peer != key(OWN) && self.is_present(peer));
+                shown((others.count(), self.retained().len()))
             }
             change => unreachable!("{change:?} changes something"),
         }
@@ -209,23 +241,33 @@ impl Model {
         Some(ordered(torn))
     }
 
-    fn grant(&mut self, peer: &Key, now: Moment, draw: Duration, is_dial: bool) -> bool {
+    fn grant(
+        &mut self,
+        peer: &Key,
+        now: Moment,
+        draw: Duration,
+        is_dial: bool,
+    ) -> Option<Metadata> {
         let cooling = self
             .cooldowns
             .get(peer)
             .is_some_and(|cooldown| now < cooldown.reservable);
         let is_free = self.is_eligible(peer, now) && self.status(peer) == Status::Inert;
         if cooling || !is_free || is_dial && !self.is_target(peer) {
-            return false;
+            return None;
         }
         let interval = self.setup.cfg.peer_connection_cooldown;
         let reservable = now.saturating_add(interval);
         let dial = reservable.saturating_add(draw.min(interval / 2 * 2));
         let dialled = self.address(peer).filter(|_| is_dial).cloned();
         self.cooldowns.insert(*peer, Cooldown { reservable, dial });
+        let metadata = match dialled.clone() {
+            Some(ingress) => Metadata::Dialer(*peer, ingress),
+            None => Metadata::Listener(*peer),
+        };
         let is_active = false;
         self.held.insert(*peer, Held { dialled, is_active });
-        true
+        Some(metadata)
     }
 
     fn connect(&mut self, peer: &Key, is_dialer: bool) -> bool {
@@ -284,6 +326,10 @@ impl Model {
         let before = self.blocks.len();
         self.blocks.retain(|_, end| *end > now);
         self.blocks.len() < before
+    }
+
+    fn next_cooled(&self) -> Option<Moment> {
+        self.cooldowns.values().map(|cooldown| cooldown.dial).min()
     }
 
     fn forget_cooled(&mut self, now: Moment) -> usize {
@@ -378,7 +424,14 @@ impl Model {
             return Received::Codec(CodecError::InvalidLength(length as u64));
         }
         match payload {
-            Payload::Data(data) => Received::Data(data.clone()),
+            Payload::Data(data) => {
+                let header = EncodedData::new(data.channel, data.message.len() as u32);
+                let begin = header.as_bytes().len();
+                Received::Data {
+                    channel: data.channel,
+                    message: begin..begin + data.message.len(),
+                }
+            }
             Payload::BitVec(bits) => match self.infos(bits, now) {
                 Some(infos) => Received::Reply(Payload::Peers(infos).encode()),
                 None => Received::Malformed,
@@ -387,7 +440,7 @@ impl Model {
                 Err(error) => Received::Invalid(error),
                 Ok(()) => {
                     self.update(std::slice::from_ref(info));
-                    Received::Greeted
+                    Received::Greeted(info.public_key)
                 }
             },
             Payload::Peers(infos) => match self.all_judged(infos, now) {

@@ -1,13 +1,18 @@
 //! A node of this crate, called as the model is.
 
 use super::call::Call;
-use super::model::shown;
+use super::model::{CUTS, shown};
 use p2p_directory::testing::verify;
-use p2p_directory::{Key, Node, OrderedSet, Reservation, Setup, TrackedPeers};
+use p2p_directory::{
+    Info, InfoVerifier, Key, Metadata, Moment, Node, OrderedSet, Payload, Reservation, Setup,
+    TrackedPeers, ValidateError,
+};
 use std::collections::BTreeMap;
 
 pub struct Real {
     node: Node,
+    // Of the same key, limits and namespace.
+    verifier: InfoVerifier,
     held: BTreeMap<Key, Reservation>,
 }
 
@@ -15,7 +20,10 @@ const MEMORY: &str = "there is memory";
 
 impl Real {
     pub fn new(setup: Setup) -> Real {
+        let (count, bound) = (setup.peer_gossip_max_count, setup.synchrony_bound);
+        let verifier = Info::verifier(setup.myself.public_key, count, bound, &setup.namespace);
         Real {
+            verifier: verifier.expect("a verifier"),
             node: Node::new(&setup).expect("a node"),
             held: BTreeMap::new(),
         }
@@ -50,19 +58,34 @@ impl Real {
             Call::Update(infos) => shown(directory.update_peers(infos)),
             Call::Block(peer, now) => shown(directory.block(peer, *now).expect(MEMORY)),
             Call::UnblockExpired(now) => shown(directory.unblock_expired(*now)),
-            Call::ForgetCooled(now) => shown(directory.forget_cooled(*now)),
+            Call::ForgetCooled(now) => shown((
+                directory.next_cooled(),
+                directory.forget_cooled(*now),
+                directory.next_cooled(),
+            )),
             Call::Receive(payload, now) => {
-                shown(self.node.receive(&payload.encode(), *now, verify))
+                let judged = self.judged(payload, *now);
+                let received = self.node.receive(&payload.encode(), *now, verify);
+                shown((judged, received))
             }
             question => self.answer_question(question),
         }
     }
 
-    fn keep(&mut self, granted: Option<Reservation>) -> bool {
-        let is_granted = granted.is_some();
-        let kept = granted.map(|reservation| (*reservation.public_key(), reservation));
-        self.held.extend(kept);
-        is_granted
+    fn keep(&mut self, granted: Option<Reservation>) -> Option<Metadata> {
+        let reservation = granted?;
+        let metadata = reservation.metadata().clone();
+        self.held.insert(*reservation.public_key(), reservation);
+        Some(metadata)
+    }
+
+    // What the verifier says of the infos of a frame.
+    fn judged(&self, payload: &Payload, now: Moment) -> Result<(), ValidateError> {
+        match payload {
+            Payload::Greeting(info) => self.verifier.validate_info(now, info, verify),
+            Payload::Peers(infos) => self.verifier.validate(now, infos, verify),
+            Payload::Data(_) | Payload::BitVec(_) => Ok(()),
+        }
     }
 
     fn answer_question(&self, question: &Call) -> String {
@@ -79,7 +102,11 @@ impl Real {
             Call::All => shown(directory.all().expect(MEMORY)),
             Call::Status(peer) => shown(directory.status(peer)),
             Call::Info(peer) => shown(directory.info(peer).expect(MEMORY)),
-            Call::Infos(bit_vec, now) => shown(directory.infos(bit_vec, *now).expect(MEMORY)),
+            Call::Infos(bit_vec, now) => {
+                let infos = directory.infos(bit_vec, *now).expect(MEMORY);
+                let cut = |(count, draw)| self.node.reply_at_most(bit_vec, *now, count, draw);
+                shown((infos, CUTS.map(|cuts| cut(cuts).expect(MEMORY))))
+            }
             Call::Bits(place) => shown(directory.get_random_bit_vec(*place).expect(MEMORY)),
             Call::Ask(place) => shown(self.node.ask(*place).expect(MEMORY)),
             Call::Eligible(peer, now) => shown(directory.eligible(peer, *now)),
@@ -88,7 +115,7 @@ impl Real {
                 let told = directory.dialable(*now).expect(MEMORY);
                 shown((told.peers, told.next_query_at))
             }
-            Call::Tracked => shown(directory.tracked()),
+            Call::Tracked => shown((directory.tracked(), directory.retained())),
             change => unreachable!("{change:?} changes something"),
         }
     }

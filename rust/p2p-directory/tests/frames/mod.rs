@@ -2,8 +2,8 @@
 
 use p2p_directory::testing::{info, key, setup};
 use p2p_directory::{
-    BitVec, Error, Info, Key, Moment, Node, OrderedSet, Payload, PayloadConfig, Received,
-    Reservation, Setup, Signature, TrackedPeers,
+    BitVec, EncodedData, Error, Info, Key, Moment, Node, OrderedSet, Payload, PayloadConfig,
+    Received, Reservation, Setup, Signature, TrackedPeers,
 };
 use std::cell::RefCell;
 use std::collections::BTreeMap;
@@ -136,7 +136,7 @@ fn compare_changes(frame: &[u8], payload: &Payload) {
     let received = node.receive(frame, NOW, |_, _, _, signature| is_right(signature));
     assert_eq!(received, answer(payload, is_right));
     let mut newest: BTreeMap<Key, &Info> = BTreeMap::new();
-    if matches!(received, Received::Greeted | Received::Applied(_)) {
+    if matches!(received, Received::Greeted(_) | Received::Applied(_)) {
         for info in infos {
             let known = newest.entry(info.public_key).or_insert(info);
             if info.timestamp > known.timestamp {
@@ -222,8 +222,15 @@ fn answer(payload: &Payload, is_right: impl Fn(&Signature) -> bool) -> Received 
         return Received::Invalid(error);
     }
     match payload {
-        Payload::Data(data) => Received::Data(data.clone()),
-        Payload::Greeting(_) => Received::Greeted,
+        Payload::Data(data) => {
+            let header = EncodedData::new(data.channel, data.message.len() as u32);
+            let begin = header.as_bytes().len();
+            Received::Data {
+                channel: data.channel,
+                message: begin..begin + data.message.len(),
+            }
+        }
+        Payload::Greeting(info) => Received::Greeted(info.public_key),
         Payload::Peers(infos) => Received::Applied(infos.len()),
         Payload::BitVec(bits) if bits.index != INDEX => {
             Received::Reply(Payload::Peers(Vec::new()).encode())

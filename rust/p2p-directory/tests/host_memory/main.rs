@@ -16,10 +16,10 @@ use crate::questions::told;
 use crate::state::{
     State, dialling, empty, introduced, known, named_info, new, peers, retaining, seconds,
 };
-use p2p_directory::testing::{config, info, key, setup};
+use p2p_directory::testing::{NAMESPACE, config, info, key, setup, verify};
 use p2p_directory::{
-    BitVec, Data, Directory, Info, Ingress, Key, Moment, OutOfMemory, Payload, Received,
-    SetupError, TrackedPeers,
+    BitVec, Data, Directory, Info, Ingress, Key, Metadata, Moment, OutOfMemory, Payload, Received,
+    SetupError, TrackedPeers, ValidateError,
 };
 use std::fmt::Debug;
 use std::sync::{Mutex, MutexGuard, PoisonError};
@@ -134,7 +134,18 @@ fn sets_are_taken_or_refused() {
 fn grants_are_made_or_refused() {
     let _alone = alone();
     refuse_each(1, new, 1, |state, number| state.listen(number, NOW));
-    refuse_each(1, introduced, 1, |state, number| state.dial(number, NOW));
+    // Room for a dropped reservation, and for a name.
+    refuse_each(2, introduced, 1, |state, number| state.dial(number, NOW));
+    // The room for a name that the first dial didn't need is there for the second, which needs it.
+    refuse_each(0, dialling, 2, |state, number| {
+        let is_granted = state.dial(number, NOW)?;
+        let held = state.held().last().expect("it was granted");
+        assert_eq!(
+            held.metadata(),
+            &Metadata::Dialer(key(2), named_info(2, 0, "a.b").ingress)
+        );
+        Ok(is_granted)
+    });
     // There is room for four, of which all are held.
     let four = || {
         let numbers = [10, 11, 12, 13];
@@ -204,9 +215,13 @@ fn questions_are_answered_or_refused() {
         state.directory().get_random_bit_vec(0)
     });
     refuse_each(1, known, (), |state, ()| state.node().ask(0));
-    refuse_each(1, dialling, (), |state, ()| {
-        let held = &state.held()[1];
-        state.directory().metadata(held)
+    let everybody = || BitVec {
+        index: 0,
+        bits: vec![false; 4],
+    };
+    // The list, a name, and the frame: its prefix, and the infos behind it.
+    refuse_each(4, known, everybody(), |state, bits: BitVec| {
+        state.node().reply_at_most(&bits, NOW, 1, 0)
     });
     let nobody = BitVec {
         index: 0,
@@ -216,6 +231,31 @@ fn questions_are_answered_or_refused() {
     refuse_each(2, known, nobody, |state, bits: BitVec| {
         state.directory().infos(&bits, NOW)
     });
+}
+
+#[test]
+fn infos_are_judged_or_memory_is_refused() {
+    let _alone = alone();
+    let infos = [info(1, 0), named_info(2, 0, "a.b")];
+    let made = || Info::verifier(key(9), 2, Duration::ZERO, NAMESPACE);
+    // Whether it was refused, and then answers once there is memory.
+    let is_refused = |plan| {
+        let (verifier, refused) = while_refused(plan, made);
+        if refused > 0 {
+            assert_eq!(verifier.err(), Some(SetupError::OutOfMemory), "{plan:?}");
+            return true;
+        }
+        let verifier = verifier.expect("memory");
+        let judged = || verifier.validate(NOW, &infos, verify);
+        let (answer, refused) = while_refused(Refused::Only(1), judged);
+        assert_eq!((answer, refused), (Err(ValidateError::OutOfMemory), 1));
+        assert_eq!(judged(), Ok(()));
+        false
+    };
+    let count = (1..)
+        .take_while(|nth| is_refused(Refused::Only(*nth)))
+        .count();
+    assert!(count > 0);
 }
 
 #[test]
@@ -285,7 +325,7 @@ fn buffers_are_given_back_after_a_large_frame() {
     let before = held();
     for _ in 0..2 {
         let received = state.receive(&frame, seconds(1)).unwrap();
-        let Received::Data(Data { message, .. }) = received else {
+        let Received::Data { message, .. } = received else {
             panic!("{received:?}");
         };
         assert_eq!(message.len(), LARGE);
@@ -293,7 +333,8 @@ fn buffers_are_given_back_after_a_large_frame() {
     let kept = held() - before;
     assert!(kept <= KEPT, "{kept} bytes");
     let greeting = Payload::Greeting(info(1, 1000)).encode();
-    assert_eq!(state.receive(&greeting, seconds(1)), Ok(Received::Greeted));
+    let greeted = state.receive(&greeting, seconds(1));
+    assert_eq!(greeted, Ok(Received::Greeted(key(1))));
 }
 
 #[test]

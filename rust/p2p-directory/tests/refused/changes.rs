@@ -181,6 +181,15 @@ pub const CHANGES: &[Case] = &[
         bytes: 2784,
     },
     Case {
+        name: "dial a second, at a name",
+        prepared: dialling,
+        call: |state| said(state.dial(2, seconds(100))),
+        answer: || text(true),
+        requests: 1,
+        // The name.
+        bytes: 16,
+    },
+    Case {
         name: "dial where there is room",
         prepared: known,
         call: |state| said(state.dial(5, seconds(100))),
@@ -285,40 +294,5 @@ pub const CHANGES: &[Case] = &[
         requests: 2,
         // The copy of the list, with what shares it.
         bytes: 48,
-    },
-    Case {
-        name: "metadata of one that is dialled at a socket",
-        prepared: dialling,
-        call: |state| said(state.directory().metadata(&state.held()[0])),
-        answer: || {
-            let address = SocketAddr::from(([1, 2, 3, 4], 8001));
-            text(Some(p2p_directory::Metadata::Dialer(
-                key(1),
-                Ingress::from(address),
-            )))
-        },
-        requests: 2,
-        // The spelling of the ingress, with what shares it.
-        bytes: 48,
-    },
-    Case {
-        name: "metadata of one that is dialled at a name",
-        prepared: dialling,
-        call: |state| said(state.directory().metadata(&state.held()[1])),
-        answer: || {
-            let ingress = named_info(2, 0, "a.b").ingress;
-            text(Some(p2p_directory::Metadata::Dialer(key(2), ingress)))
-        },
-        requests: 2,
-        // The spelling of the ingress, with what shares it.
-        bytes: 48,
-    },
-    Case {
-        name: "metadata of one that came",
-        prepared: known,
-        call: |state| said(state.directory().metadata(&state.held()[0])),
-        answer: || text(Some(p2p_directory::Metadata::Listener(key(1)))),
-        requests: 0,
-        bytes: 0,
     },
 ];

@@ -4,9 +4,7 @@
 use crate::Case;
 use crate::state::{State, empty, known, named_info, new, said, seconds, text};
 use p2p_directory::testing::{NAMESPACE, info, key, setup};
-use p2p_directory::{
-    CodecError, Data, Error, Info, OutOfMemory, Payload, Received, Signature, What,
-};
+use p2p_directory::{CodecError, Error, Info, OutOfMemory, Payload, Received, Signature, What};
 
 fn greeting(state: &mut State, info: Info, now: u64) -> Result<String, OutOfMemory> {
     said(state.receives(Payload::Greeting(info), now))
@@ -48,7 +46,7 @@ pub const FRAMES: &[Case] = &[
         name: "a greeting from a name",
         prepared: new,
         call: |state| greeting(state, named_info(2, 1000, "a.b"), 100),
-        answer: || text(Received::Greeted),
+        answer: || text(Received::Greeted(key(2))),
         requests: 8,
         // A list of one info (144), and the name; before that the copy of the frame.
         bytes: 160,
@@ -57,7 +55,7 @@ pub const FRAMES: &[Case] = &[
         name: "a greeting from a socket",
         prepared: new,
         call: |state| greeting(state, info(1, 1000), 100),
-        answer: || text(Received::Greeted),
+        answer: || text(Received::Greeted(key(1))),
         requests: 6,
         // A list of one info (144), and the verdict; before that the copy of the frame.
         bytes: 160,
@@ -202,10 +200,10 @@ pub const FRAMES: &[Case] = &[
         prepared: known,
         call: |state| frame(state, b"\0\x01\x05hello"),
         answer: || {
-            text(Received::Data(Data {
+            text(Received::Data {
                 channel: 1,
-                message: b"hello".to_vec(),
-            }))
+                message: 3..8,
+            })
         },
         requests: 6,
         // The copy of the frame and the spelling of the answer, each with what shares it.

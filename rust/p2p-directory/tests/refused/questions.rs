@@ -25,7 +25,7 @@ pub fn told(state: &State) -> Vec<String> {
     tell_moments(&mut told, directory);
     tell_sets(&mut told, state);
     for reservation in state.held() {
-        told.push(text(directory.metadata(reservation).unwrap().unwrap()));
+        told.push(text(reservation.metadata()));
     }
     told
 }

@@ -187,8 +187,9 @@ impl State {
     }
 
     pub fn greeted(mut self, info: Info) -> State {
+        let greeter = info.public_key;
         let received = self.receives(Payload::Greeting(info), 100);
-        assert_eq!(received, Ok(Received::Greeted));
+        assert_eq!(received, Ok(Received::Greeted(greeter)));
         self
     }
 
@@ -251,12 +252,10 @@ pub fn introduced() -> State {
         .greeted(named_info(2, 1000, "a.b"))
 }
 
-/// Both are to be dialled, the first at a socket and the second at a name.
+/// The first is dialled, at a socket, and the second not yet.
 pub fn dialling() -> State {
     let mut state = introduced();
-    for number in [1, 2] {
-        assert_eq!(state.dial(number, seconds(100)), Ok(true));
-    }
+    assert_eq!(state.dial(1, seconds(100)), Ok(true));
     state
 }
 

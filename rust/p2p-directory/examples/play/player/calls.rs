@@ -8,7 +8,7 @@ use super::printed::{
 use super::usage::nearest_command;
 use super::words::Words;
 use p2p_directory::testing::verify;
-use p2p_directory::{Moment, OutOfMemory, Payload, PayloadConfig, Received, Reservation};
+use p2p_directory::{Data, Moment, OutOfMemory, Payload, PayloadConfig, Received, Reservation};
 
 /// What a call is answered.
 pub type Reply = Result<String, OutOfMemory>;
@@ -168,15 +168,20 @@ fn frames(name: &str, words: &mut Words<'_>) -> Result<Call, Fault> {
         }
         _ => {
             let (frame, now) = (words.bytes()?, words.moment()?);
-            Box::new(move |named| Ok(received(&named.node.receive(&frame, now, verify))))
+            Box::new(move |named| Ok(received(&frame, named.node.receive(&frame, now, verify))))
         }
     })
 }
 
-fn received(received: &Received) -> String {
+// What was answered to this frame.
+fn received(frame: &[u8], received: Received) -> String {
     match received {
-        Received::Data(message) => format!("Data({})", data(message)),
-        Received::Reply(frame) => format!("Reply({})", hexadecimal(frame)),
+        Received::Data { channel, message } => {
+            let message = frame[message].to_vec();
+            format!("Data({})", data(&Data { channel, message }))
+        }
+        Received::Greeted(_) => "Greeted".to_owned(),
+        Received::Reply(frame) => format!("Reply({})", hexadecimal(&frame)),
         other => format!("{other:?}"),
     }
 }
@@ -225,7 +230,7 @@ pub fn exchanged(
     let reply = match replier.node.receive(&frame, replier_now, verify) {
         Received::Reply(reply) => reply,
         Received::Codec(fault) => return Ok(format!("AskRefused({fault:?})")),
-        other => return Ok(received(&other)),
+        other => return Ok(received(&frame, other)),
     };
     Ok(match asker.node.receive(&reply, asker_now, verify) {
         Received::Applied(_) => match Payload::decode(&reply, &ALL) {
@@ -233,6 +238,6 @@ pub fn exchanged(
             other => format!("{other:?}"),
         },
         Received::Codec(fault) => format!("ReplyRefused({fault:?})"),
-        other => received(&other),
+        other => received(&reply, other),
     })
 }

@@ -4,9 +4,7 @@ use super::Event;
 use super::shared::{Listed, Outgoing, Shared, random};
 use super::wire::{DATA, GREETING, read_frame, write_frame};
 use p2p_directory::testing::verify;
-use p2p_directory::{
-    EncodedData, Error, Key, OutOfMemory, Payload, Question, Questions, Received, Reservation,
-};
+use p2p_directory::{Data, EncodedData, Error, Key, OutOfMemory, Received, Reservation};
 use std::convert::Infallible;
 use std::fmt;
 use std::io::{self, BufReader, ErrorKind};
@@ -152,7 +150,7 @@ fn write(shared: &Shared, stream: &TcpStream, outgoing: &Receiver<Outgoing>) -> 
 fn ask(shared: &Shared, stream: &TcpStream) -> io::Result<()> {
     let question = {
         let state = shared.lock();
-        let place = random() as usize % state.retained.max(1);
+        let place = random() as usize % state.node.directory().retained().max(1);
         state.node.ask(place)
     };
     match question {
@@ -196,34 +194,44 @@ fn read(
     stream.set_read_timeout(Some(shared.settings.silence))?;
     let mut reader = BufReader::new(stream);
     let greeting = read_frame(&mut reader, shared.limits)?;
-    match Payload::decode(&greeting, &shared.settings.payload) {
-        Ok(Payload::Greeting(info)) if info.public_key == peer => {}
-        _ => return Err(End::Broken("the first frame doesn't greet".to_owned())),
+    let greets = greeting.first() == Some(&GREETING);
+    if !greets || take(shared, peer, outbox, &greeting)? != Some(peer) {
+        return Err(End::Broken("the first frame doesn't greet".to_owned()));
     }
-    take(shared, peer, outbox, &greeting)?;
     let mut allowance = Allowance::new();
     loop {
         let frame = read_frame(&mut reader, shared.limits)?;
         match frame.first() {
             Some(&GREETING) => return Err(End::Broken("a second greeting".to_owned())),
-            Some(&DATA) => take(shared, peer, outbox, &frame)?,
-            _ if allowance.admits(shared.settings.gossip) => take(shared, peer, outbox, &frame)?,
-            _ => shared.tell(Event::Ignored(peer)),
+            Some(&DATA) => {}
+            _ if allowance.admits(shared.settings.gossip) => {}
+            _ => {
+                shared.tell(Event::Ignored(peer));
+                continue;
+            }
         }
+        take(shared, peer, outbox, &frame)?;
     }
 }
 
-/// Hands a frame to the node, and does what its answer says.
+/// Hands a frame to the node, and does what its answer says. Returns who greeted, if the frame greets.
 fn take(
     shared: &Shared,
     peer: Key,
     outbox: &SyncSender<Outgoing>,
     frame: &[u8],
-) -> Result<(), End> {
+) -> Result<Option<Key>, End> {
     match receive(shared, frame)? {
-        Received::Data(data) => shared.tell(Event::Message(peer, data)),
+        Received::Data { channel, message } => {
+            let message = frame[message].to_vec();
+            shared.tell(Event::Message(peer, Data { channel, message }));
+        }
         // An address may have come that can be dialled now.
-        Received::Greeted | Received::Applied(_) => shared.wake(),
+        Received::Greeted(greeter) => {
+            shared.wake();
+            return Ok(Some(greeter));
+        }
+        Received::Applied(_) => shared.wake(),
         // A peer that doesn't read its replies misses them: it asks again.
         Received::Reply(reply) => {
             let _ = outbox.try_send(Outgoing::Frame(reply));
@@ -233,7 +241,7 @@ fn take(
         Received::Invalid(Error::SynchronyBound) => return Err(End::Left("an info of the future")),
         refused => return Err(End::Broken(format!("{refused:?}"))),
     }
-    Ok(())
+    Ok(None)
 }
 
 /// What the node answers to a frame. Signatures are verified while it isn't locked.
@@ -243,28 +251,7 @@ fn receive(shared: &Shared, frame: &[u8]) -> Result<Received, End> {
         let now = state.now();
         state.node.check(frame, now)?
     };
-    let verdicts = verdicts(&questions);
-    let judged = questions.judged(verdicts);
-    let judged = judged.expect("there is a verdict for each question, or the last is false");
+    let judged = questions.judged_by(verify);
     let received = shared.lock().node.receive_judged(judged);
     Ok(received.expect("this node checked the frame"))
-}
-
-/// Whether each signature is right, up to the first that isn't.
-fn verdicts(questions: &Questions<'_>) -> Vec<bool> {
-    let mut verdicts = Vec::new();
-    for question in questions {
-        let Question {
-            public_key,
-            message,
-            signature,
-            ..
-        } = question;
-        let is_right = verify(&public_key, questions.namespace(), message, &signature);
-        verdicts.push(is_right);
-        if !is_right {
-            break;
-        }
-    }
-    verdicts
 }

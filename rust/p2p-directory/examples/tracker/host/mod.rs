@@ -188,8 +188,6 @@ impl Host {
         let Some(to_disconnect) = state.node.directory_mut().track(index, peers)? else {
             return Ok(false);
         };
-        let max_sets = self.shared.settings.cfg.max_sets.get();
-        state.retained = max_sets.min(state.retained + 1);
         state.disconnect(&to_disconnect);
         drop(state);
         self.shared.wake();

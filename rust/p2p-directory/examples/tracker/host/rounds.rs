@@ -70,9 +70,8 @@ fn grant(shared: &Shared) -> Result<(Vec<(Reservation, SocketAddr)>, Duration), 
         let Some(reservation) = directory.dial(peer, now, draw(cooldown))? else {
             continue;
         };
-        // A `?` drops the reservation, and that gives it back. Names never come: `allow_dns` is off.
-        let metadata = directory.metadata(&reservation)?;
-        if let Some(Metadata::Dialer(_, Ingress::Socket(address))) = metadata {
+        // One that is dropped gives itself back. Names never come: `allow_dns` is off.
+        if let Metadata::Dialer(_, Ingress::Socket(address)) = *reservation.metadata() {
             granted.push((reservation, address));
         }
     }

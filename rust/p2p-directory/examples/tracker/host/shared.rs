@@ -49,8 +49,6 @@ pub struct Shared {
 pub struct State {
     /// The node.
     pub node: Node,
-    /// How many sets the node retains.
-    pub retained: usize,
     latest: Moment,
     open: HashMap<u64, Open>,
     // Each thread holds a clone: once this one is gone, the last thread's end is that of the channel.
@@ -69,7 +67,6 @@ impl State {
     pub fn new(node: Node, alive: Sender<()>) -> State {
         State {
             node,
-            retained: 0,
             latest: Moment::EPOCH,
             open: HashMap::new(),
             alive: Some(alive),

@@ -1,0 +1,222 @@
+//! Infos judged without a directory.
+
+use crate::directory::Config;
+use crate::error::{Error, OutOfMemory, SetupError};
+use crate::info::Info;
+use crate::ingress::Ingress;
+use crate::key::{Key, SIGNATURE_SIZE, Signature};
+use crate::memory::copied;
+use crate::moment::Moment;
+use crate::node::{Node, Received, Setup};
+use crate::payload::{PayloadConfig, greeting_of, reply_of};
+use std::error;
+use std::fmt;
+use std::net::{Ipv4Addr, SocketAddr};
+use std::num::NonZeroUsize;
+use std::sync::{Mutex, MutexGuard, PoisonError};
+use std::time::Duration;
+
+/// Judges infos as a [`Node`] judges those of a frame, for whoever has them from elsewhere and hands them to
+/// [`Directory::update_peers`](crate::Directory::update_peers). [`Info::verifier`] makes it.
+///
+/// The proved library judges. It can be shared between threads, and isn't locked while signatures are verified.
+///
+/// # Examples
+///
+/// ```
+/// # use p2p_directory::*; use std::time::Duration;
+/// # let mut directory = testing::directory();
+/// let bound = Duration::from_secs(30);
+/// let verifier = Info::verifier(testing::key(9), 256, bound, testing::NAMESPACE)?;
+/// let infos = [testing::info(1, 1000), testing::info(2, 2000)];
+/// verifier.validate(Moment::from_secs(2), &infos, testing::verify)?;
+/// directory.update_peers(&infos)?;
+/// # Ok::<(), Box<dyn std::error::Error>>(())
+/// ```
+#[derive(Debug)]
+pub struct InfoVerifier {
+    // It has no sets, and so no record in which an info could be kept.
+    node: Mutex<Node>,
+}
+
+/// Why infos are not valid, or could not be judged.
+///
+/// # Examples
+///
+/// ```
+/// # use p2p_directory::{Error, ValidateError};
+/// assert_eq!(ValidateError::Invalid(Error::ReceivedSelf).to_string(), "received self");
+/// ```
+#[derive(Clone, Copy, Debug, PartialEq, Eq, Hash)]
+#[non_exhaustive]
+pub enum ValidateError {
+    /// Memory was refused.
+    OutOfMemory,
+    /// An info is refused, or their number.
+    Invalid(Error),
+}
+
+impl Info {
+    /// What judges infos for the peer with the key `me`: at most so many at a time, with timestamps at most
+    /// `synchrony_bound` ahead, signed in this namespace.
+    ///
+    /// # Errors
+    ///
+    /// Where memory is refused.
+    ///
+    /// # Examples
+    ///
+    /// ```
+    /// # use p2p_directory::*; use std::time::Duration;
+    /// let me = testing::key(9);
+    /// let verifier = Info::verifier(me, 1, Duration::ZERO, testing::NAMESPACE)?;
+    /// let own = testing::info(9, 0);
+    /// let refused = verifier.validate_info(Moment::EPOCH, &own, testing::verify);
+    /// assert_eq!(refused, Err(ValidateError::Invalid(Error::ReceivedSelf)));
+    /// # Ok::<(), SetupError>(())
+    /// ```
+    pub fn verifier(
+        me: Key,
+        peer_gossip_max_count: usize,
+        synchrony_bound: Duration,
+        namespace: &[u8],
+    ) -> Result<InfoVerifier, SetupError> {
+        // Nothing is dialled and nobody is told of it: it is a node for its key and its limits alone.
+        let setup = Setup {
+            bootstrappers: Vec::new(),
+            myself: Info {
+                ingress: Ingress::Socket(SocketAddr::from((Ipv4Addr::UNSPECIFIED, 0))),
+                timestamp: 0,
+                public_key: me,
+                signature: Signature([0; SIGNATURE_SIZE]),
+            },
+            cfg: Config {
+                allow_private_ips: false,
+                allow_dns: false,
+                max_sets: NonZeroUsize::MIN,
+                dial_fail_limit: 0,
+                peer_connection_cooldown: Duration::ZERO,
+                block_duration: Duration::ZERO,
+            },
+            payload: PayloadConfig {
+                max_bit_vec: 0,
+                max_peers: usize::MAX,
+                max_data_length: 0,
+            },
+            peer_gossip_max_count,
+            synchrony_bound,
+            namespace: copied(namespace)?,
+        };
+        Ok(InfoVerifier {
+            node: Mutex::new(Node::new(&setup)?),
+        })
+    }
+}
+
+impl InfoVerifier {
+    /// That a list of infos is valid at the time `now`, as that of a frame with [`Payload::Peers`](crate::Payload::Peers)
+    /// is. The closure says whether a signature is right, as for [`Node::receive`]: it is asked once for each info whose
+    /// signature decides, in order, up to the first that is refused.
+    ///
+    /// # Errors
+    ///
+    /// [`ValidateError::Invalid`] with [`Error::TooManyPeers`] where there are too many, and else why the first info that
+    /// is refused is; [`ValidateError::OutOfMemory`].
+    ///
+    /// # Panics
+    ///
+    /// Where there are more infos than the greatest `u32`, and where the closure panics.
+    ///
+    /// # Examples
+    ///
+    /// ```
+    /// # use p2p_directory::*; use std::time::Duration;
+    /// # let bound = Duration::from_secs(30);
+    /// let verifier = Info::verifier(testing::key(9), 1, bound, testing::NAMESPACE)?;
+    /// let infos = [testing::info(1, 1000), testing::info(2, 2000)];
+    /// let judged = |infos| verifier.validate(Moment::EPOCH, infos, testing::verify);
+    /// assert_eq!(judged(&infos[..1]), Ok(()));
+    /// assert_eq!(judged(&infos), Err(ValidateError::Invalid(Error::TooManyPeers(2))));
+    /// # Ok::<(), SetupError>(())
+    /// ```
+    pub fn validate(
+        &self,
+        now: Moment,
+        infos: &[Info],
+        verify: impl FnMut(&Key, &[u8], &[u8], &Signature) -> bool,
+    ) -> Result<(), ValidateError> {
+        self.judge(&reply_of(infos)?, now, verify)
+    }
+
+    /// That an info is valid at the time `now`, as that of a greeting is. The closure is asked as for
+    /// [`InfoVerifier::validate`].
+    ///
+    /// # Errors
+    ///
+    /// [`ValidateError::Invalid`] with the reason why the info is refused; [`ValidateError::OutOfMemory`].
+    ///
+    /// # Panics
+    ///
+    /// Where the closure panics.
+    ///
+    /// # Examples
+    ///
+    /// ```
+    /// # use p2p_directory::*; use std::time::Duration;
+    /// let bound = Duration::from_secs(30);
+    /// let verifier = Info::verifier(testing::key(9), 1, bound, testing::NAMESPACE)?;
+    /// let judged = |timestamp| {
+    ///     verifier.validate_info(Moment::EPOCH, &testing::info(1, timestamp), testing::verify)
+    /// };
+    /// assert_eq!(judged(30_000), Ok(()));
+    /// assert_eq!(judged(30_001), Err(ValidateError::Invalid(Error::SynchronyBound)));
+    /// # Ok::<(), SetupError>(())
+    /// ```
+    pub fn validate_info(
+        &self,
+        now: Moment,
+        info: &Info,
+        verify: impl FnMut(&Key, &[u8], &[u8], &Signature) -> bool,
+    ) -> Result<(), ValidateError> {
+        self.judge(&greeting_of(info)?, now, verify)
+    }
+
+    fn judge(
+        &self,
+        frame: &[u8],
+        now: Moment,
+        verify: impl FnMut(&Key, &[u8], &[u8], &Signature) -> bool,
+    ) -> Result<(), ValidateError> {
+        let questions = self.node().check(frame, now)?;
+        let judged = questions.judged_by(verify);
+        let received = self.node().receive_judged(judged);
+        match received.expect("the node that checked it") {
+            Received::Applied(_) | Received::Greeted(_) => Ok(()),
+            Received::Invalid(error) => Err(ValidateError::Invalid(error)),
+            Received::Memory => Err(ValidateError::OutOfMemory),
+            other => unreachable!("infos were answered with {other:?}"),
+        }
+    }
+
+    // Nothing is done under the lock that could leave something half done.
+    fn node(&self) -> MutexGuard<'_, Node> {
+        self.node.lock().unwrap_or_else(PoisonError::into_inner)
+    }
+}
+
+impl fmt::Display for ValidateError {
+    fn fmt(&self, f: &mut fmt::Formatter<'_>) -> fmt::Result {
+        match self {
+            ValidateError::OutOfMemory => OutOfMemory.fmt(f),
+            ValidateError::Invalid(error) => error.fmt(f),
+        }
+    }
+}
+
+impl error::Error for ValidateError {}
+
+impl From<OutOfMemory> for ValidateError {
+    fn from(_refused: OutOfMemory) -> ValidateError {
+        ValidateError::OutOfMemory
+    }
+}

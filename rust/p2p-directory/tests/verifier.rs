@@ -1,0 +1,93 @@
+//! Infos that are judged without a directory.
+
+use p2p_directory::testing::{self, NAMESPACE, info, key, verify};
+use p2p_directory::{Error, Info, InfoVerifier, Key, Moment, Signature, ValidateError};
+use std::panic::{AssertUnwindSafe, catch_unwind};
+use std::thread;
+use std::time::Duration;
+
+const BOUND: Duration = Duration::from_secs(30);
+
+// Of key 9, for so many infos at a time.
+fn verifier(count: usize) -> InfoVerifier {
+    Info::verifier(key(9), count, BOUND, NAMESPACE).unwrap()
+}
+
+// An info that is signed in another namespace.
+fn of_another_namespace(number: u16, timestamp: u64) -> Info {
+    let Info { ingress, .. } = info(number, timestamp);
+    let signer = key(number);
+    Info::sign(
+        signer,
+        b"other",
+        ingress,
+        timestamp,
+        |namespace, message| testing::sign(&signer, namespace, message),
+    )
+}
+
+#[test]
+fn lists_are_judged_by_number_key_time_and_signature() {
+    let verifier = verifier(1);
+    let judged = |infos: &[Info]| verifier.validate(Moment::EPOCH, infos, verify);
+    let refused = |error| Err(ValidateError::Invalid(error));
+    let two = [info(1, 0), info(2, 0)];
+    assert_eq!(judged(&two), refused(Error::TooManyPeers(2)));
+    assert_eq!(judged(&[]), Ok(()));
+    assert_eq!(judged(&[info(1, 30_000)]), Ok(()));
+    assert_eq!(judged(&[info(1, 30_001)]), refused(Error::SynchronyBound));
+    let own = of_another_namespace(9, 99_999);
+    assert_eq!(judged(&[own]), refused(Error::ReceivedSelf));
+    let stranger = of_another_namespace(1, 0);
+    assert_eq!(judged(&[stranger]), refused(Error::InvalidSignature));
+}
+
+#[test]
+fn one_info_is_judged_whatever_the_number_is() {
+    let verifier = verifier(0);
+    let one = info(1, 0);
+    let judged = verifier.validate_info(Moment::EPOCH, &one, verify);
+    assert_eq!(judged, Ok(()));
+    let judged = verifier.validate(Moment::EPOCH, &[one], verify);
+    let too_many = ValidateError::Invalid(Error::TooManyPeers(1));
+    assert_eq!(judged, Err(too_many));
+}
+
+#[test]
+fn the_closure_is_asked_up_to_the_first_refusal() {
+    let verifier = verifier(4);
+    let mut asked: Vec<Key> = Vec::new();
+    let infos = [1, 2, 3].map(|number| info(number, 0));
+    let judged = verifier.validate(Moment::EPOCH, &infos, |signer, namespace, _, _| {
+        assert_eq!(namespace, NAMESPACE);
+        asked.push(*signer);
+        *signer != key(2)
+    });
+    let refused = ValidateError::Invalid(Error::InvalidSignature);
+    assert_eq!(judged, Err(refused));
+    assert_eq!(asked, [key(1), key(2)]);
+}
+
+#[test]
+fn it_is_not_locked_while_signatures_are_verified() {
+    let verifier = verifier(4);
+    let one = info(1, 0);
+    let within = |signer: &Key, namespace: &[u8], message: &[u8], signature: &Signature| {
+        let other = verifier.validate_info(Moment::EPOCH, &info(2, 0), verify);
+        other == Ok(()) && verify(signer, namespace, message, signature)
+    };
+    assert_eq!(verifier.validate_info(Moment::EPOCH, &one, within), Ok(()));
+    let panicked = catch_unwind(AssertUnwindSafe(|| {
+        verifier.validate_info(Moment::EPOCH, &one, |_, _, _, _| {
+            panic!("a scheme that fails")
+        })
+    }));
+    assert!(panicked.is_err());
+    thread::scope(|scope| {
+        let judged = || verifier.validate_info(Moment::EPOCH, &one, verify);
+        let threads = [(); 2].map(|()| scope.spawn(judged));
+        for thread in threads {
+            assert_eq!(thread.join().unwrap(), Ok(()));
+        }
+    });
+}
