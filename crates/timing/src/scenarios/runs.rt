@@ -13,11 +13,11 @@ use std::time::{Duration, Instant};
 pub(crate) enum Kind {
     /// None.
     Tracks,
-    /// A `Listen` for each peer.
+    /// A listen for each peer.
     Listens,
-    /// A `Listen` and a `Release` for each peer.
+    /// A listen and a release for each peer.
     Cycles,
-    /// A `Listen` for each peer, and the end of the run, which releases all.
+    /// A listen for each peer, and the end of the run, which releases all.
     Whole,
 }
 
