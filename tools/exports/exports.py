@@ -517,11 +517,13 @@ RUST_HEAD = """//! {head}
 {host}
 
 use std::alloc::{{Layout, alloc, dealloc}};
+use std::marker::{{PhantomData, PhantomPinned}};
 
-/// The memory of a session.
+/// The memory of a session, which is neither moved nor shared.
 #[repr(C)]
 struct Handle {{
     _private: [u8; 0],
+    _bound: PhantomData<(*mut u8, PhantomPinned)>,
 }}
 
 {numbers}

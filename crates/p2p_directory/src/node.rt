@@ -107,8 +107,8 @@ impl<C: PublicKey> Node<C> {
     ///
     /// # Conditions
     ///
-    /// Those of [`Directory::init`], and `payload.max_bit_vec` is at most `u32::MAX`. Then the
-    /// greatest size of gossip with as many infos fits `usize`.
+    /// Those of [`Directory::init`], and `payload.max_bit_vec` is at most `u32::MAX`. The maximum
+    /// size of gossip with as many infos then fits `usize`.
     ///
     /// # Errors
     ///
@@ -184,9 +184,9 @@ impl<C: PublicKey> Node<C> {
         self.endpoint.track(index, peers)
     }
 
-    /// Reserves the peer for a dial at the time `now`, a duration since the epoch, with the draw
-    /// for its jitter, as [`Node::step`] of `Command::Dial` does. A granted reservation is held. If
-    /// an allocation fails, it returns `Reply::OutOfMemory`.
+    /// Reserves the peer for a dial at the time `now`, a duration since the epoch, with `draw`, a
+    /// random duration, for the jitter, as [`Node::step`] of `Command::Dial` does. A granted
+    /// reservation is held. If an allocation fails, it returns `Reply::OutOfMemory`.
     ///
     /// # Cost
     ///
@@ -202,9 +202,9 @@ impl<C: PublicKey> Node<C> {
         self.endpoint.dial(peer, now, draw)
     }
 
-    /// Reserves an inbound peer at the time `now`, a duration since the epoch, with the draw for
-    /// its jitter, as [`Node::step`] of `Command::Listen` does. A granted reservation is held. If
-    /// an allocation fails, it returns `Reply::OutOfMemory`.
+    /// Reserves an inbound peer at the time `now`, a duration since the epoch, with `draw`, a
+    /// random duration, for the jitter, as [`Node::step`] of `Command::Listen` does. A granted
+    /// reservation is held. If an allocation fails, it returns `Reply::OutOfMemory`.
     ///
     /// # Cost
     ///

@@ -65,19 +65,19 @@ pub(crate) mod slots;
 ///   between. Even if times go backwards, each grant of a peer, and each further block, comes no
 ///   earlier than the end of its last block, unless an `UnblockExpired` at that end or later came
 ///   in between.
-/// - Dials: consider `Dial` commands directly after a reply to `Dialable`, at the same time, of the
-///   peers that it lists. Each once, one after the other and in any order, they are all granted,
-///   unless the reply is `OutOfMemory`.
+/// - Dials: let only `Dial` commands follow a reply to `Dialable`, at the same time and of the
+///   peers that it lists, each once and in any order. They are all granted, unless the reply is
+///   `OutOfMemory`.
 /// - Quiet time: consider the commands after a reply to `Dialable` as long as they are queries.
 ///   `Dialable` at the same time or later, but before `next_query_at` if there is one, gets the
 ///   same peers and the same `next_query_at`, unless the reply is `OutOfMemory`. A query is a
 ///   command that changes nothing: `NextUnblock`, `BlockedPeers`, `Status`, `GetPeerSet`,
 ///   `LatestUpdate`, `LatestSetIndex`, `All`, `Info`, `Infos`, `GetRandomBitVec`, `Eligible`,
 ///   `Acceptable`, `Dialable` and `Tracked`.
-/// - Isolation: leave out of the commands accepted so far those that dial, listen for, connect,
-///   release or block a peer other than one, and out of each `UpdatePeers` the infos of others. All
-///   that is known of the one peer is the same. So are the replies to the commands that name it
-///   alone, and whether `Track` and `Dialable` list it.
+/// - Isolation: leave out of the commands accepted so far each `Dial`, `Listen`, `Connect`,
+///   `Release` and `Block` of a peer other than one, and out of each `UpdatePeers` the infos of
+///   others. All that is known of the one peer is the same. So are the replies to the commands that
+///   name it alone, and whether `Track` and `Dialable` list it.
 /// - Order: infos of one `UpdatePeers`, or of several that follow each other directly, may be
 ///   passed in any order, and by other `UpdatePeers` instead. No two may be of one peer with the
 ///   same timestamp. The state is the same after them, and so are all later replies.
@@ -97,8 +97,8 @@ pub(crate) mod slots;
 ///
 /// # Cost
 ///
-/// That of the calls, and one sort of the peers that the commands dial or listen for. Each grant
-/// and each `Release` takes a binary search among them, and a `Connect` one more of the records.
+/// That of the calls, and one sort of the peers of all `Dial` and `Listen` commands. Each grant and
+/// each `Release` takes a binary search among them, and a `Connect` one more of the records.
 pub fn run<C: PublicKey>(
     alloc: Global,
     bootstrappers: Vec<(C, Ingress)>,

@@ -56,10 +56,11 @@ impl Info {
     pub fn sign(
         public_key: Key,
         namespace: &[u8],
-        ingress: Ingress,
+        ingress: impl Into<Ingress>,
         timestamp: u64,
         sign: impl FnOnce(&[u8], &[u8]) -> Signature,
     ) -> Info {
+        let ingress = ingress.into();
         let signature = sign(namespace, &signed_bytes(&ingress, timestamp));
         Info {
             ingress,

@@ -74,7 +74,7 @@ pub use info::Info;
 pub use ingress::{Hostname, Ingress, is_global};
 pub use key::{KEY_SIZE, Key, SIGNATURE_SIZE, Signature};
 pub use moment::{BeforeEpochError, Moment};
-pub use node::{Node, Received, Setup};
+pub use node::{Node, Received, RefusedError, Setup};
 pub use payload::{BitVec, Data, Payload, PayloadConfig};
 pub use sets::{DuplicateKeyError, OrderedSet, TrackedPeers};
 pub use sizes::{EncodedData, MAX_PAYLOAD_OVERHEAD, max_gossip_size, max_size};

@@ -13,6 +13,8 @@ use crate::payload::{BitVec, Payload, PayloadConfig, greeting_of, reply_of};
 use crate::verification::{
     Judged, NOTHING_TOLD, Questions, ReceiveError, read_told, write_verdicts,
 };
+use std::error;
+use std::fmt;
 use std::ops::Range;
 use std::time::Duration;
 
@@ -79,6 +81,76 @@ pub enum Received {
     /// Memory was refused. Nothing has changed: the frame may be handed in again.
     Memory,
 }
+
+/// Why a frame is not accepted: what stands in a [`Received`] that is a refusal.
+///
+/// # Examples
+///
+/// ```
+/// # use p2p_directory::*;
+/// # let mut node = Node::new(&testing::setup(9)).unwrap();
+/// let refused = node.receive(&[], Moment::EPOCH, testing::verify).accepted().unwrap_err();
+/// assert_eq!(refused, RefusedError::Codec(CodecError::EndOfBuffer));
+/// assert_eq!(refused.to_string(), "the frame is refused: the bytes end inside a value");
+/// ```
+#[derive(Clone, Copy, Debug, PartialEq, Eq, Hash)]
+#[non_exhaustive]
+pub enum RefusedError {
+    /// The frame spells no payload that the limits admit.
+    Codec(CodecError),
+    /// The bits are of another number than the primary peers.
+    Malformed,
+    /// An info is refused, or their number.
+    Invalid(Error),
+    /// Memory was refused: the frame may be handed in again.
+    OutOfMemory,
+}
+
+impl Received {
+    /// The answer again where the frame was accepted, and else why it wasn't, as an error.
+    ///
+    /// # Errors
+    ///
+    /// [`RefusedError`] for [`Received::Codec`], [`Received::Malformed`], [`Received::Invalid`] and [`Received::Memory`].
+    ///
+    /// # Examples
+    ///
+    /// ```
+    /// # use p2p_directory::*;
+    /// # let mut node = Node::new(&testing::setup(9)).unwrap();
+    /// let frame = Payload::Greeting(testing::info(1, 0)).encode();
+    /// match node.receive(&frame, Moment::EPOCH, testing::verify).accepted()? {
+    ///     Received::Greeted(key) => assert_eq!(key, testing::key(1)),
+    ///     other => panic!("{other:?}"),
+    /// }
+    /// # Ok::<(), RefusedError>(())
+    /// ```
+    pub fn accepted(self) -> Result<Received, RefusedError> {
+        match self {
+            Received::Data { .. }
+            | Received::Greeted(_)
+            | Received::Reply(_)
+            | Received::Applied(_) => Ok(self),
+            Received::Codec(fault) => Err(RefusedError::Codec(fault)),
+            Received::Malformed => Err(RefusedError::Malformed),
+            Received::Invalid(error) => Err(RefusedError::Invalid(error)),
+            Received::Memory => Err(RefusedError::OutOfMemory),
+        }
+    }
+}
+
+impl fmt::Display for RefusedError {
+    fn fmt(&self, f: &mut fmt::Formatter<'_>) -> fmt::Result {
+        match self {
+            RefusedError::Codec(fault) => write!(f, "the frame is refused: {fault}"),
+            RefusedError::Malformed => f.write_str("the frame has another number of bits"),
+            RefusedError::Invalid(error) => write!(f, "an info is refused: {error}"),
+            RefusedError::OutOfMemory => OutOfMemory.fmt(f),
+        }
+    }
+}
+
+impl error::Error for RefusedError {}
 
 /// A directory that reads frames and answers them.
 ///

@@ -8,8 +8,8 @@ use std::ops::Deref;
 
 /// Keys in ascending order, each once. Sets are ordered as lists of their keys.
 ///
-/// It is collected from no iterator, nor extended by one: a key that comes again is dropped by
-/// [`OrderedSet::from_iter_dedup`], and refused by `try_from`.
+/// A key that comes again is dropped where a set is collected, and by [`OrderedSet::from_iter_dedup`], which is the same;
+/// `try_from` refuses it.
 ///
 /// # Examples
 ///
@@ -147,6 +147,13 @@ impl IntoIterator for OrderedSet {
 
     fn into_iter(self) -> Self::IntoIter {
         self.0.into_iter()
+    }
+}
+
+impl FromIterator<Key> for OrderedSet {
+    /// As [`OrderedSet::from_iter_dedup`].
+    fn from_iter<I: IntoIterator<Item = Key>>(keys: I) -> OrderedSet {
+        OrderedSet::from_iter_dedup(keys)
     }
 }
 

@@ -1,7 +1,7 @@
 //! The original's cases of its bit set, by their names, as far as the bits of a retained set can say them.
 
 use p2p_directory::testing::{config, info, key};
-use p2p_directory::{Config, Directory, OrderedSet};
+use p2p_directory::{Config, Directory, Key, OrderedSet};
 use std::num::NonZeroUsize;
 
 fn tracked(sets: &[&[u16]]) -> Directory {
@@ -20,6 +20,27 @@ fn tracked(sets: &[&[u16]]) -> Directory {
 
 fn bits(directory: &Directory, place: usize) -> Vec<bool> {
     directory.get_random_bit_vec(place).unwrap().unwrap().bits
+}
+
+#[test]
+fn test_into_iterator() {
+    let set: OrderedSet = [3, 1, 2, 3].map(key).into_iter().collect();
+    let walked: Vec<Key> = set.into_iter().collect();
+    assert_eq!(walked, [1, 2, 3].map(key));
+}
+
+#[test]
+fn test_index() {
+    let set: OrderedSet = [2, 1].map(key).into_iter().collect();
+    assert_eq!((set[0], set[1]), (key(1), key(2)));
+    assert_eq!(set.position(&set[1]), Some(1));
+}
+
+#[test]
+fn test_index_out_of_bounds_positive() {
+    let set: OrderedSet = [2, 1].map(key).into_iter().collect();
+    assert_eq!(set.get(2), None);
+    assert_eq!(set.position(&key(3)), None);
 }
 
 #[test]

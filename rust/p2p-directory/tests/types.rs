@@ -2,8 +2,9 @@
 
 use p2p_directory::testing::{NAMESPACE, config, info, key, setup, sign, verify};
 use p2p_directory::{
-    BitVec, CodecError, Config, Data, Directory, Error, Hostname, Info, Ingress, Moment, Node,
-    OrderedSet, Payload, PayloadConfig, Received, What,
+    BitVec, CodecError, Config, Data, Directory, EncodedData, Error, Hostname, Info, Ingress,
+    MAX_PAYLOAD_OVERHEAD, Moment, Node, OrderedSet, Payload, PayloadConfig, Received,
+    ValidateError, What, max_gossip_size, max_size,
 };
 use std::net::{IpAddr, Ipv4Addr, Ipv6Addr, SocketAddr};
 use std::time::Duration;
@@ -171,6 +172,78 @@ fn test_data_codec() {
 }
 
 #[test]
+fn test_data_prefix_value() {
+    let message = Data {
+        channel: 7,
+        message: Vec::new(),
+    };
+    assert_eq!(Payload::Data(message).encode(), [0, 7, 0]);
+}
+
+#[test]
+fn test_max_payload_data_overhead() {
+    for length in [0, 1, 127, 128, 16_384] {
+        let frame = Payload::Data(Data {
+            channel: u64::MAX,
+            message: vec![7; length],
+        });
+        let overhead = frame.encode_size() - length;
+        assert!(overhead <= MAX_PAYLOAD_OVERHEAD as usize, "{length}");
+    }
+    // The longest channel, and the longest length of a message, one byte each for seven bits.
+    assert_eq!(MAX_PAYLOAD_OVERHEAD, 1 + 10 + 5);
+}
+
+#[test]
+fn test_max_size_bounds() {
+    let overhead = MAX_PAYLOAD_OVERHEAD;
+    assert_eq!(max_size(overhead), Some(0));
+    assert_eq!(max_size(u32::MAX), Some(u32::MAX - overhead));
+    let most = max_size(overhead + 128).unwrap();
+    let frame = Payload::Data(Data {
+        channel: u64::MAX,
+        message: vec![7; most as usize],
+    });
+    assert!(frame.encode_size() <= (overhead + 128) as usize);
+}
+
+#[test]
+fn test_max_gossip_size_bounds_payloads() {
+    let host = Hostname::new(&widest()).unwrap();
+    let ingress = Ingress::from((host, 65_535));
+    let longest = Info::sign(
+        key(1),
+        NAMESPACE,
+        ingress,
+        u64::MAX,
+        |namespace, message| sign(&key(1), namespace, message),
+    );
+    for (bits, peers) in [(0, 0), (1, 1), (8, 1), (100_000, 3), (127, 200)] {
+        let most = max_gossip_size(bits, peers).unwrap();
+        let payloads = [
+            Payload::Greeting(longest.clone()),
+            Payload::BitVec(BitVec {
+                index: u64::MAX,
+                bits: vec![true; bits as usize],
+            }),
+            Payload::Peers(vec![longest.clone(); peers]),
+        ];
+        for payload in payloads {
+            assert!(payload.encode_size() <= most, "{bits} {peers}");
+        }
+    }
+}
+
+#[test]
+fn test_encoded_data_new_matches_data_encode() {
+    let message = b"hello".to_vec();
+    let header = EncodedData::new(300, message.len() as u32);
+    let frame = [header.as_bytes(), &message].concat();
+    let channel = 300;
+    assert_eq!(frame, Payload::Data(Data { channel, message }).encode());
+}
+
+#[test]
 fn test_decode_invalid() {
     let frame = [0, 3, 0, 1, 2, 3, 4, 5, 6, 7, 8, 9];
     assert_eq!(
@@ -278,13 +351,21 @@ fn test_payload_data_respects_limit() {
     );
 }
 
-// A node with the key of number 9, and what it answers to a list of infos at a moment.
+// What a node with the key of number 9 answers to a list of infos at a moment. A verifier says the same.
 fn judged(infos: Vec<Info>, now: Moment, greatest_count: usize) -> Received {
     let mut setup = setup(9);
     setup.peer_gossip_max_count = greatest_count;
     setup.synchrony_bound = BOUND;
     let mut node = Node::new(&setup).unwrap();
-    node.receive(&Payload::Peers(infos).encode(), now, verify)
+    let verifier = Info::verifier(key(9), greatest_count, BOUND, NAMESPACE).unwrap();
+    let validated = verifier.validate(now, &infos, verify);
+    let received = node.receive(&Payload::Peers(infos).encode(), now, verify);
+    let refused = match received {
+        Received::Invalid(error) => Err(ValidateError::Invalid(error)),
+        _ => Ok(()),
+    };
+    assert_eq!(validated, refused);
+    received
 }
 
 const NOW: Moment = Moment::from_secs(1000);

@@ -425,8 +425,8 @@ impl<C: PublicKey> NetworkRun<C> {
 ///
 /// # Cost
 ///
-/// That of making the nodes, that of the calls, and for each command a logarithm of how many peers
-/// the commands dial or listen for at its node.
+/// That of making the nodes, that of the calls, and for each command a logarithm of the number of
+/// peers of all `Dial` and `Listen` commands at its node.
 pub fn run_network<C: PublicKey>(
     alloc: Global,
     setups: Vec<Setup<C>>,

@@ -138,8 +138,8 @@ pub struct PairRun<C: PublicKey> {
 ///
 /// # Cost
 ///
-/// That of the calls, and for each command a logarithm of how many peers the commands dial or
-/// listen for.
+/// That of the calls, and for each command a logarithm of the number of peers of all `Dial` and
+/// `Listen` commands.
 pub fn run_pair<C: PublicKey>(
     alloc: Global,
     left: Setup<C>,

@@ -65,8 +65,9 @@ impl<C: PublicKey> Held<C> {
     ///
     /// # Cost
     ///
-    /// Logarithmic in the number of reservations, and after a run in how many peers its commands
-    /// dialled or listened for. For each of these without a reservation one step more, once in all.
+    /// Logarithmic in the number of reservations, and after a run in the number of peers of its
+    /// `Dial` and `Listen` commands. For each of these without a reservation one step more, once in
+    /// all.
     pub fn take(&mut self, peer: &C) -> Option<Reservation<C>>
         ensures taken { result ≡ held_of C.cmp self.old peer.now }
         ensures peer { IfSome result (λ metadata. key_of metadata ≡ peer.now) }
@@ -93,7 +94,7 @@ impl<C: PublicKey> Held<C> {
     /// # Cost
     ///
     /// One pass over the reservations, with a [`Directory::release`] of each, and after a run over
-    /// the other peers that its commands dialled or listened for.
+    /// the other peers of its `Dial` and `Listen` commands.
     pub fn release_all(self, directory: &mut Directory<C>)
         requires { AreHeld C.cmp directory.old (held_of C.cmp self) }
         ensures { ReleasesAll C.cmp self directory.old directory.new }

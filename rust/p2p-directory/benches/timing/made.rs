@@ -55,12 +55,14 @@ pub(crate) fn verify(key: &Key, _: &[u8], _: &[u8], signature: &Signature) -> bo
     signature.0[..32] == key.0
 }
 
+/// The info of a peer.
+pub(crate) fn info(key: &Key, timestamp: u64) -> Info {
+    signed(*key, ingress(key), timestamp)
+}
+
 /// The infos of these peers.
 pub(crate) fn infos(keys: &[Key], timestamp: u64) -> Vec<Info> {
-    let infos = keys.iter();
-    infos
-        .map(|key| signed(*key, ingress(key), timestamp))
-        .collect()
+    keys.iter().map(|key| info(key, timestamp)).collect()
 }
 
 /// The info of the local node.
@@ -116,9 +118,9 @@ pub(crate) fn known(keys: &[Key]) -> Outcome<Directory> {
     Ok(directory)
 }
 
-/// A node whose sets all name these peers.
-pub(crate) fn node(keys: &[Key]) -> Outcome<Node> {
-    let mut node = Node::new(&Setup {
+/// A node without a set, which takes so many infos at a time.
+pub(crate) fn node_of(count: usize) -> Outcome<Node> {
+    Ok(Node::new(&Setup {
         bootstrappers: Vec::new(),
         myself: own_info(),
         cfg: config(SETS),
@@ -127,10 +129,15 @@ pub(crate) fn node(keys: &[Key]) -> Outcome<Node> {
             max_peers: 1_000_000,
             max_data_length: 1_000_000,
         },
-        peer_gossip_max_count: keys.len(),
+        peer_gossip_max_count: count,
         synchrony_bound: Duration::from_secs(30),
         namespace: NAMESPACE.to_vec(),
-    })?;
+    })?)
+}
+
+/// A node whose sets all name these peers.
+pub(crate) fn node(keys: &[Key]) -> Outcome<Node> {
+    let mut node = node_of(keys.len())?;
     fill(node.directory_mut(), keys)?;
     Ok(node)
 }

@@ -13,6 +13,7 @@ use std::error::Error;
 use std::process::ExitCode;
 
 mod growth;
+mod hour;
 mod made;
 mod scenarios;
 mod times;

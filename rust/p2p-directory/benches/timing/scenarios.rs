@@ -1,6 +1,7 @@
 //! Single measurements, each by a word.
 
 use crate::Outcome;
+use crate::hour::hours;
 use crate::made::{
     SETS, config, directory, frame, full, infos, ingress, keys, known, no_bits, node, own_info,
     tracked, verify,
@@ -15,7 +16,7 @@ const REPEATS: usize = 100;
 // When questions are asked.
 const NOW: Moment = Moment::from_secs(1000);
 
-const NAMES: [&str; 31] = [
+const NAMES: [&str; 32] = [
     "init",
     "track",
     "status",
@@ -47,6 +48,7 @@ const NAMES: [&str; 31] = [
     "keys",
     "fill",
     "fill_known",
+    "day",
 ];
 
 /// The times of a scenario with so many peers. A dot before its name is passed over.
@@ -65,6 +67,7 @@ pub(crate) fn times_of(name: &str, count: usize, samples: usize) -> Outcome<Time
         }
         "forget_cooled" => forgets(&all, samples),
         "receive" => receives(&all, samples),
+        "day" => hours(count, samples),
         "keys" => Ok(once(all.len())),
         "fill" => Ok(once(full(&all)?.tracked())),
         "fill_known" => Ok(once(known(&all)?.tracked())),

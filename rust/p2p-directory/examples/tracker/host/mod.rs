@@ -83,7 +83,7 @@ impl Settings {
         let sign = |namespace: &[u8], message: &[u8]| sign(&self.own, namespace, message);
         Ok(Setup {
             bootstrappers: self.bootstrappers.clone(),
-            myself: Info::sign(self.own, NAMESPACE, address.into(), timestamp, sign),
+            myself: Info::sign(self.own, NAMESPACE, address, timestamp, sign),
             cfg: self.cfg,
             payload: self.payload,
             peer_gossip_max_count: self.payload.max_peers,
