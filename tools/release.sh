@@ -37,9 +37,9 @@ folder=$(mktemp -d)
 trap 'rm -rf "$folder"' EXIT
 release=$folder/$name
 mkdir -p "$release/lib/pkgconfig" "$release/lib/cmake/p2p_session"
-git archive HEAD rust include examples/session.c LICENSE LICENSE-MIT LICENSE-APACHE CHANGELOG.md \
-    docs/RUST.md docs/FORMATS.md docs/DIFFERENCES.md docs/DEFINITIONS.md docs/PLAY.md docs/PROOFS.md |
+git archive HEAD rust include examples LICENSE LICENSE-MIT LICENSE-APACHE CHANGELOG.md SECURITY.md docs bench |
     tar -x -C "$release"
+(cd "$release/docs" && rm ARCHITECTURE.md DECISIONS.md BUILDING.md)
 fill() {
     sed "s/@VERSION@/$version/g" "tools/release/$1" > "$release/$2"
 }
@@ -48,6 +48,7 @@ fill p2p_session-config.cmake lib/cmake/p2p_session/p2p_session-config.cmake
 fill p2p_session-config-version.cmake.in lib/cmake/p2p_session/p2p_session-config-version.cmake
 fill README.md README.md
 cp tools/release/install.sh "$release/"
+tools/release/links.py "$release"
 cp "$prebuilt/libp2p_session.a" "$release/lib/"
 cp "$prebuilt/LICENSE-bytes" "$release/"
 { cat "$prebuilt/PROVED" && echo "commit $(git rev-parse HEAD)"; } > "$release/PROVED"

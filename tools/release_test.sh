@@ -80,6 +80,11 @@ twice() {
     tar -x -z -C "$folder" -f "$folder"/first/*.tar.gz
     mv "$folder"/p2p-directory-*-x86_64-linux-gnu "$folder/release"
     echo 'the same bytes twice'
+    # No document has a link to what the release lacks: there is nothing to take out.
+    cp -r "$folder/release" "$folder/linked"
+    tools/release/links.py "$folder/linked"
+    diff -r "$folder/release" "$folder/linked"
+    rm -r "$folder/linked"
 }
 
 # Runs the example that was built, and looks whether it says what it says from the clone.

@@ -1,16 +1,18 @@
 //! Single measurements, each by a word.
 
+mod hour;
 mod nodes;
 mod runs;
 mod wire;
 
+use crate::scenarios::hour::hours;
 use crate::scenarios::nodes::{Call, of_nodes};
 use crate::scenarios::runs::{Kind, runs};
 use crate::scenarios::wire::{Way, bits, infos, ingresses, judgements, peers};
 use crate::stop::Stop;
 use crate::times::Times;
 
-const NAMES: [&str; 20] = [
+const NAMES: [&str; 21] = [
     "encode",
     "decode",
     "encode_names",
@@ -31,6 +33,7 @@ const NAMES: [&str; 20] = [
     "run_listens",
     "run_cycles",
     "whole_run",
+    "day",
 ];
 
 fn of_bytes(rt: &HostRuntime, name: &str, count: usize, samples: usize) -> Result<Times, Stop> {
@@ -61,6 +64,7 @@ fn of_calls(rt: &HostRuntime, name: &str, count: usize, samples: usize) -> Resul
         "run_listens" => runs(rt, count, samples, Kind::Listens),
         "run_cycles" => runs(rt, count, samples, Kind::Cycles),
         "whole_run" => runs(rt, count, samples, Kind::Whole),
+        "day" => hours(rt, count, samples),
         _ => Err(Stop::Words),
     }
 }
