@@ -1,7 +1,7 @@
 // Written by tools/exports.sh from tools/exports/session.table.
 //
 // The calls of a session, for C since C99 and C++ since C++11. Link with -lp2p_session.
-// docs/FORMATS.md says how arguments are encoded, and what the calls return.
+// docs/C.md says how arguments are encoded, and what the calls return.
 //
 // OBLIGATIONS OF THE HOST. Nothing checks them, and what is proved of the calls is true only if
 // they are met.
@@ -340,7 +340,7 @@ uint64_t p2p_session_check(
 // it is the last so many bytes of the frame; byte 1 and the key of the peer whose greeting was
 // applied; byte 2 and the frame to reply with; byte 3 and how many infos were applied, in 8 bytes;
 // byte 4 and the error of the frame; byte 5 if bits and peers differ in number; byte 6 and why
-// infos are refused. docs/FORMATS.md lists these errors and refusals.
+// infos are refused. docs/C.md lists these errors and refusals.
 uint64_t p2p_session_receive(
     struct p2p_session *at,
     const uint8_t *frame,

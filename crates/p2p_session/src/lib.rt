@@ -3,7 +3,7 @@
 //! A [`Session`] holds one node with keys of 32 bytes. Each call decodes its arguments, makes one
 //! call of the node and returns a number. It is a count, a bool as 0 or 1, the length in bytes of
 //! an answer that it wrote at the start of the host's buffer, or the number of a [`Refusal`].
-//! docs/FORMATS.md has all of these forms.
+//! docs/C.md has all of these forms.
 //!
 //! A query whose answer doesn't fit the buffer returns its length and writes nothing; it can be
 //! called again with a longer buffer. A call that changes something allocates before it takes

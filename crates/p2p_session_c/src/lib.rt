@@ -669,7 +669,7 @@ pub unsafe extern "C" fn p2p_session_check(
 /// it is the last so many bytes of the frame; byte 1 and the key of the peer whose greeting was
 /// applied; byte 2 and the frame to reply with; byte 3 and how many infos were applied, in 8 bytes;
 /// byte 4 and the error of the frame; byte 5 if bits and peers differ in number; byte 6 and why
-/// infos are refused. docs/FORMATS.md lists these errors and refusals.
+/// infos are refused. docs/C.md lists these errors and refusals.
 ///
 /// # Safety
 ///

@@ -607,8 +607,7 @@ impl Session {
     /// its length in 8: it is the last so many bytes of the frame; byte 1 and the key of the peer
     /// whose greeting was applied; byte 2 and the frame to reply with; byte 3 and how many infos
     /// were applied, in 8 bytes; byte 4 and the error of the frame; byte 5 if bits and peers differ
-    /// in number; byte 6 and why infos are refused. docs/FORMATS.md lists these errors and
-    /// refusals.
+    /// in number; byte 6 and why infos are refused. docs/C.md lists these errors and refusals.
     pub fn receive(
         &self,
         frame: &[u8],

@@ -1,7 +1,7 @@
 //! The calls of a proved directory of peers over numbers and bytes, and the library that answers them.
 //!
 //! A [`Session`] is a node in room of its own. Each call of it is one of the library, which is proved in Rattle: what a call
-//! takes and answers are numbers, and slices of bytes in the forms of `docs/FORMATS.md` of the repository. An answer is a
+//! takes and answers are numbers, and slices of bytes in the forms of `docs/C.md` of the repository. An answer is a
 //! count, a truth value as 0 or 1, a length, or one of the numbers from [`BAD_VERDICTS`] on, with which nothing has changed
 //! and nothing was written. The crate `p2p-directory` has the same calls with types.
 //!

@@ -1,4 +1,4 @@
-//! Sessions by their numbers and bytes, as docs/FORMATS.md of the repository has them: each export is called, with
+//! Sessions by their numbers and bytes, as docs/C.md of the repository has them: each export is called, with
 //! ample memory, and its answer compared.
 
 mod calls;

@@ -55,7 +55,7 @@ fn widened_info(bytes: &[u8]) -> Option<(Info, &[u8])> {
     Some((info, rest))
 }
 
-// The signature of the scripts' keys: `signature_of` of docs/DEFINITIONS.md.
+// The signature of the scripts' keys: "Test keys" of docs/FORMATS.md.
 fn narrow_signature(key: u64, namespace: &[u8], message: &[u8]) -> u64 {
     let bytes = namespace.iter().chain(message);
     bytes.fold(key, |number, byte| {
