@@ -1,4 +1,4 @@
-//! The directory of peers.
+//! The directory of peers, and what its calls return.
 
 use crate::answer::{OWN, Room, answered, certain, is_certain, is_done, is_true, unknown};
 use crate::codec::{ReadError, Reader};
@@ -23,7 +23,7 @@ mod reservation;
 use held::Held;
 pub use reservation::{ConnectError, Metadata, ReleaseError, Reservation};
 
-/// How a directory behaves.
+/// The settings of a directory.
 ///
 /// # Examples
 ///
@@ -44,21 +44,21 @@ pub use reservation::{ConnectError, Metadata, ReleaseError, Reservation};
 /// ```
 #[derive(Clone, Copy, Debug, PartialEq, Eq, Hash)]
 pub struct Config {
-    /// Whether addresses that are not global may be dialled.
+    /// Whether addresses that are not [global](crate::is_global) may be dialled.
     pub allow_private_ips: bool,
     /// Whether names may be dialled.
     pub allow_dns: bool,
-    /// How many peer sets are retained: less than the greatest `usize`.
+    /// How many peer sets are retained, below `usize::MAX`.
     pub max_sets: NonZeroUsize,
-    /// After how many failed dials a peer's info is asked for again.
+    /// After how many failed dials a peer's info is requested again.
     pub dial_fail_limit: usize,
-    /// The least time between two reservations of one peer.
+    /// The minimum time between two reservations of one peer.
     pub peer_connection_cooldown: Duration,
     /// How long a block lasts.
     pub block_duration: Duration,
 }
 
-/// How a peer stands.
+/// Whether a peer is reserved or connected.
 ///
 /// # Examples
 ///
@@ -71,9 +71,9 @@ pub struct Config {
 pub enum Status {
     /// There is neither a reservation nor a connection.
     Inert,
-    /// It is reserved.
+    /// The peer is reserved, and not connected.
     Reserved,
-    /// It is connected.
+    /// The peer is connected.
     Active,
 }
 
@@ -87,7 +87,7 @@ impl fmt::Display for Status {
     }
 }
 
-/// What is told of the latest set.
+/// The latest peer set, and the peers of all retained sets.
 ///
 /// # Examples
 ///
@@ -108,11 +108,11 @@ pub struct PeerSetUpdate {
     pub index: u64,
     /// The peers of the latest set.
     pub latest: TrackedPeers,
-    /// The peers of all retained sets: one that is primary in some is primary only.
+    /// The peers of all retained sets. A peer that is primary in one of them is primary only.
     pub all: TrackedPeers,
 }
 
-/// Who may be dialled now, and when to ask again.
+/// The peers that may be dialled at a time, and when to ask again.
 ///
 /// # Examples
 ///
@@ -125,16 +125,17 @@ pub struct PeerSetUpdate {
 pub struct Dialable {
     /// The peers that may be dialled, in ascending order.
     pub peers: Vec<Key>,
-    /// When another peer may become dialable: `None` where none does by time alone.
+    /// When to ask again. Without calls in between, `peers` stays the same before that time, or
+    /// forever if this is `None`.
     pub next_query_at: Option<Moment>,
 }
 
-/// The directory of peers: the retained sets, and what is known of each peer that is in one of them, is a
-/// bootstrapper, is reserved or is connected.
+/// The directory of peers. It has the retained sets, and a record of each peer that is in one of
+/// them, a bootstrapper, reserved or connected.
 ///
-/// Each call is one of the proved library, whose answers are those recomputed from all calls so far:
-/// docs/RUST.md of the repository says what is proved up to where. A directory can go to another thread
-/// (`Send`), and is used by one at a time (it is not `Sync`). Moments may go back from call to call.
+/// Each call is one call of the proved library, whose reply is what its specification computes from
+/// the history of calls. `docs/RUST.md` of the repository says where the proof ends. A directory is
+/// `Send` and not `Sync`. The time may go backwards from call to call.
 ///
 /// # Examples
 ///
@@ -161,7 +162,7 @@ pub struct Dialable {
 /// let peer = Key([1; 32]);
 /// directory.track(0, &OrderedSet::from_iter_dedup([peer]).into())?;
 /// let now = Moment::from_secs(100);
-/// let reservation = directory.listen(&peer, now, Duration::ZERO)?.expect("it may come");
+/// let reservation = directory.listen(&peer, now, Duration::ZERO)?.expect("the peer is acceptable");
 /// assert_eq!(directory.status(&peer), Some(Status::Reserved));
 /// // .. the connection ..
 /// directory.release(reservation).expect("it is this directory's");
@@ -176,7 +177,7 @@ pub struct Dialable {
 /// is_sent::<p2p_directory::Directory>();
 /// ```
 ///
-/// and not be shared with one:
+/// but not shared between threads:
 ///
 /// ```compile_fail,E0277
 /// fn is_shared<T: Sync>() {}
@@ -184,27 +185,30 @@ pub struct Dialable {
 /// ```
 pub struct Directory {
     held: Held,
-    // In which infos are signed.
+    // The namespace in which infos are signed.
     namespace: Vec<u8>,
-    // What is handed in, and what comes out.
+    // Buffers for the arguments and the results of calls.
     input: RefCell<Vec<u8>>,
     output: RefCell<Room>,
-    // Room for the name of the next host that is dialled.
+    // The buffer for the host name of the next dial.
     name: String,
 }
 
-/// How many bytes what comes out has room for at first: enough for what a call that changes something
-/// answers, but for a track.
+/// The initial length of the buffer for results. It is enough for the result of each call that
+/// changes something, except `track`.
 const FIRST_ROOM: usize = 512;
 
 impl Directory {
-    /// A directory that retains no set and blocks nobody. A later bootstrapper of a key replaces an
-    /// earlier one, and the own info a bootstrapper of its key. What is handed in is spelled for the library, and not
-    /// kept.
+    /// Creates a directory that retains no set and blocks nobody.
+    ///
+    /// If a key occurs twice among the bootstrappers, the later one counts. The local info replaces
+    /// a bootstrapper with its key. The arguments are copied into the library.
     ///
     /// # Errors
     ///
-    /// Where memory is refused, or `cfg.max_sets` is the greatest `usize`.
+    /// [`SetupError::OutOfMemory`] if an allocation fails, [`SetupError::Setting`] if
+    /// `cfg.max_sets` is `usize::MAX`, and [`SetupError::Processor`] if the processor lacks an
+    /// instruction set that the library uses.
     ///
     /// # Examples
     ///
@@ -286,13 +290,15 @@ impl Directory {
         })
     }
 
-    /// Takes a peer set, where its index is above that of each set that was taken before; then the oldest
-    /// set goes, where there is one too many. Answers whose connections have to end: who is reserved or
-    /// connected, was eligible and is no longer. `None`, and nothing changes, where the index is not above.
+    /// Registers a peer set if its index is above that of each set registered before.
+    ///
+    /// If more than [`Config::max_sets`] sets are retained then, the oldest is dropped. Returns the
+    /// peers that must be disconnected: those that are reserved or connected, were eligible and no
+    /// longer are. If the index isn't above, returns `None` and changes nothing.
     ///
     /// # Errors
     ///
-    /// [`OutOfMemory`]; then nothing has changed.
+    /// [`OutOfMemory`] if an allocation fails; then nothing has changed.
     ///
     /// # Examples
     ///
@@ -329,24 +335,28 @@ impl Directory {
         let session = self.held.session();
         let out = self.output.get_mut();
         let out = out.least(session.track_room() as usize)?;
-        // Whose connection has to end is held: so nothing is asked for once the set is taken.
+        // Each peer that must be disconnected is held, so nothing is allocated after the set is
+        // registered.
         let mut torn = Vec::new();
         torn.try_reserve_exact(self.held.count())?;
         let length = answered(session.track(index, primary, secondary, out))?;
         Ok(length.map(|length| OrderedSet::read_into(torn, &out[..length as usize])))
     }
 
-    /// Reserves the peer for a dial at the moment `now`, where that is allowed: it has a record, is
-    /// eligible, not reserved or connected, not blocked, its address is known and valid, and its cooldown is
-    /// over.
+    /// Reserves the peer for a dial at the time `now`, at its known address.
     ///
-    /// `draw` is how much later than reservable the peer is dialable again. It is drawn uniformly from
-    /// `Duration::ZERO..=2 * (cooldown / 2)`, where `cooldown` is [`Config::peer_connection_cooldown`], halved to
-    /// whole nanoseconds. What is above that counts as its end.
+    /// Returns `None` and changes nothing unless the peer has a record and is eligible, not blocked
+    /// and neither reserved nor connected. In addition, its address must be known and allowed, and
+    /// its cooldown must be over.
+    ///
+    /// `draw` is jitter: how much later than reservable the peer is dialable again. It should be
+    /// drawn uniformly from `Duration::ZERO..=2 * (cooldown / 2)`, where `cooldown` is
+    /// [`Config::peer_connection_cooldown`] and the half is rounded down to nanoseconds. A larger
+    /// value counts as the end of that range.
     ///
     /// # Errors
     ///
-    /// [`OutOfMemory`]; then nothing has changed.
+    /// [`OutOfMemory`] if an allocation fails; then nothing has changed.
     ///
     /// # Examples
     ///
@@ -355,7 +365,7 @@ impl Directory {
     /// # let mut directory = testing::directory();
     /// let peer = testing::key(1);
     /// directory.track(0, &OrderedSet::from_iter_dedup([peer]).into())?;
-    /// // Nothing is known of where it can be dialled.
+    /// // Its address is not known yet.
     /// assert!(directory.dial(&peer, Moment::from_secs(1), Duration::ZERO)?.is_none());
     /// # Ok::<(), OutOfMemory>(())
     /// ```
@@ -368,7 +378,7 @@ impl Directory {
     ) -> Result<Option<Reservation>, OutOfMemory> {
         let (seconds, nanos) = now.parts();
         let (draw_seconds, draw_nanos) = (draw.as_secs(), draw.subsec_nanos());
-        // The longest name has room before anything is granted.
+        // There is space for the longest name before anything is granted.
         self.name.try_reserve_exact(MAX_HOSTNAME)?;
         let is_granted = self
             .held
@@ -380,7 +390,8 @@ impl Directory {
         Ok(Some(Reservation::new(metadata, self.held.origin())))
     }
 
-    // The address of a grant. Takes no memory: there is room for the longest.
+    // The address of a granted dial. It doesn't allocate, since `name` has the capacity for the
+    // longest.
     fn dialled(&mut self, peer: &Key) -> Ingress {
         let mut out = [0; 1 + Ingress::MAX_ENCODE_SIZE];
         let length = certain(self.held.session().reservation(&peer.0, &mut out));
@@ -391,14 +402,17 @@ impl Directory {
         }
     }
 
-    /// Reserves the peer for a connection that it asks for at the moment `now`, where that is allowed: it
-    /// is eligible, not reserved or connected, not blocked, and its cooldown is over.
+    /// Reserves the peer for an inbound connection at the time `now`.
     ///
-    /// `draw` is drawn uniformly from `Duration::ZERO..=2 * (cooldown / 2)`, as for [`Directory::dial`].
+    /// Returns `None` and changes nothing unless the peer is eligible, not blocked and neither
+    /// reserved nor connected, and its cooldown is over.
+    ///
+    /// `draw` should be drawn uniformly from `Duration::ZERO..=2 * (cooldown / 2)`, as for
+    /// [`Directory::dial`].
     ///
     /// # Errors
     ///
-    /// [`OutOfMemory`]; then nothing has changed.
+    /// [`OutOfMemory`] if an allocation fails; then nothing has changed.
     ///
     /// # Examples
     ///
@@ -428,12 +442,12 @@ impl Directory {
         Ok(is_granted.then(|| Reservation::new(Metadata::Listener(*peer), self.held.origin())))
     }
 
-    /// Connects a peer that is reserved, as its dialer or not. As the dialer its failed dials are
-    /// forgotten.
+    /// Marks a reserved peer as connected. `dialer` says whether the local node dialled it; if so,
+    /// its count of failed dials is reset.
     ///
     /// # Errors
     ///
-    /// [`NotReservedError`]; then nothing has changed.
+    /// [`NotReservedError`] if the peer isn't reserved; then nothing has changed.
     ///
     /// # Examples
     ///
@@ -451,11 +465,13 @@ impl Directory {
         }
     }
 
-    /// Connects the peer of a reservation, as its dialer where [`Directory::dial`] granted it.
+    /// Marks the peer of a reservation as connected. It was dialled by the local node if
+    /// [`Directory::dial`] returned the reservation.
     ///
     /// # Errors
     ///
-    /// [`ConnectError`]; then nothing has changed.
+    /// [`ConnectError`] if the reservation is of another directory or its peer is connected
+    /// already; then nothing has changed.
     ///
     /// # Examples
     ///
@@ -480,12 +496,15 @@ impl Directory {
         Ok(self.connect(metadata.public_key(), metadata.is_dialer())?)
     }
 
-    /// Ends a reservation, and the connection that was made of it. A dialer's counts as one more failure
-    /// at the address that was dialled.
+    /// Releases a reservation, and with it the connection of its peer.
+    ///
+    /// The release of a reservation that [`Directory::dial`] returned counts as one failed dial of
+    /// its address, even if the peer was connected.
     ///
     /// # Errors
     ///
-    /// Gives the reservation back where it is of another directory; then nothing has changed.
+    /// [`ReleaseError`] if the reservation is of another directory, which gives it back; then
+    /// nothing has changed.
     ///
     /// # Examples
     ///
@@ -508,17 +527,19 @@ impl Directory {
         Ok(())
     }
 
-    /// Offers infos to the records of their peers, in any order: each peer's is the one of greatest
-    /// timestamp, of equal ones the first. An info of a peer without a record is dropped. The signatures are
-    /// not judged: they are infos that were made here, or judged before.
+    /// Updates the infos of peers, in any order.
+    ///
+    /// Of the known info of a peer and those in the list, its record keeps the first with the
+    /// greatest timestamp. The local info stays, and an info of a peer without a record is dropped.
+    /// Signatures are not verified: pass only infos that were signed locally or verified before.
     ///
     /// # Errors
     ///
-    /// [`OutOfMemory`]; then nothing has changed.
+    /// [`OutOfMemory`] if an allocation fails; then nothing has changed.
     ///
     /// # Panics
     ///
-    /// Where there are more infos than the greatest `u32`; then nothing has changed.
+    /// Panics if there are more than `u32::MAX` infos; then nothing has changed.
     ///
     /// # Examples
     ///
@@ -540,12 +561,15 @@ impl Directory {
         is_taken
     }
 
-    /// Blocks the peer from the moment `now` on, whether there is a record of it or not. False, and nothing
-    /// changes, for the own key, and for a peer that is blocked at `now`.
+    /// Blocks the peer from the time `now` on, for [`Config::block_duration`], whether or not it
+    /// has a record.
+    ///
+    /// Returns false and changes nothing for the local key, and for a peer that is blocked at
+    /// `now`.
     ///
     /// # Errors
     ///
-    /// [`OutOfMemory`]; then nothing has changed.
+    /// [`OutOfMemory`] if an allocation fails; then nothing has changed.
     ///
     /// # Examples
     ///
@@ -564,8 +588,8 @@ impl Directory {
         is_true(self.session().block(&peer.0, seconds, nanos))
     }
 
-    /// Ends the blocks that hold until the moment `now` or an earlier one, and answers whether there were
-    /// any.
+    /// Ends the blocks that last until the time `now` or an earlier one, and returns whether there
+    /// were any.
     ///
     /// # Examples
     ///
@@ -580,8 +604,8 @@ impl Directory {
         is_certain(self.session().unblock_expired(seconds, nanos))
     }
 
-    /// Forgets the cooldown of each peer whose dial moment is at or before `now`, and answers how many
-    /// there were. A cooldown outlives its peer's record until it is forgotten.
+    /// Forgets the cooldown of each peer whose dial time is at or before `now`, and returns how
+    /// many there were. A cooldown outlasts the record of its peer until it is forgotten.
     ///
     /// # Examples
     ///
@@ -596,13 +620,13 @@ impl Directory {
         certain(self.session().forget_cooled(seconds, nanos)) as usize
     }
 
-    // The session: all that was dropped is released before.
+    // The session, after each dropped reservation is released.
     #[inline]
     pub(crate) fn session(&self) -> &Session {
         self.held.session()
     }
 
-    // Which directory of the process it is.
+    // The number of this directory, unique in the process.
     pub(crate) fn id(&self) -> u64 {
         self.held.origin().id()
     }
@@ -611,7 +635,7 @@ impl Directory {
         &self.namespace
     }
 
-    // Asks with at least so much room, and reads what came out.
+    // Calls the library with at least so much space for its result, and reads the result.
     pub(crate) fn question_in<T>(
         &self,
         room: usize,
@@ -623,7 +647,7 @@ impl Directory {
         out.asked(room, |out| ask(session, out), read)
     }
 
-    // Asks, and reads what came out.
+    // Calls the library, and reads the result.
     fn question<T>(
         &self,
         ask: impl Fn(&Session, &mut [u8]) -> u64,
@@ -632,7 +656,7 @@ impl Directory {
         self.question_in(0, ask, read)
     }
 
-    // A question that takes no memory, for its answer is short.
+    // Calls the library for a short result. It doesn't allocate.
     fn certain_question<T>(
         &self,
         ask: impl FnOnce(&Session, &mut [u8]) -> u64,
@@ -653,7 +677,8 @@ impl fmt::Debug for Directory {
     }
 }
 
-// Whether the processor has all that the library is compiled for, which doesn't ask it.
+// Whether the processor has all instruction sets that the library is compiled for. The library
+// itself doesn't check.
 fn is_supported() -> bool {
     #[cfg(target_arch = "x86_64")]
     let is_supported = is_x86_feature_detected!("sse4.2")
@@ -665,7 +690,7 @@ fn is_supported() -> bool {
     is_supported
 }
 
-// Their keys and ingresses, one after the other.
+// The encoding of bootstrappers: keys and ingresses, one after the other.
 fn spelled(bootstrappers: &[(Key, Ingress)]) -> Result<Vec<u8>, OutOfMemory> {
     let sizes = bootstrappers.iter();
     let size: usize = sizes
@@ -680,7 +705,7 @@ fn spelled(bootstrappers: &[(Key, Ingress)]) -> Result<Vec<u8>, OutOfMemory> {
     Ok(spelled)
 }
 
-/// What a node has besides its directory's configuration.
+/// The settings of a node in addition to those of its directory.
 pub(crate) struct Limits {
     pub(crate) payload: PayloadConfig,
     pub(crate) peer_gossip_max_count: usize,

@@ -1,4 +1,5 @@
-//! A session with what is held of its grants: reservations that were dropped are released before the next call.
+//! A session with the reservations that it granted. Those that were dropped are released before the
+//! next call.
 
 use crate::answer::{is_true, unknown};
 use crate::error::OutOfMemory;
@@ -8,24 +9,25 @@ use std::cell::Cell;
 use std::sync::atomic::{AtomicU64, AtomicUsize, Ordering};
 use std::sync::{Mutex, MutexGuard, PoisonError};
 
-/// Where the reservations of a directory are left when they are dropped.
+/// Holds the reservations of a directory that were dropped, until it releases them.
 ///
-/// Reservations and the directory share it, and any of them may go last. Rust has no shared pointer whose memory may
-/// be refused, so slots are never freed: the slot of a directory that is gone serves the next one that is made.
+/// Reservations and the directory share it, and any of them may outlive the others. Rust has no
+/// shared pointer with fallible allocation, so slots are never freed: the slot of a directory that
+/// was dropped is used by the next one that is created.
 struct Slot {
-    // How many keys were left: looked at without the lock.
+    // How many keys there are. It is read without the lock.
     count: AtomicUsize,
     left: Mutex<Left>,
 }
 
 struct Left {
-    // Whose slot it is at the time.
+    // The directory that uses the slot at present.
     directory: u64,
-    // There is room for a key of each reservation that is held.
+    // It has capacity for a key of each reservation that is held.
     peers: Vec<Key>,
 }
 
-/// The slots that serve no directory, with room for all that were made.
+/// The slots that no directory uses, with capacity for all that were created.
 struct Spare {
     slots: Vec<&'static Slot>,
     made: usize,
@@ -38,24 +40,24 @@ static SPARE: Mutex<Spare> = Mutex::new(Spare {
 
 static NEXT_ID: AtomicU64 = AtomicU64::new(0);
 
-/// The directory of a reservation, for it to be given back there.
+/// The directory of a reservation, to which it is given back.
 #[derive(Clone, Copy)]
 pub(super) struct Origin {
     slot: &'static Slot,
     directory: u64,
 }
 
-/// A session that is reached through [`Held::session`] alone.
+/// A session with its reservations, which is used through [`Held::session`] alone.
 pub(super) struct Held {
     session: Session,
     origin: Origin,
     // How many reservations were granted and not released.
     count: Cell<usize>,
-    // For how many the slot has room.
+    // For how many reservations the slot has capacity.
     room: usize,
 }
 
-// Nothing is done under a lock that could leave something half done.
+// Each critical section leaves the value consistent, so a poisoned lock can be used.
 fn locked<T>(mutex: &Mutex<T>) -> MutexGuard<'_, T> {
     mutex.lock().unwrap_or_else(PoisonError::into_inner)
 }
@@ -86,7 +88,8 @@ impl Slot {
         Ok(slot)
     }
 
-    // The next directory must find nothing of this one, whose reservations are worth nothing from now on.
+    // The next directory must not see the reservations of this one, which have no effect from now
+    // on.
     fn put_back(&'static self) {
         *locked(&self.left) = Left {
             directory: u64::MAX,
@@ -105,13 +108,14 @@ impl Origin {
         Ok(Origin { slot, directory })
     }
 
-    /// Which directory of the process it is.
+    /// The number of the directory, unique in the process.
     #[inline]
     pub(super) fn id(self) -> u64 {
         self.directory
     }
 
-    /// Leaves a reservation to its directory, unless that is gone. There is room for it.
+    /// Leaves a dropped reservation to its directory, unless that was dropped. It doesn't allocate:
+    /// there is capacity for it.
     pub(super) fn leave(self, peer: Key) {
         let mut left = locked(&self.slot.left);
         if left.directory == self.directory {
@@ -136,9 +140,10 @@ impl Held {
         self.origin
     }
 
-    /// The session, once the reservations that were dropped are released.
+    /// The session, after each dropped reservation is released.
     ///
-    /// Whoever saw that one was dropped, on whatever thread, sees its count here, too.
+    /// If a thread saw that a reservation was dropped, on whichever thread, it also sees its count
+    /// here.
     #[inline]
     pub(super) fn session(&self) -> &Session {
         if self.origin.slot.count.load(Ordering::Relaxed) != 0 {
@@ -163,7 +168,7 @@ impl Held {
         self.count.get()
     }
 
-    /// Asks for a grant, with room for its reservation to be dropped.
+    /// Requests a grant, after making space for the drop of its reservation.
     #[inline]
     pub(super) fn grant(&mut self, ask: impl FnOnce(&Session) -> u64) -> Result<bool, OutOfMemory> {
         self.session();
@@ -184,7 +189,7 @@ impl Held {
         Ok(())
     }
 
-    /// Releases one that is this session's, and was not dropped.
+    /// Releases a reservation that is of this session and was not dropped.
     #[inline]
     pub(super) fn release(&self, peer: &Key) {
         release(self.session(), peer);

@@ -1,4 +1,4 @@
-//! What a directory answers of how it stands. None of these calls changes anything.
+//! The queries of a directory. None of these calls changes anything.
 
 use super::{Dialable, Directory, PeerSetUpdate, Status};
 use crate::answer::{OWN, certain, is_certain, unknown};
@@ -13,8 +13,8 @@ use crate::sets::{OrderedSet, TrackedPeers, read_keys};
 use p2p_directory_sys::{self as exports, Session};
 
 impl Directory {
-    /// The least moment until which a block holds. A block that has ended counts until
-    /// [`Directory::unblock_expired`] ends it.
+    /// When the next block ends, or `None` if there is no block. A block that has ended counts
+    /// until [`Directory::unblock_expired`] removes it.
     ///
     /// # Examples
     ///
@@ -28,11 +28,15 @@ impl Directory {
         self.certain_question(Session::next_unblock, |bytes| Reader::new(bytes).moment())
     }
 
-    /// The peers that are blocked at the moment `now`.
+    /// The peers that are blocked at the time `now`, in ascending order.
     ///
     /// # Errors
     ///
-    /// [`OutOfMemory`].
+    /// [`OutOfMemory`] if an allocation fails.
+    ///
+    /// # Panics
+    ///
+    /// Panics if the result of the library can't be read, which is a bug.
     ///
     /// # Examples
     ///
@@ -51,11 +55,11 @@ impl Directory {
         Ok(blocked.expect(OWN))
     }
 
-    /// The peers of the retained set with an index.
+    /// The peers of the retained set with this index, or `None` if there is no such set.
     ///
     /// # Errors
     ///
-    /// [`OutOfMemory`].
+    /// [`OutOfMemory`] if an allocation fails.
     ///
     /// # Examples
     ///
@@ -71,11 +75,12 @@ impl Directory {
         self.question(|session, out| session.get_peer_set(index, out), read_peers)
     }
 
-    /// What is told of the latest set, or `None` where none was taken.
+    /// The latest set with its index, and the peers of all retained sets, or `None` if no set was
+    /// registered.
     ///
     /// # Errors
     ///
-    /// [`OutOfMemory`].
+    /// [`OutOfMemory`] if an allocation fails.
     ///
     /// # Examples
     ///
@@ -89,7 +94,7 @@ impl Directory {
         self.question(Session::latest_update, read_update)
     }
 
-    /// The index of the latest set, or `None` where none was taken.
+    /// The index of the latest set, or `None` if no set was registered.
     ///
     /// # Examples
     ///
@@ -105,11 +110,15 @@ impl Directory {
         })
     }
 
-    /// The peers of all retained sets: one that is primary in some is primary only.
+    /// The peers of all retained sets. A peer that is primary in one of them is primary only.
     ///
     /// # Errors
     ///
-    /// [`OutOfMemory`].
+    /// [`OutOfMemory`] if an allocation fails.
+    ///
+    /// # Panics
+    ///
+    /// Panics if the result of the library can't be read, which is a bug.
     ///
     /// # Examples
     ///
@@ -124,7 +133,7 @@ impl Directory {
         Ok(all.expect(OWN))
     }
 
-    /// How the peer stands, or `None` where there is no record of it.
+    /// Whether the peer is reserved or connected, or `None` if there is no record of it.
     ///
     /// # Examples
     ///
@@ -145,18 +154,19 @@ impl Directory {
         }
     }
 
-    /// The info of the peer that others may be told: the own one, and that of a peer that is connected.
+    /// The info of the peer if it may be shared: the local info, and that of a connected peer.
+    /// Otherwise `None`.
     ///
     /// # Errors
     ///
-    /// [`OutOfMemory`].
+    /// [`OutOfMemory`] if an allocation fails.
     ///
     /// # Examples
     ///
     /// ```
     /// # use p2p_directory::*;
     /// # let directory = testing::directory();
-    /// let own = directory.info(&testing::key(9))?.expect("the own info");
+    /// let own = directory.info(&testing::key(9))?.expect("the local info");
     /// assert_eq!(own.timestamp, 0);
     /// # Ok::<(), OutOfMemory>(())
     /// ```
@@ -167,18 +177,22 @@ impl Directory {
         )
     }
 
-    /// The infos for one who knows these bits, at the moment `now`: of the primary peers of the set whose
-    /// bit is false, in order, those that others may be told and whose timestamp is not above `now`. No
-    /// infos where no retained set has the index, `None` where the bits are of another number than its
-    /// primary peers.
+    /// The infos to send to a peer that sent these bits, at the time `now`.
+    ///
+    /// They are the infos of those primary peers of the set whose bit is false, in the order of
+    /// keys. An info is left out if it may not be shared, or its timestamp is above `now` in whole
+    /// milliseconds.
+    ///
+    /// The list is empty if no retained set has the index. Returns `None` if the number of bits
+    /// differs from the number of primary peers.
     ///
     /// # Errors
     ///
-    /// [`OutOfMemory`].
+    /// [`OutOfMemory`] if an allocation fails.
     ///
     /// # Panics
     ///
-    /// Where there are more bits than the greatest `u32`.
+    /// Panics if there are more than `u32::MAX` bits.
     ///
     /// # Examples
     ///
@@ -203,12 +217,15 @@ impl Directory {
         infos
     }
 
-    /// The bits of the retained set at a place, counted from 0 in order of index, for each primary peer
-    /// whether its info is known and not wanted. A random place makes it a random set.
+    /// The bits of the retained set at a position, counted from 0 in the order of indices, or
+    /// `None` if there is no such position.
+    ///
+    /// A bit says of a primary peer whether its info is known and not wanted. For a random set,
+    /// pass a random position below [`Directory::retained`].
     ///
     /// # Errors
     ///
-    /// [`OutOfMemory`].
+    /// [`OutOfMemory`] if an allocation fails.
     ///
     /// # Examples
     ///
@@ -227,8 +244,8 @@ impl Directory {
         )
     }
 
-    /// Whether the peer may be connected at the moment `now`: it is in a retained set or a bootstrapper,
-    /// not blocked, and not the local node.
+    /// Whether the peer may be connected at the time `now`: it is in a retained set or a
+    /// bootstrapper, not blocked, and not the local node.
     ///
     /// # Examples
     ///
@@ -244,8 +261,8 @@ impl Directory {
         is_certain(self.session().eligible(&peer.0, seconds, nanos))
     }
 
-    /// Whether a connection of the peer may be accepted at the moment `now`: it is eligible, and neither
-    /// reserved nor connected.
+    /// Whether an inbound connection of the peer may be accepted at the time `now`: it is eligible,
+    /// and neither reserved nor connected.
     ///
     /// # Examples
     ///
@@ -261,11 +278,15 @@ impl Directory {
         is_certain(self.session().acceptable(&peer.0, seconds, nanos))
     }
 
-    /// Who may be dialled at the moment `now`, and when to ask again.
+    /// The peers that may be dialled at the time `now`, and when to ask again.
     ///
     /// # Errors
     ///
-    /// [`OutOfMemory`].
+    /// [`OutOfMemory`] if an allocation fails.
+    ///
+    /// # Panics
+    ///
+    /// Panics if the result of the library can't be read, which is a bug.
     ///
     /// # Examples
     ///
@@ -284,8 +305,8 @@ impl Directory {
         Ok(dialable.expect(OWN))
     }
 
-    /// How many sets are retained: [`Directory::get_random_bit_vec`] and [`Node::ask`](crate::Node::ask) have a set at
-    /// each place below this number.
+    /// How many sets are retained. [`Directory::get_random_bit_vec`] and
+    /// [`Node::ask`](crate::Node::ask) have a set at each position below this number.
     ///
     /// # Examples
     ///
@@ -303,8 +324,8 @@ impl Directory {
         certain(self.session().retained()) as usize
     }
 
-    /// When [`Directory::forget_cooled`] next forgets a cooldown: the least dial time of those that are kept, or `None`
-    /// where there is none. It may lie in the past.
+    /// When [`Directory::forget_cooled`] next forgets a cooldown: the earliest dial time of those
+    /// that are kept, or `None` if there are none. It may be in the past.
     ///
     /// # Examples
     ///
@@ -324,7 +345,7 @@ impl Directory {
         self.certain_question(Session::next_cooled, |bytes| Reader::new(bytes).moment())
     }
 
-    /// How many peers have a record, but for the local node.
+    /// How many peers have a record, not counting the local node.
     ///
     /// # Examples
     ///

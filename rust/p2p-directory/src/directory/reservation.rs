@@ -1,4 +1,4 @@
-//! The leave to connect with a peer.
+//! Permission to connect to a peer.
 
 use super::held::Origin;
 use crate::error::NotReservedError;
@@ -7,12 +7,13 @@ use crate::key::Key;
 use std::error;
 use std::fmt;
 
-/// The leave to connect with a peer, made by [`Directory::dial`](crate::Directory::dial) and
-/// [`Directory::listen`](crate::Directory::listen). While it is held, the peer can't be reserved again.
+/// Permission to connect to a peer, returned by [`Directory::dial`](crate::Directory::dial) and
+/// [`Directory::listen`](crate::Directory::listen). While it is held, the peer can't be reserved
+/// again.
 ///
-/// [`Directory::release`](crate::Directory::release) gives it back at once. One that is dropped, on whatever
-/// thread, gives itself back: the next call of its directory, a question or not, first releases it. Dropping
-/// takes no memory, and does nothing where the directory is gone.
+/// [`Directory::release`](crate::Directory::release) gives it back at once. One that is dropped, on
+/// whichever thread, is released by the next call of its directory, queries included, before that
+/// call returns. Dropping doesn't allocate, and has no effect if the directory was dropped.
 ///
 /// # Examples
 ///
@@ -25,7 +26,7 @@ use std::fmt;
 /// assert!(directory.listen(&peer, now, Duration::ZERO)?.is_none());
 /// directory.release(reservation).expect("its own");
 ///
-/// // After its cooldown it comes again, and this time the reservation is dropped.
+/// // After its cooldown it is accepted again, and this time the reservation is dropped.
 /// let later = Moment::from_secs(11);
 /// let reservation = directory.listen(&peer, later, Duration::ZERO)?.expect("not reserved");
 /// drop(reservation);
@@ -35,11 +36,11 @@ use std::fmt;
 #[must_use = "a reservation that is dropped is released by the next call of its directory"]
 pub struct Reservation {
     metadata: Metadata,
-    // `None` once it was given back.
+    // `None` after it was given back.
     origin: Option<Origin>,
 }
 
-/// Whom a reservation is for, and in which direction.
+/// The peer of a reservation, and the direction of its connection.
 ///
 /// # Examples
 ///
@@ -52,12 +53,15 @@ pub struct Reservation {
 pub enum Metadata {
     /// The peer is dialled at this address.
     Dialer(Key, Ingress),
-    /// The peer comes.
+    /// The peer is inbound.
     Listener(Key),
 }
 
-/// A reservation is of another directory: it is given back, and nothing has changed. Whoever drops this error
-/// drops the reservation, which then is released at its own directory.
+/// A reservation that was passed to [`Directory::release`](crate::Directory::release) is of another
+/// directory. Nothing has changed.
+///
+/// The error gives the reservation back. If the error is dropped, so is the reservation, and its
+/// own directory releases it.
 ///
 /// # Examples
 ///
@@ -74,11 +78,11 @@ pub enum Metadata {
 #[derive(Debug)]
 #[non_exhaustive]
 pub struct ReleaseError {
-    /// The reservation.
+    /// The reservation that was passed.
     pub reservation: Reservation,
 }
 
-/// Why a reservation was not connected, and nothing has changed.
+/// The reason why a reservation was not connected. Nothing has changed.
 ///
 /// # Examples
 ///
@@ -111,7 +115,8 @@ impl Reservation {
         }
     }
 
-    /// Whom it is for, and in which direction: of a dial, with the address that is to be dialled. Takes no memory.
+    /// The peer of the reservation, and the direction of its connection. For a dial it has the
+    /// address to dial. It doesn't allocate.
     ///
     /// # Examples
     ///
@@ -159,7 +164,7 @@ impl Reservation {
             .is_some_and(|origin| origin.id() == directory.id())
     }
 
-    /// Whose it is, without giving it back.
+    /// Returns the peer without giving the reservation back.
     #[inline]
     pub(super) fn into_peer(mut self) -> Key {
         self.origin = None;
