@@ -1,4 +1,4 @@
-//! A node: a directory that judges what it is told by frames, and answers them.
+//! A node: a directory that verifies the infos of frames, and replies to frames.
 
 use crate::answer::{OWN, Room, own, unknown};
 use crate::codec::{ReadError, Reader};
@@ -18,7 +18,7 @@ use std::fmt;
 use std::ops::Range;
 use std::time::Duration;
 
-/// What a node is made from.
+/// The settings of a node.
 ///
 /// # Examples
 ///
@@ -29,23 +29,23 @@ use std::time::Duration;
 /// ```
 #[derive(Clone, Debug)]
 pub struct Setup {
-    /// The bootstrappers: a later one of a key replaces an earlier one.
+    /// The bootstrappers. If a key occurs twice, the later one counts.
     pub bootstrappers: Vec<(Key, Ingress)>,
-    /// The own info.
+    /// The local info.
     pub myself: Info,
-    /// How its directory behaves.
+    /// The settings of its directory.
     pub cfg: Config,
-    /// The limits under which it reads frames.
+    /// The limits under which it decodes frames.
     pub payload: PayloadConfig,
-    /// How many infos it takes at a time.
+    /// How many infos it accepts at a time.
     pub peer_gossip_max_count: usize,
-    /// How far ahead the timestamp of an info may lie.
+    /// How far ahead the timestamp of an info may be.
     pub synchrony_bound: Duration,
     /// The namespace in which infos are signed.
     pub namespace: Vec<u8>,
 }
 
-/// What a node answers to a frame.
+/// What a node returns for a frame.
 ///
 /// # Examples
 ///
@@ -61,28 +61,30 @@ pub enum Received {
     Data {
         /// The channel.
         channel: u64,
-        /// Where the message stands in the frame.
+        /// The range of the message in the frame.
         message: Range<usize>,
     },
-    /// The info of a greeting was applied, which is this key's. Whether it is the key of the connection's peer, the host
-    /// compares.
+    /// The info of a greeting was applied. This is its key. The node doesn't know the peer of the
+    /// connection, so the host must compare the two.
     Greeted(Key),
-    /// A frame with the infos for one who knows the bits that came: send it back. It has all of them, whatever the peer
-    /// takes at a time: for fewer there is [`Node::reply_at_most`]. Nothing has changed.
+    /// A frame with the infos for the bits that were received: send it back. It has all of them,
+    /// however many the peer accepts at a time. [`Node::reply_at_most`] returns fewer. Nothing has
+    /// changed.
     Reply(Vec<u8>),
-    /// All infos of the frame were applied, so many of them.
+    /// All infos of the frame were applied: their number.
     Applied(usize),
-    /// The frame spells no payload that the limits admit: its first fault. Nothing has changed.
+    /// The frame encodes no payload within the limits: its first error. Nothing has changed.
     Codec(CodecError),
-    /// The bits that came are of another number than the primary peers. Nothing has changed.
+    /// The number of bits that were received differs from the number of primary peers. Nothing has
+    /// changed.
     Malformed,
-    /// An info is refused, or their number. Nothing has changed.
+    /// An info, or the number of infos, is invalid. Nothing has changed.
     Invalid(Error),
-    /// Memory was refused. Nothing has changed: the frame may be handed in again.
+    /// An allocation failed. Nothing has changed: the frame may be passed in again.
     Memory,
 }
 
-/// Why a frame is not accepted: what stands in a [`Received`] that is a refusal.
+/// The reason why a frame was refused, as an error.
 ///
 /// # Examples
 ///
@@ -96,22 +98,23 @@ pub enum Received {
 #[derive(Clone, Copy, Debug, PartialEq, Eq, Hash)]
 #[non_exhaustive]
 pub enum RefusedError {
-    /// The frame spells no payload that the limits admit.
+    /// The frame encodes no payload within the limits: its first error.
     Codec(CodecError),
-    /// The bits are of another number than the primary peers.
+    /// The number of bits differs from the number of primary peers.
     Malformed,
-    /// An info is refused, or their number.
+    /// An info, or the number of infos, is invalid.
     Invalid(Error),
-    /// Memory was refused: the frame may be handed in again.
+    /// An allocation failed: the frame may be passed in again.
     OutOfMemory,
 }
 
 impl Received {
-    /// The answer again where the frame was accepted, and else why it wasn't, as an error.
+    /// Returns itself if the frame was accepted, and otherwise the reason why it was refused.
     ///
     /// # Errors
     ///
-    /// [`RefusedError`] for [`Received::Codec`], [`Received::Malformed`], [`Received::Invalid`] and [`Received::Memory`].
+    /// [`RefusedError`] for [`Received::Codec`], [`Received::Malformed`], [`Received::Invalid`] and
+    /// [`Received::Memory`].
     ///
     /// # Examples
     ///
@@ -152,9 +155,9 @@ impl fmt::Display for RefusedError {
 
 impl error::Error for RefusedError {}
 
-/// A directory that reads frames and answers them.
+/// A directory that decodes frames and replies to them.
 ///
-/// It has no scheme of signatures: whoever hands in a frame also hands in what tells a good signature.
+/// It has no signature scheme: a function that verifies signatures is passed in with each frame.
 ///
 /// # Examples
 ///
@@ -169,7 +172,7 @@ impl error::Error for RefusedError {}
 ///     node.directory_mut().track(0, &OrderedSet::from_iter_dedup([one, two]).into())?;
 /// }
 ///
-/// // The asker wants the info of the replier, who tells it.
+/// // The asker wants the info of the replier, which sends it.
 /// let now = Moment::from_secs(100);
 /// let question = asker.ask(0)?.expect("a set");
 /// let Received::Reply(reply) = replier.receive(&question, now, testing::verify) else { panic!() };
@@ -178,7 +181,7 @@ impl error::Error for RefusedError {}
 /// # Ok::<(), Box<dyn std::error::Error>>(())
 /// ```
 ///
-/// As its directory it can be sent to another thread, and not be shared with one:
+/// Like its directory, it can be sent to another thread but not shared between threads:
 ///
 /// ```
 /// fn is_sent<T: Send>() {}
@@ -194,24 +197,26 @@ pub struct Node {
     directory: Directory,
     public_key: Key,
     greeting: Vec<u8>,
-    // Which directory was made with the limits of this node.
+    // The number of the directory that was created with the limits of this node.
     id: u64,
-    // What was judged of the infos of a frame.
+    // The verification results for the infos of a frame.
     verdicts: Vec<u8>,
-    // What the answer to a frame has room for.
+    // The buffer for what the library returns for a frame.
     answer: Room,
 }
 
-/// How many bytes an answer has room for at first: enough for each that changes something.
+/// The initial length of the buffer for results. It is enough for each result of a call that
+/// changes something.
 const FIRST_ROOM: usize = 4096;
 
 impl Node {
-    /// A node of this setup: its directory is new. Of the setup it keeps copies of the namespace and the own info.
+    /// Creates a node with a new directory. It keeps copies of the namespace and the local info.
     ///
     /// # Errors
     ///
-    /// Where memory is refused, `cfg.max_sets` is the greatest `usize`, or `payload.max_bit_vec` above
-    /// the greatest `u32`.
+    /// [`SetupError::OutOfMemory`] if an allocation fails, [`SetupError::Setting`] if
+    /// `cfg.max_sets` is `usize::MAX` or `payload.max_bit_vec` is above `u32::MAX`, and
+    /// [`SetupError::Processor`] if the processor lacks an instruction set that the library uses.
     ///
     /// # Examples
     ///
@@ -249,7 +254,7 @@ impl Node {
         })
     }
 
-    /// The own key.
+    /// The local key.
     ///
     /// # Examples
     ///
@@ -263,7 +268,7 @@ impl Node {
         &self.public_key
     }
 
-    /// The frame with the own info, which goes first on a new connection.
+    /// The frame with the local info, which is sent first on a new connection.
     ///
     /// # Examples
     ///
@@ -278,7 +283,7 @@ impl Node {
         &self.greeting
     }
 
-    /// The directory.
+    /// Its directory.
     ///
     /// # Examples
     ///
@@ -292,10 +297,10 @@ impl Node {
         &self.directory
     }
 
-    /// The directory, to make calls that change it.
+    /// Its directory, for calls that change it.
     ///
-    /// It has the limits and the namespace of the node, and no other directory has them: where another is put in its
-    /// place, by `mem::swap` or an assignment, the node takes no frame any more, but panics.
+    /// No other directory has the limits and the namespace of the node. If another one is put in
+    /// its place, by `mem::swap` or an assignment, calls of the node with frames panic.
     ///
     /// # Examples
     ///
@@ -312,16 +317,16 @@ impl Node {
         &mut self.directory
     }
 
-    /// The frame that asks for what is wanted of the retained set at a place, counted from 0 in order of
-    /// index, or `None` where there is no such place.
+    /// The frame that asks for the wanted infos of the retained set at a position, counted from 0
+    /// in the order of indices. Returns `None` if there is no such position.
     ///
     /// # Errors
     ///
-    /// [`OutOfMemory`].
+    /// [`OutOfMemory`] if an allocation fails.
     ///
     /// # Panics
     ///
-    /// Where another directory was put in the place of the node's own.
+    /// Panics if another directory was put in the place of the node's own.
     ///
     /// # Examples
     ///
@@ -340,19 +345,23 @@ impl Node {
         )
     }
 
-    /// The frame with infos for one who knows these bits, as [`Received::Reply`] has it, but for at most so many infos:
-    /// those from a place on that `draw` decides, in the order of the set and around its end. `draw` is drawn uniformly
-    /// from all numbers, anew for each reply: then each info is told as often as another, as nearly as that can be.
-    /// `None` where the bits are of another number than the primary peers of the set, a frame without infos where no
-    /// retained set has the index.
+    /// The frame with the infos for a peer that sent these bits, as in [`Received::Reply`], but
+    /// with at most `count` infos.
+    ///
+    /// If there are more, it has `count` of them in the order of the set, from a position that
+    /// `draw` decides, wrapping around at the end. If `draw` is drawn uniformly from all numbers,
+    /// again for each reply, each info is sent about as often as any other.
+    ///
+    /// The frame has no infos if no retained set has the index. Returns `None` if the number of
+    /// bits differs from the number of primary peers of the set.
     ///
     /// # Errors
     ///
-    /// [`OutOfMemory`].
+    /// [`OutOfMemory`] if an allocation fails.
     ///
     /// # Panics
     ///
-    /// Where there are more bits than the greatest `u32`.
+    /// Panics if there are more than `u32::MAX` bits.
     ///
     /// # Examples
     ///
@@ -388,18 +397,22 @@ impl Node {
         Ok(Some(reply_of(&infos)?))
     }
 
-    /// Takes a frame at the moment `now`, and answers it.
+    /// Processes a frame that was received at the time `now`, and returns the result.
     ///
-    /// The closure says of a key, the namespace, signed bytes and a signature whether the signature is
-    /// right. It is asked once for each info whose signature decides, in the order of the frame, and before
-    /// anything changes. It is asked nothing behind the first info that is refused, for its signature or for
-    /// something else. Where the node has something else to do while signatures are verified, there are
-    /// [`Node::check`] and [`Node::receive_judged`].
+    /// It isn't known who sent the frame: [`Received::Greeted`] has the key that the host must
+    /// compare.
+    ///
+    /// `verify` returns whether a signature is valid. Its arguments are a key, the namespace, the
+    /// signed bytes and the signature. It is called for each info, in the order of the frame and
+    /// before anything changes, up to the first info that is refused. It isn't called for an info
+    /// that is refused for another reason than its signature, nor if there are too many infos. To
+    /// verify signatures while the node does something else, use [`Node::check`] and
+    /// [`Node::receive_judged`].
     ///
     /// # Panics
     ///
-    /// Where the closure does, and nothing has changed then; and where another directory was put in the place of the
-    /// node's own.
+    /// Panics if `verify` panics; then nothing has changed. Panics if another directory was put in
+    /// the place of the node's own.
     ///
     /// # Examples
     ///
@@ -427,8 +440,9 @@ impl Node {
         received.unwrap_or(Received::Memory)
     }
 
-    // Frames are read under the limits that the directory was made with. They can't be given to another one, and a
-    // host that hands `&mut Directory` on should go on doing so: so what can't be refused there is refused here.
+    // Frames are decoded under the limits that the directory was created with, and these can't be
+    // given to another one. Hosts may pass `&mut Directory` on, so a replacement can't be prevented
+    // there and is refused here.
     fn expect_own_directory(&self) {
         assert_eq!(
             self.directory.id(),
@@ -456,17 +470,20 @@ impl Node {
         received(directory, answer, frame, now, verdicts)
     }
 
-    /// What has to be verified of a frame that came at the moment `now`, before [`Node::receive_judged`] takes it:
-    /// the two are [`Node::receive`], with as much time and as many threads between them as signatures want. Nothing
-    /// changes, and nothing is kept: a frame that is not taken afterwards may be forgotten.
+    /// Returns the signatures that have to be verified of a frame that was received at the time
+    /// `now`.
+    ///
+    /// Pass their verification results to [`Node::receive_judged`]. The two calls together do what
+    /// [`Node::receive`] does, but signatures may be verified on other threads, without the node.
+    /// Nothing changes and nothing is kept, so a frame that was checked may be dropped.
     ///
     /// # Errors
     ///
-    /// [`OutOfMemory`].
+    /// [`OutOfMemory`] if an allocation fails.
     ///
     /// # Panics
     ///
-    /// Where another directory was put in the place of the node's own.
+    /// Panics if another directory was put in the place of the node's own.
     ///
     /// # Examples
     ///
@@ -494,16 +511,18 @@ impl Node {
         })
     }
 
-    /// Takes a frame whose signatures are verified, at the moment at which it was checked, and answers it as
-    /// [`Node::receive`] does. An info that [`Node::check`] did not ask about is never applied.
+    /// Processes a frame whose signatures were verified, at the time of [`Node::check`], and
+    /// returns what [`Node::receive`] returns. An info about which [`Node::check`] had no question
+    /// is never applied.
     ///
     /// # Errors
     ///
-    /// Gives the frame back where another node checked it; then nothing has changed.
+    /// [`ReceiveError`] if another node checked the frame, which gives it back; then nothing has
+    /// changed.
     ///
     /// # Panics
     ///
-    /// Where another directory was put in the place of the node's own.
+    /// Panics if another directory was put in the place of the node's own.
     ///
     /// # Examples
     ///
@@ -534,7 +553,8 @@ impl Node {
     }
 }
 
-// Reads what the library asks of a frame: nothing where it can have no infos, which are all that is signed.
+// Reads the questions of the library about a frame. There are none if the frame can have no infos,
+// since only these are signed.
 fn told<T>(
     directory: &Directory,
     frame: &[u8],
@@ -553,8 +573,8 @@ fn told<T>(
     Ok(told.expect(OWN))
 }
 
-// What the library answers to a frame by these verdicts. What changes something is answered in the first room, so no
-// memory is asked for afterwards.
+// The result of the library for a frame with these verification results. The result of a call that
+// changes something fits the initial buffer, so nothing is allocated afterwards.
 fn received(
     directory: &Directory,
     answer: &mut Room,
@@ -572,7 +592,8 @@ fn received(
     Ok(received.expect(OWN))
 }
 
-// What the closure says of each info whose signature decides, up to the first false, and false of the others.
+// Writes the verification result of each info, up to the first false one. It is false for the
+// others, and for an info without a question.
 fn judge(
     told: &[u8],
     namespace: &[u8],
@@ -586,7 +607,7 @@ fn judge(
     Ok(())
 }
 
-// The answer to a frame of so many bytes.
+// Reads the result for a frame of this length.
 fn read_received(bytes: &[u8], frame: usize) -> Result<Received, ReadError> {
     let mut reader = Reader::new(bytes);
     Ok(match reader.byte()? {

@@ -1,4 +1,4 @@
-//! The signatures of a frame, verified while its node does something else.
+//! The signatures of a frame, which may be verified without its node.
 
 use crate::answer::OWN;
 use crate::codec::{ReadError, Reader};
@@ -9,7 +9,7 @@ use crate::moment::Moment;
 use std::error;
 use std::fmt;
 
-/// A signature that has to be verified: whether it is the key's over the namespace and the message.
+/// A signature that has to be verified: whether the key made it over the namespace and the message.
 ///
 /// # Examples
 ///
@@ -28,20 +28,21 @@ use std::fmt;
 #[derive(Clone, Copy, Debug, PartialEq, Eq, Hash)]
 #[non_exhaustive]
 pub struct Question<'q> {
-    /// Whose signature it has to be.
+    /// The key that has to have made the signature.
     pub public_key: Key,
-    /// What was signed.
+    /// The signed bytes.
     pub message: &'q [u8],
     /// The signature.
     pub signature: Signature,
 }
 
-/// What has to be verified of a frame, made by [`Node::check`](crate::Node::check): in the order of the frame, each
-/// info whose signature decides. It borrows the frame and nothing of the node.
+/// The signatures of a frame that have to be verified, returned by
+/// [`Node::check`](crate::Node::check). There is a question for each info whose signature decides,
+/// in the order of the frame. It borrows the frame and nothing of the node.
 ///
 /// # Examples
 ///
-/// Signatures are verified while the node is not locked.
+/// The signatures are verified while the node is not locked.
 ///
 /// ```
 /// # use p2p_directory::*; use std::sync::Mutex;
@@ -64,16 +65,16 @@ pub struct Questions<'f> {
     frame: &'f [u8],
     now: Moment,
     node: u64,
-    // How many bytes of these the namespace has; behind it stands what is asked.
+    // The length of the namespace, with which these bytes begin. The questions follow it.
     namespace: usize,
     bytes: Vec<u8>,
     // How many questions there are.
     count: usize,
-    // A byte for each info of the frame, those that aren't asked about among them.
+    // A byte for each info of the frame, including those without a question.
     verdicts: Vec<u8>,
 }
 
-/// The questions of a frame, one after the other.
+/// An iterator over the questions of a frame.
 ///
 /// # Examples
 ///
@@ -89,12 +90,12 @@ pub struct Questions<'f> {
 #[derive(Clone, Debug)]
 pub struct QuestionsIter<'q> {
     asked: Asked<'q>,
-    // How many are left.
+    // How many questions are left.
     count: usize,
 }
 
-/// A frame whose signatures are verified, for [`Node::receive_judged`](crate::Node::receive_judged) of the node that
-/// checked it.
+/// A frame with its verification results, for [`Node::receive_judged`](crate::Node::receive_judged)
+/// of the node that checked it.
 ///
 /// # Examples
 ///
@@ -114,7 +115,8 @@ pub struct Judged<'f> {
     pub(crate) verdicts: Vec<u8>,
 }
 
-/// There is not one verdict for each question, nor do they end behind a false one.
+/// The number of verification results differs from the number of questions. Fewer are accepted only
+/// if the last one is false.
 ///
 /// # Examples
 ///
@@ -133,7 +135,8 @@ pub struct Judged<'f> {
 #[derive(Clone, Copy, Debug, PartialEq, Eq, Hash)]
 pub struct WrongVerdictsError;
 
-/// A frame was checked by another node: it is given back, and nothing has changed.
+/// A frame was passed to another node than the one that checked it. The error gives it back, and
+/// nothing has changed.
 ///
 /// # Examples
 ///
@@ -150,18 +153,18 @@ pub struct WrongVerdictsError;
 #[derive(Debug)]
 #[non_exhaustive]
 pub struct ReceiveError<'f> {
-    /// The frame, with its verdicts.
+    /// The frame, with its verification results.
     pub judged: Judged<'f>,
 }
 
-/// The questions that stand one after the other in what the library told.
+/// An iterator over the questions that the library wrote one after the other.
 #[derive(Clone, Debug)]
 pub(crate) struct Asked<'q>(&'q [u8]);
 
-/// What the library tells of a frame that has no infos.
+/// What the library writes about a frame without infos.
 pub(crate) const NOTHING_TOLD: [u8; 8] = [0; 8];
 
-/// What the library told of a frame: how many infos it has, and the questions.
+/// Reads what the library wrote about a frame: how many infos it has, and the questions.
 pub(crate) fn read_told(told: &[u8]) -> Result<(usize, Asked<'_>), CodecError> {
     let mut reader = Reader::new(told);
     let infos = reader.number()? as usize;
@@ -193,7 +196,8 @@ impl<'q> Iterator for Asked<'q> {
     }
 }
 
-/// Writes what the closure says of each question, in order up to the first false; the others stay as they are.
+/// Writes the verification result of each question, in order, up to the first false one. The others
+/// stay as they are.
 pub(crate) fn write_verdicts(
     verdicts: &mut [u8],
     namespace: &[u8],
@@ -215,7 +219,8 @@ pub(crate) fn write_verdicts(
 }
 
 impl<'f> Questions<'f> {
-    // Of a frame that a node of this namespace was told at a moment, and what the library asks of it.
+    // The questions of the library about a frame that a node of this namespace received at this
+    // time.
     pub(crate) fn new(
         frame: &'f [u8],
         now: Moment,
@@ -239,7 +244,7 @@ impl<'f> Questions<'f> {
         })
     }
 
-    /// The namespace in which all of them are signed.
+    /// The namespace in which all of these infos are signed.
     ///
     /// # Examples
     ///
@@ -255,14 +260,14 @@ impl<'f> Questions<'f> {
         &self.bytes[..self.namespace]
     }
 
-    /// How many there are.
+    /// How many questions there are.
     ///
     /// # Examples
     ///
     /// ```
     /// # use p2p_directory::*;
     /// # let node = Node::new(&testing::setup(9)).unwrap();
-    /// // The own info is refused whatever its signature is, and none is asked for behind it.
+    /// // The local info is refused whatever its signature is, and there is no question after it.
     /// let infos = [1, 9, 2].map(|number| testing::info(number, 0));
     /// let frame = Payload::Peers(infos.to_vec()).encode();
     /// assert_eq!(node.check(&frame, Moment::from_secs(1))?.len(), 1);
@@ -273,7 +278,7 @@ impl<'f> Questions<'f> {
         self.count
     }
 
-    /// Whether nothing has to be verified.
+    /// Whether there is no question.
     ///
     /// # Examples
     ///
@@ -289,7 +294,8 @@ impl<'f> Questions<'f> {
         self.count == 0
     }
 
-    /// The questions, in the order of the frame. The first false answer decides: the others need not be verified.
+    /// An iterator over the questions, in the order of the frame. Those after the first invalid
+    /// signature need not be verified.
     ///
     /// # Examples
     ///
@@ -309,13 +315,14 @@ impl<'f> Questions<'f> {
         }
     }
 
-    /// The frame with a verdict for each question, in their order: whether its signature is right. There may be
-    /// fewer behind a false one. An info that was not asked about counts as one whose signature is not right.
-    /// It takes no memory.
+    /// The frame with a verification result for each question, in their order: whether its
+    /// signature is valid. Results after a false one may be left out. An info without a question
+    /// counts as one whose signature is invalid. It doesn't allocate.
     ///
     /// # Errors
     ///
-    /// [`WrongVerdictsError`] where there are more, or fewer and all of them true.
+    /// [`WrongVerdictsError`] if there are more results than questions, or fewer and all of them
+    /// are true.
     ///
     /// # Examples
     ///
@@ -352,12 +359,13 @@ impl<'f> Questions<'f> {
         })
     }
 
-    /// The frame with the closure's verdicts: it says of a key, the namespace, a message and a signature whether the
-    /// signature is right, and is asked once for each question, in order, up to the first false. It takes no memory.
+    /// The frame with the verification results of `verify`, which returns whether a signature is
+    /// valid. Its arguments are a key, the namespace, a message and the signature. It is called
+    /// once for each question, in order, up to the first false result. It doesn't allocate.
     ///
     /// # Panics
     ///
-    /// Where the closure does.
+    /// Panics if `verify` panics.
     ///
     /// # Examples
     ///

@@ -1,4 +1,4 @@
-//! Infos judged without a directory.
+//! Infos that are validated without a directory.
 
 use crate::directory::Config;
 use crate::error::{Error, OutOfMemory, SetupError};
@@ -16,10 +16,12 @@ use std::num::NonZeroUsize;
 use std::sync::{Mutex, MutexGuard, PoisonError};
 use std::time::Duration;
 
-/// Judges infos as a [`Node`] judges those of a frame, for whoever has them from elsewhere and hands them to
-/// [`Directory::update_peers`](crate::Directory::update_peers). [`Info::verifier`] makes it.
+/// A verifier of infos, which validates them as a [`Node`] validates those of frames. It is for
+/// infos that don't come from frames, before they are passed to
+/// [`Directory::update_peers`](crate::Directory::update_peers). [`Info::verifier`] creates it.
 ///
-/// The proved library judges. It can be shared between threads, and isn't locked while signatures are verified.
+/// The infos are validated by the proved library. The verifier can be shared between threads, and
+/// isn't locked while signatures are verified.
 ///
 /// # Examples
 ///
@@ -35,11 +37,11 @@ use std::time::Duration;
 /// ```
 #[derive(Debug)]
 pub struct InfoVerifier {
-    // It has no sets, and so no record in which an info could be kept.
+    // It has no sets, so no info is kept.
     node: Mutex<Node>,
 }
 
-/// Why infos are not valid, or could not be judged.
+/// The reason why infos are invalid or could not be validated.
 ///
 /// # Examples
 ///
@@ -50,19 +52,21 @@ pub struct InfoVerifier {
 #[derive(Clone, Copy, Debug, PartialEq, Eq, Hash)]
 #[non_exhaustive]
 pub enum ValidateError {
-    /// Memory was refused.
+    /// An allocation failed.
     OutOfMemory,
-    /// An info is refused, or their number.
+    /// An info, or the number of infos, is invalid.
     Invalid(Error),
 }
 
 impl Info {
-    /// What judges infos for the peer with the key `me`: at most so many at a time, with timestamps at most
-    /// `synchrony_bound` ahead, signed in this namespace.
+    /// Creates a verifier of infos for the peer with the key `me`. It accepts at most
+    /// `peer_gossip_max_count` infos at a time, with timestamps at most `synchrony_bound` ahead,
+    /// signed in this namespace.
     ///
     /// # Errors
     ///
-    /// Where memory is refused.
+    /// [`SetupError::OutOfMemory`] if an allocation fails, and [`SetupError::Processor`] if the
+    /// processor lacks an instruction set that the library uses.
     ///
     /// # Examples
     ///
@@ -81,7 +85,7 @@ impl Info {
         synchrony_bound: Duration,
         namespace: &[u8],
     ) -> Result<InfoVerifier, SetupError> {
-        // Nothing is dialled and nobody is told of it: it is a node for its key and its limits alone.
+        // Its address and its info are never used: the node only has the key and the limits.
         let setup = Setup {
             bootstrappers: Vec::new(),
             myself: Info {
@@ -114,18 +118,21 @@ impl Info {
 }
 
 impl InfoVerifier {
-    /// That a list of infos is valid at the time `now`, as that of a frame with [`Payload::Peers`](crate::Payload::Peers)
-    /// is. The closure says whether a signature is right, as for [`Node::receive`]: it is asked once for each info whose
-    /// signature decides, in order, up to the first that is refused.
+    /// Checks that a list of infos is valid at the time `now`, as a node checks that of a frame
+    /// with [`Payload::Peers`](crate::Payload::Peers).
+    ///
+    /// `verify` returns whether a signature is valid, as for [`Node::receive`]. It is called for
+    /// each info, in order, up to the first info that is refused.
     ///
     /// # Errors
     ///
-    /// [`ValidateError::Invalid`] with [`Error::TooManyPeers`] where there are too many, and else why the first info that
-    /// is refused is; [`ValidateError::OutOfMemory`].
+    /// [`ValidateError::Invalid`] with [`Error::TooManyPeers`] if there are too many infos, and
+    /// otherwise with the reason why the first invalid info is refused.
+    /// [`ValidateError::OutOfMemory`] if an allocation fails.
     ///
     /// # Panics
     ///
-    /// Where there are more infos than the greatest `u32`, and where the closure panics.
+    /// Panics if there are more than `u32::MAX` infos, or if `verify` panics.
     ///
     /// # Examples
     ///
@@ -148,16 +155,17 @@ impl InfoVerifier {
         self.judge(&reply_of(infos)?, now, verify)
     }
 
-    /// That an info is valid at the time `now`, as that of a greeting is. The closure is asked as for
-    /// [`InfoVerifier::validate`].
+    /// Checks that an info is valid at the time `now`, as a node checks that of a greeting.
+    /// `verify` is called as for [`InfoVerifier::validate`].
     ///
     /// # Errors
     ///
-    /// [`ValidateError::Invalid`] with the reason why the info is refused; [`ValidateError::OutOfMemory`].
+    /// [`ValidateError::Invalid`] with the reason why the info is refused,
+    /// [`ValidateError::OutOfMemory`] if an allocation fails.
     ///
     /// # Panics
     ///
-    /// Where the closure panics.
+    /// Panics if `verify` panics.
     ///
     /// # Examples
     ///
@@ -198,7 +206,7 @@ impl InfoVerifier {
         }
     }
 
-    // Nothing is done under the lock that could leave something half done.
+    // Each critical section leaves the node consistent, so a poisoned lock can be used.
     fn node(&self) -> MutexGuard<'_, Node> {
         self.node.lock().unwrap_or_else(PoisonError::into_inner)
     }
