@@ -1,4 +1,4 @@
-//! What the library answers, and room for it.
+//! The results of the library, and the buffers for them.
 
 use crate::codec::ReadError;
 use crate::error::OutOfMemory;
@@ -6,11 +6,11 @@ use crate::memory::{give_back_large, lengthen, zeros};
 use p2p_directory_sys as exports;
 use std::mem;
 
-/// Why what the library answers can be read.
+/// The reason why a result of the library can be read, as the message of a panic if it can't.
 pub(crate) const OWN: &str = "the library's own answer";
 
-/// The number that was answered, `None`, or want of memory. No other refusal can come of arguments that
-/// are typed.
+/// The number that was returned, `None`, or out of memory. The typed arguments of this crate can
+/// cause no other refusal.
 #[inline]
 pub(crate) fn answered(answer: u64) -> Result<Option<u64>, OutOfMemory> {
     match answer {
@@ -21,7 +21,7 @@ pub(crate) fn answered(answer: u64) -> Result<Option<u64>, OutOfMemory> {
     }
 }
 
-/// The number that a call answered that takes no memory.
+/// The number that a call returned which doesn't allocate.
 #[inline]
 pub(crate) fn certain(answer: u64) -> u64 {
     match answered(answer) {
@@ -30,7 +30,7 @@ pub(crate) fn certain(answer: u64) -> u64 {
     }
 }
 
-/// Whether a call says yes, unless memory is refused.
+/// The bool that a call returned, or out of memory.
 #[inline]
 pub(crate) fn is_true(answer: u64) -> Result<bool, OutOfMemory> {
     match answered(answer)? {
@@ -40,7 +40,7 @@ pub(crate) fn is_true(answer: u64) -> Result<bool, OutOfMemory> {
     }
 }
 
-/// Whether a call says yes that takes no memory.
+/// The bool that a call returned which doesn't allocate.
 #[inline]
 pub(crate) fn is_certain(answer: u64) -> bool {
     match answer {
@@ -50,7 +50,7 @@ pub(crate) fn is_certain(answer: u64) -> bool {
     }
 }
 
-/// That a call was made, unless memory is refused.
+/// Whether a call took effect, or out of memory.
 #[inline]
 pub(crate) fn is_done(answer: u64) -> Result<(), OutOfMemory> {
     match answered(answer)? {
@@ -59,13 +59,14 @@ pub(crate) fn is_done(answer: u64) -> Result<(), OutOfMemory> {
     }
 }
 
-/// The library answered what none does that this crate knows: another archive is linked.
+/// Panics since the library returned a number that this crate doesn't know: another archive is
+/// linked.
 #[cold]
 pub(crate) fn unknown(answer: u64) -> ! {
     panic!("p2p_session answered {answer:#x}")
 }
 
-/// What is read of the library's own answer, unless memory is refused.
+/// What was read of a result of the library, or out of memory.
 pub(crate) fn own<T>(read: Result<T, ReadError>) -> Result<T, OutOfMemory> {
     read.map_err(|error| match error {
         ReadError::Memory => OutOfMemory,
@@ -73,19 +74,19 @@ pub(crate) fn own<T>(read: Result<T, ReadError>) -> Result<T, OutOfMemory> {
     })
 }
 
-/// Where answers are written. What is above the bound of buffers is given back after each.
+/// A buffer for results. After each call its capacity above the bound of buffers is freed.
 #[derive(Debug)]
 pub(crate) struct Room {
     bytes: Vec<u8>,
-    // How much there is at least where something is asked.
+    // How long it is at least at the beginning of a call.
     first: usize,
-    // How long the last answer was: the next one begins with as much, for a long answer costs twice where there is too
-    // little.
+    // How long the last result was. The next call begins with as much, since a result that is
+    // longer than the buffer takes a second call.
     last: usize,
 }
 
 impl Room {
-    /// So much room at first.
+    /// A buffer of this initial length.
     pub(crate) fn new(first: usize) -> Result<Room, OutOfMemory> {
         Ok(Room {
             bytes: zeros(first)?,
@@ -94,18 +95,19 @@ impl Room {
         })
     }
 
-    /// At least so many bytes.
+    /// The buffer, with at least so many bytes.
     pub(crate) fn least(&mut self, length: usize) -> Result<&mut [u8], OutOfMemory> {
         lengthen(&mut self.bytes, length)?;
         Ok(&mut self.bytes)
     }
 
-    /// Gives back what is above the bound.
+    /// Frees the capacity above the bound.
     pub(crate) fn give_back(&mut self) {
         give_back_large(&mut self.bytes);
     }
 
-    /// Asks with at least so much room, once more with enough where that was too little, and reads the answer.
+    /// Calls with a buffer of at least this length, once more with a longer one if it was too
+    /// short, and reads the result.
     pub(crate) fn asked<T>(
         &mut self,
         least: usize,
@@ -122,7 +124,7 @@ impl Room {
         answer
     }
 
-    // How long the answer is, which stands in front.
+    // The length of the result, which is at the beginning of the buffer.
     fn length(
         &mut self,
         least: usize,

@@ -1,4 +1,4 @@
-//! How numbers, lengths and moments are spelled, and read again: docs/FORMATS.md of the repository.
+//! How numbers, lengths and times are encoded and decoded, by `docs/FORMATS.md` of the repository.
 
 use crate::error::{CodecError, OutOfMemory};
 use crate::moment::Moment;
@@ -9,7 +9,7 @@ use std::time::Duration;
 /// How many bytes a number in groups of seven bits has at most.
 pub(crate) const MAX_VARINT_SIZE: usize = 10;
 
-/// Why a value is not read.
+/// The reason why a value is not decoded.
 #[derive(Debug)]
 pub(crate) enum ReadError {
     Codec(CodecError),
@@ -17,8 +17,8 @@ pub(crate) enum ReadError {
 }
 
 impl ReadError {
-    /// The fault, for calls that can't answer that memory is wanted: where it is, the program is aborted, as Rust's
-    /// collections do.
+    /// The error, for calls that can't return out of memory. If an allocation failed, the program
+    /// is aborted, as by Rust's collections.
     pub(crate) fn fault(self) -> CodecError {
         match self {
             ReadError::Codec(fault) => fault,
@@ -45,7 +45,7 @@ impl From<TryReserveError> for ReadError {
     }
 }
 
-/// What is left of some bytes.
+/// Reads values from the front of a slice.
 pub(crate) struct Reader<'a> {
     bytes: &'a [u8],
 }
@@ -56,7 +56,7 @@ impl<'a> Reader<'a> {
         Reader { bytes }
     }
 
-    /// The next byte.
+    /// Reads the next byte.
     #[inline]
     pub(crate) fn byte(&mut self) -> Result<u8, CodecError> {
         let (first, rest) = self.bytes.split_first().ok_or(CodecError::EndOfBuffer)?;
@@ -64,7 +64,7 @@ impl<'a> Reader<'a> {
         Ok(*first)
     }
 
-    /// The next bytes, so many.
+    /// Reads so many bytes.
     #[inline]
     pub(crate) fn take(&mut self, count: usize) -> Result<&'a [u8], CodecError> {
         let (taken, rest) = self
@@ -75,7 +75,7 @@ impl<'a> Reader<'a> {
         Ok(taken)
     }
 
-    /// The next bytes, as many as an array has.
+    /// Reads as many bytes as the array has.
     #[inline]
     pub(crate) fn array<const N: usize>(&mut self) -> Result<[u8; N], CodecError> {
         let (taken, rest) = self
@@ -86,42 +86,42 @@ impl<'a> Reader<'a> {
         Ok(*taken)
     }
 
-    /// A number of 16 bits, the most significant byte first.
+    /// Reads a number of 16 bits, the most significant byte first.
     #[inline]
     pub(crate) fn short(&mut self) -> Result<u16, CodecError> {
         Ok(u16::from_be_bytes(self.array()?))
     }
 
-    /// A number of 64 bits, the most significant byte first.
+    /// Reads a number of 64 bits, the most significant byte first.
     #[inline]
     pub(crate) fn number(&mut self) -> Result<u64, CodecError> {
         Ok(u64::from_be_bytes(self.array()?))
     }
 
-    /// A number of 64 bits in groups of seven bits, the least significant first.
+    /// Reads a number of 64 bits in groups of seven bits, the least significant first.
     pub(crate) fn varint(&mut self) -> Result<u64, CodecError> {
         self.groups(10, 1)
     }
 
-    /// A length: a number of 32 bits in groups of seven.
+    /// Reads a length: a number of 32 bits in groups of seven.
     pub(crate) fn length(&mut self) -> Result<u64, CodecError> {
         self.groups(5, 15)
     }
 
-    /// A moment: eight bytes of seconds and four of nanoseconds.
+    /// Reads a time: eight bytes of seconds and four of nanoseconds.
     pub(crate) fn moment(&mut self) -> Result<Moment, CodecError> {
         let seconds = self.number()?;
         let nanos = u32::from_be_bytes(self.array()?);
         Ok(Duration::new(seconds, nanos).into())
     }
 
-    /// What is left.
+    /// The bytes that are left.
     #[inline]
     pub(crate) fn rest(self) -> &'a [u8] {
         self.bytes
     }
 
-    /// Ends the reading of a whole text: nothing may be left.
+    /// Checks that no bytes are left.
     pub(crate) fn end(self) -> Result<(), CodecError> {
         match self.bytes.len() {
             0 => Ok(()),
@@ -129,7 +129,7 @@ impl<'a> Reader<'a> {
         }
     }
 
-    // Groups of seven bits, at most so many; the last of these is at most this.
+    // Reads at most so many groups of seven bits. The last of them is at most `greatest_last`.
     fn groups(&mut self, most: u64, greatest_last: u8) -> Result<u64, CodecError> {
         let mut value = 0;
         for place in 0..most {
@@ -151,7 +151,7 @@ impl<'a> Reader<'a> {
 ///
 /// # Panics
 ///
-/// Where it is above the greatest `u32`: nobody would read it.
+/// Panics if it is above `u32::MAX`, since no decoder accepts it.
 pub(crate) fn write_length(out: &mut Vec<u8>, length: usize) {
     assert!(
         u32::try_from(length).is_ok(),
@@ -165,7 +165,7 @@ pub(crate) fn write_varint(out: &mut Vec<u8>, value: u64) {
     put_varint(value, |byte| out.push(byte));
 }
 
-/// Hands on the bytes of a number in groups of seven bits.
+/// Passes on the bytes of a number in groups of seven bits.
 pub(crate) fn put_varint(mut value: u64, mut put: impl FnMut(u8)) {
     while value >= 0x80 {
         put((value & 0x7f) as u8 | 0x80);

@@ -1,10 +1,10 @@
-//! What calls are refused with.
+//! The errors that calls return.
 
 use std::collections::TryReserveError;
 use std::error;
 use std::fmt;
 
-/// Memory was refused, by the library's heap or by Rust's, and nothing has changed: the call is as not made.
+/// An allocation of the library or of the crate failed. The call had no effect.
 ///
 /// # Examples
 ///
@@ -14,7 +14,7 @@ use std::fmt;
 #[derive(Clone, Copy, Debug, PartialEq, Eq, Hash)]
 pub struct OutOfMemory;
 
-/// Why no directory or node could be made.
+/// The reason why no directory or node was created.
 ///
 /// # Examples
 ///
@@ -26,15 +26,15 @@ pub struct OutOfMemory;
 #[derive(Clone, Copy, Debug, PartialEq, Eq, Hash)]
 #[non_exhaustive]
 pub enum SetupError {
-    /// Memory was refused.
+    /// An allocation failed.
     OutOfMemory,
-    /// `max_sets` is the greatest `usize`, or `max_bit_vec` above the greatest `u32`.
+    /// `max_sets` is `usize::MAX`, or `max_bit_vec` is above `u32::MAX`.
     Setting,
     /// The processor lacks an instruction of x86-64-v2, for which the library is compiled.
     Processor,
 }
 
-/// A peer is not reserved, so there is nothing to connect, and nothing has changed.
+/// The peer isn't reserved, so it can't be connected. Nothing has changed.
 ///
 /// # Examples
 ///
@@ -44,7 +44,7 @@ pub enum SetupError {
 #[derive(Clone, Copy, Debug, PartialEq, Eq, Hash)]
 pub struct NotReservedError;
 
-/// Why an info, or a list of infos, of a frame is refused.
+/// The reason why an info of a frame, or a list of them, is refused.
 ///
 /// # Examples
 ///
@@ -56,17 +56,17 @@ pub struct NotReservedError;
 #[derive(Clone, Copy, Debug, PartialEq, Eq, Hash)]
 #[non_exhaustive]
 pub enum Error {
-    /// There are more infos than are taken at a time: so many.
+    /// There are more infos than are accepted at a time: this many.
     TooManyPeers(u64),
-    /// An info is of the own key.
+    /// An info has the local key.
     ReceivedSelf,
-    /// A signature is not of the info's key.
+    /// A signature is invalid.
     InvalidSignature,
     /// A timestamp is too far ahead.
     SynchronyBound,
 }
 
-/// What of a value has no form that is allowed.
+/// The part of a value that is invalid.
 ///
 /// # Examples
 ///
@@ -80,15 +80,16 @@ pub enum Error {
 pub enum What {
     /// A text that is no hostname.
     Hostname,
-    /// Bits of the last byte that stand for nothing and are not 0.
+    /// Unused bits of the last byte that are not 0.
     Padding,
-    /// Bytes that are no key. Never answered for keys that any bytes are.
+    /// Invalid key bytes. Never returned for the keys of this crate: any 32 bytes are a key.
     Key,
-    /// Bytes that are no signature. Never answered for signatures that any bytes are.
+    /// Invalid signature bytes. Never returned for the signatures of this crate: any 64 bytes are a
+    /// signature.
     Signature,
 }
 
-/// The first fault of bytes that spell no value that is admitted.
+/// The first error of bytes that encode no value within the limits.
 ///
 /// # Examples
 ///
@@ -103,19 +104,19 @@ pub enum What {
 pub enum CodecError {
     /// The bytes end inside a value.
     EndOfBuffer,
-    /// So many bytes follow the value.
+    /// This many bytes follow the value.
     ExtraData(u64),
-    /// A length or a number is outside its limits.
+    /// A length or a number is outside its limits: this one.
     InvalidLength(u64),
-    /// A varint of at most so many bytes is padded, or too great.
+    /// A varint is padded or too large. Its encoding has at most this many bytes.
     InvalidVarint(u64),
-    /// A prefix that stands for nothing.
+    /// A prefix that no variant has.
     InvalidEnum(u8),
-    /// A part has no form that is allowed.
+    /// A part of the value is invalid: this one.
     Invalid(What),
 }
 
-/// Why a text is no key, no signature or no ingress.
+/// The reason why a text is no key, signature or ingress.
 ///
 /// # Examples
 ///
@@ -128,15 +129,16 @@ pub enum CodecError {
 #[derive(Clone, Copy, Debug, PartialEq, Eq, Hash)]
 #[non_exhaustive]
 pub enum ParseError {
-    /// There are not two hexadecimal digits for each byte of a key or a signature, but so many bytes of text.
+    /// There are not two hexadecimal digits for each byte of a key or a signature: this is the
+    /// length of the text in bytes.
     Length(usize),
     /// A character is no hexadecimal digit.
     Digit,
-    /// There is no port behind a colon at the end, or it is above the greatest `u16`.
+    /// There is no port after a colon at the end, or it is above `u16::MAX`.
     Port,
-    /// The host has brackets or ends in a number, as addresses do, and is none.
+    /// The host has brackets or its last label is a number, and it is no address.
     Address,
-    /// The host is no name.
+    /// The host is no hostname, for this reason.
     Hostname(CodecError),
 }
 

@@ -1,5 +1,5 @@
-//! Requests that are no commands: what can't be read is refused by a number with a name, nothing changes, and
-//! what comes out stays as it was.
+//! Malformed requests: each is refused with its own number, nothing changes, and the buffer for the
+//! result stays as it was.
 
 use crate::codec::Reader;
 use crate::directory::Directory;
@@ -20,7 +20,7 @@ const LIMITS: PayloadConfig = PayloadConfig {
     max_data_length: 32,
 };
 
-// Numbers that look random, the same in each run.
+// Pseudo-random numbers, the same in each run.
 struct Draws(u64);
 
 impl Draws {
@@ -39,14 +39,14 @@ impl Draws {
         (0..count).map(|_| self.number() as u8).collect()
     }
 
-    // Bytes that are no key: their number isn't that of a key.
+    // Bytes that are no key, since their length differs.
     fn no_key(&mut self) -> Vec<u8> {
         let count = self.below(3 * KEY_SIZE as u64);
         let count = count + u64::from(count == KEY_SIZE as u64);
         self.bytes(count)
     }
 
-    // Any byte, or one that names, numbers and prefixes have.
+    // A random byte, or one that often occurs in names, numbers and prefixes.
     fn byte(&mut self) -> u8 {
         const TELLING: &[u8] = b"a-.Z9\x00\x01\x02\x03\x04\x06\x7f\x80\xff";
         match self.below(2) {
@@ -55,7 +55,7 @@ impl Draws {
         }
     }
 
-    // A frame with up to three bytes changed, left out or put in.
+    // A frame with up to three bytes replaced, removed or inserted.
     fn spoilt(&mut self, frame: &[u8]) -> Vec<u8> {
         let mut frame = frame.to_vec();
         for _ in 0..self.below(4) {
@@ -106,7 +106,7 @@ fn session() -> Session {
     session
 }
 
-// What is seen of a session.
+// The state of a session, as far as its queries return it.
 fn seen(session: &Session) -> Vec<u8> {
     let mut seen = Vec::new();
     let mut out = [0; 4096];
@@ -128,7 +128,7 @@ fn seen(session: &Session) -> Vec<u8> {
     seen
 }
 
-// A request of some call that is none, with the answer that it has to have.
+// A malformed request of some call, with its expected result.
 fn request(session: &Session, draws: &mut Draws, out: &mut [u8]) -> (u64, u64) {
     let key = testing::key(1).0;
     let wrong = draws.no_key();
@@ -155,7 +155,7 @@ fn request(session: &Session, draws: &mut Draws, out: &mut [u8]) -> (u64, u64) {
     }
 }
 
-// Likewise, of a call that takes keys, infos, bits or a frame.
+// The same, for a call that takes keys, infos, bits or a frame.
 fn request_with_lists(
     session: &Session,
     draws: &mut Draws,
@@ -199,7 +199,7 @@ fn request_with_lists(
     }
 }
 
-// The bytes, or where these happen to spell infos others that don't.
+// Returns the bytes, or others if they happen to encode infos.
 fn no_infos(bytes: Vec<u8>) -> Vec<u8> {
     let mut reader = Reader::new(&bytes);
     match read_infos(&mut reader, u64::MAX).and_then(|_| Ok(reader.end()?)) {
@@ -235,7 +235,7 @@ fn requests_that_are_no_commands_change_nothing() {
     assert_eq!(seen(&session), before);
 }
 
-// The keys of bootstrappers that stand one after the other with their ingresses, or `None` where they don't.
+// The keys of encoded bootstrappers, or `None` if the bytes encode none.
 fn bootstrappers(bytes: &[u8]) -> Option<BTreeSet<Key>> {
     let mut keys = BTreeSet::new();
     let mut rest = bytes;
@@ -248,7 +248,7 @@ fn bootstrappers(bytes: &[u8]) -> Option<BTreeSet<Key>> {
     Some(keys)
 }
 
-// An info at a name.
+// An info with a name.
 fn named(number: u16) -> Info {
     let host = Hostname::new("node-1.a.example").expect("a name");
     let ingress = Ingress::Dns { host, port: 80 };
@@ -300,7 +300,7 @@ fn handles_come_and_go() {
         let now = crate::Moment::from_secs(1);
         let held = directory.dial(&testing::key(1), now, Duration::ZERO);
         assert!(held.unwrap().is_some());
-        // It is dropped with what is still held, on another thread.
+        // It is dropped with its open reservations, on another thread.
         std::thread::spawn(move || drop(directory)).join().unwrap();
         drop(Session::new());
     }

@@ -1,4 +1,4 @@
-//! What peers say of themselves, signed.
+//! Signed addresses of peers.
 
 use crate::codec::{MAX_VARINT_SIZE, ReadError, Reader, varint_size, write_length, write_varint};
 use crate::error::{CodecError, OutOfMemory};
@@ -6,10 +6,10 @@ use crate::ingress::Ingress;
 use crate::key::{KEY_SIZE, Key, SIGNATURE_SIZE, Signature};
 use std::fmt;
 
-/// How many bytes the spelling of an info has at least: of the shortest name, in one byte, and a timestamp of one byte.
+/// The minimum encoded size of an info: that of a name of one byte and a timestamp of one byte.
 pub(crate) const MIN_INFO_SIZE: usize = 5 + 1 + KEY_SIZE + SIGNATURE_SIZE;
 
-/// What a peer says of itself: where it can be dialled, since when, and its signature over both.
+/// The address at which a peer can be dialled, a timestamp, and the peer's signature over both.
 ///
 /// # Examples
 ///
@@ -18,7 +18,7 @@ pub(crate) const MIN_INFO_SIZE: usize = 5 + 1 + KEY_SIZE + SIGNATURE_SIZE;
 /// use std::net::SocketAddr;
 ///
 /// let ingress = Ingress::from(SocketAddr::from(([127, 0, 0, 1], 8080)));
-/// // A scheme of your own signs: here, one without any security.
+/// // Your own scheme signs. This one has no security.
 /// let info = Info::sign(Key([1; 32]), b"net", ingress, 1000, |_namespace, _message| {
 ///     Signature([1; 64])
 /// });
@@ -26,19 +26,20 @@ pub(crate) const MIN_INFO_SIZE: usize = 5 + 1 + KEY_SIZE + SIGNATURE_SIZE;
 /// ```
 #[derive(Clone, Debug, PartialEq, Eq, Hash)]
 pub struct Info {
-    /// Where the peer can be dialled.
+    /// The address at which the peer can be dialled.
     pub ingress: Ingress,
-    /// Since when it can be dialled there, in milliseconds since the epoch.
+    /// The time since when it can be dialled there, in milliseconds since the Unix epoch. Of two
+    /// infos, the one with the greater timestamp is newer.
     pub timestamp: u64,
     /// The key of the peer.
     pub public_key: Key,
-    /// Its signature over ingress and timestamp.
+    /// Its signature over ingress and timestamp, in a namespace.
     pub signature: Signature,
 }
 
 impl Info {
-    /// The info of these parts, with the answer of the closure as its signature. The closure is called
-    /// once, with the namespace and the [signed bytes](Info::signed_bytes).
+    /// Creates an info with the signature that `sign` returns. It is called once, with the
+    /// namespace and the [signed bytes](Info::signed_bytes).
     ///
     /// # Examples
     ///
@@ -70,8 +71,8 @@ impl Info {
         }
     }
 
-    /// What the signature is over: the spelling of the ingress, then the timestamp in eight bytes, the
-    /// most significant first.
+    /// The bytes over which the signature is made: the encoding of the ingress, then the timestamp
+    /// in eight bytes, the most significant first.
     ///
     /// # Examples
     ///
@@ -90,7 +91,8 @@ impl Info {
         signed_bytes(&self.ingress, self.timestamp)
     }
 
-    /// What the closure says of the key, the namespace, the signed bytes and the signature.
+    /// Returns what `verify` returns for the key, the namespace, the signed bytes and the
+    /// signature.
     ///
     /// # Examples
     ///
@@ -116,7 +118,7 @@ impl Info {
         )
     }
 
-    /// How many bytes the spelling of an info is allowed for.
+    /// The maximum encoded size of an info.
     ///
     /// # Examples
     ///
@@ -128,7 +130,7 @@ impl Info {
         Ingress::MAX_ENCODE_SIZE + 10 + KEY_SIZE + SIGNATURE_SIZE
     }
 
-    /// The spelling.
+    /// The encoding of the info.
     ///
     /// # Examples
     ///
@@ -146,7 +148,7 @@ impl Info {
         out
     }
 
-    /// How many bytes the spelling has.
+    /// The encoded size of the info.
     ///
     /// # Examples
     ///
@@ -159,11 +161,11 @@ impl Info {
         self.ingress.encode_size() + varint_size(self.timestamp) + KEY_SIZE + SIGNATURE_SIZE
     }
 
-    /// The info that these bytes spell.
+    /// Decodes the info that these bytes encode.
     ///
     /// # Errors
     ///
-    /// The first fault of bytes that spell none.
+    /// The first error of bytes that encode no info.
     ///
     /// # Examples
     ///
@@ -178,7 +180,7 @@ impl Info {
         Ok(info)
     }
 
-    /// Appends the spelling, unless memory is refused.
+    /// Appends the encoding, unless an allocation fails.
     pub(crate) fn try_write(&self, out: &mut Vec<u8>) -> Result<(), OutOfMemory> {
         out.try_reserve(self.encode_size())?;
         self.write(out);
@@ -202,7 +204,7 @@ impl Info {
     }
 }
 
-/// One line: the key, the ingress, and the timestamp in milliseconds.
+/// Formats an info in one line: the key, the ingress, and the timestamp in milliseconds.
 impl fmt::Display for Info {
     fn fmt(&self, f: &mut fmt::Formatter<'_>) -> fmt::Result {
         let Info {
@@ -221,7 +223,7 @@ fn signed_bytes(ingress: &Ingress, timestamp: u64) -> Vec<u8> {
     out
 }
 
-/// Appends the spelling of a list of infos.
+/// Appends the encoding of a list of infos.
 pub(crate) fn write_infos(out: &mut Vec<u8>, infos: &[Info]) {
     write_length(out, infos.len());
     for info in infos {
@@ -229,7 +231,7 @@ pub(crate) fn write_infos(out: &mut Vec<u8>, infos: &[Info]) {
     }
 }
 
-/// Appends the spelling of a list of infos, unless memory is refused.
+/// Appends the encoding of a list of infos, unless an allocation fails.
 pub(crate) fn try_write_infos(out: &mut Vec<u8>, infos: &[Info]) -> Result<(), OutOfMemory> {
     let size: usize = infos.iter().map(Info::encode_size).sum();
     out.try_reserve_exact(MAX_VARINT_SIZE + size)?;
@@ -237,7 +239,8 @@ pub(crate) fn try_write_infos(out: &mut Vec<u8>, infos: &[Info]) -> Result<(), O
     Ok(())
 }
 
-/// Reads a list of infos, at most so many. Room is made for what is there, not for what is announced.
+/// Decodes a list of infos, at most so many. It allocates for the infos that are there, not for the
+/// number that is announced.
 pub(crate) fn read_infos(reader: &mut Reader<'_>, most: u64) -> Result<Vec<Info>, ReadError> {
     let count = reader.length()?;
     if count > most {

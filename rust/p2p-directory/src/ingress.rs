@@ -1,4 +1,4 @@
-//! Where a peer can be dialled.
+//! The addresses at which peers can be dialled.
 
 use crate::answer::is_certain;
 use crate::codec::{ReadError, Reader, varint_size, write_varint};
@@ -11,10 +11,10 @@ use std::mem;
 use std::net::{IpAddr, SocketAddr};
 use std::str::FromStr;
 
-/// How many bytes a hostname has at most.
+/// The maximum length of a hostname, in bytes.
 pub(crate) const MAX_HOSTNAME: usize = 253;
 
-/// How many bytes a label of a hostname has at most.
+/// The maximum length of a label of a hostname, in bytes.
 const MAX_LABEL: usize = 63;
 
 const SOCKET_PREFIX: u8 = 0;
@@ -22,8 +22,8 @@ const DNS_PREFIX: u8 = 1;
 const VERSION_4: u8 = 4;
 const VERSION_6: u8 = 6;
 
-/// The name of a host: 1 to 253 bytes of ASCII, labels of 1 to 63 letters, digits and hyphens joined by
-/// dots. A label neither begins nor ends with a hyphen.
+/// The name of a host: 1 to 253 bytes of ASCII, which are labels separated by dots. A label has 1
+/// to 63 letters, digits and hyphens, and neither begins nor ends with a hyphen.
 ///
 /// # Examples
 ///
@@ -39,7 +39,7 @@ const VERSION_6: u8 = 6;
 pub struct Hostname(String);
 
 impl Hostname {
-    /// How many bytes the spelling of a hostname is allowed for.
+    /// The maximum encoded size of a hostname.
     ///
     /// # Examples
     ///
@@ -48,12 +48,12 @@ impl Hostname {
     /// ```
     pub const MAX_ENCODE_SIZE: usize = 5 + MAX_HOSTNAME;
 
-    /// The hostname of this text.
+    /// Creates a hostname from a text.
     ///
     /// # Errors
     ///
-    /// [`CodecError::InvalidLength`] for another length than 1 to 253, and else
-    /// [`CodecError::Invalid`] for a text without the form of a hostname.
+    /// [`CodecError::InvalidLength`] if the text doesn't have 1 to 253 bytes, and otherwise
+    /// [`CodecError::Invalid`] if it doesn't have the form of a hostname.
     ///
     /// # Examples
     ///
@@ -68,7 +68,7 @@ impl Hostname {
         read_text(String::new(), text.as_bytes()).map_err(ReadError::fault)
     }
 
-    /// The text.
+    /// The text of the hostname.
     ///
     /// # Examples
     ///
@@ -87,7 +87,7 @@ impl Hostname {
         out.extend_from_slice(self.0.as_bytes());
     }
 
-    // Reads a name into this room, and takes it.
+    // Decodes a hostname into this string, which is taken.
     fn read_into(name: &mut String, reader: &mut Reader<'_>) -> Result<Hostname, ReadError> {
         let length = reader.length()?;
         judge_length(length)?;
@@ -130,7 +130,7 @@ fn judge_length(length: u64) -> Result<(), CodecError> {
     Ok(())
 }
 
-// The name is empty. It takes no memory where it has room.
+// `name` is empty. It doesn't allocate if `name` has the capacity.
 fn read_text(mut name: String, text: &[u8]) -> Result<Hostname, ReadError> {
     if !text.split(|byte| *byte == b'.').all(is_label) {
         return Err(CodecError::Invalid(What::Hostname).into());
@@ -150,10 +150,11 @@ fn is_label(label: &[u8]) -> bool {
         && label.last() != Some(&b'-')
 }
 
-/// Where a peer can be dialled: an address, or the name of a host.
+/// The address at which a peer can be dialled: a socket address, or a hostname with a port.
 ///
-/// Of a socket address of version 6 neither flow label nor scope is told to others: `From` drops them, they count in no
-/// comparison, and they stand in no text. A text is read again, but for a name whose last label is a number.
+/// The flow label and the scope of an IPv6 socket address aren't encoded. `From` drops them,
+/// comparisons ignore them, and texts don't have them. [`FromStr`] parses each text that
+/// [`Display`](fmt::Display) writes, except that of a name whose last label is a number.
 ///
 /// # Examples
 ///
@@ -168,9 +169,9 @@ fn is_label(label: &[u8]) -> bool {
 /// ```
 #[derive(Clone, Debug)]
 pub enum Ingress {
-    /// An address.
+    /// A socket address.
     Socket(SocketAddr),
-    /// A name, which has to be resolved.
+    /// A name, which has to be resolved, with a port.
     Dns {
         /// The name.
         host: Hostname,
@@ -179,10 +180,12 @@ pub enum Ingress {
     },
 }
 
-/// Whether an address is global: one that isn't reserved for private networks, documentation, tests and the like, by the
-/// table of `docs/FORMATS.md` of the repository. It is the one by which a directory with
-/// [`allow_private_ips`](crate::Config::allow_private_ips) false judges addresses, so that a host can judge what a name
-/// resolves to.
+/// Whether an address is global: not reserved for private networks, documentation, tests or similar
+/// uses, by the table in `docs/FORMATS.md` of the repository.
+///
+/// If [`allow_private_ips`](crate::Config::allow_private_ips) is false, a directory dials only
+/// addresses for which this returns true. A host that resolves a name can check the result in the
+/// same way.
 ///
 /// # Examples
 ///
@@ -200,7 +203,7 @@ pub fn is_global(address: IpAddr) -> bool {
     })
 }
 
-// What is told of an ingress to others, by which it is compared.
+// The part of an ingress that is encoded, by which it is compared.
 #[derive(PartialEq, Eq, PartialOrd, Ord, Hash)]
 enum Told<'i> {
     Socket(IpAddr, u16),
@@ -208,7 +211,7 @@ enum Told<'i> {
 }
 
 impl Ingress {
-    /// How many bytes the spelling of an ingress is allowed for.
+    /// The maximum encoded size of an ingress.
     ///
     /// # Examples
     ///
@@ -234,7 +237,7 @@ impl Ingress {
         }
     }
 
-    /// The address, or `None` for a name.
+    /// The IP address, or `None` for a name.
     ///
     /// # Examples
     ///
@@ -252,9 +255,9 @@ impl Ingress {
         }
     }
 
-    /// Whether it may be dialled under these settings: an address where it is [global](is_global) or
-    /// `allow_private_ips`, a name where `allow_dns`. What a name resolves to is not looked at: that is judged by
-    /// [`is_global`], once it is known.
+    /// Whether it may be dialled under these settings. A socket address may if it is
+    /// [global](is_global) or `allow_private_ips` is true, and a name if `allow_dns` is true. The
+    /// address to which a name resolves isn't checked: the host must check it with [`is_global`].
     ///
     /// # Examples
     ///
@@ -275,7 +278,7 @@ impl Ingress {
         })
     }
 
-    /// The spelling.
+    /// The encoding of the ingress.
     ///
     /// # Examples
     ///
@@ -292,11 +295,11 @@ impl Ingress {
         out
     }
 
-    /// The ingress that these bytes spell.
+    /// Decodes the ingress that these bytes encode.
     ///
     /// # Errors
     ///
-    /// The first fault of bytes that spell none.
+    /// The first error of bytes that encode no ingress.
     ///
     /// # Examples
     ///
@@ -318,7 +321,7 @@ impl Ingress {
         }
     }
 
-    /// How many bytes the spelling has.
+    /// The encoded size of the ingress.
     ///
     /// # Examples
     ///
@@ -364,7 +367,8 @@ impl Ingress {
         Ingress::read_into(&mut String::new(), reader)
     }
 
-    /// Reads an ingress, and takes this room for its name where it has one. Takes no memory where a name has room.
+    /// Decodes an ingress, and takes this string for its name if it has one. It doesn't allocate if
+    /// the string has the capacity.
     pub(crate) fn read_into(
         name: &mut String,
         reader: &mut Reader<'_>,
@@ -408,7 +412,7 @@ impl Hash for Ingress {
 }
 
 impl From<SocketAddr> for Ingress {
-    /// The ingress of this address and port, without flow label and scope.
+    /// Creates an ingress of this address and port, without flow label and scope.
     fn from(socket: SocketAddr) -> Ingress {
         Ingress::Socket(SocketAddr::new(socket.ip(), socket.port()))
     }
@@ -423,8 +427,8 @@ impl From<(Hostname, u16)> for Ingress {
 impl FromStr for Ingress {
     type Err = ParseError;
 
-    /// The ingress of a text as `1.2.3.4:80`, `[::1]:80` or `example.com:80`. A host whose last label is a number is
-    /// an address, or refused.
+    /// Parses a text such as `1.2.3.4:80`, `[::1]:80` or `example.com:80`. A host whose last label
+    /// is a number must be an address.
     fn from_str(text: &str) -> Result<Ingress, ParseError> {
         let (host, port) = text.rsplit_once(':').ok_or(ParseError::Port)?;
         let port = read_port(port)?;
@@ -440,7 +444,7 @@ impl FromStr for Ingress {
 }
 
 fn read_port(text: &str) -> Result<u16, ParseError> {
-    // A number may have a sign elsewhere.
+    // `parse` alone would accept a sign.
     match is_numeric(Some(text)) {
         true => text.parse().map_err(|_| ParseError::Port),
         false => Err(ParseError::Port),

@@ -1,11 +1,11 @@
-//! Keys and signatures, as their bytes.
+//! Public keys and signatures, which are arrays of bytes.
 
 use crate::error::ParseError;
 use std::array::TryFromSliceError;
 use std::fmt;
 use std::str::FromStr;
 
-/// How many bytes a [`Key`] has.
+/// The length of a [`Key`], in bytes.
 ///
 /// # Examples
 ///
@@ -14,7 +14,7 @@ use std::str::FromStr;
 /// ```
 pub const KEY_SIZE: usize = 32;
 
-/// How many bytes a [`Signature`] has.
+/// The length of a [`Signature`], in bytes.
 ///
 /// # Examples
 ///
@@ -25,7 +25,8 @@ pub const SIGNATURE_SIZE: usize = 64;
 
 /// The public key of a peer. Keys are ordered by their bytes.
 ///
-/// Its text is hexadecimal digits, two for each byte: written in lower case, and read in both.
+/// Its text has two hexadecimal digits for each byte. It is written in lower case, and parsed in
+/// either case.
 ///
 /// # Examples
 ///
@@ -41,8 +42,8 @@ pub const SIGNATURE_SIZE: usize = 64;
 #[derive(Clone, Copy, PartialEq, Eq, PartialOrd, Ord, Hash)]
 pub struct Key(pub [u8; KEY_SIZE]);
 
-/// A signature. Whether it is one of a key over a namespace and bytes, whoever calls
-/// [`Node::receive`](crate::Node::receive) says. Its text is that of a [`Key`].
+/// A signature of a key over a namespace and a message. The function that the caller passes to
+/// [`Node::receive`](crate::Node::receive) verifies it. Its text is that of a [`Key`].
 ///
 /// # Examples
 ///
@@ -55,7 +56,7 @@ pub struct Key(pub [u8; KEY_SIZE]);
 pub struct Signature(pub [u8; SIGNATURE_SIZE]);
 
 impl Key {
-    /// The key that these bytes are, or `None` where they are of another number.
+    /// Creates a key from its bytes, or returns `None` if there aren't [`KEY_SIZE`] of them.
     ///
     /// # Examples
     ///
@@ -72,7 +73,8 @@ impl Key {
 }
 
 impl Signature {
-    /// The signature that these bytes are, or `None` where they are of another number.
+    /// Creates a signature from its bytes, or returns `None` if there aren't [`SIGNATURE_SIZE`] of
+    /// them.
     ///
     /// # Examples
     ///

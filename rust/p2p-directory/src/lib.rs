@@ -1,28 +1,33 @@
-//! A directory of peers, for nodes that find each other by signed gossip: which peers there are, who may be
-//! dialled or listened for, who is blocked, which reservation is held, whose connection has to end, and what
-//! is told to other nodes.
+//! The peer table of a network whose nodes find each other by signed gossip.
 //!
-//! It is a crate over a library that is proved in Rattle: each call of [`Directory`] and [`Node`] is one of
-//! the library's, which answers what is recomputed from all calls so far. There is no clock, no random
-//! generator, no socket, no thread and no scheme of signatures inside: moments, random draws, frames and
-//! what tells a good signature are handed in.
+//! The application registers which peers there are. A [`Directory`] decides which of them to dial,
+//! which to accept, which are blocked, which connections must be closed, and which infos to share
+//! with other nodes. A [`Node`] also decodes frames and replies to them.
 //!
-//! Names and shapes are those of the discovery directory of `commonware-p2p` where they can be.
+//! The crate is a wrapper over a library that is proved in Rattle. Each call of [`Directory`] and
+//! [`Node`] is one call of the library, whose reply is what its specification computes from the
+//! history of calls. There is no clock, random generator, socket, thread or signature scheme
+//! inside: the caller passes in the time, random numbers, frames and a function that verifies
+//! signatures.
+//!
+//! Names and signatures are those of the discovery directory of `commonware-p2p` where possible.
+//! The frames are not compatible with it.
 //!
 //! # Memory
 //!
-//! A call that answers [`OutOfMemory`], [`SetupError::OutOfMemory`] or [`Received::Memory`] does so whether the
-//! library's memory is refused or the crate's own, and is as not made then. Calls that can't answer it take none, but
-//! for those that make or copy a value: `clone`, `encode`, `decode`, [`Info::sign`], [`Info::signed_bytes`],
-//! [`Hostname::new`], `parse`, [`OrderedSet::from_iter_dedup`] and formatting abort the program where memory is
-//! refused, as collections of the standard library do.
+//! A call that returns [`OutOfMemory`], [`SetupError::OutOfMemory`] or [`Received::Memory`] has had
+//! no effect, whether an allocation of the library or one of the crate failed. Calls that can't
+//! return one of these never allocate, except those that create or copy a value. These are `clone`,
+//! `encode`, `decode`, [`Info::sign`], [`Info::signed_bytes`], [`Hostname::new`], `parse`,
+//! [`OrderedSet::from_iter_dedup`] and formatting. If an allocation fails, they abort the program,
+//! as collections of the standard library do.
 //!
 //! Buffers are kept between calls, each up to 64 KiB.
 //!
 //! # Features
 //!
-//! `testing` adds the module `testing`: keys, infos and a scheme of signatures without any security, for tests and
-//! examples. The examples of this documentation use it.
+//! `testing` adds the module `testing`: keys, infos and a signature scheme without any security,
+//! for tests and examples. The examples of this documentation use it.
 //!
 //! # Examples
 //!
@@ -36,7 +41,7 @@
 //! let now = Moment::from_secs(100);
 //! for peer in directory.dialable(now)?.peers {
 //!     if let Some(reservation) = directory.dial(&peer, now, Duration::ZERO)? {
-//!         // A reservation that an error drops is given back.
+//!         // A reservation that is dropped by an error is released.
 //!         directory.connect_reserved(&reservation)?;
 //!         // .. the connection ..
 //!         directory.release(reservation)?;

@@ -1,11 +1,11 @@
-//! Memory of Rust's heap, asked for so that its want is answered.
+//! Fallible allocations on Rust's heap.
 
 use crate::error::OutOfMemory;
 
-/// How many bytes a buffer keeps at most between calls.
+/// The maximum capacity that a buffer keeps between calls, in bytes.
 const MOST_KEPT: usize = 64 << 10;
 
-/// A copy of these bytes.
+/// Copies these bytes.
 pub(crate) fn copied(bytes: &[u8]) -> Result<Vec<u8>, OutOfMemory> {
     let mut copy = Vec::new();
     copy.try_reserve_exact(bytes.len())?;
@@ -13,7 +13,7 @@ pub(crate) fn copied(bytes: &[u8]) -> Result<Vec<u8>, OutOfMemory> {
     Ok(copy)
 }
 
-/// So many zeros.
+/// So many zero bytes.
 pub(crate) fn zeros(length: usize) -> Result<Vec<u8>, OutOfMemory> {
     let mut zeros = Vec::new();
     lengthen(&mut zeros, length)?;
@@ -29,7 +29,7 @@ pub(crate) fn lengthen(bytes: &mut Vec<u8>, length: usize) -> Result<(), OutOfMe
     Ok(())
 }
 
-/// Gives back the memory of a buffer that had to be large for once. None is asked for, so it can't be refused.
+/// Frees a buffer whose capacity is above the maximum that is kept. It doesn't allocate.
 pub(crate) fn give_back_large(buffer: &mut Vec<u8>) {
     if buffer.capacity() > MOST_KEPT {
         *buffer = Vec::new();

@@ -4,10 +4,10 @@ use std::error;
 use std::fmt;
 use std::time::{Duration, SystemTime, UNIX_EPOCH};
 
-/// A point in time: how many seconds and nanoseconds passed since the Unix epoch.
+/// A point in time, as the seconds and nanoseconds since the Unix epoch.
 ///
-/// Calls that depend on time are handed the moment at which they are made. It is a type of its own, so that a draw
-/// or a setting, which are [`Duration`]s, can't stand in its place.
+/// Calls that depend on time have an argument of this type, the present time. Draws and settings
+/// are [`Duration`]s, so neither can replace the other.
 ///
 /// # Examples
 ///
@@ -22,7 +22,7 @@ use std::time::{Duration, SystemTime, UNIX_EPOCH};
 /// # Ok::<(), p2p_directory::BeforeEpochError>(())
 /// ```
 ///
-/// A duration is none:
+/// A duration is no `Moment`:
 ///
 /// ```compile_fail,E0308
 /// # use p2p_directory::{Directory, Key}; use std::time::Duration;
@@ -33,7 +33,7 @@ use std::time::{Duration, SystemTime, UNIX_EPOCH};
 #[derive(Clone, Copy, Debug, Default, PartialEq, Eq, PartialOrd, Ord, Hash)]
 pub struct Moment(Duration);
 
-/// A system time lies before the Unix epoch, so it is no [`Moment`].
+/// A system time is before the Unix epoch, so it can't be converted to a [`Moment`].
 ///
 /// # Examples
 ///
@@ -49,7 +49,7 @@ pub struct Moment(Duration);
 pub struct BeforeEpochError;
 
 impl Moment {
-    /// The Unix epoch, the first moment.
+    /// The Unix epoch, the earliest time.
     ///
     /// # Examples
     ///
@@ -59,7 +59,8 @@ impl Moment {
     /// ```
     pub const EPOCH: Moment = Moment(Duration::ZERO);
 
-    /// The last moment. A moment that would lie after it, as the end of a block, is this one.
+    /// The latest time. A sum that would be later, such as the end of a block, is capped at this
+    /// one.
     ///
     /// # Examples
     ///
@@ -69,7 +70,7 @@ impl Moment {
     /// ```
     pub const MAX: Moment = Moment(Duration::MAX);
 
-    /// The moment at which so many seconds passed since the epoch.
+    /// Creates the time that is so many seconds after the epoch.
     ///
     /// # Examples
     ///
@@ -83,7 +84,7 @@ impl Moment {
         Moment(Duration::from_secs(seconds))
     }
 
-    /// How much time passed since the epoch.
+    /// The time since the epoch.
     ///
     /// # Examples
     ///
@@ -99,7 +100,7 @@ impl Moment {
         self.0
     }
 
-    /// The system time of the moment, or `None` where the system has none so late.
+    /// The system time, or `None` if the system can't represent it.
     ///
     /// # Examples
     ///
@@ -114,7 +115,7 @@ impl Moment {
         UNIX_EPOCH.checked_add(self.0)
     }
 
-    /// The moment that is later by this duration, or `None` where it would lie after [`Moment::MAX`].
+    /// The time that is later by this duration, or `None` if it would be after [`Moment::MAX`].
     ///
     /// # Examples
     ///
@@ -133,7 +134,8 @@ impl Moment {
         }
     }
 
-    /// The moment that is earlier by this duration, or `None` where it would lie before [`Moment::EPOCH`].
+    /// The time that is earlier by this duration, or `None` if it would be before
+    /// [`Moment::EPOCH`].
     ///
     /// # Examples
     ///
@@ -152,8 +154,8 @@ impl Moment {
         }
     }
 
-    /// The moment that is later by this duration, and [`Moment::MAX`] where it would lie after that. So the library
-    /// counts the ends of cooldowns and blocks.
+    /// The time that is later by this duration, at most [`Moment::MAX`]. The library computes the
+    /// ends of cooldowns and blocks in this way.
     ///
     /// # Examples
     ///
@@ -169,7 +171,7 @@ impl Moment {
         Moment(self.0.saturating_add(duration))
     }
 
-    /// How much time passed since another moment: none where that is later.
+    /// The time that has passed since `earlier`, or zero if that is later.
     ///
     /// # Examples
     ///
@@ -185,7 +187,7 @@ impl Moment {
         self.0.saturating_sub(earlier.0)
     }
 
-    /// Its seconds and nanoseconds, as they cross.
+    /// Its seconds and nanoseconds, as the library takes them.
     #[inline]
     pub(crate) fn parts(self) -> (u64, u32) {
         (self.0.as_secs(), self.0.subsec_nanos())
@@ -193,7 +195,7 @@ impl Moment {
 }
 
 impl From<Duration> for Moment {
-    /// The moment at which so much time passed since the epoch.
+    /// Creates the time that is so long after the epoch.
     #[inline]
     fn from(since_epoch: Duration) -> Moment {
         Moment(since_epoch)
@@ -209,7 +211,7 @@ impl TryFrom<SystemTime> for Moment {
     }
 }
 
-/// The seconds since the epoch, with nine digits behind the point.
+/// Formats the seconds since the epoch, with nine digits after the point.
 impl fmt::Display for Moment {
     fn fmt(&self, f: &mut fmt::Formatter<'_>) -> fmt::Result {
         let (seconds, nanos) = self.parts();

@@ -1,4 +1,4 @@
-//! What peers send each other.
+//! The frames that peers send to each other.
 
 use crate::codec::{MAX_VARINT_SIZE, ReadError, Reader, varint_size, write_length, write_varint};
 use crate::error::{CodecError, OutOfMemory, What};
@@ -10,7 +10,7 @@ const GREETING_PREFIX: u8 = 1;
 const BIT_VEC_PREFIX: u8 = 2;
 const PEERS_PREFIX: u8 = 3;
 
-/// The limits under which frames are read.
+/// The limits under which frames are decoded.
 ///
 /// # Examples
 ///
@@ -23,11 +23,11 @@ const PEERS_PREFIX: u8 = 3;
 /// ```
 #[derive(Clone, Copy, Debug, PartialEq, Eq, Hash)]
 pub struct PayloadConfig {
-    /// How many bits there may be, at most the greatest `u32`.
+    /// The maximum number of bits, at most `u32::MAX`.
     pub max_bit_vec: u64,
-    /// How many infos there may be.
+    /// The maximum number of infos.
     pub max_peers: usize,
-    /// How many bytes a message may have.
+    /// The maximum length of a message, in bytes.
     pub max_data_length: usize,
 }
 
@@ -49,7 +49,7 @@ pub struct Data {
     pub message: Vec<u8>,
 }
 
-/// Of the primary peers of a set, in order, whose info is known.
+/// For each primary peer of a set, in the order of keys, whether the sender knows its info.
 ///
 /// # Examples
 ///
@@ -63,11 +63,11 @@ pub struct Data {
 pub struct BitVec {
     /// The index of the set.
     pub index: u64,
-    /// A bit for each primary peer: whether its info is known, and not wanted.
+    /// A bit for each primary peer: whether its info is known and not wanted.
     pub bits: Vec<bool>,
 }
 
-/// What a frame spells.
+/// The payload of a frame.
 ///
 /// # Examples
 ///
@@ -83,16 +83,16 @@ pub struct BitVec {
 pub enum Payload {
     /// A message on a channel.
     Data(Data),
-    /// The info of whom the connection is with.
+    /// The sender's own info. Nothing checks that it is the peer of the connection: the host must.
     Greeting(Info),
-    /// Which infos of a set are known to the sender, who asks for the others.
+    /// Which infos of a set the sender knows. It asks for the others.
     BitVec(BitVec),
-    /// Infos that the receiver asked for.
+    /// Infos for which the receiver asked.
     Peers(Vec<Info>),
 }
 
 impl BitVec {
-    /// Appends the spelling, unless memory is refused.
+    /// Appends the encoding, unless an allocation fails.
     pub(crate) fn try_write(&self, out: &mut Vec<u8>) -> Result<(), OutOfMemory> {
         out.try_reserve(2 * MAX_VARINT_SIZE + self.bits.len().div_ceil(8))?;
         self.write(out);
@@ -150,7 +150,7 @@ impl Data {
     }
 }
 
-/// The frame that greets with an info, unless memory is refused.
+/// The frame of a greeting with this info, unless an allocation fails.
 pub(crate) fn greeting_of(info: &Info) -> Result<Vec<u8>, OutOfMemory> {
     let mut frame = Vec::new();
     frame.try_reserve_exact(1 + info.encode_size())?;
@@ -159,7 +159,7 @@ pub(crate) fn greeting_of(info: &Info) -> Result<Vec<u8>, OutOfMemory> {
     Ok(frame)
 }
 
-/// The frame that answers bits with infos, unless memory is refused.
+/// The frame of a reply with these infos, unless an allocation fails.
 pub(crate) fn reply_of(infos: &[Info]) -> Result<Vec<u8>, OutOfMemory> {
     let mut frame = Vec::new();
     frame.try_reserve(1)?;
@@ -169,11 +169,11 @@ pub(crate) fn reply_of(infos: &[Info]) -> Result<Vec<u8>, OutOfMemory> {
 }
 
 impl Payload {
-    /// The frame.
+    /// The encoding of the payload, which is a frame.
     ///
     /// # Panics
     ///
-    /// Where a message has more bytes, or a list more infos, than the greatest `u32`.
+    /// Panics if a message has more than `u32::MAX` bytes, or a list more than `u32::MAX` infos.
     ///
     /// # Examples
     ///
@@ -206,7 +206,7 @@ impl Payload {
         out
     }
 
-    /// How many bytes the frame has.
+    /// The encoded size of the payload.
     ///
     /// # Examples
     ///
@@ -233,12 +233,13 @@ impl Payload {
         1 + value
     }
 
-    /// The payload that a frame spells under these limits.
+    /// Decodes the payload of a frame under these limits.
     ///
     /// # Errors
     ///
-    /// The first fault of a frame that spells none: what [`Node::receive`](crate::Node::receive)
-    /// answers to it as `Received::Codec`.
+    /// The first error of a frame that encodes no payload within the limits.
+    /// [`Node::receive`](crate::Node::receive) returns it as
+    /// [`Received::Codec`](crate::Received::Codec).
     ///
     /// # Examples
     ///
@@ -255,8 +256,8 @@ impl Payload {
         Ok(payload)
     }
 
-    /// How long at most what has to be verified of a frame is, as the library tells it: where the frame has infos, each
-    /// is told with its length, and with its timestamp in eight bytes in place of one at least.
+    /// The maximum length of what the library writes about the infos of a frame. Each info is
+    /// written with its length, and with its timestamp in eight bytes in place of at least one.
     pub(crate) fn room_to_check(frame: &[u8]) -> usize {
         match frame.first() {
             Some(&PEERS_PREFIX) => frame.len() + frame.len() / MIN_INFO_SIZE * 15 + 8,
@@ -264,7 +265,7 @@ impl Payload {
         }
     }
 
-    /// Whether a frame can have infos, which are all that is signed.
+    /// Whether a frame can have infos, since only these are signed.
     pub(crate) fn is_signed(frame: &[u8]) -> bool {
         matches!(frame.first(), Some(&(GREETING_PREFIX | PEERS_PREFIX)))
     }
@@ -280,7 +281,7 @@ impl Payload {
     }
 }
 
-// Whether the bit at a place is set: of each byte the least significant stands first.
+// Whether the bit at a position is set. The least significant bit of each byte is the first.
 fn is_set(bytes: &[u8], place: usize) -> bool {
     bytes[place / 8] >> (place % 8) & 1 == 1
 }

@@ -1,5 +1,5 @@
-//! Sessions by their numbers and bytes, as docs/C.md of the repository has them: each export is called, with
-//! ample memory, and its answer compared.
+//! The exports of the library, as `docs/C.md` of the repository describes them: each is called,
+//! with enough memory, and its result is compared.
 
 mod calls;
 mod frames;

@@ -6,10 +6,9 @@ use std::error;
 use std::fmt;
 use std::ops::Deref;
 
-/// Keys in ascending order, each once. Sets are ordered as lists of their keys.
+/// Keys in ascending order, without duplicates. Sets are compared as lists of their keys.
 ///
-/// A key that comes again is dropped where a set is collected, and by [`OrderedSet::from_iter_dedup`], which is the same;
-/// `try_from` refuses it.
+/// `collect` and [`OrderedSet::from_iter_dedup`] drop duplicates, and `try_from` refuses them.
 ///
 /// # Examples
 ///
@@ -23,7 +22,7 @@ use std::ops::Deref;
 #[derive(Clone, Debug, Default, PartialEq, Eq, PartialOrd, Ord, Hash)]
 pub struct OrderedSet(Vec<Key>);
 
-/// A key stands more than once in a list that was to be a set.
+/// A key occurs more than once in a list that was converted to a set.
 ///
 /// # Examples
 ///
@@ -36,7 +35,7 @@ pub struct OrderedSet(Vec<Key>);
 pub struct DuplicateKeyError;
 
 impl OrderedSet {
-    /// The set of these keys, each once. Where memory is refused, the program is aborted.
+    /// Creates a set from keys, and drops duplicates. It aborts the program if an allocation fails.
     ///
     /// # Examples
     ///
@@ -52,7 +51,7 @@ impl OrderedSet {
         OrderedSet(keys)
     }
 
-    /// At which place the key stands, counted from 0, or `None` where it doesn't.
+    /// The position of the key in the set, counted from 0, or `None` if it isn't in the set.
     ///
     /// # Examples
     ///
@@ -74,12 +73,12 @@ impl OrderedSet {
         Ok(())
     }
 
-    // The keys that stand one after the other, which are sorted and distinct.
+    // Reads keys that are written one after the other. They are sorted and distinct.
     pub(crate) fn read(bytes: &[u8]) -> Result<OrderedSet, OutOfMemory> {
         read_keys(bytes).map(OrderedSet)
     }
 
-    // Likewise, in the room of a list that has nothing in it yet.
+    // Reads them as `read` does, into an empty list.
     pub(crate) fn read_into(mut room: Vec<Key>, bytes: &[u8]) -> OrderedSet {
         room.extend(keys_of(bytes));
         OrderedSet(room)
@@ -91,7 +90,7 @@ fn keys_of(bytes: &[u8]) -> impl ExactSizeIterator<Item = Key> {
     keys.iter().map(|key| Key(*key))
 }
 
-/// The keys that stand one after the other.
+/// Reads keys that are written one after the other.
 pub(crate) fn read_keys(bytes: &[u8]) -> Result<Vec<Key>, OutOfMemory> {
     let spelled = keys_of(bytes);
     let mut keys = Vec::new();
@@ -135,7 +134,7 @@ impl AsRef<[Key]> for OrderedSet {
 }
 
 impl From<OrderedSet> for Vec<Key> {
-    /// The keys in ascending order, in the memory of the set.
+    /// Returns the keys in ascending order. It doesn't allocate.
     fn from(set: OrderedSet) -> Vec<Key> {
         set.0
     }
@@ -151,7 +150,7 @@ impl IntoIterator for OrderedSet {
 }
 
 impl FromIterator<Key> for OrderedSet {
-    /// As [`OrderedSet::from_iter_dedup`].
+    /// Creates a set as [`OrderedSet::from_iter_dedup`] does.
     fn from_iter<I: IntoIterator<Item = Key>>(keys: I) -> OrderedSet {
         OrderedSet::from_iter_dedup(keys)
     }
@@ -193,7 +192,7 @@ pub struct TrackedPeers {
 }
 
 impl TrackedPeers {
-    /// The peers of both roles.
+    /// Creates a value from the peers of both roles.
     ///
     /// # Examples
     ///

@@ -1,10 +1,10 @@
-//! How long frames and values are: docs/FORMATS.md of the repository.
+//! The sizes of frames and values, by `docs/FORMATS.md` of the repository.
 
 use crate::codec::{MAX_VARINT_SIZE, put_varint, varint_size};
 use crate::info::Info;
 use std::fmt;
 
-/// How much longer than its message a data frame is at most.
+/// How many bytes a data frame is longer than its message, at most.
 ///
 /// # Examples
 ///
@@ -13,8 +13,8 @@ use std::fmt;
 /// ```
 pub const MAX_PAYLOAD_OVERHEAD: u32 = 1 + 10 + 5;
 
-/// The greatest size of a message where a transport carries frames of at most so many bytes, or `None` where these are
-/// fewer than [`MAX_PAYLOAD_OVERHEAD`].
+/// The maximum size of a message if a transport carries frames of at most `max_frame_size` bytes.
+/// Returns `None` if that is less than [`MAX_PAYLOAD_OVERHEAD`].
 ///
 /// # Examples
 ///
@@ -27,8 +27,8 @@ pub const fn max_size(max_frame_size: u32) -> Option<u32> {
     max_frame_size.checked_sub(MAX_PAYLOAD_OVERHEAD)
 }
 
-/// The greatest size of a frame that isn't data, where a peer is sent at most so many bits and infos: what a transport
-/// has to carry for gossip. `None` where it fits no `usize`.
+/// The maximum size of a frame that isn't data, if it has at most so many bits or infos. A
+/// transport has to carry such frames for gossip. Returns `None` if the size exceeds `usize::MAX`.
 ///
 /// # Examples
 ///
@@ -59,7 +59,8 @@ pub const fn max_gossip_size(max_bit_vec: u64, max_peers: usize) -> Option<usize
     longest.checked_add(1)
 }
 
-/// What a data frame begins with: the bytes that go before a message, so that a host can send both from where they are.
+/// The first bytes of a data frame, which precede the message. With them a host can send a message
+/// without copying it into a frame.
 ///
 /// # Examples
 ///
@@ -78,7 +79,7 @@ pub struct EncodedData {
 }
 
 impl EncodedData {
-    /// The header of a message of so many bytes on a channel. Takes no memory.
+    /// Creates the header for a message of `message_size` bytes on a channel. It doesn't allocate.
     #[must_use]
     pub fn new(channel: u64, message_size: u32) -> EncodedData {
         let mut header = EncodedData {
@@ -90,7 +91,7 @@ impl EncodedData {
         header
     }
 
-    /// Its bytes, at most [`MAX_PAYLOAD_OVERHEAD`].
+    /// The bytes of the header, at most [`MAX_PAYLOAD_OVERHEAD`].
     #[must_use]
     pub fn as_bytes(&self) -> &[u8] {
         &self.bytes[..usize::from(self.length)]

@@ -1,4 +1,5 @@
-//! Keys, infos and a scheme of signatures without any security, for tests and examples, with the feature `testing`.
+//! Keys, infos and a signature scheme without any security, for tests and examples, with the
+//! feature `testing`.
 //!
 //! ```
 //! use p2p_directory::testing;
@@ -7,7 +8,7 @@
 //! assert!(info.verify(testing::NAMESPACE, testing::verify));
 //! ```
 //!
-//! Whoever wants security hands in a scheme of his own: see [`Node::receive`](crate::Node::receive) and
+//! For real use, pass your own signature scheme to [`Node::receive`](crate::Node::receive) and
 //! [`Info::sign`](crate::Info::sign).
 
 use crate::directory::{Config, Directory};
@@ -29,7 +30,7 @@ use std::time::Duration;
 /// ```
 pub const NAMESPACE: &[u8] = b"testing";
 
-/// The key of a number: its bytes, the most significant first, behind zeros.
+/// The key of a number: zeros, and then the two bytes of the number, the most significant first.
 ///
 /// # Examples
 ///
@@ -45,7 +46,7 @@ pub fn key(number: u16) -> Key {
     Key(bytes)
 }
 
-/// The one signature of a key over a namespace and a message. Anybody can make it.
+/// The only signature of a key over a namespace and a message. Anybody can create it.
 ///
 /// # Examples
 ///
@@ -69,7 +70,7 @@ pub fn sign(key: &Key, namespace: &[u8], message: &[u8]) -> Signature {
     Signature(bytes)
 }
 
-/// Whether the signature is the one of the key over a namespace and a message.
+/// Whether the signature is that of the key over the namespace and the message.
 ///
 /// # Examples
 ///
@@ -85,7 +86,7 @@ pub fn verify(key: &Key, namespace: &[u8], message: &[u8], signature: &Signature
     sign(key, namespace, message) == *signature
 }
 
-/// The info of the key of a number, at the address 1.2.3.4 and the port 8000 and the number.
+/// The info of the key of a number, at the address 1.2.3.4 and the port 8000 plus the number.
 ///
 /// # Examples
 ///
@@ -119,7 +120,7 @@ pub fn info_at(number: u16, timestamp: u64, port: u16) -> Info {
     })
 }
 
-/// A configuration: one set, a cooldown of ten seconds and blocks of a minute.
+/// A configuration with one retained set, a cooldown of ten seconds and blocks of a minute.
 ///
 /// # Examples
 ///
@@ -138,11 +139,11 @@ pub fn config() -> Config {
     }
 }
 
-/// A directory of this configuration, with the own key of number 9.
+/// A directory with this [`config`], whose local key has the number 9.
 ///
 /// # Panics
 ///
-/// Where memory is refused.
+/// Panics if an allocation fails.
 ///
 /// # Examples
 ///
@@ -154,7 +155,7 @@ pub fn directory() -> Directory {
     Directory::init(&[], &info(9, 0), config()).expect("memory for a directory")
 }
 
-/// The setup of a node with the key of a number.
+/// The settings of a node with the key of a number.
 ///
 /// # Examples
 ///

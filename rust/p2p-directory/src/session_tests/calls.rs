@@ -1,4 +1,4 @@
-//! Calls about one peer, and what they tell, with ample memory.
+//! Calls about one peer, and queries of what they changed, with enough memory.
 
 use super::given::{asked, info, infos, key, keys, session, tracking};
 use crate::key::KEY_SIZE;
@@ -55,7 +55,7 @@ fn a_reservation_is_told() {
     assert_eq!(asked(|room| session.reservation(&key(2), room)), [0]);
 }
 
-// The moment from which it may be dialled again is that of its cooldown, and the draw of one second.
+// The dial time is the end of the cooldown, plus the draw of one second.
 #[test]
 fn a_draw_is_waited_for() {
     let session = tracking(9, &[1]);

@@ -1,23 +1,23 @@
-//! Frames: what of them has to be verified, and what is answered, by sessions with keys 9 and 8.
+//! Frames: the questions about them and the results, of sessions with keys 9 and 8.
 
 use super::given::{asked, info, infos, key, session, tracking};
 use crate::key::SIGNATURE_SIZE;
 use p2p_directory_sys::{BAD_VERDICTS, NO_ROOM, Session};
 
-// How much room a call of `receive` has to have.
+// The minimum length of a buffer for `receive`.
 const LONGEST: usize = 10;
 
-// The frame of the infos of these keys and timestamps.
+// The frame of the infos with these keys and timestamps.
 fn peers(told: &[(u8, u8)]) -> Vec<u8> {
     [vec![3], infos(told)].concat()
 }
 
-// The frame that greets with the info of a key.
+// The frame of a greeting with the info of a key.
 fn greeting(byte: u8, timestamp: u8) -> Vec<u8> {
     [vec![1], info(byte, timestamp)].concat()
 }
 
-// What is answered to a frame at 100 seconds.
+// The result for a frame at 100 seconds.
 fn received(session: &Session, frame: &[u8], verdicts: &[u8]) -> Vec<u8> {
     asked(|room| session.receive(frame, 100, 0, verdicts, room))
 }
@@ -36,7 +36,8 @@ fn bits_are_answered_with_infos() {
     assert_eq!(received(&replier, &[2, 0, 2, 0], &[]), reply);
 }
 
-// The number, the length, the key, an ingress of 8 bytes with the timestamp, the signature.
+// In order: the number of infos, the length of the message, the key, an ingress of 8 bytes with the
+// timestamp, the signature.
 #[test]
 fn infos_have_to_be_verified() {
     let asker = tracking(9, &[1]);
@@ -75,7 +76,7 @@ fn verdicts_and_room_are_counted() {
     assert_eq!(asked(|room| asker.ask(0, room)), [2, 0, 1, 0]);
 }
 
-// Whatever the frame is, and though its own answer would fit.
+// This holds for each frame, even if its own result would fit.
 #[test]
 fn a_frame_is_not_taken_with_less_room_than_the_longest_answer_wants() {
     let session = tracking(9, &[1]);
@@ -101,7 +102,7 @@ fn a_frame_is_not_taken_with_less_room_than_the_longest_answer_wants() {
     assert_eq!(asked(|room| session.ask(0, room)), [2, 0, 1, 1]);
 }
 
-// An answer without effect is told again, with room for it.
+// A result without effect is returned again if the buffer is long enough.
 #[test]
 fn an_answer_that_is_longer_than_the_room_tells_its_length() {
     let session = session(9);
@@ -126,7 +127,7 @@ fn greetings_are_judged() {
 fn infos_from_the_future_and_too_many_infos_are_refused() {
     let session = tracking(9, &[1]);
     let mut late = greeting(1, 0);
-    // In place of the timestamp 0: one of 130,001 milliseconds.
+    // Replaces the timestamp 0 by one of 130,001 milliseconds.
     late.splice(9..10, [0xd1, 0xf7, 0x07]);
     assert_eq!(checked(&session, &late), 1_u64.to_be_bytes());
     assert_eq!(received(&session, &late, &[1]), [6, 3]);

@@ -1,19 +1,19 @@
-//! What sessions are given: the setting of the worked rows, with keys of 32 equal bytes.
+//! The arguments of sessions: the setting of the worked examples, with keys of 32 equal bytes.
 
 use crate::key::{KEY_SIZE, SIGNATURE_SIZE};
 use p2p_directory_sys::Session;
 
-/// The key whose bytes are all this one.
+/// The key of 32 such bytes.
 pub(super) fn key(byte: u8) -> [u8; KEY_SIZE] {
     [byte; KEY_SIZE]
 }
 
-/// The keys whose bytes are all one of these, one after the other.
+/// The keys of 32 equal bytes each, one after the other.
 pub(super) fn keys(bytes: &[u8]) -> Vec<u8> {
     bytes.iter().flat_map(|byte| key(*byte)).collect()
 }
 
-/// The info of a key at 1.2.3.4, port 8000 and the key's byte, with a timestamp below 128.
+/// The info of a key at 1.2.3.4 and the port 8000 plus the key's byte, with a timestamp below 128.
 pub(super) fn info(byte: u8, timestamp: u8) -> Vec<u8> {
     let port = 8000 + u16::from(byte);
     let mut info = vec![0, 4, 1, 2, 3, 4];
@@ -24,7 +24,7 @@ pub(super) fn info(byte: u8, timestamp: u8) -> Vec<u8> {
     info
 }
 
-/// The list of the infos of these keys and timestamps: fewer than 128.
+/// The list of fewer than 128 infos with these keys and timestamps.
 pub(super) fn infos(told: &[(u8, u8)]) -> Vec<u8> {
     let mut infos = vec![told.len() as u8];
     for (byte, timestamp) in told {
@@ -33,19 +33,19 @@ pub(super) fn infos(told: &[(u8, u8)]) -> Vec<u8> {
     infos
 }
 
-/// What a node is made from.
+/// The arguments that create a node.
 #[derive(Clone, Copy)]
 pub(super) struct Given<'a> {
     pub(super) max_sets: u64,
     pub(super) max_bit_vec: u64,
-    /// The nanoseconds of the cooldown, of blocks and of the bound.
+    /// The nanoseconds of the cooldown, of the block duration and of the synchrony bound.
     pub(super) nanos: [u32; 3],
     pub(super) bootstrappers: &'a [u8],
     pub(super) myself: &'a [u8],
 }
 
-/// One retained set, everything allowed, a cooldown of 10 seconds, blocks of 60, 8 bits, infos at a time and messages
-/// of 32 bytes, a bound of 30 seconds.
+/// Arguments with one retained set, everything allowed, a cooldown of 10 seconds and blocks of 60.
+/// The limits are 8 bits, 8 infos and messages of 32 bytes, and the synchrony bound is 30 seconds.
 pub(super) fn given(myself: &[u8]) -> Given<'_> {
     Given {
         max_sets: 1,
@@ -56,7 +56,7 @@ pub(super) fn given(myself: &[u8]) -> Given<'_> {
     }
 }
 
-/// Makes the node of a session.
+/// Creates the node of a session.
 pub(super) fn init(session: &Session, given: &Given<'_>) -> u64 {
     let [cooldown, block, bound] = given.nanos;
     session.init(
@@ -80,21 +80,22 @@ pub(super) fn init(session: &Session, given: &Given<'_>) -> u64 {
     )
 }
 
-/// A session whose node has this key, and its info with timestamp 0.
+/// A session whose node has this key, and an info with the timestamp 0.
 pub(super) fn session(byte: u8) -> Session {
     let session = Session::new().expect("memory for a session");
     assert_eq!(init(&session, &given(&info(byte, 0))), 1);
     session
 }
 
-/// A session that has taken a set of these primary peers, with index 0.
+/// A session with a registered set of these primary peers, with the index 0.
 pub(super) fn tracking(byte: u8, primary: &[u8]) -> Session {
     let session = session(byte);
     assert_eq!(session.track(0, &keys(primary), &[], &mut []), 0);
     session
 }
 
-/// Asks with ample room: the answer, which is a length, and what was written there. The room behind it is as it was.
+/// Calls with a buffer that is long enough, and returns the bytes that were written. The rest of
+/// the buffer must be unchanged.
 pub(super) fn asked(ask: impl FnOnce(&mut [u8]) -> u64) -> Vec<u8> {
     const UNTOUCHED: u8 = 0xaa;
     let mut room = vec![UNTOUCHED; 512];

@@ -3,14 +3,15 @@
 use super::given::{asked, session};
 use crate::key::KEY_SIZE;
 
-// The keys of a set that was given these, in whatever order the session keeps them.
+// The keys of a set that was registered with these keys, in the order in which the session keeps
+// them.
 fn kept(given: &[[u8; KEY_SIZE]]) -> Vec<u8> {
     let session = session(1);
     assert_eq!(session.track(0, &given.concat(), &[], &mut []), 0);
     asked(|room| session.get_peer_set(0, room))[8..].to_vec()
 }
 
-// At each place: a key whose byte there is less than that of another comes before it, though all of its bytes behind
+// For each position: a key with the smaller byte there comes first, though all of its later bytes
 // are greater.
 #[test]
 fn the_first_bytes_that_differ_decide() {

@@ -1,4 +1,4 @@
-//! What is refused, and that nothing changes then.
+//! Calls that are refused, and that nothing changes then.
 
 use super::given::{Given, asked, given, info, infos, init, key, keys, session, tracking};
 use p2p_directory_sys::{
@@ -103,7 +103,7 @@ fn bootstrappers_are_tracked() {
     assert_eq!(asked(|room| session.dialable(100, 0, room)), both);
 }
 
-// The answers of each call but `init` and `free` to these bytes and nanoseconds.
+// The results of each call except `init` and `free` for these bytes and nanoseconds.
 fn answers(session: &Session, bytes: &[u8], nanos: u32) -> Vec<(&'static str, u64)> {
     let out = &mut [0; 64];
     vec![
@@ -138,7 +138,7 @@ fn answers(session: &Session, bytes: &[u8], nanos: u32) -> Vec<(&'static str, u6
     ]
 }
 
-// .. whether or not anything else is wrong.
+// The result is the same whether or not another argument is invalid.
 #[test]
 fn each_call_wants_a_node() {
     let session = Session::new().expect("memory for a session");
@@ -172,7 +172,7 @@ fn reservations_and_room_are_needed() {
     assert_eq!(session.track(1, &key(1), &[], &mut [0; 32]), 0);
 }
 
-// A question, with how long its answer is.
+// A query, with the length of its result.
 type Question = (&'static str, fn(&Session, &mut [u8]) -> u64, usize);
 
 const QUESTIONS: [Question; 13] = [

@@ -1,4 +1,4 @@
-//! Calls about sets, and what they tell, with ample memory.
+//! Calls about sets, and queries of them, with enough memory.
 
 use super::given::{asked, infos, key, keys, session, tracking};
 use p2p_directory_sys::{NONE, Session};
@@ -55,7 +55,7 @@ fn what_is_wanted_is_told_as_bits() {
     assert_eq!(asked(|room| session.ask(0, room)), [2, 0, 2, 1]);
 }
 
-// The infos for one who doesn't know the only peer, at 100 seconds.
+// The infos for a peer that doesn't know the only primary peer, at 100 seconds.
 fn infos_for_all(session: &Session) -> Vec<u8> {
     asked(|room| session.infos(&[0, 1, 0], 100, 0, room))
 }
