@@ -1,9 +1,9 @@
-//! Which addresses are global, and which may be dialled under which settings: the library's answers.
+//! Which addresses are global, and which may be dialled under which settings, as the library says.
 
 use p2p_directory::{Hostname, Ingress, is_global};
 use std::net::{IpAddr, Ipv4Addr, Ipv6Addr};
 
-// The ranges whose addresses are not global, each with how many bits all of its addresses begin with.
+// The ranges whose addresses are not global, each with the length of its prefix in bits.
 const VERSION_4: [(&str, u32); 13] = [
     ("0.0.0.0", 8),
     ("10.0.0.0", 8),
@@ -32,7 +32,7 @@ const VERSION_6: [(&str, u32); 10] = [
     ("fe80::", 10),
 ];
 
-// The numbers at the ends of each range, and beside them, where these are addresses.
+// The addresses at both ends of each range and next to them.
 fn edges(first: u128, bits: u32, width: u32) -> impl Iterator<Item = u128> {
     let size = 1 << (width - bits);
     let most = u128::MAX >> (128 - width);
@@ -80,7 +80,7 @@ fn addresses_of_version_6_outside_the_ranges_are_global() {
     }
 }
 
-// Under (private, names) as (false, false), (false, true), (true, false), (true, true).
+// The results for (private, names) = (false, false), (false, true), (true, false), (true, true).
 fn validity(ingress: &Ingress) -> [bool; 4] {
     [(false, false), (false, true), (true, false), (true, true)]
         .map(|(private, names)| ingress.is_valid(private, names))

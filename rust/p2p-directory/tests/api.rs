@@ -1,4 +1,4 @@
-//! What the types of the interface promise beside what a directory answers: moments, texts and conversions.
+//! The types of the interface apart from the results of a directory: times, texts and conversions.
 
 use p2p_directory::testing::{self, config, directory, info, key};
 use p2p_directory::{
@@ -43,7 +43,7 @@ fn moments_end_at_both_ends() {
     assert_eq!(late.duration_since(Moment::MAX), Duration::ZERO);
 }
 
-// The dial moment of a peer that was granted at 100 s, under a cooldown of 5 ns, with this draw.
+// The dial time of a peer that was reserved at 100 s, under a cooldown of 5 ns, with this draw.
 fn dial_moment(draw: Duration) -> Option<Moment> {
     let cfg = Config {
         peer_connection_cooldown: 5 * NANO,
@@ -59,7 +59,8 @@ fn dial_moment(draw: Duration) -> Option<Moment> {
     told.next_query_at
 }
 
-// Row 10: a jitter is at most twice the half of the cooldown, rounded down, and that itself is one.
+// Worked example 10: a jitter is at most twice the half of the cooldown, rounded down, and may be
+// equal to it.
 #[test]
 fn draws_are_taken_up_to_the_end_of_their_range() {
     let after = |nanos| Some(Moment::from(Duration::new(100, nanos)));
@@ -210,7 +211,7 @@ fn answers_are_hashed() {
     assert_eq!(HashSet::from(held).len(), 1);
 }
 
-// An error's text, and those of its causes.
+// The text of an error, and those of its sources.
 fn texts(error: &dyn Error) -> Vec<String> {
     let causes = successors(Some(error), |error| (*error).source());
     causes.map(|error| error.to_string()).collect()
@@ -291,7 +292,7 @@ fn ingresses_are_ordered_by_kind_then_host_then_port() {
     assert!(read.is_sorted_by(|low, high| low < high));
 }
 
-// An info at a name of so many bytes, of a timestamp of so many groups of seven bits.
+// An info with a name of so many bytes, and a timestamp of so many groups of seven bits.
 fn long_info(host: usize, groups: u32) -> Info {
     let host = [&"a".repeat(63)[..]; 4].join(".")[..host].to_owned();
     let ingress = match Hostname::new(&host) {
@@ -343,7 +344,8 @@ fn sizes_are_those_of_what_is_spelled() {
 
 #[test]
 fn what_a_transport_carries_is_told() {
-    // Row 17, with keys of 32 bytes and signatures of 64: an info has 261 + 10 + 32 + 64 bytes at most.
+    // Worked example 17, with keys of 32 bytes and signatures of 64: an info has at most 261 + 10 +
+    // 32 + 64 bytes.
     assert_eq!(max_gossip_size(1000, 32), Some(1 + 32 * 367 + 5));
     assert_eq!(max_gossip_size(100_000, 0), Some(12_514));
     assert_eq!(max_gossip_size(0, 0), Some(1 + 367));

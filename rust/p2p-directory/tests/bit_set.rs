@@ -1,4 +1,5 @@
-//! The original's cases of its bit set, by their names, as far as the bits of a retained set can say them.
+//! The original's tests of its bit set, under their names, as far as the bits of a retained set can
+//! express them.
 
 use p2p_directory::testing::{config, info, key};
 use p2p_directory::{Config, Directory, Key, OrderedSet};
@@ -49,7 +50,7 @@ fn test_set_initialization_and_sorting() {
     let peers = directory.get_peer_set(0).unwrap().unwrap().primary;
     assert_eq!(peers.to_vec(), [key(1), key(2), key(3)]);
     assert_eq!(bits(&directory, 0), [false; 3]);
-    // Bits stand in the order of keys.
+    // Bits are in the order of keys.
     directory.update_peers(&[info(3, 1)]).unwrap();
     assert_eq!(bits(&directory, 0), [false, false, true]);
 }
@@ -59,7 +60,7 @@ fn test_update_knowledge_single_peer() {
     let mut directory = tracked(&[&[1, 2]]);
     directory.update_peers(&[info(2, 1)]).unwrap();
     assert_eq!(bits(&directory, 0), [false, true]);
-    // A peer that isn't there changes no bit.
+    // A peer that isn't in the set changes no bit.
     directory.update_peers(&[info(3, 1)]).unwrap();
     assert_eq!(bits(&directory, 0), [false, true]);
 }

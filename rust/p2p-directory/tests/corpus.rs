@@ -1,4 +1,4 @@
-//! Each file of the corpus that was found by fuzzing, played as the fuzzer plays it.
+//! Each file of the corpus that fuzzing found, played as the fuzzer plays it.
 
 mod calls;
 mod frames;
@@ -10,11 +10,11 @@ mod widened;
 use std::path::{Path, PathBuf};
 use std::{env, fs};
 
-/// How many files there are at most, and how many bytes each has.
+/// The maximum number of files, and the maximum length of each in bytes.
 const MOST_FILES: usize = 200;
 const MOST_BYTES: usize = 1024;
 
-/// What is in the files of a target, in the order of their names.
+/// The contents of the files of a target, in the order of their names.
 fn corpus(target: &str) -> Vec<(PathBuf, Vec<u8>)> {
     let root = concat!(env!("CARGO_MANIFEST_DIR"), "/tests/corpus");
     let entries = fs::read_dir(Path::new(root).join(target)).expect("a folder");
@@ -75,7 +75,8 @@ fn valgrind_finds_nothing() {
     ]);
 }
 
-/// Writes what fuzzing begins with into the folder that `FUZZ_SEEDS` names, for tools/fuzz.sh.
+/// Writes the initial corpus for fuzzing into the folder that `FUZZ_SEEDS` names, for
+/// `tools/fuzz.sh`.
 #[test]
 #[ignore = "it writes files"]
 fn writes_seeds() {

@@ -1,4 +1,5 @@
-//! The original's cases of its directory, by their names, and worked rows of this repository.
+//! The original's tests of its directory, under their names, and worked examples of this
+//! repository.
 
 use p2p_directory::testing::{self, config, directory, info, info_at, key};
 use p2p_directory::{
@@ -34,7 +35,7 @@ fn with_sets(max_sets: usize) -> Directory {
     Directory::init(&[], &info(9, 0), cfg).unwrap()
 }
 
-// Takes the set, and answers who is torn down.
+// Registers the set, and returns the peers that must be disconnected.
 fn track(directory: &mut Directory, index: u64, primary: &[u16]) -> Option<OrderedSet> {
     directory.track(index, &set(primary).into()).unwrap()
 }
@@ -103,10 +104,10 @@ fn test_demotion_from_primary_to_secondary() {
     let mut directory = with_sets(2);
     directory.track(0, &peers(&[1], &[2])).unwrap().unwrap();
     directory.track(1, &peers(&[2], &[1])).unwrap().unwrap();
-    // Primary in some set is primary.
+    // A peer that is primary in some set is primary.
     assert_eq!(directory.all().unwrap(), peers(&[1, 2], &[]));
     directory.track(2, &peers(&[2], &[1])).unwrap().unwrap();
-    // The one set in which peer 1 was primary is gone.
+    // The only set in which peer 1 was primary was dropped.
     assert_eq!(directory.all().unwrap(), peers(&[2], &[1]));
 }
 
@@ -143,7 +144,7 @@ fn a_record_lives_as_long_as_something_keeps_it() {
     assert_eq!(directory.status(&key(1)), Some(Status::Reserved));
     directory.release(reservation).unwrap();
     assert_eq!(directory.status(&key(1)), None);
-    // The cooldown outlives the record, until it is forgotten.
+    // The cooldown outlasts the record, until it is forgotten.
     track(&mut directory, 2, &[1]);
     assert!(listen(&mut directory, 1, seconds(105)).is_none());
     assert_eq!(directory.forget_cooled(seconds(109)), 0);

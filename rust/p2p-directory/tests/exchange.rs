@@ -22,7 +22,7 @@ fn seconds(seconds: u64) -> Moment {
     Moment::from_secs(seconds)
 }
 
-// Lets a peer come, and connects it.
+// Accepts a peer, and connects it.
 fn connected(node: &mut Node, number: u16) -> Reservation {
     let directory = node.directory_mut();
     let granted = directory.listen(&key(number), seconds(50), Duration::ZERO);
@@ -36,7 +36,7 @@ fn bits(node: &Node) -> Vec<bool> {
     bits.unwrap().bits
 }
 
-// The asker's frame, the replier's answer to it, and what the asker makes of that.
+// The asker's question, the replier's reply, and the result of the asker for it.
 fn exchange(asker: &mut Node, replier: &mut Node, asked: Moment, told: Moment) -> Received {
     let question = asker.ask(0).unwrap().unwrap();
     match replier.receive(&question, told, verify) {
@@ -55,7 +55,7 @@ fn an_exchange_brings_what_is_wanted_and_may_be_shared() {
     let held = connected(&mut replier, 1);
     assert_eq!(asker.ask(0).unwrap().unwrap(), [2, 0, 2, 0]);
 
-    // The info is from the asker's future, by more than its bound.
+    // The timestamp of the info is ahead of the asker's time by more than its bound.
     let early = Received::Invalid(Error::SynchronyBound);
     let almost = Moment::from(Duration::new(69, 999_999_999));
     assert_eq!(
@@ -113,7 +113,7 @@ fn a_long_reply_comes_whole() {
         .map(|number| connected(&mut replier, *number))
         .collect();
     let done = exchange(&mut asker, &mut replier, seconds(100), seconds(100));
-    // All but the asker itself: its own info it doesn't want.
+    // All but the asker itself, which doesn't want its own info.
     assert_eq!(done, Received::Applied(199));
     assert_eq!(bits(&asker), [true; 200]);
     for reservation in held {
@@ -239,7 +239,8 @@ fn a_closure_that_panics_changes_nothing() {
     assert_eq!(bits(&node), [true, true]);
 }
 
-// A bound of 1.002 seconds admits timestamps so far ahead, and none that is a millisecond later.
+// A bound of 1.002 seconds accepts a timestamp that is as far ahead, and none that is a millisecond
+// later.
 #[test]
 fn a_bound_below_a_second_counts() {
     let bound = Duration::new(1, 2_000_000);
@@ -254,7 +255,7 @@ fn a_bound_below_a_second_counts() {
     assert_eq!(received(101_002), Received::Greeted(key(1)));
 }
 
-// Who is connected with 1, 2 and 3, and knows where each is.
+// A node that is connected with 1, 2 and 3, and knows their addresses.
 fn gossiping() -> (Node, [Reservation; 3]) {
     let mut node = node(9, &[1, 2, 3]);
     let infos = [1, 2, 3].map(|number| info(number, 0));
@@ -308,7 +309,8 @@ fn a_greeting_says_who_greets() {
     let mut node = node(9, &[1]);
     let greeting = Payload::Greeting(info(2, 0)).encode();
     let received = node.receive(&greeting, seconds(1), verify);
-    // It is nobody of the set, and the connection may be somebody else's: that is the host's to compare.
+    // The greeter is in no set, and may differ from the peer of the connection: the host must
+    // compare them.
     assert_eq!(received, Received::Greeted(key(2)));
 }
 

@@ -1,4 +1,4 @@
-//! docs/GUIDE.md: its excerpts are lines of the example `tracker`.
+//! `docs/GUIDE.md`: its excerpts are lines of the example `tracker`.
 
 use std::fs;
 use std::io::{self, Write};
@@ -6,13 +6,13 @@ use std::path::{Path, PathBuf};
 
 const SOURCES: &str = "examples/tracker/";
 
-/// The guide, which a package that stands alone lacks.
+/// The text of the guide, or `None` in a package without the repository.
 fn guide() -> Option<PathBuf> {
     let guide = Path::new(env!("CARGO_MANIFEST_DIR")).join("../../docs/GUIDE.md");
     guide.is_file().then_some(guide)
 }
 
-/// Which file of the example a line of prose links last, if it does.
+/// The file of the example that a line of prose links last, or `None`.
 fn linked(line: &str) -> Option<&str> {
     let (_, behind) = line.rsplit_once(SOURCES)?;
     let (file, _) = behind.split_once(')')?;
@@ -35,7 +35,7 @@ fn excerpts(guide: &str) -> Vec<(String, Vec<String>)> {
     excerpts
 }
 
-/// These lines without what all of them are indented by.
+/// These lines without their common indentation.
 fn outdented(lines: &[&str]) -> Vec<String> {
     let filled = lines.iter().filter(|line| !line.trim().is_empty());
     let indent = filled.map(|line| line.len() - line.trim_start().len());

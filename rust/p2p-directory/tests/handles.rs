@@ -1,4 +1,5 @@
-//! No room is lost, and none is touched that isn't a session's: seen by valgrind, where it is installed.
+//! No memory is leaked, and none is accessed outside of a session's: checked by valgrind, if it is
+//! installed.
 
 mod valgrind;
 

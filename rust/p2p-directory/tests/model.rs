@@ -1,4 +1,4 @@
-//! Random calls of a node, each answer compared with that of a model.
+//! Random calls of a node, each result compared with that of a model.
 
 mod calls;
 mod random;
@@ -9,7 +9,7 @@ use std::collections::{BTreeMap, BTreeSet};
 
 const RUNS: usize = 500;
 
-/// How many bytes are more than as many calls need.
+/// More bytes than the calls of a list need.
 const BYTES: usize = 64 * MOST_CALLS;
 
 /// How many kinds of calls there are.

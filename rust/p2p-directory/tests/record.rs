@@ -1,4 +1,5 @@
-//! The original's cases of its record, by their names, as far as calls of a directory can say them.
+//! The original's tests of its record, under their names, as far as calls of a directory can
+//! express them.
 
 use p2p_directory::testing::{config, directory, info, info_at, key};
 use p2p_directory::{
@@ -145,7 +146,7 @@ fn test_increment_decrement_and_deletable() {
     assert_eq!(directory.status(&key(2)), Some(Status::Inert));
     assert_eq!(bits(&directory), "1");
     track(&mut directory, 2, &[9]);
-    // Unknown and discovered peers go with the last set that names them, others stay.
+    // Unknown and discovered peers are removed with the last set that names them, others stay.
     assert_eq!(directory.status(&key(2)), None);
     assert_eq!(directory.status(&key(1)), Some(Status::Inert));
     track(&mut directory, 3, &[]);
@@ -252,17 +253,18 @@ fn test_dial_failure_and_dial_success() {
     let held = dial(&mut directory, 1, NOW).unwrap();
     directory.connect(&key(1), true).unwrap();
     assert_eq!(bits(&directory), "1");
-    // A dialler's reservation counts a failure when it ends, also after it was connected.
+    // The release of an outbound reservation counts as a failed dial, even after it was connected.
     directory.release(held).unwrap();
     assert_eq!(bits(&directory), "0");
-    // A listener's doesn't.
+    // That of an inbound one doesn't.
     directory.update_peers(&[info(1, 1001)]).unwrap();
     let held = listen(&mut directory, 1, NOW).unwrap();
     directory.release(held).unwrap();
     assert_eq!(bits(&directory), "1");
 }
 
-// The end of a dialled connection is a failure: the first again after a dial that succeeded, else the second.
+// The release of a dialled connection is a failure: the first one again after a dial that
+// succeeded, otherwise the second.
 #[test]
 fn a_dial_that_succeeds_takes_back_the_failures_before() {
     for (is_dialer, known) in [(true, "1"), (false, "0")] {
@@ -312,14 +314,14 @@ fn test_want_logic_with_min_fails() {
         directory.release(held).unwrap();
         assert_eq!(bits(&directory), known);
     }
-    // What is active isn't wanted.
+    // The info of an active peer isn't wanted.
     let held = listen(&mut directory, 1, NOW).unwrap();
     assert_eq!(bits(&directory), "01");
     directory.connect(&key(1), false).unwrap();
     assert_eq!(bits(&directory), "11");
     directory.release(held).unwrap();
     assert_eq!(bits(&directory), "01");
-    // A newer info begins anew.
+    // A newer info has no failures yet.
     directory.update_peers(&[info(1, 1001)]).unwrap();
     assert_eq!(bits(&directory), "11");
 }

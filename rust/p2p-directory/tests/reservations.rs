@@ -1,4 +1,5 @@
-//! Reservations that are dropped: the next call of their directory, whichever it is, answers as after `release`.
+//! Reservations that are dropped: the next call of their directory, whichever it is, returns what
+//! it would after `release`.
 
 use p2p_directory::testing::{self, config, info, key, setup, verify};
 use p2p_directory::{
@@ -11,14 +12,14 @@ use std::time::Duration;
 
 const NOW: Moment = Moment::from_secs(100);
 
-// Every cooldown that began at `NOW` is over.
+// At this time every cooldown that began at `NOW` is over.
 const LATER: Moment = Moment::from_secs(110);
 
 fn set(numbers: &[u16]) -> OrderedSet {
     OrderedSet::from_iter_dedup(numbers.iter().map(|number| key(*number)))
 }
 
-// Peers 1 and 2 are in its set, and where 1 can be dialled is known.
+// Peers 1 and 2 are in its set, and the address of 1 is known.
 fn directory() -> Directory {
     let mut directory = testing::directory();
     let taken = directory.track(0, &set(&[1, 2]).into()).unwrap();
@@ -85,7 +86,7 @@ fn track_tears_down_nobody_who_is_released() {
     let mut directory = directory();
     let held = listened(&mut directory, 2);
     drop(listened(&mut directory, 1));
-    // Both leave the one set that is retained, and 2 is still reserved.
+    // Both leave the only retained set, and 2 is still reserved.
     let torn = directory.track(1, &set(&[3]).into());
     assert_eq!(torn, Ok(Some(set(&[2]))));
     assert_eq!(directory.status(&key(1)), None);
@@ -119,7 +120,7 @@ fn a_dial_that_is_dropped_has_failed() {
     drop(dialled(&mut dropping));
     let held = dialled(&mut releasing);
     releasing.release(held).unwrap();
-    // The one failure that is allowed.
+    // The only failure that is allowed.
     assert_eq!(bits(&dropping), [false, false]);
     assert_eq!(bits(&releasing), [false, false]);
 }
@@ -188,7 +189,7 @@ fn one_may_outlive_its_directory() {
     let mut one = directory();
     let held = listened(&mut one, 1);
     drop(one);
-    // The next one is made of what the first left, and takes no reservation of it for its own.
+    // The next directory uses the slot of the first, and must not take over a reservation of it.
     let mut next = directory();
     let own = listened(&mut next, 1);
     drop(held);
@@ -215,7 +216,7 @@ fn what_another_directory_refuses_goes_back_to_its_own() {
     other.release(others).unwrap();
 }
 
-// Fails behind a grant, as a handshake does.
+// Fails after a grant, as a handshake may.
 fn greets(directory: &mut Directory, peer: &Key) -> Result<(), Box<dyn std::error::Error>> {
     let held = directory.listen(peer, NOW, Duration::ZERO)?;
     let _held = held.ok_or("it may not come")?;
@@ -243,7 +244,7 @@ fn one_that_is_released_is_released_once() {
 
 #[test]
 fn a_dialer_and_a_listener_are_connected_as_such() {
-    // Two failures are allowed: one, then a dial that is connected, and another.
+    // Two failures are allowed. There is one, then a dial that is connected, and another.
     let mut limit = config();
     limit.dial_fail_limit = 2;
     let told = [false, true].map(|is_connected| {
@@ -259,7 +260,7 @@ fn a_dialer_and_a_listener_are_connected_as_such() {
         directory.release(held).unwrap();
         bits(&directory)
     });
-    // A dialer's connection forgets the failures before it.
+    // A connection that was dialled resets the failures before it.
     assert_eq!(told, [[false], [true]]);
 }
 

@@ -1,8 +1,8 @@
-//! The scripts of `play`, all of them, through this crate.
+//! The scripts of `play`, all of them, run through this crate.
 //!
-//! A frame with infos has other bytes here: its keys and signatures are widened before it is played. Left out are
-//! values that this crate doesn't read by themselves, each kind by its name. `tests/typed/edges.txt` has lines at the
-//! edges of what can be typed, with what `play` replied to them.
+//! A frame with infos has other bytes here: its keys and signatures are widened before it is
+//! played. Left out are values that this crate doesn't decode by themselves, each kind by its name.
+//! `tests/typed/edges.txt` has lines with extreme values, with the replies of `play` to them.
 
 #[path = "../examples/play/player/mod.rs"]
 mod player;
@@ -17,8 +17,8 @@ use widened::{bytes_of, widened_frame};
 
 const ROOT: &str = concat!(env!("CARGO_MANIFEST_DIR"), "/../..");
 
-/// Kinds of lines that are left out, and how many there are: what is read as a value of its own there and only in a
-/// payload here, and addresses, which this crate doesn't have.
+/// The kinds of lines that are left out, and how many there are: values that this crate decodes
+/// only within a payload, and addresses, which it doesn't have.
 const LEFT_OUT: [(&str, usize); 5] = [
     ("decode address", 2),
     ("decode bits", 1),
@@ -27,7 +27,7 @@ const LEFT_OUT: [(&str, usize); 5] = [
     ("recode data", 1),
 ];
 
-/// How many lines of each command are played at least, and how many that can't be read.
+/// The minimum number of lines of each command, and of lines that can't be parsed.
 const PLAYED: [(&str, usize); 31] = [
     ("acceptable", 22),
     ("all", 17),
@@ -62,17 +62,17 @@ const PLAYED: [(&str, usize); 31] = [
     ("update", 83),
 ];
 
-/// How many replies are compared at least.
+/// The minimum number of replies that are compared.
 const COMPARED: u64 = 1_384;
 
-/// How many lines there are of a kind or of a command.
+/// How many lines there are of each kind or command.
 type Counts = BTreeMap<String, usize>;
 
 fn count(counts: &mut Counts, name: &str) {
     *counts.entry(name.to_owned()).or_default() += 1;
 }
 
-/// What is played of the lines of a script, line by line.
+/// The lines of a script that are played, with their replies.
 fn prepared(text: &str, played: &mut Counts, left_out: &mut Counts) -> String {
     let lines: Vec<&str> = text.lines().map(code_of).collect();
     let mut prepared = String::new();
@@ -103,7 +103,7 @@ fn code_of(line: &str) -> &str {
     line.split('#').next().unwrap_or("").trim()
 }
 
-// The words of a line, without the name of the node that is called.
+// The words of a line, without the name of its node.
 fn command_of(line: &str) -> Vec<&str> {
     let mut words: Vec<&str> = line.split_whitespace().collect();
     if words.first().is_some_and(|word| word.ends_with(':')) {
@@ -112,7 +112,7 @@ fn command_of(line: &str) -> Vec<&str> {
     words
 }
 
-// The line with the bytes of this crate in place of each frame with infos.
+// The line, with each frame with infos replaced by the bytes of this crate.
 fn widened_line(line: &str) -> String {
     let is_digit = |letter: char| letter.is_ascii_hexdigit();
     let mut widened = String::new();
@@ -129,8 +129,8 @@ fn widened_line(line: &str) -> String {
     widened
 }
 
-// Whether this package stands in a clone of the repository, where the scripts are. Where it doesn't that is said, past
-// what a test prints, which isn't shown of one that passes.
+// Whether this package is in a clone of the repository, which has the scripts. If it isn't, this is
+// printed to standard error, since the output of a test that passes isn't shown.
 fn is_in_a_clone(test: &str) -> bool {
     let is = Path::new(ROOT).join("crates.txt").is_file();
     if !is {
@@ -188,8 +188,8 @@ fn each_line_is_replied_as_expected() {
     assert_eq!(left_out, wanted);
 }
 
-// A dial that succeeds takes back the failures before it: then the failure of its own release is the first again. Where
-// the other side dialled it is the second, and the info is wanted again.
+// A dial that succeeds resets the failures before it, so the failure of its own release is the
+// first again. If the other side dialled, it is the second, and the info is wanted again.
 #[test]
 fn the_flag_of_connect_decides() {
     let begin = "node a dial_fail_limit=2 cooldown=0\ntrack 0 1\nupdate 1@1000\n";
@@ -202,7 +202,7 @@ fn the_flag_of_connect_decides() {
     }
 }
 
-// A script that says what it does not.
+// A script whose expected replies are wrong.
 #[test]
 fn what_is_otherwise_is_told() {
     let text = "track 0 1\n= None\ndail 1 1\n";

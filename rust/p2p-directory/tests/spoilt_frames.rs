@@ -1,4 +1,5 @@
-//! Spoilt frames: the library and this crate's own decoder read the same of each, or name the same fault.
+//! Mutated frames: the library and this crate's own decoder return the same value for each, or the
+//! same error.
 
 mod frames;
 mod seeds;
@@ -6,7 +7,7 @@ mod widened;
 
 const FRAMES: u32 = 100_000;
 
-// Numbers that look random, the same in each run.
+// Pseudo-random numbers, the same in each run.
 struct Draws(u64);
 
 impl Draws {
@@ -21,7 +22,7 @@ impl Draws {
         self.number() % end
     }
 
-    // Any byte, or one that names, numbers and prefixes have.
+    // A random byte, or one that often occurs in names, numbers and prefixes.
     fn byte(&mut self) -> u8 {
         const TELLING: &[u8] = b"a-.Z9\x00\x01\x02\x03\x04\x06\x7f\x80\xff";
         match self.below(2) {
@@ -30,7 +31,7 @@ impl Draws {
         }
     }
 
-    // A frame with up to three bytes changed, left out or put in.
+    // A frame with up to three bytes replaced, removed or inserted.
     fn spoilt(&mut self, frame: &[u8]) -> Vec<u8> {
         let mut frame = frame.to_vec();
         for _ in 0..self.below(4) {

@@ -1,6 +1,8 @@
-//! The example `tracker`: hosts over TCP on this machine that find each other, and peers that misbehave towards one.
+//! The example `tracker`: hosts over TCP on this machine that find each other, and peers that
+//! misbehave.
 //!
-//! Nothing waits for a time to pass: each test waits for what has to happen, and fails where that takes too long.
+//! No test sleeps for a fixed time: each waits for what has to happen, and fails if that takes too
+//! long.
 
 #[path = "../examples/tracker/host/mod.rs"]
 mod host;
@@ -21,16 +23,16 @@ use std::sync::mpsc::{Receiver, RecvTimeoutError, sync_channel};
 use std::thread;
 use std::time::{Duration, Instant, SystemTime, UNIX_EPOCH};
 
-/// What a test waits for has to happen in this time.
+/// The time within which each expected event has to happen.
 const PATIENCE: Duration = Duration::from_secs(20);
 
 const LARGEST_SET: usize = 16;
 
-/// A time that passes while a test waits for it, and one that doesn't.
+/// An interval that passes while a test waits for it, and one that doesn't.
 const SOON: Duration = Duration::from_millis(200);
 const LATE: Duration = Duration::from_secs(3600);
 
-/// How much of [`PATIENCE`] is left.
+/// Measures how much of [`PATIENCE`] is left.
 struct Deadline(Instant);
 
 impl Deadline {
@@ -42,7 +44,7 @@ impl Deadline {
         self.0.saturating_duration_since(Instant::now())
     }
 
-    /// Waits until this is so.
+    /// Waits until the condition holds.
     fn until(&self, what: &str, mut is_so: impl FnMut() -> bool) {
         while !is_so() {
             assert!(!self.left().is_zero(), "not in time: {what}");
@@ -51,7 +53,7 @@ impl Deadline {
     }
 }
 
-/// A host, and what it tells.
+/// A host, and its events.
 struct Running {
     host: Host,
     events: Receiver<Event>,
@@ -64,14 +66,14 @@ impl Running {
         Running { host, events }
     }
 
-    /// A host that tracks a set, with the key of number 1.
+    /// A host with the key of number 1, which tracks a set.
     fn with_set(settings: Settings, numbers: &[u16]) -> Running {
         let running = Running::start(settings);
         assert_eq!(running.host.track(0, &set(numbers)), Ok(true));
         running
     }
 
-    /// The first event that is looked for. All before it are dropped.
+    /// Waits for the first event that `find` accepts. Those before it are dropped.
     fn wait<T>(&self, deadline: &Deadline, what: &str, find: impl Fn(&Event) -> Option<T>) -> T {
         let mut seen = Vec::new();
         loop {
@@ -96,7 +98,7 @@ impl Running {
             .ask(|directory, _now| directory.status(&key(number)))
     }
 
-    /// At which address it would tell others that a peer is, while that is connected.
+    /// The address at which the host knows a peer, if the peer is connected.
     fn address_of(&self, number: u16) -> Option<Ingress> {
         let info = self
             .host
@@ -109,7 +111,7 @@ impl Running {
         blocked.expect("there is memory")
     }
 
-    /// Ends it, and waits until nothing of it is left that could tell anything.
+    /// Ends the host, and waits until nothing is left of it that could send an event.
     fn end(self, deadline: &Deadline) {
         let Running { host, events } = self;
         let ending = thread::spawn(move || host.end());
@@ -155,7 +157,8 @@ fn millis() -> u128 {
     passed.expect("it is after the epoch").as_millis()
 }
 
-/// Waits until each of the hosts is connected with the peer of a number, and knows this address of it.
+/// Waits until each of the hosts is connected with the peer of a number, and knows this address of
+/// it.
 fn wait_found(deadline: &Deadline, hosts: &[&Running], number: u16, address: SocketAddr) {
     for running in hosts {
         deadline.until("a peer is found at its address", || {
@@ -165,7 +168,7 @@ fn wait_found(deadline: &Deadline, hosts: &[&Running], number: u16, address: Soc
     }
 }
 
-/// A message as long as messages may be goes from the second to the third.
+/// A message of the maximum length is sent from the second to the third.
 fn send_the_longest(deadline: &Deadline, second: &Running, third: &Running) {
     let most = settings(2).payload.max_data_length;
     let channel = 300;
@@ -196,7 +199,7 @@ fn two_that_know_only_a_third_find_each_other_and_one_that_restarted() {
 
     send_the_longest(&deadline, &second, &third);
 
-    // The third begins anew, elsewhere and later.
+    // The third starts again, at another address and later.
     third.end(&deadline);
     for running in [&first, &second] {
         deadline.until("the third is gone", || {
@@ -212,7 +215,7 @@ fn two_that_know_only_a_third_find_each_other_and_one_that_restarted() {
     }
 }
 
-/// A stream to a host with the key of number 1, behind the handshake and the host's greeting.
+/// A stream to a host with the key of number 1, after the handshake and the host's greeting.
 fn connect(running: &Running, number: u16) -> io::Result<TcpStream> {
     let address = running.host.address();
     let mut stream = TcpStream::connect(address)?;
@@ -234,7 +237,7 @@ fn read(stream: &mut TcpStream) -> io::Result<Vec<u8>> {
     read_frame(stream, limits)
 }
 
-/// A peer that nobody can dial, signed by the key of a number in its own name.
+/// The info of a peer that nobody can dial, signed by the key of a number.
 fn greeting_of(number: u16) -> Info {
     let own = key(number);
     let nowhere = Ingress::from(SocketAddr::from((Ipv4Addr::LOCALHOST, 1)));
@@ -248,7 +251,7 @@ fn greet(stream: &TcpStream, number: u16) {
     write_frame(stream, &[&greeting]).expect("the host reads");
 }
 
-/// What one who may be connected sends to be blocked, each by its name.
+/// What a peer that may be connected sends to be blocked, each with a name.
 fn misdeeds(number: u16) -> [(&'static str, Vec<Vec<u8>>); 8] {
     let greeting = Payload::Greeting(greeting_of(number)).encode();
     let of_another = Payload::Greeting(greeting_of(number + 1)).encode();
@@ -270,10 +273,10 @@ fn misdeeds(number: u16) -> [(&'static str, Vec<Vec<u8>>); 8] {
     ]
 }
 
-/// Whether the host closes a stream: what it still sends before is passed over.
+/// Whether the host closes a stream. What it sends before is ignored.
 fn is_closed(mut stream: TcpStream) -> bool {
     let mut rest = Vec::new();
-    // Where the host left bytes unread, the end is a reset.
+    // If the host left bytes unread, the end is a reset.
     match stream.read_to_end(&mut rest) {
         Ok(_) => true,
         Err(why) => why.kind() == io::ErrorKind::ConnectionReset,
@@ -352,7 +355,7 @@ fn who_asks_too_often_is_not_answered() {
     for _ in 0..100 {
         write_frame(&stream, &[&question]).expect("the host reads");
     }
-    // Eight frames in the time of a question, of which all fall into the first.
+    // Eight frames in the interval of a question, all of which arrive in the first interval.
     for _ in 0..92 {
         running.wait(&deadline, "it is ignored", |event| {
             matches!(event, Event::Ignored(peer) if *peer == key(2)).then_some(())
@@ -360,7 +363,7 @@ fn who_asks_too_often_is_not_answered() {
     }
     let mut replies = 0;
     while replies < 8 {
-        // The host asks, too: its own question comes between.
+        // The host asks, too: its own question may be in between.
         match read(&mut stream).expect("the host replies").first() {
             Some(3) => replies += 1,
             prefix => assert_eq!(prefix, Some(&2)),
@@ -376,11 +379,11 @@ fn draws_are_all_those_of_their_range() {
     let range: BTreeSet<_> = (0..=4).map(Duration::from_nanos).collect();
     assert_eq!(drawn, range);
     assert_eq!(draw(Duration::from_nanos(1)), Duration::ZERO);
-    // The longest cooldown has draws, too: this one doesn't panic.
+    // The longest cooldown has draws, too, without a panic.
     let _ = draw(Duration::MAX);
 }
 
-/// How many bytes the host sends to a dialer who says that it has the key of a number, and proves nothing.
+/// How many bytes the host sends to a dialer that claims the key of a number and proves nothing.
 fn bytes_for_a_claim(running: &Running, number: u16) -> usize {
     let mut stream = TcpStream::connect(running.host.address()).expect("the host listens");
     stream.set_read_timeout(Some(PATIENCE)).expect("it is open");

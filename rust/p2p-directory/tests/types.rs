@@ -1,4 +1,4 @@
-//! The original's cases of its addresses, infos and payloads, by their names.
+//! The original's tests of its addresses, infos and payloads, under their names.
 
 use p2p_directory::testing::{NAMESPACE, config, info, key, setup, sign, verify};
 use p2p_directory::{
@@ -92,7 +92,7 @@ fn test_ingress_dns_max_len_exceeded() {
 fn test_ingress_max_encode_size() {
     assert_eq!(Ingress::MAX_ENCODE_SIZE, 261);
     assert_eq!(Hostname::MAX_ENCODE_SIZE, 258);
-    // The length of the widest name takes two bytes of the five that are allowed for.
+    // The length of the longest name takes two of the five bytes that are allowed.
     let widest = name(&widest(), u16::MAX).encode();
     assert_eq!(widest.len() + 3, Ingress::MAX_ENCODE_SIZE);
     let socket = Ingress::from(SocketAddr::from((Ipv6Addr::LOCALHOST, u16::MAX)));
@@ -118,7 +118,7 @@ fn test_from_socket_addr() {
     assert_eq!(Ingress::from(at), Ingress::Socket(at));
 }
 
-// An ingress is allowed where a peer there is dialable.
+// An ingress is allowed if a peer there is dialable.
 fn is_allowed(ingress: &Ingress, allow_private_ips: bool, allow_dns: bool) -> bool {
     let cfg = Config {
         allow_private_ips,
@@ -190,7 +190,7 @@ fn test_max_payload_data_overhead() {
         let overhead = frame.encode_size() - length;
         assert!(overhead <= MAX_PAYLOAD_OVERHEAD as usize, "{length}");
     }
-    // The longest channel, and the longest length of a message, one byte each for seven bits.
+    // The greatest channel, and the greatest length of a message, one byte for each seven bits.
     assert_eq!(MAX_PAYLOAD_OVERHEAD, 1 + 10 + 5);
 }
 
@@ -351,7 +351,8 @@ fn test_payload_data_respects_limit() {
     );
 }
 
-// What a node with the key of number 9 answers to a list of infos at a moment. A verifier says the same.
+// The result of a node with the key of number 9 for a list of infos at a time. A verifier returns
+// the same.
 fn judged(infos: Vec<Info>, now: Moment, greatest_count: usize) -> Received {
     let mut setup = setup(9);
     setup.peer_gossip_max_count = greatest_count;

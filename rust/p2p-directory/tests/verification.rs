@@ -1,4 +1,5 @@
-//! Frames in two steps: what has to be verified is told, and later the frame is taken by verdicts.
+//! Frames in two steps: the node returns the signatures to verify, and later processes the frame
+//! with the results.
 
 use p2p_directory::testing::{self, info, key, setup, verify};
 use p2p_directory::{
@@ -99,7 +100,8 @@ fn both_steps_answer_as_one() {
 #[test]
 fn an_info_from_the_future_is_never_applied_unverified() {
     let mut node = node(9);
-    // The second is 30 seconds and a millisecond ahead at `NOW`, and within the bound a second later.
+    // The second timestamp is 30 seconds and a millisecond ahead at `NOW`, and within the bound a
+    // second later.
     let frame = peers(&[(1, 1000), (2, 130_001)]);
     let later = NOW.saturating_add(Duration::from_secs(1));
     let questions = node.check(&frame, NOW).unwrap();
@@ -107,7 +109,7 @@ fn an_info_from_the_future_is_never_applied_unverified() {
     assert_eq!(keys, [key(1)]);
     assert_eq!(node.check(&frame, later).unwrap().len(), 2);
 
-    // However much time has gone by, the frame is judged at the moment at which it was checked.
+    // However much later, the frame is validated at the time at which it was checked.
     let early = Received::Invalid(Error::SynchronyBound);
     assert_eq!(
         node.directory().status(&key(2)),
@@ -152,7 +154,7 @@ fn verdicts_are_counted() {
         let judged = questions.judged(verdicts.iter().copied());
         assert_eq!(judged.err(), Some(WrongVerdictsError), "{verdicts:?}");
     }
-    // It ends, too.
+    // The iterator ends, too.
     let questions = node.check(&frame, NOW).unwrap();
     let judged = questions.judged(std::iter::repeat(false));
     assert_eq!(judged.err(), Some(WrongVerdictsError));

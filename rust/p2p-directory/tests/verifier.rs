@@ -1,4 +1,4 @@
-//! Infos that are judged without a directory.
+//! Infos that are validated without a directory.
 
 use p2p_directory::testing::{self, NAMESPACE, info, key, verify};
 use p2p_directory::{Error, Info, InfoVerifier, Key, Moment, Signature, ValidateError};
@@ -8,7 +8,7 @@ use std::time::Duration;
 
 const BOUND: Duration = Duration::from_secs(30);
 
-// Of key 9, for so many infos at a time.
+// A verifier for key 9 and so many infos at a time.
 fn verifier(count: usize) -> InfoVerifier {
     Info::verifier(key(9), count, BOUND, NAMESPACE).unwrap()
 }

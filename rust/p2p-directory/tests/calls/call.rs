@@ -1,4 +1,4 @@
-//! Calls with their arguments, and the list of them that some bytes describe.
+//! Calls with their arguments, and how a list of them is decoded from bytes.
 
 use p2p_directory::testing::{NAMESPACE, key, sign};
 use p2p_directory::{
@@ -9,7 +9,7 @@ use std::net::{Ipv6Addr, SocketAddr};
 use std::num::NonZeroUsize;
 use std::time::Duration;
 
-/// The own key.
+/// The local key.
 pub const OWN: u16 = 9;
 
 /// A call of a directory or a node.
@@ -19,10 +19,10 @@ pub enum Call {
     Dial(Key, Moment, Duration),
     Listen(Key, Moment, Duration),
     Connect(Key, bool),
-    /// By the reservation, where there is one.
+    /// Releases the reservation, if there is one.
     ConnectReserved(Key),
     Release(Key),
-    /// Drops the reservation, where there is one.
+    /// Drops the reservation, if there is one.
     Abandon(Key),
     Update(Vec<Info>),
     Block(Key, Moment),
@@ -46,8 +46,8 @@ pub enum Call {
     Tracked,
 }
 
-/// What is left of the bytes that calls are made from. Each decision takes a byte, which is 0 behind the end: so any
-/// bytes describe calls.
+/// The rest of the bytes from which calls are made. Each decision takes a byte, which is 0 after
+/// the end, so any bytes describe calls.
 pub struct Draws<'a>(pub &'a [u8]);
 
 impl Draws<'_> {
@@ -55,7 +55,7 @@ impl Draws<'_> {
         self.0.split_off_first().copied().unwrap_or(0)
     }
 
-    // At most 256 numbers can be told by a byte.
+    // A byte can choose among at most 256 numbers.
     fn below(&mut self, end: u64) -> u64 {
         u64::from(self.byte()) % end
     }
@@ -68,12 +68,12 @@ impl Draws<'_> {
         self.below(2) == 1
     }
 
-    // One of few peers, so that calls meet.
+    // One of few peers, so that calls concern the same peers.
     fn peer(&mut self) -> Key {
         key(self.one(&[1, 1, 1, 2, 2, 3, 4, 5, OWN]))
     }
 
-    // Mostly three peers, so that bits often are as many.
+    // Mostly three bits, so that their number is often that of the peers.
     fn peers(&mut self) -> Vec<Key> {
         let all = [1, 2, 3, 4, 5, OWN].map(key);
         let first = self.below(6) as usize;
@@ -83,7 +83,7 @@ impl Draws<'_> {
         }
     }
 
-    // Moments that mostly go on with the calls, and may go back.
+    // Times that mostly advance with the calls, and may go backwards.
     fn moment(&mut self, step: usize) -> Moment {
         let passed = Duration::from_millis(500) * step as u32;
         let sooner = Duration::from_secs(self.below(12));
@@ -143,7 +143,7 @@ impl Draws<'_> {
         (0..count).map(|_| self.info(step)).collect()
     }
 
-    // Indices that mostly go on with the calls.
+    // Indices that mostly rise with the calls.
     fn index(&mut self, step: usize) -> u64 {
         let tracked = step as u64 / 8;
         match self.below(100) {
@@ -215,7 +215,8 @@ impl Draws<'_> {
         }
     }
 
-    /// The calls that are left, at most so many. A peer that is dialled or comes is often connected next.
+    /// The remaining calls, at most so many. A peer that is dialled or accepted is often connected
+    /// next.
     pub fn calls(&mut self, most: usize) -> Vec<Call> {
         let mut calls: Vec<Call> = Vec::new();
         while calls.len() < most && !self.0.is_empty() {
@@ -235,7 +236,7 @@ impl Draws<'_> {
         calls
     }
 
-    /// What a node is made from.
+    /// The settings of a node.
     pub fn setup(&mut self) -> Setup {
         let halves = |halves: u64| Duration::from_millis(500) * halves as u32;
         let bootstrappers = [3, 4, 3, OWN].map(|number| (key(number), self.ingress()));

@@ -1,5 +1,6 @@
-//! A node of this crate beside a model of maps and lists: each answer to the calls that some bytes describe is compared.
-//! Where one differs, what is printed has no call that the difference doesn't need.
+//! A node of this crate and a model of maps and lists: the results of both are compared for each of
+//! the calls that some bytes describe. If one differs, the calls that are printed are reduced to
+//! those that the difference needs.
 
 pub mod call;
 mod model;
@@ -10,10 +11,10 @@ use model::Model;
 use p2p_directory::Setup;
 use real::Real;
 
-/// How many calls a list has at most.
+/// The maximum number of calls in a list.
 pub const MOST_CALLS: usize = 200;
 
-/// A call that is answered otherwise than by the model.
+/// A call whose result differs from that of the model.
 #[derive(Debug)]
 struct Difference {
     place: usize,
@@ -21,7 +22,8 @@ struct Difference {
     wanted: String,
 }
 
-/// Makes the calls that the bytes describe, and tells each with its answer. Panics where the model answers otherwise.
+/// Makes the calls that the bytes describe, and passes each with its result to the closure. Panics
+/// if a result differs from that of the model.
 pub fn compare(bytes: &[u8], tell: impl FnMut(&Call, &str)) {
     let mut draws = Draws(bytes);
     let setup = draws.setup();
@@ -31,7 +33,7 @@ pub fn compare(bytes: &[u8], tell: impl FnMut(&Call, &str)) {
     }
 }
 
-/// The first call whose answer differs. Tells each call with its answer.
+/// The first call whose result differs. Passes each call with its result to the closure.
 fn difference(
     setup: &Setup,
     calls: &[Call],
@@ -51,7 +53,7 @@ fn difference(
     })
 }
 
-/// The calls without those that what is to be seen doesn't need.
+/// The calls without those that aren't needed for the failure.
 pub fn shrunk<T: Clone>(mut calls: Vec<T>, is_seen: impl Fn(&[T]) -> bool) -> Vec<T> {
     let mut length = usize::MAX;
     while calls.len() < length {
@@ -67,7 +69,7 @@ pub fn shrunk<T: Clone>(mut calls: Vec<T>, is_seen: impl Fn(&[T]) -> bool) -> Ve
     calls
 }
 
-/// Panics with what is left of calls one of which is answered otherwise than by the model.
+/// Panics with the reduced list of calls, one of which has a different result in the model.
 fn fail(setup: &Setup, calls: Vec<Call>) -> ! {
     let left = shrunk(calls, |calls| difference(setup, calls, |_, _| ()).is_some());
     let Difference {

@@ -1,4 +1,4 @@
-//! A model of a node: maps and lists, and the answers that the specification gives for them.
+//! A model of a node: maps and lists, and the results that the specification has for them.
 
 use super::call::{Call, OWN};
 use p2p_directory::testing::{NAMESPACE, key, verify};
@@ -14,12 +14,12 @@ use std::time::Duration;
 
 /// What was granted and isn't released yet.
 struct Held {
-    // Where it was dialled, unless the peer came.
+    // The address that was dialled, or `None` for an inbound peer.
     dialled: Option<Ingress>,
     is_active: bool,
 }
 
-/// Until when a peer isn't granted again, and not dialled again.
+/// The reservable time and the dial time of a peer.
 struct Cooldown {
     reservable: Moment,
     dial: Moment,
@@ -27,24 +27,24 @@ struct Cooldown {
 
 pub struct Model {
     setup: Setup,
-    // All sets that were taken: index, primary, secondary.
+    // All sets that were registered: index, primary, secondary.
     sets: Vec<(u64, BTreeSet<Key>, BTreeSet<Key>)>,
     held: BTreeMap<Key, Held>,
     cooldowns: BTreeMap<Key, Cooldown>,
-    // Infos, and how many dials of theirs failed.
+    // Infos, and how many of their dials failed.
     known: BTreeMap<Key, (Info, usize)>,
     blocks: BTreeMap<Key, Moment>,
 }
 
-/// To how many infos a reply is cut, by which draw.
+/// To how many infos a reply is cut, with which draw.
 pub const CUTS: [(usize, u64); 6] = [(0, 1), (1, 0), (1, 1), (1, u64::MAX), (2, 2), (9, 1)];
 
-/// An answer as it is compared.
+/// A result as the text that is compared.
 pub fn shown(answer: impl Debug) -> String {
     format!("{answer:?}")
 }
 
-// The frame with so many of the infos from a place on, around the end, or with all.
+// The frame with so many of the infos from a position on, wrapping around at the end, or with all.
 fn cut(infos: Vec<Info>, count: usize, draw: u64) -> Vec<u8> {
     let length = infos.len();
     let chosen = match count < length {
@@ -183,7 +183,7 @@ impl Model {
         }
     }
 
-    // Where the peer is, as its info says, or else its last bootstrapper.
+    // The address of the peer's info, or else that of its last bootstrapper.
     fn address(&self, peer: &Key) -> Option<&Ingress> {
         let mut bootstrappers = self.setup.bootstrappers.iter().rev();
         match self.known.get(peer) {
@@ -216,7 +216,7 @@ impl Model {
         self.is_entitled(peer) && !self.is_blocked(peer, now)
     }
 
-    // What was known of a peer goes with its presence.
+    // What was known of a peer is removed when it isn't present any more.
     fn forget_absent(&mut self) {
         let known = std::mem::take(&mut self.known);
         let present = known.into_iter().filter(|(peer, _)| self.is_present(peer));
@@ -281,7 +281,7 @@ impl Model {
         true
     }
 
-    // `None` where there is no reservation.
+    // `None` if there is no reservation.
     fn connect_reserved(&mut self, peer: &Key) -> Option<Result<(), ConnectError>> {
         let is_dialer = self.held.get(peer)?.dialled.is_some();
         Some(match self.connect(peer, is_dialer) {
@@ -290,7 +290,7 @@ impl Model {
         })
     }
 
-    // Whether there is a reservation to be released.
+    // Whether there was a reservation to release.
     fn release(&mut self, peer: &Key) -> bool {
         let Some(held) = self.held.remove(peer) else {
             return false;
@@ -338,7 +338,7 @@ impl Model {
         before - self.cooldowns.len()
     }
 
-    // The place of the retained set of this index.
+    // The position of the retained set of this index.
     fn set_of(&self, index: u64) -> Option<usize> {
         self.retained().iter().position(|set| set.0 == index)
     }
@@ -370,7 +370,7 @@ impl Model {
         (self.status(peer) == Status::Active).then(|| known.0.clone())
     }
 
-    // `None` where the number of bits is not that of the primary peers.
+    // `None` if the number of bits isn't that of the primary peers.
     fn infos(&self, bit_vec: &BitVec, now: Moment) -> Option<Vec<Info>> {
         let Some(place) = self.set_of(bit_vec.index) else {
             return Some(Vec::new());
@@ -406,7 +406,7 @@ impl Model {
         })
     }
 
-    // Who may be dialled, and when to ask again.
+    // The peers that may be dialled, and when to ask again.
     fn dialable(&self, now: Moment) -> (Vec<Key>, Option<Moment>) {
         let all = || (0..=u16::from(u8::MAX)).map(key);
         let dial_moment = |peer: &Key| self.cooldowns.get(peer).map_or(Moment::EPOCH, |c| c.dial);
@@ -453,7 +453,7 @@ impl Model {
         }
     }
 
-    // The length that the limits of frames don't admit.
+    // The length that exceeds the limits of frames.
     fn excess(&self, payload: &Payload) -> Option<usize> {
         let limits = &self.setup.payload;
         let (length, most) = match payload {

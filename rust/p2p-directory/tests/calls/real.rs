@@ -11,7 +11,7 @@ use std::collections::BTreeMap;
 
 pub struct Real {
     node: Node,
-    // Of the same key, limits and namespace.
+    // It has the same key, limits and namespace.
     verifier: InfoVerifier,
     held: BTreeMap<Key, Reservation>,
 }
@@ -79,7 +79,7 @@ impl Real {
         Some(metadata)
     }
 
-    // What the verifier says of the infos of a frame.
+    // The result of the verifier for the infos of a frame.
     fn judged(&self, payload: &Payload, now: Moment) -> Result<(), ValidateError> {
         match payload {
             Payload::Greeting(info) => self.verifier.validate_info(now, info, verify),

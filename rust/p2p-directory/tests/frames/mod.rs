@@ -1,4 +1,5 @@
-//! A frame, as the library and this crate's own decoder read it: both read the same, or name the same fault.
+//! A frame, as the library and this crate's own decoder read it: both return the same value, or the
+//! same error.
 
 use p2p_directory::testing::{info, key, setup};
 use p2p_directory::{
@@ -14,17 +15,18 @@ use std::time::Duration;
 pub const INDEX: u64 = 300;
 pub const PEERS: u16 = 19;
 
-/// The own key.
+/// The number of the local key.
 const OWN: u16 = 9;
 
-/// Who may be told of: the own key, and who is connected.
+/// The peers whose infos may be shared: the local key, and the connected peers.
 const SHARED: [u16; 4] = [2, OWN, 11, 19];
 
-/// When frames come, and how far ahead a timestamp may be, in milliseconds: the bound behind that moment.
+/// When frames are received, and the latest timestamp that is accepted, in milliseconds: that time
+/// plus the bound.
 const NOW: Moment = Moment::from_secs(1);
 const LATEST: u64 = 31_000;
 
-/// How many infos a node takes at a time: fewer than the wider limits admit in a frame.
+/// How many infos a node accepts at a time: fewer than the wider limits allow in a frame.
 const MOST_INFOS: usize = 3;
 
 /// Wide and narrow limits.
@@ -43,11 +45,12 @@ pub const LIMITS: [PayloadConfig; 2] = [
 
 const MEMORY: &str = "there is memory";
 
-/// A node that has a set, and infos of its peers at timestamp 7. No frame changes it, for no signature is right.
+/// A node that has a set, and infos of its peers with timestamp 7. No frame changes it, since no
+/// signature is valid.
 struct Informed {
     limits: PayloadConfig,
     node: Node,
-    // One that is dropped is given back.
+    // One that is dropped is released.
     _held: Vec<Reservation>,
 }
 
@@ -55,8 +58,9 @@ thread_local! {
     static INFORMED: RefCell<[Informed; 2]> = RefCell::new(LIMITS.map(Informed::new));
 }
 
-/// Hands in the frame under wide and narrow limits, with wrong signatures and with right ones. What it spells under the
-/// wide ones. Panics where the library reads it otherwise than this crate.
+/// Passes in the frame under wide and narrow limits, with invalid and with valid signatures, and
+/// returns its payload under the wide ones. Panics if the library reads it differently from this
+/// crate.
 pub fn compare(frame: &[u8]) -> Option<Payload> {
     let read = INFORMED.with_borrow_mut(|informed| {
         let [wide, narrow] = informed;
@@ -124,7 +128,8 @@ impl Informed {
     }
 }
 
-// The same frame, taken by a new node that is connected with all whose infos are in it: what it holds afterwards.
+// Passes the frame to a new node that is connected with all peers whose infos are in it, and
+// compares what it stores afterwards.
 fn compare_changes(frame: &[u8], payload: &Payload) {
     let infos = infos_of(payload);
     if infos.is_empty() {
@@ -150,7 +155,7 @@ fn compare_changes(frame: &[u8], payload: &Payload) {
     }
 }
 
-// Half of all signatures, whatever they are of: so there are many right ones.
+// Accepts half of all signatures, whatever they are, so that many are valid.
 fn is_right(signature: &Signature) -> bool {
     signature.0[0].is_multiple_of(2)
 }
@@ -164,7 +169,7 @@ fn new_node(payload: PayloadConfig) -> Node {
     Node::new(&setup).expect(MEMORY)
 }
 
-// Tracks these peers, and connects with those.
+// Tracks these peers, and connects those.
 fn meet(
     node: &mut Node,
     peers: impl Iterator<Item = Key>,
@@ -192,7 +197,8 @@ fn infos_of(payload: &Payload) -> &[Info] {
     }
 }
 
-// The infos that have to be verified: up to the first that is refused anyway, and none where they are too many.
+// The infos that have to be verified: up to the first that is refused for another reason, and none
+// if there are too many.
 fn questions(payload: &Payload) -> &[Info] {
     let infos = infos_of(payload);
     if infos.len() > MOST_INFOS {
@@ -211,7 +217,7 @@ fn refusal(info: &Info, is_right: bool) -> Option<Error> {
     }
 }
 
-// What a node that has the set answers, where these signatures are right.
+// The result of a node that has the set, if these signatures are valid.
 fn answer(payload: &Payload, is_right: impl Fn(&Signature) -> bool) -> Received {
     let infos = infos_of(payload);
     if infos.len() > MOST_INFOS {
@@ -240,7 +246,7 @@ fn answer(payload: &Payload, is_right: impl Fn(&Signature) -> bool) -> Received 
     }
 }
 
-// The infos that are told to one who knows these bits of the set.
+// The infos that are sent to a peer that sent these bits of the set.
 fn shared(bits: &BitVec) -> Vec<Info> {
     let unknown = SHARED
         .into_iter()

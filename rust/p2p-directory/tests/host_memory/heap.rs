@@ -1,10 +1,11 @@
-//! Rust's heap, which refuses the requests that it is told to and counts what is held, for each thread alone.
+//! Rust's heap, which fails the allocations that it is told to, and counts what is allocated, for
+//! each thread.
 
 use std::alloc::{GlobalAlloc, Layout, System};
 use std::cell::Cell;
 use std::ptr;
 
-/// Which requests are refused, counted from 1.
+/// Which allocations fail, counted from 1.
 #[derive(Clone, Copy, Debug)]
 pub enum Refused {
     None,
@@ -33,12 +34,12 @@ struct Heap;
 #[global_allocator]
 static HEAP: Heap = Heap;
 
-/// How many bytes this thread took more than it gave back.
+/// How many bytes this thread allocated more than it freed.
 pub fn held() -> isize {
     COUNTS.get().held
 }
 
-/// Does it while these requests are refused, and answers how many were.
+/// Runs the closure while these allocations fail, and returns how many failed.
 pub fn while_refused<T>(plan: Refused, does: impl FnOnce() -> T) -> (T, u64) {
     let begun = Counts {
         plan,
@@ -56,7 +57,7 @@ pub fn while_refused<T>(plan: Refused, does: impl FnOnce() -> T) -> (T, u64) {
     (done, counts.refused)
 }
 
-// Counts a request. Whether it is granted: always, while a thread ends.
+// Counts an allocation. Returns whether it succeeds, as it always does while a thread ends.
 fn grants() -> bool {
     let granted = COUNTS.try_with(|cell| {
         let mut counts = cell.get();
@@ -81,8 +82,8 @@ fn count_held(bytes: isize) {
     });
 }
 
-// SAFETY: it hands out what the system's allocator does, or nothing. A block that grows is a request of its own, for
-// `realloc` is that of the trait.
+// SAFETY: it returns what the system's allocator does, or null. A block that grows counts as an
+// allocation, since `realloc` is that of the trait.
 unsafe impl GlobalAlloc for Heap {
     unsafe fn alloc(&self, layout: Layout) -> *mut u8 {
         if !grants() {
@@ -95,7 +96,7 @@ unsafe impl GlobalAlloc for Heap {
 
     unsafe fn dealloc(&self, at: *mut u8, layout: Layout) {
         count_held(-(layout.size() as isize));
-        // SAFETY: `alloc` gave it, by this layout.
+        // SAFETY: `alloc` returned it, for this layout.
         unsafe { System.dealloc(at, layout) }
     }
 }

@@ -1,7 +1,9 @@
-//! Each request of the Rust crate itself refused in turn, on Rust's heap. `tests/refused` does so for the library's.
+//! Each allocation of the Rust crate itself fails in turn, on Rust's heap. `tests/refused` does so
+//! for the library's.
 //!
-//! For N counted upwards until nothing is refused, the Nth request of a call is refused, once alone and once with all
-//! later ones: nothing aborts, it answers that memory is wanted, and all stands as before.
+//! For N counted upwards until none fails, the Nth allocation of a call fails, once alone and once
+//! with all later ones. Nothing aborts, the call returns out of memory, and everything is as
+//! before.
 
 mod heap;
 #[allow(dead_code)]
@@ -27,7 +29,8 @@ use std::time::Duration;
 
 const NOW: Moment = Moment::from_secs(100);
 
-// Slots of directories that are gone serve others, on whatever thread: so tests that count requests wait for each other.
+// Slots of directories that were dropped are used by others, on any thread, so tests that count
+// allocations wait for each other.
 fn alone() -> MutexGuard<'static, ()> {
     static ALONE: Mutex<()> = Mutex::new(());
     ALONE.lock().unwrap_or_else(PoisonError::into_inner)
@@ -35,7 +38,8 @@ fn alone() -> MutexGuard<'static, ()> {
 
 type Call<A, T> = fn(&mut State, A) -> Result<T, OutOfMemory>;
 
-// Whether a request was refused. Then nothing has changed, and the call made again answers as if it were the first.
+// Returns whether an allocation failed. If so, nothing has changed, and the call that is made again
+// returns what the first would have returned.
 fn is_refused<A: Clone, T: Debug + PartialEq>(
     plan: Refused,
     prepared: fn() -> State,
@@ -45,7 +49,7 @@ fn is_refused<A: Clone, T: Debug + PartialEq>(
     let (mut ample, mut state) = (prepared(), prepared());
     let answer = call(&mut ample, argument.clone());
     assert!(answer.is_ok(), "{answer:?}");
-    // Of another one, for questions leave room behind.
+    // Of another state, since queries leave longer buffers.
     let before = told(&prepared());
     let given = argument.clone();
     let (refused, count) = while_refused(plan, || call(&mut state, given));
@@ -60,7 +64,7 @@ fn is_refused<A: Clone, T: Debug + PartialEq>(
     true
 }
 
-// Refuses each request in turn: there are so many.
+// Fails each allocation in turn. There must be so many.
 #[track_caller]
 fn refuse_each<A: Clone, T: Debug + PartialEq>(
     requests: u64,
@@ -76,7 +80,7 @@ fn refuse_each<A: Clone, T: Debug + PartialEq>(
     }
 }
 
-// Thirty peers, whose keys are longer together than the room that an answer has at first.
+// Thirty peers, whose keys are longer than the initial buffer for results.
 fn many() -> State {
     let numbers: Vec<u16> = (10..40).collect();
     retaining(2)
@@ -94,8 +98,8 @@ fn a_directory_is_made_or_refused() {
     let _alone = alone();
     let mut setup = setup(9);
     setup.bootstrappers = bootstrappers();
-    // More directories than there were before at a time: each one more has a slot of its own for what is dropped, and
-    // the list of slots, with room for 64, has to grow.
+    // More directories than lived at a time before. Each further one has a new slot for its dropped
+    // reservations, and the list of slots, with capacity for 64, has to grow.
     let kept: Vec<_> = (0..64).map(|_| empty()).collect();
     let mut places = 1..;
     let made = places.find_map(|place| {
@@ -108,10 +112,12 @@ fn a_directory_is_made_or_refused() {
         assert_eq!(made.err(), Some(SetupError::OutOfMemory), "{place}");
         None
     });
-    // The session, bootstrappers, the own info, the room of answers, the list of slots, and a slot.
+    // The session, the bootstrappers, the local info, the buffer for results, the list of slots,
+    // and a slot.
     assert_eq!(made, Some((1 + 6, 2)));
     drop(kept);
-    // A node has copies of its namespace and its greeting, and more room for answers, and finds a slot.
+    // A node has copies of its namespace and its greeting, and another buffer for results, and
+    // finds a slot.
     refuse_each(7, State::nothing, setup, State::make);
 }
 
@@ -121,11 +127,12 @@ fn sets_are_taken_or_refused() {
     let take = |state: &mut State, (index, peers): (u64, TrackedPeers)| {
         state.directory_mut().track(index, &peers)
     };
-    // The keys, primary and secondary, and none is torn down.
+    // The keys, primary and secondary. No peer must be disconnected.
     refuse_each(2, empty, (0, peers(&[1, 2], &[3])), take);
-    // There is room for the keys. The list of whom is torn down, who are at most those that are held.
+    // There is capacity for the keys. The list of peers that must be disconnected has at most those
+    // that are held.
     refuse_each(1, known, (1, peers(&[1, 7], &[11])), take);
-    // Nobody is held. Room for the keys of all thirty, who might be torn down as far as the library says.
+    // No peer is held. The buffer for the keys of all thirty, as many as the library might return.
     let thirty = || empty().tracks(0, &(10..40).collect::<Vec<u16>>(), &[]);
     refuse_each(1, thirty, (1, peers(&[1], &[])), take);
 }
@@ -134,9 +141,10 @@ fn sets_are_taken_or_refused() {
 fn grants_are_made_or_refused() {
     let _alone = alone();
     refuse_each(1, new, 1, |state, number| state.listen(number, NOW));
-    // Room for a dropped reservation, and for a name.
+    // The capacity for a dropped reservation, and for a name.
     refuse_each(2, introduced, 1, |state, number| state.dial(number, NOW));
-    // The room for a name that the first dial didn't need is there for the second, which needs it.
+    // The capacity for a name, which the first dial didn't need, is there for the second, which
+    // needs it.
     refuse_each(0, dialling, 2, |state, number| {
         let is_granted = state.dial(number, NOW)?;
         let held = state.held().last().expect("it was granted");
@@ -146,7 +154,7 @@ fn grants_are_made_or_refused() {
         );
         Ok(is_granted)
     });
-    // There is room for four, of which all are held.
+    // There is capacity for four, and all of them are held.
     let four = || {
         let numbers = [10, 11, 12, 13];
         let state = empty().tracks(0, &[10, 11, 12, 13, 14], &[]);
@@ -193,7 +201,7 @@ fn there_is_room_for_as_many_as_are_held() {
 fn infos_are_offered_or_refused() {
     let _alone = alone();
     let infos = vec![info(3, 2000), named_info(5, 2000, "c.d"), info(1, 2000)];
-    // The spelling of them all.
+    // The encoding of all infos.
     refuse_each(
         1,
         || introduced().tracks(1, &[1, 3, 5], &[]),
@@ -219,7 +227,7 @@ fn questions_are_answered_or_refused() {
         index: 0,
         bits: vec![false; 4],
     };
-    // The list, a name, and the frame: its prefix, and the infos behind it.
+    // The list, a name, and the frame: its prefix, and the infos after it.
     refuse_each(4, known, everybody(), |state, bits: BitVec| {
         state.node().reply_at_most(&bits, NOW, 1, 0)
     });
@@ -227,7 +235,7 @@ fn questions_are_answered_or_refused() {
         index: 0,
         bits: vec![false; 4],
     };
-    // The list, and a name: there is room for the spelling of so few bits.
+    // The list, and a name: there is capacity for the encoding of so few bits.
     refuse_each(2, known, nobody, |state, bits: BitVec| {
         state.directory().infos(&bits, NOW)
     });
@@ -238,7 +246,7 @@ fn infos_are_judged_or_memory_is_refused() {
     let _alone = alone();
     let infos = [info(1, 0), named_info(2, 0, "a.b")];
     let made = || Info::verifier(key(9), 2, Duration::ZERO, NAMESPACE);
-    // Whether it was refused, and then answers once there is memory.
+    // Returns whether an allocation failed. If so, it returns the value once there is memory.
     let is_refused = |plan| {
         let (verifier, refused) = while_refused(plan, made);
         if refused > 0 {
@@ -261,10 +269,10 @@ fn infos_are_judged_or_memory_is_refused() {
 #[test]
 fn long_answers_are_answered_or_refused() {
     let _alone = alone();
-    // More room for what comes out, and two lists.
+    // A longer buffer for results, and two lists.
     refuse_each(3, many, (), |state, ()| state.directory().get_peer_set(0));
     refuse_each(2, many, (), |state, ()| state.directory().all());
-    // And four lists, of which one has nobody.
+    // And four lists, one of which is empty.
     refuse_each(4, many, (), |state, ()| state.directory().latest_update());
 }
 
@@ -291,7 +299,7 @@ fn frames_are_taken_or_refused() {
     };
     refuse_each(1, known, data(100), take);
     refuse_each(0, known, vec![4], take);
-    // In two steps: the questions and a verdict for each info.
+    // In two steps: the questions and a verification result for each info.
     refuse_each(
         2,
         known,
@@ -311,7 +319,7 @@ fn frames_are_taken_or_refused() {
 fn buffers_are_given_back_after_a_large_frame() {
     let _alone = alone();
     const LARGE: usize = 1 << 20;
-    // What may be kept of a buffer.
+    // The maximum capacity that a buffer keeps.
     const KEPT: isize = 64 << 10;
     let mut setup = setup(9);
     setup.payload.max_data_length = LARGE;
@@ -348,7 +356,7 @@ fn buffers_are_given_back_after_a_large_set() {
     let taken = state.directory_mut().track(0, &set.clone()).unwrap();
     assert!(taken.is_some());
     assert_eq!(state.directory().get_peer_set(0), Ok(Some(set)));
-    // The set itself came back, and what went in and came out is 128,000 bytes each.
+    // The returned set has 128,000 bytes, and so do the argument and the result.
     let kept = held() - before;
     assert!(kept <= KEPT, "{kept} bytes");
 }

@@ -1,4 +1,4 @@
-//! Questions whose answers take memory.
+//! Queries whose results are allocated.
 
 use crate::Case;
 use crate::state::{known, named_info, peers, said, seconds, set, text};
@@ -22,7 +22,8 @@ pub const QUESTIONS: &[Case] = &[
         },
         answer: || text(Some([info(1, 1000), named_info(2, 1000, "a.b")])),
         requests: 7,
-        // Room for four infos (576), their spelling (212), the name, and what shares the spelling.
+        // Space for four infos (576), their encoding (212), the name, and the encoding's control
+        // block.
         bytes: 832,
     },
     Case {
@@ -34,7 +35,7 @@ pub const QUESTIONS: &[Case] = &[
         },
         answer: || text(Some(Vec::<()>::new())),
         requests: 5,
-        // The copy of the bits with what shares it, and the bits.
+        // The copy of the bits with its control block, and the bits.
         bytes: 48,
     },
     Case {
@@ -46,7 +47,7 @@ pub const QUESTIONS: &[Case] = &[
         },
         answer: || text(None::<()>),
         requests: 3,
-        // The copy of the bits with what shares it, and the bits.
+        // The copy of the bits with its control block, and the bits.
         bytes: 48,
     },
     Case {
@@ -58,7 +59,7 @@ pub const QUESTIONS: &[Case] = &[
         },
         answer: || text((vec![key(5)], None::<Moment>)),
         requests: 1,
-        // Room for four keys.
+        // Space for four keys.
         bytes: 128,
     },
     Case {
@@ -67,7 +68,7 @@ pub const QUESTIONS: &[Case] = &[
         call: |state| said(state.directory().blocked_peers(seconds(99))),
         answer: || text(set(&[4, 6])),
         requests: 1,
-        // Room for four keys.
+        // Space for four keys.
         bytes: 128,
     },
     Case {
@@ -76,7 +77,7 @@ pub const QUESTIONS: &[Case] = &[
         call: |state| said(state.directory().info(&key(1))),
         answer: || text(Some(info(1, 1000))),
         requests: 2,
-        // The spelling, with what shares it.
+        // The encoding, with its control block.
         bytes: 144,
     },
     Case {
@@ -85,7 +86,7 @@ pub const QUESTIONS: &[Case] = &[
         call: |state| said(state.directory().info(&key(2))),
         answer: || text(Some(named_info(2, 1000, "a.b"))),
         requests: 3,
-        // The name, the spelling, and what shares it.
+        // The name, the encoding, and its control block.
         bytes: 144,
     },
     Case {
@@ -94,7 +95,7 @@ pub const QUESTIONS: &[Case] = &[
         call: |state| said(state.directory().get_peer_set(0)),
         answer: || text(Some(peers(&[1, 2, 3, 5], &[4]))),
         requests: 2,
-        // Two lists with room for four keys each.
+        // Two lists with space for four keys each.
         bytes: 256,
     },
     Case {
@@ -103,7 +104,7 @@ pub const QUESTIONS: &[Case] = &[
         call: |state| said(state.directory().all()),
         answer: || text(peers(&[1, 2, 3, 5], &[4])),
         requests: 2,
-        // Two lists with room for four keys each.
+        // Two lists with space for four keys each.
         bytes: 256,
     },
     Case {
@@ -118,7 +119,7 @@ pub const QUESTIONS: &[Case] = &[
             text(Some((0, &peers, &peers)))
         },
         requests: 4,
-        // Four lists with room for four keys each.
+        // Four lists with space for four keys each.
         bytes: 512,
     },
     Case {
@@ -127,7 +128,7 @@ pub const QUESTIONS: &[Case] = &[
         call: |state| said(state.directory().get_random_bit_vec(0)),
         answer: || text(Some(bit_vec(0, &[true, true, false, true]))),
         requests: 3,
-        // The bits, their spelling (8), and what shares it.
+        // The bits, their encoding (8), and its control block.
         bytes: 48,
     },
     Case {
@@ -136,7 +137,7 @@ pub const QUESTIONS: &[Case] = &[
         call: |state| said(state.node().ask(0)),
         answer: || text(Some([2, 0, 4, 0b1011])),
         requests: 3,
-        // The bits, the frame (8), and what shares it.
+        // The bits, the frame (8), and its control block.
         bytes: 48,
     },
 ];

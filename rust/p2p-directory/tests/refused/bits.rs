@@ -1,4 +1,4 @@
-//! The bits of sets that are retained where a further set was refused.
+//! The bits of sets that are retained if a further set was refused.
 
 use crate::heap::{Refused, while_refused};
 use crate::state::{State, peers, seconds, two_sets};
@@ -26,7 +26,7 @@ fn connects(state: &mut State, now: u64, connected: &[&[bool]], released: &[&[bo
     assert_bits(state, released);
 }
 
-// The sets that were retained have the peer's bit, and so does one that comes after.
+// The sets that were retained have the peer's bit, and so does a set that is registered afterwards.
 fn follows(state: &mut State) {
     const FIRST: &[bool] = &[false, true, false];
     const SECOND: &[bool] = &[true, false];
@@ -41,7 +41,8 @@ fn follows(state: &mut State) {
     );
 }
 
-// Whether the set of peers 1 to 3 and of more than a node of a tree holds was refused. Then what is retained has its bits.
+// Whether the set of peers 1 to 3, and of more than one node of a tree holds, was refused. If so,
+// the retained sets still have their bits.
 fn is_refused(plan: Refused) -> bool {
     let refused = peers(
         &[1, 2, 3, 10, 11, 12, 13, 14, 15, 16, 17, 18, 19, 20, 21, 22],

@@ -1,4 +1,4 @@
-//! How much is held after many calls, and how much a frame can make a node take.
+//! How much memory is held after many calls, and how much a frame can make a node allocate.
 
 use crate::heap::{Refused, held, while_refused};
 use crate::state::{State, empty, seconds};
@@ -10,16 +10,16 @@ use std::time::Duration;
 
 const ROUNDS: u16 = 10_000;
 
-// How many reservations a node has room for at first, and which request of the next one is the first for its slot, and
-// for the moments of its grant.
+// For how many reservations a node has space at first, and which allocation for the next one is the
+// first for its slot, and for the times of its grant.
 const FULL: u16 = 15;
 const SLOT: u64 = 1;
 const MOMENT: u64 = 3;
 
-// More than a node keeps of a few reservations or blocks.
+// More bytes than a node keeps for a few reservations or blocks.
 const FEW: usize = 4_096;
 
-// A node of so many primary peers, from 10 on.
+// A node with so many primary peers, from 10 on.
 fn many() -> State {
     let mut state = empty();
     let peers = OrderedSet::from_iter_dedup((10..10 + ROUNDS).map(key)).into();
@@ -27,7 +27,8 @@ fn many() -> State {
     state
 }
 
-// The peer's dial isn't granted, for its address isn't known; it is listened for, not granted again, and released.
+// A dial of the peer isn't granted, since its address isn't known. The peer is accepted, not
+// granted again, and released.
 fn cycles(state: &mut State, number: u16) {
     let now = seconds(100);
     assert_eq!(state.dial(number, now), Ok(false), "{number}");
@@ -37,7 +38,7 @@ fn cycles(state: &mut State, number: u16) {
     assert_eq!(state.directory_mut().forget_cooled(Moment::MAX), 1);
 }
 
-// In each round another peer comes and goes.
+// Another peer connects and leaves in each round.
 #[test]
 fn a_node_keeps_nothing_of_whom_it_released() {
     let mut state = many();
@@ -50,7 +51,7 @@ fn a_node_keeps_nothing_of_whom_it_released() {
     assert_eq!(held(), before);
 }
 
-// .. also where a stranger is turned away.
+// The same holds if a stranger is refused.
 #[test]
 fn a_node_keeps_nothing_of_whom_it_turned_away() {
     let mut state = many();
@@ -70,8 +71,8 @@ fn refuses_listener(state: &mut State, number: u16, plan: Refused) {
     assert_eq!(answer, Err(OutOfMemory), "{number}: {asked:?}");
 }
 
-// .. and where memory is refused to listeners: first to their slots, then to their moments, while the room for slots
-// that the first of these took is kept.
+// The same holds if allocations for inbound peers fail: first for their slots, then for their
+// times. The space for slots that the first of these allocated is kept.
 #[test]
 fn a_node_keeps_nothing_of_whom_it_refused_for_memory() {
     let mut state = (10..10 + FULL).fold(many(), State::listened);
@@ -86,7 +87,8 @@ fn a_node_keeps_nothing_of_whom_it_refused_for_memory() {
     assert_eq!(state.listen(10 + FULL, seconds(100)), Ok(true));
 }
 
-// In each round one of three peers is blocked anew after its block, of a minute, has ended. Nobody ends blocks.
+// In each round one of three peers is blocked again after its block, of a minute, has ended. Ended
+// blocks aren't removed.
 #[test]
 fn blocks_that_are_renewed_keep_no_ends() {
     let mut state = empty();
@@ -98,14 +100,14 @@ fn blocks_that_are_renewed_keep_no_ends() {
         }
     });
     assert!(asked.bytes <= FEW, "{asked:?}");
-    // Three blocks are left, those of the last rounds: the first of them is of round 9,997.
+    // Three blocks are left, those of the last rounds. The first of them is of round 9,997.
     let first = seconds(9_997 * 30 + 60);
     assert_eq!(directory.next_unblock(), Some(first));
     assert!(directory.unblock_expired(first));
     assert_eq!(directory.blocked_peers(Moment::EPOCH).unwrap().len(), 2);
 }
 
-// What a node keeps of reservations that it holds goes with them.
+// The memory that a node holds for reservations is freed with them.
 #[test]
 fn a_node_gives_back_what_reservations_took() {
     let mut state = many();
@@ -126,7 +128,8 @@ fn a_node_gives_back_what_reservations_took() {
     assert_eq!(held(), before);
 }
 
-// What nodes say to each other: bits, messages, greetings from a socket and from a name, and infos.
+// The frames that nodes send to each other: bits, messages, greetings with a socket and with a
+// name, and infos.
 fn frames() -> Vec<Vec<u8>> {
     let mut named = info(2, 1000);
     named.ingress = Ingress::Dns {
@@ -153,8 +156,8 @@ fn frames() -> Vec<Vec<u8>> {
     plain.chain(spelled).collect()
 }
 
-// Frames whose counts and lengths are the greatest that a node of the greatest limits admits, with nothing or something
-// behind them.
+// Frames whose counts and lengths are the greatest that a node with the greatest limits allows,
+// with or without bytes after them.
 fn hostile_frames() -> Vec<Vec<u8>> {
     const GREATEST: &[u8] = &[0xff, 0xff, 0xff, 0xff, 0x0f];
     const INDEX: &[u8] = &[0xff, 0xff, 0xff, 0xff, 0xff, 0xff, 0xff, 0xff, 0xff, 0x01];
@@ -175,10 +178,11 @@ fn hostile_frames() -> Vec<Vec<u8>> {
     ]
 }
 
-// The greatest values of a byte, of one that another follows, and of what is admitted, and the least.
+// The greatest values of a byte, of one that another byte follows and of what the limits allow, and
+// the smallest.
 const VALUES: [u8; 6] = [255, 128, 127, 64, 1, 0];
 
-// Of a frame: it, and it with each of its bytes changed to these values.
+// The frame itself, and the frame with each of its bytes changed to each of these values.
 fn with_changes(frame: &[u8]) -> Vec<Vec<u8>> {
     let mut changed = vec![frame.to_vec()];
     for place in 0..frame.len() {
@@ -191,8 +195,8 @@ fn with_changes(frame: &[u8]) -> Vec<Vec<u8>> {
     changed
 }
 
-// So many bytes of memory for each byte of a frame are always enough, with those of what shares the copy of a frame, and
-// of the least room for bits and infos.
+// So many bytes of memory for each byte of a frame are always enough, in addition to the control
+// block of the frame's copy and the minimum space for bits and infos.
 const BYTES_FOR_EACH: usize = 8;
 const BYTES_BESIDE: usize = 48;
 

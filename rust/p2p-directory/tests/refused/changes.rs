@@ -1,4 +1,4 @@
-//! Calls that change something, one after the other in the states that `state` prepares.
+//! Calls that change something, one after the other, in the states that `state` prepares.
 
 use crate::Case;
 use crate::state::{
@@ -9,7 +9,8 @@ use p2p_directory::testing::{info, key, setup};
 use p2p_directory::{Ingress, Key, OutOfMemory};
 use std::net::SocketAddr;
 
-// So many bootstrappers at sockets, one at a name, one twice, and the own key among them.
+// So many bootstrappers with sockets, with the local key among them, one with a name, and one that
+// occurs twice.
 fn bootstrappers(count: u16) -> Vec<(Key, Ingress)> {
     let at = |number: u16| Ingress::from(SocketAddr::from(([1, 2, 3, 4], 8000 + number)));
     let named = named_info(20, 0, "a.b").ingress;
@@ -51,7 +52,8 @@ pub const CHANGES: &[Case] = &[
         call: |state| said(state.make(setup(9))),
         answer: || text(()),
         requests: 6,
-        // A node of records (3,968), the namespace, the spelling of the own info and what shares it.
+        // A node of records (3,968), the namespace, the encoding of the local info and its control
+        // block.
         bytes: 4112,
     },
     Case {
@@ -73,8 +75,8 @@ pub const CHANGES: &[Case] = &[
         call: |state| tracked(state, 7, &[1, 2], &[3]),
         answer: nobody,
         requests: 8,
-        // The window (352) and its links (128), the primary keys (64), the secondary ones that aren't primary (128), where
-        // both stood before (32), where they stand now (96), bits.
+        // The window (352) and its links (128), the primary keys (64), the secondary ones that
+        // aren't primary (128), their positions before (32) and now (96), bits.
         bytes: 801,
     },
     Case {
@@ -83,8 +85,8 @@ pub const CHANGES: &[Case] = &[
         call: |state| tracked(state, 1, &[1, 7], &[11]),
         answer: || text(Some(set(&[2, 3]))),
         requests: 7,
-        // The lists of keys (192), the list of whom is torn down (160), where both stood before (32), the places of five
-        // peers (240), bits.
+        // The lists of keys (192), the list of peers that must be disconnected (160), their
+        // positions before (32), the positions of five peers (240), bits.
         bytes: 625,
     },
     Case {
@@ -93,8 +95,8 @@ pub const CHANGES: &[Case] = &[
         call: |state| tracked(state, 1, &MANY, &[30, 31, 32, 33]),
         answer: nobody,
         requests: 10,
-        // Two nodes of records (3,968 each) and one with edges (4,096), the lists of keys (768), where each stood before (16)
-        // and the places of all (48 each).
+        // Two nodes of records (3,968 each) and one with edges (4,096), the lists of keys (768),
+        // the positions of each before (16), and those of all (48 each).
         bytes: 13_603,
     },
     Case {
@@ -103,7 +105,8 @@ pub const CHANGES: &[Case] = &[
         call: |state| tracked(state, 2, &[1, 2, 3, 10, 11, 12, 13, 14], &[]),
         answer: nobody,
         requests: 4,
-        // The keys (256), where they stood before (128), the places of eight peers (384), the bits.
+        // The keys (256), their positions before (128), the positions of eight peers (384), the
+        // bits.
         bytes: 769,
     },
     Case {
@@ -112,7 +115,8 @@ pub const CHANGES: &[Case] = &[
         call: |state| tracked(state, 4, &[1], &[]),
         answer: nobody,
         requests: 5,
-        // A window with room for eight sets (704), and the key. No peer is new, so no places are.
+        // A window with space for eight sets (704), and the key. No peer is new, so there are no
+        // new positions.
         bytes: 737,
     },
     Case {
@@ -138,7 +142,7 @@ pub const CHANGES: &[Case] = &[
         call: |state| said(state.listen(1, seconds(100))),
         answer: || text(true),
         requests: 2,
-        // A node of slots (1,808), and one of moments (968).
+        // A node of slots (1,808), and one of times (968).
         bytes: 2784,
     },
     Case {
@@ -159,7 +163,7 @@ pub const CHANGES: &[Case] = &[
         call: |state| said(state.listen(29, seconds(100))),
         answer: || text(true),
         requests: 4,
-        // A second node of slots (1,808) and one with edges (1,936), and of moments (968 and 1,096).
+        // A second node of slots (1,808) and one with edges (1,936), and of times (968 and 1,096).
         bytes: 5808,
     },
     Case {
@@ -168,7 +172,7 @@ pub const CHANGES: &[Case] = &[
         call: |state| said(state.dial(1, seconds(100))),
         answer: || text(true),
         requests: 2,
-        // As to listen.
+        // As for an inbound peer.
         bytes: 2784,
     },
     Case {
@@ -177,7 +181,7 @@ pub const CHANGES: &[Case] = &[
         call: |state| said(state.dial(2, seconds(100))),
         answer: || text(true),
         requests: 3,
-        // As to listen, and the name.
+        // As for an inbound peer, and the name.
         bytes: 2784,
     },
     Case {
@@ -271,7 +275,7 @@ pub const CHANGES: &[Case] = &[
         call: |state| block(state, 10, 200),
         answer: || text(true),
         requests: 2,
-        // Two more nodes of ends, the new one beside the old.
+        // Two more nodes of ends, the new one in addition to the old.
         bytes: 1600,
     },
     Case {
@@ -292,7 +296,7 @@ pub const CHANGES: &[Case] = &[
         call: |state| said(state.directory_mut().update_peers(&[])),
         answer: || text(()),
         requests: 2,
-        // The copy of the list, with what shares it.
+        // The copy of the list, with its control block.
         bytes: 48,
     },
 ];

@@ -1,5 +1,5 @@
-//! Frames of each kind, and each refusal of them: with ample memory first what `check` asks for, then what `receive`
-//! does.
+//! Frames of each kind, and each refusal of them: first the results of `check`, with enough memory,
+//! then those of `receive`.
 
 use crate::Case;
 use crate::state::{State, empty, known, named_info, new, said, seconds, text};
@@ -18,7 +18,7 @@ fn frame(state: &mut State, frame: &[u8]) -> Result<String, OutOfMemory> {
     said(state.receive(frame, seconds(100)))
 }
 
-// An info whose signature isn't right.
+// An info whose signature is invalid.
 fn forged(number: u16) -> Info {
     let ingress = info(number, 0).ingress;
     Info::sign(key(number), NAMESPACE, ingress, 2000, |_, _| {
@@ -26,7 +26,7 @@ fn forged(number: u16) -> Info {
     })
 }
 
-// A node that judges one info at a time.
+// A node that accepts one info at a time.
 fn one_at_a_time() -> State {
     let mut setup = setup(9);
     setup.peer_gossip_max_count = 1;
@@ -57,7 +57,7 @@ pub const FRAMES: &[Case] = &[
         call: |state| greeting(state, info(1, 1000), 100),
         answer: || text(Received::Greeted(key(1))),
         requests: 6,
-        // A list of one info (144), and the verdict; before that the copy of the frame.
+        // A list of one info (144), and the verification result; before that the copy of the frame.
         bytes: 160,
     },
     Case {
@@ -66,7 +66,7 @@ pub const FRAMES: &[Case] = &[
         call: |state| greeting(state, info(9, 1000), 100),
         answer: || invalid(Error::ReceivedSelf),
         requests: 5,
-        // The copy of the frame, with what shares it.
+        // The copy of the frame, with its control block.
         bytes: 144,
     },
     Case {
@@ -75,7 +75,7 @@ pub const FRAMES: &[Case] = &[
         call: |state| greeting(state, info(1, 130_001), 100),
         answer: || invalid(Error::SynchronyBound),
         requests: 5,
-        // The copy of the frame, with what shares it.
+        // The copy of the frame, with its control block.
         bytes: 144,
     },
     Case {
@@ -84,7 +84,7 @@ pub const FRAMES: &[Case] = &[
         call: |state| greeting(state, forged(1), 100),
         answer: || invalid(Error::InvalidSignature),
         requests: 5,
-        // The copy of the frame, with what shares it.
+        // The copy of the frame, with its control block.
         bytes: 144,
     },
     Case {
@@ -96,7 +96,7 @@ pub const FRAMES: &[Case] = &[
             text(Received::Reply(reply))
         },
         requests: 9,
-        // Room for four infos (576), the reply (108), what shares it, and the bits.
+        // Space for four infos (576), the reply (108), its control block, and the bits.
         bytes: 736,
     },
     Case {
@@ -105,7 +105,7 @@ pub const FRAMES: &[Case] = &[
         call: |state| frame(state, &[2, 7, 0]),
         answer: || text(Received::Reply(vec![3, 0])),
         requests: 6,
-        // The reply of no infos and what shares it.
+        // The reply without infos, and its control block.
         bytes: 48,
     },
     Case {
@@ -114,7 +114,7 @@ pub const FRAMES: &[Case] = &[
         call: |state| frame(state, &[2, 0, 3, 0]),
         answer: || text(Received::Malformed),
         requests: 6,
-        // The copy of the frame with what shares it, and the bits.
+        // The copy of the frame with its control block, and the bits.
         bytes: 48,
     },
     Case {
@@ -123,7 +123,8 @@ pub const FRAMES: &[Case] = &[
         call: |state| infos(state, &[info(1, 2000), info(3, 2000)], 100),
         answer: || text(Received::Applied(2)),
         requests: 7,
-        // A list of two infos (288), the copy of the frame (214), what shares it, the verdicts.
+        // A list of two infos (288), the copy of the frame (214), its control block, the
+        // verification results.
         bytes: 544,
     },
     Case {
@@ -135,7 +136,7 @@ pub const FRAMES: &[Case] = &[
         },
         answer: || text(Received::Applied(2)),
         requests: 7,
-        // As at once.
+        // The same as in one step.
         bytes: 544,
     },
     Case {
@@ -156,7 +157,7 @@ pub const FRAMES: &[Case] = &[
         call: |state| infos(state, &[], 100),
         answer: || text(Received::Applied(0)),
         requests: 4,
-        // The copy of the frame, with what shares it.
+        // The copy of the frame, with its control block.
         bytes: 48,
     },
     Case {
@@ -165,7 +166,7 @@ pub const FRAMES: &[Case] = &[
         call: |state| infos(state, &[info(1, 2000), info(9, 2000)], 100),
         answer: || invalid(Error::ReceivedSelf),
         requests: 7,
-        // As of two infos.
+        // As for two infos.
         bytes: 544,
     },
     Case {
@@ -174,7 +175,7 @@ pub const FRAMES: &[Case] = &[
         call: |state| infos(state, &[info(1, 2000), info(3, 130_001)], 100),
         answer: || invalid(Error::SynchronyBound),
         requests: 7,
-        // As of two infos.
+        // As for two infos.
         bytes: 544,
     },
     Case {
@@ -183,7 +184,7 @@ pub const FRAMES: &[Case] = &[
         call: |state| infos(state, &[info(1, 2000), forged(3)], 100),
         answer: || invalid(Error::InvalidSignature),
         requests: 7,
-        // As of two infos.
+        // As for two infos.
         bytes: 544,
     },
     Case {
@@ -192,7 +193,7 @@ pub const FRAMES: &[Case] = &[
         call: |state| infos(state, &[info(1, 2000), info(2, 2000)], 100),
         answer: || invalid(Error::TooManyPeers(2)),
         requests: 7,
-        // As of two infos.
+        // As for two infos.
         bytes: 544,
     },
     Case {
@@ -206,7 +207,7 @@ pub const FRAMES: &[Case] = &[
             })
         },
         requests: 6,
-        // The copy of the frame and the spelling of the answer, each with what shares it.
+        // The copy of the frame and the encoding of the result, each with its control block.
         bytes: 80,
     },
     Case {
@@ -215,7 +216,7 @@ pub const FRAMES: &[Case] = &[
         call: |state| frame(state, &[4, 0, 1]),
         answer: || fault(CodecError::InvalidEnum(4)),
         requests: 4,
-        // The copy of the frame, with what shares it.
+        // The copy of the frame, with its control block.
         bytes: 48,
     },
     Case {
@@ -224,7 +225,7 @@ pub const FRAMES: &[Case] = &[
         call: |state| frame(state, &[2, 0, 9, 0]),
         answer: || fault(CodecError::EndOfBuffer),
         requests: 4,
-        // The copy of the frame, with what shares it.
+        // The copy of the frame, with its control block.
         bytes: 48,
     },
     Case {
@@ -233,7 +234,7 @@ pub const FRAMES: &[Case] = &[
         call: |state| frame(state, &[2, 0, 4, 0, 0]),
         answer: || fault(CodecError::ExtraData(1)),
         requests: 6,
-        // The copy of the frame with what shares it, and the bits.
+        // The copy of the frame with its control block, and the bits.
         bytes: 48,
     },
     Case {
@@ -242,7 +243,7 @@ pub const FRAMES: &[Case] = &[
         call: |state| frame(state, &[2, 0, 0x81, 0x08, 0]),
         answer: || fault(CodecError::InvalidLength(1025)),
         requests: 4,
-        // The copy of the frame, with what shares it.
+        // The copy of the frame, with its control block.
         bytes: 48,
     },
     Case {
@@ -251,7 +252,7 @@ pub const FRAMES: &[Case] = &[
         call: |state| frame(state, &[2, 0x80, 0, 0]),
         answer: || fault(CodecError::InvalidVarint(10)),
         requests: 4,
-        // The copy of the frame, with what shares it.
+        // The copy of the frame, with its control block.
         bytes: 48,
     },
     Case {
@@ -260,7 +261,7 @@ pub const FRAMES: &[Case] = &[
         call: |state| frame(state, &[2, 0, 4, 0x10]),
         answer: || fault(CodecError::Invalid(What::Padding)),
         requests: 4,
-        // The copy of the frame, with what shares it.
+        // The copy of the frame, with its control block.
         bytes: 48,
     },
     Case {
@@ -269,7 +270,7 @@ pub const FRAMES: &[Case] = &[
         call: |state| frame(state, &[1, 1, 1, b'-', 0, 80]),
         answer: || fault(CodecError::Invalid(What::Hostname)),
         requests: 4,
-        // The copy of the frame, with what shares it.
+        // The copy of the frame, with its control block.
         bytes: 48,
     },
     Case {
@@ -282,7 +283,7 @@ pub const FRAMES: &[Case] = &[
         },
         answer: || fault(CodecError::EndOfBuffer),
         requests: 8,
-        // As of two infos, with a name and without verdicts.
+        // As for two infos, with a name and without verification results.
         bytes: 544,
     },
 ];

@@ -1,11 +1,12 @@
-//! The heap of the library, in place of the toolchain's: it refuses the requests that it is told to, and counts
-//! what is held. Each thread has counts of its own, and a session stays on the thread of its test here.
+//! The heap of the library, in place of the toolchain's. It fails the allocations that it is told
+//! to, and counts what is allocated. Each thread has its own counts, and a session stays on the
+//! thread of its test here.
 
 use std::alloc::{Layout, alloc, dealloc};
 use std::cell::Cell;
 use std::ptr;
 
-/// Which requests are refused, counted from 1.
+/// Which allocations fail, counted from 1.
 #[derive(Clone, Copy, Debug)]
 pub enum Refused {
     None,
@@ -15,14 +16,14 @@ pub enum Refused {
     From(u64),
 }
 
-/// What was asked of the heap while something was done.
+/// The allocations while a closure ran.
 #[derive(Clone, Copy, Debug)]
 pub struct Asked {
-    /// How many requests were met.
+    /// How many allocations were requested.
     pub requests: u64,
-    /// How many of them were refused.
+    /// How many of them failed.
     pub refused: u64,
-    /// The greatest number of bytes that were held more than before, at a time.
+    /// The maximum number of bytes that were allocated in addition to those before.
     pub bytes: usize,
 }
 
@@ -41,12 +42,12 @@ thread_local! {
     };
 }
 
-/// How many bytes the library holds.
+/// How many bytes the library has allocated.
 pub fn held() -> usize {
     COUNTS.get().held
 }
 
-/// Does it while these requests are refused, and answers what was asked.
+/// Runs the closure while these allocations fail, and returns the counts.
 pub fn while_refused<T>(plan: Refused, does: impl FnOnce() -> T) -> (T, Asked) {
     let before = held();
     COUNTS.set(Counts {
@@ -70,7 +71,7 @@ pub fn while_refused<T>(plan: Refused, does: impl FnOnce() -> T) -> (T, Asked) {
     (done, asked)
 }
 
-// Counts a request. Whether it is granted.
+// Counts an allocation. Returns whether it succeeds.
 fn grants() -> bool {
     let mut counts = COUNTS.get();
     counts.requests += 1;
@@ -91,7 +92,7 @@ fn count_held(more: usize, less: usize) {
     COUNTS.set(counts);
 }
 
-/// What a request is answered: whether room is had, and where.
+/// The result of an allocation: whether it succeeded, and the address.
 #[repr(C)]
 struct Had {
     is_had: usize,
@@ -103,7 +104,7 @@ const NOT_HAD: Had = Had {
     at: ptr::null_mut(),
 };
 
-// Before each room stands its size, in as many bytes as the greatest alignment has.
+// Each block has its size before it, in as many bytes as the greatest alignment.
 const HEAD: usize = 16;
 
 fn layout(size: usize) -> Option<Layout> {
@@ -114,12 +115,12 @@ fn take(size: usize) -> Had {
     let Some(layout) = layout(size) else {
         return NOT_HAD;
     };
-    // SAFETY: the size isn't 0, for it has the head.
+    // SAFETY: the size isn't 0, since it includes the head.
     let head = unsafe { alloc(layout) };
     if head.is_null() {
         return NOT_HAD;
     }
-    // SAFETY: the room begins with a head, which is aligned for a size.
+    // SAFETY: the block begins with a head, which is aligned for a size.
     let at = unsafe {
         head.cast::<usize>().write(size);
         head.add(HEAD)
@@ -130,17 +131,17 @@ fn take(size: usize) -> Had {
 
 /// # Safety
 ///
-/// `take` gave this room, and nobody has given it back.
+/// `take` returned this block, and it wasn't freed.
 unsafe fn size_of(at: *mut u8) -> usize {
-    // SAFETY: a head stands before it.
+    // SAFETY: there is a head before it.
     unsafe { at.sub(HEAD).cast::<usize>().read() }
 }
 
 /// # Safety
 ///
-/// `take` gave this room, and nobody has given it back.
+/// `take` returned this block, and it wasn't freed.
 unsafe fn give_back(at: *mut u8) {
-    // SAFETY: a head stands before it, with the size that it was taken with.
+    // SAFETY: the head before it has the size with which it was allocated.
     unsafe {
         let size = size_of(at);
         dealloc(at.sub(HEAD), layout(size).expect("it was taken"));
@@ -154,12 +155,12 @@ extern "C" fn rattle_alloc(size: usize, align: usize) -> Had {
     if grants() { take(size) } else { NOT_HAD }
 }
 
-/// The room moves each time, so that the old one stands beside the new one for a while.
+/// The block moves each time, so the old one and the new one are both allocated for a while.
 #[unsafe(no_mangle)]
 unsafe extern "C" fn rattle_realloc(at: *mut u8, _old: usize, size: usize, align: usize) -> Had {
     let had = rattle_alloc(size, align);
     if had.is_had == 1 {
-        // SAFETY: the room was taken and not given back; both have so many bytes.
+        // SAFETY: the block was allocated and not freed, and both have so many bytes.
         unsafe {
             ptr::copy_nonoverlapping(at, had.at, size_of(at).min(size));
             give_back(at);
@@ -170,6 +171,6 @@ unsafe extern "C" fn rattle_realloc(at: *mut u8, _old: usize, size: usize, align
 
 #[unsafe(no_mangle)]
 unsafe extern "C" fn rattle_dealloc(at: *mut u8) {
-    // SAFETY: the library gives back what it was given, once.
+    // SAFETY: the library frees each block that it was given once.
     unsafe { give_back(at) }
 }

@@ -1,8 +1,9 @@
-//! Each request for memory refused in turn: what is answered then, what stands afterwards, and how much a call takes.
+//! Each allocation fails in turn: what is returned then, what the state is afterwards, and how much
+//! a call allocates.
 //!
-//! The library's memory comes from a heap of this test (`heap`). For N counted upwards until nothing is refused, the
-//! Nth request of a call is refused, once alone and once with all later ones. Buffers of this crate itself are Rust's:
-//! `tests/host_memory` refuses those.
+//! The library allocates from a heap of this test (`heap`). For N counted upwards until none fails,
+//! the Nth allocation of a call fails, once alone and once with all later ones. The buffers of this
+//! crate itself are Rust's: `tests/host_memory` fails those.
 
 mod asked;
 mod bits;
@@ -26,16 +27,16 @@ struct Case {
     name: &'static str,
     prepared: fn() -> State,
     call: fn(&mut State) -> Result<String, OutOfMemory>,
-    /// What it answers with ample memory.
+    /// The result with enough memory.
     answer: fn() -> String,
-    /// How many requests it makes then.
+    /// How many allocations it makes then.
     requests: u64,
-    /// How many bytes it takes at most, at a time.
+    /// The maximum number of bytes that it allocates at a time.
     bytes: usize,
 }
 
 impl Case {
-    // What is answered to each question after the call, and at the end, with ample memory.
+    // The results of all queries after the call, and at the end, with enough memory.
     fn made(&self) -> [Vec<String>; 2] {
         let Case { name, bytes, .. } = self;
         let mut state = (self.prepared)();
@@ -46,12 +47,13 @@ impl Case {
         [told(&state), told_at_the_end(state)]
     }
 
-    // What the calls that take no memory answer in the state, with ample memory.
+    // The results of the calls that don't allocate in this state, with enough memory.
     fn quiet(&self) -> Vec<String> {
         quiet_answers(&mut (self.prepared)())
     }
 
-    // Whether a request was refused. Then nothing has changed, and the call made again answers as if it were the first.
+    // Returns whether an allocation failed. If so, nothing has changed, and the call that is made
+    // again returns what the first would have returned.
     fn is_refused(&self, plan: Refused, after: &[Vec<String>; 2]) -> bool {
         let name = self.name;
         let mut state = (self.prepared)();
@@ -70,7 +72,8 @@ impl Case {
         true
     }
 
-    // After the refusal calls that take no memory answer as ever, with none left.
+    // After the failure, calls that don't allocate return what they always do, without any memory
+    // left.
     fn is_quiet(&self, plan: Refused, quiet: &[String]) {
         let name = self.name;
         let mut state = (self.prepared)();
@@ -81,7 +84,7 @@ impl Case {
         assert_eq!(asked.requests, 0, "{name}: {plan:?}");
     }
 
-    // Each request refused in turn, by such plans. How many there were.
+    // Fails each allocation in turn, by such plans. Returns how many there were.
     fn refuses(&self, plan: fn(u64) -> Refused) -> u64 {
         let (after, quiet) = (self.made(), self.quiet());
         let before = held();

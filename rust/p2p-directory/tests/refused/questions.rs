@@ -1,20 +1,21 @@
-//! What a node answers to each question, as text that is to be compared, and the calls that take no memory.
+//! The results of all queries of a node, as texts that are compared, and the calls that don't
+//! allocate.
 
 use crate::state::{State, seconds, set, text};
 use p2p_directory::testing::key;
 use p2p_directory::{BitVec, Directory, NotReservedError, OutOfMemory};
 use std::fmt::Debug;
 
-// The peers with numbers below this are asked for.
+// Queries are made for the peers with numbers below this.
 const KEYS: u16 = 48;
 
-// In seconds: before, between and after the moments of cooldowns and blocks.
+// In seconds: before, between and after the times of cooldowns and blocks.
 const MOMENTS: [u64; 8] = [0, 59, 60, 100, 105, 110, 160, 1_000];
 
-// More places than sets are retained.
+// More positions than retained sets.
 const PLACES: usize = 5;
 
-/// What is answered to each question.
+/// The results of all queries.
 pub fn told(state: &State) -> Vec<String> {
     if !state.has_node() {
         return vec!["there is no node".to_owned()];
@@ -75,8 +76,8 @@ fn tell_sets(told: &mut Vec<String>, state: &State) {
     told.push(text(directory.next_unblock()));
 }
 
-/// What is answered once all is released, then how many cooldowns are forgotten and whether blocks end at each moment,
-/// and what is answered then.
+/// The results after all reservations are released. Then how many cooldowns are forgotten and
+/// whether blocks end at each time, and the results after that.
 pub fn told_at_the_end(mut state: State) -> Vec<String> {
     if !state.has_node() {
         return Vec::new();
@@ -94,19 +95,19 @@ pub fn told_at_the_end(mut state: State) -> Vec<String> {
     ended
 }
 
-// The answer to a call that takes no memory.
+// The result of a call that doesn't allocate.
 fn quiet<T: Debug>(answer: Result<T, OutOfMemory>) -> String {
     text(answer.expect("it takes no memory"))
 }
 
-/// A call that takes no memory, and its answer in the state `known`, after the calls before it.
+/// A call that doesn't allocate, and its result in the state `known`, after the calls before it.
 pub struct Quiet {
     pub name: &'static str,
     pub call: fn(&mut State) -> String,
     pub answer: fn() -> String,
 }
 
-/// Questions, and calls that change nothing or take no memory to do so, in whatever state.
+/// Queries, and calls that change nothing or don't allocate in order to do so, in any state.
 pub const QUIET: &[Quiet] = &[
     Quiet {
         name: "status",
@@ -213,7 +214,7 @@ pub const QUIET: &[Quiet] = &[
     },
 ];
 
-/// What the calls that take no memory answer, one after the other.
+/// The results of the calls that don't allocate, one after the other.
 pub fn quiet_answers(state: &mut State) -> Vec<String> {
     if !state.has_node() {
         return Vec::new();

@@ -1,5 +1,5 @@
-//! How nodes stand before a call: with key 9, one retained set unless told otherwise, a cooldown of ten seconds and
-//! blocks of a minute.
+//! The states of nodes before a call: with key 9, one retained set unless said otherwise, a
+//! cooldown of ten seconds and blocks of a minute.
 
 use p2p_directory::testing::{NAMESPACE, info, key, setup, sign, verify};
 use p2p_directory::{
@@ -10,7 +10,7 @@ use std::fmt::Debug;
 use std::num::NonZeroUsize;
 use std::time::Duration;
 
-/// A node, once there is one, with what it granted.
+/// A node, if there is one, with the reservations that it granted.
 pub struct State {
     node: Option<Node>,
     held: Vec<Reservation>,
@@ -28,7 +28,7 @@ pub fn peers(primary: &[u16], secondary: &[u16]) -> TrackedPeers {
     TrackedPeers::new(set(primary), set(secondary))
 }
 
-/// The info of a key at a name, with the port 8000 and the number.
+/// The info of a key with a name, and the port 8000 plus the number.
 pub fn named_info(number: u16, timestamp: u64, name: &str) -> Info {
     let ingress = Ingress::Dns {
         host: Hostname::new(name).expect("it is a name"),
@@ -40,18 +40,18 @@ pub fn named_info(number: u16, timestamp: u64, name: &str) -> Info {
     })
 }
 
-/// The text of an answer.
+/// The text of a result.
 pub fn text(answer: impl Debug) -> String {
     format!("{answer:?}")
 }
 
-/// The text of an answer, unless memory was refused.
+/// The text of a result, unless an allocation failed.
 pub fn said<T: Debug>(answer: Result<T, OutOfMemory>) -> Result<String, OutOfMemory> {
     answer.map(text)
 }
 
 impl State {
-    /// No node, but room for one.
+    /// No node, but capacity for its reservations.
     pub fn nothing() -> State {
         State {
             node: None,
@@ -102,7 +102,7 @@ impl State {
         &self.held
     }
 
-    /// Whether it is granted.
+    /// Returns whether it is granted.
     pub fn dial(&mut self, number: u16, now: Moment) -> Result<bool, OutOfMemory> {
         let granted = self
             .directory_mut()
@@ -110,7 +110,7 @@ impl State {
         Ok(self.keeps(granted))
     }
 
-    /// Whether it is granted.
+    /// Returns whether it is granted.
     pub fn listen(&mut self, number: u16, now: Moment) -> Result<bool, OutOfMemory> {
         let granted = self
             .directory_mut()
@@ -124,7 +124,7 @@ impl State {
         is_granted
     }
 
-    /// Whether there was a reservation of the peer.
+    /// Returns whether there was a reservation of the peer.
     pub fn release(&mut self, number: u16) -> bool {
         let peer: Key = key(number);
         let place = self.held.iter().position(|held| *held.public_key() == peer);
@@ -149,7 +149,7 @@ impl State {
         }
     }
 
-    /// In two steps, with these verdicts.
+    /// In two steps, with these verification results.
     pub fn receive_judged(
         &mut self,
         payload: &Payload,
@@ -170,7 +170,7 @@ impl State {
         self.receive(&payload.encode(), seconds(now))
     }
 
-    // What follows prepares, with ample memory.
+    // The following functions prepare states, with enough memory.
 
     pub fn tracks(mut self, index: u64, primary: &[u16], secondary: &[u16]) -> State {
         let taken = self
@@ -223,12 +223,12 @@ pub fn retaining(max_sets: usize) -> State {
     State::of(setup)
 }
 
-/// A set, of which nothing is known.
+/// A node with a set of unknown peers.
 pub fn new() -> State {
     empty().tracks(0, &[1, 2, 5], &[])
 }
 
-/// 1 and 2 are connected, 3 is reserved, 5 was released, 4 and 6 are blocked, and 2 is at a name.
+/// 1 and 2 are connected, 3 is reserved, 5 was released, 4 and 6 are blocked, and 2 has a name.
 pub fn known() -> State {
     let mut state = empty()
         .tracks(0, &[1, 2, 3, 5], &[4])
@@ -244,7 +244,7 @@ pub fn known() -> State {
     state
 }
 
-/// A set whose first peer is known at a socket, and whose second at a name.
+/// A set whose first peer is known with a socket, and whose second with a name.
 pub fn introduced() -> State {
     empty()
         .tracks(0, &[1, 2], &[])
@@ -252,7 +252,7 @@ pub fn introduced() -> State {
         .greeted(named_info(2, 1000, "a.b"))
 }
 
-/// The first is dialled, at a socket, and the second not yet.
+/// The first is dialled, with a socket, and the second not yet.
 pub fn dialling() -> State {
     let mut state = introduced();
     assert_eq!(state.dial(1, seconds(100)), Ok(true));
@@ -264,7 +264,8 @@ pub fn blocking(count: u16) -> State {
     (10..10 + count).fold(empty(), |state, number| state.blocked(number, 100))
 }
 
-/// Two of three sets. Peer 2 is primary in both, at another place in each. An info is wanted of who isn't connected.
+/// Two of at most three sets. Peer 2 is primary in both, at another position in each. The info of a
+/// peer that isn't connected is wanted.
 pub fn two_sets() -> State {
     let mut setup = setup(9);
     setup.cfg.max_sets = NonZeroUsize::new(3).expect("it isn't 0");

@@ -1,5 +1,5 @@
-//! Frames to begin with: one of each kind and each kind of address, the vectors of docs/FORMATS.md, lengths at their
-//! bounds and beyond, and what the scripts of `play` spell.
+//! Initial frames: one of each kind and each kind of address, the vectors of `docs/FORMATS.md`,
+//! lengths at their limits and beyond, and the frames of the scripts of `play`.
 
 use crate::frames::{INDEX, LIMITS, PEERS};
 use crate::widened::{bytes_of, widened_frame};
@@ -11,8 +11,9 @@ use std::fs;
 use std::net::{Ipv6Addr, SocketAddr};
 use std::path::Path;
 
-/// Vectors of payloads; then spellings of numbers and addresses that are refused, behind the prefix of a payload; then the
-/// greatest numbers and greater ones, as the index of bits, their number, and the length of a message.
+/// Vectors of payloads. Then encodings of numbers and addresses that are refused, after the prefix
+/// of a payload. Then the greatest numbers and greater ones, as the index of bits, their number,
+/// and the length of a message.
 const VECTORS: [&str; 16] = [
     "020509ff01",
     "020000",
@@ -32,10 +33,10 @@ const VECTORS: [&str; 16] = [
     "0000ffffffff10",
 ];
 
-/// The labels of names, by how long they are: 63 bytes of a label and 253 of a name are the most.
+/// The lengths of the labels of names. A label has at most 63 bytes, and a name at most 253.
 const LABELS: [&[usize]; 5] = [&[63], &[64], &[63, 63, 63, 61], &[63, 63, 63, 62], &[1, 0]];
 
-/// Vectors of addresses, of which infos are made.
+/// Vectors of addresses, from which infos are made.
 const ADDRESSES: [&str; 3] = [
     "00047f0000011f90",
     "00060000000000000000000000000000000101bb",
@@ -45,7 +46,7 @@ const ADDRESSES: [&str; 3] = [
 /// Vectors of numbers.
 const NUMBERS: [u64; 9] = [0, 127, 128, 253, 300, 1000, 12_345, 100_000, u64::MAX];
 
-/// All of them, none twice.
+/// All of them, without duplicates.
 pub fn frames() -> Vec<Vec<u8>> {
     let payloads = [kinds(), numbered(), at_limits()].concat();
     let spelled = payloads.iter().map(Payload::encode);
@@ -90,7 +91,7 @@ fn kinds() -> Vec<Payload> {
     ]
 }
 
-// Infos at each address, and data, bits and infos with each number.
+// Infos with each address, and data, bits and infos with each number.
 fn numbered() -> Vec<Payload> {
     let ingress = |digits| Ingress::decode(&bytes(digits)).expect("a vector of addresses");
     let greetings = ADDRESSES.map(|digits| Payload::Greeting(info_at(1, ingress(digits), 1000)));
@@ -106,7 +107,7 @@ fn numbered() -> Vec<Payload> {
     payloads
 }
 
-// As much as the limits admit, and one more.
+// As much as the limits allow, and one more.
 fn at_limits() -> Vec<Payload> {
     let payloads = |limits: PayloadConfig, more: usize| {
         let infos = (1..).take(limits.max_peers + more);
@@ -125,7 +126,7 @@ fn at_limits() -> Vec<Payload> {
     all.into_iter().flatten().flatten().collect()
 }
 
-// A greeting at a name of labels that are so long, by no key.
+// A greeting with a name of labels of these lengths. No key signed it.
 fn named(labels: &[usize]) -> Vec<u8> {
     let labels: Vec<String> = labels.iter().map(|length| "a".repeat(*length)).collect();
     let name = labels.join(".");
@@ -137,8 +138,8 @@ fn named(labels: &[usize]) -> Vec<u8> {
     [&[1, 1], &length[..], name.as_bytes(), &tail].concat()
 }
 
-// The frames of the scripts: what is spelled by three bytes or more, of which the first is a prefix. There are none where
-// this package stands alone, without the repository.
+// The frames of the scripts: texts that encode three bytes or more, the first of which is a prefix.
+// There are none if this package is not in a clone of the repository.
 fn of_scripts() -> Vec<Vec<u8>> {
     let root = concat!(env!("CARGO_MANIFEST_DIR"), "/../..");
     if !Path::new(root).join("crates.txt").is_file() {

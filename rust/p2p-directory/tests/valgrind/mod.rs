@@ -1,10 +1,10 @@
-//! Tests of the program that runs, under valgrind.
+//! Tests of the running program, under valgrind.
 
 use std::env;
 use std::process::Command;
 
-/// Runs these tests under valgrind, where it is installed. Panics where it finds room that is lost, or touched though it
-/// is nobody's.
+/// Runs these tests under valgrind, if it is installed. Panics if it finds a leak or an invalid
+/// access.
 pub fn finds_nothing(names: &[&str]) {
     if Command::new("valgrind").arg("--version").output().is_err() {
         println!("valgrind is not installed");

@@ -1,12 +1,13 @@
-//! Frames of the scripts of `play`, whose keys and signatures have eight bytes each, with the wide ones of this crate.
+//! Frames of the scripts of `play`, whose keys and signatures have eight bytes each, with the wider
+//! ones of this crate.
 
 use p2p_directory::testing::sign;
 use p2p_directory::{Info, KEY_SIZE, SIGNATURE_SIZE};
 
-/// In which namespaces the infos of the scripts' frames are signed.
+/// The namespaces in which the infos of the scripts' frames are signed.
 const NAMESPACES: [&[u8]; 2] = [b"rows", b"other"];
 
-/// The bytes that digits spell, or `None` where they spell none.
+/// The bytes of these digits, or `None` if they encode none.
 pub fn bytes_of(digits: &str) -> Option<Vec<u8>> {
     let (pairs, rest) = digits.as_bytes().as_chunks::<2>();
     let pairs = rest.is_empty().then_some(pairs)?;
@@ -14,7 +15,7 @@ pub fn bytes_of(digits: &str) -> Option<Vec<u8>> {
     pairs.iter().map(byte).collect()
 }
 
-/// The frame with wide keys and signatures, or `None` where it is none with infos.
+/// The frame with wide keys and signatures, or `None` if it is none with infos.
 pub fn widened_frame(frame: &[u8]) -> Option<Vec<u8>> {
     let (head, mut infos) = match frame {
         [1, ..] => frame.split_at(1),
@@ -30,7 +31,7 @@ pub fn widened_frame(frame: &[u8]) -> Option<Vec<u8>> {
     Some(widened)
 }
 
-// The first info, and what is behind it.
+// The first info, and the bytes after it.
 fn widened_info(bytes: &[u8]) -> Option<(Info, &[u8])> {
     let ingress = match bytes {
         [0, 4, ..] => 8,
@@ -55,7 +56,7 @@ fn widened_info(bytes: &[u8]) -> Option<(Info, &[u8])> {
     Some((info, rest))
 }
 
-// The signature of the scripts' keys: "Test keys" of docs/FORMATS.md.
+// The signature of the scripts' keys: "Test keys" of `docs/FORMATS.md`.
 fn narrow_signature(key: u64, namespace: &[u8], message: &[u8]) -> u64 {
     let bytes = namespace.iter().chain(message);
     bytes.fold(key, |number, byte| {
