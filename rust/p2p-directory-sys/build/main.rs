@@ -1,12 +1,13 @@
-//! Says what is linked: the library and the toolchain's heap under it, from the first of these that is asked for.
+//! Chooses what is linked: the library with the toolchain's heap, from the first of these that the
+//! environment sets.
 //!
 //! 1. `P2P_SESSION_LIB`: a folder with `libp2p_session.a`, or with `libp2p_session_c.a` and `liblibc_c.a`.
 //! 2. `P2P_SESSION_PROVE=1`: what `tools/archive.sh` of the repository proves and builds.
 //! 3. `P2P_SESSION_PKG_CONFIG=1`: the package `p2p_session` that pkg-config finds.
 //! 4. The archive within this package, for the target that it was built for.
 //!
-//! With `DOCS_RS` set nothing is linked, which is enough for the documentation. It writes to `OUT_DIR` alone, and the
-//! prover to `crates/*/out` of the repository.
+//! With `DOCS_RS` set nothing is linked, which is enough for the documentation. The script writes
+//! to `OUT_DIR` alone, and the prover to `crates/*/out` of the repository.
 
 mod package;
 mod proved;
@@ -18,13 +19,13 @@ use std::io;
 use std::path::{Path, PathBuf};
 use std::process::{Command, Stdio};
 
-/// One archive with both, as a release has it.
+/// One archive with both, as in a release.
 const BOTH: &str = "p2p_session";
 
 /// The library and the heap, as the toolchain builds them.
 const APART: [&str; 2] = ["p2p_session_c", "libc_c"];
 
-/// What decides where the library is taken from.
+/// The variables that decide which library is linked.
 const ASKED: [&str; 7] = [
     "P2P_SESSION_LIB",
     "P2P_SESSION_PROVE",
@@ -61,7 +62,7 @@ fn is_on(name: &str) -> bool {
     env::var_os(name).is_some_and(|value| value == "1")
 }
 
-/// Has the archives of a folder linked, and says where they stand.
+/// Links the archives of a folder, and returns their paths.
 fn link(folder: &Path) -> Result<Vec<PathBuf>, String> {
     let archive = |name: &str| folder.join(format!("lib{name}.a"));
     let names = if archive(BOTH).is_file() {
@@ -84,7 +85,7 @@ fn link(folder: &Path) -> Result<Vec<PathBuf>, String> {
     Ok(archives)
 }
 
-/// Has the archives of a folder linked, and linked anew when they change.
+/// Links the archives of a folder, and again whenever they change.
 fn link_and_track(folder: &Path) -> Result<(), String> {
     for archive in link(folder)? {
         println!("cargo::rerun-if-changed={}", archive.display());
@@ -92,7 +93,7 @@ fn link_and_track(folder: &Path) -> Result<(), String> {
     Ok(())
 }
 
-/// Proves and builds the library of the repository that this package stands in, and links it.
+/// Proves and builds the library of the repository that contains this package, and links it.
 fn proved() -> Result<(), String> {
     let repository = repository().ok_or(
         "P2P_SESSION_PROVE=1 proves the sources of a clone of the repository, and there are none beside this package",
@@ -114,11 +115,12 @@ fn proved() -> Result<(), String> {
         fs::copy(&built, out.join(&name))
             .map_err(|error| format!("{}: {error}", built.display()))?;
     }
-    // Not tracked: cargo takes what a build script itself writes for changed since, and would prove again each time.
+    // Not tracked: cargo treats files that a build script writes as changed, and would prove again
+    // each time.
     link(&out).map(drop)
 }
 
-/// Links the library that pkg-config finds, of the version of this package.
+/// Links the library that pkg-config finds, in the version of this package.
 fn installed() -> Result<(), String> {
     let program = env::var_os("PKG_CONFIG").unwrap_or_else(|| "pkg-config".into());
     let version = env!("CARGO_PKG_VERSION");
@@ -164,7 +166,7 @@ fn packaged() -> Result<(), String> {
     link_and_track(&folder)
 }
 
-/// The repository, where this package stands in a clone of it.
+/// The repository, if this package is in a clone of it.
 fn repository() -> Option<PathBuf> {
     let root = manifest().join("../..");
     (root.join("crates.txt").is_file() && root.join("tools/archive.sh").is_file()).then_some(root)

@@ -4,7 +4,7 @@ use crate::proved;
 use std::fs;
 use std::path::Path;
 
-/// The targets that there is an archive for.
+/// The targets for which there is an archive.
 pub fn targets(prebuilt: &Path) -> String {
     let entries = fs::read_dir(prebuilt).into_iter().flatten().flatten();
     let mut names: Vec<String> = entries
@@ -19,7 +19,7 @@ pub fn targets(prebuilt: &Path) -> String {
     }
 }
 
-/// Whether the archive beside a file `PROVED` is the one that it tells of.
+/// Checks that the archive next to a file `PROVED` is the one that the file describes.
 pub fn check_archive(text: &str, folder: &Path) -> Result<(), String> {
     let archive = folder.join("libp2p_session.a");
     let bytes = fs::read(&archive).map_err(|error| format!("{}: {error}", archive.display()))?;

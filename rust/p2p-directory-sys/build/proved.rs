@@ -1,11 +1,12 @@
-//! What a file `PROVED` tells, and the hash of the sources as they stand: of what `tools/sources.sh` prints.
+//! Parses files named `PROVED`, and computes the hash of the present sources: that of what
+//! `tools/sources.sh` prints.
 
 use crate::sha256;
 use std::fs;
 use std::io;
 use std::path::Path;
 
-/// The crates that the archive is made from.
+/// The crates from which the archive is built.
 const CRATES: [&str; 5] = [
     "p2p_discovery",
     "p2p_tracker",
@@ -19,14 +20,14 @@ pub fn folders() -> [String; 5] {
     CRATES.map(|name| format!("crates/{name}/src"))
 }
 
-/// Whether the sources of a repository are those that a file `PROVED` tells of.
+/// Whether the sources of a repository are those of a file `PROVED`.
 pub fn fits(text: &str, repository: &Path) -> io::Result<bool> {
     let toolchain = text.lines().next().unwrap_or_default();
     let hash = sha256::hex(sources(repository, toolchain)?.as_bytes());
     Ok(told_hash(text, "sources") == Some(&hash))
 }
 
-/// The hash that a line of a file `PROVED` has for a name, in the form of `sha256sum`.
+/// The hash for a name in a file `PROVED`, which has the form of `sha256sum`.
 pub fn told_hash<'a>(text: &'a str, name: &str) -> Option<&'a str> {
     let mut pairs = text.lines().filter_map(|line| line.split_once("  "));
     pairs
@@ -34,7 +35,8 @@ pub fn told_hash<'a>(text: &'a str, name: &str) -> Option<&'a str> {
         .map(|(hash, _)| hash)
 }
 
-/// What `tools/sources.sh` prints: the hash of each source, the crates' lines of crates.txt, and the toolchain.
+/// What `tools/sources.sh` prints: the hash of each source, the lines of the crates in
+/// `crates.txt`, and the toolchain.
 pub fn sources(repository: &Path, toolchain: &str) -> io::Result<String> {
     let mut paths = Vec::new();
     for folder in folders() {
@@ -55,13 +57,13 @@ pub fn sources(repository: &Path, toolchain: &str) -> io::Result<String> {
     Ok(text + toolchain + "\n")
 }
 
-/// Whether a line of crates.txt is a crate's.
+/// Whether a line of `crates.txt` is that of a crate.
 fn is_of(name: &str, line: &str) -> bool {
     let rest = line.strip_prefix(name);
     rest.is_some_and(|rest| rest.starts_with([' ', ':']))
 }
 
-/// Adds the paths of all files below a folder, from the repository on.
+/// Adds the paths of all files in a folder, relative to the repository.
 fn add_files(repository: &Path, folder: &str, paths: &mut Vec<String>) -> io::Result<()> {
     for entry in fs::read_dir(repository.join(folder))? {
         let entry = entry?;

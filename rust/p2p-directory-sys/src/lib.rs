@@ -1,13 +1,17 @@
-//! The calls of a proved directory of peers over numbers and bytes, and the library that answers them.
+//! The calls of a proved peer directory over numbers and bytes, and the library that implements
+//! them.
 //!
-//! A [`Session`] is a node in room of its own. Each call of it is one of the library, which is proved in Rattle: what a call
-//! takes and answers are numbers, and slices of bytes in the forms of `docs/C.md` of the repository. An answer is a
-//! count, a truth value as 0 or 1, a length, or one of the numbers from [`BAD_VERDICTS`] on, with which nothing has changed
-//! and nothing was written. The crate `p2p-directory` has the same calls with types.
+//! A [`Session`] is a node in its own memory. Each of its calls is one call of the library, which
+//! is proved in Rattle. Arguments and results are numbers, and slices of bytes in the forms of
+//! `docs/C.md` of the repository.
+//!
+//! A call returns a count, a bool as 0 or 1, a length, or one of the numbers from [`BAD_VERDICTS`]
+//! on. With these nothing has changed and nothing was written. The crate `p2p-directory` has the
+//! same calls with types.
 //!
 //! # What is linked
 //!
-//! The first of these that the environment asks for when the crate is built:
+//! The first of these that the environment sets when the crate is built:
 //!
 //! | Set | Linked |
 //! |---|---|

@@ -1,5 +1,5 @@
-//! Two threads with a directory each, joined by channels: each tells the other the infos that it wants and may
-//! have, and prints what it learned.
+//! Two threads with a node each, joined by channels. Each sends the infos that the other wants and
+//! that may be shared. The program prints whose infos each knows.
 //!
 //! `cargo run --example two_nodes`
 
@@ -10,7 +10,7 @@ use std::sync::mpsc::{Receiver, Sender, channel};
 use std::thread;
 use std::time::Duration;
 
-/// When all of this happens.
+/// The time of everything that happens here.
 const NOW: Moment = Moment::from_secs(100);
 
 /// The peers of the set that both track.
@@ -22,8 +22,8 @@ struct Connected {
     held: Vec<Reservation>,
 }
 
-/// A node with the key of a number, which is connected with the other node and with one more peer, whose info
-/// it knows.
+/// A node with the key of a number. It is connected with the other node, and with another peer
+/// whose info it knows.
 fn connected(number: u16, other: u16, known: u16) -> Result<Connected, Box<dyn Error>> {
     let mut node = Node::new(&setup(number))?;
     let mut held = Vec::new();
@@ -40,8 +40,8 @@ fn connected(number: u16, other: u16, known: u16) -> Result<Connected, Box<dyn E
     Ok(Connected { node, held })
 }
 
-/// Greets, asks once, answers what comes, ends its connections, and says whose infos it knows. Where it fails, its
-/// connections end all the same, for reservations that are dropped are given back.
+/// Greets, asks once, replies, ends its connections, and returns whose infos it knows. If it fails,
+/// its connections end all the same, since dropped reservations are released.
 fn talk(
     connected: Connected,
     frames: &Receiver<Vec<u8>>,
@@ -50,7 +50,7 @@ fn talk(
     let Connected { mut node, held } = connected;
     other.send(node.greeting().to_vec())?;
     other.send(node.ask(0)?.ok_or("no set")?)?;
-    // A greeting, a question, and the answer to the own question.
+    // A greeting, a question, and the reply to the node's own question.
     for _ in 0..3 {
         match node.receive(&frames.recv()?, NOW, verify) {
             Received::Reply(reply) => other.send(reply)?,

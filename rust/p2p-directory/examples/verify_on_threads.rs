@@ -14,10 +14,10 @@ const INFOS: u16 = 256;
 
 const THREADS: usize = 4;
 
-/// When the frame comes.
+/// When the frame is received.
 const NOW: Moment = Moment::from_secs(100);
 
-/// What verifying a signature of a real scheme takes, which that of `testing` does not.
+/// How long the verification of a real signature takes, unlike one of `testing`.
 const ONE_SIGNATURE: Duration = Duration::from_micros(50);
 
 fn is_right(key: &Key, namespace: &[u8], message: &[u8], signature: &Signature) -> bool {
@@ -29,7 +29,7 @@ fn is_right(key: &Key, namespace: &[u8], message: &[u8], signature: &Signature) 
     is_right
 }
 
-/// A verdict for each question, by four threads. Meanwhile nobody holds the node.
+/// A verification result for each question, from four threads. Meanwhile the node isn't locked.
 fn verdicts(questions: &Questions<'_>, node: &Mutex<Node>) -> Vec<bool> {
     let namespace = questions.namespace();
     let asked: Vec<_> = questions.iter().collect();

@@ -6,7 +6,7 @@ use std::path::{Path, PathBuf};
 
 const SOURCES: &str = "examples/tracker/";
 
-/// The text of the guide, or `None` in a package without the repository.
+/// The path of the guide, or `None` in a package without the repository.
 fn guide() -> Option<PathBuf> {
     let guide = Path::new(env!("CARGO_MANIFEST_DIR")).join("../../docs/GUIDE.md");
     guide.is_file().then_some(guide)

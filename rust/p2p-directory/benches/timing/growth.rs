@@ -1,4 +1,4 @@
-//! How some calls grow with the retained sets and with the blocks.
+//! How the times of some calls grow with the retained sets and with the blocks.
 
 use crate::Outcome;
 use crate::made::{directory, infos, keys, tracked};
@@ -9,10 +9,10 @@ use std::time::{Duration, Instant};
 // How often each call is made.
 const SAMPLES: usize = 9;
 
-// How many calls of `next_unblock` are timed as one.
+// How many calls of `next_unblock` are measured as one.
 const QUESTIONS: u128 = 100;
 
-// A directory that retains so many sets of so many peers, a quarter of which are in it for the first time.
+// A directory that retains so many sets of so many peers, a quarter of which are new in each.
 fn full(sets: usize, count: usize) -> Outcome<Directory> {
     let mut directory = directory(sets)?;
     for index in 0..sets {
@@ -21,7 +21,7 @@ fn full(sets: usize, count: usize) -> Outcome<Directory> {
     Ok(directory)
 }
 
-// Tracks sets into a full window.
+// Registers sets while the maximum number is retained.
 fn tracks(sets: usize, count: usize) -> Outcome<Times> {
     let mut directory = full(sets, count)?;
     let mut times = Times::default();
@@ -34,7 +34,7 @@ fn tracks(sets: usize, count: usize) -> Outcome<Times> {
     Ok(times)
 }
 
-// Tells of a tenth of the peers of the last set, who are in no other.
+// Updates the infos of a tenth of the peers of the last set, which are in no other.
 fn updates(sets: usize, count: usize) -> Outcome<Times> {
     let mut directory = full(sets, count)?;
     let from = (sets - 1) * count / 4 + count - count / 4;
@@ -58,7 +58,7 @@ fn blocked(count: usize) -> Outcome<Directory> {
     Ok(directory)
 }
 
-// Asks many times when the next block ends.
+// Queries many times when the next block ends.
 fn questions(count: usize) -> Outcome<Times> {
     let directory = blocked(count)?;
     let mut times = Times::default();
@@ -90,7 +90,7 @@ fn print(what: &str, times: &Times, calls: u128) {
     println!("{what}: {} ns", median / calls);
 }
 
-/// Prints the middle of the times of each call.
+/// Prints the median of the times of each call.
 pub(crate) fn measure() -> Outcome<()> {
     for count in [1_000, 10_000] {
         for sets in [1, 4, 16] {

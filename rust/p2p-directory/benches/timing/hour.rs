@@ -6,7 +6,7 @@ use crate::times::Times;
 use p2p_directory::{BitVec, Key, Moment, Node, Payload, Received, Reservation, TrackedPeers};
 use std::time::{Duration, Instant};
 
-/// How many connections there are at most.
+/// The maximum number of connections.
 const CONNECTIONS: usize = 64;
 
 /// How many infos a peer sends at a time.
@@ -16,7 +16,7 @@ const INFOS: usize = 32;
 const TICKS: usize = 360;
 const TICKS_A_MINUTE: usize = 6;
 
-/// SplitMix64: numbers that depend on the first alone.
+/// SplitMix64: pseudo-random numbers that depend on the seed alone.
 struct Random(u64);
 
 impl Random {
@@ -32,7 +32,7 @@ impl Random {
     }
 }
 
-/// The time of calls, of frames with infos, of questions and of asking.
+/// The times of calls, of frames with infos, of questions and of asking.
 #[derive(Default)]
 pub(crate) struct Parts(pub(crate) [Duration; 4]);
 
@@ -43,7 +43,7 @@ struct Tracker {
     done: usize,
 }
 
-/// What happens in a tick, decided outside of the time.
+/// What happens in a tick, chosen before the time is measured.
 struct Tick {
     now: Moment,
     new_set: Option<(u64, TrackedPeers)>,
@@ -54,7 +54,8 @@ struct Tick {
     bad: Key,
 }
 
-/// The frames of a connection in a tick: infos and a question, and the place of the set that it is asked about.
+/// The frames of a connection in a tick: infos and a question, and the position of the set that the
+/// node asks about.
 struct Frames {
     infos: Vec<u8>,
     question: Vec<u8>,
@@ -72,7 +73,7 @@ impl Tracker {
         }
     }
 
-    // Releases those whose peers are meant, and answers how many there were.
+    // Releases the reservations of chosen peers, and returns how many there were.
     fn release_each(&mut self, is_meant: impl Fn(&Key) -> bool) -> Outcome<usize> {
         let mut count = 0;
         for place in 0..CONNECTIONS {
@@ -84,7 +85,7 @@ impl Tracker {
         Ok(count)
     }
 
-    // Connects a reservation where there is a free slot and it may be, and else releases it.
+    // Connects a reservation if there is a free slot and it is allowed, and releases it otherwise.
     fn keep(&mut self, held: Reservation, may_stay: bool) -> Outcome<()> {
         self.done += 1;
         let free = self.slots.iter().position(Option::is_none);
@@ -175,7 +176,7 @@ impl Tracker {
     }
 }
 
-// What happens in a tick among the peers that are in the set.
+// Chooses what happens in a tick among the peers of the set.
 fn tick_of(tick: usize, here: &[Key], random: &mut Random) -> Tick {
     let mut some = |count: usize| -> Vec<Key> {
         (0..count)
@@ -202,7 +203,8 @@ fn tick_of(tick: usize, here: &[Key], random: &mut Random) -> Tick {
     }
 }
 
-// The frames of a connection: of the infos of those in the set one in ten is newer than before.
+// The frames of a connection. One in ten of the infos, all of peers in the set, is newer than
+// before.
 fn frames_of(minute: usize, (here, seen): (&[Key], &mut [u64]), random: &mut Random) -> Frames {
     let count = here.len();
     let infos = (0..INFOS).map(|_| {
@@ -224,7 +226,7 @@ fn frames_of(minute: usize, (here, seen): (&[Key], &mut [u64]), random: &mut Ran
     }
 }
 
-// The hour with so many peers in a set: how much was done.
+// Runs the hour with so many peers in a set, and returns how much was done.
 fn hour(count: usize, parts: &mut Parts) -> Outcome<usize> {
     let mut random = Random(count as u64);
     let all = keys(0, 2 * count);
@@ -255,9 +257,12 @@ fn hour(count: usize, parts: &mut Parts) -> Outcome<usize> {
     Ok(tracker.done)
 }
 
-/// So many hours with so many peers in a set: each minute a set of whom a sixteenth are new; each tick of ten seconds blocks
-/// that end, eight connections that end, four dials of whom half fail, eight who come in, eight who are asked about, one
-/// block; and of each connection a frame of infos, a question, and a question to it. Says the parts on standard error.
+/// Runs so many hours with so many peers in a set, and prints the parts to standard error.
+///
+/// Each minute has a set a sixteenth of which is new. In each tick of ten seconds blocks end, eight
+/// connections end, four peers are dialled of which half fail, eight are inbound, eight are
+/// queried, and one is blocked. Each connection has a frame of infos, a question, and a question to
+/// its peer.
 pub(crate) fn hours(count: usize, samples: usize) -> Outcome<Times> {
     let mut times = Times::default();
     let mut sum = Parts::default();

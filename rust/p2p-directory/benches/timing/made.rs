@@ -1,4 +1,4 @@
-//! What calls are timed on: keys in no order, infos, sets, directories.
+//! The arguments of measured calls: keys in no order, infos, sets, directories.
 
 use crate::Outcome;
 use p2p_directory::{
@@ -9,12 +9,12 @@ use std::net::SocketAddr;
 use std::num::NonZeroUsize;
 use std::time::Duration;
 
-/// How many sets are retained where nothing else is said.
+/// How many sets are retained unless said otherwise.
 pub(crate) const SETS: usize = 4;
 
 const NAMESPACE: &[u8] = b"rows";
 
-// A number whose bits depend on all bits of another, so that keys come in no order.
+// A number whose bits depend on all bits of another, so that keys are in no order.
 fn mixed(number: u64) -> u64 {
     let z = number
         .wrapping_add(1)
@@ -37,7 +37,7 @@ pub(crate) fn keys(from: usize, count: usize) -> Vec<Key> {
     numbers.map(|number| key(mixed(number as u64))).collect()
 }
 
-/// Where a peer can be dialled.
+/// The address of a peer.
 pub(crate) fn ingress(key: &Key) -> Ingress {
     Ingress::from(SocketAddr::from(([1, 2, 3, key.0[7]], 8000)))
 }
@@ -50,7 +50,7 @@ fn signed(key: Key, ingress: Ingress, timestamp: u64) -> Info {
     })
 }
 
-/// Whether a signature is right: it begins with the key.
+/// Whether a signature is valid: it begins with the key.
 pub(crate) fn verify(key: &Key, _: &[u8], _: &[u8], signature: &Signature) -> bool {
     signature.0[..32] == key.0
 }
@@ -86,17 +86,17 @@ pub(crate) fn config(sets: usize) -> Config {
     }
 }
 
-/// Primary peers alone.
+/// A set of primary peers alone.
 pub(crate) fn tracked(keys: &[Key]) -> TrackedPeers {
     OrderedSet::from_iter_dedup(keys.iter().copied()).into()
 }
 
-/// A directory with no set, which retains so many.
+/// A directory without a set, which retains so many.
 pub(crate) fn directory(sets: usize) -> Outcome<Directory> {
     Ok(Directory::init(&[], &own_info(), config(sets))?)
 }
 
-// Sets of all these peers, as many as are retained.
+// Registers sets of all these peers, as many as are retained.
 fn fill(directory: &mut Directory, keys: &[Key]) -> Outcome<()> {
     for index in 0..SETS as u64 {
         directory.track(index, &tracked(keys))?;
@@ -118,7 +118,7 @@ pub(crate) fn known(keys: &[Key]) -> Outcome<Directory> {
     Ok(directory)
 }
 
-/// A node without a set, which takes so many infos at a time.
+/// A node without a set, which accepts so many infos at a time.
 pub(crate) fn node_of(count: usize) -> Outcome<Node> {
     Ok(Node::new(&Setup {
         bootstrappers: Vec::new(),

@@ -1,12 +1,13 @@
-//! What calls take from Rust.
+//! How long calls take from Rust.
 //!
-//! - `SCENARIO N SAMPLES` makes one call as often, with so many peers, and prints its least nanoseconds, those in
-//!   the middle, and how much was done. A further word `32`, the size of the keys, changes nothing.
-//! - `times` prints how some calls grow with sets and with blocks.
-//! - With no word each call is made with few peers, and what was done is printed.
+//! - `SCENARIO N SAMPLES` measures a call so often, with N peers. It prints the minimum and the
+//!   median in nanoseconds, and how much was done. A further word `32`, the size of the keys,
+//!   changes nothing.
+//! - `times` prints how the times of some calls grow with sets and with blocks.
+//! - Without a word, each call is made with few peers, and what was done is printed.
 //!
-//! `cargo bench --bench timing -- SCENARIO N SAMPLES`. The program `timing` of the repository takes the same words, for
-//! what no export reaches.
+//! `cargo bench --bench timing -- SCENARIO N SAMPLES`. The program `timing` of the repository has
+//! the same words, for what no export reaches.
 
 use std::env;
 use std::error::Error;

@@ -1,4 +1,4 @@
-//! Single measurements, each by a word.
+//! Single measurements, each with a name.
 
 use crate::Outcome;
 use crate::hour::hours;
@@ -10,10 +10,10 @@ use crate::times::Times;
 use p2p_directory::{Directory, Key, Moment, Received};
 use std::time::{Duration, Instant};
 
-// How many calls that take a moment are timed as one.
+// How many calls with a time as argument are measured as one.
 const REPEATS: usize = 100;
 
-// When questions are asked.
+// The time of queries.
 const NOW: Moment = Moment::from_secs(1000);
 
 const NAMES: [&str; 32] = [
@@ -51,7 +51,7 @@ const NAMES: [&str; 32] = [
     "day",
 ];
 
-/// The times of a scenario with so many peers. A dot before its name is passed over.
+/// The times of a scenario with so many peers. A dot before its name is ignored.
 pub(crate) fn times_of(name: &str, count: usize, samples: usize) -> Outcome<Times> {
     let name = name.strip_prefix('.').unwrap_or(name);
     let all = keys(0, count);
@@ -83,7 +83,8 @@ pub(crate) fn measure_few() -> Outcome<()> {
     Ok(())
 }
 
-// What was made without a time, for its memory to be read from outside.
+// The result of a scenario without a time. It creates something whose memory is measured from
+// outside.
 fn once(done: usize) -> Times {
     let mut times = Times::default();
     times.add(Duration::ZERO, done);
@@ -104,7 +105,7 @@ fn inits(all: &[Key], samples: usize) -> Outcome<Times> {
     Ok(times)
 }
 
-// Sets of which a quarter is new.
+// Sets a quarter of which is new.
 fn tracks(count: usize, samples: usize) -> Outcome<Times> {
     let all = keys(0, count * 64);
     let span = (all.len() - count).max(1);
@@ -120,7 +121,8 @@ fn tracks(count: usize, samples: usize) -> Outcome<Times> {
     Ok(times)
 }
 
-// Reserves the peer and releases it, with what the scenario does between. Whether it was granted.
+// Reserves the peer and releases it, with the rest of the scenario in between. Returns whether it
+// was granted.
 fn cycle(directory: &mut Directory, key: &Key, now: Moment, name: &str) -> Outcome<bool> {
     let granted = match name {
         "dial" => directory.dial(key, now, Duration::ZERO)?,
@@ -138,7 +140,7 @@ fn cycle(directory: &mut Directory, key: &Key, now: Moment, name: &str) -> Outco
     Ok(true)
 }
 
-// Reservations of all peers that are granted, perhaps connected, and released.
+// Reserves all peers, connects them if asked to, and releases them.
 fn cycles(all: &[Key], samples: usize, name: &str) -> Outcome<Times> {
     let mut directory = known(all)?;
     let mut times = Times::default();
@@ -154,7 +156,7 @@ fn cycles(all: &[Key], samples: usize, name: &str) -> Outcome<Times> {
     Ok(times)
 }
 
-// Infos of all peers, in lists of at most so many.
+// Updates the infos of all peers, in lists of at most so many.
 fn updates(all: &[Key], samples: usize, size: usize) -> Outcome<Times> {
     let mut directory = full(all)?;
     let mut times = Times::default();
@@ -169,7 +171,8 @@ fn updates(all: &[Key], samples: usize, size: usize) -> Outcome<Times> {
     Ok(times)
 }
 
-// Blocks all peers, each a nanosecond later than the one before, and ends the blocks; times one part of it.
+// Blocks all peers, each a nanosecond later than the one before, and ends the blocks. One of both
+// parts is measured.
 fn blocks(all: &[Key], samples: usize, timed: &str) -> Outcome<Times> {
     let mut directory = known(all)?;
     let mut times = Times::default();
@@ -212,12 +215,12 @@ fn block_phase(directory: &mut Directory, all: &[Key], now: Moment, phase: &str)
     }
 }
 
-// How often something holds of so many times.
+// How many times the call returned true, out of so many.
 fn repeated(ask: impl Fn() -> bool) -> usize {
     (0..REPEATS).filter(|_| ask()).count()
 }
 
-// The end of the cooldowns of all peers, each of which was released before.
+// Forgets the cooldowns of all peers, each of which was released before.
 fn forgets(all: &[Key], samples: usize) -> Outcome<Times> {
     let mut directory = known(all)?;
     let mut times = Times::default();
@@ -233,7 +236,7 @@ fn forgets(all: &[Key], samples: usize) -> Outcome<Times> {
     Ok(times)
 }
 
-// Frames with the infos of all peers, each time newer ones, that a node takes.
+// A node receives frames with the infos of all peers, each time newer ones.
 fn receives(all: &[Key], samples: usize) -> Outcome<Times> {
     let mut node = node(all)?;
     let mut times = Times::default();
@@ -247,7 +250,7 @@ fn receives(all: &[Key], samples: usize) -> Outcome<Times> {
     Ok(times)
 }
 
-// A question to a directory that knows all peers: where infos are told, all are connected.
+// A query of a directory that knows all peers. If infos are shared, all are connected.
 fn questions(all: &[Key], samples: usize, name: &str) -> Outcome<Times> {
     let mut directory = known(all)?;
     let mut held = Vec::new();
@@ -269,7 +272,7 @@ fn questions(all: &[Key], samples: usize, name: &str) -> Outcome<Times> {
     Ok(times)
 }
 
-// Asks, and says how many answers there are.
+// Makes the query, and returns the length of its result.
 fn ask(directory: &Directory, all: &[Key], name: &str) -> Outcome<usize> {
     let of_each = |ask: &dyn Fn(&Key) -> bool| all.iter().filter(|key| ask(key)).count();
     Ok(match name {

@@ -3,7 +3,7 @@
 use std::fmt;
 use std::time::Duration;
 
-/// The times of some calls, and how much was done in all of them.
+/// The times of samples, and how much was done in all of them.
 #[derive(Default)]
 pub(crate) struct Times {
     nanos: Vec<u128>,
@@ -12,13 +12,13 @@ pub(crate) struct Times {
 }
 
 impl Times {
-    /// One more time, in which so much was done.
+    /// Adds the time of a sample in which so much was done.
     pub(crate) fn add(&mut self, time: Duration, done: usize) {
         self.nanos.push(time.as_nanos());
         self.done += done;
     }
 
-    /// The least time and the one in the middle, in nanoseconds.
+    /// The minimum and the median, in nanoseconds.
     pub(crate) fn least_and_median(&self) -> (u128, u128) {
         let mut nanos = self.nanos.clone();
         nanos.sort_unstable();

@@ -1,8 +1,9 @@
-//! Lines that are typed to nodes: `echo 'track 0 1,2' | cargo run --example play`, or `--check FILE ..`.
+//! Lines that are typed to nodes: `echo 'track 0 1,2' | cargo run --example play`, or
+//! `--check FILE ..`.
 //!
-//! The lines, their replies and the exit status are those of the program `play` (docs/PLAY.md), for whoever has no
-//! toolchain. Frames have other bytes: a key has 32, of which the last 8 are the peer's number, and a signature 64.
-//! `decode` and `recode` know a payload, an info and an ingress.
+//! The lines, their replies and the exit status are those of the program `play` (`docs/PLAY.md`),
+//! without the toolchain. Frames have other bytes: a key has 32, the last 8 of which are the peer's
+//! number, and a signature has 64. `decode` and `recode` accept a payload, an info and an ingress.
 
 mod player;
 
@@ -25,7 +26,7 @@ fn main() -> ExitCode {
     }
 }
 
-// Whether all was as expected, and each line could be read.
+// Whether all replies were as expected, and each line could be parsed.
 fn follow(words: &[String], out: &mut impl Write) -> io::Result<bool> {
     let (mode, files) = match words {
         [word, files @ ..] if word == "--check" => (Mode::Checks, files),

@@ -1,5 +1,5 @@
-//! Three nodes over TCP on this machine, of which two know the first one alone: they learn of each other, are
-//! connected, exchange a message, and end. docs/GUIDE.md goes through the parts.
+//! Three nodes over TCP on this machine, two of which know only the first one. They learn of each
+//! other, connect, exchange a message, and end. `docs/GUIDE.md` explains the parts.
 //!
 //! `cargo run --example tracker`
 
@@ -13,11 +13,11 @@ use std::sync::mpsc::{Sender, channel, sync_channel};
 use std::thread;
 use std::time::{Duration, Instant};
 
-/// How long the example waits for two peers to find each other.
+/// How long the example waits until two peers know each other.
 const PATIENCE: Duration = Duration::from_secs(20);
 
-/// A node with the key of a number, which prints what happens and hands messages on. It is in haste: its times are
-/// those of an example that is over in a second.
+/// A host with the key of a number, which prints what happens and passes messages on. Its intervals
+/// are short, so that the example ends within a second.
 fn start(
     number: u16,
     known: Option<(u16, SocketAddr)>,
@@ -37,7 +37,7 @@ fn start(
         for event in happened {
             println!("node {number}: {event}");
             if let Event::Message(_, data) = event {
-                // Nobody waits for more than one.
+                // Only one message is received.
                 let _ = messages.send(data);
             }
         }

@@ -73,7 +73,7 @@ impl Draws<'_> {
         key(self.one(&[1, 1, 1, 2, 2, 3, 4, 5, OWN]))
     }
 
-    // Mostly three bits, so that their number is often that of the peers.
+    // Mostly three peers, so that their number is often that of the bits.
     fn peers(&mut self) -> Vec<Key> {
         let all = [1, 2, 3, 4, 5, OWN].map(key);
         let first = self.below(6) as usize;

@@ -246,7 +246,8 @@ fn infos_are_judged_or_memory_is_refused() {
     let _alone = alone();
     let infos = [info(1, 0), named_info(2, 0, "a.b")];
     let made = || Info::verifier(key(9), 2, Duration::ZERO, NAMESPACE);
-    // Returns whether an allocation failed. If so, it returns the value once there is memory.
+    // Whether the creation fails. If not, the verifier fails once with an allocation, and then
+    // succeeds.
     let is_refused = |plan| {
         let (verifier, refused) = while_refused(plan, made);
         if refused > 0 {

@@ -10,10 +10,10 @@ use super::words::Words;
 use p2p_directory::testing::verify;
 use p2p_directory::{Data, Moment, OutOfMemory, Payload, PayloadConfig, Received, Reservation};
 
-/// What a call is answered.
+/// The reply to a call.
 pub type Reply = Result<String, OutOfMemory>;
 
-/// A call whose arguments are read.
+/// A call with its arguments.
 pub type Call = Box<dyn FnOnce(&mut Named) -> Reply>;
 
 const ALL: PayloadConfig = PayloadConfig {
@@ -22,7 +22,7 @@ const ALL: PayloadConfig = PayloadConfig {
     max_data_length: usize::MAX,
 };
 
-/// The call of this name with these arguments. Infos are signed in the namespace.
+/// Parses the arguments of the call of this name. Infos are signed in the namespace.
 pub fn parsed(name: &str, words: &mut Words<'_>, namespace: &[u8]) -> Result<Call, Fault> {
     match name {
         "track" | "get_peer_set" | "latest_update" | "latest_set_index" | "all" => {
@@ -173,7 +173,7 @@ fn frames(name: &str, words: &mut Words<'_>) -> Result<Call, Fault> {
     })
 }
 
-// What was answered to this frame.
+// The result of a frame.
 fn received(frame: &[u8], received: Received) -> String {
     match received {
         Received::Data { channel, message } => {
@@ -216,7 +216,8 @@ fn others(name: &str, words: &mut Words<'_>) -> Result<Call, Fault> {
     })
 }
 
-/// What it came to that one node asked another for what it wants of the set at a place.
+/// The result of an exchange, in which one node asks another for its wanted infos of the set at a
+/// position.
 pub fn exchanged(
     asker: &mut Named,
     replier: &mut Named,

@@ -1,9 +1,9 @@
-//! What is wrong with a line.
+//! The errors of a line.
 
 use p2p_directory::{OutOfMemory, SetupError};
 use std::fmt::Display;
 
-/// What is wrong with a line, and what was expected; or that memory was refused.
+/// The error of a line with what was expected, or out of memory.
 #[derive(Debug)]
 pub enum Fault {
     Memory,
@@ -11,12 +11,12 @@ pub enum Fault {
 }
 
 impl Fault {
-    /// A fault of these words.
+    /// An error with this text.
     pub fn new(text: impl Into<String>) -> Fault {
         Fault::Line(text.into())
     }
 
-    /// There is no such name of this kind; the nearest.
+    /// There is no such name of this kind. This is the nearest one.
     pub fn unknown(kind: &str, nearest: &str) -> Fault {
         Fault::new(format!(
             "unknown {kind}, expected {nearest} or another of --help"
@@ -28,7 +28,7 @@ impl Fault {
         Fault::new(format!("unreadable argument, expected {expected}"))
     }
 
-    /// A number of this kind is above the greatest.
+    /// A number of this kind is above the maximum.
     pub fn too_large(kind: &str, greatest: impl Display) -> Fault {
         Fault::new(format!("{kind} too large, expected at most {greatest}"))
     }

@@ -58,14 +58,14 @@ impl Named {
     }
 }
 
-/// Nodes of different names, of which one was made or named last.
+/// Nodes with different names, one of which was created or named last.
 struct Player {
     nodes: Vec<Named>,
     latest: usize,
 }
 
 impl Player {
-    /// One node of no name and no settings.
+    /// One node without a name, with default settings.
     fn new() -> Result<Player, SetupError> {
         Ok(Player {
             nodes: vec![Named::new("", settings::default_setup())?],
@@ -73,7 +73,7 @@ impl Player {
         })
     }
 
-    /// Answers a line. One that can't be read changes nothing.
+    /// Replies to a line. A line that can't be parsed changes nothing.
     fn answer(&mut self, line: &str) -> Result<String, Fault> {
         let (first, rest) = first_word(line);
         let Some(name) = first.strip_suffix(':') else {
@@ -113,7 +113,7 @@ impl Player {
         }
     }
 
-    // A new node, in place of the one of its name.
+    // Creates a node, which replaces that of the same name.
     fn put(&mut self, words: &mut Words<'_>) -> Result<String, Fault> {
         let name = words.word()?;
         if name.contains([':', '=']) {
@@ -146,13 +146,13 @@ impl Player {
     }
 }
 
-// The first word, and what is behind it.
+// The first word, and the rest.
 fn first_word(text: &str) -> (&str, &str) {
     let text = text.trim_start();
     text.split_once(char::is_whitespace).unwrap_or((text, ""))
 }
 
-// The value that bytes spell, or its bytes.
+// The value that bytes encode, or the bytes themselves.
 fn value(name: &str, words: &mut Words<'_>) -> Result<String, Fault> {
     let kind = words.word()?;
     let limits = match kind {

@@ -15,7 +15,7 @@ pub fn option(value: Option<impl Display>) -> String {
     or_none(value.map(|value| format!("Some({value})")))
 }
 
-/// Two digits for each byte, and a hyphen for none.
+/// Two digits for each byte, and a hyphen for no bytes.
 pub fn hexadecimal(bytes: &[u8]) -> String {
     if bytes.is_empty() {
         return "-".to_owned();
@@ -28,7 +28,7 @@ fn list<T>(items: &[T], printed: impl Fn(&T) -> String) -> String {
     format!("[{}]", items.join(", "))
 }
 
-// The number of a key, or its digits where it is of none.
+// The number of a key, or its digits if it has none.
 fn number(key: &Key) -> String {
     match key.0.split_last_chunk() {
         Some((front, last)) if front.iter().all(|byte| *byte == 0) => {
@@ -48,7 +48,7 @@ pub fn tracked(peers: &TrackedPeers) -> String {
     format!("{} / {}", keys(&peers.primary), keys(&peers.secondary))
 }
 
-/// What is told of the latest set.
+/// The latest set, and the peers of all.
 pub fn update(update: &PeerSetUpdate) -> String {
     let PeerSetUpdate {
         index, latest, all, ..
@@ -62,7 +62,7 @@ pub fn dialable(dialable: &Dialable) -> String {
     format!("{} {next}", keys(&dialable.peers))
 }
 
-/// An address, or a name behind `~`.
+/// A socket address, or a name after `~`.
 pub fn ingress(ingress: &Ingress) -> String {
     match ingress {
         Ingress::Socket(_) => ingress.to_string(),
@@ -70,7 +70,7 @@ pub fn ingress(ingress: &Ingress) -> String {
     }
 }
 
-/// Whose info it is, since when, and where.
+/// The number of the key, the timestamp and the ingress of an info.
 pub fn info(info: &Info) -> String {
     let at = ingress(&info.ingress);
     format!(
@@ -80,12 +80,12 @@ pub fn info(info: &Info) -> String {
     )
 }
 
-/// Infos with commas between.
+/// Infos, separated by commas.
 pub fn infos(infos: &[Info]) -> String {
     list(infos, info)
 }
 
-/// An index and bits, or a hyphen for none.
+/// An index and bits, or a hyphen for no bits.
 pub fn bit_vec(bit_vec: &BitVec) -> String {
     let digits = bit_vec.bits.iter().map(|bit| if *bit { '1' } else { '0' });
     let bits = match bit_vec.bits.len() {
@@ -100,7 +100,7 @@ pub fn data(data: &Data) -> String {
     format!("Data({}, {})", data.channel, hexadecimal(&data.message))
 }
 
-/// What a frame says.
+/// The payload of a frame.
 pub fn payload(payload: &Payload) -> String {
     match payload {
         Payload::Data(message) => data(message),

@@ -1,4 +1,4 @@
-//! Serves lines, and looks whether the replies are those that are expected.
+//! Serves lines, and compares the replies with those that are expected.
 
 use super::Player;
 use super::fault::Fault;
@@ -6,33 +6,33 @@ use p2p_directory::SetupError;
 use std::fmt;
 use std::io::{self, BufRead, Read, Write};
 
-// How many bytes a line may have.
+// The maximum length of a line, in bytes.
 const LONGEST: usize = 1 << 20;
 
 /// What is printed.
 #[derive(Clone, Copy, Debug, PartialEq, Eq)]
 pub enum Mode {
-    /// The replies, and what is not as expected.
+    /// The replies, and those that are not as expected.
     Replies,
-    /// What is not as expected, alone.
+    /// Only those that are not as expected.
     Checks,
 }
 
-/// How many lines were replied, and how many replies are as expected.
+/// How many lines had a reply, and how many replies are as expected.
 #[derive(Clone, Copy, Debug, Default, PartialEq, Eq)]
 pub struct Tally {
-    /// Replies, of lines that could not be read, too.
+    /// Replies, including those to lines that could not be parsed.
     pub replies: u64,
     /// Replies that are as expected.
     pub expected: u64,
     /// Replies that are not.
     pub otherwise: u64,
-    /// Lines that could not be read and were not expected to be.
+    /// Lines that could not be parsed, unexpectedly.
     pub unreadable: u64,
 }
 
 impl Tally {
-    /// All was as expected, and each line could be read.
+    /// Whether all replies were as expected, and each line could be parsed.
     pub fn is_good(&self) -> bool {
         self.otherwise == 0 && self.unreadable == 0
     }
@@ -53,22 +53,23 @@ impl fmt::Display for Tally {
     }
 }
 
-// What is known of the lines so far.
+// The state after the lines so far.
 struct Record<'w, W> {
     out: &'w mut W,
     mode: Mode,
     tally: Tally,
     // The reply to the last line that has one.
     last: Option<String>,
-    // It is a fault that was not expected so far.
+    // It is an error that was not expected so far.
     is_open: bool,
 }
 
-/// Serves the lines of the input from one node of no name and no settings, and writes the replies.
+/// Serves the lines of the input from one node without a name, with default settings, and writes
+/// the replies.
 ///
 /// # Errors
 ///
-/// Those of input and output, and `OutOfMemory` where there is no memory for the first node.
+/// Those of input and output, and `OutOfMemory` if an allocation for the first node fails.
 pub fn play(mut input: impl BufRead, out: &mut impl Write, mode: Mode) -> io::Result<Tally> {
     let mut player = Player::new().map_err(|error| match error {
         SetupError::OutOfMemory => io::ErrorKind::OutOfMemory.into(),
@@ -115,7 +116,7 @@ impl<W: Write> Record<'_, W> {
         }
     }
 
-    // Counts and prints a reply, and keeps it for what is expected of it.
+    // Counts and prints a reply, and keeps it for comparison.
     fn reply(&mut self, number: u64, answer: Result<String, Fault>) -> io::Result<()> {
         self.settle()?;
         self.is_open = answer.is_err();
@@ -132,7 +133,7 @@ impl<W: Write> Record<'_, W> {
         Ok(())
     }
 
-    // Counts the last reply where it is a fault that was not expected.
+    // Counts the last reply if it is an error that was not expected.
     fn settle(&mut self) -> io::Result<()> {
         if !self.is_open {
             return Ok(());

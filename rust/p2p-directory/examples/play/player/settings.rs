@@ -9,10 +9,10 @@ use std::net::SocketAddr;
 use std::num::NonZeroUsize;
 use std::time::Duration;
 
-/// The namespace of a node whose settings name none.
+/// The namespace of a node whose settings have none.
 const NAMESPACE: &[u8] = b"rows";
 
-/// What a node of no settings is made from.
+/// The default settings of a node.
 pub fn default_setup() -> Setup {
     let ingress = Ingress::from(SocketAddr::from(([8, 8, 8, 8], 9_000)));
     Setup {
@@ -37,7 +37,7 @@ pub fn default_setup() -> Setup {
     }
 }
 
-/// What a node of these settings is made from. Its own info is signed in its namespace.
+/// The setup of a node with these settings. Its info is signed in its namespace.
 pub fn setup(words: &mut Words<'_>) -> Result<Setup, Fault> {
     let mut setup = default_setup();
     while let Some(word) = words.optional() {

@@ -1,9 +1,9 @@
-//! How lines are typed.
+//! How lines are written.
 
 use std::cmp::Reverse;
 use std::fmt;
 
-/// The name of a command, and what is typed behind it.
+/// The name of a command, and its arguments.
 #[derive(Clone, Copy)]
 pub struct Usage(&'static str, &'static str);
 
@@ -75,12 +75,12 @@ pub fn command_of(name: &str) -> Option<Usage> {
     COMMANDS.into_iter().find(|usage| usage.0 == name)
 }
 
-/// The command that begins as the word does the longest, and then is nearest to it in length.
+/// The command with the longest common prefix, and of these the one that is nearest in length.
 pub fn nearest_command(word: &str) -> &'static str {
     nearest(word, COMMANDS.iter().map(|usage| usage.0))
 }
 
-/// The setting that is, likewise.
+/// The setting that is nearest in the same sense.
 pub fn nearest_setting(word: &str) -> &'static str {
     nearest(word, SETTINGS.into_iter())
 }

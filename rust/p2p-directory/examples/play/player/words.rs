@@ -1,4 +1,4 @@
-//! Words of a line: numbers, moments, lists, addresses and infos.
+//! Words of a line: numbers, times, lists, addresses and infos.
 
 use super::fault::Fault;
 use super::usage::Usage;
@@ -11,7 +11,7 @@ use std::num::IntErrorKind;
 use std::str::{FromStr, SplitWhitespace};
 use std::time::Duration;
 
-/// The arguments of a command, which are read in turn.
+/// The arguments of a command, which are parsed in turn.
 pub struct Words<'a> {
     words: SplitWhitespace<'a>,
     usage: Usage,
@@ -36,7 +36,7 @@ impl<'a> Words<'a> {
         word.ok_or_else(|| Fault::new(format!("missing argument, expected {usage}")))
     }
 
-    /// There has to be no further word.
+    /// Checks that there is no further word.
     pub fn end(&mut self) -> Result<(), Fault> {
         let usage = self.usage;
         match self.optional() {
@@ -65,7 +65,7 @@ impl<'a> Words<'a> {
         Ok(time(self.word()?)?.into())
     }
 
-    /// The next word, a draw, or zero without one.
+    /// The next word as a draw, or zero if there is none.
     pub fn draw(&mut self) -> Result<Duration, Fault> {
         self.optional().map_or(Ok(Duration::ZERO), time)
     }
@@ -117,7 +117,7 @@ impl<'a> Words<'a> {
     }
 }
 
-/// The whole number that the word is.
+/// Parses a whole number.
 pub fn number<T: TryFrom<u64>>(word: &str) -> Result<T, Fault> {
     let too_large = || Fault::too_large("number", u64::MAX);
     match word.parse::<u64>() {
@@ -127,7 +127,7 @@ pub fn number<T: TryFrom<u64>>(word: &str) -> Result<T, Fault> {
     }
 }
 
-/// The truth value that the word is.
+/// Parses a bool.
 pub fn truth(word: &str) -> Result<bool, Fault> {
     parsed(word, "true or false")
 }
@@ -136,7 +136,7 @@ fn parsed<T: FromStr>(word: &str, form: &str) -> Result<T, Fault> {
     word.parse().map_err(|_| Fault::form(form))
 }
 
-/// The time that the word is: seconds with up to nine digits behind a point, or `M`.
+/// Parses a time: seconds with up to nine digits after a point, or `M`.
 pub fn time(word: &str) -> Result<Duration, Fault> {
     if word == "M" {
         return Ok(Duration::MAX);
@@ -175,7 +175,7 @@ fn peers(word: &str) -> Result<OrderedSet, Fault> {
     Ok(OrderedSet::from_iter_dedup(peers))
 }
 
-/// The ingress that the word is: `1.2.3.4:80`, `[::1]:80` or `~host.name:80`.
+/// Parses an ingress: `1.2.3.4:80`, `[::1]:80` or `~host.name:80`.
 pub fn ingress(word: &str) -> Result<Ingress, Fault> {
     const FORM: &str = "an address as 1.2.3.4:80, [::1]:80 or ~host.name:80";
     let (host, end) = word.rsplit_once(':').ok_or_else(|| Fault::form(FORM))?;
@@ -199,7 +199,7 @@ fn port(word: &str) -> Result<u16, Fault> {
     })
 }
 
-/// The bootstrappers of a list, as `3@1.2.3.4:8003`.
+/// Parses a list of bootstrappers, such as `3@1.2.3.4:8003`.
 pub fn bootstrappers(word: &str) -> Result<Vec<(Key, Ingress)>, Fault> {
     list(word, |entry| {
         let parts = entry.split_once('@');
@@ -208,7 +208,7 @@ pub fn bootstrappers(word: &str) -> Result<Vec<(Key, Ingress)>, Fault> {
     })
 }
 
-// The info that the word is, signed in the namespace where it names no other.
+// Parses an info, signed in the namespace unless it names another.
 fn info(word: &str, namespace: &[u8]) -> Result<Info, Fault> {
     const FORM: &str = "an info as 1@1000, 1@1000:8001 or 1@1000@1.2.3.4:8001";
     let (word, namespace) = match word.split_once('!') {

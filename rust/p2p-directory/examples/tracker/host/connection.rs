@@ -13,20 +13,20 @@ use std::sync::Arc;
 use std::sync::mpsc::{Receiver, RecvTimeoutError, SyncSender, sync_channel};
 use std::time::{Duration, Instant};
 
-/// How many frames of gossip a peer may send in the time in which it asks once: a question, a reply, and as much again
-/// thrice, for frames that were held up and come together.
+/// How many frames of gossip a peer may send in the interval in which it asks once: a question and
+/// a reply, four times, since frames may be delayed and arrive together.
 const GOSSIP_FRAMES: u32 = 8;
 
-/// How many frames wait for a peer that is slow to read.
+/// How many frames are queued for a peer that is slow to read.
 const QUEUE: usize = 64;
 
-/// Why a connection ended.
+/// The reason why a connection ended.
 enum End {
     /// The stream was closed, by either side.
     Closed(io::Error),
     /// The peer sent what a correct peer doesn't send.
     Broken(String),
-    /// This side wants it no longer.
+    /// This side ended it.
     Left(&'static str),
 }
 
@@ -62,7 +62,7 @@ impl From<OutOfMemory> for End {
     }
 }
 
-/// Serves the connection of a reservation until it ends, and then gives the reservation back.
+/// Serves the connection of a reservation until it ends, and then releases the reservation.
 pub fn run(shared: &Arc<Shared>, listed: Listed, reservation: Reservation) {
     let peer = *reservation.public_key();
     let Err(end) = serve(shared, &listed, &reservation);
@@ -71,7 +71,8 @@ pub fn run(shared: &Arc<Shared>, listed: Listed, reservation: Reservation) {
         let mut state = shared.lock();
         let now = state.now();
         let directory = state.node.directory_mut();
-        // Without memory for the block the peer is disconnected all the same, and its cooldown holds.
+        // If an allocation for the block fails, the peer is disconnected all the same, and its
+        // cooldown applies.
         let is_blocked = end.is_broken() && directory.block(&peer, now) == Ok(true);
         let released = directory.release(reservation);
         released.expect("this directory granted it");
@@ -104,7 +105,8 @@ fn connect(
     let greeting = {
         let mut state = shared.lock();
         let now = state.now();
-        // A set that went or a block during the handshake found no connection to end.
+        // If the peer was blocked or left the sets during the handshake, no connection was there to
+        // be ended.
         if !state.node.directory().eligible(&peer, now) {
             return Err(End::Left("the peer is in no set any more"));
         }
@@ -117,14 +119,14 @@ fn connect(
     shared.tell(Event::Connected(peer));
     let stream = listed.stream.try_clone()?;
     shared.spawn(move |shared| {
-        // A stream that can't be written to isn't read any longer either.
+        // A stream that can't be written to isn't read any longer, either.
         let _ = write(shared, &stream, &outgoing);
         let _ = stream.shutdown(Shutdown::Both);
     })?;
     Ok(outbox)
 }
 
-/// Writes what is to be sent, and asks now and then, until nobody sends any more.
+/// Writes the queued frames, and asks at regular intervals, until no sender is left.
 fn write(shared: &Shared, stream: &TcpStream, outgoing: &Receiver<Outgoing>) -> io::Result<()> {
     let mut ask_at = Instant::now();
     loop {
@@ -146,7 +148,7 @@ fn write(shared: &Shared, stream: &TcpStream, outgoing: &Receiver<Outgoing>) -> 
     }
 }
 
-/// Asks for what is wanted of a random set.
+/// Asks for the wanted infos of a random set.
 fn ask(shared: &Shared, stream: &TcpStream) -> io::Result<()> {
     let question = {
         let state = shared.lock();
@@ -155,12 +157,12 @@ fn ask(shared: &Shared, stream: &TcpStream) -> io::Result<()> {
     };
     match question {
         Ok(Some(question)) => write_frame(stream, &[&question]),
-        // There is no set yet, or no memory for a question: the next one may have it.
+        // There is no set yet, or an allocation failed: the next question may succeed.
         Ok(None) | Err(OutOfMemory) => Ok(()),
     }
 }
 
-/// How many frames of gossip a peer may still send.
+/// How many frames of gossip a peer may still send in this interval.
 struct Allowance {
     left: u32,
     since: Instant,
@@ -184,7 +186,7 @@ impl Allowance {
     }
 }
 
-/// Takes frames until the connection ends.
+/// Reads and processes frames until the connection ends.
 fn read(
     shared: &Shared,
     stream: &TcpStream,
@@ -214,7 +216,8 @@ fn read(
     }
 }
 
-/// Hands a frame to the node, and does what its answer says. Returns who greeted, if the frame greets.
+/// Passes a frame to the node, and acts on the result. Returns the key of the greeter if it is a
+/// greeting.
 fn take(
     shared: &Shared,
     peer: Key,
@@ -244,7 +247,7 @@ fn take(
     Ok(None)
 }
 
-/// What the node answers to a frame. Signatures are verified while it isn't locked.
+/// The result of the node for a frame. Signatures are verified while it isn't locked.
 fn receive(shared: &Shared, frame: &[u8]) -> Result<Received, End> {
     let questions = {
         let mut state = shared.lock();

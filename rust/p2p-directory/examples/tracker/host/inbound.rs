@@ -1,4 +1,4 @@
-//! Who dials this host.
+//! Inbound connections.
 
 use super::connection;
 use super::shared::{Listed, Shared, draw};
@@ -10,7 +10,7 @@ use std::sync::Arc;
 use std::thread;
 use std::time::Duration;
 
-/// How long the listener rests where the system has no stream to give.
+/// How long the listener waits if the system can't accept a stream.
 const REST: Duration = Duration::from_millis(50);
 
 /// Accepts streams until the host ends.
@@ -36,7 +36,7 @@ pub fn run(shared: &Arc<Shared>, listener: &TcpListener) {
     }
 }
 
-/// Makes sure who dials, and stays connected until the connection ends.
+/// Authenticates the dialer, and returns when the connection has ended.
 fn accept(shared: &Arc<Shared>, listed: Listed) -> Result<(), Failure> {
     let (own, time) = (&shared.settings.own, shared.settings.handshake);
     let is_acceptable = |peer: &Key| {

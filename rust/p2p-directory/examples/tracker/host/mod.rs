@@ -1,4 +1,4 @@
-//! A host of a node over TCP: it dials, listens, greets, asks, answers, blocks and ends.
+//! A host of a node over TCP: it dials, listens, greets, asks, replies, blocks and ends.
 
 mod connection;
 mod inbound;
@@ -21,36 +21,38 @@ use std::sync::mpsc::{Receiver, SyncSender, channel, sync_channel};
 use std::time::{Duration, SystemTime};
 use wire::FrameLimits;
 
-/// Why something failed, in words.
+/// The reason why something failed, as text.
 pub type Failure = Box<dyn Error + Send + Sync>;
 
-/// How a host behaves.
+/// The settings of a host.
 #[derive(Clone, Debug)]
 pub struct Settings {
-    /// The own key. In the scheme of `testing` it signs by itself; a real one has a secret besides.
+    /// The local key. In the scheme of `testing` it also signs. A real scheme has a secret key in
+    /// addition.
     pub own: Key,
-    /// Where to listen. Peers are told the address that comes of it.
+    /// The address at which it listens. The address that is bound is the one in its info.
     pub listen_at: SocketAddr,
-    /// Whom to dial before anything is known of anybody.
+    /// The peers that are dialled before any info is known.
     pub bootstrappers: Vec<(Key, Ingress)>,
-    /// How the directory behaves.
+    /// The settings of its directory.
     pub cfg: Config,
-    /// The limits under which frames are read.
+    /// The limits under which frames are decoded.
     pub payload: PayloadConfig,
-    /// How far ahead the timestamp of an info may lie.
+    /// How far ahead the timestamp of an info may be.
     pub synchrony_bound: Duration,
-    /// How often each connected peer is asked for infos.
+    /// The interval at which each connected peer is asked for infos.
     pub gossip: Duration,
-    /// How long a dial, and then its handshake, may take.
+    /// The maximum duration of a dial, and then of its handshake.
     pub handshake: Duration,
-    /// How long a connected peer may be silent, or not read.
+    /// How long a connected peer may send nothing, or read nothing.
     pub silence: Duration,
-    /// How many dialers at a time may not have told their key yet.
+    /// The maximum number of inbound handshakes at a time.
     pub handshakes: usize,
 }
 
 impl Settings {
-    /// Settings to begin with, where no set has more primary peers than this: docs/GUIDE.md has the reasons.
+    /// Settings to start with, if no set has more primary peers than this. `docs/GUIDE.md` has the
+    /// reasons.
     pub fn recommended(own: Key, listen_at: SocketAddr, largest_set: usize) -> Settings {
         Settings {
             own,
@@ -77,7 +79,7 @@ impl Settings {
         }
     }
 
-    /// The setup of a node that is dialled at this address since now.
+    /// The setup of a node at this address, whose info has the timestamp `now`.
     fn setup(&self, address: SocketAddr, now: Moment) -> Result<Setup, Failure> {
         let timestamp = u64::try_from(now.as_duration().as_millis())?;
         let sign = |namespace: &[u8], message: &[u8]| sign(&self.own, namespace, message);
@@ -93,24 +95,24 @@ impl Settings {
     }
 }
 
-/// What a host tells of what happens.
+/// An event of a host.
 #[derive(Debug)]
 pub enum Event {
-    /// A peer is connected.
+    /// A peer was connected.
     Connected(Key),
-    /// The connection with a peer ended.
+    /// A connection ended.
     Ended(Key, String),
-    /// A dial came to no connection.
+    /// A dial led to no connection.
     DialFailed(Key, String),
-    /// A dialer was turned away.
+    /// An inbound connection was refused.
     Refused(String),
-    /// A peer is blocked.
+    /// A peer was blocked.
     Blocked(Key),
     /// A block ended.
     Unblocked,
-    /// A frame was not looked at, for the peer sends too many.
+    /// A frame was ignored, since the peer sends too many.
     Ignored(Key),
-    /// A message came.
+    /// A message was received.
     Message(Key, Data),
 }
 
@@ -132,7 +134,7 @@ impl fmt::Display for Event {
     }
 }
 
-/// A host that runs on threads of its own until it is ended.
+/// A host that runs on its own threads until it is ended.
 pub struct Host {
     shared: Arc<Shared>,
     address: SocketAddr,
@@ -140,12 +142,14 @@ pub struct Host {
 }
 
 impl Host {
-    /// Starts a host with a new node, which tells what happens by these events. They are to be received until the
-    /// channel ends: where it is full, threads wait, and so do the peers whose messages they carry.
+    /// Starts a host with a new node, which sends its events to this channel. Receive them until
+    /// the channel ends. If it is full, the threads of the host wait, and so do the peers whose
+    /// messages they carry.
     ///
     /// # Errors
     ///
-    /// Where the settings are refused, the address can't be listened at, or the system has no memory or thread.
+    /// Fails if the settings are refused, the address can't be bound, an allocation fails or no thread
+    /// can be started.
     pub fn start(settings: Settings, events: SyncSender<Event>) -> Result<Host, Failure> {
         let listener = TcpListener::bind(settings.listen_at)?;
         let address = listener.local_addr()?;
@@ -173,16 +177,17 @@ impl Host {
         }
     }
 
-    /// Where it listens.
+    /// The address at which it listens.
     pub fn address(&self) -> SocketAddr {
         self.address
     }
 
-    /// Takes a set, and disconnects whom it leaves out. False where its index is not above that of each set before.
+    /// Registers a set, and ends the connections of peers that must be disconnected. Returns false
+    /// if its index isn't above that of each set before.
     ///
     /// # Errors
     ///
-    /// [`OutOfMemory`]; then nothing has changed.
+    /// [`OutOfMemory`] if an allocation fails; then nothing has changed.
     pub fn track(&self, index: u64, peers: &TrackedPeers) -> Result<bool, OutOfMemory> {
         let mut state = self.shared.lock();
         let Some(to_disconnect) = state.node.directory_mut().track(index, peers)? else {
@@ -194,15 +199,16 @@ impl Host {
         Ok(true)
     }
 
-    /// What the directory answers, asked with the time. Nothing else happens in between, so it had better be short.
+    /// Calls the closure with the directory and the time, and returns its result. The node is
+    /// locked meanwhile, so it should be short.
     pub fn ask<T>(&self, question: impl FnOnce(&Directory, Moment) -> T) -> T {
         let mut state = self.shared.lock();
         let now = state.now();
         question(state.node.directory(), now)
     }
 
-    /// Sends a message on a channel. False where the peer isn't connected, too much waits for it, or the message is
-    /// longer than peers read.
+    /// Sends a message on a channel. Returns false if the peer isn't connected, its queue is full,
+    /// or the message is longer than peers accept.
     pub fn send(&self, peer: &Key, channel: u64, message: Vec<u8>) -> bool {
         let most = self.shared.settings.payload.max_data_length;
         if message.len() > most {
@@ -216,7 +222,8 @@ impl Host {
         })
     }
 
-    /// Ends all connections, and returns when all threads have ended: after a dial's and a handshake's time at most.
+    /// Ends all connections, and returns when all threads have ended. This takes at most as long as
+    /// a dial and a handshake.
     pub fn end(self) {
         self.shared.lock().end();
         self.shared.wake();

@@ -1,4 +1,4 @@
-//! What time alone brings: dials, ends of blocks and of cooldowns.
+//! What happens by time alone: dials, and the ends of blocks and cooldowns.
 
 use super::connection;
 use super::shared::{Listed, Shared, State, draw};
@@ -10,17 +10,17 @@ use std::sync::Arc;
 use std::sync::mpsc::Receiver;
 use std::time::Duration;
 
-/// How many dials are begun in a round.
+/// The maximum number of dials that a round starts.
 const DIALS: usize = 16;
 
-/// The least and the most time from one round to the next, where nothing wakes.
+/// The minimum and the maximum time from one round to the next, unless it is woken.
 const WAITS: (Duration, Duration) = (Duration::from_millis(20), Duration::from_secs(10));
 
 /// Makes rounds until the host ends.
 pub fn run(shared: &Arc<Shared>, wakes: &Receiver<()>) {
     while !shared.lock().is_ending() {
         let wait = round(shared).unwrap_or(WAITS.1);
-        // Whether something woke or the time has come, it is time for a round.
+        // The next round begins when it is woken or the time has passed.
         let _ = wakes.recv_timeout(wait);
     }
 }
@@ -45,7 +45,7 @@ fn round(shared: &Arc<Shared>) -> Result<Duration, OutOfMemory> {
     Ok(wait)
 }
 
-/// Ends blocks and cooldowns that are over, and says whether there was such a block.
+/// Ends blocks and cooldowns that are over, and returns whether a block ended.
 fn forget(state: &mut State) -> bool {
     let now = state.now();
     let directory = state.node.directory_mut();
@@ -53,7 +53,8 @@ fn forget(state: &mut State) -> bool {
     directory.unblock_expired(now)
 }
 
-/// Whom to dial in this round, at which address, and how long to wait for the next one.
+/// The reservations of this round with the addresses to dial, and how long to wait for the next
+/// round.
 fn grant(shared: &Shared) -> Result<(Vec<(Reservation, SocketAddr)>, Duration), OutOfMemory> {
     let cooldown = shared.settings.cfg.peer_connection_cooldown;
     let mut granted = Vec::new();
@@ -84,7 +85,7 @@ fn grant(shared: &Shared) -> Result<(Vec<(Reservation, SocketAddr)>, Duration), 
     Ok((granted, wait))
 }
 
-/// Dials, and stays connected until the connection ends.
+/// Dials, and returns when the connection has ended.
 fn dial(
     shared: &Arc<Shared>,
     reservation: Reservation,

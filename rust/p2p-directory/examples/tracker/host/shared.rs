@@ -12,20 +12,21 @@ use std::sync::{Arc, Mutex, MutexGuard, PoisonError};
 use std::thread;
 use std::time::{Duration, SystemTime};
 
-/// Bits that a peer can't foresee: of the standard library's own seed, for it has no generator to call. Keys and
-/// challenges of a real scheme want a generator that is made for them.
+/// Bits that a peer can't predict, from the hash seeds of the standard library, which has no random
+/// generator to call. Keys and challenges of a real scheme need a cryptographic generator.
 pub fn random() -> u64 {
     RandomState::new().hash_one(0)
 }
 
-/// How much later than reservable a peer is dialable again: a new draw for each grant.
+/// A draw for `dial` and `listen`: how much later than reservable a peer is dialable again. There
+/// is a new one for each grant.
 pub fn draw(cooldown: Duration) -> Duration {
     let end = (2 * (cooldown / 2)).as_nanos();
     let end = u64::try_from(end).unwrap_or(u64::MAX);
     Duration::from_nanos(random() % end.saturating_add(1))
 }
 
-/// What goes to a peer.
+/// What is queued for a peer.
 pub enum Outgoing {
     /// A whole frame.
     Frame(Vec<u8>),
@@ -33,25 +34,25 @@ pub enum Outgoing {
     Message(u64, Vec<u8>),
 }
 
-/// What the threads share.
+/// The state that the threads share.
 pub struct Shared {
-    /// How the host behaves.
+    /// The settings of the host.
     pub settings: Settings,
-    /// How long frames may be.
+    /// The maximum lengths of frames.
     pub limits: FrameLimits,
     state: Mutex<State>,
     events: SyncSender<Event>,
-    // Room for one: whoever wakes finds the next round wanted already, or wants it.
+    // It has a capacity of one: if it is full, the next round has been requested already.
     wakes: SyncSender<()>,
 }
 
-/// What is behind the lock.
+/// The state that the lock protects.
 pub struct State {
     /// The node.
     pub node: Node,
     latest: Moment,
     open: HashMap<u64, Open>,
-    // Each thread holds a clone: once this one is gone, the last thread's end is that of the channel.
+    // Each thread has a clone. After this one is dropped, the channel ends with the last thread.
     alive: Option<Sender<()>>,
 }
 
@@ -63,7 +64,7 @@ struct Open {
 }
 
 impl State {
-    /// What is behind the lock of a host that begins. Its threads have all ended when `alive` has no clone left.
+    /// The state of a host that starts. All its threads have ended when `alive` has no clone left.
     pub fn new(node: Node, alive: Sender<()>) -> State {
         State {
             node,
@@ -73,7 +74,7 @@ impl State {
         }
     }
 
-    /// The time, which never goes back: where the system's clock does, it stands still.
+    /// The present time. It never goes backwards: if the system's clock does, it stays the same.
     pub fn now(&mut self) -> Moment {
         let system = Moment::try_from(SystemTime::now()).unwrap_or(Moment::EPOCH);
         self.latest = self.latest.max(system);
@@ -85,26 +86,26 @@ impl State {
         self.alive.is_none()
     }
 
-    /// Ends the streams of these peers: their threads then end by themselves, and release what they hold.
+    /// Ends the streams of these peers. Their threads then end, and release their reservations.
     pub fn disconnect(&self, peers: &[Key]) {
         let of_them = |open: &&Open| open.peer.is_some_and(|peer| peers.contains(&peer));
         self.open.values().filter(of_them).for_each(Open::end);
     }
 
-    /// Ends all streams, and lets no thread start any more.
+    /// Ends all streams. No thread starts from now on.
     pub fn end(&mut self) {
         self.alive = None;
         self.open.values().for_each(Open::end);
     }
 
-    /// Where frames for a peer go, if it is connected.
+    /// The queue of frames for a peer, if it is connected.
     pub fn outbox(&self, peer: &Key) -> Option<&SyncSender<Outgoing>> {
         let mut open = self.open.values();
         let open = open.find(|open| open.peer.as_ref() == Some(peer) && open.outbox.is_some());
         open?.outbox.as_ref()
     }
 
-    // How many dialers have not told their key yet.
+    // How many dialers have not sent their key yet.
     fn unknown(&self) -> usize {
         let open = self.open.values();
         open.filter(|open| open.peer.is_none()).count()
@@ -119,7 +120,7 @@ impl Open {
 }
 
 impl Shared {
-    /// What the threads of a host share that begins.
+    /// The shared state of a host that starts.
     pub fn new(
         settings: Settings,
         limits: FrameLimits,
@@ -137,27 +138,28 @@ impl Shared {
         }
     }
 
-    /// Locks the node. A thread that panicked while it held the lock left no call half made.
+    /// Locks the node. A thread that panicked while it held the lock left the state consistent.
     pub fn lock(&self) -> MutexGuard<'_, State> {
         self.state.lock().unwrap_or_else(PoisonError::into_inner)
     }
 
-    /// Lets the next round of dials come at once.
+    /// Lets the next round of dials begin at once.
     pub fn wake(&self) {
         let _ = self.wakes.try_send(());
     }
 
-    /// Tells what happened, and waits while there is no room to. It must not be called while the lock is held.
+    /// Sends an event, and waits while the channel is full. The lock must not be held meanwhile.
     pub fn tell(&self, event: Event) {
-        // Where nobody listens any more, nobody is told.
+        // If nobody receives events any more, this one is dropped.
         let _ = self.events.send(event);
     }
 
-    /// Does work on a thread of its own.
+    /// Runs the closure on a new thread.
     ///
     /// # Errors
     ///
-    /// Where the host is ending, or the system has no thread left. The work is dropped then, with what it holds.
+    /// Fails if the host is ending or no thread can be started. The closure is dropped then, with
+    /// all that it owns.
     pub fn spawn(
         self: &Arc<Self>,
         work: impl FnOnce(&Arc<Shared>) + Send + 'static,
@@ -183,8 +185,8 @@ pub struct Listed {
 }
 
 impl Listed {
-    /// Lists the stream to a peer, or of a dialer that hasn't told its key. Of those there are so many at a time as the
-    /// settings say.
+    /// Lists the stream to a peer, or of a dialer that hasn't sent its key yet. The settings limit
+    /// the number of the latter.
     pub fn new(shared: &Arc<Shared>, stream: TcpStream, peer: Option<Key>) -> io::Result<Listed> {
         stream.set_nodelay(true)?;
         stream.set_write_timeout(Some(shared.settings.silence))?;
@@ -203,7 +205,7 @@ impl Listed {
         Ok(Listed { stream, shared, id })
     }
 
-    /// Notes whose stream it is, and where frames for the peer go from now on.
+    /// Records the peer of the stream, and the queue of frames for it.
     pub fn connect(&self, state: &mut State, peer: Key, outbox: SyncSender<Outgoing>) {
         if let Some(open) = state.open.get_mut(&self.id) {
             open.peer = Some(peer);

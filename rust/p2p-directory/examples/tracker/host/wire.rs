@@ -9,18 +9,18 @@ use std::io::{self, BufWriter, ErrorKind, Read, Write};
 use std::net::TcpStream;
 use std::time::{Duration, Instant};
 
-/// The first byte of a frame with a message: docs/FORMATS.md.
+/// The first byte of a data frame: see `docs/FORMATS.md`.
 pub const DATA: u8 = 0;
 
 /// The first byte of a greeting.
 pub const GREETING: u8 = 1;
 
-/// In which challenges are signed: another namespace than that of infos.
+/// The namespace in which challenges are signed, which differs from that of infos.
 const HANDSHAKE: &[u8] = b"tracker handshake";
 
 const CHALLENGE_SIZE: usize = 8;
 
-/// How many bytes a frame may have.
+/// The maximum lengths of frames.
 #[derive(Clone, Copy, Debug)]
 pub struct FrameLimits {
     data: usize,
@@ -28,7 +28,8 @@ pub struct FrameLimits {
 }
 
 impl FrameLimits {
-    /// The limits that admit each frame which a node with these limits reads, or `None` where they fit no `usize`.
+    /// The limits that allow each frame that a node with these limits accepts, or `None` if they
+    /// exceed `usize::MAX`.
     pub fn new(payload: &PayloadConfig) -> Option<FrameLimits> {
         let overhead = MAX_PAYLOAD_OVERHEAD as usize;
         Some(FrameLimits {
@@ -50,7 +51,8 @@ pub fn write_frame(stream: &TcpStream, parts: &[&[u8]]) -> io::Result<()> {
     out.flush()
 }
 
-/// Reads a frame. One that is too long is refused with [`ErrorKind::InvalidData`] before memory is taken for it.
+/// Reads a frame. One that is too long is refused with [`ErrorKind::InvalidData`] before anything
+/// is allocated for it.
 pub fn read_frame(mut stream: impl Read, limits: FrameLimits) -> io::Result<Vec<u8>> {
     let length = u32::from_be_bytes(read_array(&mut stream)?) as usize;
     if length == 0 {
@@ -71,11 +73,11 @@ pub fn read_frame(mut stream: impl Read, limits: FrameLimits) -> io::Result<Vec<
     Ok(frame)
 }
 
-/// Tells the listener the own key, and makes sure that the listener has the key that was dialled.
+/// Sends the local key to the listener, and checks that the listener has the key that was dialled.
 ///
-/// This and [`handshake_as_listener`] stand for the handshake of a real transport, which authenticates both sides by
-/// signatures that can't be forged, and encrypts what follows. The scheme of `testing` does neither: anybody can sign
-/// for any key.
+/// This and [`handshake_as_listener`] stand for the handshake of a real transport. That
+/// authenticates both sides by signatures that can't be forged, and encrypts what follows. The
+/// scheme of `testing` does neither: anybody can sign for any key.
 pub fn handshake_as_dialer(
     mut stream: &TcpStream,
     own: &Key,
@@ -94,7 +96,7 @@ pub fn handshake_as_dialer(
     stream.write_all(sign(own, HANDSHAKE, &to_sign).as_ref())
 }
 
-/// The key of a dialer. Nothing is sent to one whose key isn't admitted.
+/// Returns the key of a dialer. Nothing is sent to a dialer whose key isn't accepted.
 pub fn handshake_as_listener(
     mut stream: &TcpStream,
     own: &Key,
@@ -117,7 +119,7 @@ pub fn handshake_as_listener(
     Ok(key)
 }
 
-/// A stream that is read until a point in time, however few bytes come at once.
+/// A reader of a stream with a deadline, however few bytes arrive at once.
 struct Until<'s> {
     stream: &'s TcpStream,
     end: Instant,
