@@ -50,7 +50,7 @@ fill README.md README.md
 cp tools/release/install.sh "$release/"
 tools/release/links.py "$release"
 cp "$prebuilt/libp2p_session.a" "$release/lib/"
-cp "$prebuilt/LICENSE-bytes" "$release/"
+cp "$prebuilt/LICENSE-bytes" "$prebuilt/LICENSE-thiserror" "$release/"
 { cat "$prebuilt/PROVED" && echo "commit $(git rev-parse HEAD)"; } > "$release/PROVED"
 
 mkdir -p dist

@@ -14,7 +14,7 @@ for file in include/p2p_session.h lib/libp2p_session.a lib/pkgconfig/p2p_session
     lib/cmake/p2p_session/p2p_session-config.cmake lib/cmake/p2p_session/p2p_session-config-version.cmake; do
     put "$file" "$1/$file"
 done
-for file in LICENSE LICENSE-MIT LICENSE-APACHE LICENSE-bytes PROVED; do
+for file in LICENSE LICENSE-MIT LICENSE-APACHE LICENSE-bytes LICENSE-thiserror PROVED; do
     put "$file" "$1/share/doc/p2p_session/$file"
 done
 echo "installed below $1"
