@@ -21,7 +21,7 @@ pub(crate) fn answered(answer: u64) -> Result<Option<u64>, OutOfMemory> {
     }
 }
 
-/// The number that a call returned which doesn't allocate.
+/// The number returned by a call that doesn't allocate.
 #[inline]
 pub(crate) fn certain(answer: u64) -> u64 {
     match answered(answer) {
@@ -30,7 +30,7 @@ pub(crate) fn certain(answer: u64) -> u64 {
     }
 }
 
-/// The bool that a call returned, or out of memory.
+/// The bool returned by a call, or out of memory.
 #[inline]
 pub(crate) fn is_true(answer: u64) -> Result<bool, OutOfMemory> {
     match answered(answer)? {
@@ -40,7 +40,7 @@ pub(crate) fn is_true(answer: u64) -> Result<bool, OutOfMemory> {
     }
 }
 
-/// The bool that a call returned which doesn't allocate.
+/// The bool returned by a call that doesn't allocate.
 #[inline]
 pub(crate) fn is_certain(answer: u64) -> bool {
     match answer {
@@ -50,7 +50,7 @@ pub(crate) fn is_certain(answer: u64) -> bool {
     }
 }
 
-/// Whether a call took effect, or out of memory.
+/// Checks that a call took effect, unless it ran out of memory.
 #[inline]
 pub(crate) fn is_done(answer: u64) -> Result<(), OutOfMemory> {
     match answered(answer)? {
@@ -66,7 +66,7 @@ pub(crate) fn unknown(answer: u64) -> ! {
     panic!("p2p_session answered {answer:#x}")
 }
 
-/// What was read of a result of the library, or out of memory.
+/// The value that was read from a result of the library, or out of memory.
 pub(crate) fn own<T>(read: Result<T, ReadError>) -> Result<T, OutOfMemory> {
     read.map_err(|error| match error {
         ReadError::Memory => OutOfMemory,

@@ -104,6 +104,7 @@ impl AsRef<str> for Hostname {
 impl TryFrom<&str> for Hostname {
     type Error = CodecError;
 
+    /// Creates a hostname as [`Hostname::new`] does, with the same errors.
     fn try_from(text: &str) -> Result<Hostname, CodecError> {
         Hostname::new(text)
     }
@@ -112,6 +113,7 @@ impl TryFrom<&str> for Hostname {
 impl FromStr for Hostname {
     type Err = CodecError;
 
+    /// Creates a hostname as [`Hostname::new`] does, with the same errors.
     fn from_str(text: &str) -> Result<Hostname, CodecError> {
         Hostname::new(text)
     }
@@ -183,9 +185,9 @@ pub enum Ingress {
 /// Whether an address is global: not reserved for private networks, documentation, tests or similar
 /// uses, by the table in `docs/FORMATS.md` of the repository.
 ///
-/// If [`allow_private_ips`](crate::Config::allow_private_ips) is false, a directory dials only
-/// addresses for which this returns true. A host that resolves a name can check the result in the
-/// same way.
+/// If [`allow_private_ips`](crate::Config::allow_private_ips) is false, a directory dials only those
+/// socket addresses for which this returns true. A host that resolves a name can check the result
+/// in the same way.
 ///
 /// # Examples
 ///
@@ -419,6 +421,7 @@ impl From<SocketAddr> for Ingress {
 }
 
 impl From<(Hostname, u16)> for Ingress {
+    /// Creates an ingress of this name and port.
     fn from((host, port): (Hostname, u16)) -> Ingress {
         Ingress::Dns { host, port }
     }
@@ -428,7 +431,7 @@ impl FromStr for Ingress {
     type Err = ParseError;
 
     /// Parses a text such as `1.2.3.4:80`, `[::1]:80` or `example.com:80`. A host whose last label
-    /// is a number must be an address.
+    /// is a number must be an address. Fails with the [`ParseError`] of the part that is invalid.
     fn from_str(text: &str) -> Result<Ingress, ParseError> {
         let (host, port) = text.rsplit_once(':').ok_or(ParseError::Port)?;
         let port = read_port(port)?;

@@ -107,6 +107,7 @@ macro_rules! bytes_and_text {
         impl TryFrom<&[u8]> for $type {
             type Error = TryFromSliceError;
 
+            /// Converts a slice of exactly that length, and fails for another length.
             fn try_from(bytes: &[u8]) -> Result<$type, TryFromSliceError> {
                 bytes.try_into().map($type)
             }
@@ -115,6 +116,9 @@ macro_rules! bytes_and_text {
         impl FromStr for $type {
             type Err = ParseError;
 
+            /// Parses two hexadecimal digits for each byte, in either case. Fails with
+            /// [`ParseError::Length`] for another number of digits, and otherwise with
+            /// [`ParseError::Digit`].
             fn from_str(text: &str) -> Result<$type, ParseError> {
                 read_hexadecimal(text).map($type)
             }

@@ -10,7 +10,7 @@
 //! inside: the caller passes in the time, random numbers, frames and a function that verifies
 //! signatures.
 //!
-//! Names and signatures are those of the discovery directory of `commonware-p2p` where possible.
+//! Names and parameters are those of the discovery directory of `commonware-p2p` where possible.
 //! The frames are not compatible with it.
 //!
 //! # Memory

@@ -205,6 +205,7 @@ impl From<Duration> for Moment {
 impl TryFrom<SystemTime> for Moment {
     type Error = BeforeEpochError;
 
+    /// Converts a system time, and fails if it is before the Unix epoch.
     fn try_from(time: SystemTime) -> Result<Moment, BeforeEpochError> {
         let passed = time.duration_since(UNIX_EPOCH);
         passed.map(Moment).map_err(|_| BeforeEpochError)

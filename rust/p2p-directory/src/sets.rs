@@ -110,6 +110,7 @@ impl Deref for OrderedSet {
 impl<const N: usize> TryFrom<[Key; N]> for OrderedSet {
     type Error = DuplicateKeyError;
 
+    /// Creates a set from these keys, in any order, and fails if a key occurs more than once.
     fn try_from(keys: [Key; N]) -> Result<OrderedSet, DuplicateKeyError> {
         OrderedSet::try_from(Vec::from(keys))
     }
@@ -118,6 +119,7 @@ impl<const N: usize> TryFrom<[Key; N]> for OrderedSet {
 impl TryFrom<Vec<Key>> for OrderedSet {
     type Error = DuplicateKeyError;
 
+    /// Creates a set from these keys, in any order, and fails if a key occurs more than once.
     fn try_from(mut keys: Vec<Key>) -> Result<OrderedSet, DuplicateKeyError> {
         keys.sort_unstable();
         if keys.windows(2).any(|pair| pair[0] == pair[1]) {
@@ -208,6 +210,7 @@ impl TrackedPeers {
 }
 
 impl From<OrderedSet> for TrackedPeers {
+    /// Creates a value with these primary peers and no secondary ones.
     fn from(primary: OrderedSet) -> TrackedPeers {
         TrackedPeers::new(primary, OrderedSet::default())
     }

@@ -116,7 +116,7 @@ pub struct Judged<'f> {
 }
 
 /// The number of verification results differs from the number of questions. Fewer are accepted only
-/// if the last one is false.
+/// if one of them is false.
 ///
 /// # Examples
 ///
