@@ -138,7 +138,8 @@ fn installed() -> Result<(), String> {
     link_and_track(Path::new(String::from_utf8_lossy(&asked.stdout).trim()))
 }
 
-/// Links the archive within this package, if there is one for the target and it is the one that was proved.
+/// Links the archive within this package, if there is one for the target and it is the one that was
+/// proved.
 fn packaged() -> Result<(), String> {
     let target = env::var("TARGET").expect("cargo sets it");
     let folder = manifest().join("prebuilt").join(&target);

@@ -15,10 +15,10 @@
 //!
 //! | Set | Linked |
 //! |---|---|
-//! | `P2P_SESSION_LIB` to the absolute path of a folder | its `libp2p_session.a`, or else its `libp2p_session_c.a` and `liblibc_c.a` |
-//! | `P2P_SESSION_PROVE=1`, in a clone with the toolchain | the sources as they stand, proved first: an hour or so |
+//! | `P2P_SESSION_LIB` to an absolute path | `libp2p_session.a` there, else `libp2p_session_c.a` and `liblibc_c.a` |
+//! | `P2P_SESSION_PROVE=1`, in a clone with the toolchain | the present sources, proved first in an hour or so |
 //! | `P2P_SESSION_PKG_CONFIG=1` | the `p2p_session` of this version that pkg-config finds |
-//! | none of them | the archive within this package, for `x86_64-unknown-linux-gnu`; its `PROVED` has what was proved of it |
+//! | none of them | the archive within this package, for `x86_64-unknown-linux-gnu`; `PROVED` says what was proved |
 //!
 //! With `DOCS_RS` set nothing is linked, which is enough to build the documentation.
 //!

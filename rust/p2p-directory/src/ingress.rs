@@ -185,9 +185,9 @@ pub enum Ingress {
 /// Whether an address is global: not reserved for private networks, documentation, tests or similar
 /// uses, by the table in `docs/FORMATS.md` of the repository.
 ///
-/// If [`allow_private_ips`](crate::Config::allow_private_ips) is false, a directory dials only those
-/// socket addresses for which this returns true. A host that resolves a name can check the result
-/// in the same way.
+/// If [`allow_private_ips`](crate::Config::allow_private_ips) is false, a directory dials only
+/// those socket addresses for which this returns true. A host that resolves a name can check the
+/// result in the same way.
 ///
 /// # Examples
 ///

@@ -66,7 +66,8 @@ pub const CHANGES: &[Case] = &[
         },
         answer: || text(()),
         requests: 15,
-        // Two nodes of records (3,968 each) and one with edges (4,096), the list of bootstrappers (2,304).
+        // Two nodes of records (3,968 each) and one with edges (4,096), the list of bootstrappers
+        // (2,304).
         bytes: 14_496,
     },
     Case {
@@ -250,7 +251,8 @@ pub const CHANGES: &[Case] = &[
         call: |state| block(state, 25, 100),
         answer: || text(true),
         requests: 4,
-        // Of blocks a second node (728) and one with edges (856), and of their ends likewise (736, 864).
+        // A second node of blocks (728) and one with edges (856), and the same of their ends (736,
+        // 864).
         bytes: 3184,
     },
     Case {

@@ -148,8 +148,8 @@ impl Host {
     ///
     /// # Errors
     ///
-    /// Fails if the settings are refused, the address can't be bound, an allocation fails or no thread
-    /// can be started.
+    /// Fails if the settings are refused, the address can't be bound, an allocation fails or no
+    /// thread can be started.
     pub fn start(settings: Settings, events: SyncSender<Event>) -> Result<Host, Failure> {
         let listener = TcpListener::bind(settings.listen_at)?;
         let address = listener.local_addr()?;
