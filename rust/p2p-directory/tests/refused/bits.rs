@@ -41,8 +41,8 @@ fn follows(state: &mut State) {
     );
 }
 
-// Whether the set of peers 1 to 3, and of more than one node of a tree holds, was refused. If so,
-// the retained sets still have their bits.
+// Returns whether a set of peers 1 to 3 and others, more than a node of a tree holds, was refused.
+// If so, checks that the retained sets still have their bits.
 fn is_refused(plan: Refused) -> bool {
     let refused = peers(
         &[1, 2, 3, 10, 11, 12, 13, 14, 15, 16, 17, 18, 19, 20, 21, 22],
