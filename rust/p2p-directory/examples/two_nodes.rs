@@ -33,7 +33,7 @@ fn connected(number: u16, other: u16, known: u16) -> Result<Connected, Box<dyn E
     for peer in [other, known] {
         let granted = directory.listen(&key(peer), NOW, Duration::ZERO)?;
         let reservation = granted.ok_or("the peer may not come")?;
-        // What an error drops is given back, this one and those before it.
+        // If an error drops the reservation, it is released, and so are those before it.
         directory.connect_reserved(&reservation)?;
         held.push(reservation);
     }

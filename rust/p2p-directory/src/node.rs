@@ -361,7 +361,8 @@ impl Node {
     ///
     /// # Panics
     ///
-    /// Panics if there are more than `u32::MAX` bits.
+    /// Panics if there are more than `u32::MAX` bits, and if another directory was put in the place
+    /// of the node's own.
     ///
     /// # Examples
     ///
@@ -386,6 +387,7 @@ impl Node {
         count: usize,
         draw: u64,
     ) -> Result<Option<Vec<u8>>, OutOfMemory> {
+        self.expect_own_directory();
         let Some(mut infos) = self.directory.infos(bits, now)? else {
             return Ok(None);
         };

@@ -212,7 +212,11 @@ fn a_node_takes_no_frame_for_another_directory() {
         one.check(&greeting, seconds(1)).is_ok()
     }));
     let asks = catch_unwind(AssertUnwindSafe(|| one.ask(0)));
-    assert!(receives.is_err() && checks.is_err() && asks.is_err());
+    let nothing = nothing_known(0, 2);
+    let replies = catch_unwind(AssertUnwindSafe(|| {
+        one.reply_at_most(&nothing, seconds(1), 1, 0)
+    }));
+    assert!(receives.is_err() && checks.is_err() && asks.is_err() && replies.is_err());
     assert_eq!(one.directory().tracked(), 0);
     mem::swap(one.directory_mut(), &mut other);
     assert_eq!(

@@ -229,7 +229,7 @@ fn take(
             let message = frame[message].to_vec();
             shared.tell(Event::Message(peer, Data { channel, message }));
         }
-        // An address may have come that can be dialled now.
+        // An address that can be dialled may be new.
         Received::Greeted(greeter) => {
             shared.wake();
             return Ok(Some(greeter));
@@ -240,7 +240,7 @@ fn take(
             let _ = outbox.try_send(Outgoing::Frame(reply));
         }
         Received::Memory => return Err(OutOfMemory.into()),
-        // The clock that is wrong may be the own one.
+        // The local clock may be the wrong one.
         Received::Invalid(Error::SynchronyBound) => return Err(End::Left("an info of the future")),
         refused => return Err(End::Broken(format!("{refused:?}"))),
     }

@@ -45,7 +45,7 @@ fn accept(shared: &Arc<Shared>, listed: Listed) -> Result<(), Failure> {
         state.node.directory().acceptable(peer, now)
     };
     let peer = handshake_as_listener(&listed.stream, own, time, is_acceptable)?;
-    // The handshake took its time, in which the peer may have been dialled, blocked or accepted from elsewhere.
+    // During the handshake the peer may have been dialled, blocked or accepted on another connection.
     let granted = {
         let mut state = shared.lock();
         let now = state.now();

@@ -229,7 +229,7 @@ impl Host {
         self.shared.wake();
         // The listener waits for a stream: with this one it sees that the host is ending.
         let _ = TcpStream::connect(self.address);
-        // Nothing is sent: once the last thread has ended, nobody holds the other side any more.
+        // Nothing is sent: `recv` fails once the last thread has dropped its sender.
         while self.ended.recv().is_ok() {}
     }
 }

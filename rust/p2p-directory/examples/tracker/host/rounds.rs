@@ -71,7 +71,7 @@ fn grant(shared: &Shared) -> Result<(Vec<(Reservation, SocketAddr)>, Duration), 
         let Some(reservation) = directory.dial(peer, now, draw(cooldown))? else {
             continue;
         };
-        // One that is dropped gives itself back. Names never come: `allow_dns` is off.
+        // A dropped reservation is released. There are no names: `allow_dns` is off.
         if let Metadata::Dialer(_, Ingress::Socket(address)) = *reservation.metadata() {
             granted.push((reservation, address));
         }
