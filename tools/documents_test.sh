@@ -1,6 +1,6 @@
 #!/bin/sh
-# Tests tools/documents.py and tools/words.py in a copy of what is committed: each kind of fault is planted by itself and
-# has to be refused by its name and line, what is no fault passes, and in the end so does the copy as it is.
+# Tests tools/documents.py and tools/words.py in a copy of what is committed: each kind of fault is planted by itself
+# and has to be refused by its name and line, what is no fault passes, and in the end so does the copy as it is.
 set -eu
 cd "$(dirname "$0")/.."
 copy=$(mktemp -d)
@@ -90,10 +90,10 @@ restore
 echo 'written: numbers and excerpts'
 
 # What it counts.
-printf '%s\n' '# A heading' '' 'Four words stand here. `One span of code` counts once.' '' '| a table |' \
-    '' "- $(seq 41 | tr '\n' ' ')." '' '```' 'code' '```' > "$copy.md"
+printf '%s\n' '# A heading' '' 'Four words stand here. `One span of code` counts once, and so does' \
+    '0. Then 2 - 1 is one.' '' '| a table |' '' "- $(seq 41 | tr '\n' ' ')." '' '```' 'code' '```' > "$copy.md"
 "$copy/tools/words.py" "$copy.md" > "$copy.told"
-grep -Eq '^total +48 +3 +1$' "$copy.told" || { cat "$copy.told" >&2; echo 'words are counted otherwise' >&2; exit 1; }
+grep -Eq '^total +57 +4 +1$' "$copy.told" || { cat "$copy.told" >&2; echo 'words are counted otherwise' >&2; exit 1; }
 echo 'counted: words and sentences'
 
 checked || { cat "$copy.told" >&2; echo 'the documents as they are committed do not pass' >&2; exit 1; }

@@ -28,7 +28,7 @@ def words(text):
 
 def sentences(block):
     """Returns the sentences of a block, each with its line."""
-    text, found, at = markdown.ITEM.sub("", markdown.plain(block.text), count=1).lstrip("> "), [], 0
+    text, found, at = markdown.plain(block), [], 0
     for end in [*(match.end() for match in END.finditer(text)), len(text)]:
         found.append((block.line + text.count("\n", 0, at), " ".join(text[at:end].split())))
         at = end

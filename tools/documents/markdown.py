@@ -22,6 +22,8 @@ GAP = "\u2423"
 SPAN = re.compile(r"(?<!`)(`+)(?!`)(.+?)(?<!`)\1(?!`)", re.S)
 COMMENT = re.compile(r"<!--.*?-->", re.S)
 ITEM = re.compile(r"\s*(?:[-*+]|\d+[.)])\s+")
+# An item that may stand directly after a line of text.
+FIRST_ITEM = re.compile(r"\s*(?:[-*+]|1[.)])\s+")
 FENCE = re.compile(r"\s*(?:```+|~~~+)")
 
 
@@ -94,6 +96,8 @@ def blocks(text):
         if not is_code and not line.strip():
             last = None
             continue
+        if kind == "item" and last and last.kind == "text" and not FIRST_ITEM.match(line):
+            kind = "text"
         continues = last and (
             kind == last.kind and kind in ("code", "quote", "text") or kind == "text" and last.kind in ("item", "quote")
         )
@@ -120,9 +124,11 @@ def without_spans(text):
     return SPAN.sub(lambda match: "`" + blank(match) + "`", text)
 
 
-def plain(text):
-    """Returns the text with neither link targets nor marks of emphasis. Blanks in code spans are GAPs, so each is one
-    word."""
+def plain(block):
+    """Returns the text of a block with neither its marks, nor link targets, nor emphasis, and as many lines. Blanks in
+    code spans are GAPs, so each is one word."""
+    text = ITEM.sub("", block.text, count=1) if block.kind == "item" else block.text
+    text = re.sub(r"^\s*> ?", "", text, flags=re.M) if block.kind == "quote" else text
     text = SPAN.sub(lambda match: "`" + GAP.join(match[2].split()) + "`" + blank(match), text)
     text = re.sub(r"!?\[([^\]]*)\]\([^)]*\)", r"\1", text)
     return re.sub(r"\*+", "", text)

@@ -8,6 +8,7 @@ docs/GUIDE.md have no marks: rust/p2p-directory/tests/guide.rs compares them.
 import re
 import subprocess
 import sys
+from functools import lru_cache
 
 COUNT = re.compile(r"<!-- count:(\S+) -->(.*?)<!-- /count -->", re.S)
 OPENED = re.compile(r"<!-- count:")
@@ -42,11 +43,16 @@ def worked(root):
     return int(re.search(r"static ROWS: .*; (\d+)\]", text)[1])
 
 
-def reached(root, function, place):
-    """Returns how many lines, or how many definitions, the contract of a function reaches."""
+@lru_cache
+def reached(root, function):
+    """Returns how many lines the contract of a function reaches, and of how many definitions."""
     command = [sys.executable, str(root / "tools/reached.py"), function]
     told = subprocess.run(command, capture_output=True, text=True, check=True).stdout
-    return int(re.findall(r"\d+", told)[place])
+    return re.findall(r"\d+", told)
+
+
+def reached_number(root, function, place):
+    return int(reached(root, function)[place])
 
 
 COUNTS = {
@@ -61,10 +67,10 @@ COUNTS = {
     "rattle-tests": lambda root: lines_of(root, "crates/*/src/**/*.rt", r"^ *#\[test\]$"),
     "spec-lines": lambda root: lines_of(root, "crates/*/specs/**/*.antt"),
     "proof-lines": lambda root: lines_of(root, "crates/*/proofs/**/*.antt"),
-    "lines-run": lambda root: reached(root, "run", 0),
-    "definitions-run": lambda root: reached(root, "run", 1),
-    "lines-network": lambda root: reached(root, "run_network", 0),
-    "definitions-network": lambda root: reached(root, "run_network", 1),
+    "lines-run": lambda root: reached_number(root, "run", 0),
+    "definitions-run": lambda root: reached_number(root, "run", 1),
+    "lines-network": lambda root: reached_number(root, "run_network", 0),
+    "definitions-network": lambda root: reached_number(root, "run_network", 1),
     "code-lines": lambda root: lines_of(root, "crates/*/src/**/*.rt"),
 }
 
