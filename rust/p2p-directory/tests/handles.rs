@@ -46,7 +46,7 @@ fn nodes_answer_frames_of_each_other() {
     let greeting = Payload::Greeting(info(3, 0)).encode();
     assert_eq!(
         asker.receive(&greeting, NOW, verify),
-        Received::Greeted(key(1))
+        Received::Greeted(key(3))
     );
     let none = asker.receive(&[9, 9], NOW, verify);
     assert!(matches!(none, Received::Codec(_)));

@@ -254,7 +254,8 @@ fn greet(stream: &TcpStream, number: u16) {
 /// What a peer that may be connected sends to be blocked, each with a name.
 fn misdeeds(number: u16) -> [(&'static str, Vec<Vec<u8>>); 8] {
     let greeting = Payload::Greeting(greeting_of(number)).encode();
-    let of_another = Payload::Greeting(greeting_of(number + 1)).encode();
+    // Its info is valid, so the host learns where that peer is.
+    let of_another = Payload::Greeting(greeting_of(16)).encode();
     let mut forged = greeting_of(number);
     forged.signature = Signature([0; 64]);
     let forged = Payload::Greeting(forged).encode();

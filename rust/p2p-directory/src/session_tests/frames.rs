@@ -1,11 +1,11 @@
 //! Frames: the questions about them and the results, of sessions with keys 9 and 8.
 
 use super::given::{asked, info, infos, key, session, tracking};
-use crate::key::SIGNATURE_SIZE;
+use crate::key::{KEY_SIZE, SIGNATURE_SIZE};
 use p2p_directory_sys::{BAD_VERDICTS, NO_ROOM, Session};
 
 // The minimum length of a buffer for `receive`.
-const LONGEST: usize = 10;
+const LONGEST: usize = 1 + KEY_SIZE;
 
 // The frame of the infos with these keys and timestamps.
 fn peers(told: &[(u8, u8)]) -> Vec<u8> {
@@ -105,12 +105,13 @@ fn a_frame_is_not_taken_with_less_room_than_the_longest_answer_wants() {
 // A result without effect is returned again if the buffer is long enough.
 #[test]
 fn an_answer_that_is_longer_than_the_room_tells_its_length() {
-    let session = session(9);
-    let frame = [&[0, 3, 9][..], b"a message"].concat();
+    let session = tracking(9, &[9]);
+    let (question, reply) = ([2, 0, 1, 0], [vec![2], peers(&[(9, 0)])].concat());
     let mut room = [0xaa; LONGEST];
-    assert_eq!(session.receive(&frame, 100, 0, &[], &mut room), 12);
+    let length = session.receive(&question, 100, 0, &[], &mut room);
+    assert_eq!(length, reply.len() as u64);
     assert_eq!(room, [0xaa; LONGEST]);
-    assert_eq!(received(&session, &frame, &[]), frame);
+    assert_eq!(received(&session, &question, &[]), reply);
 }
 
 #[test]
@@ -118,7 +119,10 @@ fn greetings_are_judged() {
     let session = tracking(9, &[1]);
     let (other, itself) = (greeting(1, 100), greeting(9, 0));
     assert_eq!(checked(&session, &other).len(), 128);
-    assert_eq!(received(&session, &other, &[1]), [1]);
+    assert_eq!(
+        received(&session, &other, &[1]),
+        [&[1][..], &key(1)].concat()
+    );
     assert_eq!(checked(&session, &itself), 1_u64.to_be_bytes());
     assert_eq!(received(&session, &itself, &[1]), [6, 1]);
 }
@@ -139,8 +143,9 @@ fn infos_from_the_future_and_too_many_infos_are_refused() {
 
 #[test]
 fn data_is_handed_on() {
-    let message = b"\x00\x03\x02hi";
-    assert_eq!(received(&session(9), message, &[]), message);
+    // The channel and the length of the message, which is the end of the frame.
+    let told = [&[0][..], &3_u64.to_be_bytes(), &2_u64.to_be_bytes()].concat();
+    assert_eq!(received(&session(9), b"\x00\x03\x02hi", &[]), told);
 }
 
 #[test]

@@ -145,13 +145,11 @@ fn grants_are_made_or_refused() {
     refuse_each(2, introduced, 1, |state, number| state.dial(number, NOW));
     // The capacity for a name, which the first dial didn't need, is there for the second, which
     // needs it.
-    refuse_each(0, dialling, 2, |state, number| {
-        let is_granted = state.dial(number, NOW)?;
+    let wanted = Metadata::Dialer(key(2), named_info(2, 0, "a.b").ingress);
+    refuse_each(0, dialling, wanted, |state, wanted: Metadata| {
+        let is_granted = state.dial(2, NOW)?;
         let held = state.held().last().expect("it was granted");
-        assert_eq!(
-            held.metadata(),
-            &Metadata::Dialer(key(2), named_info(2, 0, "a.b").ingress)
-        );
+        assert_eq!(held.metadata(), &wanted);
         Ok(is_granted)
     });
     // There is capacity for four, and all of them are held.
@@ -298,7 +296,7 @@ fn frames_are_taken_or_refused() {
         })
         .encode()
     };
-    refuse_each(1, known, data(100), take);
+    refuse_each(0, known, data(100), take);
     refuse_each(0, known, vec![4], take);
     // In two steps: the questions and a verification result for each info.
     refuse_each(

@@ -95,7 +95,7 @@ pub const FRAMES: &[Case] = &[
             let reply = Payload::Peers(vec![info(1, 1000)]).encode();
             text(Received::Reply(reply))
         },
-        requests: 9,
+        requests: 6,
         // Space for four infos (576), the reply (108), its control block, and the bits.
         bytes: 736,
     },
@@ -104,7 +104,7 @@ pub const FRAMES: &[Case] = &[
         prepared: known,
         call: |state| frame(state, &[2, 7, 0]),
         answer: || text(Received::Reply(vec![3, 0])),
-        requests: 6,
+        requests: 4,
         // The reply without infos, and its control block.
         bytes: 48,
     },
@@ -113,7 +113,7 @@ pub const FRAMES: &[Case] = &[
         prepared: known,
         call: |state| frame(state, &[2, 0, 3, 0]),
         answer: || text(Received::Malformed),
-        requests: 6,
+        requests: 3,
         // The copy of the frame with its control block, and the bits.
         bytes: 48,
     },
@@ -206,16 +206,16 @@ pub const FRAMES: &[Case] = &[
                 message: 3..8,
             })
         },
-        requests: 6,
-        // The copy of the frame and the encoding of the result, each with its control block.
-        bytes: 80,
+        requests: 2,
+        // The copy of the frame, with its control block: the result is its channel and its length.
+        bytes: 48,
     },
     Case {
         name: "a frame of another prefix",
         prepared: known,
         call: |state| frame(state, &[4, 0, 1]),
         answer: || fault(CodecError::InvalidEnum(4)),
-        requests: 4,
+        requests: 2,
         // The copy of the frame, with its control block.
         bytes: 48,
     },
@@ -224,7 +224,7 @@ pub const FRAMES: &[Case] = &[
         prepared: known,
         call: |state| frame(state, &[2, 0, 9, 0]),
         answer: || fault(CodecError::EndOfBuffer),
-        requests: 4,
+        requests: 2,
         // The copy of the frame, with its control block.
         bytes: 48,
     },
@@ -233,7 +233,7 @@ pub const FRAMES: &[Case] = &[
         prepared: known,
         call: |state| frame(state, &[2, 0, 4, 0, 0]),
         answer: || fault(CodecError::ExtraData(1)),
-        requests: 6,
+        requests: 3,
         // The copy of the frame with its control block, and the bits.
         bytes: 48,
     },
@@ -242,7 +242,7 @@ pub const FRAMES: &[Case] = &[
         prepared: known,
         call: |state| frame(state, &[2, 0, 0x81, 0x08, 0]),
         answer: || fault(CodecError::InvalidLength(1025)),
-        requests: 4,
+        requests: 2,
         // The copy of the frame, with its control block.
         bytes: 48,
     },
@@ -251,7 +251,7 @@ pub const FRAMES: &[Case] = &[
         prepared: known,
         call: |state| frame(state, &[2, 0x80, 0, 0]),
         answer: || fault(CodecError::InvalidVarint(10)),
-        requests: 4,
+        requests: 2,
         // The copy of the frame, with its control block.
         bytes: 48,
     },
@@ -260,7 +260,7 @@ pub const FRAMES: &[Case] = &[
         prepared: known,
         call: |state| frame(state, &[2, 0, 4, 0x10]),
         answer: || fault(CodecError::Invalid(What::Padding)),
-        requests: 4,
+        requests: 2,
         // The copy of the frame, with its control block.
         bytes: 48,
     },
