@@ -286,9 +286,9 @@ impl<C: PublicKey> Directory<C> {
     /// record, its dial status is [`Unavailable`](crate::record::DialStatus::Unavailable), or `now`
     /// is before its reservable time. The dial time isn't considered. Otherwise the peer is
     /// reserved, and its reservable and dial times are set as by
-    /// [`Record::reserve`](crate::record::Record::reserve), with this draw. They are kept until
-    /// [`Directory::forget_cooled`] forgets them, even if the record is removed. The reservation
-    /// has the address to dial. Whoever is reserved or connected stays so.
+    /// [`Record::reserve`](crate::record::Record::reserve), with `draw`, a random duration, for the
+    /// jitter. They are kept until [`Directory::forget_cooled`] forgets them, even if the record is
+    /// removed. The reservation has the address to dial. Whoever is reserved or connected stays so.
     ///
     /// # Errors
     ///
@@ -343,9 +343,9 @@ impl<C: PublicKey> Directory<C> {
     /// Returns `None`, doesn't allocate and changes nothing if the peer is blocked or has no
     /// record, it is not eligible, not inert, or `now` is before its reservable time. Otherwise the
     /// peer is reserved, and its reservable and dial times are set as by
-    /// [`Record::reserve`](crate::record::Record::reserve), with this draw. They are kept until
-    /// [`Directory::forget_cooled`] forgets them, even if the record is removed. Whoever is
-    /// reserved or connected stays so.
+    /// [`Record::reserve`](crate::record::Record::reserve), with `draw`, a random duration, for the
+    /// jitter. They are kept until [`Directory::forget_cooled`] forgets them, even if the record is
+    /// removed. Whoever is reserved or connected stays so.
     ///
     /// # Errors
     ///

@@ -255,9 +255,9 @@ impl<C: PublicKey> Record<C> {
     /// Returns `Unavailable` for the local node or a peer that is not inert, else `RateLimited` if
     /// `now` is before the reservable time, else `Reserved`. In the last case the peer is reserved.
     /// It is reservable again at `now + interval`, and may be dialled from that time plus the
-    /// jitter on. The jitter is the draw, at most twice half the interval, where the half is
-    /// rounded down to nanoseconds. Both sums are capped at `Duration::MAX`. Nothing changes unless
-    /// the result is `Reserved`.
+    /// jitter on. The jitter is `draw`, capped at twice half the interval, with the half rounded
+    /// down to nanoseconds. Both sums are capped at `Duration::MAX`. Nothing changes unless the
+    /// result is `Reserved`.
     pub fn reserve(&mut self, now: Duration, draw: Duration, interval: Duration) -> ReserveResult
         ensures answer { result ≡ reserve_answer (as_nanos now) self.old }
         ensures after { self.new ≡

@@ -58,7 +58,7 @@ impl<C: PublicKey> Directory<C> {
     ///
     /// # Errors
     ///
-    /// `AllocError` if an allocation fails. It allocates only if an info is shared.
+    /// `AllocError` if an allocation fails.
     ///
     /// # Cost
     ///

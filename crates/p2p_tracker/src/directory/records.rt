@@ -252,8 +252,8 @@ fn comes<C: PublicKey>(found: &Record<C>, now: Duration) -> bool
     found.eligible() && found.reserve_result(now) == ReserveResult::Reserved
 }
 
-// Reserves the peer of the record at the time `now`, and stores its times. The allocation for these
-// comes before the record changes.
+// Reserves the peer of the record at the time `now`, and stores its times. It allocates for these
+// before the record changes.
 fn keep_reserved<C: PublicKey>(
     found: &mut Record<C>,
     cooldowns: &mut Cooldowns<C>,

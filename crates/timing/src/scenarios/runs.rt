@@ -13,11 +13,11 @@ use std::time::{Duration, Instant};
 pub(crate) enum Kind {
     /// None.
     Tracks,
-    /// A listen for each peer.
+    /// A `Listen` for each peer.
     Listens,
-    /// A listen and a release for each peer.
+    /// A `Listen` and a `Release` for each peer.
     Cycles,
-    /// A listen for each peer, and the end of the run, which releases all.
+    /// A `Listen` for each peer, and the end of the run, which releases all.
     Whole,
 }
 
