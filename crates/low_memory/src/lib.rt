@@ -1,4 +1,4 @@
-//! Little memory, for tests: all address space that the process could still ask for is taken first.
+//! Scarce memory for tests: first, all address space that the process can still get is allocated.
 #![tactic(auto)]
 
 ghost use Rattle.std.specs.Prelude.{◌≡◌, ◌≤◌, IfOk, length};
@@ -14,14 +14,15 @@ const PIECES: usize = 64;
 
 const PLACES: usize = 400_000;
 
-// Blocks of this size and above are cut to what is asked for; of smaller ones that were freed, the
-// C library hands out the whole, and only for a request of the same size.
+// The C library splits freed blocks of this size and above to fit a request. It reuses a smaller
+// freed block only whole, and only for a request of the same size.
 const CUT: usize = 2_040;
 
-// After so many budgets in a row that sufficed, all greater ones are taken to suffice.
+// After this many sufficient budgets in a row, all larger ones are assumed to be sufficient.
 const SPARE: usize = 16;
 
-/// Takes blocks of this size until none is given. No page of them is written.
+/// Allocates blocks of this size until an allocation fails, at most `PLACES`. Nothing is written to
+/// them.
 fn take_each(blocks: &mut Vec<Vec<u8>>, alloc: Global, size: usize) -> Result<(), AllocError>
     ensures { length blocks.old.items ≤ length blocks.new.items }
 {
@@ -34,8 +35,8 @@ fn take_each(blocks: &mut Vec<Vec<u8>>, alloc: Global, size: usize) -> Result<()
     Ok(())
 }
 
-/// Takes all blocks: sizes halve down to 2 KiB, and below that each size that the C library keeps
-/// apart.
+/// Allocates all blocks: first of sizes that halve down to 2 KiB, then of each smaller size that
+/// the C library keeps apart.
 fn take_all(blocks: &mut Vec<Vec<u8>>, alloc: Global, largest: usize) -> Result<(), AllocError>
     ensures { length blocks.old.items ≤ length blocks.new.items }
 {
@@ -52,12 +53,12 @@ fn take_all(blocks: &mut Vec<Vec<u8>>, alloc: Global, largest: usize) -> Result<
     Ok(())
 }
 
-/// By how much budgets grow. Blocks of the C library are multiples of it, so each growth is refused
-/// at some budget.
+/// By how much budgets grow. Block sizes of the C library are multiples of it, so each allocation
+/// fails at some budget.
 pub const STEP: usize = 16;
 
-/// Holds all memory but one room, of which `limit` takes what it is not to leave. A contract sees
-/// how many blocks of the room are taken.
+/// Holds all memory except a reserve. `limit` allocates the reserve too, except a budget. Contracts
+/// see how many blocks of the reserve are allocated.
 #[derive(Drop)]
 pub struct LowMemory {
     blocks: Vec<Vec<u8>>,
@@ -73,15 +74,15 @@ impl Model for LowMemory {
 }
 
 impl LowMemory {
-    /// The room of 4 MiB is free until the first `limit`.
+    /// Allocates all memory except a reserve of 4 MiB, which is free until the first `limit`.
     ///
     /// # Errors
     ///
-    /// `AllocError` where there is not even memory to note what is held.
+    /// `AllocError` if the reserve or the lists of blocks cannot be allocated.
     ///
     /// # Cost
     ///
-    /// Up to 400,000 requests of each size; no page of them is written.
+    /// Up to 400,000 allocations of each size. Nothing is written to them.
     pub fn new(alloc: Global) -> Result<LowMemory, AllocError>
         ensures { IfOk result (λ memory. memory ≡ 0) }
     {
@@ -95,12 +96,12 @@ impl LowMemory {
         Ok(LowMemory { blocks, filler })
     }
 
-    /// Leaves one piece of so many bytes, of which each block that is taken has a head of 8, and
-    /// with 0 none: then each request is refused. What was taken stays taken.
+    /// Leaves one free piece of `budget` bytes. Each block allocated from it has a header of 8
+    /// bytes. With a budget of 0 every allocation fails. Blocks allocated before stay allocated.
     ///
     /// # Errors
     ///
-    /// `AllocError` where the room has not so many bytes left.
+    /// `AllocError` if too little of the reserve is left for the budget.
     pub fn limit(&mut self, alloc: Global, budget: usize) -> Result<(), AllocError>
         ensures { self.old ≤ self.new }
     {
@@ -114,7 +115,7 @@ impl LowMemory {
         Ok(())
     }
 
-    /// Gives the whole room back.
+    /// Frees the whole reserve.
     pub fn lift(&mut self)
         ensures { self.new ≡ 0 }
     {
@@ -122,7 +123,7 @@ impl LowMemory {
     }
 }
 
-/// At which budgets memory was refused, of those that grow by [`STEP`] from 0 on.
+/// The budgets at which an allocation failed, of budgets that grow by [`STEP`] from 0.
 #[derive(Clone, Copy, Debug)]
 pub struct Tally {
     blocks: usize,
@@ -130,13 +131,13 @@ pub struct Tally {
 }
 
 impl Tally {
-    /// No budget was tried yet.
+    /// No budget has been tried.
     pub const EMPTY: Tally = Tally {
         blocks: 0,
         spare: 0,
     };
 
-    /// Counts the next budget: whether memory was refused within it.
+    /// Counts the next budget. `refused` says whether an allocation failed at it.
     pub fn count(&mut self, refused: bool) {
         self.spare = self.spare.saturating_add(1);
         if refused {
@@ -145,13 +146,13 @@ impl Tally {
         }
     }
 
-    /// Whether so many budgets in a row sufficed that greater ones need not be tried.
+    /// Whether enough budgets in a row were sufficient that larger ones need not be tried.
     pub fn is_over(&self) -> bool {
         self.spare >= SPARE
     }
 
-    /// The least number of blocks of [`STEP`] bytes that sufficed, as all greater ones that were
-    /// tried.
+    /// The minimum number of blocks of [`STEP`] bytes that was sufficient, as were all larger
+    /// numbers that were tried.
     pub fn blocks(&self) -> usize {
         self.blocks
     }

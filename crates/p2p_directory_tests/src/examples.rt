@@ -1,4 +1,4 @@
-//! What the documents of the most used calls of a node point to as their examples.
+//! The examples that the documentation of the most used calls of a node links to.
 
 use crate::fixtures::{info, node, track};
 use bytes::Bytes;
@@ -10,28 +10,28 @@ use std::alloc::Global;
 use std::test::Fail;
 use std::time::Duration;
 
-// What to send back for a frame.
+// Returns the frame to send in reply to a frame, if any.
 fn answer(node: &mut Node<TestKey>, frame: Bytes, now: Duration) -> Option<Bytes> {
     match node.receive(frame, now) {
         Received::Reply(infos) => Some(infos),
-        // Close the connection: the peer doesn't keep to the protocol.
+        // Close the connection: the peer violates the protocol.
         Received::Codec(_) | Received::Malformed | Received::Invalid(_) => None,
-        // Nothing has changed: hand the frame in again later.
+        // Out of memory. Nothing has changed: pass the frame in again later.
         Received::Memory => None,
         Received::Data(_) | Received::Greeted | Received::Applied(_) => None,
     }
 }
 
-// Whether a peer that comes may come in.
+// Whether an inbound peer is accepted.
 fn admit(node: &mut Node<TestKey>, peer: TestKey, now: Duration, draw: Duration) -> bool {
     match node.step(Command::Listen { peer, now, draw }) {
         Reply::Listen(true) => true,
-        // It is refused, or want of memory was: nothing has changed.
+        // The peer is refused, or an allocation failed. Nothing has changed.
         _ => false,
     }
 }
 
-// The frame of a greeting by peer 1.
+// A greeting frame of peer 1.
 fn greeting(alloc: Global) -> Result<Bytes, Fail> {
     let mut bytes = [1].as_slice().to_vec(alloc)?;
     bytes.extend_from_slice(info(1, 5).encode(alloc)?.as_slice())?;
@@ -54,7 +54,7 @@ fn a_peer_is_admitted_and_answered(rt: HostRuntime) -> Result<(), Fail> {
     node.finish();
     assert!(rt; is_taken && is_in && is_out && greeted);
     assert_eq!(rt; status, Some(Status::Reserved));
-    // Nobody is connected, so no info is told.
+    // No peer is connected, so no info is returned.
     assert!(rt; told.is_some_and(|frame| frame.as_slice() == b"\x03\x00".as_slice()));
     Ok(())
 }

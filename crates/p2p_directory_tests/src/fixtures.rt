@@ -1,4 +1,4 @@
-//! The setting that tests share: keys as numbers, addresses at 1.2.3.4, infos signed in `rows`.
+//! What the tests share: keys from numbers, addresses at 1.2.3.4, infos signed in namespace `rows`.
 
 ghost use Rattle.std.specs.Prelude.{◌≡◌, ◌<◌, ◌^◌, IfOk};
 ghost use Rattle.std.specs.Int.NonZero.{non_zero_usize_get};
@@ -14,12 +14,12 @@ use std::alloc::{AllocError, Global};
 use std::num::NonZeroUsize;
 use std::time::Duration;
 
-/// The address 1.2.3.4 at a port.
+/// The address 1.2.3.4 with a port.
 pub fn ingress(port: u16) -> Ingress {
     Ingress::Socket(SocketAddr::new(IpAddr::V4([1, 2, 3, 4]), port))
 }
 
-/// The info of a key at port 8000 and the key, signed by the key.
+/// The info of a key at port 8000 plus the key, signed with the key.
 pub fn info(key: u16, timestamp: u64) -> Info<TestKey> {
     let public_key = TestKey(u64::from(key));
     let ingress = ingress(key.saturating_add(8000));
@@ -32,7 +32,7 @@ pub fn info(key: u16, timestamp: u64) -> Info<TestKey> {
     )
 }
 
-/// One retained set, one failed dial is too many.
+/// Retains one set, and requests an info again after one failed dial.
 pub fn config() -> Config
     ensures { non_zero_usize_get result.max_sets ≡ 1 }
 {
@@ -46,7 +46,7 @@ pub fn config() -> Config
     }
 }
 
-/// What a node of this key is made from, which takes 8 bits, 8 infos and messages of so many bytes.
+/// The setup of a node with this key. Its limits are 8 bits, 8 infos and this length of messages.
 pub fn setup(alloc: Global, key: u16, max_data_length: usize) -> Result<Setup<TestKey>, AllocError>
     ensures sets { IfOk result (λ setup. non_zero_usize_get setup.cfg.max_sets ≡ 1) }
     ensures bits { IfOk result (λ setup. setup.payload.max_bit_vec < 2 ^ 32) }
@@ -66,12 +66,12 @@ pub fn setup(alloc: Global, key: u16, max_data_length: usize) -> Result<Setup<Te
     })
 }
 
-/// Such a node.
+/// A node with this setup.
 pub fn node(alloc: Global, key: u16, max_data_length: usize) -> Result<Node<TestKey>, AllocError> {
     Node::new(alloc, setup(alloc, key, max_data_length)?)
 }
 
-/// A set of these primary peers at index 0.
+/// The command that tracks a set of these primary peers at index 0.
 pub fn track(alloc: Global, keys: &[u64]) -> Result<Command<TestKey>, AllocError> {
     let primary = OrderedSet::from_iter_dedup(alloc, keys.iter().map(|key| TestKey(*key)))?;
     let secondary = OrderedSet::from_iter_dedup(alloc, [].into_iter().map(TestKey))?;
@@ -81,7 +81,7 @@ pub fn track(alloc: Global, keys: &[u64]) -> Result<Command<TestKey>, AllocError
     })
 }
 
-/// `listen` of a peer at 100 s.
+/// The command `Listen` for a peer at 100 s.
 pub fn listen(key: u64) -> Command<TestKey> {
     Command::Listen {
         peer: TestKey(key),
@@ -90,7 +90,7 @@ pub fn listen(key: u64) -> Command<TestKey> {
     }
 }
 
-/// `connect` of a peer that came.
+/// The command `Connect` for an inbound peer.
 pub fn connect(key: u64) -> Command<TestKey> {
     Command::Connect {
         peer: TestKey(key),

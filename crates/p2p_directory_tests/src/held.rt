@@ -1,4 +1,4 @@
-//! What a run or a node leaves held.
+//! The reservations that a run or a node still holds.
 
 ghost use Rattle.p2p_directory.specs.Held.{held_of, AreHeld};
 
@@ -13,7 +13,7 @@ use std::process::Abort;
 use std::test::Fail;
 use std::time::Duration;
 
-// A run with bootstrappers, which comes to the replies that are looked at.
+// Runs the commands on a directory with these bootstrappers.
 fn run_from(
     alloc: Global,
     bootstrappers: Vec<(TestKey, Ingress)>,
@@ -22,7 +22,7 @@ fn run_from(
     run(alloc, bootstrappers, info(9, 0), config(), commands)
 }
 
-// Peers 1 to 3 are tracked, and 3 and 1 are listened for.
+// Commands that track peers 1 to 3, and then reserve 3 and 1 as inbound peers.
 fn listening(alloc: Global) -> Result<Vec<Command<TestKey>>, AllocError> {
     let mut commands = Vec::new(alloc);
     commands.push(track(alloc, &[1, 2, 3])?)?;
@@ -69,7 +69,8 @@ fn is_dialled_at<C: PublicKey>(metadata: &Metadata<C>, at: &Ingress) -> bool {
     }
 }
 
-// Releases the peer, where it is held; whether it was dialled at this address.
+// Releases the reservation of the peer, if it is held, and returns whether the peer was dialled at
+// this address.
 fn release_dialled<C: PublicKey>(
     directory: &mut Directory<C>,
     held: &mut Held<C>,
@@ -96,7 +97,7 @@ fn name(alloc: Global) -> Result<Ingress, Fail> {
     })
 }
 
-// A peer at a name, and one at two sockets.
+// One peer at a host name, and one at two sockets.
 fn with_a_name(alloc: Global) -> Result<Vec<(TestKey, Ingress)>, Fail> {
     let mut bootstrappers = Vec::new(alloc);
     bootstrappers.push((TestKey(1), name(alloc)?))?;
@@ -113,7 +114,7 @@ fn dial(key: u64) -> Command<TestKey> {
     }
 }
 
-// Both are dialled, and then it is known of 1 where else it is.
+// Commands that dial both peers, and then pass in an info of 1 with another address.
 fn dialling(alloc: Global) -> Result<Vec<Command<TestKey>>, AllocError> {
     let mut infos = Vec::new(alloc);
     infos.push(info(1, 1_000))?;

@@ -1,6 +1,7 @@
-//! Tests of runs, nodes and networks by those of their calls that no script and no export makes.
+//! Tests of runs, nodes and networks through those of their calls that no script and no export
+//! makes.
 //!
-//! They stand apart from the library so that it is proved once, and its must-fail edits wait for
+//! They are in a crate of their own, so that the library is proved once, and its mutants wait for
 //! no test.
 #![tactic(auto)]
 

@@ -1,4 +1,4 @@
-//! Networks, by what their commands are replied and by what is left of them.
+//! Networks: the replies to their commands, and the directories of replaced nodes.
 
 ghost use Rattle.std.specs.Prelude.{◌<◌, ◌-◌, ◌^◌, IfOk};
 ghost use Rattle.std.specs.Int.NonZero.{non_zero_usize_get};
@@ -26,7 +26,7 @@ fn exchange(asker: usize, replier: usize) -> NetworkCommand<TestKey> {
     }
 }
 
-// What nodes of these keys are made from.
+// The setups of nodes with these keys.
 fn setups(alloc: Global, keys: &[u16]) -> Result<Vec<Setup<TestKey>>, AllocError>
     ensures sets { IfOk result (λ setups.
         All (λ s. non_zero_usize_get s.cfg.max_sets < 2 ^ 64 - 1) setups.items) }
@@ -41,7 +41,7 @@ fn setups(alloc: Global, keys: &[u16]) -> Result<Vec<Setup<TestKey>>, AllocError
     Ok(setups)
 }
 
-// To nodes that there aren't, to a node by itself, and among both.
+// Commands for nodes that do not exist, for a node with itself, and for both nodes.
 fn commands(alloc: Global) -> Result<Vec<NetworkCommand<TestKey>>, AllocError> {
     let mut commands = Vec::new(alloc);
     commands.push(exchange(0, 1))?;
@@ -80,7 +80,8 @@ fn a_run_of_a_network_replies_to_each_command(rt: HostRuntime) -> Result<(), Fai
     Ok(())
 }
 
-// Of the old node peer 8 was reserved, and is released; there is no third node.
+// Asserts that replacing a node releases its reservation of peer 8, and that replacing a node that
+// does not exist returns `None`.
 fn is_replaced(
     rt: &impl Abort,
     alloc: Global,

@@ -1,4 +1,4 @@
-//! Messages as cuts of their frames, and an exchange of two nodes.
+//! Messages that share memory with their frames, and an exchange of two nodes.
 
 use crate::fixtures::{connect, info, listen, node, track};
 use bytes::Bytes;
@@ -22,7 +22,7 @@ fn long_frame(alloc: Global) -> Result<Bytes, Fail> {
     Ok(Bytes::from_vec(bytes)?)
 }
 
-// Whether the message has all its bytes, and shares them with who keeps the frame until it goes.
+// Whether the message has all its bytes, and shares memory with the kept frame until it is dropped.
 fn is_cut(received: Received, kept: &Bytes) -> bool {
     match received {
         Received::Data(data) => {
@@ -46,7 +46,7 @@ fn a_message_is_a_cut_of_its_frame(rt: HostRuntime) -> Result<(), Fail> {
     Ok(())
 }
 
-// The replier is connected with peer 1, and knows its info.
+// Commands after which the replier is connected to peer 1 and knows its info.
 fn commands_to_the_replier(alloc: Global) -> Result<Vec<Command<TestKey>>, AllocError> {
     let mut infos = Vec::new(alloc);
     infos.push(info(1, 1_000))?;
@@ -58,7 +58,7 @@ fn commands_to_the_replier(alloc: Global) -> Result<Vec<Command<TestKey>>, Alloc
     Ok(commands)
 }
 
-// Whether the only info that an exchange brings is that of peer 1.
+// Whether an exchange returns exactly one info, that of peer 1.
 fn brings_one(asker: &mut Node<TestKey>, replier: &Node<TestKey>) -> bool {
     match exchange(asker, replier, 0, hundred(), hundred()) {
         Exchanged::Applied(infos) => match infos.as_slice() {

@@ -8,7 +8,7 @@ use std::test::Fail;
 
 const ROUNDS: u64 = 2_500;
 
-// A set, then in each round four commands.
+// A set, then four commands in each round.
 fn commands(alloc: Global) -> Result<Vec<Command<TestKey>>, AllocError> {
     let mut commands = Vec::new(alloc);
     commands.push(track(alloc, &[1])?)?;

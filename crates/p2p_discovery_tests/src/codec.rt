@@ -1,4 +1,4 @@
-//! Codecs by their bytes.
+//! Codecs: the bytes that they read and write.
 
 ghost use Rattle.std.specs.Prelude.{◌≡◌, ◌<◌, ◌^◌};
 
@@ -15,10 +15,11 @@ use std::fmt::Debug;
 use std::process::Abort;
 use std::test::Fail;
 
-/// Bytes that stand behind a value that is read.
+/// Bytes that follow a value that is read.
 const REST: &[u8] = b"\xff\x00";
 
-/// The value is spelled so, and read again with and without bytes behind it.
+/// Asserts that the value has this encoding, and that it is read again with and without bytes after
+/// it.
 pub(crate) fn is_spelled<T: Write + Read<Cfg = ()> + PartialEq + Debug>(
     rt: &impl Abort,
     alloc: Global,
@@ -34,7 +35,7 @@ pub(crate) fn is_spelled<T: Write + Read<Cfg = ()> + PartialEq + Debug>(
     is_read_before_others(rt, alloc, value, spelling)
 }
 
-/// The value is read again with bytes behind it.
+/// Asserts that the value is read again with bytes after it, which `decode` rejects.
 fn is_read_before_others<T: Read<Cfg = ()> + PartialEq + Debug>(
     rt: &impl Abort,
     alloc: Global,
@@ -54,7 +55,8 @@ fn is_read_before_others<T: Read<Cfg = ()> + PartialEq + Debug>(
     Ok(())
 }
 
-/// The bytes are refused with this fault, by `decode` and by `read_cfg`, which leaves its buffer.
+/// Asserts that `decode` and `read_cfg` reject the bytes with this error, and that `read_cfg`
+/// leaves its buffer unchanged.
 pub(crate) fn is_refused<T: Read<Cfg = ()>>(
     rt: &impl Abort,
     alloc: Global,
@@ -185,8 +187,9 @@ fn spells_test_keys(rt: HostRuntime) -> Result<(), Fail> {
     Ok(())
 }
 
-/// 1, then `1 * 257 + 97 + 1` for `a`, then that times 257 and 98 and 1 for `b`; the greatest
-/// number with one byte 255 is `257 * 2^64 - 257 + 256`, which is `2^64 - 1` without its front.
+/// For `ab`, key 1 gives `1 * 257 + 97 + 1` after `a`, and after `b` that times 257, plus 98 and 1.
+/// Key `u64::MAX` gives `257 * 2^64 - 257 + 256` for one byte 255, which is `2^64 - 1` modulo
+/// `2^64`.
 #[test]
 fn signs_by_the_bytes(rt: HostRuntime) {
     assert_eq!(rt; TestKey(0).sign(b"", b""), TestSignature(0));

@@ -1,4 +1,4 @@
-//! Data frames by their bytes.
+//! Data frames: their encoding and their buffers.
 
 ghost use Rattle.std.specs.Prelude.{◌≡◌, ◌<◌, ◌^◌, length, IfOk};
 ghost use Rattle.std.specs.List.{concat};
@@ -27,7 +27,7 @@ fn hello() -> Data
     }
 }
 
-/// So many times these buffers, which are not too long for a frame together.
+/// Repeats these buffers. Fails if they are too long for a frame together.
 pub(crate) fn repeated(
     alloc: Global,
     parts: &[&'static [u8]],
@@ -127,7 +127,7 @@ fn refuses_data(rt: HostRuntime) -> Result<(), Fail> {
     Ok(())
 }
 
-/// A message that was read is a part of the buffer's memory, which therefore has two owners.
+/// A message that was read shares the memory of its buffer, which therefore has two owners.
 #[test]
 fn cuts_messages_out_of_their_buffer(rt: HostRuntime) -> Result<(), Fail> {
     let mut longer = HELLO.to_vec(rt.alloc())?;
@@ -173,7 +173,7 @@ fn leaves_room_for_the_overhead(rt: HostRuntime) {
     assert_eq!(rt; max_size::<Wide>(), 1_048_560);
 }
 
-/// The frame of a message has these buffers, on this channel.
+/// Asserts that the frame of a message on this channel has these buffers.
 fn assert_framed(
     rt: &impl Abort,
     alloc: Global,
@@ -210,7 +210,8 @@ fn puts_a_header_before_the_buffers(rt: HostRuntime) -> Result<(), Fail> {
 
 static LONG: [u8; 1_048_576] = [0; 1_048_576];
 
-/// The bytes in the buffers are neither read nor copied: this takes no longer than with short ones.
+/// The bytes in the buffers are neither read nor copied, so this takes no longer than with short
+/// ones.
 #[test]
 fn puts_a_header_before_many_long_buffers(rt: HostRuntime) -> Result<(), Fail> {
     let alloc = rt.alloc();

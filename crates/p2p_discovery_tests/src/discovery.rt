@@ -1,4 +1,4 @@
-//! Payloads, infos, and the judge of infos.
+//! Payloads, infos, and the verifier of infos.
 
 ghost use Rattle.std.specs.Prelude.{◌≡◌, ◌<◌};
 
@@ -25,7 +25,7 @@ fn socket(port: u16) -> Ingress {
     Ingress::Socket(SocketAddr::new(IpAddr::V4([1, 2, 3, 4]), port))
 }
 
-/// The info of a key at 1.2.3.4, port 8000 and the key, signed by the key in a namespace.
+/// The info of a key at 1.2.3.4 and port 8000 plus the key, signed with the key in a namespace.
 fn info_in(namespace: &[u8], key: u16, timestamp: u64) -> Info<TestKey> {
     let public_key = TestKey(key as u64);
     Info::sign(
@@ -104,7 +104,7 @@ fn reads_lists_of_infos_under_a_limit(rt: HostRuntime) -> Result<(), Fail> {
     Ok(())
 }
 
-/// Bytes from 128 on spell neither a key nor a signature.
+/// Bytes from 128 on encode neither a key nor a signature.
 static SPELLED_KEYS: [(&'static [u8], Option<CodecError>); 4] = [
     (b"\0\x04\x01\x02\x03\x04\x1f\x41\0\x7f\0", None),
     (
@@ -137,7 +137,7 @@ fn refuses_bytes_that_spell_no_key(rt: HostRuntime) -> Result<(), Fail> {
     Ok(())
 }
 
-/// A key of 32 bytes with a signature of 64, as a user brings them.
+/// A key of 32 bytes with a signature of 64, as a user provides them.
 #[test]
 fn carries_keys_that_are_arrays(rt: HostRuntime) -> Result<(), Fail> {
     let alloc = rt.alloc();
@@ -218,7 +218,7 @@ fn signs_the_ingress_and_the_timestamp(rt: HostRuntime) -> Result<(), Fail> {
     signs_a_long_name(&rt, alloc)
 }
 
-/// How an info is judged at the epoch, alone and as a list of one.
+/// Asserts the result of verifying an info at the epoch, alone and as a list of one.
 fn assert_judged(
     rt: &impl Abort,
     verifier: &InfoVerifier<TestKey>,
@@ -230,7 +230,7 @@ fn assert_judged(
     assert_eq!(rt; verifier.validate(Duration::ZERO, &one), want);
 }
 
-/// The greatest timestamp is in time at the last moment alone.
+/// Asserts that the timestamp `u64::MAX` is accepted at `Duration::MAX`, and not at the epoch.
 fn judges_the_greatest_timestamp(rt: &impl Abort, verifier: &InfoVerifier<TestKey>) {
     let last = info_in(ROWS, 1, u64::MAX);
     assert_eq!(rt; verifier.validate_info(Duration::MAX, &last), Ok(()));
@@ -240,7 +240,7 @@ fn judges_the_greatest_timestamp(rt: &impl Abort, verifier: &InfoVerifier<TestKe
     );
 }
 
-/// One info at most, and then none.
+/// Lists for a verifier that accepts one info at most, and for one that accepts none.
 fn judges_lists(rt: &impl Abort, verifier: &InfoVerifier<TestKey>, none: &InfoVerifier<TestKey>) {
     let two = [info_in(ROWS, 1, 0), info_in(ROWS, 2, 0)];
     assert_eq!(rt;
@@ -342,7 +342,8 @@ const LIMITS: PayloadConfig = PayloadConfig {
     max_data_length: 5,
 };
 
-/// What a payload holds: the place of its form, its channel or index, and how much it counts.
+/// The position of a payload's variant, its channel, timestamp or index, and how many bytes, infos
+/// or bits it holds.
 fn parts(payload: &Payload<TestKey>) -> (usize, u64, u64) {
     match payload {
         Payload::Data(data) => (0, data.channel, data.message.len() as u64),

@@ -1,4 +1,4 @@
-//! Every byte of every frame: cut off, changed, put in and taken out.
+//! Mutated frames: each truncation, and each change, insertion and deletion of one byte.
 
 ghost use Rattle.p2p_discovery.specs.Payload.{CanSpell};
 
@@ -10,15 +10,15 @@ use std::alloc::{AllocError, Global};
 use std::process::Abort;
 use std::test::Fail;
 
-// They admit each of the frames.
+// Each of the frames is within these limits.
 const LIMITS: PayloadConfig = PayloadConfig {
     max_bit_vec: 64,
     max_peers: 8,
     max_data_length: 32,
 };
 
-// Payloads of each kind, among them what two nodes say to each other, with infos at addresses of
-// both versions and at a name.
+// Payloads of each kind, among them frames of an exchange of two nodes. Their infos have IP
+// addresses of both versions and a host name.
 static FRAMES: [&'static [u8]; 18] = [
     b"\0\x01\x05hello",
     b"\0\xff\xff\xff\xff\xff\xff\xff\xff\xff\x01\0",
@@ -40,7 +40,7 @@ static FRAMES: [&'static [u8]; 18] = [
     b"\x03\x02\x00\x04\x01\x02\x03\x04\x1f\x42\xe8\x07\x00\x00\x00\x00\x00\x00\x00\x02\xe5\x5b\xee\x71\xd8\xdc\x14\x3b\x00\x04\x01\x02\x03\x04\x1f\x43\xe8\x07\x00\x00\x00\x00\x00\x00\x00\x03\x55\x1c\xc9\xa9\x85\xb6\x30\x3d",
 ];
 
-// What stands before, a byte or none, and what stands behind.
+// Joins a prefix, a byte if one is given, and a suffix.
 fn joined(
     alloc: Global,
     front: &[u8],
@@ -55,7 +55,7 @@ fn joined(
     Ok(bytes)
 }
 
-// Whether a payload is spelled by these bytes alone.
+// Whether these bytes are the encoding of the payload.
 fn is_spelled_by(
     alloc: Global,
     payload: &Payload<TestKey>,
@@ -66,8 +66,8 @@ fn is_spelled_by(
     Ok(payload.encode(alloc)?.as_slice() == bytes)
 }
 
-// Reads the bytes: a value is spelled by what was read, and a refusal is named and leaves them.
-// Whether all of them were read.
+// Reads the bytes. Asserts that a value encodes to the bytes that were read, and that an error is
+// not `Memory` and leaves the buffer unchanged. Returns whether all bytes were read.
 fn assert_judged(rt: &impl Abort, alloc: Global, bytes: &[u8]) -> Result<bool, Fail> {
     let mut buf = Bytes::copy_from_slice(alloc, bytes)?;
     match Payload::<TestKey>::read_cfg(alloc, &mut buf, &LIMITS) {
@@ -86,7 +86,7 @@ fn assert_judged(rt: &impl Abort, alloc: Global, bytes: &[u8]) -> Result<bool, F
     }
 }
 
-// `decode_cfg` succeeds exactly where all bytes were read.
+// Asserts that `decode_cfg` succeeds exactly if all bytes were read.
 fn assert_decoded(rt: &impl Abort, alloc: Global, bytes: Vec<u8>) -> Result<(), Fail> {
     let whole = assert_judged(rt, alloc, &bytes)?;
     let frame = Bytes::from_vec(bytes)?;
@@ -95,7 +95,7 @@ fn assert_decoded(rt: &impl Abort, alloc: Global, bytes: Vec<u8>) -> Result<(), 
     Ok(())
 }
 
-// Each value at this place: put in there, and in place of the byte that stands there.
+// Each value at this position: inserted, and in place of the next byte.
 fn assert_each_value(
     rt: &impl Abort,
     alloc: Global,
@@ -167,7 +167,7 @@ const NINE: PayloadConfig = PayloadConfig {
     max_data_length: 8,
 };
 
-// Counts and lengths that nothing stands behind, and a byte too many.
+// Counts and lengths that no data follows, some of them invalid, and bits with wrong padding.
 static HOSTILE: [(&'static [u8], PayloadConfig, CodecError); 9] = [
     (
         b"\x03\xff\xff\xff\xff\x0f",
@@ -212,7 +212,7 @@ static HOSTILE: [(&'static [u8], PayloadConfig, CodecError); 9] = [
     ),
 ];
 
-// Each is refused so with ample memory, and where every request is refused.
+// Each is rejected with its error if memory is ample, and if every allocation fails.
 #[test]
 fn hostile_counts_ask_for_no_memory(rt: HostRuntime) -> Result<(), Fail> {
     let alloc = rt.alloc();

@@ -1,6 +1,6 @@
-//! Tests of codecs, addresses, sets, infos and sizes by their public calls.
+//! Tests of codecs, addresses, sets, infos and sizes through their public calls.
 //!
-//! They stand apart from the library so that it is proved once, and its must-fail edits wait for
+//! They are in a crate of their own, so that the library is proved once, and its mutants wait for
 //! no test.
 #![tactic(auto)]
 

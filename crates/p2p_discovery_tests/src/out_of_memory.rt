@@ -1,4 +1,4 @@
-//! What each call leaves where memory is refused.
+//! What each call leaves if an allocation fails.
 
 use bytes::Bytes;
 use low_memory::{LowMemory, STEP};
@@ -15,7 +15,7 @@ pub(crate) const STEPS: usize = 256;
 
 const NAME: &str = "a-name-of-a-machine-that-takes-memory.and-not-a-little.example.com";
 
-/// What was done at each budget: how often memory was refused, and how often it sufficed.
+/// The results at all budgets: how often an allocation failed, and how often memory was sufficient.
 #[derive(Clone, Copy)]
 pub(crate) struct Tally {
     pub(crate) refused: usize,
@@ -36,15 +36,15 @@ impl Tally {
         }
     }
 
-    /// Memory was refused at some budget, and sufficed at another.
+    /// Asserts that an allocation failed at some budget, and that another budget was sufficient.
     pub(crate) fn is_mixed(&self, rt: &impl Abort) {
         assert!(rt; self.refused > 0, "nothing was refused");
         assert!(rt; self.done > 0, "each call was refused");
     }
 }
 
-/// Whether memory was refused, and the buffer is as before; else what was read is the value, and the
-/// buffer is empty.
+/// Whether reading ran out of memory. If so, asserts that the buffer is unchanged. Otherwise
+/// asserts that the value was read and the buffer is empty.
 fn is_unread<T: PartialEq + Drop>(
     rt: &impl Abort,
     value: &T,
@@ -67,7 +67,7 @@ fn is_unread<T: PartialEq + Drop>(
     }
 }
 
-/// Whether memory was refused, and else the value was decoded.
+/// Whether decoding ran out of memory. Otherwise asserts that it returned the value.
 fn is_undecoded<T: PartialEq + Drop>(
     rt: &impl Abort,
     value: &T,
@@ -86,7 +86,7 @@ fn is_undecoded<T: PartialEq + Drop>(
     }
 }
 
-/// Whether memory was refused, and else the frame was encoded.
+/// Whether encoding ran out of memory. Otherwise asserts that it returned the frame.
 fn is_unencoded(
     rt: &impl Abort,
     frame: &[u8],
@@ -102,8 +102,9 @@ fn is_unencoded(
     }
 }
 
-/// Reads a frame at a budget: the answer is the same or `Memory`, and then the buffer is too.
-/// Whether memory was refused to reading, to decoding, and to encoding.
+/// Encodes, reads and decodes a value at a budget. Asserts that each result is right or out of
+/// memory, and that reading then leaves its buffer unchanged. Returns whether reading, decoding and
+/// encoding ran out of memory.
 fn reads_within<T: Read<Cfg = ()> + Write + PartialEq>(
     rt: &impl Abort,
     alloc: Global,
@@ -117,7 +118,7 @@ fn reads_within<T: Read<Cfg = ()> + Write + PartialEq>(
     let mut buf = Bytes::copy_from_slice(alloc, frame)?;
     let whole = Bytes::copy_from_slice(alloc, frame)?;
     memory.limit(alloc, step.saturating_mul(STEP))?;
-    // First, for decoding gives a buffer back of just the size that encoding asks for.
+    // This is first, because decoding frees a buffer of just the size that encoding allocates.
     let encoded = value.encode(alloc);
     let read = T::read_cfg(alloc, &mut buf, &());
     let decoded = T::decode(alloc, whole);
@@ -127,7 +128,8 @@ fn reads_within<T: Read<Cfg = ()> + Write + PartialEq>(
     Ok((unread, undecoded, is_unencoded(rt, frame, encoded, step)))
 }
 
-/// .. at each budget.
+/// Calls `reads_within` at each budget. Asserts that reading, decoding and encoding each run out of
+/// memory at some budget and succeed at another.
 fn reads_at_each_budget<T: Read<Cfg = ()> + Write + PartialEq>(
     rt: &impl Abort,
     alloc: Global,
@@ -174,7 +176,7 @@ fn codecs_of_addresses_are_refused(rt: HostRuntime) -> Result<(), Fail> {
     reads_at_each_budget(&rt, alloc, &mut memory, &named_address(&host)?)
 }
 
-/// Whether memory was refused, and else the host was named.
+/// Whether making the host name ran out of memory. Otherwise asserts that it is `host`.
 fn is_unnamed(
     rt: &impl Abort,
     host: &Hostname,
@@ -193,7 +195,7 @@ fn is_unnamed(
     }
 }
 
-/// The copies that were made are those of the address and of its ingress.
+/// Asserts that the copies that were made equal the address and its ingress.
 fn assert_copies(
     rt: &impl Abort,
     address: &Address,
@@ -210,7 +212,8 @@ fn assert_copies(
     Ok(())
 }
 
-/// Names and copies at a budget; whether memory was refused to the name.
+/// Makes host names and copies at a budget. Returns whether making the valid name ran out of
+/// memory.
 fn names_within(
     rt: &impl Abort,
     alloc: Global,
@@ -245,7 +248,7 @@ fn names_and_copies_are_refused(rt: HostRuntime) -> Result<(), Fail> {
     Ok(())
 }
 
-/// What holds no text takes no memory.
+/// Decoding an ingress without a host name allocates nothing.
 #[test]
 fn reads_sockets_with_no_memory(rt: HostRuntime) -> Result<(), Fail> {
     let alloc = rt.alloc();
@@ -261,7 +264,8 @@ fn reads_sockets_with_no_memory(rt: HostRuntime) -> Result<(), Fail> {
     Ok(())
 }
 
-/// The message was read and the next byte is left. Where memory was refused, all is.
+/// Asserts that the message was read and the next byte is left. If an allocation failed, all bytes
+/// are left.
 fn assert_message(
     rt: &impl Abort,
     read: Result<Data, CodecError>,
@@ -281,7 +285,7 @@ fn assert_message(
     }
 }
 
-/// Reads and spells messages at a budget; whether memory was refused to spelling.
+/// Reads and encodes messages at a budget. Returns whether encoding ran out of memory.
 fn messages_within(
     rt: &impl Abort,
     alloc: Global,
@@ -321,7 +325,8 @@ fn messages_are_refused(rt: HostRuntime) -> Result<(), Fail> {
     Ok(())
 }
 
-/// Signing and judging take no memory, and no room is asked for infos that can't be there.
+/// Signing and verifying allocate nothing, and nothing is allocated for infos that the bytes cannot
+/// hold.
 #[test]
 fn judges_with_no_memory(rt: HostRuntime) -> Result<(), Fail> {
     let alloc = rt.alloc();

@@ -1,4 +1,4 @@
-//! Sets of peers in order.
+//! Ordered sets of peers.
 
 use crate::out_of_memory::{STEPS, Tally};
 use low_memory::{LowMemory, STEP};

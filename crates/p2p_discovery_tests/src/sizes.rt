@@ -1,4 +1,4 @@
-//! No size alone makes a call want memory, and no room is asked for more than bytes can hold.
+//! No size alone makes a call run out of memory, and no more is allocated than the bytes can hold.
 
 use bytes::Bytes;
 use low_memory::LowMemory;
@@ -27,7 +27,8 @@ fn no_number_of_bits_wants_memory(rt: HostRuntime) -> Result<(), Fail> {
     Ok(())
 }
 
-// A list of the greatest count, and bytes for less than one info. Room for that count is not there.
+// A list with the count `u32::MAX`, and bytes for less than one info. There is no memory for that
+// count.
 static SHORT_LIST: &[u8] =
     b"\xff\xff\xff\xff\x0f\0\x04\x01\x02\x03\x04\x1f\x41\xe8\x07\0\0\0\0\0\0\0\x01\0\0\0\0";
 

@@ -1,4 +1,4 @@
-//! Addresses by their bytes, texts and order.
+//! Addresses: their encoding, texts and order.
 
 use crate::codec::{is_refused, is_spelled};
 use bytes::Bytes;
@@ -21,7 +21,7 @@ fn dns(alloc: Global, host: &str, port: u16) -> Result<Ingress, CodecError> {
     })
 }
 
-/// Labels of so many bytes each, joined by dots.
+/// Labels of these lengths, joined by dots.
 fn labels(alloc: Global, lengths: &[usize]) -> Result<String, Fail> {
     let mut text = String::new(alloc);
     for (i, length) in lengths.iter().enumerate() {
@@ -257,7 +257,7 @@ fn gives_the_parts_of_the_asymmetric(
     Ok(())
 }
 
-/// A name before another egress.
+/// A host name as ingress, with another address as egress.
 fn asymmetric(alloc: Global) -> Result<Address, CodecError> {
     Ok(Address::Asymmetric {
         ingress: dns(alloc, "example.com", 443)?,
@@ -300,9 +300,9 @@ fn judges_what_may_be_dialled(rt: HostRuntime) -> Result<(), Fail> {
     Ok(())
 }
 
-/// Beside and at both ends of each range.
-// The ranges that are not global, each by its first and its last address as a number. No two of
-// those of version 4 touch, and of version 6 the first two are written as one.
+// The ranges that are not global, each as the numbers of its first and its last address. No two
+// ranges of version 4 touch. In version 6 the first two are written as one. Addresses next to each
+// range and at both its ends are tested.
 const RANGES_4: [(u32, u32); 13] = [
     (0, 0x00ff_ffff),
     (0x0a00_0000, 0x0aff_ffff),

@@ -1,4 +1,4 @@
-//! What the documents of the most used calls point to as their examples.
+//! The examples that the documentation of the most used calls links to.
 
 use crate::fixtures::{directory_from, tracked};
 use p2p_discovery::codec::TestKey;
@@ -8,7 +8,7 @@ use std::alloc::AllocError;
 use std::test::Fail;
 use std::time::Duration;
 
-// Makes these the peers of the latest set, and answers how many connections had to end.
+// Makes these the peers of the latest set, and returns how many connections must be closed.
 fn track_set(
     directory: &mut Directory<TestKey>,
     index: u64,
@@ -17,12 +17,12 @@ fn track_set(
     match directory.track(index, peers)? {
         // Close the connection of each: its reservation is released then.
         Some(torn_down) => Ok(torn_down.len()),
-        // The index is not above that of the latest set.
+        // The index is not greater than that of the latest set.
         None => Ok(0),
     }
 }
 
-// Takes a connection of a peer that comes, where it may come.
+// Accepts a connection of an inbound peer, if it may be accepted.
 fn accept(
     directory: &mut Directory<TestKey>,
     peer: &TestKey,
@@ -32,7 +32,7 @@ fn accept(
     match directory.listen(peer, now, draw)? {
         Some(reservation) => {
             directory.connect(reservation.metadata().public_key(), false);
-            // .. the connection, up to its end ..
+            // .. use the connection until it is closed ..
             directory.release(reservation);
             Ok(true)
         }
@@ -40,7 +40,7 @@ fn accept(
     }
 }
 
-// Dials a peer, where it may be dialled. The dial fails where its port is 0.
+// Dials a peer, if it may be dialled. The dial fails if the port is 0.
 fn dial(
     directory: &mut Directory<TestKey>,
     peer: &TestKey,

@@ -1,4 +1,4 @@
-//! The setting that tests share: keys as numbers, addresses at 1.2.3.4, own node 9.
+//! What the tests share: keys from numbers, addresses at 1.2.3.4, and 9 as the local key.
 
 use p2p_discovery::codec::{TestKey, TestSignature};
 use p2p_discovery::discovery::Info;
@@ -9,12 +9,12 @@ use std::alloc::{AllocError, Global};
 use std::num::NonZeroUsize;
 use std::time::Duration;
 
-/// The address 1.2.3.4 at a port.
+/// The address 1.2.3.4 with a port.
 pub fn ingress(port: u16) -> Ingress {
     Ingress::Socket(SocketAddr::new(IpAddr::V4([1, 2, 3, 4]), port))
 }
 
-/// The info of a peer at a port of 1.2.3.4.
+/// The info of a peer at 1.2.3.4 with a port.
 pub fn info(key: u64, port: u16, timestamp: u64) -> Info<TestKey> {
     Info {
         ingress: ingress(port),
@@ -24,7 +24,7 @@ pub fn info(key: u64, port: u16, timestamp: u64) -> Info<TestKey> {
     }
 }
 
-/// A peer set of primary peers alone.
+/// A peer set with primary peers only.
 pub fn tracked(alloc: Global, numbers: &[u64]) -> Result<TrackedPeers<TestKey>, AllocError> {
     let primary = OrderedSet::from_iter_dedup(
         alloc,
@@ -34,8 +34,8 @@ pub fn tracked(alloc: Global, numbers: &[u64]) -> Result<TrackedPeers<TestKey>, 
     Ok(TrackedPeers::new(primary, secondary))
 }
 
-/// A directory that retains one set, where one failed dial is too many, with bootstrappers of keys
-/// and ports.
+/// A directory that retains one set and requests an info again after one failed dial. Its
+/// bootstrappers are given as keys and ports.
 pub fn directory_from(
     alloc: Global,
     peers: &[(u64, u16)],

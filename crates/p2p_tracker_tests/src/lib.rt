@@ -1,6 +1,6 @@
-//! Tests of records by each of their calls, and of directories by what no script can say.
+//! Tests of each call of a record, and of what no script can express about directories.
 //!
-//! They stand apart from the library so that it is proved once, and its must-fail edits wait for
+//! They are in a crate of their own, so that the library is proved once, and its mutants wait for
 //! no test.
 #![tactic(auto)]
 

@@ -1,4 +1,4 @@
-//! Reservations as those have them who drive a directory.
+//! Reservations as callers of a directory use them.
 
 use crate::fixtures::{directory_from, ingress, tracked};
 use p2p_discovery::codec::TestKey;
@@ -8,7 +8,7 @@ use p2p_tracker::record::Status;
 use std::test::Fail;
 use std::time::Duration;
 
-// What a caller writes first: it needs no proof of its own.
+// The first code that a caller writes. It needs no proof of its own.
 #[test]
 fn a_reservation_is_kept(rt: HostRuntime) -> Result<(), Fail> {
     let alloc = rt.alloc();
@@ -28,7 +28,7 @@ fn a_reservation_is_kept(rt: HostRuntime) -> Result<(), Fail> {
     Ok(())
 }
 
-// The peer of the reservation, and where it is dialled.
+// Whether the reservation is for this peer, dialled at this address.
 fn is_dialled_at(metadata: &Metadata<TestKey>, key: u64, at: &Ingress) -> bool {
     let dialled = match metadata {
         Metadata::Dialer(peer, ingress) => *peer == TestKey(key) && *ingress == *at,

@@ -1,7 +1,7 @@
-//! What a user brings: a key of 32 bytes and a signature of 64, as newtypes over arrays.
+//! What a user provides: a key of 32 bytes and a signature of 64, as newtypes over arrays.
 //!
-//! The laws are those of `specs/ArraysLaws`. The predicate is a toy: a signature is right where it
-//! begins with the key. A real one calls the user's signature scheme in its place.
+//! The laws are those of `specs/ArraysLaws`. The predicate is a toy: a signature is valid if it
+//! begins with the key. A real one calls the user's signature scheme instead.
 
 ghost use Rattle.std.specs.Prelude.{◌==◌, take, refl, Some};
 ghost use Rattle.std.proofs.Common.{lit≤};
@@ -12,7 +12,7 @@ ghost use Rattle.p2p_discovery.specs.Fields.{IsSized};
 
 use p2p_discovery::codec::{FixedBytes, PublicKey, read_array, write_array};
 
-/// A key of 32 bytes, ordered by them.
+/// A key of 32 bytes, ordered by its bytes.
 #[derive(Clone, Copy, Debug, PartialEq, Eq, PartialOrd, Ord)]
 pub(crate) struct ArrayKey(pub(crate) [u8; 32]);
 

@@ -1,4 +1,4 @@
-//! A key and a signature of one byte each, which is below 128: other bytes spell none.
+//! A key and a signature of one byte each, below 128. Other bytes are not valid encodings.
 
 ghost use Rattle.std.specs.Prelude.{◌≡◌, ◌<◌, ◌==◌, [], ◌∷◌, true};
 ghost use Rattle.std.proofs.Common.{lit≤};
@@ -10,7 +10,7 @@ ghost use Rattle.p2p_discovery.specs.ArraysLaws.{fixed_below};
 use p2p_discovery::codec::{FixedBytes, PublicKey};
 use std::marker::Model;
 
-/// A number below 128, as a key and as a signature. A contract sees the number.
+/// A number below 128, as a key and as a signature. Contracts see the number.
 #[derive(Clone, Copy, Debug, PartialEq, Eq, PartialOrd, Ord)]
 pub(crate) struct Small {
     number: u8,

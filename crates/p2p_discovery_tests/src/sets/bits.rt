@@ -1,4 +1,4 @@
-//! Maps of bits, and sets of peers with a bit for each.
+//! Bitmaps, and sets of peers with a bit for each.
 
 use crate::out_of_memory::{STEPS, Tally};
 use low_memory::{LowMemory, STEP};
