@@ -190,7 +190,8 @@ pub struct Directory {
     // Buffers for the arguments and the results of calls.
     input: RefCell<Vec<u8>>,
     output: RefCell<Room>,
-    // The buffer for the host name of the next dial.
+    // The buffers for the address of the next dial: its encoding, and its host name.
+    address: [u8; 1 + Ingress::MAX_ENCODE_SIZE],
     name: String,
 }
 
@@ -286,6 +287,7 @@ impl Directory {
             namespace: limits.namespace,
             input: RefCell::new(Vec::new()),
             output: RefCell::new(output),
+            address: [0; 1 + Ingress::MAX_ENCODE_SIZE],
             name: String::new(),
         })
     }
@@ -392,9 +394,10 @@ impl Directory {
 
     // The address of a granted dial. It doesn't allocate, since `name` has the capacity for the
     // longest.
+    #[inline]
     fn dialled(&mut self, peer: &Key) -> Ingress {
-        let mut out = [0; 1 + Ingress::MAX_ENCODE_SIZE];
-        let length = certain(self.held.session().reservation(&peer.0, &mut out));
+        let out = &mut self.address;
+        let length = certain(self.held.session().reservation(&peer.0, out));
         let mut reader = Reader::new(&out[..length as usize]);
         match reader.byte().expect(OWN) {
             1 => Ingress::read_into(&mut self.name, &mut reader).expect(OWN),

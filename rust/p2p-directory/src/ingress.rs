@@ -371,6 +371,7 @@ impl Ingress {
 
     /// Decodes an ingress, and takes this string for its name if it has one. It doesn't allocate if
     /// the string has the capacity.
+    #[inline]
     pub(crate) fn read_into(
         name: &mut String,
         reader: &mut Reader<'_>,
@@ -469,6 +470,7 @@ impl fmt::Display for Ingress {
     }
 }
 
+#[inline]
 fn read_socket(reader: &mut Reader<'_>) -> Result<SocketAddr, CodecError> {
     let address = match reader.byte()? {
         VERSION_4 => IpAddr::from(reader.array::<4>()?),
