@@ -93,7 +93,7 @@ pub enum Received {
 /// # let mut node = Node::new(&testing::setup(9)).unwrap();
 /// let refused = node.receive(&[], Moment::EPOCH, testing::verify).accepted().unwrap_err();
 /// assert_eq!(refused, RefusedError::Codec(CodecError::EndOfBuffer));
-/// assert_eq!(refused.to_string(), "the frame is refused: the bytes end inside a value");
+/// assert_eq!(refused.to_string(), "the frame encodes no payload");
 /// ```
 #[derive(Clone, Copy, Debug, PartialEq, Eq, Hash)]
 #[non_exhaustive]
@@ -145,15 +145,24 @@ impl Received {
 impl fmt::Display for RefusedError {
     fn fmt(&self, f: &mut fmt::Formatter<'_>) -> fmt::Result {
         match self {
-            RefusedError::Codec(fault) => write!(f, "the frame is refused: {fault}"),
+            RefusedError::Codec(_) => f.write_str("the frame encodes no payload"),
             RefusedError::Malformed => f.write_str("the frame has another number of bits"),
-            RefusedError::Invalid(error) => write!(f, "an info is refused: {error}"),
-            RefusedError::OutOfMemory => OutOfMemory.fmt(f),
+            RefusedError::Invalid(_) => f.write_str("the infos of the frame are invalid"),
+            RefusedError::OutOfMemory => f.write_str("the frame could not be processed"),
         }
     }
 }
 
-impl error::Error for RefusedError {}
+impl error::Error for RefusedError {
+    fn source(&self) -> Option<&(dyn error::Error + 'static)> {
+        match self {
+            RefusedError::Codec(fault) => Some(fault),
+            RefusedError::Malformed => None,
+            RefusedError::Invalid(error) => Some(error),
+            RefusedError::OutOfMemory => Some(&OutOfMemory),
+        }
+    }
+}
 
 /// A directory that decodes frames and replies to them.
 ///

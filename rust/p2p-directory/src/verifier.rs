@@ -47,7 +47,7 @@ pub struct InfoVerifier {
 ///
 /// ```
 /// # use p2p_directory::{Error, ValidateError};
-/// assert_eq!(ValidateError::Invalid(Error::ReceivedSelf).to_string(), "received self");
+/// assert_eq!(ValidateError::Invalid(Error::ReceivedSelf).to_string(), "the infos are invalid");
 /// ```
 #[derive(Clone, Copy, Debug, PartialEq, Eq, Hash)]
 #[non_exhaustive]
@@ -215,13 +215,20 @@ impl InfoVerifier {
 impl fmt::Display for ValidateError {
     fn fmt(&self, f: &mut fmt::Formatter<'_>) -> fmt::Result {
         match self {
-            ValidateError::OutOfMemory => OutOfMemory.fmt(f),
-            ValidateError::Invalid(error) => error.fmt(f),
+            ValidateError::OutOfMemory => f.write_str("the infos could not be validated"),
+            ValidateError::Invalid(_) => f.write_str("the infos are invalid"),
         }
     }
 }
 
-impl error::Error for ValidateError {}
+impl error::Error for ValidateError {
+    fn source(&self) -> Option<&(dyn error::Error + 'static)> {
+        match self {
+            ValidateError::OutOfMemory => Some(&OutOfMemory),
+            ValidateError::Invalid(error) => Some(error),
+        }
+    }
+}
 
 impl From<OutOfMemory> for ValidateError {
     fn from(_refused: OutOfMemory) -> ValidateError {

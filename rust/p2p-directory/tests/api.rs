@@ -4,8 +4,8 @@ use p2p_directory::testing::{self, config, directory, info, key};
 use p2p_directory::{
     BeforeEpochError, BitVec, CodecError, Config, ConnectError, Data, Directory, EncodedData,
     Hostname, Info, Ingress, Key, MAX_PAYLOAD_OVERHEAD, Metadata, Moment, Node, OrderedSet,
-    ParseError, Payload, PayloadConfig, SetupError, Signature, Status, What, max_gossip_size,
-    max_size,
+    ParseError, Payload, PayloadConfig, Received, RefusedError, SetupError, Signature, Status,
+    ValidateError, What, max_gossip_size, max_size,
 };
 use std::cmp::Ordering;
 use std::collections::HashSet;
@@ -235,6 +235,48 @@ fn errors_name_their_causes() {
     assert_eq!(texts(&ConnectError::OfAnotherDirectory).len(), 1);
     let host = texts(&"-:80".parse::<Ingress>().unwrap_err());
     assert_eq!(host, ["the host is no name", "invalid hostname"]);
+}
+
+#[test]
+fn refusals_name_their_causes() {
+    let mut node = Node::new(&testing::setup(9)).unwrap();
+    let mut refused = |frame: &[u8]| {
+        let received = node.receive(frame, Moment::EPOCH, testing::verify);
+        texts(&received.accepted().unwrap_err())
+    };
+    let no_payload = ["the frame encodes no payload", "invalid prefix: 9"];
+    assert_eq!(refused(&[9]), no_payload);
+    let of_itself = Payload::Greeting(info(9, 0)).encode();
+    let invalid = ["the infos of the frame are invalid", "received self"];
+    assert_eq!(refused(&of_itself), invalid);
+    let out_of_memory = Received::Memory.accepted().unwrap_err();
+    let why = ["the frame could not be processed", "memory was refused"];
+    assert_eq!(texts(&out_of_memory), why);
+    assert_eq!(
+        texts(&RefusedError::Malformed),
+        ["the frame has another number of bits"]
+    );
+    let invalid = ValidateError::Invalid(p2p_directory::Error::SynchronyBound);
+    let why = ["the infos are invalid", "synchrony bound violated"];
+    assert_eq!(texts(&invalid), why);
+    let why = ["the infos could not be validated", "memory was refused"];
+    assert_eq!(texts(&ValidateError::OutOfMemory), why);
+}
+
+#[test]
+fn what_is_accepted_is_handed_on() {
+    let accepted = [
+        Received::Data {
+            channel: 1,
+            message: 3..5,
+        },
+        Received::Greeted(key(1)),
+        Received::Reply(vec![3, 0]),
+        Received::Applied(2),
+    ];
+    for received in accepted {
+        assert_eq!(received.clone().accepted(), Ok(received));
+    }
 }
 
 #[test]
