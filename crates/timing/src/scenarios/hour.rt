@@ -400,7 +400,7 @@ fn hour(rt: &HostRuntime, count: usize) -> Result<(Duration, usize), Stop> {
         slots.push(None)?;
     }
     let mut tracker = Tracker {
-        node: node(rt.alloc(), 9, 1, count)?,
+        node: node(rt.alloc(), 9, 1, count.max(INFOS))?,
         slots,
         done: 0,
     };

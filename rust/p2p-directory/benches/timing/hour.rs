@@ -232,7 +232,7 @@ fn hour(count: usize, parts: &mut Parts) -> Outcome<usize> {
     let all = keys(0, 2 * count);
     let mut seen = vec![1000; 2 * count];
     let mut tracker = Tracker {
-        node: node_of(count)?,
+        node: node_of(count.max(INFOS))?,
         slots: (0..CONNECTIONS).map(|_| None).collect(),
         done: 0,
     };
