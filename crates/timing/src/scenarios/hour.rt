@@ -176,22 +176,31 @@ impl Tracker {
     }
 
     fn call(&mut self, tick: Tick) -> Result<(), Stop> {
-        let now = tick.now;
-        if let Some((index, peers)) = tick.new_set {
-            self.track(index, peers, now);
+        let Tick {
+            now,
+            new_set,
+            first_slot,
+            dials,
+            inbound,
+            asked,
+            bad,
+        } = tick;
+        match new_set {
+            Some((index, peers)) => self.track(index, peers, now),
+            None => {}
         }
         let has_ended = self.node.unblock_expired(now);
         self.count(usize::from(has_ended));
         for place in 0..8usize {
-            self.release(tick.first_slot.saturating_add(place) % CONNECTIONS);
+            self.release(first_slot.saturating_add(place) % CONNECTIONS);
         }
-        self.dial(&tick.dials, now)?;
-        self.listen(&tick.inbound, now);
-        for peer in &tick.asked {
+        self.dial(&dials, now)?;
+        self.listen(&inbound, now);
+        for peer in &asked {
             let is_eligible = self.node.eligible(peer, now);
             self.count(usize::from(is_eligible));
         }
-        if let Some(bad) = tick.bad {
+        if let Some(bad) = bad {
             self.block(bad, now);
         }
         Ok(())
