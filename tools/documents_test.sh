@@ -5,7 +5,8 @@ set -eu
 cd "$(dirname "$0")/.."
 copy=$(mktemp -d)
 trap 'rm -rf "$copy"' EXIT
-git archive HEAD | tar -x -C "$copy"
+tools/clone.sh "$copy"
+rm -rf "$copy/.git"
 document=SECURITY.md
 cp "$copy/$document" "$copy.md"
 trap 'rm -rf "$copy" "$copy.md" "$copy.told"' EXIT

@@ -6,7 +6,7 @@ cd "$(dirname "$0")/.."
 tools/installed.sh cargo cc:gcc
 folder=$(mktemp -d)
 trap 'rm -rf "$folder"' EXIT
-git clone --quiet . "$folder/clone"
+tools/clone.sh "$folder/clone"
 path=$(dirname "$(command -v cargo)"):/usr/bin:/bin
 alone() {
     env -i PATH="$path" HOME="$HOME" RUSTUP_HOME="${RUSTUP_HOME:-$HOME/.rustup}" CARGO_HOME="$folder/cargo" \

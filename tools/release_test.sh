@@ -7,7 +7,7 @@ cd "$(dirname "$0")/.."
 tools/installed.sh cargo cc:gcc g++ ar:binutils cmake pkg-config:pkgconf
 folder=$(mktemp -d)
 trap 'rm -rf "$folder"' EXIT
-git clone --quiet . "$folder/clone"
+tools/clone.sh "$folder/clone"
 prebuilt=rust/p2p-directory-sys/prebuilt/x86_64-unknown-linux-gnu
 # What a machine has that never heard of Rattle.
 path=$(dirname "$(command -v cargo)"):/usr/bin:/bin
