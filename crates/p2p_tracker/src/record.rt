@@ -265,7 +265,7 @@ impl<C: PublicKey> Record<C> {
     {
         let answer = self.reserve_result(now);
         if answer == ReserveResult::Reserved {
-            self.set_reserved(now, draw, interval);
+            self.set_reserved(next_moments(now, draw, interval));
         }
         answer
     }
@@ -286,12 +286,15 @@ impl<C: PublicKey> Record<C> {
         ReserveResult::Reserved
     }
 
-    // Reserves the peer at the time `now`.
-    pub(crate) fn set_reserved(&mut self, now: Duration, draw: Duration, interval: Duration)
-        ensures { self.new ≡
-            reserved_record (as_nanos now) (as_nanos draw) (as_nanos interval) self.old }
+    // Reserves the peer: it is reservable and dialable again from these times on.
+    pub(crate) fn set_reserved(&mut self, moments: (Duration, Duration))
+        ensures { self.new ≡ record self.old {
+          status = Status.Reserved;
+          next_reservable_at = as_nanos moments.0;
+          next_dial_at = as_nanos moments.1;
+        } }
     {
-        let (reservable, dial) = next_moments(now, draw, interval);
+        let (reservable, dial) = moments;
         self.status = Status::Reserved;
         self.set_cooldown(reservable, dial);
     }

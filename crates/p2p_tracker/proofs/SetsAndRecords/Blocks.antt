@@ -4,12 +4,15 @@ use Rattle.std.proofs.Common.{[], ◌∷◌, filter, length, Option, Some, None,
 use Rattle.std.proofs.Common.{subst, arith}
 use Rattle.std.specs.declared.cmp.Ordering.{Ordering}
 use Rattle.std.specs.declared.time.Duration.{Duration}
-use Rattle.std.specs.BTreeMap.{is_at}
+use Rattle.std.specs.BTreeMap.{insert_entry, is_at}
 use Rattle.std.specs.Cmp.{IsTotalOrder, eq_by_cmp_equiv}
 use Rattle.std.specs.Duration.{as_nanos}
 use Rattle.std.specs.List.{count_by, list_any}
 use Rattle.std.specs.List.Sorted.{IsStrictlySortedBy}
-use Rattle.std.specs.Map.{lookup, keys_of}
+use Rattle.std.specs.Map.{lookup, keys_of, remove_entry}
+use Rattle.std.specs.Ordering.{is_eq, match_ordering}
+use Rattle.std.specs.declared.cmp.Ordering.TheVariants.{Less, Equal, Greater}
+use Rattle.std.proofs.lemmas.Cmp.{tied_itself}
 use Rattle.std.specs.Option.{option_map, option_map_or}
 use Rattle.std.proofs.lemmas.List.Sums.{length-filter}
 use Rattle.std.proofs.lemmas.Map.Entries.{option_filter, lookup-filter-values}
@@ -58,6 +61,29 @@ module _ {C : Type 0} where
       ∙ ap (option_map as_nanos) (put q)
       ∙ put-in_nanos (is_at (cmp key) q) moment (lookup (is_at (cmp q)) old)
       ∙ ap (cond (is_at (cmp key) q) (Some (as_nanos moment))) (sym (lookup-in_nanos (is_at (cmp q)) old) ∙ ap (λ ds. unblock_in cmp ds q) seen)
+
+-- who is blocked is seen so in the map, too
+pub blocked_as : {C : Type 0} (cmp : C → C → Ordering) (es : List (C × Duration)) (key : C) (now : ℕ) →
+    is_blocked (option_map as_nanos (lookup (is_at (cmp key)) es)) now ≡ is_blocked (unblock_in cmp (in_nanos es) key) now
+blocked_as cmp es key now = ap (λ o. is_blocked o now) (sym (lookup-in_nanos (is_at (cmp key)) es))
+
+-- an entry of a key that had none is taken out again
+pub taken_back : {K X : Type 0} {cmp : K → K → Ordering} → IsTotalOrder cmp → (es more back : List (K × X)) (k : K) (v : X) →
+    lookup (is_at (cmp k)) es ≡ None → more ≡ insert_entry cmp es k v → back ≡ remove_entry (is_at (cmp k)) more → back ≡ es
+taken_back {K} {X} {cmp} total es more back k v none put out =
+    out ∙ ap (remove_entry (is_at (cmp k))) put ∙ go es none
+  where
+    go : (ds : List (K × X)) → lookup (is_at (cmp k)) ds ≡ None → remove_entry (is_at (cmp k)) (insert_entry cmp ds k v) ≡ ds
+    go [] f = ap (λ o. cond (is_eq o) [] ((k, v) ∷ [])) (tied_itself total k)
+    go (d ∷ ds) f = by (cmp k d.0) refl f (go ds)
+      where
+        by : (o : Ordering) → cmp k d.0 ≡ o → cond (is_eq o) (Some d.1) (lookup (is_at (cmp k)) ds) ≡ None →
+            (lookup (is_at (cmp k)) ds ≡ None → remove_entry (is_at (cmp k)) (insert_entry cmp ds k v) ≡ ds) →
+            remove_entry (is_at (cmp k)) (match_ordering o ((k, v) ∷ d ∷ ds) ((d.0, v) ∷ ds) (d ∷ insert_entry cmp ds k v)) ≡ d ∷ ds
+        by Less e n rest = ap (λ o. cond (is_eq o) (d ∷ ds) ((k, v) ∷ remove_entry (is_at (cmp k)) (d ∷ ds))) (tied_itself total k)
+        by Equal e n rest = absurd cc
+        by Greater e n rest = ap (λ o. cond (is_eq o) (insert_entry cmp ds k v) (d ∷ remove_entry (is_at (cmp k)) (insert_entry cmp ds k v))) e
+            ∙ ap (λ es. d ∷ es) (rest n)
 
 -- WHO IS BLOCKED
 

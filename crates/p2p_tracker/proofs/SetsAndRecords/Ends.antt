@@ -134,29 +134,6 @@ module _ {C : Type 0} {cmp : C → C → Ordering} (exact : CmpEqualImpliesEq cm
           same false f true g = sym (eq_turned m n true g)
           same false f false g = had ∙ eq_turned before n false f ∙ sym (eq_turned m n false g)
 
-  -- what was added is taken back
-  pub ends_back : (ends new_ends : List (ℕ × C)) (old : List (C × ℕ)) (key : C) (m : ℕ) → AreEnds cmp ends old →
-      ((e : ℕ × C) → list_any (is_at (end_cmp cmp e)) new_ends ≡
-      cond (is_at (end_cmp cmp (m, key)) e) false
-      (cond (is_at (end_cmp cmp (m, key)) e) true (list_any (is_at (end_cmp cmp e)) ends))) →
-      unblock_in cmp old key ≡ None → AreEnds cmp new_ends old
-  ends_back ends new_ends old key m are back none n q = back (n, q)
-      ∙ (λ i. cond (tied cmp m n key q i) false (cond (tied cmp m n key q i) true (Has ends n q)))
-      ∙ go (is_at (cmp key) q) refl ∙ are n q
-    where
-      go : (k : Bool) → is_at (cmp key) q ≡ k →
-          cond (nat_eq m n && k) false (cond (nat_eq m n && k) true (Has ends n q)) ≡ Has ends n q
-      go false e = λ i. cond (and_no (nat_eq m n) i) false (cond (and_no (nat_eq m n) i) true (Has ends n q))
-      go true e = same (nat_eq m n && true)
-        where
-          had : Has ends n q ≡ false
-          had = are n q ∙ ap (λ p. until n (unblock_in cmp old p)) (sym (tells_apart exact key q e))
-              ∙ ap (until n) none
-
-          same : (b : Bool) → cond b false (cond b true (Has ends n q)) ≡ Has ends n q
-          same true = sym had
-          same false = refl
-
   -- a block goes with its end
   pub ends_taken : (ends new_ends : List (ℕ × C)) (old new : List (C × ℕ)) (key : C) (m : ℕ) → AreEnds cmp ends old →
       ((e : ℕ × C) → list_any (is_at (end_cmp cmp e)) new_ends

@@ -43,9 +43,8 @@ impl<C: PublicKey> Directory<C> {
     /// # Cost
     ///
     /// Constant for the local node, and for another peer one search among the blocks. If the block
-    /// is accepted, one more among the blocks and one among their ends, or two if it replaces an
-    /// ended block. If it is then the first to end, or the one that it replaces was, one more of
-    /// each.
+    /// is accepted, one among their ends, or two if it replaces an ended block. If it is then the
+    /// first to end, or the one that it replaces was, one more search among the blocks.
     pub fn block(&mut self, peer: &C, now: Duration) -> Result<bool, AllocError>
         ensures err { OnErr result (self.new ≡ self.old) }
         ensures untaken { may_block C.cmp self.old (as_nanos now) peer.now ≡ false →
@@ -58,12 +57,11 @@ impl<C: PublicKey> Directory<C> {
         ensures busy { StayBusy C.cmp self.old self.new }
         ensures reserved { StayReserved C.cmp self.old self.new }
     {
-        if self.is_own(peer) || self.is_blocked(peer, now) {
+        if self.is_own(peer) {
             return Ok(false);
         }
         let until = now.saturating_add(self.config.block_duration);
-        self.blocks.put(*peer, until)?;
-        Ok(true)
+        self.blocks.block(*peer, now, until)
     }
 
     /// Ends the blocks that hold until the time `now`, a duration since the epoch, or until an

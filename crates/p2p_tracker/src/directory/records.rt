@@ -270,8 +270,9 @@ fn keep_reserved<C: PublicKey>(
         then Some (moments_after (as_nanos now) (as_nanos draw) (as_nanos cooldown))
         else cooldown_in C.cmp cooldowns.old q)) }
 {
-    cooldowns.put(*peer, next_moments(now, draw, cooldown))?;
-    found.set_reserved(now, draw, cooldown);
+    let moments = next_moments(now, draw, cooldown);
+    cooldowns.put(*peer, moments)?;
+    found.set_reserved(moments);
     Ok(())
 }
 

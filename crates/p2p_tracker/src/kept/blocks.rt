@@ -1,22 +1,24 @@
 //! When the blocks of peers end.
 
-ghost use Rattle.std.specs.Prelude.{ℕ, ◌≡◌, ◌≤◌, ◌<◌, [], length, not, true, false, if◌then◌else◌};
-ghost use Rattle.std.specs.Prelude.{nat_le, IfNone, IfSome, IsSome, OnErr, OnOk, Some};
+ghost use Rattle.std.specs.Prelude.{ℕ, List, ◌≡◌, ◌≤◌, ◌<◌, [], length, not, true, false, if◌then◌else◌};
+ghost use Rattle.std.specs.Prelude.{nat_le, IfNone, IfOk, IfSome, IsSome, Ok, OnErr, OnOk, Some};
 ghost use Rattle.std.specs.Duration.{as_nanos};
 ghost use Rattle.std.specs.List.{filter, count_by};
 ghost use Rattle.std.specs.List.Sorted.{IsStrictlySortedBy};
 ghost use Rattle.std.specs.Map.{keys_of};
-ghost use Rattle.std.specs.BTreeMap.{is_at};
+ghost use Rattle.std.specs.BTreeMap.{get, is_at};
 ghost use Rattle.std.specs.BTreeSet.{contains};
 ghost use Rattle.std.specs.Option.{option_map, option_map_or};
 ghost use Rattle.std.specs.Ordering.{is_gt};
 ghost use Rattle.p2p_tracker.specs.Blocks.{in_nanos, is_later, unblock_in};
+ghost use Rattle.p2p_tracker.specs.World.{is_blocked};
 ghost use Rattle.p2p_tracker.specs.Private.Ends.{end_cmp, end_in_nanos, IsFirstOf, AreEnds, AreKept};
 
 use crate::kept::forget;
 use p2p_discovery::codec::PublicKey;
 use std::alloc::{AllocError, Global};
 use std::cmp::Ordering;
+use std::collections::btree_map::Entry;
 use std::collections::{BTreeMap, BTreeSet, btree_map};
 use std::marker::Model;
 use std::time::Duration;
@@ -58,7 +60,9 @@ impl<C: PublicKey> Blocks<C> {
         }
     }
 
-    /// Sets the end of the peer's block, replacing any that it had. Other peers keep theirs.
+    /// Blocks the peer until `until`, a duration since the epoch, and returns true. If it is blocked
+    /// at `now`, since it has a block that ends later, nothing changes, and it returns false and
+    /// doesn't allocate. A block that had ended is replaced. Other peers keep theirs.
     ///
     /// # Errors
     ///
@@ -66,21 +70,26 @@ impl<C: PublicKey> Blocks<C> {
     ///
     /// # Cost
     ///
-    /// One search among the blocks and one among their ends, and one more there if the peer had
-    /// another end or an allocation fails. If its block was the first to end, or is now, one more
-    /// of each.
-    pub fn put(&mut self, key: C, moment: Duration) -> Result<(), AllocError>
+    /// One search among the blocks. If the peer isn't blocked, one among their ends, or two if it
+    /// had another end. If its block was the first to end, or is now, one more among the blocks.
+    pub fn block(&mut self, key: C, now: Duration, until: Duration) -> Result<bool, AllocError>
         ensures err { OnErr result (self.new ≡ self.old) }
-        ensures ok { OnOk result ((q : C) → unblock_in C.cmp self.new q ≡
-            (if is_at (C.cmp key) q then Some (as_nanos moment)
-            else unblock_in C.cmp self.old q)) }
+        ensures untaken { is_blocked (unblock_in C.cmp self.old key) (as_nanos now) ≡ true →
+            result ≡ Ok false }
+        ensures answer { IfOk result (λ taken. taken ≡
+            not (is_blocked (unblock_in C.cmp self.old key) (as_nanos now))) }
+        ensures refused { result ≡ Ok false → self.new ≡ self.old }
+        ensures taken { result ≡ Ok true → (q : C) → unblock_in C.cmp self.new q ≡
+            (if is_at (C.cmp key) q then Some (as_nanos until)
+            else unblock_in C.cmp self.old q) }
     {
         put_block(
             &mut self.moments,
             &mut self.ends,
             &mut self.first,
             key,
-            moment,
+            now,
+            until,
         )
     }
 
@@ -133,27 +142,36 @@ impl<C: PublicKey> Blocks<C> {
     }
 }
 
-// Sets the end of the key's block, and finds the first to end again if it may have changed.
+// Blocks the key until this time unless it is blocked at `now`, and finds the first to end again if
+// it may have changed.
 fn put_block<C: PublicKey>(
     moments: &mut BTreeMap<C, Duration>,
     ends: &mut BTreeSet<(u128, C)>,
     first: &mut Option<(Duration, C)>,
     key: C,
-    moment: Duration,
-) -> Result<(), AllocError>
+    now: Duration,
+    until: Duration,
+) -> Result<bool, AllocError>
     requires { AreKept C.cmp ends.old.keys (in_nanos moments.old.entries) (end_in_nanos first.old) }
     ensures kept { AreKept C.cmp ends.new.keys (in_nanos moments.new.entries)
         (end_in_nanos first.new) }
     ensures err { OnErr result (moments.new.entries ≡ moments.old.entries) }
-    ensures ok { OnOk result ((q : C) → unblock_in C.cmp (in_nanos moments.new.entries) q ≡
-        (if is_at (C.cmp key) q then Some (as_nanos moment)
-        else unblock_in C.cmp (in_nanos moments.old.entries) q)) }
+    ensures untaken { is_blocked (unblock_in C.cmp (in_nanos moments.old.entries) key)
+        (as_nanos now) ≡ true → result ≡ Ok false }
+    ensures answer { IfOk result (λ taken. taken ≡ not (is_blocked
+        (unblock_in C.cmp (in_nanos moments.old.entries) key) (as_nanos now))) }
+    ensures refused { result ≡ Ok false → moments.new.entries ≡ moments.old.entries }
+    ensures taken { result ≡ Ok true → (q : C) → unblock_in C.cmp (in_nanos moments.new.entries) q ≡
+        (if is_at (C.cmp key) q then Some (as_nanos until)
+        else unblock_in C.cmp (in_nanos moments.old.entries) q) }
 {
-    put_end(moments, ends, key, moment)?;
-    if !stays_first(first, &key, moment) {
+    if !put_end(moments, ends, key, now, until)? {
+        return Ok(false);
+    }
+    if !stays_first(first, &key, until) {
         *first = first_to_end(moments, ends);
     }
-    Ok(())
+    Ok(true)
 }
 
 // Whether the first of the ends belongs to another key, and isn't after that of this key at this
@@ -174,38 +192,95 @@ fn stays_first<C: PublicKey>(first: &Option<(Duration, C)>, key: &C, moment: Dur
     }
 }
 
-// Sets this end for the key in both. If an allocation fails, both have the same pairs as before.
+// Sets this end for the key in both, unless the key is blocked at `now`. If an allocation fails,
+// both have the same pairs as before.
 fn put_end<C: PublicKey>(
     moments: &mut BTreeMap<C, Duration>,
     ends: &mut BTreeSet<(u128, C)>,
     key: C,
-    moment: Duration,
-) -> Result<(), AllocError>
+    now: Duration,
+    until: Duration,
+) -> Result<bool, AllocError>
     requires { AreEnds C.cmp ends.old.keys (in_nanos moments.old.entries) }
-    ensures ends { AreEnds C.cmp ends.new.keys (in_nanos moments.new.entries) }
-    ensures err { OnErr result (moments.new.entries ≡ moments.old.entries) }
-    ensures ok { OnOk result ((q : C) → unblock_in C.cmp (in_nanos moments.new.entries) q ≡
-        (if is_at (C.cmp key) q then Some (as_nanos moment)
-        else unblock_in C.cmp (in_nanos moments.old.entries) q)) }
+    ensures err { OnErr result ((moments.new.entries ≡ moments.old.entries)
+        × (ends.new.keys ≡ ends.old.keys)) }
+    ensures untaken { is_blocked (option_map as_nanos (get C.cmp moments.old key))
+        (as_nanos now) ≡ true → result ≡ Ok false }
+    ensures answer { IfOk result (λ taken. taken ≡
+        not (is_blocked (option_map as_nanos (get C.cmp moments.old key)) (as_nanos now))) }
+    ensures refused { result ≡ Ok false → (moments.new.entries ≡ moments.old.entries)
+        × (ends.new.keys ≡ ends.old.keys) }
+    ensures taken { result ≡ Ok true → (q : C) → get C.cmp moments.new q ≡
+        (if is_at (C.cmp key) q then Some until else get C.cmp moments.old q) }
+    ensures ends { result ≡ Ok true → (new : List (C × ℕ)) → ((q : C) → unblock_in C.cmp new q ≡
+        (if is_at (C.cmp key) q then Some (as_nanos until)
+        else unblock_in C.cmp (in_nanos moments.old.entries) q)) → AreEnds C.cmp ends.new.keys new }
 {
-    if let Err(refused) = ends.insert((moment.as_nanos(), key)) {
-        forget(refused);
-        return Err(AllocError);
-    }
-    match moments.insert(key, moment) {
-        Ok(Some(before)) => {
-            if before.as_nanos() != moment.as_nanos() {
-                ends.remove(&(before.as_nanos(), key));
+    match moments.entry(key) {
+        Ok(Entry::Occupied(mut entry)) => {
+            let before = *entry.get();
+            if now.as_nanos() < before.as_nanos() {
+                return Ok(false);
             }
-            Ok(())
+            move_end(ends, key, before, until)?;
+            entry.insert(until);
+            Ok(true)
         }
-        Ok(None) => Ok(()),
+        Ok(Entry::Vacant(entry)) => {
+            entry.insert(until);
+            if let Err(AllocError) = add_end(ends, key, until) {
+                moments.remove(&key);
+                return Err(AllocError);
+            }
+            Ok(true)
+        }
         Err(refused) => {
-            ends.remove(&(moment.as_nanos(), key));
             forget(refused);
             Err(AllocError)
         }
     }
+}
+
+// Adds this end of the key.
+fn add_end<C: PublicKey>(
+    ends: &mut BTreeSet<(u128, C)>,
+    key: C,
+    until: Duration,
+) -> Result<(), AllocError>
+    ensures err { OnErr result (ends.new.keys ≡ ends.old.keys) }
+    ensures ok { OnOk result ((e : ℕ × C) → contains (end_cmp C.cmp) ends.new e ≡
+        (if is_at (end_cmp C.cmp (as_nanos until, key)) e then true
+        else contains (end_cmp C.cmp) ends.old e)) }
+{
+    match ends.insert((until.as_nanos(), key)) {
+        Ok(_added) => Ok(()),
+        Err(refused) => {
+            forget(refused);
+            Err(AllocError)
+        }
+    }
+}
+
+// Puts an end of the key in the place of the one that it has: `before`.
+fn move_end<C: PublicKey>(
+    ends: &mut BTreeSet<(u128, C)>,
+    key: C,
+    before: Duration,
+    until: Duration,
+) -> Result<(), AllocError>
+    ensures err { OnErr result (ends.new.keys ≡ ends.old.keys) }
+    ensures ok { OnOk result ((old new : List (C × ℕ)) → AreEnds C.cmp ends.old.keys old →
+        unblock_in C.cmp old key ≡ Some (as_nanos before) →
+        ((q : C) → unblock_in C.cmp new q ≡
+        (if is_at (C.cmp key) q then Some (as_nanos until) else unblock_in C.cmp old q)) →
+        AreEnds C.cmp ends.new.keys new) }
+{
+    if before.as_nanos() == until.as_nanos() {
+        return Ok(());
+    }
+    add_end(ends, key, until)?;
+    ends.remove(&(before.as_nanos(), key));
+    Ok(())
 }
 
 // The first of the ends, with its time as it was passed in.
