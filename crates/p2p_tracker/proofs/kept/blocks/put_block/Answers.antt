@@ -28,8 +28,8 @@ first_to_end-requires g c =
 pub returns-then-not-stays_first-clause-kept : goal.returns-then-not-stays_first-clause-kept
 returns-then-not-stays_first-clause-kept g c = record {
   both = c.in_ok-put_end.ensures.ends (search rules) (in_nanos c.put_end.new.moments.entries)
-  (unblock_after g.C.Ord.cmp c.args.moments.now.entries c.put_end.new.moments.entries
-  (in_nanos c.args.moments.now.entries) c.args.key c.args.until refl (c.in_ok-put_end.ensures.taken (search rules)));
+      (unblock_after g.C.Ord.cmp c.args.moments.now.entries c.put_end.new.moments.entries
+      (in_nanos c.args.moments.now.entries) c.args.key c.args.until refl (c.in_ok-put_end.ensures.taken (search rules)));
   front = c.first_to_end.ensures;
 }
 
@@ -45,8 +45,8 @@ returns-else-not-stays_first-clause-kept g c =
     record {
       both = c.in_ok-put_end.ensures.ends (search rules) (in_nanos c.put_end.new.moments.entries) put;
       front = first_stays g.met.C.PublicKey.exact (in_nanos c.args.moments.now.entries) (in_nanos c.put_end.new.moments.entries) c.args.key
-      (as_nanos c.args.until) (end_in_nanos c.args.first.now) put c.requires.front
-      (c.if-not-stays_first.ensures.some refl) (c.if-not-stays_first.ensures.behind refl);
+          (as_nanos c.args.until) (end_in_nanos c.args.first.now) put c.requires.front
+          (c.if-not-stays_first.ensures.some refl) (c.if-not-stays_first.ensures.behind refl);
     }
 
 pub returns-else-not-stays_first-clause-answer : goal.returns-else-not-stays_first-clause-answer

@@ -9,9 +9,9 @@ use Rattle.p2p_tracker.proofs.kept.blocks.put_end.Goals as goal
 
 pub returns-in-Err-add_end-clause-err : goal.returns-in-Err-add_end-clause-err
 returns-in-Err-add_end-clause-err g c = (
-    taken_back g.met.C.Ord.total c.args.moments.now.entries _ c.remove.new.self.entries c.args.key c.args.until
-    (search rules) (search rules) c.remove.ensures.entries,
-    c.in-Err-add_end.ensures.err,
+  taken_back g.met.C.Ord.total c.args.moments.now.entries _ c.remove.new.self.entries c.args.key c.args.until
+      (search rules) (search rules) c.remove.ensures.entries,
+  c.in-Err-add_end.ensures.err,
 )
 
 pub returns-in_ok-move_end-in-Ok-Occupied-clause-ends :
