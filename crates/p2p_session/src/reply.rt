@@ -20,7 +20,7 @@ use p2p_directory::run::Reply;
 use p2p_discovery::codec::Write;
 use p2p_discovery::discovery::{Info, Infos};
 use p2p_discovery::sets::OrderedSet;
-use p2p_discovery::types::Ingress;
+use p2p_discovery::types::{Ingress, IpAddr};
 use std::alloc::{AllocError, Global};
 use std::time::Duration;
 
@@ -81,9 +81,15 @@ pub fn tell_held(held: Option<&Metadata<Key>>, out: &mut [u8]) -> u64
     }
 }
 
+// Writes that an ingress is dialled. An address of version 4, the most frequent, is one part.
 fn tell_dialler(ingress: &Ingress, out: &mut [u8]) -> u64
     ensures { Tells (Spelled (1 ∷ ingress_spelling ingress.now)) out.old out.new result }
 {
+    if let Some(IpAddr::V4(ip)) = ingress.ip() {
+        let port = ingress.port().to_be_bytes();
+        let told = [1, 0, 4, ip[0], ip[1], ip[2], ip[3], port[0], port[1]];
+        return answer_one(Part::Bytes(&told), out);
+    }
     let bytes = ingress.encoded();
     answer(&[Part::Byte(1), Part::Bytes(bytes.as_slice())], out)
 }

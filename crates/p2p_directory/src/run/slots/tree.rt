@@ -12,8 +12,9 @@ ghost use Rattle.p2p_directory.specs.Private.Slots.{begins_full, has_slot, held_
 use super::spend_empty;
 use p2p_discovery::codec::PublicKey;
 use p2p_tracker::directory::{Metadata, Reservation};
-use std::alloc::{AllocError, AllocFailed, Global};
+use std::alloc::{AllocError, Global};
 use std::collections::BTreeMap;
+use std::collections::btree_map::Entry;
 use std::marker::Model;
 
 /// A slot for each of some peers, empty or with its reservation. A contract sees the peers and what
@@ -52,17 +53,7 @@ impl<C: PublicKey> Tree<C> {
             has_slot C.cmp self.new q ≡ (is_at (C.cmp peer) q || has_slot C.cmp self.old q)) }
         ensures held { (q : C) → held_in C.cmp self.new q ≡ held_in C.cmp self.old q }
     {
-        if self.reservations.contains_key(&peer) {
-            return Ok(());
-        }
-        match self.reservations.insert(peer, None) {
-            Ok(None) => Ok(()),
-            Ok(Some(_slot)) => unreachable!(),
-            Err(AllocFailed { value: (_, slot) }) => {
-                spend_empty(slot);
-                Err(AllocError)
-            }
-        }
+        add_empty(&mut self.reservations, peer)
     }
 
     /// Puts a reservation into the slot of its peer. It doesn't allocate.
@@ -74,11 +65,12 @@ impl<C: PublicKey> Tree<C> {
             then Some reservation
             else held_in C.cmp self.old q) }
     {
-        let peer = *reservation.metadata().public_key();
-        match self.reservations.insert(peer, Some(reservation)) {
-            Ok(Some(slot)) => spend_empty(slot),
-            Ok(None) => unreachable!(),
-            Err(_refused) => unreachable!(),
+        match self
+            .reservations
+            .get_mut(reservation.metadata().public_key())
+        {
+            Some(slot) => spend_empty(slot.replace(reservation)),
+            None => unreachable!(),
         }
     }
 
@@ -181,6 +173,29 @@ impl<C: PublicKey> Tree<C> {
     {
         let Tree { reservations } = self;
         reservations.destroy_empty();
+    }
+}
+
+// Adds an empty slot of the peer if it has none.
+fn add_empty<C: PublicKey>(
+    slots: &mut BTreeMap<C, Option<Reservation<C>>>,
+    peer: C,
+) -> Result<(), AllocError>
+    requires { AreSlots C.cmp slots.old.entries }
+    ensures slots { AreSlots C.cmp slots.new.entries }
+    ensures err { OnErr result (slots.new.entries ≡ slots.old.entries) }
+    ensures made { OnOk result ((q : C) → has_slot C.cmp slots.new.entries q ≡
+        (is_at (C.cmp peer) q || has_slot C.cmp slots.old.entries q)) }
+    ensures held { (q : C) →
+        held_in C.cmp slots.new.entries q ≡ held_in C.cmp slots.old.entries q }
+{
+    match slots.entry(peer) {
+        Ok(Entry::Vacant(entry)) => {
+            entry.insert(None);
+            Ok(())
+        }
+        Ok(Entry::Occupied(_entry)) => Ok(()),
+        Err(_refused) => Err(AllocError),
     }
 }
 
