@@ -21,6 +21,7 @@ pub mod Bootstrapped
 pub mod Infos
 pub mod Shared
 pub mod Asked
+pub mod Among
 pub mod Taken
 pub mod Cooled
 pub mod Moved

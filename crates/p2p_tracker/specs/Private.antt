@@ -5,4 +5,5 @@ pub mod Places
 pub mod Counts
 pub mod Dialling
 pub mod Asked
+pub mod Among
 pub mod Walked

@@ -409,11 +409,11 @@ impl<C: PublicKey> Endpoint<C> {
             (infos_in C.cmp self.now.directory bits.now.index bits.now.bits (as_nanos now))
             ≡ true) }
     {
-        let directory = self.server.directory();
-        match directory.infos(bits, now)? {
+        match self.server.infos_for(bits, now)? {
             Some(infos) => {
+                let alloc = self.server.directory().allocator();
                 let infos = Infos::from_vec(infos);
-                let frame = frame_of::<C>(directory.allocator(), Payload::Peers(infos))?;
+                let frame = frame_of::<C>(alloc, Payload::Peers(infos))?;
                 Ok(Some(frame))
             }
             None => Ok(None),

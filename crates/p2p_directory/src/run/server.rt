@@ -1,7 +1,10 @@
 //! A directory that serves commands, and holds the reservations that it grants.
 
-ghost use Rattle.std.specs.Prelude.{◌≡◌, true, false, None, OnOk, OnErr, IfSome, option_map};
-ghost use Rattle.p2p_tracker.specs.Directory.{Updates};
+ghost use Rattle.std.specs.Prelude.{◌≡◌, ◌<◌, true, false, None, OnOk, OnErr, IfOk, IfSome};
+ghost use Rattle.std.specs.Prelude.{length, option_map};
+ghost use Rattle.std.specs.Duration.{as_nanos};
+ghost use Rattle.std.specs.Option.{IsSomeAnd};
+ghost use Rattle.p2p_tracker.specs.Directory.{infos_in, Updates};
 ghost use Rattle.p2p_directory.specs.Held.{held_of, AreHeld};
 ghost use Rattle.p2p_directory.specs.Private.Slots.{has_slot, held_in, AreSlots};
 ghost use Rattle.p2p_directory.specs.Private.Serving.{has_slot_for, IsServed};
@@ -14,7 +17,7 @@ use crate::run::make_slot;
 use crate::run::outcome::Run;
 use crate::run::slots::Slots;
 use p2p_discovery::codec::PublicKey;
-use p2p_discovery::discovery::Info;
+use p2p_discovery::discovery::{BitVec, Info};
 use p2p_tracker::directory::{Directory, Metadata, TrackedPeers};
 use p2p_tracker::record::Status;
 use std::alloc::AllocError;
@@ -136,6 +139,22 @@ impl<C: PublicKey> Server<C> {
         ensures { option_map (λ m. m.now) result ≡ held_in C.cmp self.now.slots peer.now }
     {
         self.slots.held(peer)
+    }
+
+    /// The infos that [`Directory::infos`] returns. It looks only at who is reserved or connected,
+    /// if that is less work.
+    pub fn infos_for(
+        &self,
+        bit_vec: &BitVec,
+        now: Duration,
+    ) -> Result<Option<Vec<Info<C>>>, AllocError>
+        ensures infos { IfOk result (λ infos. option_map (λ v. v.items) infos ≡ infos_in C.cmp
+            self.now.directory bit_vec.now.index bit_vec.now.bits (as_nanos now)) }
+        ensures err { OnErr result (IsSomeAnd (infos_in C.cmp
+            self.now.directory bit_vec.now.index bit_vec.now.bits (as_nanos now))
+            (λ infos. 0 < length infos)) }
+    {
+        self.slots.infos(&self.directory, bit_vec, now)
     }
 
     // For the proof: the slots are in order, and each is of its peer.

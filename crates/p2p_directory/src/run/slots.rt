@@ -3,8 +3,11 @@
 
 ghost use Rattle.std.specs.Prelude.{◌≡◌, ◌∷◌, [], false, true, not, ◌||◌, if◌then◌else◌};
 ghost use Rattle.std.specs.Prelude.{IfSome, IfNone, IfOk, OnOk, OnErr, None, Some, Option};
-ghost use Rattle.std.specs.Prelude.{option_map, slice_get};
+ghost use Rattle.std.specs.Prelude.{option_map, slice_get, ◌<◌, length};
 ghost use Rattle.std.specs.BTreeMap.{is_at};
+ghost use Rattle.std.specs.Duration.{as_nanos};
+ghost use Rattle.std.specs.Option.{IsSomeAnd};
+ghost use Rattle.p2p_tracker.specs.Directory.{IsBusy, infos_in};
 ghost use Rattle.std.specs.List.{All};
 ghost use Rattle.p2p_tracker.specs.Seen.{key_of};
 ghost use Rattle.p2p_tracker.specs.declared.directory.Metadata.{Metadata};
@@ -14,9 +17,11 @@ ghost use Rattle.p2p_directory.specs.Private.Slots.{begins_full, has_slot, held_
 use crate::run::held::Held;
 use listed::Listed;
 use p2p_discovery::codec::PublicKey;
-use p2p_tracker::directory::{Metadata, Reservation};
+use p2p_discovery::discovery::{BitVec, Info};
+use p2p_tracker::directory::{Directory, Metadata, Reservation};
 use std::alloc::{AllocError, Global};
 use std::marker::Model;
+use std::time::Duration;
 use tree::Tree;
 
 mod listed;
@@ -161,6 +166,27 @@ impl<C: PublicKey> Slots<C> {
         match &self.table {
             Table::Listed(listed) => listed.held(peer),
             Table::Tree(tree) => tree.held(peer),
+        }
+    }
+
+    /// The infos that [`Directory::infos`] returns. In a tree they are found by a search for each
+    /// peer that has a slot, if that is less work.
+    pub fn infos(
+        &self,
+        directory: &Directory<C>,
+        bit_vec: &BitVec,
+        now: Duration,
+    ) -> Result<Option<Vec<Info<C>>>, AllocError>
+        requires { (q : C) → IsBusy C.cmp directory.now q → has_slot C.cmp self.now q ≡ true }
+        ensures infos { IfOk result (λ infos. option_map (λ v. v.items) infos
+            ≡ infos_in C.cmp directory.now bit_vec.now.index bit_vec.now.bits (as_nanos now)) }
+        ensures err { OnErr result (IsSomeAnd
+            (infos_in C.cmp directory.now bit_vec.now.index bit_vec.now.bits (as_nanos now))
+            (λ infos. 0 < length infos)) }
+    {
+        match &self.table {
+            Table::Listed(_) => directory.infos(bit_vec, now),
+            Table::Tree(tree) => tree.infos(directory, bit_vec, now),
         }
     }
 

@@ -30,7 +30,7 @@ all_zip P (p ∷ ps) [] all = tt
 all_zip P (p ∷ ps) (b ∷ bs) all = (all.0, all_zip P ps bs all.1)
 
 -- with their bits they are in order
-sorted_zip : {A B : Type 0} (cmp : A → A → Ordering) (ps : List A) (bs : List B) → IsStrictlySortedBy cmp ps → IsStrictlySortedBy cmp (keys_of (zip ps bs))
+pub sorted_zip : {A B : Type 0} (cmp : A → A → Ordering) (ps : List A) (bs : List B) → IsStrictlySortedBy cmp ps → IsStrictlySortedBy cmp (keys_of (zip ps bs))
 unfolding IsStrictlySortedBy
 sorted_zip cmp [] bs up = tt
 sorted_zip cmp (p ∷ ps) [] up = tt
@@ -127,7 +127,7 @@ is_greater Less e f = absurd cc
 is_greater Equal e f = absurd cc
 is_greater Greater e f = refl
 
-is_equal : (o : Ordering) → is_eq o ≡ true → o ≡ Equal
+pub is_equal : (o : Ordering) → is_eq o ≡ true → o ≡ Equal
 is_equal Less e = absurd cc
 is_equal Equal e = refl
 is_equal Greater e = absurd cc

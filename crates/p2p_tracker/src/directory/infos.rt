@@ -1,14 +1,21 @@
 //! What is shared with others: infos, and which of them are known.
 
 ghost use Rattle.std.specs.Prelude.{◌≡◌, ◌<◌, ◌≤◌, ◌+◌, ◌++◌, length, slice_get, None, true};
-ghost use Rattle.std.specs.Prelude.{option_map, option_to_list, drop, zip};
+ghost use Rattle.std.specs.Prelude.{option_map, option_to_list, drop, zip, List, ◌∷◌, false};
+ghost use Rattle.std.specs.Prelude.{filter_map, if◌then◌else◌};
+ghost use Rattle.std.specs.BTreeMap.{is_at};
+ghost use Rattle.std.specs.Map.{keys_of};
 ghost use Rattle.std.specs.Prelude.{IfOk, IfSome, IsOk, OnOk, OnErr};
-ghost use Rattle.std.specs.Option.{option_copied, IsSomeAnd};
+ghost use Rattle.std.specs.Option.{option_and_then, option_copied, IsSomeAnd};
 ghost use Rattle.std.specs.Duration.{as_nanos};
 ghost use Rattle.p2p_discovery.specs.Ingress.{takes_none};
 ghost use Rattle.p2p_tracker.specs.Answers.{epoch_millis};
+ghost use Rattle.p2p_discovery.specs.Ordered.{has_key};
+ghost use Rattle.p2p_tracker.specs.Seen.{record_at};
 ghost use Rattle.p2p_tracker.specs.Directory.{shared_at, shared_of, shared_for};
+ghost use Rattle.p2p_tracker.specs.Directory.{sharable_of_record};
 ghost use Rattle.p2p_tracker.specs.Private.Asked.{shared_of_record, asked_from};
+ghost use Rattle.p2p_tracker.specs.Private.Among.{left_keys, shared_with, with_key};
 
 use crate::directory::Directory;
 use crate::directory::records::Records;
@@ -17,13 +24,18 @@ use p2p_discovery::codec::PublicKey;
 use p2p_discovery::discovery::{BitVec, Info};
 use p2p_discovery::sets::{BitMap, OrderedSet};
 use std::alloc::{AllocError, Global};
+use std::cmp::Ordering;
+use std::collections::{BTreeMap, btree_map};
 use std::time::Duration;
 
 // A walk past so many records takes about as long as one search among them.
 const SPARSE: usize = 8;
 
+// .. and past so many as one search among the peers and one among the records.
+const BUSY: usize = 16;
+
 impl<C: PublicKey> Directory<C> {
-    ghost use Rattle.p2p_tracker.specs.Directory.{sharable_in, infos_in, bit_vec_at};
+    ghost use Rattle.p2p_tracker.specs.Directory.{IsBusy, sharable_in, infos_in, bit_vec_at};
 
     /// The info of the peer that may be shared: that of the local node, and that of a connected
     /// peer. It allocates only for an info whose ingress is a name.
@@ -83,6 +95,59 @@ impl<C: PublicKey> Directory<C> {
                     peers,
                     &bit_vec.bits,
                     epoch_millis(now),
+                )
+            }
+            None => Ok(Some(Vec::new(alloc))),
+        }
+    }
+
+    /// The infos that [`Directory::infos`] returns, by a search for each key of a map, if that is
+    /// less work. It allocates as that does.
+    ///
+    /// # Conditions
+    ///
+    /// Whoever is reserved or connected is a key of the map.
+    ///
+    /// # Errors
+    ///
+    /// `AllocError` if an allocation fails.
+    ///
+    /// # Cost
+    ///
+    /// One pass over the retained sets. Then, if there are at least 16 records for each key of the
+    /// map, one search among the primary peers for each key and for the local node, and one among
+    /// the records for each that is found and whose bit is false. Otherwise that of
+    /// [`Directory::infos`].
+    pub fn infos_among<V>(
+        &self,
+        bit_vec: &BitVec,
+        now: Duration,
+        busy: &BTreeMap<C, V>,
+    ) -> Result<Option<Vec<Info<C>>>, AllocError>
+        requires { (q : C) → IsBusy C.cmp self.now q →
+            has_key C.cmp (keys_of busy.now.entries) q ≡ true }
+        ensures infos { IfOk result (λ infos. option_map (λ v. v.items) infos
+            ≡ infos_in C.cmp self.now bit_vec.now.index bit_vec.now.bits (as_nanos now)) }
+        ensures err { OnErr result (IsSomeAnd
+            (infos_in C.cmp self.now bit_vec.now.index bit_vec.now.bits (as_nanos now))
+            (λ infos. 0 < length infos)) }
+    {
+        if self.records.len() / BUSY < busy.len() {
+            return self.infos(bit_vec, now);
+        }
+        let alloc = self.alloc;
+        match self.sets.get(bit_vec.index) {
+            Some(set) => {
+                let peers = set.primary().ordered();
+                let millis = epoch_millis(now);
+                shared_among(
+                    alloc,
+                    &self.records,
+                    peers,
+                    &bit_vec.bits,
+                    millis,
+                    &self.own,
+                    busy,
                 )
             }
             None => Ok(Some(Vec::new(alloc))),
@@ -254,6 +319,123 @@ fn shared_by<C: PublicKey>(found: &Record<C>, millis: u64) -> Option<&Info<C>>
     } else {
         None
     }
+}
+
+// The infos of these peers that are shared, if each that may be is the own one or that of a key of
+// the map.
+fn shared_among<C: PublicKey, V>(
+    alloc: Global,
+    records: &Records<C>,
+    peers: &OrderedSet<C>,
+    bits: &BitMap,
+    millis: u64,
+    own: &C,
+    busy: &BTreeMap<C, V>,
+) -> Result<Option<Vec<Info<C>>>, AllocError>
+    requires { (q : C) → is_at (C.cmp own.now) q ≡ false →
+        has_key C.cmp (keys_of busy.now.entries) q ≡ false →
+        option_and_then sharable_of_record (record_at C.cmp records.now q) ≡ None }
+    ensures infos { IfOk result (λ infos. option_map (λ v. v.items) infos
+        ≡ shared_for C.cmp records.now millis peers.now bits.now) }
+    ensures err { OnErr result (IsSomeAnd
+        (shared_for C.cmp records.now millis peers.now bits.now) (λ infos. 0 < length infos)) }
+{
+    if bits.len() != peers.len() as u64 {
+        return Ok(None);
+    }
+    // For the proof: the contract of `as_slice` says that the peers are in order.
+    let _keys = peers.as_slice();
+    let mut found = Vec::new(alloc);
+    copy_among(&mut found, records, peers, bits, millis, own, busy.iter())?;
+    Ok(Some(found))
+}
+
+// Appends copies of the infos of these peers that are shared, of the own key and of these keys
+// alone, in order.
+fn copy_among<C: PublicKey, V>(
+    infos: &mut Vec<Info<C>>,
+    records: &Records<C>,
+    peers: &OrderedSet<C>,
+    bits: &BitMap,
+    millis: u64,
+    own: &C,
+    busy: btree_map::Iter<'_, C, V>,
+) -> Result<(), AllocError>
+    requires { length bits.now ≡ length peers.now }
+    ensures infos { OnOk result (infos.new.items ≡ infos.old.items ++ filter_map
+        (shared_with C.cmp records.now millis peers.now bits.now)
+        (with_key C.cmp own.now (keys_of busy.entry))) }
+    ensures err { OnErr result (0 < length (filter_map
+        (shared_with C.cmp records.now millis peers.now bits.now)
+        (with_key C.cmp own.now (keys_of busy.entry)))) }
+{
+    let mut own_left = true;
+    for (key, _) in busy {
+        own_left = copy_own_before(infos, records, peers, bits, millis, own_left, own, key)?;
+        copy_asked(infos, records, peers, bits, millis, key)?;
+    }
+    if own_left {
+        copy_asked(infos, records, peers, bits, millis, own)?;
+    }
+    Ok(())
+}
+
+// Appends a copy of the own info, if it is left and its place is before this key. Returns whether
+// it is left then.
+fn copy_own_before<C: PublicKey>(
+    infos: &mut Vec<Info<C>>,
+    records: &Records<C>,
+    peers: &OrderedSet<C>,
+    bits: &BitMap,
+    millis: u64,
+    own_left: bool,
+    own: &C,
+    key: &C,
+) -> Result<bool, AllocError>
+    requires { length bits.now ≡ length peers.now }
+    ensures infos { IfOk result (λ left. (keys : List C) → infos.new.items ++ filter_map
+        (shared_with C.cmp records.now millis peers.now bits.now)
+        (key.now ∷ left_keys C.cmp left own.now keys)
+        ≡ infos.old.items ++ filter_map
+        (shared_with C.cmp records.now millis peers.now bits.now)
+        (left_keys C.cmp own_left own.now (key.now ∷ keys))) }
+    ensures grown { OnOk result (length infos.old.items ≤ length infos.new.items) }
+    ensures err { OnErr result ((keys : List C) → 0 < length (filter_map
+        (shared_with C.cmp records.now millis peers.now bits.now)
+        (left_keys C.cmp own_left own.now (key.now ∷ keys)))) }
+{
+    if !own_left {
+        return Ok(false);
+    }
+    match own.cmp(key) {
+        Ordering::Less => {
+            copy_asked(infos, records, peers, bits, millis, own)?;
+            Ok(false)
+        }
+        Ordering::Equal => Ok(false),
+        Ordering::Greater => Ok(true),
+    }
+}
+
+// Appends a copy of the info of the peer, if it is one of these and its info is shared.
+fn copy_asked<C: PublicKey>(
+    infos: &mut Vec<Info<C>>,
+    records: &Records<C>,
+    peers: &OrderedSet<C>,
+    bits: &BitMap,
+    millis: u64,
+    peer: &C,
+) -> Result<(), AllocError>
+    requires { length bits.now ≡ length peers.now }
+    ensures infos { OnOk result (infos.new.items ≡ infos.old.items ++ option_to_list
+        (shared_with C.cmp records.now millis peers.now bits.now peer.now)) }
+    ensures err { OnErr result (0 < length (option_to_list
+        (shared_with C.cmp records.now millis peers.now bits.now peer.now))) }
+{
+    let Some(place) = peers.position(peer) else {
+        return Ok(());
+    };
+    copy_info(infos, shared(records, peer, bits.get(place as u64), millis))
 }
 
 // Appends a copy of the info.

@@ -90,7 +90,7 @@ impl<C: PublicKey> Server<C> {
     pub(super) fn infos(&self, bit_vec: &BitVec, now: Duration) -> Reply<C>
         ensures { IsServed C.cmp (Command.Infos bit_vec.now now) result self.now self.now }
     {
-        match self.directory.infos(bit_vec, now) {
+        match self.slots.infos(&self.directory, bit_vec, now) {
             Ok(infos) => Reply::Infos(infos),
             Err(AllocError) => Reply::OutOfMemory,
         }

@@ -3,19 +3,24 @@
 
 ghost use Rattle.std.specs.Prelude.{◌≡◌, ◌∷◌, [], false, true, not, ◌||◌, if◌then◌else◌};
 ghost use Rattle.std.specs.Prelude.{IfSome, IfNone, OnOk, OnErr, None, Some, Option};
-ghost use Rattle.std.specs.Prelude.{option_map, slice_get};
+ghost use Rattle.std.specs.Prelude.{option_map, slice_get, ◌<◌, length, IfOk};
 ghost use Rattle.std.specs.BTreeMap.{is_at};
+ghost use Rattle.std.specs.Duration.{as_nanos};
+ghost use Rattle.std.specs.Option.{IsSomeAnd};
+ghost use Rattle.p2p_tracker.specs.Directory.{IsBusy, infos_in};
 ghost use Rattle.p2p_tracker.specs.Seen.{key_of};
 ghost use Rattle.p2p_tracker.specs.declared.directory.Metadata.{Metadata};
 ghost use Rattle.p2p_directory.specs.Private.Slots.{begins_full, has_slot, held_in, AreSlots};
 
 use super::spend_empty;
 use p2p_discovery::codec::PublicKey;
-use p2p_tracker::directory::{Metadata, Reservation};
+use p2p_discovery::discovery::{BitVec, Info};
+use p2p_tracker::directory::{Directory, Metadata, Reservation};
 use std::alloc::{AllocError, Global};
 use std::collections::BTreeMap;
 use std::collections::btree_map::Entry;
 use std::marker::Model;
+use std::time::Duration;
 
 /// A slot for each of some peers, empty or with its reservation. A contract sees the peers and what
 /// is in the slots, in ascending order. It must be consumed by [`Tree::destroy_empty`].
@@ -114,6 +119,24 @@ impl<C: PublicKey> Tree<C> {
             Some(Some(reservation)) => Some(reservation.metadata()),
             Some(None) | None => None,
         }
+    }
+
+    /// The infos that [`Directory::infos`] returns, by a search for each peer that has a slot, if
+    /// that is less work.
+    pub fn infos(
+        &self,
+        directory: &Directory<C>,
+        bit_vec: &BitVec,
+        now: Duration,
+    ) -> Result<Option<Vec<Info<C>>>, AllocError>
+        requires { (q : C) → IsBusy C.cmp directory.now q → has_slot C.cmp self.now q ≡ true }
+        ensures infos { IfOk result (λ infos. option_map (λ v. v.items) infos
+            ≡ infos_in C.cmp directory.now bit_vec.now.index bit_vec.now.bits (as_nanos now)) }
+        ensures err { OnErr result (IsSomeAnd
+            (infos_in C.cmp directory.now bit_vec.now.index bit_vec.now.bits (as_nanos now))
+            (λ infos. 0 < length infos)) }
+    {
+        directory.infos_among(bit_vec, now, &self.reservations)
     }
 
     /// Removes the slot of the peer if it is empty. It doesn't allocate.

@@ -11,7 +11,7 @@ pub frame_of-requires : goal.frame_of-requires
 frame_of-requires g c =
     let bits = c.args.bits.now in
     let told =
-    few_told g.C.Ord.cmp c.directory-directory.result.now bits.index bits.bits (as_nanos c.args.now) c.in-Some.infos.items
+    few_told g.C.Ord.cmp c.self.inside.server.directory bits.index bits.bits (as_nanos c.args.now) c.in-Some.infos.items
     (sym (ap (option_map (λ v. v.items)) c.in-Some.is) ∙ c.in_ok-infos.ensures.infos) in
     omega (arith, told, ap length c.from_vec-infos.ensures, c.requires)
 
@@ -19,7 +19,7 @@ pub returns-in_ok-frame-in-Some-clause-spelled : goal.returns-in_ok-frame-in-Som
 returns-in_ok-frame-in-Some-clause-spelled g c =
     let bits = c.args.bits.now in
     let infos_are = sym (ap (option_map (λ v. v.items)) c.in-Some.is) ∙ c.in_ok-infos.ensures.infos in
-    let told = few_told g.C.Ord.cmp c.directory-directory.result.now bits.index bits.bits (as_nanos c.args.now) c.in-Some.infos.items infos_are in
+    let told = few_told g.C.Ord.cmp c.self.inside.server.directory bits.index bits.bits (as_nanos c.args.now) c.in-Some.infos.items infos_are in
     let spelled : HaveSpelling g.C.FixedBytes.IsValue g.C.Signature.FixedBytes.IsValue c.from_vec-infos.result =
     record {
       count = omega (arith, told, ap length c.from_vec-infos.ensures, c.requires);
@@ -28,5 +28,5 @@ returns-in_ok-frame-in-Some-clause-spelled g c =
     } in
     subst (λ d. IfSome (infos_in g.C.Ord.cmp d bits.index bits.bits (as_nanos c.args.now))
     (HaveSpelling g.C.FixedBytes.IsValue g.C.Signature.FixedBytes.IsValue))
-    (c.directory-directory.ensures ∙ ap (λ v. v.directory) c.self.view_is)
+    (ap (λ v. v.directory) c.self.view_is)
     (subst (λ o. IfSome o (HaveSpelling g.C.FixedBytes.IsValue g.C.Signature.FixedBytes.IsValue)) (ap Some c.from_vec-infos.ensures ∙ infos_are) spelled)
