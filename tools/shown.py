@@ -48,7 +48,7 @@ def is_seen(copy, kind, names):
     if kind == "play":
         return otherwise(*tried(copy / "crates/play", "--", "--check", f"data/{names[0]}")) > 0
     if kind == "large":
-        lines = "\n".join([*getattr(large, names[0])(int(names[1])).lines, ""])
+        lines = "\n".join([*getattr(large, names[0])(*map(int, names[1:])).lines, ""])
         return otherwise(*tried(copy / "crates/play", "--", "--check", lines=lines)) > 0
     crate = f"crates/{names[0] if names else kind}"
     return bool(failed_tests(copy / crate) - failed_tests(ROOT / crate))

@@ -299,6 +299,26 @@ def few_wanted():
     return script
 
 
+def few_connections():
+    """Sixty peers of six thousand are connected, and a node that is one of them is asked with bits of every kind."""
+    own = 3_000
+    many = range(10, 6_010)
+    script = Script(f'own={own} own_at=1.2.3.4:9000')
+    script.add(f'track 0 {numbers(many)}', 'Some([])')
+    script.update((key for key in many if key != own), 1000, 8000)
+    connected = [*range(100, 6_000, 100)]
+    for key in connected:
+        if key != own:
+            script.add(f'listen {key} 100', 'granted')
+            script.add(f'connect {key} false', 'done')
+    for is_known in (lambda key: False, lambda key: key % 200 == 0, lambda key: key != 4_100, lambda key: key != own,
+                     lambda key: True):
+        known = ''.join('1' if is_known(key) else '0' for key in many)
+        shared = [told(key, 0, 9000) if key == own else told(key, 1000, 8000) for key in connected if not is_known(key)]
+        script.add(f'infos 0 {known} 100', f'Some([{", ".join(shared)}])')
+    return script
+
+
 def many_sets():
     """Sets at places and with indices of each size, up to more than a thousand of them."""
     script = Script('max_sets=2000')
@@ -399,7 +419,7 @@ def all_of(greets, info):
     """Each script by its name. A greeting is given as a frame, and an info as it is spelled."""
     without = [records, blocks, dialable, dialled, held, sets, roles, small_set_goes_and_large_one,
                blocks_that_end_in_turn, blocks_that_end_together, blocks_of_nobody, infos_of_nobody,
-               cooldowns, rounds, rounds_of_blocks, exchange, network, few_wanted, many_sets, peers_of_sets,
+               cooldowns, rounds, rounds_of_blocks, exchange, network, few_wanted, few_connections, many_sets, peers_of_sets,
                bootstrappers, long_name, slots, nodes]
     scripts = {make.__name__: make() for make in without}
     scripts['greeting'] = greeting(greets)

@@ -2,8 +2,8 @@
 
 use p2p_directory::testing::{self, info, key, setup, verify};
 use p2p_directory::{
-    BitVec, Data, Error, Key, Moment, Node, OrderedSet, Payload, Received, Reservation, Setup,
-    Signature, TrackedPeers,
+    BitVec, Data, Error, Info, Key, Moment, Node, OrderedSet, Payload, Received, Reservation,
+    Setup, Signature, TrackedPeers,
 };
 use std::mem;
 use std::num::NonZeroUsize;
@@ -332,4 +332,97 @@ fn sets_are_counted_while_they_are_retained() {
         retained
     });
     assert_eq!(counts, [1, 2, 2]);
+}
+
+// The infos that a node shares for these bits, whose connections are of these peers. The timestamp
+// of a peer's info is its number in milliseconds.
+fn shared(own: &Info, connected: &[u16], now: u64, bits: &[bool]) -> Vec<Info> {
+    let mut infos = Vec::new();
+    for (number, known) in (1..).zip(bits) {
+        let told = match number {
+            _ if key(number) == own.public_key => own.clone(),
+            _ if connected.contains(&number) => info(number, number.into()),
+            _ => continue,
+        };
+        if !known && told.timestamp <= now {
+            infos.push(told);
+        }
+    }
+    infos
+}
+
+// All false, all true, one true, one false, and every other one.
+fn questions(count: usize, place: usize) -> [Vec<bool>; 5] {
+    let one = |known: bool| (0..count).map(move |at| (at == place) == known).collect();
+    let half = (0..count).map(|at| at % 2 == 0).collect();
+    [
+        vec![false; count],
+        vec![true; count],
+        one(true),
+        one(false),
+        half,
+    ]
+}
+
+// With few connections the node searches for these alone, with more it passes along the peers.
+#[test]
+fn few_connections_of_many_peers_are_all_that_is_shared() {
+    const COUNT: u16 = 400;
+    let numbers: Vec<u16> = (1..=COUNT).collect();
+    let infos: Vec<_> = numbers.iter().map(|at| info(*at, u64::from(*at))).collect();
+    // The local node is the first of the peers, one of them, the last, and none.
+    for own in [1, 200, COUNT, COUNT + 1] {
+        let mine = setup(own).myself;
+        let mut node = node(own, &numbers);
+        node.directory_mut().update_peers(&infos).unwrap();
+        let mut peers = Vec::new();
+        let mut held = Vec::new();
+        for peer in (0..60)
+            .map(|at| 3 + at * 397 % COUNT)
+            .filter(|at| *at != own)
+        {
+            for now in [0, 199, 200, 1_000] {
+                for bits in questions(COUNT.into(), usize::from(peer) - 1) {
+                    let answer = shared(&mine, &peers, now, &bits);
+                    let bits = BitVec { index: 0, bits };
+                    let now = Moment::from(Duration::from_millis(now));
+                    let told = node.directory().infos(&bits, now).unwrap();
+                    assert_eq!(told, Some(answer), "{own} {peers:?}");
+                }
+            }
+            held.push(connected(&mut node, peer));
+            peers.push(peer);
+        }
+        // Who is reserved alone shares nothing.
+        let mut directory = node.directory_mut();
+        let reserved = directory.listen(&key(2), seconds(50), Duration::ZERO);
+        held.push(reserved.unwrap().unwrap());
+        let bits = vec![false; COUNT.into()];
+        let answer = shared(&mine, &peers, 1_000, &bits);
+        let told = directory.infos(&BitVec { index: 0, bits }, seconds(1));
+        assert_eq!(told.unwrap(), Some(answer));
+        // Bits of another number, and of a set that isn't retained.
+        let bits = vec![false; usize::from(COUNT) - 1];
+        assert_eq!(
+            directory
+                .infos(
+                    &BitVec {
+                        index: 0,
+                        bits: bits.clone()
+                    },
+                    seconds(1)
+                )
+                .unwrap(),
+            None
+        );
+        assert_eq!(
+            directory
+                .infos(&BitVec { index: 1, bits }, seconds(1))
+                .unwrap(),
+            Some(vec![])
+        );
+        for reservation in held {
+            directory.release(reservation).unwrap();
+        }
+    }
 }

@@ -1,23 +1,19 @@
 -- Slots in a list that is sorted once: where a search finds one, and what a change of it leaves.
 use Rattle.std.proofs.Common.{◌≡◌, ℕ, zero, suc, ◌<◌, ◌≤◌, Bool, true, false, List, [], ◌∷◌, ◌++◌, length, map, get_or}
-use Rattle.std.proofs.Common.{Option, Some, None, Result, Ok, Err, refl, sym, ◌∙◌, ap, subst, cond, inl, inr, arith}
-use Rattle.std.specs.Prelude.{◌||◌, ◌+◌, is_some, slice_get, IfSome, IfNone, IsSome, IfOk, OnOk, OnErr}
+use Rattle.std.proofs.Common.{Option, Some, None, Result, Ok, Err, refl, sym, ◌∙◌, ap, subst, cond, arith}
+use Rattle.std.specs.Prelude.{◌||◌, is_some, slice_get, IfSome, IfNone, IsSome, IfOk, OnOk, OnErr}
 use Rattle.std.specs.BTreeMap.{is_at}
 use Rattle.std.specs.Cmp.{IsTotalOrder, eq_by_cmp_equiv}
-use Rattle.std.specs.List.{AllByRecursion, Contains, insert, remove, slice_set}
-use Rattle.std.specs.List.Sorted.{IsStrictlySortedBy, IsPartitionPoint, IsSortedBy, IsBinarySearchResult, IsSearchInRange}
+use Rattle.std.specs.List.{AllByRecursion, Contains, insert}
+use Rattle.std.specs.List.Sorted.{IsStrictlySortedBy, IsPartitionPoint, IsBinarySearchResult, IsSearchInRange}
 use Rattle.std.specs.Map.{keys_of, remove_entry, set_value}
 use Rattle.std.specs.Option.{option_flatten, option_to_list}
-use Rattle.std.specs.Ordering.{is_eq, is_lt, ordering_reverse}
+use Rattle.std.specs.Ordering.{ordering_reverse}
 use Rattle.std.specs.declared.cmp.Ordering.{Ordering}
 use Rattle.std.specs.declared.cmp.Ordering.TheVariants.{Less, Greater}
-use Rattle.std.proofs.lemmas.Bool.{cases_lt}
-use Rattle.std.proofs.lemmas.Cmp.{tied_itself}
-use Rattle.std.proofs.lemmas.List.{get_or-map}
 use Rattle.std.proofs.lemmas.List.Sorted.{searchable_from_sorted}
-use Rattle.std.proofs.lemmas.Map.{NonePasses, lookup-none, lookup-insert, lookup-set_value, lookup-remove_entry, keys-set_value}
-use Rattle.std.proofs.lemmas.Map.Entries.{length-keys_of}
-use Rattle.std.proofs.lemmas.Map.Keys.{sorted_tail, IsDistinct-from_sorted, Less-from_sorted}
+use Rattle.std.proofs.lemmas.Map.{lookup-insert, lookup-set_value, lookup-remove_entry, keys-set_value}
+use Rattle.std.proofs.lemmas.Map.Keys.{IsDistinct-from_sorted}
 use Rattle.std.proofs.lemmas.Map.Lookups.{CmpEqualImpliesEq}
 use Rattle.std.proofs.lemmas.Map.Steps.{set_value_same}
 use Rattle.std.proofs.lemmas.Map.Views.{tells_apart}
