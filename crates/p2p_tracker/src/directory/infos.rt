@@ -32,7 +32,7 @@ use std::time::Duration;
 const SPARSE: usize = 8;
 
 // .. and past so many as one search among the peers and one among the records.
-const BUSY: usize = 16;
+const BUSY: usize = 4;
 
 impl<C: PublicKey> Directory<C> {
     ghost use Rattle.p2p_tracker.specs.Directory.{IsBusy, sharable_in, infos_in, bit_vec_at};
@@ -114,7 +114,7 @@ impl<C: PublicKey> Directory<C> {
     ///
     /// # Cost
     ///
-    /// One pass over the retained sets. Then, if there are at least 16 records for each key of the
+    /// One pass over the retained sets. Then, if there are at least 4 records for each key of the
     /// map, one search among the primary peers for each key and for the local node, and one among
     /// the records for each that is found and whose bit is false. Otherwise that of
     /// [`Directory::infos`].
