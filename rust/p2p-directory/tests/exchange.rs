@@ -394,7 +394,7 @@ fn few_connections_of_many_peers_are_all_that_is_shared() {
             peers.push(peer);
         }
         // Who is reserved alone shares nothing.
-        let mut directory = node.directory_mut();
+        let directory = node.directory_mut();
         let reserved = directory.listen(&key(2), seconds(50), Duration::ZERO);
         held.push(reserved.unwrap().unwrap());
         let bits = vec![false; COUNT.into()];
