@@ -226,15 +226,15 @@ module _ {C : Type 0} {cmp : C → C → Ordering} (total : IsTotalOrder cmp) wh
   -- whoever has no place has no bit
   pub found_nowhere : CmpEqualImpliesEq cmp → (ps : List C) (bits : List Bool) (q : C) →
       ((k : ℕ) → ¬ (IsPlaceOf q ps k)) → lookup (is_at (cmp q)) (zip ps bits) ≡ None
-  found_nowhere exact [] bits q nowhere = refl
-  found_nowhere exact (p ∷ ps) [] q nowhere = refl
-  found_nowhere exact (p ∷ ps) (b ∷ bits) q nowhere =
+  found_nowhere exact [] bits q absent = refl
+  found_nowhere exact (p ∷ ps) [] q absent = refl
+  found_nowhere exact (p ∷ ps) (b ∷ bits) q absent =
       go (is_at (cmp q) p) refl (found_nowhere exact ps bits q
-      (λ k at. nowhere (suc k) (record { in_range = omega (arith, at.in_range); at_place = at.at_place })))
+      (λ k at. absent (suc k) (record { in_range = omega (arith, at.in_range); at_place = at.at_place })))
     where
       go : (t : Bool) → is_at (cmp q) p ≡ t → lookup (is_at (cmp q)) (zip ps bits) ≡ None →
           cond t (Some b) (lookup (is_at (cmp q)) (zip ps bits)) ≡ None
-      go true e rest = absurd (nowhere zero (record {
+      go true e rest = absurd (absent zero (record {
         in_range = omega (arith);
         at_place = sym (exact q p (is_equal (cmp q p) e));
       }))
