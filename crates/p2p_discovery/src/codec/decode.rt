@@ -60,12 +60,37 @@ pub trait Read: EncodeSize + Drop + Sized {
         Ok(value)
     }
 
-    /// Decodes the value that all of the bytes encode. It succeeds if, and only if, they are the
-    /// encoding of a value within the limits.
+    /// Decodes the value that all of the bytes encode, and leaves them to the caller. It succeeds
+    /// if, and only if, they are the encoding of a value within the limits.
     ///
     /// # Errors
     ///
     /// Those of [`Read::read`]; after the value was decoded, `ExtraData(n)` if n bytes are left.
+    ///
+    /// # Cost
+    ///
+    /// That of [`Read::read`].
+    final fn decode_from(alloc: Global, bytes: &Bytes, cfg: &Self::Cfg) -> Result<Self, CodecError>
+        ensures found { IfOk result (λ v. Self.IsValue v × Admits cfg.now v
+            × (bytes.now ≡ Self.spelling v)) }
+        ensures only { (v : Self) → Self.IsValue v → Admits cfg.now v
+            → bytes.now ≡ Self.spelling v → Leaves result [] v [] }
+        ensures exact { Gives result [] (whole (reading cfg.now) bytes.now) }
+    {
+        let mut reader = Reader::new(bytes);
+        let value = Self::read(alloc, &mut reader, cfg)?;
+        let rest = reader.len();
+        if rest != 0 {
+            return Err(CodecError::ExtraData(rest));
+        }
+        Ok(value)
+    }
+
+    /// [`Read::decode_from`] of a buffer that isn't needed afterwards.
+    ///
+    /// # Errors
+    ///
+    /// Those of [`Read::decode_from`].
     ///
     /// # Cost
     ///
@@ -77,13 +102,7 @@ pub trait Read: EncodeSize + Drop + Sized {
             → buf ≡ Self.spelling v → Leaves result [] v [] }
         ensures exact { Gives result [] (whole (reading cfg.now) buf) }
     {
-        let mut reader = Reader::new(&buf);
-        let value = Self::read(alloc, &mut reader, cfg)?;
-        let rest = reader.len();
-        if rest != 0 {
-            return Err(CodecError::ExtraData(rest));
-        }
-        Ok(value)
+        Self::decode_from(alloc, &buf, cfg)
     }
 
     /// [`Read::decode_cfg`] of a type without limits.
