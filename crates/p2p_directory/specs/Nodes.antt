@@ -1,15 +1,17 @@
 -- Nodes: what contracts see of one, what it is made from, and how it stands at the point after the
 -- calls that its directory accepted.
 use Rattle.std.specs.Prelude.{ℕ, ◌≡◌, ◌<◌, ◌^◌, ◌∷◌, Bool, true, false, ◌⊎◌, List, Option, Some}
-use Rattle.std.specs.Prelude.{None, Result}
+use Rattle.std.specs.Prelude.{None, Result, Ok, []}
 use Rattle.std.specs.Prelude.{IfOk, IfSome, OnErr, is_some, slice_get, length, ◌≤◌}
 use Rattle.std.specs.Duration.{as_nanos}
 use Rattle.std.specs.List.{AllByRecursion}
 use Rattle.std.specs.declared.cmp.Ordering.{Ordering}
 use Rattle.p2p_discovery.specs.declared.discovery.Info.{Info}
+use Rattle.p2p_discovery.specs.declared.discovery.Payload.{Payload}
 use Rattle.p2p_discovery.specs.declared.discovery.PayloadConfig.{PayloadConfig}
 use Rattle.p2p_discovery.specs.Info.{IsInfo, IsKeyed}
 use Rattle.p2p_discovery.specs.Judgement.{Verifier, judge_of}
+use Rattle.p2p_discovery.specs.Reading.{Reading, whole}
 use Rattle.p2p_tracker.specs.declared.directory.Metadata.{Metadata}
 use Rattle.p2p_directory.specs.declared.node.Received.{Received}
 use Rattle.p2p_directory.specs.declared.node.Setup.{Setup}
@@ -49,6 +51,16 @@ standing_of cmp wire v = record {
   bits = bit_vec_at cmp v.directory;
   infos = infos_in cmp v.directory;
 }
+
+-- a frame that was decoded: its bytes, the payload, and the limits
+pub record DecodedView (C S : Type 0) : Type 0 where
+  pub frame : List ℕ
+  pub payload : Payload C S
+  pub limits : PayloadConfig
+
+-- the bytes of a frame, as they are read, are those of the payload and no more
+abbrev pub IsDecoded : {P : Type 0} → (List ℕ → Reading P) → List ℕ → P → Type 0
+IsDecoded reading frame payload = (whole reading frame).outcome ≡ Ok (payload, [])
 
 -- WHAT IT IS MADE FROM
 

@@ -1,6 +1,6 @@
 -- What a node asks and what it answers to a frame, and which infos are applied with that. Frames
 -- are bytes, moments nanoseconds.
-use Rattle.std.specs.Prelude.{ℕ, ◌≡◌, ◌==◌, Bool, true, false, not, ◌||◌, List, [], ◌∷◌, length}
+use Rattle.std.specs.Prelude.{ℕ, ◌≡◌, ◌==◌, ◌<◌, ◌^◌, Bool, true, false, not, ◌||◌, List, [], ◌∷◌, length}
 use Rattle.std.specs.Prelude.{Option, Some, None, option_map, Result, Ok, Err}
 use Rattle.p2p_discovery.specs.declared.codec.error.CodecError.{CodecError}
 use Rattle.p2p_discovery.specs.declared.discovery.BitVec.{BitVec}
@@ -12,6 +12,8 @@ use Rattle.p2p_discovery.specs.declared.discovery.PayloadConfig.{PayloadConfig}
 use Rattle.p2p_discovery.specs.Reading.{Reading, whole}
 use Rattle.p2p_discovery.specs.Judgement.{Judge, refusal_if, list_refusal_by, verdicts_on}
 use Rattle.p2p_discovery.specs.Payload.{payload_spelling, payload_at, infos_of_payload}
+use Rattle.p2p_directory.specs.declared.node.Answer.{Answer}
+use Rattle.p2p_directory.specs.declared.node.Answer.TheVariants as answer
 use Rattle.p2p_directory.specs.declared.node.Received.{Received}
 use Rattle.p2p_directory.specs.declared.node.Received.TheVariants as received
 
@@ -83,6 +85,11 @@ module _ {C S : Type 0} where
   told_with o received.Memory = []
   told_with o r = o.told
 
+-- the infos of a reply are so few that their number can be encoded
+abbrev pub AreFew : {C S : Type 0} → Answer C S → Type 0
+AreFew (answer.Infos infos) = length infos < 2 ^ 32
+AreFew (answer.Received r) = Unit {0}
+
 -- want of memory, and no other answer
 abbrev pub IsWantOfMemory : Received → Type 0
 IsWantOfMemory received.Memory = Unit {0}
@@ -141,6 +148,11 @@ module _ {C S : Type 0} (wire : Wire C S) where
   abbrev pub read_at : Standing C S → ℕ → Result (Payload C S × List ℕ) CodecError →
       FrameOutcome C S
   read_at node now = read_by (verdicts_of node.judge) node now
+
+  -- what is returned for a frame, once the infos of a reply are encoded
+  abbrev pub received_of : Answer C S → Received
+  received_of (answer.Infos infos) = received.Reply (wire.spelling (said.Peers infos))
+  received_of (answer.Received r) = r
 
   -- RECEIVED: what a node answers to a frame at a moment, by these verdicts
   abbrev pub received_by : (Payload C S → List Bool) → Standing C S → List ℕ → ℕ → FrameOutcome C S

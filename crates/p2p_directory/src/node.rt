@@ -12,10 +12,12 @@ ghost use Rattle.p2p_directory.specs.Nodes.{AnswersFrame, AsksWith, TellsValues,
 ghost use Rattle.p2p_directory.specs.Nodes.{AnswersFrameBy, IsReceivedBy, standing_of};
 ghost use Rattle.p2p_directory.specs.Nodes.{TearsDownFew};
 ghost use Rattle.p2p_directory.specs.Received.{are_miscounted, IsWantOfMemory};
+ghost use Rattle.p2p_directory.specs.Received.{received_of, AreFew};
 ghost use Rattle.p2p_discovery.specs.Payload.{payload_at};
-ghost use Rattle.p2p_discovery.specs.Reading.{Gives, whole};
+ghost use Rattle.p2p_discovery.specs.Reading.{GivesAs, whole};
 ghost use Rattle.p2p_directory.specs.Laws.LateFrames.{TakesLateAt};
 
+pub use crate::node::decoded::Decoded;
 use crate::node::endpoint::Endpoint;
 pub use crate::node::exchanged::{Exchanged, exchange};
 pub use crate::node::network::{Network, NetworkCommand, NetworkReply, NetworkRun, run_network};
@@ -26,7 +28,7 @@ use crate::run::{Command, Held, Reply};
 use bytes::Bytes;
 use p2p_discovery::codec::{CodecError, PublicKey, Write};
 use p2p_discovery::data::Data;
-use p2p_discovery::discovery::{Error, Info, InfoVerifier, Payload, PayloadConfig};
+use p2p_discovery::discovery::{Error, Info, InfoVerifier, Infos, PayloadConfig};
 use p2p_discovery::types::Ingress;
 use p2p_tracker::directory::{Config, Directory, Metadata, TrackedPeers};
 use p2p_tracker::record::Status;
@@ -34,6 +36,7 @@ use std::alloc::{AllocError, Global};
 use std::marker::Model;
 use std::time::Duration;
 
+mod decoded;
 mod endpoint;
 mod exchanged;
 mod network;
@@ -78,6 +81,16 @@ pub enum Received {
     Invalid(Error),
     /// An allocation failed. Nothing has changed.
     Memory,
+}
+
+/// What a node returns for a frame that was decoded. The infos of a reply aren't encoded yet.
+#[derive(Drop)]
+pub enum Answer<C: PublicKey> {
+    /// The infos for the bits that were received: encoded, they are a [`Received::Reply`]. Nothing
+    /// has changed.
+    Infos(Infos<C>),
+    /// Any other result.
+    Received(Received),
 }
 
 /// The number of verification results that were passed differs from the number of infos of the
@@ -490,8 +503,54 @@ impl<C: PublicKey> Node<C> {
         self.endpoint.answer_by(frame, now, verdicts)
     }
 
-    /// The payload that a frame encodes, as [`Node::receive`] reads it: under the limits of the
-    /// node.
+    /// Processes a frame that was received at the time `now` as [`Node::receive_by`] does, but the
+    /// infos of a reply aren't encoded.
+    ///
+    /// # Errors
+    ///
+    /// Those of [`Node::receive_by`].
+    ///
+    /// # Cost
+    ///
+    /// One pass over the frame, and the cost of the call.
+    pub fn answer_by(
+        &mut self,
+        frame: Bytes,
+        now: Duration,
+        verdicts: &[bool],
+    ) -> Result<Answer<C>, Miscounted>
+        ensures seen { IfOk result (λ a. AnswersFrameBy C.cmp (wire_of C.SIZE C.spelled C.value
+            C.Signature.SIZE C.Signature.spelled C.Signature.value C.verifies)
+            verdicts.now frame (as_nanos now) (received_of (wire_of C.SIZE C.spelled C.value
+            C.Signature.SIZE C.Signature.spelled C.Signature.value C.verifies) a)
+            self.old self.new) }
+        ensures received { IfOk result (λ a. IsReceivedBy C.cmp (wire_of C.SIZE C.spelled C.value
+            C.Signature.SIZE C.Signature.spelled C.Signature.value C.verifies)
+            verdicts.now frame (as_nanos now) (received_of (wire_of C.SIZE C.spelled C.value
+            C.Signature.SIZE C.Signature.spelled C.Signature.value C.verifies) a)
+            self.old self.new) }
+        ensures unchanged { IfOk result (λ a. applies (received_of (wire_of C.SIZE C.spelled C.value
+            C.Signature.SIZE C.Signature.spelled C.Signature.value C.verifies) a) ≡ false
+            → self.new ≡ self.old) }
+        ensures counted { let node = standing_of C.cmp (wire_of C.SIZE C.spelled C.value
+            C.Signature.SIZE C.Signature.spelled C.Signature.value C.verifies) self.old in
+            IfOk result (λ a. are_miscounted (wire_of C.SIZE C.spelled C.value
+            C.Signature.SIZE C.Signature.spelled C.Signature.value C.verifies)
+            node frame verdicts.now ≡ true → IsWantOfMemory (received_of (wire_of C.SIZE C.spelled C.value
+            C.Signature.SIZE C.Signature.spelled C.Signature.value C.verifies) a)) }
+        ensures few { IfOk result AreFew }
+        ensures err { let node = standing_of C.cmp (wire_of C.SIZE C.spelled C.value
+            C.Signature.SIZE C.Signature.spelled C.Signature.value C.verifies) self.old in
+            OnErr result (are_miscounted (wire_of C.SIZE C.spelled C.value
+            C.Signature.SIZE C.Signature.spelled C.Signature.value C.verifies)
+            node frame verdicts.now ≡ true) }
+        ensures err_same { OnErr result (self.new ≡ self.old) }
+    {
+        self.endpoint.answer_frame(frame, now, verdicts)
+    }
+
+    /// A frame with the payload that it encodes, as [`Node::receive`] decodes it: under the limits of
+    /// the node.
     ///
     /// # Errors
     ///
@@ -500,11 +559,59 @@ impl<C: PublicKey> Node<C> {
     /// # Cost
     ///
     /// One pass over the frame.
-    pub fn read(&self, frame: Bytes) -> Result<Payload<C>, CodecError>
-        ensures { Gives result [] (whole (payload_at C.SIZE C.value
+    pub fn decode(&self, frame: Bytes) -> Result<Decoded<C>, CodecError>
+        ensures exact { GivesAs (λ d. d.payload) result [] (whole (payload_at C.SIZE C.value
             C.Signature.SIZE C.Signature.value self.now.limits) frame) }
+        ensures frame { IfOk result (λ d. d.frame ≡ frame) }
+        ensures limits { IfOk result (λ d. d.limits ≡ self.now.limits) }
     {
-        self.endpoint.read_frame(frame)
+        self.endpoint.decode(frame)
+    }
+
+    /// Processes a frame that was decoded, at the time `now`, as [`Node::answer_by`] does. It is
+    /// decoded anew only if that was done under other limits.
+    ///
+    /// # Errors
+    ///
+    /// Those of [`Node::receive_by`].
+    ///
+    /// # Cost
+    ///
+    /// That of the call.
+    pub fn answer_decoded(
+        &mut self,
+        decoded: Decoded<C>,
+        now: Duration,
+        verdicts: &[bool],
+    ) -> Result<Answer<C>, Miscounted>
+        ensures seen { IfOk result (λ a. AnswersFrameBy C.cmp (wire_of C.SIZE C.spelled C.value
+            C.Signature.SIZE C.Signature.spelled C.Signature.value C.verifies)
+            verdicts.now decoded.frame (as_nanos now) (received_of (wire_of C.SIZE C.spelled C.value
+            C.Signature.SIZE C.Signature.spelled C.Signature.value C.verifies) a)
+            self.old self.new) }
+        ensures received { IfOk result (λ a. IsReceivedBy C.cmp (wire_of C.SIZE C.spelled C.value
+            C.Signature.SIZE C.Signature.spelled C.Signature.value C.verifies)
+            verdicts.now decoded.frame (as_nanos now) (received_of (wire_of C.SIZE C.spelled C.value
+            C.Signature.SIZE C.Signature.spelled C.Signature.value C.verifies) a)
+            self.old self.new) }
+        ensures unchanged { IfOk result (λ a. applies (received_of (wire_of C.SIZE C.spelled C.value
+            C.Signature.SIZE C.Signature.spelled C.Signature.value C.verifies) a) ≡ false
+            → self.new ≡ self.old) }
+        ensures counted { let node = standing_of C.cmp (wire_of C.SIZE C.spelled C.value
+            C.Signature.SIZE C.Signature.spelled C.Signature.value C.verifies) self.old in
+            IfOk result (λ a. are_miscounted (wire_of C.SIZE C.spelled C.value
+            C.Signature.SIZE C.Signature.spelled C.Signature.value C.verifies)
+            node decoded.frame verdicts.now ≡ true → IsWantOfMemory (received_of (wire_of C.SIZE C.spelled C.value
+            C.Signature.SIZE C.Signature.spelled C.Signature.value C.verifies) a)) }
+        ensures few { IfOk result AreFew }
+        ensures err { let node = standing_of C.cmp (wire_of C.SIZE C.spelled C.value
+            C.Signature.SIZE C.Signature.spelled C.Signature.value C.verifies) self.old in
+            OnErr result (are_miscounted (wire_of C.SIZE C.spelled C.value
+            C.Signature.SIZE C.Signature.spelled C.Signature.value C.verifies)
+            node decoded.frame verdicts.now ≡ true) }
+        ensures err_same { OnErr result (self.new ≡ self.old) }
+    {
+        self.endpoint.answer_decoded(decoded, now, verdicts)
     }
 
     /// The verifier of infos.

@@ -14,9 +14,10 @@ ghost use Rattle.p2p_directory.specs.Held.{held_of, AreHeld, ReleasesAll};
 ghost use Rattle.p2p_directory.specs.Run.{call_of, was_made};
 ghost use Rattle.p2p_directory.specs.Received.{wire_of, greeted, replied, taken, takes_room};
 ghost use Rattle.p2p_directory.specs.Received.{applies, told_with, are_miscounted, answered_by};
+ghost use Rattle.p2p_directory.specs.Received.{received_of, AreFew};
 ghost use Rattle.p2p_directory.specs.Received.{first_verdict, IsWantOfMemory};
 ghost use Rattle.p2p_discovery.specs.Payload.{infos_of_payload, payload_at};
-ghost use Rattle.p2p_discovery.specs.Reading.{Gives, whole};
+ghost use Rattle.p2p_discovery.specs.Reading.{GivesAs, whole};
 ghost use Rattle.p2p_directory.specs.Nodes.{AnswersFrameBy, standing_of};
 ghost use Rattle.p2p_directory.specs.Nodes.{may_reserve, Answers, AnswersFrame, AsksWith};
 ghost use Rattle.p2p_directory.specs.Nodes.{AreValues, TellsValues, IsStepped, TearsDownFew};
@@ -25,7 +26,8 @@ ghost use Rattle.p2p_directory.specs.Private.Serving.{has_slot_for};
 ghost use Rattle.p2p_directory.specs.Private.Slots.{contents, has_slot, held_in};
 ghost use Rattle.p2p_directory.specs.Private.Endpoints.{node_of, IsServedBy};
 
-use crate::node::{Miscounted, Received};
+use crate::node::decoded::{Decoded, are_equal};
+use crate::node::{Answer, Miscounted, Received};
 use crate::run::server::Server;
 use crate::run::{Command, Held, Reply};
 use bytes::Bytes;
@@ -166,12 +168,14 @@ impl<C: PublicKey> Endpoint<C> {
         self.server.directory()
     }
 
-    /// The payload that a frame encodes.
-    pub fn read_frame(&self, frame: Bytes) -> Result<Payload<C>, CodecError>
-        ensures { Gives result [] (whole (payload_at C.SIZE C.value
+    /// A frame with the payload that it encodes under the limits.
+    pub fn decode(&self, frame: Bytes) -> Result<Decoded<C>, CodecError>
+        ensures exact { GivesAs (λ d. d.payload) result [] (whole (payload_at C.SIZE C.value
             C.Signature.SIZE C.Signature.value self.now.limits) frame) }
+        ensures frame { IfOk result (λ d. d.frame ≡ frame) }
+        ensures limits { IfOk result (λ d. d.limits ≡ self.now.limits) }
     {
-        Payload::<C>::decode_cfg(self.server.directory().allocator(), frame, &self.payload)
+        Decoded::new(self.server.directory().allocator(), frame, self.payload)
     }
 
     /// The verifier of infos.
@@ -270,6 +274,81 @@ impl<C: PublicKey> Endpoint<C> {
         }
     }
 
+    /// Processes a frame as [`Endpoint::answer_by`] does, but the infos of a reply aren't encoded.
+    pub fn answer_frame(
+        &mut self,
+        frame: Bytes,
+        now: Duration,
+        verdicts: &[bool],
+    ) -> Result<Answer<C>, Miscounted>
+        ensures seen { IfOk result (λ a. AnswersFrameBy C.cmp (wire_of C.SIZE C.spelled C.value
+            C.Signature.SIZE C.Signature.spelled C.Signature.value C.verifies)
+            verdicts.now frame (as_nanos now) (received_of (wire_of C.SIZE C.spelled C.value
+            C.Signature.SIZE C.Signature.spelled C.Signature.value C.verifies) a)
+            (node_of self.old) (node_of self.new)) }
+        ensures unchanged { IfOk result (λ a. applies (received_of (wire_of C.SIZE C.spelled C.value
+            C.Signature.SIZE C.Signature.spelled C.Signature.value C.verifies) a) ≡ false
+            → self.new ≡ self.old) }
+        ensures counted { let node = standing_of C.cmp (wire_of C.SIZE C.spelled C.value
+            C.Signature.SIZE C.Signature.spelled C.Signature.value C.verifies) (node_of self.old) in
+            IfOk result (λ a. are_miscounted (wire_of C.SIZE C.spelled C.value
+            C.Signature.SIZE C.Signature.spelled C.Signature.value C.verifies)
+            node frame verdicts.now ≡ true → IsWantOfMemory (received_of (wire_of C.SIZE C.spelled C.value
+            C.Signature.SIZE C.Signature.spelled C.Signature.value C.verifies) a)) }
+        ensures few { IfOk result AreFew }
+        ensures err { let node = standing_of C.cmp (wire_of C.SIZE C.spelled C.value
+            C.Signature.SIZE C.Signature.spelled C.Signature.value C.verifies) (node_of self.old) in
+            OnErr result (are_miscounted (wire_of C.SIZE C.spelled C.value
+            C.Signature.SIZE C.Signature.spelled C.Signature.value C.verifies)
+            node frame verdicts.now ≡ true) }
+        ensures err_same { OnErr result (self.new ≡ self.old) }
+        ensures slots { self.new.slots ≡ self.old.slots }
+    {
+        let alloc = self.server.directory().allocator();
+        match Payload::<C>::decode_cfg(alloc, frame, &self.payload) {
+            Ok(payload) => self.answer_payload(payload, now, verdicts),
+            Err(fault) => Ok(Answer::Received(refused(fault))),
+        }
+    }
+
+    /// Processes a frame that was decoded, as [`Endpoint::answer_frame`] does. It is decoded anew if
+    /// that was done under other limits.
+    pub fn answer_decoded(
+        &mut self,
+        decoded: Decoded<C>,
+        now: Duration,
+        verdicts: &[bool],
+    ) -> Result<Answer<C>, Miscounted>
+        ensures seen { IfOk result (λ a. AnswersFrameBy C.cmp (wire_of C.SIZE C.spelled C.value
+            C.Signature.SIZE C.Signature.spelled C.Signature.value C.verifies)
+            verdicts.now decoded.frame (as_nanos now) (received_of (wire_of C.SIZE C.spelled C.value
+            C.Signature.SIZE C.Signature.spelled C.Signature.value C.verifies) a)
+            (node_of self.old) (node_of self.new)) }
+        ensures unchanged { IfOk result (λ a. applies (received_of (wire_of C.SIZE C.spelled C.value
+            C.Signature.SIZE C.Signature.spelled C.Signature.value C.verifies) a) ≡ false
+            → self.new ≡ self.old) }
+        ensures counted { let node = standing_of C.cmp (wire_of C.SIZE C.spelled C.value
+            C.Signature.SIZE C.Signature.spelled C.Signature.value C.verifies) (node_of self.old) in
+            IfOk result (λ a. are_miscounted (wire_of C.SIZE C.spelled C.value
+            C.Signature.SIZE C.Signature.spelled C.Signature.value C.verifies)
+            node decoded.frame verdicts.now ≡ true → IsWantOfMemory (received_of (wire_of C.SIZE C.spelled C.value
+            C.Signature.SIZE C.Signature.spelled C.Signature.value C.verifies) a)) }
+        ensures few { IfOk result AreFew }
+        ensures err { let node = standing_of C.cmp (wire_of C.SIZE C.spelled C.value
+            C.Signature.SIZE C.Signature.spelled C.Signature.value C.verifies) (node_of self.old) in
+            OnErr result (are_miscounted (wire_of C.SIZE C.spelled C.value
+            C.Signature.SIZE C.Signature.spelled C.Signature.value C.verifies)
+            node decoded.frame verdicts.now ≡ true) }
+        ensures err_same { OnErr result (self.new ≡ self.old) }
+        ensures slots { self.new.slots ≡ self.old.slots }
+    {
+        let (frame, payload, limits) = decoded.into_parts();
+        if are_equal(limits, self.payload) {
+            return self.answer_payload(payload, now, verdicts);
+        }
+        self.answer_frame(frame, now, verdicts)
+    }
+
     /// Releases all reservations, and returns the directory. It doesn't allocate.
     pub fn finish(self) -> Directory<C>
         ensures { ReleasesAll C.cmp (contents self.slots) self.directory result }
@@ -326,6 +405,60 @@ impl<C: PublicKey> Endpoint<C> {
             Payload::BitVec(bits) => self.reply(&bits, now),
             Payload::Peers(infos) => self.take_by(infos, now, verdicts),
         })
+    }
+
+    // Processes a payload, given whether the signatures of its infos are valid. The infos of a reply
+    // aren't encoded.
+    fn answer_payload(
+        &mut self,
+        payload: Payload<C>,
+        now: Duration,
+        verdicts: &[bool],
+    ) -> Result<Answer<C>, Miscounted>
+        requires admitted { IsAdmitted C.IsValue C.Signature.IsValue self.old.limits payload }
+        requires limit { self.old.limits.max_bit_vec < 2 ^ 32 }
+        ensures seen { let o = answered_by (wire_of C.SIZE C.spelled C.value
+            C.Signature.SIZE C.Signature.spelled C.Signature.value C.verifies) verdicts.now
+            (standing_of C.cmp (wire_of C.SIZE C.spelled C.value
+            C.Signature.SIZE C.Signature.spelled C.Signature.value C.verifies) (node_of self.old))
+            (as_nanos now) payload in
+            IfOk result (λ a. Answers C.cmp (takes_room o.answer) o
+            (received_of (wire_of C.SIZE C.spelled C.value
+            C.Signature.SIZE C.Signature.spelled C.Signature.value C.verifies) a)
+            (node_of self.old) (node_of self.new)) }
+        ensures unchanged { IfOk result (λ a. applies (received_of (wire_of C.SIZE C.spelled C.value
+            C.Signature.SIZE C.Signature.spelled C.Signature.value C.verifies) a) ≡ false
+            → self.new ≡ self.old) }
+        ensures counted { IfOk result (λ _.
+            length (infos_of_payload payload) ≡ length verdicts.now) }
+        ensures few { IfOk result AreFew }
+        ensures err { OnErr result (¬ (length (infos_of_payload payload) ≡ length verdicts.now)) }
+        ensures err_same { OnErr result (self.new ≡ self.old) }
+        ensures slots { self.new.slots ≡ self.old.slots }
+    {
+        match payload {
+            Payload::BitVec(_) if !verdicts.is_empty() => Err(Miscounted),
+            Payload::BitVec(bits) => Ok(self.infos_for(&bits, now)),
+            payload => Ok(Answer::Received(self.answer_payload_by(payload, now, verdicts)?)),
+        }
+    }
+
+    // The infos with which bits are answered.
+    fn infos_for(&self, bits: &BitVec, now: Duration) -> Answer<C>
+        requires { length bits.now.bits < 2 ^ 32 }
+        ensures seen { let o = replied (wire_of C.SIZE C.spelled C.value
+            C.Signature.SIZE C.Signature.spelled C.Signature.value C.verifies)
+            (infos_in C.cmp self.now.directory bits.now.index bits.now.bits (as_nanos now)) in
+            Answers C.cmp (takes_room o.answer) o (received_of (wire_of C.SIZE C.spelled C.value
+            C.Signature.SIZE C.Signature.spelled C.Signature.value C.verifies) result)
+            (node_of self.now) (node_of self.now) }
+        ensures few { AreFew result }
+    {
+        match self.server.infos_for(bits, now) {
+            Ok(Some(infos)) => Answer::Infos(Infos::from_vec(infos)),
+            Ok(None) => Answer::Received(Received::Malformed),
+            Err(AllocError) => Answer::Received(Received::Memory),
+        }
     }
 
     // Verifies the info of a greeting, and applies it.
