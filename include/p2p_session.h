@@ -323,7 +323,8 @@ uint64_t p2p_session_ask(
 // bytes. Then follows, in their order, each info whose signature decides whether it is refused: the
 // length of its signed bytes in 8 bytes, its key, the signed bytes, its signature. The list stops
 // before the first info that is refused whatever its signature is. Namespace and signature scheme
-// are the host's.
+// are the host's. The session keeps the frame, decoded, for receive, until that is given the same
+// bytes or check another frame.
 uint64_t p2p_session_check(
     struct p2p_session *at,
     const uint8_t *frame,

@@ -12,7 +12,10 @@ use Rattle.p2p_session.specs.declared.key.TheConstants.{KEY_SIZE, SIGNATURE_SIZE
 use Rattle.p2p_discovery.specs.declared.discovery.Info.{Info}
 use Rattle.p2p_discovery.specs.Ingress.{ingress_spelling}
 use Rattle.p2p_discovery.specs.Judgement.{signed_bytes}
-use Rattle.p2p_session.specs.Answers.{key_bytes, keys_bytes, signature_bytes, number, asked_bytes, put_at}
+use Rattle.p2p_discovery.specs.Lists.{spellings}
+use Rattle.p2p_discovery.specs.Info.{infos_spelling}
+use Rattle.p2p_discovery.specs.Varint.{varint32, varint64}
+use Rattle.p2p_session.specs.Answers.{key_bytes, keys_bytes, signature_bytes, number, asked_bytes, info_bytes, put_at}
 
 append_assoc : (xs ys zs : List ℕ) → (xs ++ ys) ++ zs ≡ xs ++ (ys ++ zs)
 append_assoc xs ys zs = grind (arith, common_steps)
@@ -108,7 +111,7 @@ module _ {X : Type 0} (f : X → List ℕ) where
         (after ∙ ap (λ x. put_at at (f x) out) item)
 
 -- what is put behind what was put before
-put_more : (at r : ℕ) (xs ys out out1 out2 : List ℕ) → at + length xs ≤ length out →
+pub put_more : (at r : ℕ) (xs ys out out1 out2 : List ℕ) → at + length xs ≤ length out →
     out1 ≡ put_at at xs out → r ≡ at + length xs → out2 ≡ put_at r ys out1 →
     out2 ≡ put_at at (xs ++ ys) out
 put_more at r xs ys out out1 out2 fits before is after =
@@ -152,6 +155,35 @@ put_asked i at a b c count signed out out1 out2 out3 out4 counted same fits one 
     (subst (λ s. at + length (all s) ≤ length out) (sym same) fits)
     (one ∙ ap (λ l. put_at at l out) counted) (is ∙ ap (λ (l : List ℕ). at + length l) counted) two is2 three is3 four
     ∙ ap (λ s. put_at at (all s) out) same
+
+-- an info, in its four parts
+pub put_info : (i : Info Key Signature) (at a b c : ℕ) (ingress out out1 out2 out3 out4 : List ℕ) →
+    ingress ≡ ingress_spelling i.ingress → at + length (info_bytes i) ≤ length out →
+    out1 ≡ put_at at ingress out → a ≡ at + length ingress →
+    out2 ≡ put_at a (varint64 i.timestamp) out1 → b ≡ a + length (varint64 i.timestamp) →
+    out3 ≡ put_at b (key_bytes i.public_key) out2 → c ≡ b + length (key_bytes i.public_key) →
+    out4 ≡ put_at c (signature_bytes i.signature) out3 → out4 ≡ put_at at (info_bytes i) out
+put_info i at a b c ingress out out1 out2 out3 out4 same fits one is two is2 three is3 four =
+    let number = varint64 i.timestamp in
+    let key = key_bytes i.public_key in
+    let signature = signature_bytes i.signature in
+    let all : List ℕ → List ℕ = λ s. s ++ (number ++ (key ++ signature)) in
+    put_four at a b c ingress number key signature out out1 out2 out3 out4
+    (subst (λ s. at + length (all s) ≤ length out) (sym same) fits) one is two is2 three is3 four
+    ∙ ap (λ s. put_at at (all s) out) same
+
+-- infos, one after the other, are spelled as a list spells them behind its number
+pub spellings_are : {A : Type 0} (f : A → List ℕ) (xs : List A) → spellings f xs ≡ flat_map f xs
+unfolding spellings
+spellings_are f [] = refl
+spellings_are f (x ∷ xs) = ap (λ l. f x ++ l) (spellings_are f xs)
+
+-- .. the number, and the infos behind it
+pub list_is : (infos : List (Info Key Signature)) (n : ℕ) → n ≡ length infos →
+    varint32 n ++ (flat_map info_bytes infos ++ []) ≡ infos_spelling key_bytes signature_bytes infos
+list_is infos n is =
+    ap (λ l. varint32 n ++ l) (append-nil (flat_map info_bytes infos) ∙ sym (spellings_are info_bytes infos))
+    ∙ ap (λ k. varint32 k ++ spellings info_bytes infos) is
 
 -- ---- sizes
 

@@ -9,6 +9,7 @@ use Rattle.p2p_discovery.specs.declared.discovery.Info.{Info}
 use Rattle.p2p_discovery.specs.Info.{info_spelling, infos_spelling}
 use Rattle.p2p_discovery.specs.Judgement.{signed_bytes}
 use Rattle.p2p_discovery.specs.BitVec.{bit_vec_spelling}
+use Rattle.p2p_discovery.specs.Varint.{varint32}
 use Rattle.p2p_tracker.specs.declared.directory.PeerSetUpdate.{PeerSetUpdate}
 use Rattle.p2p_tracker.specs.declared.directory.TrackedPeers.{TrackedPeers}
 use Rattle.p2p_tracker.specs.declared.record.Status.{Status}
@@ -45,6 +46,10 @@ abbrev pub asked_bytes : Info Key Signature → List ℕ
 asked_bytes i = let signed = signed_bytes i.ingress i.timestamp in
     number (length signed) ++ (key_bytes i.public_key ++ (signed ++ signature_bytes i.signature))
 
+-- an info, encoded
+abbrev pub info_bytes : Info Key Signature → List ℕ
+info_bytes = info_spelling key_bytes signature_bytes
+
 -- the bytes of a part of an answer
 abbrev pub part_bytes : Part → List ℕ
 part_bytes (part.Number n) = to_be_bytes w64 n
@@ -52,6 +57,8 @@ part_bytes (part.Nanos n) = to_be_bytes w32 n
 part_bytes (part.Byte b) = b ∷ []
 part_bytes (part.Keys keys) = keys_bytes keys.now
 part_bytes (part.Bytes bytes) = bytes.now
+part_bytes (part.Count n) = varint32 n
+part_bytes (part.Infos infos) = flat_map info_bytes infos.now
 part_bytes (part.Asked infos) = flat_map asked_bytes infos.now
 
 abbrev pub parts_bytes : List Part → List ℕ
@@ -132,7 +139,7 @@ answer_to (reply.GetPeerSet peers) = optional peers_bytes peers
 answer_to (reply.LatestSetIndex index) = optional number index
 answer_to (reply.LatestUpdate update) = optional update_bytes update
 answer_to (reply.All peers) = Bytes (peers_bytes peers)
-answer_to (reply.Info info) = optional (info_spelling key_bytes signature_bytes) info
+answer_to (reply.Info info) = optional info_bytes info
 answer_to (reply.Infos infos) =
     optional (λ v. infos_spelling key_bytes signature_bytes v.items) infos
 answer_to (reply.GetRandomBitVec bits) = optional bit_vec_spelling bits
@@ -145,9 +152,8 @@ answer_to reply.NotReserved = refused refusal.NotReserved
 answer_to reply.NotHeld = refused refusal.NotHeld
 answer_to reply.OutOfMemory = refused refusal.Memory
 
--- an answer that is spelled in memory of its own, before it is written
+-- an answer that may be spelled in memory of its own, before it is written
 abbrev pub is_spelled : Reply Key Signature → Bool
-is_spelled (reply.Info (Some info)) = true
 is_spelled (reply.Infos (Some infos)) = true
 is_spelled (reply.GetRandomBitVec (Some bits)) = true
 is_spelled _ = false

@@ -1,8 +1,9 @@
 //! Answers, written straight into the host's buffer: nothing is allocated.
 
-ghost use Rattle.std.specs.Prelude.{◌≡◌, ◌+◌, ◌*◌, ◌≤◌, ◌<◌, ◌^◌, min, length, take, flat_map};
+ghost use Rattle.std.specs.Prelude.{◌≡◌, ℕ, ◌+◌, ◌*◌, ◌≤◌, ◌<◌, ◌^◌, min, length, take, flat_map};
 ghost use Rattle.p2p_session.specs.Answers.{key_bytes, keys_bytes, part_bytes, parts_bytes, put_at};
-ghost use Rattle.p2p_session.specs.Answers.{IsAnswered, asked_bytes, signature_bytes};
+ghost use Rattle.p2p_session.specs.Answers.{IsAnswered, asked_bytes, info_bytes, signature_bytes};
+ghost use Rattle.p2p_discovery.specs.Varint.{groups};
 
 use crate::key::{KEY_SIZE, Key, SIGNATURE_SIZE, Signature};
 use p2p_discovery::codec::{EncodeSize, FixedBytes};
@@ -21,6 +22,10 @@ pub enum Part<'a> {
     Keys(&'a [Key]),
     /// These bytes.
     Bytes(&'a [u8]),
+    /// A number of values, as a list begins with it.
+    Count(u32),
+    /// These infos, encoded one after the other.
+    Infos(&'a [Info<Key>]),
     /// What is to be verified of these infos, whose signatures decide: for each the length of its
     /// signed bytes, its key, the signed bytes, and its signature.
     Asked(&'a [Info<Key>]),
@@ -67,6 +72,8 @@ fn size_of(part: &Part<'_>) -> u64
         Part::Byte(_) => 1,
         Part::Keys(keys) => size_of_keys(keys.len()),
         Part::Bytes(bytes) => (bytes.len() as u64).min(LONGEST),
+        Part::Count(count) => count.encode_size() as u64,
+        Part::Infos(infos) => size_of_infos(infos),
         Part::Asked(infos) => size_of_asked(infos),
     }
 }
@@ -76,6 +83,17 @@ pub(crate) fn size_of_keys(count: usize) -> u64
     ensures { result ≡ min (count * KEY_SIZE) (2 ^ 63) }
 {
     (count as u64).saturating_mul(KEY_SIZE as u64).min(LONGEST)
+}
+
+// How many bytes the infos are, encoded.
+fn size_of_infos(infos: &[Info<Key>]) -> u64
+    ensures { result ≡ min (length (flat_map info_bytes infos.now)) (2 ^ 63) }
+{
+    let mut size: u64 = 0;
+    for info in infos {
+        size = size.saturating_add(info.encode_size() as u64).min(LONGEST);
+    }
+    size
 }
 
 // How many bytes are to be verified of the infos.
@@ -121,6 +139,8 @@ fn write(part: &Part<'_>, out: &mut [u8], at: usize) -> usize
         Part::Byte(byte) => put(out, at, &[*byte]),
         Part::Keys(keys) => put_keys(out, at, keys),
         Part::Bytes(bytes) => put(out, at, bytes),
+        Part::Count(count) => put_varint(out, at, u64::from(*count)),
+        Part::Infos(infos) => put_infos(out, at, infos),
         Part::Asked(infos) => put_asked(out, at, infos),
     }
 }
@@ -150,11 +170,11 @@ fn put_key(out: &mut [u8], at: usize, key: &Key) -> usize
     end
 }
 
-// Writes what is to be verified of the infos from a position on, and returns the position after it.
-fn put_asked(out: &mut [u8], start: usize, infos: &[Info<Key>]) -> usize
-    requires { start + length (flat_map asked_bytes infos.now) ≤ length out.old }
-    ensures bytes { out.new ≡ put_at start (flat_map asked_bytes infos.now) out.old }
-    ensures end { result ≡ start + length (flat_map asked_bytes infos.now) }
+// Writes the encoded infos from a position on, and returns the position after them.
+fn put_infos(out: &mut [u8], start: usize, infos: &[Info<Key>]) -> usize
+    requires { start + length (flat_map info_bytes infos.now) ≤ length out.old }
+    ensures bytes { out.new ≡ put_at start (flat_map info_bytes infos.now) out.old }
+    ensures end { result ≡ start + length (flat_map info_bytes infos.now) }
 {
     let mut at = start;
     for info in infos {
@@ -163,8 +183,49 @@ fn put_asked(out: &mut [u8], start: usize, infos: &[Info<Key>]) -> usize
     at
 }
 
-// Writes what is to be verified of the info from a position on, and returns the position after it.
+// Writes the encoded info from a position on, and returns the position after it.
 fn put_info(out: &mut [u8], at: usize, info: &Info<Key>) -> usize
+    requires { at + length (info_bytes info.now) ≤ length out.old }
+    ensures bytes { out.new ≡ put_at at (info_bytes info.now) out.old }
+    ensures end { result ≡ at + length (info_bytes info.now) }
+{
+    let ingress = info.ingress.encoded();
+    let timestamp_at = put(out, at, ingress.as_slice());
+    let key_at = put_varint(out, timestamp_at, info.timestamp);
+    let signature_at = put_key(out, key_at, &info.public_key);
+    put_signature(out, signature_at, &info.signature)
+}
+
+// Writes the varint of a number from a position on, and returns the position after it.
+fn put_varint(out: &mut [u8], at: usize, number: u64) -> usize
+    requires { (most : ℕ) × (0 < most) × (number < 128 ^ most)
+        × (at + length (groups most number) ≤ length out.old) }
+    ensures { (most : ℕ) → 0 < most → number < 128 ^ most
+        → (out.new ≡ put_at at (groups most number) out.old)
+        × (result ≡ at + length (groups most number)) }
+{
+    if number < 128 {
+        return put(out, at, &[number as u8]);
+    }
+    let next = put(out, at, &[(number % 128) as u8 + 128]);
+    put_varint(out, next, number / 128)
+}
+
+// Writes what is to be verified of the infos from a position on, and returns the position after it.
+fn put_asked(out: &mut [u8], start: usize, infos: &[Info<Key>]) -> usize
+    requires { start + length (flat_map asked_bytes infos.now) ≤ length out.old }
+    ensures bytes { out.new ≡ put_at start (flat_map asked_bytes infos.now) out.old }
+    ensures end { result ≡ start + length (flat_map asked_bytes infos.now) }
+{
+    let mut at = start;
+    for info in infos {
+        at = put_question(out, at, info);
+    }
+    at
+}
+
+// Writes what is to be verified of the info from a position on, and returns the position after it.
+fn put_question(out: &mut [u8], at: usize, info: &Info<Key>) -> usize
     requires { at + length (asked_bytes info.now) ≤ length out.old }
     ensures bytes { out.new ≡ put_at at (asked_bytes info.now) out.old }
     ensures end { result ≡ at + length (asked_bytes info.now) }

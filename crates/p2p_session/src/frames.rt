@@ -1,28 +1,31 @@
 //! Frames: what of them has to be verified, and what a node returns for them.
 
-ghost use Rattle.std.specs.Prelude.{◌≡◌, ◌+◌, ◌≤◌, ◌∷◌, ◌++◌, IfOk, IfErr, OnErr, length};
-ghost use Rattle.std.specs.Prelude.{take, flat_map};
+ghost use Rattle.std.specs.Prelude.{◌≡◌, ℕ, ◌+◌, ◌≤◌, ◌<◌, ◌^◌, ◌∷◌, ◌++◌, IfOk, IfErr, OnErr, length};
+ghost use Rattle.std.specs.Prelude.{take, flat_map, Result};
 ghost use Rattle.p2p_discovery.specs.Reading.{IsBytes, whole};
 ghost use Rattle.std.specs.Duration.{as_nanos};
 ghost use Rattle.p2p_session.specs.Answers.{IsAnswered, number, asked_bytes};
 ghost use Rattle.p2p_session.specs.Given.{moment_at};
 ghost use Rattle.p2p_session.specs.Frames.{received_answer, TellsReceived, fault_bytes, error_bytes};
 ghost use Rattle.p2p_session.specs.Frames.{greeter_in, key_at_end, HasKey, IsNamedAtEnd};
-ghost use Rattle.p2p_session.specs.Frames.{verdicts_in, MayRefuse, ReceivesAt, HearsAt};
+ghost use Rattle.p2p_session.specs.Frames.{verdicts_in, MayRefuse, ReceivesAt, Hears, HearsAt};
 ghost use Rattle.p2p_session.specs.Frames.{to_ask, ChecksAt};
 ghost use Rattle.p2p_session.specs.contracts.key.KeyOrd.TheImpl.{ghosts as order};
 ghost use Rattle.p2p_session.specs.Views.{wire};
 ghost use Rattle.p2p_session.specs.Answers.{part_bytes};
 ghost use Rattle.p2p_discovery.specs.Judgement.{judge_of};
 ghost use Rattle.p2p_discovery.specs.Payload.{infos_of_payload};
+ghost use Rattle.p2p_discovery.specs.declared.discovery.Payload.TheVariants.{Peers};
+ghost use Rattle.p2p_directory.specs.Received.{received_of, AreFew};
 
 use crate::answer::{Part, answer};
+use crate::checked::Checked;
 use crate::given::moment;
 use crate::key::{KEY_SIZE, Key, SIGNATURE_SIZE};
 use crate::refusal::Refusal;
 use crate::reply::answer_one;
 use bytes::Bytes;
-use p2p_directory::node::{Miscounted, Node, Received};
+use p2p_directory::node::{Answer, Node, Received};
 use p2p_discovery::codec::{CodecError, What};
 use p2p_discovery::data::Data;
 use p2p_discovery::discovery::{Error, Info, InfoVerifier, Payload};
@@ -33,11 +36,15 @@ use std::time::Duration;
 /// The maximum length of the answers to frames that are applied or refused.
 const LONGEST_RECEIVED: usize = 1 + KEY_SIZE;
 
+// The first byte of a frame with infos.
+const INFOS_PREFIX: u8 = 3;
+
 /// Processes a frame by verification results for the signatures of its infos, and writes the
 /// answer.
 pub fn receive(
     alloc: Global,
     node: &mut Node<Key>,
+    checked: &mut Checked,
     frame: &[u8],
     time: (u64, u32),
     verdicts: &[u8],
@@ -46,8 +53,8 @@ pub fn receive(
     ensures { ReceivesAt (verdicts_in verdicts.now) frame.now (moment_at time.0 time.1)
         out.old out.new node.old node.new result }
 {
-    match hear(alloc, node, frame, time, verdicts, out.len()) {
-        Ok(received) => tell_received(received, frame, out),
+    match hear(alloc, node, checked, frame, time, verdicts, out.len()) {
+        Ok(answer) => tell_answer(answer, frame, out),
         Err(refusal) => refusal.number(),
     }
 }
@@ -56,18 +63,20 @@ pub fn receive(
 fn hear(
     alloc: Global,
     node: &mut Node<Key>,
+    checked: &mut Checked,
     frame: &[u8],
     time: (u64, u32),
     verdicts: &[u8],
     room: usize,
-) -> Result<Received, Refusal>
-    ensures heard { IfOk result (λ r. HearsAt (verdicts_in verdicts.now) frame.now
-        (moment_at time.0 time.1) node.old node.new r) }
+) -> Result<Answer<Key>, Refusal>
+    ensures heard { IfOk result (λ a. HearsAt (verdicts_in verdicts.now) frame.now
+        (moment_at time.0 time.1) node.old node.new (received_of wire a)) }
     ensures refused { IfErr result (MayRefuse node.old (verdicts_in verdicts.now) frame.now
         (moment_at time.0 time.1) room) }
     ensures same { OnErr result (node.new ≡ node.old) }
-    ensures has_key { IfOk result (λ r. HasKey r frame.now) }
-    ensures named { IfOk result (λ r. IsNamedAtEnd r frame.now
+    ensures few { IfOk result AreFew }
+    ensures has_key { IfOk result (λ a. HasKey (received_of wire a) frame.now) }
+    ensures named { IfOk result (λ a. IsNamedAtEnd (received_of wire a) frame.now
         (greeter_in (whole (wire.reading node.old.limits) frame.now).outcome)) }
 {
     are_bytes(frame);
@@ -76,16 +85,44 @@ fn hear(
         return Err(Refusal::NoRoom);
     }
     let verdicts = verdicts_of(alloc, verdicts)?;
-    let frame = Bytes::copy_from_slice(alloc, frame)?;
-    match node.receive_by(frame, now, &verdicts) {
-        Ok(received) => Ok(received),
-        Err(Miscounted) => Err(Refusal::BadVerdicts),
+    process(alloc, node, checked, frame, now, &verdicts)
+}
+
+// Processes a frame, which is decoded already if it was checked last.
+fn process(
+    alloc: Global,
+    node: &mut Node<Key>,
+    checked: &mut Checked,
+    frame: &[u8],
+    now: Duration,
+    verdicts: &[bool],
+) -> Result<Answer<Key>, Refusal>
+    ensures heard { IfOk result (λ a. Hears verdicts.now frame.now (as_nanos now)
+        node.old node.new (received_of wire a)) }
+    ensures refused { IfErr result (λ why. (moment : Result ℕ Refusal) (room : ℕ)
+        → MayRefuse node.old verdicts.now frame.now moment room why) }
+    ensures same { OnErr result (node.new ≡ node.old) }
+    ensures few { IfOk result AreFew }
+{
+    match checked.take(frame) {
+        Some(decoded) => Ok(node.answer_decoded(decoded, now, verdicts)?),
+        None => {
+            let frame = Bytes::copy_from_slice(alloc, frame)?;
+            Ok(node.answer_by(frame, now, verdicts)?)
+        }
     }
 }
 
 /// Writes what has to be verified before a node processes a frame: how many infos it has, and those
-/// whose signatures decide.
-pub fn check(alloc: Global, node: &Node<Key>, frame: &[u8], time: (u64, u32), out: &mut [u8]) -> u64
+/// whose signatures decide. Keeps the frame decoded.
+pub fn check(
+    alloc: Global,
+    node: &Node<Key>,
+    checked: &mut Checked,
+    frame: &[u8],
+    time: (u64, u32),
+    out: &mut [u8],
+) -> u64
     ensures { ChecksAt node.now frame.now (moment_at time.0 time.1) out.old out.new result }
 {
     let now = match moment(time.0, time.1) {
@@ -95,8 +132,12 @@ pub fn check(alloc: Global, node: &Node<Key>, frame: &[u8], time: (u64, u32), ou
     let Ok(frame) = Bytes::copy_from_slice(alloc, frame) else {
         return Refusal::Memory.number();
     };
-    match node.read(frame) {
-        Ok(payload) => tell_asked(node.verifier(), &payload, now, out),
+    match node.decode(frame) {
+        Ok(decoded) => {
+            let answer = tell_asked(node.verifier(), decoded.payload(), now, out);
+            checked.keep(decoded);
+            answer
+        }
         Err(CodecError::Memory) => Refusal::Memory.number(),
         Err(_) => answer_one(Part::Number(0), out),
     }
@@ -159,7 +200,36 @@ fn verdicts_of(alloc: Global, bytes: &[u8]) -> Result<Vec<bool>, AllocError>
     Ok(verdicts)
 }
 
-// Writes what a node returned for a frame.
+// Writes what a node returned for a frame. The infos of a reply are encoded where they are written.
+fn tell_answer(answer: Answer<Key>, frame: &[u8], out: &mut [u8]) -> u64
+    requires few { AreFew answer }
+    requires has_key { HasKey (received_of wire answer) frame.now }
+    ensures { TellsReceived (key_at_end frame.now) (received_of wire answer) out.old out.new result }
+{
+    match answer {
+        Answer::Infos(infos) => tell_reply(infos.as_slice(), out),
+        Answer::Received(received) => tell_received(received, frame, out),
+    }
+}
+
+// Writes a reply with these infos.
+fn tell_reply(infos: &[Info<Key>], out: &mut [u8]) -> u64
+    requires { length infos.now < 2 ^ 32 }
+    ensures { IsAnswered (2 ∷ wire.spelling (Peers infos.now)) out.old out.new result }
+{
+    let count = infos.len() as u32;
+    answer(
+        &[
+            Part::Byte(2),
+            Part::Byte(INFOS_PREFIX),
+            Part::Count(count),
+            Part::Infos(infos),
+        ],
+        out,
+    )
+}
+
+// Writes what else a node returned for a frame.
 fn tell_received(received: Received, frame: &[u8], out: &mut [u8]) -> u64
     requires { HasKey received frame.now }
     ensures { TellsReceived (key_at_end frame.now) received out.old out.new result }

@@ -28,6 +28,7 @@ ghost use Rattle.p2p_session.specs.Sessions.{HasRoom, IsWhole};
 
 mod address;
 mod answer;
+mod checked;
 mod commands;
 mod frames;
 mod given;
@@ -39,6 +40,7 @@ mod setup;
 mod single;
 
 pub use crate::address::{is_global, is_valid};
+use crate::checked::Checked;
 pub use crate::key::{KEY_SIZE, Key, SIGNATURE_SIZE, Signature};
 pub use crate::refusal::Refusal;
 use crate::setup::{Numbers, setup};
@@ -47,9 +49,11 @@ use p2p_directory::node::{Node, Setup};
 use p2p_directory::run::Command;
 use std::alloc::Global;
 
-/// A node, once [`Session::init`] created one. It must be consumed by [`Session::end`].
+/// A node, once [`Session::init`] created one, and the frame that [`Session::check`] decoded last. It
+/// must be consumed by [`Session::end`].
 pub struct Session {
     node: Option<Node<Key>>,
+    checked: Checked,
 }
 
 impl Session {
@@ -57,12 +61,15 @@ impl Session {
     pub fn new(_alloc: Global) -> Session
         ensures { IsFresh result }
     {
-        Session { node: None }
+        Session {
+            node: None,
+            checked: Checked::new(),
+        }
     }
 
     /// Ends the session, and frees all that it holds.
     pub fn end(self, _alloc: Global) {
-        let Session { node } = self;
+        let Session { node, checked: _ } = self;
         if let Some(node) = node {
             node.finish();
         }
@@ -473,6 +480,9 @@ impl Session {
     /// whose signatures decide, each by the length of its signed bytes, its key, the signed bytes
     /// and its signature. The list stops before the first info that is refused whatever its
     /// signature is.
+    ///
+    /// A frame that encodes a payload is kept decoded, in place of the one before, so that
+    /// [`Session::receive`] needn't decode it again.
     pub fn check(
         &mut self,
         alloc: Global,
@@ -484,13 +494,17 @@ impl Session {
         ensures { Checks frame.now seconds nanos out.old out.new self.old self.new result }
     {
         match &self.node {
-            Some(node) => frames::check(alloc, node, frame, (seconds, nanos), out),
+            Some(node) => {
+                let time = (seconds, nanos);
+                frames::check(alloc, node, &mut self.checked, frame, time, out)
+            }
             None => Refusal::NoNode.number(),
         }
     }
 
     /// `Node::receive_by`: processes a frame, and writes the answer. `verdicts` has a byte for each
-    /// of its infos, which says whether its signature is valid.
+    /// of its infos, which says whether its signature is valid. A frame that was checked last is
+    /// decoded already.
     pub fn receive(
         &mut self,
         alloc: Global,
@@ -504,7 +518,11 @@ impl Session {
             self.old self.new result }
     {
         match &mut self.node {
-            Some(node) => frames::receive(alloc, node, frame, (seconds, nanos), verdicts, out),
+            Some(node) => {
+                let checked = &mut self.checked;
+                let time = (seconds, nanos);
+                frames::receive(alloc, node, checked, frame, time, verdicts, out)
+            }
             None => Refusal::NoNode.number(),
         }
     }

@@ -2,8 +2,9 @@
 
 ghost use Rattle.std.specs.Prelude.{◌≡◌};
 ghost use Rattle.p2p_session.specs.Refusals.{number_of};
-ghost use Rattle.p2p_session.specs.declared.refusal.Refusal.TheVariants.{Memory};
+ghost use Rattle.p2p_session.specs.declared.refusal.Refusal.TheVariants.{Memory, BadVerdicts};
 
+use p2p_directory::node::Miscounted;
 use std::alloc::{AllocError, AllocFailed};
 
 /// Why a call is refused, or has no answer. Nothing has changed then, and nothing was written.
@@ -57,6 +58,14 @@ impl Refusal {
             Refusal::BadSetting => u64::MAX - 11,
             Refusal::BadVerdicts => u64::MAX - 12,
         }
+    }
+}
+
+impl From<Miscounted> for Refusal {
+    ghost from_gives = { λ _ e. e ≡ BadVerdicts };
+
+    fn from(_error: Miscounted) -> Refusal {
+        Refusal::BadVerdicts
     }
 }
 

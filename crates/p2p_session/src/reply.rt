@@ -18,10 +18,11 @@ use p2p_directory::directory::{Metadata, PeerSetUpdate, TrackedPeers};
 use p2p_directory::record::{Dialable, Status};
 use p2p_directory::run::Reply;
 use p2p_discovery::codec::Write;
-use p2p_discovery::discovery::{Info, Infos};
+use p2p_discovery::discovery::Info;
 use p2p_discovery::sets::OrderedSet;
 use p2p_discovery::types::{Ingress, IpAddr};
 use std::alloc::{AllocError, Global};
+use std::slice;
 use std::time::Duration;
 
 /// Writes a reply: returns a number, or how many bytes it has. They are at the start of the buffer,
@@ -44,8 +45,8 @@ pub fn tell(alloc: Global, reply: Reply<Key>, out: &mut [u8]) -> u64
         Reply::LatestSetIndex(index) => tell_index(index, out),
         Reply::LatestUpdate(update) => tell_update(update, out),
         Reply::All(peers) => answer_peers(&peers, out),
-        Reply::Info(Some(info)) => tell_spelled(alloc, &info, out),
-        Reply::Infos(Some(infos)) => tell_infos(alloc, infos, out),
+        Reply::Info(Some(info)) => answer_one(Part::Infos(slice::from_ref(&info)), out),
+        Reply::Infos(Some(infos)) => tell_infos(&infos, out),
         Reply::GetRandomBitVec(Some(bits)) => tell_spelled(alloc, &bits, out),
         Reply::Info(None) | Reply::Infos(None) | Reply::GetRandomBitVec(None) => {
             Refusal::None.number()
@@ -219,15 +220,15 @@ fn tell_dialable(dialable: &Dialable<Key>, out: &mut [u8]) -> u64
 
 // Writes the encoded infos. They are no more than the bits that were given, so a number that can't
 // be encoded doesn't occur.
-fn tell_infos(alloc: Global, infos: Vec<Info<Key>>, out: &mut [u8]) -> u64
+fn tell_infos(infos: &[Info<Key>], out: &mut [u8]) -> u64
     ensures { Refuses Refusal.Memory out.old out.new result
-        ⊎ Tells (Spelled (infos_spelling key_bytes signature_bytes infos.items))
+        ⊎ Tells (Spelled (infos_spelling key_bytes signature_bytes infos.now))
         out.old out.new result }
 {
-    if infos.len() > u32::MAX as usize {
-        return Refusal::Memory.number();
+    match u32::try_from(infos.len()) {
+        Ok(count) => answer(&[Part::Count(count), Part::Infos(infos)], out),
+        Err(_) => Refusal::Memory.number(),
     }
-    tell_spelled(alloc, &Infos::from_vec(infos), out)
 }
 
 // Writes an encoded value, for which it allocates.

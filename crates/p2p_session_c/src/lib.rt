@@ -640,7 +640,8 @@ pub unsafe extern "C" fn p2p_session_ask(at: *mut Handle, place: u64, out: &mut 
 /// bytes. Then follows, in their order, each info whose signature decides whether it is refused:
 /// the length of its signed bytes in 8 bytes, its key, the signed bytes, its signature. The list
 /// stops before the first info that is refused whatever its signature is. Namespace and signature
-/// scheme are the host's.
+/// scheme are the host's. The session keeps the frame, decoded, for receive, until that is given
+/// the same bytes or check another frame.
 ///
 /// # Safety
 ///

@@ -584,7 +584,8 @@ impl Session {
     /// bytes. Then follows, in their order, each info whose signature decides whether it is
     /// refused: the length of its signed bytes in 8 bytes, its key, the signed bytes, its
     /// signature. The list stops before the first info that is refused whatever its signature is.
-    /// Namespace and signature scheme are the host's.
+    /// Namespace and signature scheme are the host's. The session keeps the frame, decoded, for
+    /// receive, until that is given the same bytes or check another frame.
     pub fn check(&self, frame: &[u8], seconds: u64, nanos: u32, out: &mut [u8]) -> u64 {
         // SAFETY: `new` made the session, no call of it is under way, and slices are valid.
         unsafe {

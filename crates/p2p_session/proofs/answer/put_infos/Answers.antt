@@ -1,0 +1,15 @@
+use Rattle.p2p_session.specs.Answers.{info_bytes}
+use Rattle.p2p_session.proofs.Puts.{room_item, put_item}
+use Rattle.p2p_session.proofs.answer.put_infos.Goals as goal
+
+pub put_info-at-requires : goal.put_info-at-requires
+put_info-at-requires c =
+    room_item info_bytes c.args.infos.now c.loop-info.info-index c.args.start c.info-item.result c.loop-info.at c.args.out.now c.loop-info.out
+    c.info-item.is c.loop-info-test.true c.requires c.loop-info.invariant.at c.loop-info.auto.out
+
+pub loop-info-preserved : goal.loop-info-preserved
+loop-info-preserved c =
+    let next = put_item info_bytes c.args.infos.now c.loop-info.info-index c.args.start c.info-item.result c.loop-info.at c.args.out.now c.loop-info.out
+    c.info-item.is c.put_info-at.result c.put_info-at.new.out c.loop-info-test.true c.requires c.loop-info.invariant.at c.loop-info.invariant.out
+    c.put_info-at.ensures.end c.put_info-at.ensures.bytes in
+    record { at = next.0; out = next.1 }

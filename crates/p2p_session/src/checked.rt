@@ -1,0 +1,42 @@
+//! The frame that was checked last.
+
+ghost use Rattle.std.specs.Prelude.{◌≡◌, IfSome};
+
+use crate::key::Key;
+use p2p_directory::node::Decoded;
+use std::marker::Model;
+
+/// The frame that was checked last, decoded, if it wasn't received since. Contracts see nothing of
+/// it: with it and without it, each call returns the same.
+#[derive(Drop)]
+pub struct Checked {
+    last: Option<Decoded<Key>>,
+}
+
+impl Model for Checked {
+    ghost Value = { Unit {0} };
+
+    ghost view = { λ _. tt };
+}
+
+impl Checked {
+    /// No frame.
+    pub fn new() -> Checked {
+        Checked { last: None }
+    }
+
+    /// Keeps this frame in place of the one before.
+    pub fn keep(&mut self, decoded: Decoded<Key>) {
+        self.last = Some(decoded);
+    }
+
+    /// The frame, if it is this one. It isn't kept any longer.
+    pub fn take(&mut self, frame: &[u8]) -> Option<Decoded<Key>>
+        ensures { IfSome result (λ d. d.frame ≡ frame.now) }
+    {
+        match &self.last {
+            Some(last) if last.frame() == frame => self.last.take(),
+            _ => None,
+        }
+    }
+}
