@@ -74,15 +74,32 @@ pub(crate) fn own<T>(read: Result<T, ReadError>) -> Result<T, OutOfMemory> {
     })
 }
 
+/// What a result of the library is, for its length is probably that of the last one of its kind.
+#[derive(Clone, Copy, Debug)]
+pub(crate) enum Kind {
+    All,
+    Bits,
+    Blocked,
+    Dialable,
+    Frame,
+    Info,
+    Infos,
+    PeerSet,
+    Update,
+}
+
+/// How many kinds there are.
+const KINDS: usize = Kind::Update as usize + 1;
+
 /// A buffer for results. After each call its capacity above the bound of buffers is freed.
 #[derive(Debug)]
 pub(crate) struct Room {
     bytes: Vec<u8>,
     // How long it is at least at the beginning of a call.
     first: usize,
-    // How long the last result was. The next call begins with as much, since a result that is
-    // longer than the buffer takes a second call.
-    last: usize,
+    // How long the last result of each kind was. The next call begins with as much, since a result
+    // that is longer than the buffer takes a second call.
+    last: [usize; KINDS],
 }
 
 impl Room {
@@ -91,7 +108,7 @@ impl Room {
         Ok(Room {
             bytes: zeros(first)?,
             first,
-            last: 0,
+            last: [0; KINDS],
         })
     }
 
@@ -110,12 +127,13 @@ impl Room {
     /// short, and reads the result.
     pub(crate) fn asked<T>(
         &mut self,
+        kind: Kind,
         least: usize,
         ask: impl Fn(&mut [u8]) -> u64,
         read: impl FnOnce(&[u8]) -> Result<T, ReadError>,
     ) -> Result<Option<T>, OutOfMemory> {
-        let answer = self.length(least, ask).and_then(|length| {
-            self.last = length.unwrap_or(0);
+        let answer = self.length(kind, least, ask).and_then(|length| {
+            self.last[kind as usize] = length.unwrap_or(0);
             length
                 .map(|length| own(read(&self.bytes[..length])))
                 .transpose()
@@ -127,10 +145,11 @@ impl Room {
     // The length of the result, which is at the beginning of the buffer.
     fn length(
         &mut self,
+        kind: Kind,
         least: usize,
         ask: impl Fn(&mut [u8]) -> u64,
     ) -> Result<Option<usize>, OutOfMemory> {
-        let last = mem::take(&mut self.last);
+        let last = mem::take(&mut self.last[kind as usize]);
         lengthen(&mut self.bytes, self.first.max(least).max(last))?;
         loop {
             let Some(length) = answered(ask(&mut self.bytes))? else {

@@ -1,12 +1,12 @@
 //! The directory of peers, and what its calls return.
 
-use crate::answer::{OWN, Room, answered, certain, is_certain, is_done, is_true, unknown};
+use crate::answer::{Kind, OWN, Room, answered, certain, is_certain, is_done, is_true, unknown};
 use crate::codec::{ReadError, Reader};
 use crate::error::{CodecError, NotReservedError, OutOfMemory, SetupError};
 use crate::info::{Info, try_write_infos};
 use crate::ingress::{Ingress, MAX_HOSTNAME};
 use crate::key::{KEY_SIZE, Key};
-use crate::memory::give_back_large;
+use crate::memory::{MOST_KEPT, give_back_large};
 use crate::moment::Moment;
 use crate::payload::PayloadConfig;
 use crate::sets::{OrderedSet, TrackedPeers};
@@ -638,25 +638,35 @@ impl Directory {
         &self.namespace
     }
 
+    // Space for the infos that answer so many bits, at most those of the connected peers and of the
+    // local node, as far as a buffer of this size is kept.
+    pub(crate) fn room_for_infos(&self, bits: usize) -> usize {
+        let shared = bits.min(self.held.count() + 1);
+        let room = shared.saturating_mul(Info::max_encode_size());
+        room.saturating_add(FIRST_ROOM).min(MOST_KEPT)
+    }
+
     // Calls the library with at least so much space for its result, and reads the result.
     pub(crate) fn question_in<T>(
         &self,
+        kind: Kind,
         room: usize,
         ask: impl Fn(&Session, &mut [u8]) -> u64,
         read: impl FnOnce(&[u8]) -> Result<T, ReadError>,
     ) -> Result<Option<T>, OutOfMemory> {
         let session = self.session();
         let mut out = self.output.borrow_mut();
-        out.asked(room, |out| ask(session, out), read)
+        out.asked(kind, room, |out| ask(session, out), read)
     }
 
     // Calls the library, and reads the result.
     fn question<T>(
         &self,
+        kind: Kind,
         ask: impl Fn(&Session, &mut [u8]) -> u64,
         read: impl FnOnce(&[u8]) -> Result<T, ReadError>,
     ) -> Result<Option<T>, OutOfMemory> {
-        self.question_in(0, ask, read)
+        self.question_in(kind, 0, ask, read)
     }
 
     // Calls the library for a short result. It doesn't allocate.

@@ -3,7 +3,7 @@
 use crate::error::OutOfMemory;
 
 /// The maximum capacity that a buffer keeps between calls, in bytes.
-const MOST_KEPT: usize = 64 << 10;
+pub(crate) const MOST_KEPT: usize = 64 << 10;
 
 /// Copies these bytes.
 pub(crate) fn copied(bytes: &[u8]) -> Result<Vec<u8>, OutOfMemory> {

@@ -1,6 +1,6 @@
 //! A node: a directory that verifies the infos of frames, and replies to frames.
 
-use crate::answer::{OWN, Room, own, unknown};
+use crate::answer::{Kind, OWN, Room, own, unknown};
 use crate::codec::{ReadError, Reader};
 use crate::directory::{Config, Directory, Limits};
 use crate::error::{CodecError, Error, OutOfMemory, SetupError, What};
@@ -348,6 +348,7 @@ impl Node {
     pub fn ask(&self, place: usize) -> Result<Option<Vec<u8>>, OutOfMemory> {
         self.expect_own_directory();
         self.directory.question_in(
+            Kind::Bits,
             0,
             |session, out| session.ask(place as u64, out),
             |frame| Ok(copied(frame)?),
@@ -486,7 +487,8 @@ impl Node {
     ///
     /// Pass their verification results to [`Node::receive_judged`]. The two calls together do what
     /// [`Node::receive`] does, but signatures may be verified on other threads, without the node.
-    /// Nothing changes and nothing is kept, so a frame that was checked may be dropped.
+    /// Nothing changes. The node keeps the frame that was checked last decoded, so that it isn't
+    /// decoded again if it is the next one to be received; it may as well be dropped.
     ///
     /// # Errors
     ///
@@ -577,6 +579,7 @@ fn told<T>(
     }
     let (seconds, nanos) = now.parts();
     let told = directory.question_in(
+        Kind::Frame,
         Payload::room_to_check(frame),
         |session, out| session.check(frame, seconds, nanos, out),
         read,
@@ -585,7 +588,8 @@ fn told<T>(
 }
 
 // The result of the library for a frame with these verification results. The result of a call that
-// changes something fits the initial buffer, so nothing is allocated afterwards.
+// changes something fits the initial buffer, so nothing is allocated afterwards. A reply that fits
+// the buffer is computed once.
 fn received(
     directory: &Directory,
     answer: &mut Room,
@@ -596,7 +600,8 @@ fn received(
     let (seconds, nanos) = now.parts();
     let session = directory.session();
     let received = answer.asked(
-        0,
+        Kind::Frame,
+        directory.room_for_infos(Payload::most_bits(frame)),
         |out| session.receive(frame, seconds, nanos, verdicts, out),
         |bytes| read_received(bytes, frame.len()),
     )?;

@@ -265,6 +265,14 @@ impl Payload {
         }
     }
 
+    /// The maximum number of bits of a frame.
+    pub(crate) fn most_bits(frame: &[u8]) -> usize {
+        match frame.first() {
+            Some(&BIT_VEC_PREFIX) => frame.len().saturating_mul(8),
+            _ => 0,
+        }
+    }
+
     /// Whether a frame can have infos, since only these are signed.
     pub(crate) fn is_signed(frame: &[u8]) -> bool {
         matches!(frame.first(), Some(&(GREETING_PREFIX | PEERS_PREFIX)))

@@ -1,7 +1,7 @@
 //! The queries of a directory. None of these calls changes anything.
 
 use super::{Dialable, Directory, PeerSetUpdate, Status};
-use crate::answer::{OWN, certain, is_certain, unknown};
+use crate::answer::{Kind, OWN, certain, is_certain, unknown};
 use crate::codec::{ReadError, Reader};
 use crate::error::OutOfMemory;
 use crate::info::{Info, read_infos};
@@ -49,6 +49,7 @@ impl Directory {
     pub fn blocked_peers(&self, now: Moment) -> Result<OrderedSet, OutOfMemory> {
         let (seconds, nanos) = now.parts();
         let blocked = self.question(
+            Kind::Blocked,
             |session, out| session.blocked_peers(seconds, nanos, out),
             |bytes| Ok(OrderedSet::read(bytes)?),
         )?;
@@ -72,7 +73,11 @@ impl Directory {
     /// # Ok::<(), OutOfMemory>(())
     /// ```
     pub fn get_peer_set(&self, index: u64) -> Result<Option<TrackedPeers>, OutOfMemory> {
-        self.question(|session, out| session.get_peer_set(index, out), read_peers)
+        self.question(
+            Kind::PeerSet,
+            |session, out| session.get_peer_set(index, out),
+            read_peers,
+        )
     }
 
     /// The latest set with its index, and the peers of all retained sets, or `None` if no set was
@@ -91,7 +96,7 @@ impl Directory {
     /// # Ok::<(), OutOfMemory>(())
     /// ```
     pub fn latest_update(&self) -> Result<Option<PeerSetUpdate>, OutOfMemory> {
-        self.question(Session::latest_update, read_update)
+        self.question(Kind::Update, Session::latest_update, read_update)
     }
 
     /// The index of the latest set, or `None` if no set was registered.
@@ -129,7 +134,7 @@ impl Directory {
     /// # Ok::<(), OutOfMemory>(())
     /// ```
     pub fn all(&self) -> Result<TrackedPeers, OutOfMemory> {
-        let all = self.question(Session::all, read_peers)?;
+        let all = self.question(Kind::All, Session::all, read_peers)?;
         Ok(all.expect(OWN))
     }
 
@@ -172,6 +177,7 @@ impl Directory {
     /// ```
     pub fn info(&self, peer: &Key) -> Result<Option<Info>, OutOfMemory> {
         self.question(
+            Kind::Info,
             |session, out| session.info(&peer.0, out),
             |bytes| Info::read(&mut Reader::new(bytes)),
         )
@@ -208,7 +214,9 @@ impl Directory {
         let mut spelled = self.input.borrow_mut();
         spelled.clear();
         let infos = bit_vec.try_write(&mut spelled).and_then(|()| {
-            self.question(
+            self.question_in(
+                Kind::Infos,
+                self.room_for_infos(bit_vec.bits.len()),
                 |session, out| session.infos(&spelled, seconds, nanos, out),
                 |bytes| read_infos(&mut Reader::new(bytes), u64::MAX),
             )
@@ -239,6 +247,7 @@ impl Directory {
     /// ```
     pub fn get_random_bit_vec(&self, place: usize) -> Result<Option<BitVec>, OutOfMemory> {
         self.question(
+            Kind::Bits,
             |session, out| session.get_random_bit_vec(place as u64, out),
             |bytes| BitVec::read(&mut Reader::new(bytes), u64::MAX),
         )
@@ -299,6 +308,7 @@ impl Directory {
     pub fn dialable(&self, now: Moment) -> Result<Dialable, OutOfMemory> {
         let (seconds, nanos) = now.parts();
         let dialable = self.question(
+            Kind::Dialable,
             |session, out| session.dialable(seconds, nanos, out),
             read_dialable,
         )?;
