@@ -6,6 +6,8 @@
 #![tactic(auto)]
 
 #[cfg(test)]
+mod decoded;
+#[cfg(test)]
 mod examples;
 #[cfg(test)]
 mod fixtures;

@@ -12,7 +12,8 @@ use std::time::Duration;
 
 const MEBIBYTE: usize = 1 << 20;
 
-fn hundred() -> Duration {
+/// 100 seconds.
+pub fn hundred() -> Duration {
     Duration::from_secs(100)
 }
 
@@ -46,8 +47,8 @@ fn a_message_is_a_cut_of_its_frame(rt: HostRuntime) -> Result<(), Fail> {
     Ok(())
 }
 
-// Commands after which the replier is connected to peer 1 and knows its info.
-fn commands_to_the_replier(alloc: Global) -> Result<Vec<Command<TestKey>>, AllocError> {
+/// Commands after which the replier is connected to peer 1 and knows its info.
+pub fn commands_to_the_replier(alloc: Global) -> Result<Vec<Command<TestKey>>, AllocError> {
     let mut infos = Vec::new(alloc);
     infos.push(info(1, 1_000))?;
     let mut commands = Vec::new(alloc);

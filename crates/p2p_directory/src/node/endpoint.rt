@@ -344,6 +344,7 @@ impl<C: PublicKey> Endpoint<C> {
     {
         let (frame, payload, limits) = decoded.into_parts();
         if are_equal(limits, self.payload) {
+            drop(frame);
             return self.answer_payload(payload, now, verdicts);
         }
         self.answer_frame(frame, now, verdicts)

@@ -155,3 +155,64 @@ fn faults_are_told() {
     let prefix = [4, 4, 0, 0, 0, 0, 0, 0, 0, 4];
     assert_eq!(received(&session, b"\x04", &[]), prefix);
 }
+
+// The session keeps the frame that was checked last. Whatever was checked, each frame is processed
+// by its own bytes.
+#[test]
+fn a_checked_frame_stands_for_its_own_bytes_alone() {
+    let session = tracking(9, &[1, 2]);
+    let applied = [3, 0, 0, 0, 0, 0, 0, 0, 1];
+    let knows = |frame: &[u8], bits: u8| {
+        assert_eq!(received(&session, frame, &[1]), applied);
+        assert_eq!(asked(|room| session.ask(0, room)), [2, 0, 2, bits]);
+    };
+    let (one, two) = (peers(&[(1, 100)]), peers(&[(2, 100)]));
+    assert_eq!(one.len(), two.len());
+    // Another frame of as many bytes, then the one that was checked, twice.
+    checked(&session, &one);
+    knows(&two, 0b10);
+    knows(&one, 0b11);
+    knows(&one, 0b11);
+}
+
+#[test]
+fn frames_are_received_in_another_order_than_they_are_checked() {
+    let session = tracking(9, &[1, 2]);
+    let (one, two) = (peers(&[(1, 100)]), peers(&[(2, 100)]));
+    checked(&session, &one);
+    checked(&session, &two);
+    assert_eq!(received(&session, &one, &[1]).len(), 9);
+    assert_eq!(received(&session, &two, &[0]), [6, 2]);
+    assert_eq!(received(&session, &two, &[1]).len(), 9);
+    assert_eq!(asked(|room| session.ask(0, room)), [2, 0, 2, 0b11]);
+}
+
+// What was kept is gone with a refusal, and the frame is decoded again.
+#[test]
+fn a_checked_frame_that_is_refused_can_be_received_again() {
+    let session = tracking(9, &[1]);
+    let frame = peers(&[(1, 100)]);
+    checked(&session, &frame);
+    let mut room = [0; LONGEST];
+    assert_eq!(
+        session.receive(&frame, 100, 0, &[], &mut room),
+        BAD_VERDICTS
+    );
+    assert_eq!(session.receive(&frame, 100, 0, &[1], &mut []), NO_ROOM);
+    assert_eq!(received(&session, &frame, &[1])[0], 3);
+}
+
+// The set decides when a frame is received, not when it is checked.
+#[test]
+fn a_set_that_comes_after_the_check_counts() {
+    let session = tracking(9, &[1]);
+    let (frame, question) = (peers(&[(2, 100)]), [2, 1, 1, 0]);
+    checked(&session, &frame);
+    checked(&session, &question);
+    asked(|room| session.track(1, &key(2), &[], room));
+    assert_eq!(received(&session, &question, &[]), [2, 3, 0]);
+    checked(&session, &frame);
+    asked(|room| session.track(2, &key(2), &[], room));
+    assert_eq!(received(&session, &frame, &[1])[0], 3);
+    assert_eq!(asked(|room| session.ask(0, room))[3], 1);
+}

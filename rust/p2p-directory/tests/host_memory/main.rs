@@ -225,8 +225,8 @@ fn questions_are_answered_or_refused() {
         index: 0,
         bits: vec![false; 4],
     };
-    // The list, a name, and the frame: its prefix, and the infos after it.
-    refuse_each(4, known, everybody(), |state, bits: BitVec| {
+    // Space for the result, the list, a name, and the frame: its prefix, and the infos after it.
+    refuse_each(5, known, everybody(), |state, bits: BitVec| {
         state.node().reply_at_most(&bits, NOW, 1, 0)
     });
     let nobody = BitVec {

@@ -21,10 +21,9 @@ pub const QUESTIONS: &[Case] = &[
             said(state.directory().infos(&nobody, seconds(100)))
         },
         answer: || text(Some([info(1, 1000), named_info(2, 1000, "a.b")])),
-        requests: 7,
-        // Space for four infos (576), their encoding (212), the name, and the encoding's control
-        // block.
-        bytes: 832,
+        requests: 5,
+        // Space for four infos (576), the name, and the bits.
+        bytes: 592,
     },
     Case {
         name: "infos of an unknown set",
@@ -34,7 +33,7 @@ pub const QUESTIONS: &[Case] = &[
             said(state.directory().infos(&unknown, seconds(100)))
         },
         answer: || text(Some(Vec::<()>::new())),
-        requests: 5,
+        requests: 3,
         // The copy of the bits with its control block, and the bits.
         bytes: 48,
     },
@@ -76,18 +75,18 @@ pub const QUESTIONS: &[Case] = &[
         prepared: known,
         call: |state| said(state.directory().info(&key(1))),
         answer: || text(Some(info(1, 1000))),
-        requests: 2,
-        // The encoding, with its control block.
-        bytes: 144,
+        requests: 0,
+        // It is written where it is copied.
+        bytes: 0,
     },
     Case {
         name: "info at a name",
         prepared: known,
         call: |state| said(state.directory().info(&key(2))),
         answer: || text(Some(named_info(2, 1000, "a.b"))),
-        requests: 3,
-        // The name, the encoding, and its control block.
-        bytes: 144,
+        requests: 1,
+        // The name.
+        bytes: 8,
     },
     Case {
         name: "get_peer_set",

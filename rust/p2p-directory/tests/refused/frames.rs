@@ -47,7 +47,7 @@ pub const FRAMES: &[Case] = &[
         prepared: new,
         call: |state| greeting(state, named_info(2, 1000, "a.b"), 100),
         answer: || text(Received::Greeted(key(2))),
-        requests: 8,
+        requests: 5,
         // A list of one info (144), and the name; before that the copy of the frame.
         bytes: 160,
     },
@@ -56,7 +56,7 @@ pub const FRAMES: &[Case] = &[
         prepared: new,
         call: |state| greeting(state, info(1, 1000), 100),
         answer: || text(Received::Greeted(key(1))),
-        requests: 6,
+        requests: 4,
         // A list of one info (144), and the verification result; before that the copy of the frame.
         bytes: 160,
     },
@@ -65,7 +65,7 @@ pub const FRAMES: &[Case] = &[
         prepared: new,
         call: |state| greeting(state, info(9, 1000), 100),
         answer: || invalid(Error::ReceivedSelf),
-        requests: 5,
+        requests: 3,
         // The copy of the frame, with its control block.
         bytes: 144,
     },
@@ -74,7 +74,7 @@ pub const FRAMES: &[Case] = &[
         prepared: new,
         call: |state| greeting(state, info(1, 130_001), 100),
         answer: || invalid(Error::SynchronyBound),
-        requests: 5,
+        requests: 3,
         // The copy of the frame, with its control block.
         bytes: 144,
     },
@@ -83,7 +83,7 @@ pub const FRAMES: &[Case] = &[
         prepared: new,
         call: |state| greeting(state, forged(1), 100),
         answer: || invalid(Error::InvalidSignature),
-        requests: 5,
+        requests: 3,
         // The copy of the frame, with its control block.
         bytes: 144,
     },
@@ -95,17 +95,17 @@ pub const FRAMES: &[Case] = &[
             let reply = Payload::Peers(vec![info(1, 1000)]).encode();
             text(Received::Reply(reply))
         },
-        requests: 6,
-        // Space for four infos (576), the reply (108), its control block, and the bits.
-        bytes: 736,
+        requests: 4,
+        // Space for four infos (576), and the bits.
+        bytes: 584,
     },
     Case {
         name: "bits of an unknown set",
         prepared: known,
         call: |state| frame(state, &[2, 7, 0]),
         answer: || text(Received::Reply(vec![3, 0])),
-        requests: 4,
-        // The reply without infos, and its control block.
+        requests: 2,
+        // The copy of the frame, with its control block.
         bytes: 48,
     },
     Case {
@@ -122,7 +122,7 @@ pub const FRAMES: &[Case] = &[
         prepared: known,
         call: |state| infos(state, &[info(1, 2000), info(3, 2000)], 100),
         answer: || text(Received::Applied(2)),
-        requests: 7,
+        requests: 4,
         // A list of two infos (288), the copy of the frame (214), its control block, the
         // verification results.
         bytes: 544,
@@ -135,7 +135,7 @@ pub const FRAMES: &[Case] = &[
             said(state.receive_judged(&payload, 100, &[true; 2]))
         },
         answer: || text(Received::Applied(2)),
-        requests: 7,
+        requests: 4,
         // The same as in one step.
         bytes: 544,
     },
@@ -147,7 +147,7 @@ pub const FRAMES: &[Case] = &[
             infos(state, &named, 100)
         },
         answer: || text(Received::Applied(2)),
-        requests: 11,
+        requests: 6,
         // As before, and two names.
         bytes: 544,
     },
@@ -156,7 +156,7 @@ pub const FRAMES: &[Case] = &[
         prepared: known,
         call: |state| infos(state, &[], 100),
         answer: || text(Received::Applied(0)),
-        requests: 4,
+        requests: 2,
         // The copy of the frame, with its control block.
         bytes: 48,
     },
@@ -165,7 +165,7 @@ pub const FRAMES: &[Case] = &[
         prepared: known,
         call: |state| infos(state, &[info(1, 2000), info(9, 2000)], 100),
         answer: || invalid(Error::ReceivedSelf),
-        requests: 7,
+        requests: 4,
         // As for two infos.
         bytes: 544,
     },
@@ -174,7 +174,7 @@ pub const FRAMES: &[Case] = &[
         prepared: known,
         call: |state| infos(state, &[info(1, 2000), info(3, 130_001)], 100),
         answer: || invalid(Error::SynchronyBound),
-        requests: 7,
+        requests: 4,
         // As for two infos.
         bytes: 544,
     },
@@ -183,7 +183,7 @@ pub const FRAMES: &[Case] = &[
         prepared: known,
         call: |state| infos(state, &[info(1, 2000), forged(3)], 100),
         answer: || invalid(Error::InvalidSignature),
-        requests: 7,
+        requests: 4,
         // As for two infos.
         bytes: 544,
     },
@@ -192,7 +192,7 @@ pub const FRAMES: &[Case] = &[
         prepared: one_at_a_time,
         call: |state| infos(state, &[info(1, 2000), info(2, 2000)], 100),
         answer: || invalid(Error::TooManyPeers(2)),
-        requests: 7,
+        requests: 4,
         // As for two infos.
         bytes: 544,
     },
