@@ -17,7 +17,7 @@ use Rattle.p2p_tracker.specs.declared.directory.Metadata.{Metadata}
 use Rattle.p2p_tracker.specs.declared.directory.Metadata.TheVariants.{Dialer, Listener}
 use Rattle.p2p_directory.specs.Held.{held_of}
 use Rattle.p2p_directory.specs.Nodes.{standing_of, AnswersFrameBy, IsReceivedBy}
-use Rattle.p2p_directory.specs.Received.{are_miscounted}
+use Rattle.p2p_directory.specs.Received.{are_miscounted, IsWantOfMemory}
 use Rattle.p2p_directory.specs.declared.node.Received.{Received}
 use Rattle.p2p_directory.specs.declared.node.Received.TheVariants as received
 use Rattle.p2p_session.specs.declared.key.Key.{Key}
@@ -107,14 +107,23 @@ abbrev pub HearsAt : List Bool → List ℕ → Result ℕ Refusal → View → 
 HearsAt verdicts frame (Ok t) v v2 r = Hears verdicts frame t v v2 r
 HearsAt verdicts frame (Err why) v v2 r = ⊥
 
--- why a frame isn't taken
+-- why a frame isn't taken: what is wrong with the moment; else that the room is shorter than the
+-- longest answer; else that memory was refused, or that verdicts and infos differ in number
 abbrev pub MayRefuse : View → List Bool → List ℕ → Result ℕ Refusal → ℕ → Refusal → Type 0
-MayRefuse v verdicts frame now room refusal.BadMoment = now ≡ Err refusal.BadMoment
-MayRefuse v verdicts frame now room refusal.NoRoom = room < 1 + KEY_SIZE
-MayRefuse v verdicts frame now room refusal.Memory = Unit {0}
-MayRefuse v verdicts frame now room refusal.BadVerdicts =
-    are_miscounted wire (standing_of order.cmp wire v) frame verdicts ≡ true
-MayRefuse v verdicts frame now room _ = ⊥
+MayRefuse v verdicts frame (Err wrong) room why = why ≡ wrong
+MayRefuse v verdicts frame (Ok t) room refusal.NoRoom = room < 1 + KEY_SIZE
+MayRefuse v verdicts frame (Ok t) room refusal.Memory = 1 + KEY_SIZE ≤ room
+MayRefuse v verdicts frame (Ok t) room refusal.BadVerdicts = (1 + KEY_SIZE ≤ room)
+    × (are_miscounted wire (standing_of order.cmp wire v) frame verdicts ≡ true)
+MayRefuse v verdicts frame (Ok t) room _ = ⊥
+
+-- what holds where a frame was taken: the room has the longest answer, and there are as many
+-- verdicts as infos, unless memory was refused
+pub record IsTaken (v : View) (verdicts : List Bool) (frame : List ℕ) (room : ℕ) (r : Received)
+    : Type 0 where
+  pub fits : 1 + KEY_SIZE ≤ room
+  pub counted : are_miscounted wire (standing_of order.cmp wire v) frame verdicts ≡ true →
+      IsWantOfMemory r
 
 -- a frame is refused and nothing changes, or it is taken and the answer told
 abbrev pub ReceivesAt : List Bool → List ℕ → Result ℕ Refusal → List ℕ → List ℕ → View → View → ℕ →
@@ -122,6 +131,7 @@ abbrev pub ReceivesAt : List Bool → List ℕ → Result ℕ Refusal → List �
 ReceivesAt verdicts frame now out out2 v v2 n =
     ((why : Refusal) × MayRefuse v verdicts frame now (length out) why × (v2 ≡ v) × Refuses why out out2 n)
     ⊎ ((r : Received) × HearsAt verdicts frame now v v2 r
+    × IsTaken v verdicts frame (length out) r
     × TellsReceived (greeter_in (whole (wire.reading v.limits) frame).outcome) r out out2 n)
 
 abbrev pub ReceivesOf : List ℕ → ℕ → ℕ → List ℕ → List ℕ → List ℕ → Option View → Option View → ℕ →

@@ -1,14 +1,14 @@
 //! Frames: what of them has to be verified, and what a node returns for them.
 
 ghost use Rattle.std.specs.Prelude.{◌≡◌, ℕ, ◌+◌, ◌≤◌, ◌<◌, ◌^◌, ◌∷◌, ◌++◌, IfOk, IfErr, OnErr, length};
-ghost use Rattle.std.specs.Prelude.{take, flat_map, Result};
+ghost use Rattle.std.specs.Prelude.{take, flat_map, Ok, true};
 ghost use Rattle.p2p_discovery.specs.Reading.{IsBytes, whole};
 ghost use Rattle.std.specs.Duration.{as_nanos};
 ghost use Rattle.p2p_session.specs.Answers.{IsAnswered, number, asked_bytes};
 ghost use Rattle.p2p_session.specs.Given.{moment_at};
 ghost use Rattle.p2p_session.specs.Frames.{received_answer, TellsReceived, fault_bytes, error_bytes};
 ghost use Rattle.p2p_session.specs.Frames.{greeter_in, key_at_end, HasKey, IsNamedAtEnd};
-ghost use Rattle.p2p_session.specs.Frames.{verdicts_in, MayRefuse, ReceivesAt, Hears, HearsAt};
+ghost use Rattle.p2p_session.specs.Frames.{verdicts_in, MayRefuse, ReceivesAt, Hears, HearsAt, IsTaken};
 ghost use Rattle.p2p_session.specs.Frames.{to_ask, ChecksAt};
 ghost use Rattle.p2p_session.specs.contracts.key.KeyOrd.TheImpl.{ghosts as order};
 ghost use Rattle.p2p_session.specs.Views.{wire};
@@ -16,7 +16,9 @@ ghost use Rattle.p2p_session.specs.Answers.{part_bytes};
 ghost use Rattle.p2p_discovery.specs.Judgement.{judge_of};
 ghost use Rattle.p2p_discovery.specs.Payload.{infos_of_payload};
 ghost use Rattle.p2p_discovery.specs.declared.discovery.Payload.TheVariants.{Peers};
-ghost use Rattle.p2p_directory.specs.Received.{received_of, AreFew};
+ghost use Rattle.p2p_directory.specs.Nodes.{standing_of};
+ghost use Rattle.p2p_directory.specs.Received.{received_of, AreFew, are_miscounted};
+ghost use Rattle.p2p_directory.specs.Received.{IsWantOfMemory};
 
 use crate::answer::{Part, answer};
 use crate::checked::Checked;
@@ -75,6 +77,8 @@ fn hear(
         (moment_at time.0 time.1) room) }
     ensures same { OnErr result (node.new ≡ node.old) }
     ensures few { IfOk result AreFew }
+    ensures taken { IfOk result (λ a. IsTaken node.old (verdicts_in verdicts.now) frame.now room
+        (received_of wire a)) }
     ensures has_key { IfOk result (λ a. HasKey (received_of wire a) frame.now) }
     ensures named { IfOk result (λ a. IsNamedAtEnd (received_of wire a) frame.now
         (greeter_in (whole (wire.reading node.old.limits) frame.now).outcome)) }
@@ -99,10 +103,13 @@ fn process(
 ) -> Result<Answer<Key>, Refusal>
     ensures heard { IfOk result (λ a. Hears verdicts.now frame.now (as_nanos now)
         node.old node.new (received_of wire a)) }
-    ensures refused { IfErr result (λ why. (moment : Result ℕ Refusal) (room : ℕ)
-        → MayRefuse node.old verdicts.now frame.now moment room why) }
+    ensures refused { IfErr result (λ why. (t room : ℕ) → 1 + KEY_SIZE ≤ room
+        → MayRefuse node.old verdicts.now frame.now (Ok t) room why) }
     ensures same { OnErr result (node.new ≡ node.old) }
     ensures few { IfOk result AreFew }
+    ensures counted { IfOk result (λ a. are_miscounted wire
+        (standing_of order.cmp wire node.old) frame.now verdicts.now ≡ true
+        → IsWantOfMemory (received_of wire a)) }
 {
     match checked.take(frame) {
         Some(decoded) => Ok(node.answer_decoded(decoded, now, verdicts)?),
