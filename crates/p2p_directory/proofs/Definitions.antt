@@ -8,7 +8,8 @@ pub mod Targets
 pub mod Setting
 pub mod GossipExamples
 mod FrameExamples
-mod ExchangePremises
+pub mod ExchangePremises
+mod ForeignNodes
 mod LatePremises
 mod Examples
 mod Corners
