@@ -74,8 +74,8 @@ module _ {C S : Type 0} (wire : Wire C S) (size : ℕ) (node : ℕ → Made C S)
     pub own : (i : ℕ) → is_node wire size node i ≡ true → P (node i).directory.own
     pub given : AllByRecursion (GivesTo P) done
 
-  -- P holds of the own info of node n, and of each info that was given to it or that its own
-  -- exchanges brought it
+  -- P holds of the own info of node n, and of each info that was given to it, by its own exchanges
+  -- too
   pub record IsGivenOnly (n : ℕ) (P : Info C S → Type 0) (done : Done C S) : Type 0 where
     pub own : is_node wire size node n ≡ true → P (node n).directory.own
     pub given : AllByRecursion (λ x. changed_by x.0 ≡ n → GivesOrBrings P x) done
@@ -123,7 +123,8 @@ module _ {C S : Type 0} (wire : Wire C S) (size : ℕ) (node : ℕ → Made C S)
     pub at_asker : IsSignedFor asker i
     pub at_replier : IsSignedFor replier i
 
-  -- .. of one or of two, of all that is given from outside: then of all that each node was given
+  -- where all that was given from outside is signed for one node, or for two, so is all that was
+  -- given to each
   abbrev pub GivesSigned : Done C S → Type 0
   GivesSigned done = (i j : ℕ) →
       GivesEach (IsSignedFor i) done × GivesEach (IsSigned i j) done
@@ -353,7 +354,8 @@ module _ {C S : Type 0} (wire : Wire C S) (size : ℕ) (node : ℕ → Made C S)
 
   -- what is given to any node comes from somewhere, and what it holds: gossip invents nothing
   abbrev pub Provenance : Done C S → Type 0
-  Provenance done = (n : ℕ) → IsGivenOnly n (HasOrigin done) done × HoldsOnly n (HasOrigin done) done
+  Provenance done = (n : ℕ) →
+      IsGivenOnly n (HasOrigin done) done × HoldsOnly n (HasOrigin done) done
 
   -- where all that was given to a node is signed for node n, so is all that it holds
   abbrev pub HoldSigned : Done C S → Type 0

@@ -11,7 +11,8 @@ ghost use Rattle.p2p_directory.specs.Network.{OfNetwork, StandAfter, AreNetworkA
 ghost use Rattle.p2p_directory.specs.Network.{IsNetworkServed, IsServedAmong, AreReleased};
 ghost use Rattle.p2p_directory.specs.Network.{IsAdded, IsReplaced};
 ghost use Rattle.p2p_directory.specs.Laws.Network.{KeepExchanges, AtEachPoint, OfEachReply};
-ghost use Rattle.p2p_directory.specs.Laws.Network.{Provenance, HoldSigned, OnlyGetNewer, Reach};
+ghost use Rattle.p2p_directory.specs.Laws.Network.{Provenance, GivesSigned, HoldSigned};
+ghost use Rattle.p2p_directory.specs.Laws.Network.{OnlyGetNewer, Reach};
 ghost use Rattle.p2p_directory.specs.Laws.Network.{Acquaint, TakesGreeting, RepliesInfos};
 ghost use Rattle.p2p_directory.specs.Laws.Network.{TakesFrame, LeavesOtherNodes, Isolate, Reorder};
 ghost use Rattle.p2p_directory.specs.Private.Endpoints.{node_of};
@@ -383,6 +384,8 @@ impl<C: PublicKey> NetworkRun<C> {
 ///   changes nothing at any node, unless an allocation fails.
 /// - Provenance: each info that is given to a node, or that it holds, was passed in. Gossip invents
 ///   nothing.
+/// - Given: if all infos passed in are signed in the namespaces of one node or of two, so are all
+///   that are given to any node.
 /// - Infos: if all infos given to a node are signed in a namespace, so are all that it holds.
 /// - Newer: the info that a node holds of a peer only gets newer as long as the peer stays present
 ///   at it.
@@ -454,6 +457,11 @@ pub fn run_network<C: PublicKey>(
         let wire = wire_of C.SIZE C.spelled C.value
         C.Signature.SIZE C.Signature.spelled C.Signature.value C.verifies in
         AtEachPoint wire size node (Provenance wire size node)
+        [] commands.items run.replies.items)) }
+    ensures given { IfOk result (λ run. OfNetwork C.cmp setups.items (λ size node.
+        let wire = wire_of C.SIZE C.spelled C.value
+        C.Signature.SIZE C.Signature.spelled C.Signature.value C.verifies in
+        AtEachPoint wire size node (GivesSigned wire size node)
         [] commands.items run.replies.items)) }
     ensures infos { IfOk result (λ run. OfNetwork C.cmp setups.items (λ size node.
         let wire = wire_of C.SIZE C.spelled C.value

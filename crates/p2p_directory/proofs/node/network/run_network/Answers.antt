@@ -211,6 +211,21 @@ returns-clause-provenance g c = λ other.
     Provenance.at_each_point wire size node (networks.Provenance wire size node)
     (Provenance.provenance wire size node) [] tt cs rs answers
 
+pub returns-clause-given : goal.returns-clause-given
+returns-clause-given g c = λ other.
+    let wire = wire_of g.C.FixedBytes.SIZE g.C.FixedBytes.spelled g.C.FixedBytes.value
+    g.C.Signature.FixedBytes.SIZE g.C.Signature.FixedBytes.spelled g.C.Signature.FixedBytes.value
+    g.C.PublicKey.verifies in
+    let setups = c.args.setups.items in
+    let size = length setups in
+    let node = node_made g.C.Ord.cmp other setups in
+    let cmp = g.C.Ord.cmp in
+    let cs = c.args.commands.items in
+    let rs = c.loop-command.replies.items in
+    let answers = returns-clause-answers g c other in
+    Provenance.at_each_point wire size node (networks.GivesSigned wire size node)
+    (Provenance.gives_signed wire size node) [] tt cs rs answers
+
 pub returns-clause-infos : goal.returns-clause-infos
 returns-clause-infos g c = λ other.
     let wire = wire_of g.C.FixedBytes.SIZE g.C.FixedBytes.spelled g.C.FixedBytes.value
