@@ -9,8 +9,8 @@ pub mod Setting
 pub mod GossipExamples
 mod FrameExamples
 pub mod ExchangePremises
+pub mod LatePremises
 mod ForeignNodes
-mod LatePremises
 mod Examples
 mod Corners
 mod Forgetting

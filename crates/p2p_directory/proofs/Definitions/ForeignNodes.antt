@@ -8,6 +8,7 @@ use Rattle.std.specs.List.{AllByRecursion}
 use Rattle.std.specs.List.Sorted.{IsStrictlySortedBy}
 use Rattle.p2p_discovery.specs.declared.discovery.Error.TheVariants.{InvalidSignature}
 use Rattle.p2p_discovery.specs.declared.discovery.Info.{Info}
+use Rattle.p2p_discovery.specs.declared.discovery.Payload.TheVariants as said
 use Rattle.p2p_discovery.specs.Payload.{body_at, payload_at}
 use Rattle.p2p_discovery.specs.Data.{data_at, message_at}
 use Rattle.p2p_discovery.specs.Counted.{length_at}
@@ -34,6 +35,7 @@ use Rattle.p2p_directory.specs.declared.run.commands.Command.TheVariants as comm
 use Rattle.p2p_directory.specs.declared.run.commands.Reply.TheVariants as reply
 use Rattle.p2p_directory.specs.Exchange.{infos_applied, exchanged_at, IsExchangeAnswer, ExchangeOutcome}
 use Rattle.p2p_directory.specs.Exchange.ExchangeOutcome.{Applied}
+use Rattle.p2p_directory.specs.Received.{received_at}
 use Rattle.p2p_directory.specs.Nodes.{Made, calls_with, standing_in}
 use Rattle.p2p_directory.specs.Run.{world_after, IsAnswer}
 use Rattle.p2p_directory.specs.Network.{Done, calls_at, world_at_node, standing_at}
@@ -41,10 +43,12 @@ use Rattle.p2p_directory.specs.Network.{IsNetworkAnswer, AreNetworkAnswers, done
 use Rattle.p2p_directory.specs.Laws.Gossip.{wanted_infos}
 use Rattle.p2p_directory.specs.Laws.Network.{Brings, IsSigned, AreAllGiven, IsGivenOnly, HaveOneList}
 use Rattle.p2p_directory.specs.Laws.Network.{Fits, MayBring, KeepExchanges, infos_to_bring}
+use Rattle.p2p_directory.specs.Laws.Network.{RepliesInfos, IsReplyFor}
 use Rattle.p2p_directory.proofs.LawsOfGossip.Lists.{inside}
 use Rattle.p2p_directory.proofs.Definitions.Setting.{sec, track, listen}
 use Rattle.p2p_directory.proofs.Definitions.GossipExamples.{wire, signed, signed_elsewhere, asker}
 use Rattle.p2p_directory.proofs.Definitions.GossipExamples.{replier, made, own_of_8}
+use Rattle.p2p_directory.proofs.Definitions.LatePremises.{Any, peers_1}
 use Rattle.p2p_directory.proofs.Definitions.ExchangePremises.{seconds, peers12, greeting_1, x}
 
 -- node 3 has key 6, and its infos are signed in the namespace `other`
@@ -262,3 +266,44 @@ module _ (any : Command ℕ ℕ) (told : Exchanged ℕ ℕ) (is : infos_applied 
       let infos : List (Info ℕ ℕ) = infos_to_bring wire 4 four done 0 1 (sec 100) x in
       let b : Brings wire 4 four done 0 1 (sec 100) x asked bad infos = kept.0 x may_bring in
       neither infos b.answer
+
+  -- REPLIES: node 0 is asked for its bits, and node 1 is handed them
+
+  abbrev bits : List ℕ
+  bits = 2 ∷ 0 ∷ 2 ∷ 0 ∷ []
+
+  question : IsNetworkAnswer wire 4 four done (network.Ask 0 0) (answer.Ask (Some bits))
+  unfolding life groups packed spellings
+  question = (refl, refl)
+
+  abbrev questioned : Done ℕ ℕ
+  questioned = (network.Ask 0 0, answer.Ask (Some bits)) ∷ done
+
+  replied : IsNetworkAnswer wire 4 four questioned (network.Frame 1 bits (seconds 100)) (answer.Frame (received.Reply peers_1))
+  unfolding life payload_at body_at data_at message_at length_at groups groups_at texts.info_at ingress_at ip_at
+      socket_at bits_read_at bit_vec_read_at bits_in packed spellings elems items_at list_at
+  replied = (
+    refl,
+    subst (λ cs. received.Reply peers_1
+        ≡ (received_at wire (standing_in replier wire (world_after replier.directory cs)) bits (sec 100)).answer)
+        (sym accepted_1) refl,
+  )
+
+  still_honest : IsGivenOnly wire 4 four 1 IsHonest questioned
+  still_honest = record { own = honest.own; given = ((λ e. tt), honest.given) }
+
+  still_one_list : HaveOneList wire 4 four done questioned 0 1 0 x
+  still_one_list = record {
+    at_place = one_list.at_place;
+    kept = one_list.kept;
+    retained = one_list.retained;
+    one_list = one_list.one_list;
+  }
+
+  -- a reply that spells no infos is refused
+  empty_is_refused : RepliesInfos wire 4 four Any Any questioned (network.Frame 1 bits (seconds 100))
+      (answer.Frame (received.Reply [])) → ⊥
+  empty_is_refused kept =
+      let is : IsReplyFor wire 4 four Any Any 0 1 (sec 100) [] =
+      kept [] done 0 0 x [] refl still_honest still_one_list refl in
+      absurd (let e : [] ≡ wire.spelling (said.Peers is.infos) = is.spells.spelled in cc)
