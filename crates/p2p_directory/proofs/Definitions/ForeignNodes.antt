@@ -159,7 +159,52 @@ module _ (any : Command ℕ ℕ) (told : Exchanged ℕ ℕ) (is : infos_applied 
   are_answers : AreNetworkAnswers wire 4 four [] commands replies
   unfolding life payload_at body_at data_at message_at length_at groups groups_at texts.info_at ingress_at ip_at
       socket_at bits_read_at bit_vec_read_at bits_in packed spellings elems items_at list_at
-  are_answers = ((refl, nobody asker.directory), ((refl, nobody replier.directory), ((refl, nobody (four 2).directory), ((refl, nobody foreign.directory), ((refl, refl), ((refl, inr refl), ((refl, inr refl), ((refl, refl), ((refl, inr refl), ((refl, inr refl), (refl, ((refl, applied_is told _ _ (signed 1 100000 ∷ []) is refl), ((refl, listens), ((refl, connects), ((refl, refl), tt)))))))))))))))
+  are_answers = (
+    (refl, nobody asker.directory),
+    (
+      (refl, nobody replier.directory),
+      (
+        (refl, nobody (four 2).directory),
+        (
+          (refl, nobody foreign.directory),
+          (
+            (refl, refl),
+            (
+              (refl, inr refl),
+              (
+                (refl, inr refl),
+                (
+                  (refl, refl),
+                  (
+                    (refl, inr refl),
+                    (
+                      (refl, inr refl),
+                      (
+                        refl,
+                        (
+                          (refl, applied_is told _ _ (signed 1 100000 ∷ []) is refl),
+                          (
+                            (refl, listens),
+                            (
+                              (refl, connects),
+                              (
+                                (refl, refl),
+                                tt,
+                              ),
+                            ),
+                          ),
+                        ),
+                      ),
+                    ),
+                  ),
+                ),
+              ),
+            ),
+          ),
+        ),
+      ),
+    ),
+  )
 
   -- the accepted calls of nodes 0 and 1
   accepted_0 : calls_at wire 4 four done 0 ≡ track 0 (1 ∷ 2 ∷ []) ∷ []
