@@ -318,7 +318,7 @@ pub fn infos_may_come_late<C: PublicKey>()
 /// info of each of their peers is at least as new. The same exchange directly repeated is applied
 /// and changes nothing at any node, unless an allocation fails.
 ///
-/// Given: if all local infos, and the infos of each command to any node that was replied `Call`, and
+/// Given: if all local infos, and the infos of each command to any node that was replied `Call` and
 /// of each frame that any node accepted, are signed for one node or for two, so is all that each
 /// node was given. For exchanges bring nothing else.
 ///
