@@ -8,8 +8,9 @@ pub mod Targets
 pub mod Setting
 pub mod GossipExamples
 mod FrameExamples
-mod ExchangePremises
-mod LatePremises
+pub mod ExchangePremises
+pub mod LatePremises
+mod ForeignNodes
 mod Examples
 mod Corners
 mod Forgetting

@@ -47,7 +47,8 @@ ghost use Rattle.p2p_directory.specs.declared.node.network.NetworkCommand.{Netwo
 ghost use Rattle.p2p_directory.specs.declared.node.network.NetworkReply.{NetworkReply};
 ghost use Rattle.p2p_directory.specs.Network.{AreNetworkAnswers, is_node};
 ghost use Rattle.p2p_directory.specs.Laws.Network.{AreMade, AtEachPoint, Provenance, HoldSigned};
-ghost use Rattle.p2p_directory.specs.Laws.Network.{OnlyGetNewer, Reach, OfEachReply};
+ghost use Rattle.p2p_directory.specs.Laws.Network.{GivesSigned, OnlyGetNewer, Reach};
+ghost use Rattle.p2p_directory.specs.Laws.Network.{OfEachReply};
 ghost use Rattle.p2p_directory.specs.Laws.Network as network;
 
 use p2p_discovery::codec::PublicKey;
@@ -306,17 +307,25 @@ pub fn infos_may_come_late<C: PublicKey>()
 
 /// Gossip of any number of nodes, by the replies to what is done to them from their start.
 ///
-/// Exchanges: at each point, consider all local infos, and the infos of each command to any node
-/// and of each frame that any node accepted before. Let them be signed in the namespaces of the
-/// asker and the replier. Take an exchange of a set whose primary peers the replier retains at its
-/// index, within the limits of both, with the replier's time at most the asker's bound ahead. It is
-/// applied with exactly the wanted infos that may be shared, unless an allocation fails. Afterwards
-/// the asker's info of each of their peers is at least as new. The same exchange directly repeated
-/// is applied and changes nothing at any node, unless an allocation fails.
+/// What a node was given, at each point: its local info, and the infos of each command to it that
+/// was replied `Call`, of each frame that it accepted, and of each exchange in which it was the
+/// asker and that was applied.
 ///
-/// Provenance, without any premise: each info that any node holds is the local info of some node,
-/// or was passed to some node before, by a command or by a frame that it accepted. Infos: if all
-/// infos that are passed in are signed for a node, so are all that any node holds.
+/// Exchanges: let all that the replier was given be signed in the namespaces of the asker and the
+/// replier. Take an exchange of a set whose primary peers the replier retains at its index, within
+/// the limits of both, with the replier's time at most the asker's bound ahead. It is applied with
+/// exactly the wanted infos that may be shared, unless an allocation fails. Afterwards the asker's
+/// info of each of their peers is at least as new. The same exchange directly repeated is applied
+/// and changes nothing at any node, unless an allocation fails.
+///
+/// Given: if all local infos, and the infos of each command to any node that was replied `Call` and
+/// of each frame that any node accepted, are signed for one node or for two, so is all that each
+/// node was given. For exchanges bring nothing else.
+///
+/// Provenance, without any premise: each info that any node was given, or that it holds, is the
+/// local info of some node, or was passed to some node before, by a command that was replied `Call`
+/// or by a frame that it accepted. Infos: if all that a node was given is signed in a namespace, so
+/// is all that it holds.
 ///
 /// Newer: what a node holds of a peer is at least as new later, as long as the peer stays present
 /// at it. Reach: take an exchange that was applied under its premises, and a primary peer of its
@@ -337,6 +346,9 @@ pub fn infos_may_come_late<C: PublicKey>()
 /// Isolation and order: the same as for one directory, over the calls that each node accepted.
 /// Others: a command to one node leaves every other as it was, and an exchange leaves all but the
 /// asker.
+///
+/// Infos, newer, isolation, order and others are laws of the definitions: they hold whatever the
+/// replies.
 pub fn gossip_of_a_network<C: PublicKey>()
     ensures exchanges { (wire : Wire C C.Signature) (size : ℕ) (node : ℕ → Made C C.Signature) →
         AreMade wire size node C.cmp →
@@ -347,14 +359,16 @@ pub fn gossip_of_a_network<C: PublicKey>()
         (cs : List (NetworkCommand C C.Signature)) (rs : List (NetworkReply C C.Signature)) →
         AreNetworkAnswers wire size node [] cs rs →
         AtEachPoint wire size node (Provenance wire size node) [] cs rs }
-    ensures infos { (wire : Wire C C.Signature) (size : ℕ) (node : ℕ → Made C C.Signature) →
+    ensures given { (wire : Wire C C.Signature) (size : ℕ) (node : ℕ → Made C C.Signature) →
         (cs : List (NetworkCommand C C.Signature)) (rs : List (NetworkReply C C.Signature)) →
         AreNetworkAnswers wire size node [] cs rs →
+        AtEachPoint wire size node (GivesSigned wire size node) [] cs rs }
+    ensures infos { (wire : Wire C C.Signature) (size : ℕ) (node : ℕ → Made C C.Signature) →
+        (cs : List (NetworkCommand C C.Signature)) (rs : List (NetworkReply C C.Signature)) →
         AtEachPoint wire size node (HoldSigned wire size node) [] cs rs }
     ensures newer { (wire : Wire C C.Signature) (size : ℕ) (node : ℕ → Made C C.Signature) →
         AreMade wire size node C.cmp →
         (cs : List (NetworkCommand C C.Signature)) (rs : List (NetworkReply C C.Signature)) →
-        AreNetworkAnswers wire size node [] cs rs →
         AtEachPoint wire size node (OnlyGetNewer wire size node) [] cs rs }
     ensures reach { (wire : Wire C C.Signature) (size : ℕ) (node : ℕ → Made C C.Signature) →
         AreMade wire size node C.cmp →
@@ -381,7 +395,6 @@ pub fn gossip_of_a_network<C: PublicKey>()
         (network.TakesFrame wire size node C.IsValue C.Signature.IsValue) [] cs rs }
     ensures others { (wire : Wire C C.Signature) (size : ℕ) (node : ℕ → Made C C.Signature) →
         (cs : List (NetworkCommand C C.Signature)) (rs : List (NetworkReply C C.Signature)) →
-        AreNetworkAnswers wire size node [] cs rs →
         OfEachReply wire size node (network.LeavesOtherNodes wire size node) [] cs rs }
     ensures acquaintance { (wire : Wire C C.Signature) (size : ℕ) (node : ℕ → Made C C.Signature) →
         AreMade wire size node C.cmp →
@@ -401,11 +414,9 @@ pub fn gossip_of_a_network<C: PublicKey>()
     ensures isolation { (wire : Wire C C.Signature) (size : ℕ) (node : ℕ → Made C C.Signature) →
         AreMade wire size node C.cmp →
         (cs : List (NetworkCommand C C.Signature)) (rs : List (NetworkReply C C.Signature)) →
-        AreNetworkAnswers wire size node [] cs rs →
         AtEachPoint wire size node (network.Isolate wire size node) [] cs rs }
     ensures order { (wire : Wire C C.Signature) (size : ℕ) (node : ℕ → Made C C.Signature) →
         AreMade wire size node C.cmp →
         (cs : List (NetworkCommand C C.Signature)) (rs : List (NetworkReply C C.Signature)) →
-        AreNetworkAnswers wire size node [] cs rs →
         AtEachPoint wire size node (network.Reorder wire size node) [] cs rs }
 {}

@@ -1,7 +1,7 @@
 -- What either of two nodes holds was given to one of them.
 use Rattle.std.proofs.Common.{◌≡◌, ℕ, Bool, true, false, List, ◌∷◌, length, Option, Some, None}
 use Rattle.std.proofs.Common.{refl, subst}
-use Rattle.std.specs.Prelude.{if◌then◌else◌, nat_lt}
+use Rattle.std.specs.Prelude.{if◌then◌else◌, nat_lt, IfSome}
 use Rattle.std.specs.List.{AllByRecursion}
 use Rattle.p2p_discovery.specs.declared.codec.error.CodecError.TheVariants.{InvalidLength}
 use Rattle.p2p_discovery.specs.declared.discovery.BitVec.{BitVec}
@@ -58,16 +58,24 @@ module _ {C S : Type 0} (P : Info C S → Type 0) where
       asked None = tt
       asked (Some v) = read v (nat_lt b.limits.max_bit_vec (length v.bits))
 
-  pub gives_with : (r : Exchanged C S) (may : Bool) (o : ExchangeOutcome C S) (calls : List (Call C S)) →
-      Exchange.IsExchangeAnswer may o r → Brings o → AllByRecursion (GivesOnly P) calls →
-      AllByRecursion (GivesOnly P) (calls_with (Exchange.infos_applied r) calls)
-  gives_with (exchanged.Applied infos) may o calls is h before = (subst Brings is h, before)
-  gives_with exchanged.NoSet may o calls is h before = before
-  gives_with (exchanged.AskRefused fault) may o calls is h before = before
-  gives_with exchanged.Malformed may o calls is h before = before
-  gives_with (exchanged.ReplyRefused fault) may o calls is h before = before
-  gives_with (exchanged.Invalid error) may o calls is h before = before
-  gives_with exchanged.Memory may o calls is h before = before
+  -- .. with an answer
+  pub brings_applied : (r : Exchanged C S) (may : Bool) (o : ExchangeOutcome C S) →
+      Exchange.IsExchangeAnswer may o r → Brings o →
+      IfSome (Exchange.infos_applied r) (AllByRecursion P)
+  brings_applied (exchanged.Applied infos) may o is h = subst Brings is h
+  brings_applied exchanged.NoSet may o is h = tt
+  brings_applied (exchanged.AskRefused fault) may o is h = tt
+  brings_applied exchanged.Malformed may o is h = tt
+  brings_applied (exchanged.ReplyRefused fault) may o is h = tt
+  brings_applied (exchanged.Invalid error) may o is h = tt
+  brings_applied exchanged.Memory may o is h = tt
+
+  -- one more update, or none
+  pub gives_with : (applied : Option (List (Info C S))) (calls : List (Call C S)) →
+      IfSome applied (AllByRecursion P) → AllByRecursion (GivesOnly P) calls →
+      AllByRecursion (GivesOnly P) (calls_with applied calls)
+  gives_with None calls h before = before
+  gives_with (Some infos) calls h before = (h, before)
 
   -- one more call, or none
   pub gives_if : (b : Bool) (c : Call C S) (calls : List (Call C S)) → (b ≡ true → GivesOnly P c) →

@@ -100,8 +100,7 @@ module _ {C S : Type 0} (wire : Wire C S) (size : ℕ) (node : ℕ → Made C S)
     pub exact : (i : ℕ) → is_node wire size node i ≡ true → History.IsExact (node i).directory
     exact i there = exact_from (node i).directory cmp (made i there).order exact_keys
 
-    module _ (done : Done C S) (answered : Provenance.AreAnswered wire size node done)
-        (asker replier : ℕ) (two : AreTwo asker replier) (place : ℕ)
+    module _ (done : Done C S) (asker replier : ℕ) (two : AreTwo asker replier) (place : ℕ)
         (asker_now replier_now : Duration) (x : SetAt C)
         (may : MayBring wire size node done asker replier place asker_now replier_now x) where
       abbrev infos : List (Info C S)
@@ -118,8 +117,8 @@ module _ {C S : Type 0} (wire : Wire C S) (size : ℕ) (node : ℕ → Made C S)
       signed = Brought.given_weaker (IsSigned wire size node asker replier)
           (one_exchange.IsSigned wire (node asker) (node replier)) (λ i h. h.at_asker)
           (node replier).directory ds
-          (Provenance.given_at wire size node (IsSigned wire size node asker replier) done answered
-          may.honest replier two.replies)
+          (Provenance.given_at wire size node (IsSigned wire size node asker replier) replier done
+          may.honest two.replies)
 
       -- what it comes to
       abbrev coming : World C S → List (Call C S) → ExchangeOutcome C S
@@ -229,7 +228,7 @@ module _ {C S : Type 0} (wire : Wire C S) (size : ℕ) (node : ℕ → Made C S)
         BringsWanted wire size node done c r
     wanted done answered (command.Exchange asker replier place asker_now replier_now)
         (reply.Exchange r) is = λ x may.
-        brings_wanted done answered asker replier (are_two asker replier is.0) place asker_now
+        brings_wanted done asker replier (are_two asker replier is.0) place asker_now
         replier_now x may r is
     wanted done answered (command.Exchange asker replier place asker_now replier_now)
         (reply.Call r) is = tt

@@ -16,18 +16,21 @@ use Rattle.p2p_tracker.specs.Calls.Call.{UnblockExpired, ForgetCooled, Ask}
 use Rattle.p2p_directory.specs.Run.{call_of, was_made, world_after}
 use Rattle.p2p_directory.specs.Received.{Wire, applies}
 use Rattle.p2p_directory.specs.Exchange
+use Rattle.p2p_directory.specs.Exchange.{infos_applied}
 use Rattle.p2p_directory.specs.Nodes.{Made}
 use Rattle.p2p_directory.specs.Network.{infos_of_frame}
 use Rattle.p2p_directory.specs.Network.{Done, changed_by, calls_then, is_node, calls_at}
 use Rattle.p2p_directory.specs.Network.{standing_at}
 use Rattle.p2p_directory.specs.Network.{IsNetworkAnswer, AreNetworkAnswers}
 use Rattle.p2p_directory.specs.Laws.Gossip.{GivesOnly}
-use Rattle.p2p_directory.specs.Laws.Network.{IsAmong, given_by, GivesTo, AreAllGiven, HoldOnly}
+use Rattle.p2p_directory.specs.Laws.Network.{IsAmong, given_by, GivesTo, GivesOrBrings}
+use Rattle.p2p_directory.specs.Laws.Network.{IsGivenOnly, GivesEach, HoldsOnly, IsSigned, GivesSigned}
 use Rattle.p2p_directory.specs.Laws.Network.{IsGivenBy, IsGivenIn, HasOrigin, Provenance}
 use Rattle.p2p_directory.specs.Laws.Network.{IsSignedFor, HoldSigned, AtEachPoint, OfEachReply}
 use Rattle.p2p_directory.specs.Laws.Network.{LeavesOtherNodes}
 use Rattle.p2p_directory.proofs.LawsOfGossip.Infos
-use Rattle.p2p_directory.proofs.LawsOfGossip.Given.{exchange_gives, gives_with, gives_if}
+use Rattle.p2p_directory.proofs.LawsOfGossip.Given.{exchange_gives, brings_applied, gives_with}
+use Rattle.p2p_directory.proofs.LawsOfGossip.Given.{gives_if}
 
 -- what holds of all that is given
 
@@ -82,6 +85,25 @@ module _ {C S : Type 0} (wire : Wire C S) (size : ℕ) (node : ℕ → Made C S)
     of_each_reply P law ((c, r) ∷ done) (h.0, answered) cs rs h.1,
   )
 
+  -- a law of what was done that holds whatever the replies, at each point of them
+  pub at_any_point : (P : Done C S → Type 0) → ((done : Done C S) → P done) → (done : Done C S)
+      (cs : List (NetworkCommand C S)) (rs : List (NetworkReply C S)) →
+      AtEachPoint wire size node P done cs rs
+  at_any_point P law done [] rs = law done
+  at_any_point P law done (c ∷ cs) [] = law done
+  at_any_point P law done (c ∷ cs) (r ∷ rs) =
+      (law done, at_any_point P law ((c, r) ∷ done) cs rs)
+
+  -- .. a law of one reply, of each
+  pub of_any_reply : (P : Done C S → NetworkCommand C S → NetworkReply C S → Type 0) →
+      ((done : Done C S) (c : NetworkCommand C S) (r : NetworkReply C S) → P done c r) →
+      (done : Done C S) (cs : List (NetworkCommand C S)) (rs : List (NetworkReply C S)) →
+      OfEachReply wire size node P done cs rs
+  of_any_reply P law done [] rs = tt
+  of_any_reply P law done (c ∷ cs) [] = tt
+  of_any_reply P law done (c ∷ cs) (r ∷ rs) =
+      (law done c r, of_any_reply P law ((c, r) ∷ done) cs rs)
+
   -- the nodes that a command may not change
   pub leaves_others : (done : Done C S) (c : NetworkCommand C S) (r : NetworkReply C S) →
       LeavesOtherNodes wire size node done c r
@@ -89,107 +111,151 @@ module _ {C S : Type 0} (wire : Wire C S) (size : ℕ) (node : ℕ → Made C S)
       then calls_then wire (node n) c r (calls_at wire size node done n)
       else calls_at wire size node done n)) other
 
-  -- WHAT THE DIRECTORIES WERE GIVEN
+  -- WHAT A NODE WAS GIVEN, whatever the replies
 
-  module _ (P : Info C S → Type 0)
-      (own : (i : ℕ) → is_node wire size node i ≡ true → P (node i).directory.own) where
+  module _ (P : Info C S → Type 0) where
     abbrev GivesAll : List (Call C S) → Type 0
     GivesAll calls = AllByRecursion (GivesOnly P) calls
 
-    gives_then : (done : Done C S) (c : NetworkCommand C S) (r : NetworkReply C S) →
+    gives_then : (c : NetworkCommand C S) (r : NetworkReply C S) (calls : List (Call C S)) →
+        GivesOrBrings wire size node P (c, r) → GivesAll calls →
+        GivesAll (calls_then wire (node (changed_by c)) c r calls)
+    gives_then (command.Call i x) (reply.Call r) calls h before =
+        gives_if P (was_made r) (call_of x) calls (λ e. h) before
+    gives_then (command.Call i x) (reply.Ask frame) calls h before = before
+    gives_then (command.Call i x) (reply.Frame r) calls h before = before
+    gives_then (command.Call i x) (reply.Exchange r) calls h before = before
+    gives_then (command.Call i x) reply.OutOfMemory calls h before = before
+    gives_then (command.Call i x) reply.NoNode calls h before = before
+    gives_then (command.Ask i place) r calls h before = before
+    gives_then (command.Frame i frame now) (reply.Frame r) calls h before =
+        gives_if P (applies r) (Update (infos_of_frame wire (node i).limits frame)) calls h before
+    gives_then (command.Frame i frame now) (reply.Call r) calls h before = before
+    gives_then (command.Frame i frame now) (reply.Ask r) calls h before = before
+    gives_then (command.Frame i frame now) (reply.Exchange r) calls h before = before
+    gives_then (command.Frame i frame now) reply.OutOfMemory calls h before = before
+    gives_then (command.Frame i frame now) reply.NoNode calls h before = before
+    gives_then (command.Exchange asker replier place asker_now replier_now) (reply.Exchange r)
+        calls h before = gives_with P (infos_applied r) calls h before
+    gives_then (command.Exchange asker replier place asker_now replier_now) (reply.Call r) calls h
+        before = before
+    gives_then (command.Exchange asker replier place asker_now replier_now) (reply.Ask r) calls h
+        before = before
+    gives_then (command.Exchange asker replier place asker_now replier_now) (reply.Frame r) calls h
+        before = before
+    gives_then (command.Exchange asker replier place asker_now replier_now) reply.OutOfMemory calls
+        h before = before
+    gives_then (command.Exchange asker replier place asker_now replier_now) reply.NoNode calls h
+        before = before
+
+    gives_at : (n : ℕ) (x : NetworkCommand C S × NetworkReply C S) (done : Done C S) →
+        (changed_by x.0 ≡ n → GivesOrBrings wire size node P x) →
+        GivesAll (calls_at wire size node done n) → GivesAll (calls_at wire size node (x ∷ done) n)
+    gives_at n x done h before = go (changed_by x.0 == n) refl
+      where
+        calls : List (Call C S)
+        calls = calls_at wire size node done n
+
+        go : (b : Bool) → (changed_by x.0 == n) ≡ b →
+            GivesAll (if b then calls_then wire (node n) x.0 x.1 calls else calls)
+        go true e =
+            let same = eqb-true (changed_by x.0) n e in
+            subst (λ i. GivesAll (calls_then wire (node i) x.0 x.1 calls)) same
+            (gives_then x.0 x.1 calls (h same) before)
+        go false e = before
+
+    gives_calls : (n : ℕ) (done : Done C S) →
+        AllByRecursion (λ x. changed_by x.0 ≡ n → GivesOrBrings wire size node P x) done →
+        GivesAll (calls_at wire size node done n)
+    gives_calls n [] h = tt
+    gives_calls n (x ∷ done) h = gives_at n x done h.0 (gives_calls n done h.1)
+
+  -- the calls of its directory
+  pub given_at : (P : Info C S → Type 0) (n : ℕ) (done : Done C S) →
+      IsGivenOnly wire size node n P done → is_node wire size node n ≡ true →
+      Infos.AreGiven (node n).directory P (calls_at wire size node done n)
+  given_at P n done only there = record {
+    own = only.own there;
+    calls = gives_calls P n done only.given;
+  }
+
+  -- what it holds
+  pub holds_only : (P : Info C S → Type 0) (n : ℕ) (done : Done C S) →
+      IsGivenOnly wire size node n P done → HoldsOnly wire size node n P done
+  holds_only P n done only there p i e =
+      (Infos.known_is_given (node n).directory P (calls_at wire size node done n)
+      (given_at P n done only there) p i e).0
+
+  -- WHAT WAS GIVEN TO ANY NODE FROM OUTSIDE is all that exchanges bring
+
+  module _ (P : Info C S → Type 0)
+      (own : (i : ℕ) → is_node wire size node i ≡ true → P (node i).directory.own) where
+    abbrev GivenTo : ℕ → Done C S → Type 0
+    GivenTo n done =
+        AllByRecursion (λ x. changed_by x.0 ≡ n → GivesOrBrings wire size node P x) done
+
+    gives_or_brings : (done : Done C S) (c : NetworkCommand C S) (r : NetworkReply C S) →
         IsNetworkAnswer wire size node done c r → GivesTo wire size node P (c, r) →
-        ((i : ℕ) → GivesAll (calls_at wire size node done i)) →
-        GivesAll (calls_then wire (node (changed_by c)) c r
-        (calls_at wire size node done (changed_by c)))
-    gives_then done (command.Call i x) (reply.Call r) is h before =
-        gives_if P (was_made r) (call_of x) (calls_at wire size node done i)
-        (λ e. h) (before i)
-    gives_then done (command.Call i x) (reply.Ask frame) is h before = absurd is.1
-    gives_then done (command.Call i x) (reply.Frame r) is h before = absurd is.1
-    gives_then done (command.Call i x) (reply.Exchange r) is h before = absurd is.1
-    gives_then done (command.Call i x) reply.OutOfMemory is h before = absurd is.1
-    gives_then done (command.Call i x) reply.NoNode is h before = before i
-    gives_then done (command.Ask i place) r is h before = before i
-    gives_then done (command.Frame i frame now) (reply.Frame r) is h before =
-        gives_if P (applies r) (Update (infos_of_frame wire (node i).limits frame))
-        (calls_at wire size node done i) h (before i)
-    gives_then done (command.Frame i frame now) (reply.Call r) is h before = absurd is.1
-    gives_then done (command.Frame i frame now) (reply.Ask r) is h before = absurd is.1
-    gives_then done (command.Frame i frame now) (reply.Exchange r) is h before = absurd is.1
-    gives_then done (command.Frame i frame now) reply.OutOfMemory is h before = absurd is.1
-    gives_then done (command.Frame i frame now) reply.NoNode is h before = before i
-    gives_then done (command.Exchange asker replier place asker_now replier_now) (reply.Exchange r)
-        is h before =
+        ((n : ℕ) → GivenTo n done) → GivesOrBrings wire size node P (c, r)
+    gives_or_brings done (command.Call i x) r is h before = h
+    gives_or_brings done (command.Ask i place) r is h before = h
+    gives_or_brings done (command.Frame i frame now) r is h before = h
+    gives_or_brings done (command.Exchange asker replier place asker_now replier_now)
+        (reply.Exchange r) is h before =
         let a = standing_at wire size node done asker in
         let b = standing_at wire size node done replier in
-        let m = node replier in
         let there : is_node wire size node replier ≡ true =
         (and_parts (is_node wire size node replier) (not (asker == replier))
         (and_parts (is_node wire size node asker)
         (is_node wire size node replier && not (asker == replier)) is.0).1).0 in
-        let told = Infos.infos_are_given m.directory P (calls_at wire size node done replier)
-        (record { own = own replier there; calls = before replier }) in
-        gives_with P r (Exchange.exchange_may_want_memory a place)
-        (Exchange.exchanged_at a b place (as_nanos asker_now) (as_nanos replier_now))
-        (calls_at wire size node done asker) is.1
+        let told = Infos.infos_are_given (node replier).directory P
+        (calls_at wire size node done replier)
+        (given_at P replier done (record { own = own replier; given = before replier }) there) in
+        brings_applied P r (Exchange.exchange_may_want_memory a place)
+        (Exchange.exchanged_at a b place (as_nanos asker_now) (as_nanos replier_now)) is.1
         (exchange_gives P a b place (as_nanos asker_now) (as_nanos replier_now)
         (λ index bits infos e. told index bits (as_nanos replier_now) infos e))
-        (before asker)
-    gives_then done (command.Exchange asker replier place asker_now replier_now) (reply.Call r) is h
-        before = absurd is.1
-    gives_then done (command.Exchange asker replier place asker_now replier_now) (reply.Ask r) is h
-        before = absurd is.1
-    gives_then done (command.Exchange asker replier place asker_now replier_now) (reply.Frame r) is
-        h before = absurd is.1
-    gives_then done (command.Exchange asker replier place asker_now replier_now) reply.OutOfMemory
-        is h before = absurd is.1
-    gives_then done (command.Exchange asker replier place asker_now replier_now) reply.NoNode is h
-        before = before asker
+    gives_or_brings done (command.Exchange asker replier place asker_now replier_now) (reply.Call r)
+        is h before = h
+    gives_or_brings done (command.Exchange asker replier place asker_now replier_now) (reply.Ask r)
+        is h before = h
+    gives_or_brings done (command.Exchange asker replier place asker_now replier_now)
+        (reply.Frame r) is h before = h
+    gives_or_brings done (command.Exchange asker replier place asker_now replier_now)
+        reply.OutOfMemory is h before = h
+    gives_or_brings done (command.Exchange asker replier place asker_now replier_now) reply.NoNode
+        is h before = h
 
-    gives_at : (done : Done C S) (c : NetworkCommand C S) (r : NetworkReply C S) →
-        ((i : ℕ) → GivesAll (calls_at wire size node done i)) →
-        GivesAll (calls_then wire (node (changed_by c)) c r
-        (calls_at wire size node done (changed_by c))) →
-        (i : ℕ) → GivesAll (calls_at wire size node ((c, r) ∷ done) i)
-    gives_at done c r before h i = go (changed_by c == i) refl
-      where
-        go : (b : Bool) → (changed_by c == i) ≡ b →
-            GivesAll (if b then calls_then wire (node i) c r (calls_at wire size node done i)
-            else calls_at wire size node done i)
-        go true e = subst
-            (λ n. GivesAll (calls_then wire (node n) c r (calls_at wire size node done n)))
-            (eqb-true (changed_by c) i e) h
-        go false e = before i
+    given_to : (done : Done C S) → AreAnswered done →
+        AllByRecursion (GivesTo wire size node P) done → (n : ℕ) → GivenTo n done
+    given_to [] answered h n = tt
+    given_to (x ∷ done) answered h n =
+        let before = given_to done answered.1 h.1 in
+        ((λ same. gives_or_brings done x.0 x.1 answered.0 h.0 before), before n)
 
-    gives_calls : (done : Done C S) → AreAnswered done →
-        AllByRecursion (GivesTo wire size node P) done → (i : ℕ) →
-        GivesAll (calls_at wire size node done i)
-    gives_calls [] answered h = λ i. tt
-    gives_calls (x ∷ done) answered h =
-        let before = gives_calls done answered.1 h.1 in
-        gives_at done x.0 x.1 before (gives_then done x.0 x.1 answered.0 h.0 before)
-
-  -- what the directory of a node was given
-  pub given_at : (P : Info C S → Type 0) (done : Done C S) → AreAnswered done →
-      AreAllGiven wire size node P done → (i : ℕ) → is_node wire size node i ≡ true →
-      Infos.AreGiven (node i).directory P (calls_at wire size node done i)
-  given_at P done answered all i there = record {
-    own = all.own i there;
-    calls = gives_calls P all.own done answered all.given i;
+  given_to_each : (P : Info C S → Type 0) (done : Done C S) → AreAnswered done →
+      GivesEach wire size node P done
+  given_to_each P done answered all n = record {
+    own = all.own n;
+    given = given_to P all.own done answered all.given n;
   }
 
-  -- what is held at a point
-  pub hold_only : (P : Info C S → Type 0) (done : Done C S) → AreAnswered done →
-      AreAllGiven wire size node P done → HoldOnly wire size node P done
-  hold_only P done answered all n there p i e =
-      (Infos.known_is_given (node n).directory P (calls_at wire size node done n)
-      (given_at P done answered all n there) p i e).0
+  pub gives_signed : (done : Done C S) → AreAnswered done → GivesSigned wire size node done
+  gives_signed done answered i j = (
+    given_to_each (IsSignedFor wire size node i) done answered,
+    given_to_each (IsSigned wire size node i j) done answered,
+  )
 
   -- PROVENANCE
 
   gives_to : (P : Info C S → Type 0) (c : NetworkCommand C S) (r : NetworkReply C S) →
       ((i : Info C S) → IsGivenBy wire size node (c, r) i → P i) → GivesTo wire size node P (c, r)
-  gives_to P (command.Call i x) r h = gives_call P (call_of x) h
+  gives_to P (command.Call i x) (reply.Call r) h = gives_call P (call_of x) h
+  gives_to P (command.Call i x) (reply.Ask r) h = tt
+  gives_to P (command.Call i x) (reply.Frame r) h = tt
+  gives_to P (command.Call i x) (reply.Exchange r) h = tt
+  gives_to P (command.Call i x) reply.OutOfMemory h = tt
+  gives_to P (command.Call i x) reply.NoNode h = tt
   gives_to P (command.Frame i frame now) (reply.Frame r) h = λ e.
       from_among P (infos_of_frame wire (node i).limits frame) (λ j m. h j (e, m))
   gives_to P (command.Frame i frame now) (reply.Call r) h = tt
@@ -207,13 +273,19 @@ module _ {C S : Type 0} (wire : Wire C S) (size : ℕ) (node : ℕ → Made C S)
   gives_all P (x ∷ done) h =
       (gives_to P x.0 x.1 (λ i m. h i (inl m)), gives_all P done (λ i m. h i (inr m)))
 
-  pub provenance : (done : Done C S) → AreAnswered done → Provenance wire size node done
-  provenance done answered = hold_only (HasOrigin wire size node done) done answered (record {
+  given_from : (done : Done C S) → AreAnswered done → (n : ℕ) →
+      IsGivenOnly wire size node n (HasOrigin wire size node done) done
+  given_from done answered = given_to_each (HasOrigin wire size node done) done answered (record {
     own = λ n there. inl (n, there, refl);
     given = gives_all (HasOrigin wire size node done) done (λ i m. inr m);
   })
 
+  pub provenance : (done : Done C S) → AreAnswered done → Provenance wire size node done
+  provenance done answered n =
+      let given = given_from done answered n in
+      (given, holds_only (HasOrigin wire size node done) n done given)
+
   -- INFOS
 
-  pub hold_signed : (done : Done C S) → AreAnswered done → HoldSigned wire size node done
-  hold_signed done answered n all = hold_only (IsSignedFor wire size node n) done answered all
+  pub hold_signed : (done : Done C S) → HoldSigned wire size node done
+  hold_signed done n holder only = holds_only (IsSignedFor wire size node n) holder done only

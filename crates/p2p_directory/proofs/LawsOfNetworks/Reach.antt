@@ -105,7 +105,7 @@ module _ {C S : Type 0} (wire : Wire C S) (size : ℕ) (node : ℕ → Made C S)
     known : AllByRecursion (IsUpToDate (world_at_node wire size node once asker)) infos
     known =
         let brings = Exchanges.brings_wanted wire size node cmp total exact_keys made done
-        answered.1 asker replier two place asker_now replier_now x may r answered.0 in
+        asker replier two place asker_now replier_now x may r answered.0 in
         brings.known (was_applied r infos some brings.answer)
 
     -- what is brought for a peer is of its key
@@ -115,7 +115,7 @@ module _ {C S : Type 0} (wire : Wire C S) (size : ℕ) (node : ℕ → Made C S)
     key p i e = one_exchange.brought_key wire (node asker) (node replier) (as_nanos asker_now)
         (as_nanos replier_now) (calls_at wire size node done replier)
         (Exchanges.exact wire size node cmp total exact_keys made replier two.replies)
-        (Exchanges.signed wire size node cmp total exact_keys made done answered.1 asker replier two
+        (Exchanges.signed wire size node cmp total exact_keys made done asker replier two
         place asker_now replier_now x may)
         (made asker two.asks).me may.fits.moments (world_at_node wire size node done asker) p i e
 
@@ -166,7 +166,7 @@ module _ {C S : Type 0} (wire : Wire C S) (size : ℕ) (node : ℕ → Made C S)
       where
         applied : infos_applied r ≡ Some infos
         applied = was_applied r infos some (Exchanges.brings_wanted wire size node cmp total
-            exact_keys made done answered.1 asker replier two place asker_now replier_now x may r
+            exact_keys made done asker replier two place asker_now replier_now x may r
             answered.0).answer
 
         calls_once : calls_at wire size node once asker

@@ -30,7 +30,7 @@ use Rattle.p2p_directory.specs.Nodes.{Made, AreValues}
 use Rattle.p2p_directory.specs.Network.{Done, is_node, calls_at, world_at_node, standing_at}
 use Rattle.p2p_directory.specs.Network.{IsNetworkAnswer, IsServedAnswer, AreNetworkAnswers}
 use Rattle.p2p_directory.specs.Laws.Gossip.{wanted_info, wanted_infos}
-use Rattle.p2p_directory.specs.Laws.Network.{AreMade, AreAllGiven, IsSigned, HaveOneList, IsWritten}
+use Rattle.p2p_directory.specs.Laws.Network.{AreMade, IsGivenOnly, IsSigned, HaveOneList, IsWritten}
 use Rattle.p2p_directory.specs.Laws.Network.{IsReplyFor, RepliesInfos, AreWritten, OfEachReply}
 use Rattle.p2p_directory.specs.Laws.LateFrames.{IsFor}
 use Rattle.p2p_directory.proofs.Definitions.Keys.{exact_from}
@@ -84,8 +84,8 @@ module _ {C S : Type 0} {key_size signature_size : ℕ} {key : C → List ℕ} {
     exact : (i : ℕ) → is_node wire size node i ≡ true → History.IsExact (node i).directory
     exact i is = exact_from (node i).directory cmp (made i is).order exact_keys
 
-    module _ (done asked : Done C S) (answered : Answered done) (asker replier : ℕ)
-        (honest : AreAllGiven wire size node (IsSigned wire size node asker replier) done)
+    module _ (done asked : Done C S) (asker replier : ℕ)
+        (honest : IsGivenOnly wire size node replier (IsSigned wire size node asker replier) done)
         (there : is_node wire size node replier ≡ true) (place now : ℕ) (x : SetAt C)
         (one : HaveOneList wire size node asked done asker replier place x) where
       abbrev a : Made C S
@@ -105,8 +105,8 @@ module _ {C S : Type 0} {key_size signature_size : ℕ} {key : C → List ℕ} {
 
       given : Infos.AreGiven b.directory (IsSigned wire size node asker replier)
           (calls_at wire size node done replier)
-      given = Provenance.given_at wire size node (IsSigned wire size node asker replier) done answered
-          honest replier there
+      given = Provenance.given_at wire size node (IsSigned wire size node asker replier) replier done
+          honest there
 
       -- THE INFOS that are brought
 
@@ -219,7 +219,7 @@ module _ {C S : Type 0} {key_size signature_size : ℕ} {key : C → List ℕ} {
         IsNetworkAnswer wire size node done c r → RepliesInfos wire size node IsKey IsSignature done c r
     reply_for done answered (command.Frame replier frame now) (reply.Frame r) written is =
         λ later asked asker place x sent before honest one is_reply.
-        is_reply_for done asked answered asker replier honest is.0 place (as_nanos now) x one frame
+        is_reply_for done asked asker replier honest is.0 place (as_nanos now) x one frame
         (was_answered later (command.Ask asker place, reply.Ask (Some frame)) asked
         (subst Answered before answered)).1
         (was_written later (command.Ask asker place, reply.Ask (Some frame)) asked

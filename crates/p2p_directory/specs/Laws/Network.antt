@@ -53,30 +53,48 @@ module _ {C S : Type 0} (wire : Wire C S) (size : ℕ) (node : ℕ → Made C S)
   abbrev pub AreMade : (C → C → Ordering) → Type 0
   AreMade cmp = (i : ℕ) → is_node wire size node i ≡ true → IsMade cmp (node i)
 
-  -- WHAT IS GIVEN TO NODES, by a command or by a frame that was accepted
+  -- WHAT IS GIVEN TO NODES: from outside, by a command that was replied `Call` or by a frame that
+  -- was accepted; and to an asker by its exchange that was applied
 
-  -- P holds of each info that is given
+  -- P holds of each info that is given from outside
   abbrev pub GivesTo : (Info C S → Type 0) → NetworkCommand C S × NetworkReply C S → Type 0
-  GivesTo P (command.Call i x, r) = GivesOnly P (call_of x)
+  GivesTo P (command.Call i x, reply.Call r) = GivesOnly P (call_of x)
   GivesTo P (command.Frame i frame now, reply.Frame r) = applies r ≡ true →
       AllByRecursion P (infos_of_frame wire (node i).limits frame)
   GivesTo P _ = Unit {0}
 
-  -- P holds of all own infos, and of each info that was given to any node
+  -- .. or that an exchange brings its asker
+  abbrev pub GivesOrBrings : (Info C S → Type 0) → NetworkCommand C S × NetworkReply C S → Type 0
+  GivesOrBrings P (command.Exchange asker replier place asker_now replier_now, reply.Exchange r) =
+      IfSome (infos_applied r) (AllByRecursion P)
+  GivesOrBrings P x = GivesTo P x
+
+  -- P holds of all own infos, and of each info that was given to any node from outside
   pub record AreAllGiven (P : Info C S → Type 0) (done : Done C S) : Type 0 where
     pub own : (i : ℕ) → is_node wire size node i ≡ true → P (node i).directory.own
     pub given : AllByRecursion (GivesTo P) done
 
-  -- P holds of each info that any node holds
-  abbrev pub HoldOnly : (Info C S → Type 0) → Done C S → Type 0
-  HoldOnly P done = (n : ℕ) → is_node wire size node n ≡ true → (p : C) (i : Info C S) →
+  -- P holds of the own info of node n, and of each info that was given to it, by its own exchanges
+  -- too
+  pub record IsGivenOnly (n : ℕ) (P : Info C S → Type 0) (done : Done C S) : Type 0 where
+    pub own : is_node wire size node n ≡ true → P (node n).directory.own
+    pub given : AllByRecursion (λ x. changed_by x.0 ≡ n → GivesOrBrings P x) done
+
+  -- where P holds of all own infos and of all that was given from outside, it holds of all that was
+  -- given to each node: exchanges bring nothing else
+  abbrev pub GivesEach : (Info C S → Type 0) → Done C S → Type 0
+  GivesEach P done = AreAllGiven P done → (n : ℕ) → IsGivenOnly n P done
+
+  -- P holds of each info that node n holds
+  abbrev pub HoldsOnly : ℕ → (Info C S → Type 0) → Done C S → Type 0
+  HoldsOnly n P done = is_node wire size node n ≡ true → (p : C) (i : Info C S) →
       ((world_at_node wire size node done n).peer p).known.info ≡ Some i → P i
 
   -- PROVENANCE
 
-  -- the info is given
+  -- the info is given from outside
   abbrev pub IsGivenBy : NetworkCommand C S × NetworkReply C S → Info C S → Type 0
-  IsGivenBy (command.Call n x, r) i = IsAmong (given_by (call_of x)) i
+  IsGivenBy (command.Call n x, reply.Call r) i = IsAmong (given_by (call_of x)) i
   IsGivenBy (command.Frame n frame now, reply.Frame r) i =
       (applies r ≡ true) × IsAmong (infos_of_frame wire (node n).limits frame) i
   IsGivenBy _ i = ⊥
@@ -104,6 +122,12 @@ module _ {C S : Type 0} (wire : Wire C S) (size : ℕ) (node : ℕ → Made C S)
   pub record IsSigned (asker replier : ℕ) (i : Info C S) : Type 0 where
     pub at_asker : IsSignedFor asker i
     pub at_replier : IsSignedFor replier i
+
+  -- where all that was given from outside is signed for one node, or for two, so is all that was
+  -- given to each
+  abbrev pub GivesSigned : Done C S → Type 0
+  GivesSigned done = (i j : ℕ) →
+      GivesEach (IsSignedFor i) done × GivesEach (IsSigned i j) done
 
   -- THE PREMISES OF AN EXCHANGE
 
@@ -142,7 +166,7 @@ module _ {C S : Type 0} (wire : Wire C S) (size : ℕ) (node : ℕ → Made C S)
   -- all of them, for an exchange over x
   pub record MayBring (done : Done C S) (asker replier place : ℕ) (asker_now replier_now : Duration)
       (x : SetAt C) : Type 0 where
-    pub honest : AreAllGiven (IsSigned asker replier) done
+    pub honest : IsGivenOnly replier (IsSigned asker replier) done
     pub one : HaveOneList done done asker replier place x
     pub fits : Fits asker replier (as_nanos asker_now) (as_nanos replier_now) x
         (infos_to_bring done asker replier (as_nanos replier_now) x)
@@ -281,7 +305,7 @@ module _ {C S : Type 0} (wire : Wire C S) (size : ℕ) (node : ℕ → Made C S)
     RepliesInfos done (command.Frame replier frame now) (reply.Frame r) =
         (later asked : Done C S) (asker place : ℕ) (x : SetAt C) (given : List ℕ) →
         done ≡ later ++ (command.Ask asker place, reply.Ask (Some frame)) ∷ asked →
-        AreAllGiven (IsSigned asker replier) done →
+        IsGivenOnly replier (IsSigned asker replier) done →
         HaveOneList asked done asker replier place x →
         r ≡ received.Reply given → IsReplyFor asker replier (as_nanos now) given
     RepliesInfos done _ _ = Unit {0}
@@ -328,13 +352,15 @@ module _ {C S : Type 0} (wire : Wire C S) (size : ℕ) (node : ℕ → Made C S)
       world_after s (later ++ with_updates s (some ∷ others) before)
       ≡ world_at_node wire size node done n
 
-  -- what is held by any node comes from somewhere: gossip invents nothing
+  -- what is given to any node comes from somewhere, and what it holds: gossip invents nothing
   abbrev pub Provenance : Done C S → Type 0
-  Provenance done = HoldOnly (HasOrigin done) done
+  Provenance done = (n : ℕ) →
+      IsGivenOnly n (HasOrigin done) done × HoldsOnly n (HasOrigin done) done
 
-  -- under infos that are honest for a node, all that it holds is signed for it
+  -- where all that was given to a node is signed for node n, so is all that it holds
   abbrev pub HoldSigned : Done C S → Type 0
-  HoldSigned done = (n : ℕ) → AreAllGiven (IsSignedFor n) done → HoldOnly (IsSignedFor n) done
+  HoldSigned done = (n holder : ℕ) → IsGivenOnly holder (IsSignedFor n) done →
+      HoldsOnly holder (IsSignedFor n) done
 
   -- what is told with each reply of a run has a spelling
   abbrev pub AreWritten : (C → Type 0) → (S → Type 0) → Done C S → List (NetworkCommand C S) →

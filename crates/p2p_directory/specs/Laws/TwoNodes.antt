@@ -8,8 +8,8 @@ use Rattle.p2p_directory.specs.Nodes.{Made}
 use Rattle.p2p_directory.specs.Network.{Done}
 use Rattle.p2p_directory.specs.Pairs.{two, commands_in, replies_in}
 use Rattle.p2p_directory.specs.Laws.Network as network
-use Rattle.p2p_directory.specs.Laws.Network.{AtEachPoint, OfEachReply, HoldSigned, TakesGreeting}
-use Rattle.p2p_directory.specs.Laws.Network.{RepliesInfos, TakesFrame}
+use Rattle.p2p_directory.specs.Laws.Network.{AtEachPoint, OfEachReply, GivesSigned, HoldSigned}
+use Rattle.p2p_directory.specs.Laws.Network.{TakesGreeting, RepliesInfos, TakesFrame}
 
 module _ {C S : Type 0} (wire : Wire C S) (left right : Made C S) where
   -- each exchange of a run
@@ -17,10 +17,11 @@ module _ {C S : Type 0} (wire : Wire C S) (left right : Made C S) where
   KeepPairExchanges done cs rs =
       network.KeepExchanges wire 2 (two left right) done (commands_in cs) (replies_in rs)
 
-  -- what is held at each point of a run, the last one too
+  -- what is given and what is held at each point of a run, the last one too
   abbrev pub KeepSigned : Done C S → List (PairCommand C S) → List (PairReply C S) → Type 0
   KeepSigned done cs rs = let node = two left right in
-      AtEachPoint wire 2 node (HoldSigned wire 2 node) done (commands_in cs) (replies_in rs)
+      AtEachPoint wire 2 node (GivesSigned wire 2 node) done (commands_in cs) (replies_in rs)
+      × AtEachPoint wire 2 node (HoldSigned wire 2 node) done (commands_in cs) (replies_in rs)
 
   -- each greeting of a run
   abbrev pub KeepGreetings : Done C S → List (PairCommand C S) → List (PairReply C S) → Type 0

@@ -11,7 +11,8 @@ ghost use Rattle.p2p_directory.specs.Network.{OfNetwork, StandAfter, AreNetworkA
 ghost use Rattle.p2p_directory.specs.Network.{IsNetworkServed, IsServedAmong, AreReleased};
 ghost use Rattle.p2p_directory.specs.Network.{IsAdded, IsReplaced};
 ghost use Rattle.p2p_directory.specs.Laws.Network.{KeepExchanges, AtEachPoint, OfEachReply};
-ghost use Rattle.p2p_directory.specs.Laws.Network.{Provenance, HoldSigned, OnlyGetNewer, Reach};
+ghost use Rattle.p2p_directory.specs.Laws.Network.{Provenance, GivesSigned, HoldSigned};
+ghost use Rattle.p2p_directory.specs.Laws.Network.{OnlyGetNewer, Reach};
 ghost use Rattle.p2p_directory.specs.Laws.Network.{Acquaint, TakesGreeting, RepliesInfos};
 ghost use Rattle.p2p_directory.specs.Laws.Network.{TakesFrame, LeavesOtherNodes, Isolate, Reorder};
 ghost use Rattle.p2p_directory.specs.Private.Endpoints.{node_of};
@@ -370,18 +371,22 @@ impl<C: PublicKey> NetworkRun<C> {
 /// if [`Node::receive`] and [`exchange`](crate::node::exchange) may return it.
 ///
 /// The replies keep these rules, at each point of the run. The infos passed in are each node's
-/// local info, and each info of a command to any node, or of a frame that any node accepted before.
+/// local info, and each info of a command to any node that was replied `Call`, or of a frame that
+/// any node accepted before. Those given to a node are its local info, those passed in by commands
+/// and frames to it, and those of each `Applied` that was the reply to an exchange of its own.
 ///
 /// - Exchanges: an exchange is `Applied` with exactly the wanted infos that may be shared, unless
-///   an allocation fails, under these premises. All infos passed in are signed in the namespaces of
-///   the asker and the replier. The replier retains a set of the index of the asker's with the same
-///   primary peers. The bits and the infos are within the limits of both. The replier's time is at
-///   most the asker's bound after the asker's. Afterwards the asker's info of each of their peers
-///   is at least as new. The same exchange directly repeated is `Applied` and changes nothing at
-///   any node, unless an allocation fails.
-/// - Provenance: each info that any node holds was passed in. Gossip invents nothing.
-/// - Infos: if all infos passed in are signed in the namespace of a node, so are all that any node
-///   holds.
+///   an allocation fails, under these premises. All infos given to the replier are signed in the
+///   namespaces of the asker and the replier. The replier retains a set of the index of the asker's
+///   with the same primary peers. The bits and the infos are within the limits of both. The
+///   replier's time is at most the asker's bound after the asker's. Afterwards the asker's info of
+///   each of their peers is at least as new. The same exchange directly repeated is `Applied` and
+///   changes nothing at any node, unless an allocation fails.
+/// - Provenance: each info that is given to a node, or that it holds, was passed in. Gossip invents
+///   nothing.
+/// - Given: if all infos passed in are signed in the namespaces of one node or of two, so are all
+///   that are given to any node.
+/// - Infos: if all infos given to a node are signed in a namespace, so are all that it holds.
 /// - Newer: the info that a node holds of a peer only gets newer as long as the peer stays present
 ///   at it.
 /// - Reach: take an exchange that was applied under the premises above, and a primary peer of its
@@ -395,7 +400,7 @@ impl<C: PublicKey> NetworkRun<C> {
 ///   local keys must differ, and its timestamp be within the bound.
 /// - Replies: let a `Frame` pass to a node the bits that another was earlier asked for. Let it
 ///   retain a set of their index with the primary peers that the set at the position then had. If
-///   all infos passed in are signed in the namespaces of both, its reply encodes infos that are
+///   all infos given to it are signed in the namespaces of both, its reply encodes infos that are
 ///   signed in both, none with the other's key, none with a timestamp above the present
 ///   milliseconds.
 /// - Late frames: a `Frame` of such infos, however late and however often it arrives, is `Applied`
@@ -452,6 +457,11 @@ pub fn run_network<C: PublicKey>(
         let wire = wire_of C.SIZE C.spelled C.value
         C.Signature.SIZE C.Signature.spelled C.Signature.value C.verifies in
         AtEachPoint wire size node (Provenance wire size node)
+        [] commands.items run.replies.items)) }
+    ensures given { IfOk result (λ run. OfNetwork C.cmp setups.items (λ size node.
+        let wire = wire_of C.SIZE C.spelled C.value
+        C.Signature.SIZE C.Signature.spelled C.Signature.value C.verifies in
+        AtEachPoint wire size node (GivesSigned wire size node)
         [] commands.items run.replies.items)) }
     ensures infos { IfOk result (λ run. OfNetwork C.cmp setups.items (λ size node.
         let wire = wire_of C.SIZE C.spelled C.value

@@ -1,6 +1,6 @@
 use Rattle.std.proofs.Common.{[]}
-use Rattle.p2p_directory.specs.Laws.Network.{Provenance as IsFromSomewhere, HoldSigned}
-use Rattle.p2p_directory.specs.Laws.Network.{OnlyGetNewer}
+use Rattle.p2p_directory.specs.Laws.Network.{Provenance as IsFromSomewhere, GivesSigned}
+use Rattle.p2p_directory.specs.Laws.Network.{HoldSigned, OnlyGetNewer}
 use Rattle.p2p_directory.proofs.LawsOfNetworks.Provenance
 use Rattle.p2p_directory.proofs.LawsOfNetworks.Newer
 use Rattle.p2p_directory.proofs.LawsOfNetworks.Exchanges
@@ -27,15 +27,20 @@ returns-clause-provenance g c = λ wire size node cs rs answers.
     Provenance.at_each_point wire size node (IsFromSomewhere wire size node)
     (Provenance.provenance wire size node) [] tt cs rs answers
 
+pub returns-clause-given : goal.returns-clause-given
+returns-clause-given g c = λ wire size node cs rs answers.
+    Provenance.at_each_point wire size node (GivesSigned wire size node)
+    (Provenance.gives_signed wire size node) [] tt cs rs answers
+
 pub returns-clause-infos : goal.returns-clause-infos
-returns-clause-infos g c = λ wire size node cs rs answers.
-    Provenance.at_each_point wire size node (HoldSigned wire size node)
-    (Provenance.hold_signed wire size node) [] tt cs rs answers
+returns-clause-infos g c = λ wire size node cs rs.
+    Provenance.at_any_point wire size node (HoldSigned wire size node)
+    (Provenance.hold_signed wire size node) [] cs rs
 
 pub returns-clause-newer : goal.returns-clause-newer
-returns-clause-newer g c = λ wire size node made cs rs answers.
-    Provenance.at_each_point wire size node (OnlyGetNewer wire size node)
-    (λ all answered. Newer.only_get_newer wire size node g.C.Ord.cmp made all) [] tt cs rs answers
+returns-clause-newer g c = λ wire size node made cs rs.
+    Provenance.at_any_point wire size node (OnlyGetNewer wire size node)
+    (Newer.only_get_newer wire size node g.C.Ord.cmp made) [] cs rs
 
 pub returns-clause-reach : goal.returns-clause-reach
 returns-clause-reach g c = λ wire size node made cs rs answers.
@@ -64,9 +69,9 @@ returns-clause-late g c = λ size node made cs rs answers.
     g.met.C.Ord.total g.met.C.PublicKey.exact made done x r is) [] tt cs rs answers
 
 pub returns-clause-others : goal.returns-clause-others
-returns-clause-others g c = λ wire size node cs rs answers.
-    Provenance.of_each_reply wire size node (LeavesOtherNodes wire size node)
-    (λ done answered x r is. Provenance.leaves_others wire size node done x r) [] tt cs rs answers
+returns-clause-others g c = λ wire size node cs rs.
+    Provenance.of_any_reply wire size node (LeavesOtherNodes wire size node)
+    (Provenance.leaves_others wire size node) [] cs rs
 
 pub returns-clause-acquaintance : goal.returns-clause-acquaintance
 returns-clause-acquaintance g c = λ wire size node made cs rs answers.
@@ -81,15 +86,15 @@ returns-clause-replies g c = λ size node made few cs rs answers written.
     answers written
 
 pub returns-clause-isolation : goal.returns-clause-isolation
-returns-clause-isolation g c = λ wire size node made cs rs answers.
-    Provenance.at_each_point wire size node (Isolate wire size node)
-    (λ done answered n there p. Isolation.isolated (node n).directory (made n there).sets
+returns-clause-isolation g c = λ wire size node made cs rs.
+    Provenance.at_any_point wire size node (Isolate wire size node)
+    (λ done n there p. Isolation.isolated (node n).directory (made n there).sets
     (exact_from (node n).directory g.C.Ord.cmp (made n there).order g.met.C.PublicKey.exact) p
-    (calls_at wire size node done n)) [] tt cs rs answers
+    (calls_at wire size node done n)) [] cs rs
 
 pub returns-clause-order : goal.returns-clause-order
-returns-clause-order g c = λ wire size node made cs rs answers.
-    Provenance.at_each_point wire size node (Reorder wire size node)
-    (λ done answered n there later before first some more others is one have.
+returns-clause-order g c = λ wire size node made cs rs.
+    Provenance.at_any_point wire size node (Reorder wire size node)
+    (λ done n there later before first some more others is one have.
     OrderRuns.reordered (node n).directory (made n there).sets (calls_at wire size node done n)
-    later before first some more others is one have) [] tt cs rs answers
+    later before first some more others is one have) [] cs rs

@@ -211,6 +211,21 @@ returns-clause-provenance g c = λ other.
     Provenance.at_each_point wire size node (networks.Provenance wire size node)
     (Provenance.provenance wire size node) [] tt cs rs answers
 
+pub returns-clause-given : goal.returns-clause-given
+returns-clause-given g c = λ other.
+    let wire = wire_of g.C.FixedBytes.SIZE g.C.FixedBytes.spelled g.C.FixedBytes.value
+    g.C.Signature.FixedBytes.SIZE g.C.Signature.FixedBytes.spelled g.C.Signature.FixedBytes.value
+    g.C.PublicKey.verifies in
+    let setups = c.args.setups.items in
+    let size = length setups in
+    let node = node_made g.C.Ord.cmp other setups in
+    let cmp = g.C.Ord.cmp in
+    let cs = c.args.commands.items in
+    let rs = c.loop-command.replies.items in
+    let answers = returns-clause-answers g c other in
+    Provenance.at_each_point wire size node (networks.GivesSigned wire size node)
+    (Provenance.gives_signed wire size node) [] tt cs rs answers
+
 pub returns-clause-infos : goal.returns-clause-infos
 returns-clause-infos g c = λ other.
     let wire = wire_of g.C.FixedBytes.SIZE g.C.FixedBytes.spelled g.C.FixedBytes.value
@@ -222,9 +237,8 @@ returns-clause-infos g c = λ other.
     let cmp = g.C.Ord.cmp in
     let cs = c.args.commands.items in
     let rs = c.loop-command.replies.items in
-    let answers = returns-clause-answers g c other in
-    Provenance.at_each_point wire size node (networks.HoldSigned wire size node)
-    (Provenance.hold_signed wire size node) [] tt cs rs answers
+    Provenance.at_any_point wire size node (networks.HoldSigned wire size node)
+    (Provenance.hold_signed wire size node) [] cs rs
 
 pub returns-clause-newer : goal.returns-clause-newer
 returns-clause-newer g c = λ other.
@@ -237,10 +251,8 @@ returns-clause-newer g c = λ other.
     let cmp = g.C.Ord.cmp in
     let cs = c.args.commands.items in
     let rs = c.loop-command.replies.items in
-    let answers = returns-clause-answers g c other in
-    Provenance.at_each_point wire size node (networks.OnlyGetNewer wire size node)
-    (λ all answered. Newer.only_get_newer wire size node cmp (are_made wire cmp other setups) all)
-    [] tt cs rs answers
+    Provenance.at_any_point wire size node (networks.OnlyGetNewer wire size node)
+    (Newer.only_get_newer wire size node cmp (are_made wire cmp other setups)) [] cs rs
 
 pub returns-clause-reach : goal.returns-clause-reach
 returns-clause-reach g c = λ other.
@@ -343,10 +355,8 @@ returns-clause-others g c = λ other.
     let cmp = g.C.Ord.cmp in
     let cs = c.args.commands.items in
     let rs = c.loop-command.replies.items in
-    let answers = returns-clause-answers g c other in
-    Provenance.of_each_reply wire size node (networks.LeavesOtherNodes wire size node)
-    (λ done answered x r is. Provenance.leaves_others wire size node done x r)
-    [] tt cs rs answers
+    Provenance.of_any_reply wire size node (networks.LeavesOtherNodes wire size node)
+    (Provenance.leaves_others wire size node) [] cs rs
 
 pub returns-clause-isolation : goal.returns-clause-isolation
 returns-clause-isolation g c = λ other.
@@ -359,12 +369,11 @@ returns-clause-isolation g c = λ other.
     let cmp = g.C.Ord.cmp in
     let cs = c.args.commands.items in
     let rs = c.loop-command.replies.items in
-    let answers = returns-clause-answers g c other in
-    Provenance.at_each_point wire size node (networks.Isolate wire size node)
-    (λ done answered n there p. Isolation.isolated (node n).directory
+    Provenance.at_any_point wire size node (networks.Isolate wire size node)
+    (λ done n there p. Isolation.isolated (node n).directory
     (slice_index_or setups n other).cfg.max_sets.ok
     (exact_from (node n).directory cmp refl g.met.C.PublicKey.exact) p
-    (calls_at wire size node done n)) [] tt cs rs answers
+    (calls_at wire size node done n)) [] cs rs
 
 pub returns-clause-order : goal.returns-clause-order
 returns-clause-order g c = λ other.
@@ -377,12 +386,11 @@ returns-clause-order g c = λ other.
     let cmp = g.C.Ord.cmp in
     let cs = c.args.commands.items in
     let rs = c.loop-command.replies.items in
-    let answers = returns-clause-answers g c other in
-    Provenance.at_each_point wire size node (networks.Reorder wire size node)
-    (λ done answered n there later before first some more others is one have.
+    Provenance.at_any_point wire size node (networks.Reorder wire size node)
+    (λ done n there later before first some more others is one have.
     OrderRuns.reordered (node n).directory (slice_index_or setups n other).cfg.max_sets.ok
     (calls_at wire size node done n) later before first some more others is one have)
-    [] tt cs rs answers
+    [] cs rs
 
 -- what is written back over all of a list has no more
 room_left : {A : Type 0} (len cap : ℕ) (new old : List A) → len ≡ length old → length old ≤ cap →

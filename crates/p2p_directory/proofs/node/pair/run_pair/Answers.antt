@@ -127,9 +127,12 @@ pub returns-clause-infos : goal.returns-clause-infos
 returns-clause-infos g c =
     let wire = wire_of g.C.FixedBytes.SIZE g.C.FixedBytes.spelled g.C.FixedBytes.value
     g.C.Signature.FixedBytes.SIZE g.C.Signature.FixedBytes.spelled g.C.Signature.FixedBytes.value
-    g.C.PublicKey.verifies in
-    told_of_two g c (λ size node cs rs. networks.AtEachPoint wire size node
-    (networks.HoldSigned wire size node) [] cs rs) c.in_ok-nodes.ensures.infos
+    g.C.PublicKey.verifies in (
+      told_of_two g c (λ size node cs rs. networks.AtEachPoint wire size node
+          (networks.GivesSigned wire size node) [] cs rs) c.in_ok-nodes.ensures.given,
+      told_of_two g c (λ size node cs rs. networks.AtEachPoint wire size node
+          (networks.HoldSigned wire size node) [] cs rs) c.in_ok-nodes.ensures.infos,
+    )
 
 pub returns-clause-greetings : goal.returns-clause-greetings
 returns-clause-greetings g c =
