@@ -17,7 +17,7 @@ pub(crate) use counted::{counted_size, read_length, write_counted};
 pub use decode::Read;
 pub use encode::{EncodeSize, MaxEncodeSize, Write};
 pub use error::{CodecError, RangeCfg, What};
-pub(crate) use fixed::{read_value, write_value};
+pub(crate) use fixed::write_value;
 pub use fixed::{FixedBytes, PublicKey, read_array, write_array};
 pub use laws::{bounded_size, cut_short, one_spelling, read_back, test_key_order, varint_grammar};
 pub(crate) use lists::{read_items, write_items};

@@ -174,6 +174,7 @@ impl Read for Ingress {
 
     ghost reading = { λ _. ingress_at };
 
+    #[inline(always)]
     #[tactic(auto, unfolding(crate::specs::Ingress::ingress_at))]
     fn read(alloc: Global, reader: &mut Reader<'_>, cfg: &()) -> Result<Ingress, CodecError> {
         match reader.byte()? {
