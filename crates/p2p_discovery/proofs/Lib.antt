@@ -1,5 +1,6 @@
 pub mod BitLists
 pub mod BitMaps
+pub mod GroupReads
 pub mod ListReads
 pub mod Names
 pub mod Naming
