@@ -1,10 +1,10 @@
 -- Reading the groups of a number one after the other, as a loop does.
-use Rattle.std.proofs.Common.{◌≡◌, ◌≢◌, ℕ, zero, suc, ◌+◌, ◌-◌, ◌*◌, ◌^◌, ◌≤◌, ◌<◌, Bool, true, false, cond, ◌&&◌, ◌||◌}
+use Rattle.std.proofs.Common.{◌≡◌, ℕ, zero, suc, ◌+◌, ◌-◌, ◌*◌, ◌^◌, ◌≤◌, ◌<◌, Bool, true, false, cond, ◌&&◌, ◌||◌}
 use Rattle.std.proofs.Common.{List, [], ◌∷◌, Result, Ok, Err, refl, sym, ap, ◌∙◌, arith, eqb, ltb, add-one}
 use Rattle.std.proofs.Math.Nat.{pow-suc, mul-le-mul_left}
 use Rattle.std.proofs.lemmas.Bool.{le-ltb, lt-ltb}
 use Rattle.p2p_discovery.specs.declared.codec.error.CodecError.{CodecError}
-use Rattle.p2p_discovery.specs.declared.codec.error.CodecError.TheVariants.{Memory, InvalidVarint}
+use Rattle.p2p_discovery.specs.declared.codec.error.CodecError.TheVariants.{InvalidVarint}
 use Rattle.p2p_discovery.specs.Reading.{Reading, ◌>>=◌, reads, refuses, byte_at, outcome_then, Fails}
 use Rattle.p2p_discovery.specs.Varint.{groups_at, last_group}
 use Rattle.p2p_discovery.specs.VarintLaws.{at_zero, at_more, first_fails, low_gives}

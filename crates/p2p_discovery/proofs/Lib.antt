@@ -1,6 +1,7 @@
 pub mod BitLists
 pub mod BitMaps
 pub mod GroupReads
+pub mod GroupWrites
 pub mod ListReads
 pub mod Names
 pub mod Naming

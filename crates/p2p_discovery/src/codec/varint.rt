@@ -22,7 +22,7 @@ fn group_count(n: u64) -> usize
     if n < 128 { 1 } else { 1 + group_count(n / 128) }
 }
 
-// Appends the groups of a number.
+// Appends the groups of a number, two at a time.
 fn write_groups(n: u64, buf: &mut BytesMut)
     requires { (most : ℕ) × (0 < most) × (n < 128 ^ most)
         × (length (groups most n) ≤ buf.old.spare) }
@@ -30,11 +30,15 @@ fn write_groups(n: u64, buf: &mut BytesMut)
         → (buf.new.items ≡ buf.old.items ++ groups most n)
         × (buf.new.spare + length (groups most n) ≡ buf.old.spare) }
 {
-    if n < 128 {
-        buf.extend_reserved(&[n as u8]);
+    let low = (n % 128) as u8;
+    let high = n / 128;
+    if high == 0 {
+        buf.extend_reserved(&[low]);
+    } else if high < 128 {
+        buf.extend_reserved(&[low + 128, high as u8]);
     } else {
-        buf.extend_reserved(&[(n % 128) as u8 + 128]);
-        write_groups(n / 128, buf);
+        buf.extend_reserved(&[low + 128, (high % 128) as u8 + 128]);
+        write_groups(high / 128, buf);
     }
 }
 

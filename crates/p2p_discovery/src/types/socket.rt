@@ -1,6 +1,6 @@
 //! Addresses of machines, and ports there.
 
-ghost use Rattle.std.specs.Prelude.{◌≡◌, ◌+◌, ◌<◌, ◌≤◌, ◌++◌, length};
+ghost use Rattle.std.specs.Prelude.{◌≡◌, ◌+◌, ◌<◌, ◌≤◌, ◌∷◌, ◌++◌, length};
 ghost use Rattle.p2p_discovery.specs.Reading.{Gives};
 ghost use Rattle.p2p_discovery.specs.Fields.{IsSized, port_at};
 ghost use Rattle.p2p_discovery.specs.FieldsLaws.{lawful_unlimited};
@@ -68,6 +68,27 @@ impl SocketAddr {
     {
         self.port
     }
+
+    // Appends a byte and the encoding.
+    #[inline(always)]
+    pub(crate) fn write_behind(&self, prefix: u8, buf: &mut BytesMut)
+        requires { 1 + length (socket_spelling self.now) ≤ buf.old.spare }
+        ensures items { buf.new.items ≡ buf.old.items ++ prefix ∷ socket_spelling self.now }
+        ensures spare { buf.new.spare + (1 + length (socket_spelling self.now)) ≡ buf.old.spare }
+    {
+        let port = self.port.to_be_bytes();
+        match &self.ip {
+            IpAddr::V4(b) => {
+                let parts = [prefix, VERSION_4, b[0], b[1], b[2], b[3], port[0], port[1]];
+                buf.extend_reserved(&parts);
+            }
+            IpAddr::V6(bytes) => {
+                buf.extend_reserved(&[prefix, VERSION_6]);
+                buf.extend_reserved(bytes);
+                buf.extend_reserved(&port);
+            }
+        }
+    }
 }
 
 impl EncodeSize for SocketAddr {
@@ -98,16 +119,16 @@ impl MaxEncodeSize for SocketAddr {
 impl Write for SocketAddr {
     fn write(&self, buf: &mut BytesMut) {
         match &self.ip {
-            IpAddr::V4(bytes) => {
-                buf.extend_reserved(&[VERSION_4]);
-                buf.extend_reserved(bytes);
+            IpAddr::V4(b) => {
+                let port = self.port.to_be_bytes();
+                buf.extend_reserved(&[VERSION_4, b[0], b[1], b[2], b[3], port[0], port[1]]);
             }
             IpAddr::V6(bytes) => {
                 buf.extend_reserved(&[VERSION_6]);
                 buf.extend_reserved(bytes);
+                buf.extend_reserved(&self.port.to_be_bytes());
             }
         }
-        buf.extend_reserved(&self.port.to_be_bytes());
     }
 }
 
