@@ -20,7 +20,7 @@ pub use error::{CodecError, RangeCfg, What};
 pub(crate) use fixed::write_value;
 pub use fixed::{FixedBytes, PublicKey, read_array, write_array};
 pub use laws::{bounded_size, cut_short, one_spelling, read_back, test_key_order, varint_grammar};
-pub(crate) use lists::{read_items, write_items};
+pub(crate) use lists::write_items;
 pub use reader::Reader;
 pub(crate) use reader::are_bytes;
 pub use test_key::{TestKey, TestSignature};
