@@ -225,6 +225,8 @@ impl Read for Hostname {
 
     ghost reading = { λ _. hostname_at };
 
+    // A call of its own keeps the reading of an address without a name short.
+    #[inline(never)]
     #[tactic(auto, unfolding(crate::specs::Hostname::hostname_at))]
     fn read(alloc: Global, reader: &mut Reader<'_>, _cfg: &()) -> Result<Hostname, CodecError> {
         let length = read_length(alloc, reader, &LENGTHS)?;
