@@ -29,12 +29,6 @@ not_found : (b : Bool) (n : ℕ) → cond b (Some n) None ≡ None → b ≡ fal
 not_found true n e = absurd cc
 not_found false n e = refl
 
-pub split_none : (text : List ℕ) → position is_dot text ≡ None → is_hostname text ≡ is_label text
-unfolding is_hostname
-split_none text e =
-    let le = ltb-false _ _ (not_found (ltb (position_or_len is_dot text) (length text)) (position_or_len is_dot text) e) in
-    ap are_labels (slice_split_none is_dot text (λ k d lt. fails_before_first is_dot text k d (omega (arith, le)))) ∙ and-true (is_label text)
-
 pub rest_of : (text : List ℕ) (n : ℕ) → take (length text - n) (drop n text) ≡ drop n text
 rest_of text n = take_all (length text - n) (drop n text) (omega (arith, length-drop n text))
 
