@@ -1,5 +1,8 @@
 pub mod BitLists
 pub mod BitMaps
+pub mod GroupReads
+pub mod GroupWrites
+pub mod InfoReads
 pub mod ListReads
 pub mod Names
 pub mod Naming

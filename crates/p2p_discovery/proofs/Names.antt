@@ -1,6 +1,6 @@
 -- A name is its first label, and a name behind the first dot.
-use Rattle.std.proofs.Common.{◌≡◌, ℕ, zero, suc, ◌+◌, ◌-◌, ◌<◌, Bool, true, false, cond, not, ◌&&◌}
-use Rattle.std.proofs.Common.{List, [], ◌∷◌, length, take, drop, get_or, Some, None, refl, ap, ◌∙◌}
+use Rattle.std.proofs.Common.{◌≡◌, ℕ, zero, suc, ◌+◌, ◌-◌, ◌≤◌, ◌<◌, Bool, true, false, cond, not, ◌&&◌, ◌||◌}
+use Rattle.std.proofs.Common.{List, [], ◌∷◌, length, take, drop, get_or, Some, None, refl, sym, ap, ◌∙◌}
 use Rattle.std.proofs.Common.{arith, eqb, ltb}
 use Rattle.std.specs.List.{slice_split, onto_first, position, position_or_len}
 use Rattle.std.specs.Str.{IsAscii}
@@ -8,7 +8,7 @@ use Rattle.std.proofs.lemmas.Bool.Decides.{nat_tests}
 use Rattle.std.proofs.lemmas.Bool.{eqb-true, ltb-true, ltb-false}
 use Rattle.std.proofs.Math.Bool.{and-true}
 use Rattle.std.proofs.lemmas.List.{length-drop, take_all}
-use Rattle.std.proofs.lemmas.List.Sums.{fails_before_first}
+use Rattle.std.proofs.lemmas.List.Sums.{fails_before_first, passes_at_first, position_or_len_is}
 use Rattle.std.proofs.lemmas.List.Splits.{slice_split_none, slice_split_first}
 use Rattle.p2p_discovery.specs.Hostname.{is_hostname, is_label, are_labels, is_name_byte, are_name_bytes}
 
@@ -28,12 +28,6 @@ split_some text at e =
 not_found : (b : Bool) (n : ℕ) → cond b (Some n) None ≡ None → b ≡ false
 not_found true n e = absurd cc
 not_found false n e = refl
-
-pub split_none : (text : List ℕ) → position is_dot text ≡ None → is_hostname text ≡ is_label text
-unfolding is_hostname
-split_none text e =
-    let le = ltb-false _ _ (not_found (ltb (position_or_len is_dot text) (length text)) (position_or_len is_dot text) e) in
-    ap are_labels (slice_split_none is_dot text (λ k d lt. fails_before_first is_dot text k d (omega (arith, le)))) ∙ and-true (is_label text)
 
 pub rest_of : (text : List ℕ) (n : ℕ) → take (length text - n) (drop n text) ≡ drop n text
 rest_of text n = take_all (length text - n) (drop n text) (omega (arith, length-drop n text))
@@ -76,3 +70,96 @@ parts_ascii (b ∷ text) h (suc i) = parts_ascii text (cons_named (is_dot b) b (
 pub host_ascii : (text : List ℕ) → is_hostname text ≡ true → IsAscii text
 unfolding is_hostname
 host_ascii text e = parts_ascii text (labels_named (slice_split is_dot text) e)
+
+-- ---- where a label ends
+
+not_false : (b : Bool) → not b ≡ false → b ≡ true
+not_false true e = refl
+not_false false e = absurd cc
+
+not_is : (b : Bool) → not b ≡ true → b ≡ false
+not_is true e = absurd cc
+not_is false e = refl
+
+not_true : (b : Bool) → (b ≡ true → ⊥) → b ≡ false
+not_true true h = absurd (h refl)
+not_true false h = refl
+
+or_true : (b : Bool) → b || true ≡ true
+or_true true = refl
+or_true false = refl
+
+abbrev pub is_other : ℕ → Bool
+is_other b = not (is_name_byte b)
+
+not_other : (b : ℕ) → is_other b ≡ false → is_name_byte b ≡ true
+not_other b e = not_false (is_name_byte b) e
+
+name_no_dot : (b : ℕ) → is_name_byte b ≡ true → is_dot b ≡ false
+name_no_dot b e = grind (arith, nat_tests)
+
+front_named : (text : List ℕ) (n : ℕ) → n ≤ length text → ((k : ℕ) → k < n → is_name_byte (get_or text k 0) ≡ true) →
+    are_name_bytes (take n text) ≡ true
+front_named text zero le h = refl
+front_named [] (suc n) le h = absurd (omega (arith, le))
+front_named (b ∷ text) (suc n) le h =
+    rw (h 0 (omega arith)) (front_named text n (omega (arith, le)) (λ k lt. h (suc k) (omega (arith, lt))))
+
+before_end : (text : List ℕ) (k : ℕ) → k < position_or_len is_other text → is_name_byte (get_or text k 0) ≡ true
+before_end text k lt = not_other (get_or text k 0) (fails_before_first is_other text k 0 lt)
+
+pub named_whole : (text : List ℕ) → position is_other text ≡ None → are_name_bytes text ≡ true
+named_whole text e =
+    let le = ltb-false _ _ (not_found (ltb (position_or_len is_other text) (length text)) (position_or_len is_other text) e) in
+    ap are_name_bytes (sym (take_all (length text) text (omega arith)))
+    ∙ front_named text (length text) (omega arith) (λ k lt. before_end text k (omega (arith, le, lt)))
+
+pub named_front : (text : List ℕ) (at : ℕ) → position is_other text ≡ Some at → are_name_bytes (take at text) ≡ true
+named_front text at e =
+    let f = found (ltb (position_or_len is_other text) (length text)) (position_or_len is_other text) at e in
+    let lt = ltb-true _ _ f.0 in
+    front_named text at (omega (arith, lt, f.1)) (λ k h. before_end text k (omega (arith, h, f.1)))
+
+pub one_label : (text : List ℕ) → position is_other text ≡ None → is_hostname text ≡ is_label text
+unfolding is_hostname
+one_label text e =
+    let le = ltb-false _ _ (not_found (ltb (position_or_len is_other text) (length text)) (position_or_len is_other text) e) in
+    ap are_labels (slice_split_none is_dot text (λ k d lt.
+    name_no_dot (get_or text k d) (not_other (get_or text k d) (fails_before_first is_other text k d (omega (arith, le, lt))))))
+    ∙ and-true (is_label text)
+
+pub first_label : (text : List ℕ) (at : ℕ) → position is_other text ≡ Some at → get_or text at 0 ≡ 46 →
+    is_hostname text ≡ (is_label (take at text) && is_hostname (drop (at + 1) text))
+first_label text at e dot =
+    let f = found (ltb (position_or_len is_other text) (length text)) (position_or_len is_other text) at e in
+    let lt = ltb-true _ _ f.0 in
+    let p : position_or_len is_dot text ≡ at = position_or_len_is is_dot text at 0 (omega (arith, lt, f.1))
+    (λ k h. name_no_dot (get_or text k 0) (before_end text k (omega (arith, h, f.1)))) (λ _. rw dot refl) in
+    let l : ltb at (length text) ≡ true = rw f.1 at f.0 in
+    split_some text at (rw (p, l) refl)
+
+-- a byte of a name is a dot or one of a label
+cons_part : (t : Bool) (b : ℕ) (parts : List (List ℕ)) → AreNamed (cond t ([] ∷ parts) (onto_first b parts)) →
+    (is_name_byte b || t ≡ true) × AreNamed parts
+cons_part true b parts h = (or_true (is_name_byte b), h.1)
+cons_part false b [] h = let a = and_true (is_name_byte b) true h.0 in (rw a.0 refl, tt)
+cons_part false b (p ∷ ps) h = let a = and_true (is_name_byte b) (are_name_bytes p) h.0 in (rw a.0 refl, (a.1, h.1))
+
+parts_are : (text : List ℕ) → AreNamed (slice_split is_dot text) → (i : ℕ) → i < length text →
+    is_name_byte (get_or text i 0) || is_dot (get_or text i 0) ≡ true
+parts_are [] h i lt = absurd (omega (arith, lt))
+parts_are (b ∷ text) h zero lt = (cons_part (is_dot b) b (slice_split is_dot text) h).0
+parts_are (b ∷ text) h (suc i) lt = parts_are text (cons_part (is_dot b) b (slice_split is_dot text) h).1 i (omega (arith, lt))
+
+pub no_name : (text : List ℕ) (at : ℕ) → position is_other text ≡ Some at → (get_or text at 0 ≡ 46 → ⊥) →
+    is_hostname text ≡ false
+unfolding is_hostname
+no_name text at e other =
+    let f = found (ltb (position_or_len is_other text) (length text)) (position_or_len is_other text) at e in
+    let lt = ltb-true _ _ f.0 in
+    let p : is_other (get_or text at 0) ≡ true = rw f.1 at (passes_at_first is_other text 0 lt) in
+    not_true (are_labels (slice_split is_dot text)) (λ h.
+    let a = parts_are text (labels_named (slice_split is_dot text) h) at (omega (arith, lt, f.1)) in
+    let n : is_name_byte (get_or text at 0) ≡ false = not_is (is_name_byte (get_or text at 0)) p in
+    let d : is_dot (get_or text at 0) ≡ true = rw n at a in
+    other (eqb-true (get_or text at 0) 46 d))

@@ -9,6 +9,7 @@ use bytes::BytesMut;
 use std::alloc::Global;
 
 // Reads a length, which must be within the limit.
+#[inline(always)]
 #[tactic(auto, unfolding(crate::specs::Counted::length_at))]
 pub(crate) fn read_length(
     alloc: Global,

@@ -89,6 +89,9 @@ pub trait Write: EncodeSize {
     {
         let mut buf = BytesMut::with_capacity(alloc, self.encode_size())?;
         self.write(&mut buf);
-        Ok(buf.freeze()?)
+        match buf.freeze() {
+            Ok(bytes) => Ok(bytes),
+            Err(_) => Err(AllocError),
+        }
     }
 }

@@ -2,12 +2,11 @@
 
 ghost use Rattle.std.specs.Prelude.{◌≡◌, ℕ, ◌+◌, ◌≤◌, Bool, List, ◌++◌, Option, length, true};
 ghost use Rattle.std.specs.declared.cmp.Ordering.TheVariants.{Equal};
-ghost use Rattle.p2p_discovery.specs.Reading.{Gives};
 ghost use Rattle.p2p_discovery.specs.Arrays.{array_spelling};
 ghost use Rattle.p2p_discovery.specs.Fields.{IsSized};
-ghost use Rattle.p2p_discovery.specs.Fixed.{IsFixed, fixed_at};
+ghost use Rattle.p2p_discovery.specs.Fixed.{IsFixed};
 
-use crate::codec::{CodecError, Reader, What, are_bytes};
+use crate::codec::are_bytes;
 use bytes::BytesMut;
 
 /// A value that is encoded in a fixed number of bytes.
@@ -115,18 +114,4 @@ pub(crate) fn write_value<K: FixedBytes>(value: &K, buf: &mut BytesMut)
     let at = buf.len();
     buf.advance_mut(K::SIZE);
     value.write_fixed(&mut buf.as_mut_slice()[at..]);
-}
-
-// Decodes a value: `Invalid` of `what` if the bytes encode none.
-pub(crate) fn read_value<K: FixedBytes>(
-    reader: &mut Reader<'_>,
-    what: What,
-) -> Result<K, CodecError>
-    ensures { Gives result reader.new (fixed_at K.SIZE K.value what reader.old) }
-{
-    let bytes = reader.counted(K::SIZE)?;
-    match K::read_fixed(bytes) {
-        Some(value) => Ok(value),
-        None => Err(CodecError::Invalid(what)),
-    }
 }

@@ -1,6 +1,7 @@
 //! Integers as varints: groups of seven bits, the least significant first.
 
-ghost use Rattle.std.specs.Prelude.{◌≡◌, ℕ, ◌+◌, ◌*◌, ◌^◌, ◌<◌, ◌≤◌, List, ◌++◌, length, IfOk};
+ghost use Rattle.std.specs.Prelude.{◌≡◌, ℕ, ◌+◌, ◌*◌, ◌^◌, ◌<◌, ◌≤◌, true, false, List, ◌∷◌, ◌++◌};
+ghost use Rattle.std.specs.Prelude.{length, IfOk};
 ghost use Rattle.std.proofs.Common.{lit<};
 ghost use Rattle.p2p_discovery.specs.Reading.{Gives};
 ghost use Rattle.p2p_discovery.specs.FieldsLaws.{lawful_unlimited};
@@ -21,7 +22,7 @@ fn group_count(n: u64) -> usize
     if n < 128 { 1 } else { 1 + group_count(n / 128) }
 }
 
-// Appends the groups of a number.
+// Appends the groups of a number, two at a time.
 fn write_groups(n: u64, buf: &mut BytesMut)
     requires { (most : ℕ) × (0 < most) × (n < 128 ^ most)
         × (length (groups most n) ≤ buf.old.spare) }
@@ -29,45 +30,69 @@ fn write_groups(n: u64, buf: &mut BytesMut)
         → (buf.new.items ≡ buf.old.items ++ groups most n)
         × (buf.new.spare + length (groups most n) ≡ buf.old.spare) }
 {
-    if n < 128 {
-        buf.extend_reserved(&[n as u8]);
+    let low = (n % 128) as u8;
+    let high = n / 128;
+    if high == 0 {
+        buf.extend_reserved(&[low]);
+    } else if high < 128 {
+        buf.extend_reserved(&[low + 128, high as u8]);
     } else {
-        buf.extend_reserved(&[(n % 128) as u8 + 128]);
-        write_groups(n / 128, buf);
+        buf.extend_reserved(&[low + 128, (high % 128) as u8 + 128]);
+        write_groups(high / 128, buf);
     }
 }
 
-// Reads the groups of a number that has at most `most`. At most `left` bytes may follow the next
-// one, of which the last possible one is at most `top`. `started` if one came before.
-fn read_groups(
-    reader: &mut Reader<'_>,
-    most: usize,
-    top: u8,
-    started: bool,
-    left: u32,
-) -> Result<u64, CodecError>
-    requires small { top < 128 }
+// Reads the groups of a number that has at most `most`. At most `left` bytes may follow the first
+// one, of which the last possible one is at most `top`.
+#[inline(always)]
+fn read_groups(reader: &mut Reader<'_>, most: usize, top: u8, left: u32) -> Result<u64, CodecError>
+    requires some { (0 < left) × (0 < top) }
     requires fits { (top + 1) * 128 ^ left ≤ 2 ^ 64 }
-    ensures exact { Gives result reader.new (groups_at most top started left reader.old) }
+    ensures exact { Gives result reader.new (groups_at most top false left reader.old) }
     ensures bound { IfOk result (λ n. n < (top + 1) * 128 ^ left) }
 {
     let byte = reader.byte()?;
-    if left == 0 {
-        return checked_last(byte, most, top, started);
-    }
     if byte < 128 {
-        return checked_last(byte, most, 127, started);
+        return Ok(byte as u64);
     }
-    let high = read_groups(reader, most, top, true, left - 1)?;
-    Ok(byte as u64 - 128 + 128 * high)
+    read_more(reader, most, top, left - 1, byte)
 }
 
-// The last group, which is at most `top`, and not 0 after another one.
-fn checked_last(byte: u8, most: usize, top: u8, started: bool) -> Result<u64, CodecError>
-    ensures exact { (rest : List ℕ) → Gives result rest (last_group most top started byte rest) }
+// Reads the groups behind the first one, as `read_groups` does.
+fn read_more(
+    reader: &mut Reader<'_>,
+    most: usize,
+    top: u8,
+    left: u32,
+    first: u8,
+) -> Result<u64, CodecError>
+    requires more { (128 ≤ first) × (0 < top) }
+    requires fits { (top + 1) * 128 ^ (left + 1) ≤ 2 ^ 64 }
+    ensures exact { Gives result reader.new
+        (groups_at most top false (left + 1) (first ∷ reader.old)) }
+    ensures bound { IfOk result (λ n. n < (top + 1) * 128 ^ (left + 1)) }
+{
+    let mut sum = first as u64 - 128;
+    let mut unit = 128;
+    for _ in 0..left {
+        let byte = reader.byte()?;
+        if byte < 128 {
+            return Ok(sum + unit * checked_last(byte, most, 127)?);
+        }
+        sum += unit * (byte as u64 - 128);
+        unit *= 128;
+    }
+    let byte = reader.byte()?;
+    Ok(sum + unit * checked_last(byte, most, top)?)
+}
+
+// The last group of several, which is at most `top`, and not 0.
+#[inline(always)]
+fn checked_last(byte: u8, most: usize, top: u8) -> Result<u64, CodecError>
+    ensures exact { (rest : List ℕ) → Gives result rest (last_group most top true byte rest) }
     ensures bound { IfOk result (λ n. n ≤ top) }
 {
-    if byte > top || (started && byte == 0) {
+    if byte > top || byte == 0 {
         return Err(CodecError::InvalidVarint(most));
     }
     Ok(byte as u64)
@@ -111,7 +136,7 @@ impl Read for u64 {
     ghost reading = { λ _. varint64_at };
 
     fn read(_alloc: Global, reader: &mut Reader<'_>, _cfg: &()) -> Result<u64, CodecError> {
-        read_groups(reader, 10, 1, false, 9)
+        read_groups(reader, 10, 1, 9)
     }
 
     ghost lawful = { λ _. lawful_unlimited (groups_lawful 10 1 9 (lit< tt)) };
@@ -155,7 +180,7 @@ impl Read for u32 {
     ghost reading = { λ _. varint32_at };
 
     fn read(_alloc: Global, reader: &mut Reader<'_>, _cfg: &()) -> Result<u32, CodecError> {
-        Ok(read_groups(reader, 5, 15, false, 4)? as u32)
+        Ok(read_groups(reader, 5, 15, 4)? as u32)
     }
 
     ghost lawful = { λ _. lawful_unlimited (groups_lawful 5 15 4 (lit< tt)) };

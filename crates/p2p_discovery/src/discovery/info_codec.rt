@@ -7,7 +7,7 @@ ghost use Rattle.p2p_discovery.specs.InfoLaws.{lawful_info};
 
 use crate::codec::{
     CodecError, EncodeSize, FixedBytes, MaxEncodeSize, PublicKey, Read, Reader, What, Write,
-    read_value, write_value,
+    write_value,
 };
 use crate::discovery::Info;
 use crate::types::Ingress;
@@ -64,8 +64,12 @@ impl<C: PublicKey> Read for Info<C> {
     fn read(alloc: Global, reader: &mut Reader<'_>, cfg: &()) -> Result<Info<C>, CodecError> {
         let ingress = Ingress::read(alloc, reader, cfg)?;
         let timestamp = u64::read(alloc, reader, cfg)?;
-        let public_key = read_value(reader, What::Key)?;
-        let signature = read_value(reader, What::Signature)?;
+        let Some(public_key) = C::read_fixed(reader.counted(C::SIZE)?) else {
+            return Err(CodecError::Invalid(What::Key));
+        };
+        let Some(signature) = C::Signature::read_fixed(reader.counted(C::Signature::SIZE)?) else {
+            return Err(CodecError::Invalid(What::Signature));
+        };
         Ok(Info {
             ingress,
             timestamp,

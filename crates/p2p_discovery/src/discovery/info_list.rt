@@ -1,17 +1,21 @@
 //! Lists of infos, and how they are encoded.
 
-ghost use Rattle.std.specs.Prelude.{◌≡◌, ◌+◌, ◌<◌, ◌≤◌, ◌^◌, ◌*◌, ◌++◌, length, IfOk, vec_capacity};
+ghost use Rattle.std.specs.Prelude.{◌≡◌, ℕ, ◌+◌, ◌<◌, ◌≤◌, ◌^◌, ◌*◌, List, [], ◌∷◌, ◌++◌, length};
+ghost use Rattle.std.specs.Prelude.{Ok, OnOk, IfOk, IfErr, vec_len, vec_capacity};
 ghost use Rattle.std.specs.List.{AllByRecursion};
-ghost use Rattle.p2p_discovery.specs.Lists.{spellings};
+ghost use Rattle.p2p_discovery.specs.declared.discovery.Info.{Info};
+ghost use Rattle.p2p_discovery.specs.Reading.{Fails, GivesAs};
+ghost use Rattle.p2p_discovery.specs.Lists.{items_at, spellings};
 ghost use Rattle.p2p_discovery.specs.Info.{IsInfo, IsKeyed, info_spelling, infos_spelling};
-ghost use Rattle.p2p_discovery.specs.Info.{AreAllowed, infos_at};
+ghost use Rattle.p2p_discovery.specs.Info.{AreAllowed, info_at, infos_at};
 ghost use Rattle.p2p_discovery.specs.InfoLaws.{lawful_infos};
 
 use crate::codec::{
-    CodecError, EncodeSize, FixedBytes, PublicKey, RangeCfg, Read, Reader, Write, read_items,
+    CodecError, EncodeSize, FixedBytes, PublicKey, RangeCfg, Read, Reader, What, Write,
     read_length, write_items,
 };
 use crate::discovery::Info;
+use crate::types::Ingress;
 use bytes::BytesMut;
 use std::alloc::Global;
 use std::marker::Model;
@@ -111,9 +115,70 @@ impl<C: PublicKey> Read for Infos<C> {
         limit: &RangeCfg,
     ) -> Result<Infos<C>, CodecError> {
         let count = read_length(alloc, reader, limit)?;
-        let items = read_items(alloc, reader, count, 6 + C::SIZE + C::Signature::SIZE)?;
+        let items = read_infos(alloc, reader, count, 6 + C::SIZE + C::Signature::SIZE)?;
         Ok(Infos { items })
     }
 
     ghost lawful = { lawful_infos C.fixed C.Signature.fixed };
+}
+
+// Reads so many infos, each of which has at least `least` bytes. It reserves capacity for no more
+// of them than the bytes that are left can hold.
+fn read_infos<C: PublicKey>(
+    alloc: Global,
+    reader: &mut Reader<'_>,
+    count: usize,
+    least: usize,
+) -> Result<Vec<Info<C>>, CodecError>
+    requires some { 0 < least }
+    requires least { (info : Info C C.Signature) → IsInfo info
+        → least ≤ length (info_spelling C.spelled C.Signature.spelled info) }
+    ensures exact { GivesAs (λ v. v.items) result reader.new (items_at least
+        (info_at C.SIZE C.value C.Signature.SIZE C.Signature.value) count reader.old) }
+    ensures room { IfOk result (λ v. vec_capacity v * least ≤ length reader.old) }
+{
+    let room = count.min(reader.rest().len() / least);
+    let mut infos = Vec::with_capacity(alloc, room)?;
+    for _ in 0..count {
+        push_info(alloc, reader, &mut infos)?;
+    }
+    Ok(infos)
+}
+
+// Reads an info onto the end of a vector, which has room for it. It is put there part by part, and
+// not moved.
+#[tactic(auto, unfolding(crate::specs::Info::info_at))]
+fn push_info<C: PublicKey>(
+    alloc: Global,
+    reader: &mut Reader<'_>,
+    infos: &mut Vec<Info<C>>,
+) -> Result<(), CodecError>
+    requires room { (info : Info C C.Signature) (rest : List ℕ)
+        → (info_at C.SIZE C.value C.Signature.SIZE C.Signature.value reader.old).outcome
+        ≡ Ok (info, rest)
+        → vec_len infos.old < vec_capacity infos.old }
+    ensures pushed { OnOk result ((info : Info C C.Signature)
+        × ((info_at C.SIZE C.value C.Signature.SIZE C.Signature.value reader.old).outcome
+        ≡ Ok (info, reader.new))
+        × (infos.new.items ≡ infos.old.items ++ info ∷ [])) }
+    ensures len { OnOk result (vec_len infos.new ≡ vec_len infos.old + 1) }
+    ensures capacity { OnOk result (vec_capacity infos.new ≡ vec_capacity infos.old) }
+    ensures fault { IfErr result
+        (λ e. Fails e (info_at C.SIZE C.value C.Signature.SIZE C.Signature.value reader.old)) }
+{
+    let ingress = Ingress::read(alloc, reader, &())?;
+    let timestamp = u64::read(alloc, reader, &())?;
+    let Some(public_key) = C::read_fixed(reader.counted(C::SIZE)?) else {
+        return Err(CodecError::Invalid(What::Key));
+    };
+    let Some(signature) = C::Signature::read_fixed(reader.counted(C::Signature::SIZE)?) else {
+        return Err(CodecError::Invalid(What::Signature));
+    };
+    infos.push_reserved(Info {
+        ingress,
+        timestamp,
+        public_key,
+        signature,
+    });
+    Ok(())
 }

@@ -155,7 +155,7 @@ impl BitMap {
         if padding_in(bytes, n) != 0 {
             return Err(CodecError::Invalid(What::Padding));
         }
-        let mut stored = Vec::new(alloc);
+        let mut stored = Vec::with_capacity(alloc, bytes.len())?;
         stored.extend_from_slice(bytes)?;
         Ok(BitMap {
             bytes: stored,

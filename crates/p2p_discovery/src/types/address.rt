@@ -156,10 +156,7 @@ const ASYMMETRIC_PREFIX: u8 = 1;
 impl Write for Address {
     fn write(&self, buf: &mut BytesMut) {
         match self {
-            Address::Symmetric(socket) => {
-                buf.extend_reserved(&[SYMMETRIC_PREFIX]);
-                socket.write(buf);
-            }
+            Address::Symmetric(socket) => socket.write_behind(SYMMETRIC_PREFIX, buf),
             Address::Asymmetric { ingress, egress } => {
                 buf.extend_reserved(&[ASYMMETRIC_PREFIX]);
                 ingress.write(buf);

@@ -1,6 +1,6 @@
 //! Names of machines.
 
-ghost use Rattle.std.specs.Prelude.{◌≡◌, ◌==◌, ◌+◌, ◌≤◌, ℕ, List, [], length, true, IfOk};
+ghost use Rattle.std.specs.Prelude.{◌≡◌, ◌==◌, ◌+◌, ◌≤◌, ℕ, List, [], length, true, not, IfOk};
 ghost use Rattle.std.specs.List.{position};
 ghost use Rattle.std.specs.Ordering.{nat_cmp, as_partial_cmp};
 ghost use Rattle.std.specs.Cmp.{partial_order_from_own_ties};
@@ -115,38 +115,32 @@ impl Hostname {
     }
 }
 
-// Whether the bytes are labels joined by single dots.
+// Whether the bytes are labels joined by single dots. A label ends before the first byte that none
+// has, as a dot is.
 fn is_name(text: &[u8]) -> bool
     ensures { result ≡ is_hostname text.now }
 {
-    match dot_in(text) {
+    match label_end(text) {
         None => is_label_of(text),
-        Some(at) => is_label_of(&text[..at]) && is_name(&text[at + 1..]),
+        Some(at) if text[at] == b'.' => is_label_of(&text[..at]) && is_name(&text[at + 1..]),
+        Some(_) => false,
     }
 }
 
-// The position of the first dot.
-fn dot_in(text: &[u8]) -> Option<usize>
-    ensures { result ≡ position (λ b. b == 46) text.now }
+// The position of the first byte that no label has.
+fn label_end(text: &[u8]) -> Option<usize>
+    ensures { result ≡ position (λ b. not (is_name_byte b)) text.now }
 {
-    text.iter().position(|b| *b == b'.')
+    text.iter().position(|b| !is_name_part(*b))
 }
 
-// Whether the bytes are a label.
+// Whether letters, digits and hyphens are a label.
 #[tactic(auto, unfolding(crate::specs::Hostname::is_label))]
 fn is_label_of(l: &[u8]) -> bool
+    requires { are_name_bytes l.now ≡ true }
     ensures { result ≡ is_label l.now }
 {
-    !l.is_empty() && l.len() <= 63 && are_name_parts(l) && l[0] != b'-' && l[l.len() - 1] != b'-'
-}
-
-fn are_name_parts(bytes: &[u8]) -> bool
-    ensures { result ≡ are_name_bytes bytes.now }
-{
-    match bytes {
-        [] => true,
-        [b, rest @ ..] => is_name_part(*b) && are_name_parts(rest),
-    }
+    !l.is_empty() && l.len() <= 63 && l[0] != b'-' && l[l.len() - 1] != b'-'
 }
 
 fn is_name_part(b: u8) -> bool
@@ -231,6 +225,8 @@ impl Read for Hostname {
 
     ghost reading = { λ _. hostname_at };
 
+    // A call of its own keeps the reading of an address without a name short.
+    #[inline(never)]
     #[tactic(auto, unfolding(crate::specs::Hostname::hostname_at))]
     fn read(alloc: Global, reader: &mut Reader<'_>, _cfg: &()) -> Result<Hostname, CodecError> {
         let length = read_length(alloc, reader, &LENGTHS)?;

@@ -152,12 +152,10 @@ pub(crate) const SOCKET_PREFIX: u8 = 0;
 pub(crate) const DNS_PREFIX: u8 = 1;
 
 impl Write for Ingress {
+    #[inline(always)]
     fn write(&self, buf: &mut BytesMut) {
         match self {
-            Ingress::Socket(socket) => {
-                buf.extend_reserved(&[SOCKET_PREFIX]);
-                socket.write(buf);
-            }
+            Ingress::Socket(socket) => socket.write_behind(SOCKET_PREFIX, buf),
             Ingress::Dns { host, port } => {
                 buf.extend_reserved(&[DNS_PREFIX]);
                 host.write(buf);
@@ -174,6 +172,7 @@ impl Read for Ingress {
 
     ghost reading = { λ _. ingress_at };
 
+    #[inline(always)]
     #[tactic(auto, unfolding(crate::specs::Ingress::ingress_at))]
     fn read(alloc: Global, reader: &mut Reader<'_>, cfg: &()) -> Result<Ingress, CodecError> {
         match reader.byte()? {

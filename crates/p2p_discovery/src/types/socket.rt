@@ -1,15 +1,17 @@
 //! Addresses of machines, and ports there.
 
-ghost use Rattle.std.specs.Prelude.{◌≡◌, ◌+◌, ◌<◌, ◌≤◌, ◌++◌, length};
+ghost use Rattle.std.specs.Prelude.{◌≡◌, ◌+◌, ◌<◌, ◌≤◌, ◌∷◌, ◌++◌, length};
 ghost use Rattle.p2p_discovery.specs.Reading.{Gives};
 ghost use Rattle.p2p_discovery.specs.Fields.{IsSized, port_at};
 ghost use Rattle.p2p_discovery.specs.FieldsLaws.{lawful_unlimited};
 ghost use Rattle.p2p_discovery.specs.Global.{is_global};
 ghost use Rattle.p2p_discovery.specs.Socket.{socket_from, socket_ip, socket_port, IsIp, IsSocket};
-ghost use Rattle.p2p_discovery.specs.Socket.{ip_spelling, socket_spelling, ip_at, socket_at};
+ghost use Rattle.p2p_discovery.specs.Socket.{ip_spelling, socket_spelling, socket_at};
 ghost use Rattle.p2p_discovery.specs.SocketLaws.{lawful_socket, socket_short};
 
-use crate::codec::{CodecError, EncodeSize, MaxEncodeSize, Read, Reader, Write, are_bytes};
+use crate::codec::{
+    CodecError, EncodeSize, MaxEncodeSize, Read, Reader, Write, are_bytes, read_array,
+};
 use crate::types::global::{is_listed_v4, is_listed_v6};
 use bytes::BytesMut;
 use std::alloc::Global;
@@ -66,6 +68,27 @@ impl SocketAddr {
     {
         self.port
     }
+
+    // Appends a byte and the encoding.
+    #[inline(always)]
+    pub(crate) fn write_behind(&self, prefix: u8, buf: &mut BytesMut)
+        requires { 1 + length (socket_spelling self.now) ≤ buf.old.spare }
+        ensures items { buf.new.items ≡ buf.old.items ++ prefix ∷ socket_spelling self.now }
+        ensures spare { buf.new.spare + (1 + length (socket_spelling self.now)) ≡ buf.old.spare }
+    {
+        let port = self.port.to_be_bytes();
+        match &self.ip {
+            IpAddr::V4(b) => {
+                let parts = [prefix, VERSION_4, b[0], b[1], b[2], b[3], port[0], port[1]];
+                buf.extend_reserved(&parts);
+            }
+            IpAddr::V6(bytes) => {
+                buf.extend_reserved(&[prefix, VERSION_6]);
+                buf.extend_reserved(bytes);
+                buf.extend_reserved(&port);
+            }
+        }
+    }
 }
 
 impl EncodeSize for SocketAddr {
@@ -96,16 +119,16 @@ impl MaxEncodeSize for SocketAddr {
 impl Write for SocketAddr {
     fn write(&self, buf: &mut BytesMut) {
         match &self.ip {
-            IpAddr::V4(bytes) => {
-                buf.extend_reserved(&[VERSION_4]);
-                buf.extend_reserved(bytes);
+            IpAddr::V4(b) => {
+                let port = self.port.to_be_bytes();
+                buf.extend_reserved(&[VERSION_4, b[0], b[1], b[2], b[3], port[0], port[1]]);
             }
             IpAddr::V6(bytes) => {
                 buf.extend_reserved(&[VERSION_6]);
                 buf.extend_reserved(bytes);
+                buf.extend_reserved(&self.port.to_be_bytes());
             }
         }
-        buf.extend_reserved(&self.port.to_be_bytes());
     }
 }
 
@@ -116,11 +139,23 @@ impl Read for SocketAddr {
 
     ghost reading = { λ _. socket_at };
 
-    #[tactic(auto, unfolding(crate::specs::Socket::socket_at))]
+    #[inline(always)]
+    // The port is read in each arm, so that an address isn't moved through a result of its own.
+    #[tactic(auto, unfolding(crate::specs::Socket::socket_at, crate::specs::Socket::ip_at))]
     fn read(_alloc: Global, reader: &mut Reader<'_>, _cfg: &()) -> Result<SocketAddr, CodecError> {
-        let ip = read_ip(reader)?;
-        let port = read_port(reader)?;
-        Ok(SocketAddr { ip, port })
+        match reader.byte()? {
+            VERSION_4 => {
+                let ip = IpAddr::V4(read_array(reader.counted(4)?));
+                let port = read_port(reader)?;
+                Ok(SocketAddr { ip, port })
+            }
+            VERSION_6 => {
+                let ip = IpAddr::V6(read_array(reader.counted(16)?));
+                let port = read_port(reader)?;
+                Ok(SocketAddr { ip, port })
+            }
+            version => Err(CodecError::InvalidEnum(version)),
+        }
     }
 
     ghost lawful = { λ _. lawful_unlimited lawful_socket };
@@ -149,26 +184,6 @@ fn array_len<const N: usize>(bytes: &[u8; N]) -> usize
 {
     are_bytes(bytes);
     N
-}
-
-#[tactic(auto, unfolding(crate::specs::Socket::ip_at))]
-fn read_ip(reader: &mut Reader<'_>) -> Result<IpAddr, CodecError>
-    ensures { Gives result reader.new (ip_at reader.old) }
-{
-    match reader.byte()? {
-        VERSION_4 => {
-            let b = reader.counted(4)?;
-            Ok(IpAddr::V4([b[0], b[1], b[2], b[3]]))
-        }
-        VERSION_6 => {
-            let b = reader.counted(16)?;
-            Ok(IpAddr::V6([
-                b[0], b[1], b[2], b[3], b[4], b[5], b[6], b[7], b[8], b[9], b[10], b[11], b[12],
-                b[13], b[14], b[15],
-            ]))
-        }
-        version => Err(CodecError::InvalidEnum(version)),
-    }
 }
 
 // Reads a port: two bytes, big-endian.
