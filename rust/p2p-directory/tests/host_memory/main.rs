@@ -233,8 +233,8 @@ fn questions_are_answered_or_refused() {
         index: 0,
         bits: vec![false; 4],
     };
-    // The list, and a name: there is capacity for the encoding of so few bits.
-    refuse_each(2, known, nobody, |state, bits: BitVec| {
+    // Space for the result, the list, and a name: there is capacity for the encoding of so few bits.
+    refuse_each(3, known, nobody, |state, bits: BitVec| {
         state.directory().infos(&bits, NOW)
     });
 }
