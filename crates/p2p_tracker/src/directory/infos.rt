@@ -34,6 +34,9 @@ const SPARSE: usize = 8;
 // .. and past so many as one search among the peers and one among the records.
 const BUSY: usize = 4;
 
+// For how many infos there is capacity at least once the first is found, if so many may be left.
+const FIRST: usize = 32;
+
 impl<C: PublicKey> Directory<C> {
     ghost use Rattle.p2p_tracker.specs.Directory.{IsBusy, sharable_in, infos_in, bit_vec_at};
 
@@ -74,8 +77,8 @@ impl<C: PublicKey> Directory<C> {
     ///
     /// # Cost
     ///
-    /// One pass over the retained sets, and one over the bits. Then, if there are at most about 8
-    /// records for each false bit, one pass over the primary peers and the records, at most up to
+    /// One pass over the retained sets, and at most one over the bits. Then, if there are at most
+    /// about 8 records for each false bit, one pass over the primary peers and the records, at most up to
     /// the last peer whose bit is false. Otherwise one pass over the peers, with one search among
     /// the records for each whose bit is false.
     pub fn infos(&self, bit_vec: &BitVec, now: Duration) -> Result<Option<Vec<Info<C>>>, AllocError>
@@ -208,7 +211,7 @@ pub fn shared_for<C: PublicKey>(
         return Ok(None);
     }
     let mut infos = Vec::new(alloc);
-    if records.len() / SPARSE <= count_unknown(bits) {
+    if are_unknown(bits, records.len() / SPARSE) {
         copy_walked(&mut infos, records, peers, bits, millis)?;
     } else {
         copy_shared(&mut infos, records, peers, bits, millis)?;
@@ -216,15 +219,18 @@ pub fn shared_for<C: PublicKey>(
     Ok(Some(infos))
 }
 
-// How many bits are false.
-fn count_unknown(bits: &BitMap) -> usize {
-    let mut count = 0usize;
+// Whether at least so many bits are false.
+fn are_unknown(bits: &BitMap, count: usize) -> bool {
+    let mut left = count;
     for place in 0..bits.len() {
+        if left == 0 {
+            return true;
+        }
         if !bits.get(place) {
-            count = count.saturating_add(1);
+            left -= 1;
         }
     }
-    count
+    left == 0
 }
 
 // Appends copies of the infos of these peers that are shared, by one walk along the records and the
@@ -250,7 +256,7 @@ fn copy_walked<C: PublicKey>(
             return Ok(());
         }
         if keys[place].cmp(key).is_eq() {
-            copy_info(infos, shared_by(found, millis))?;
+            copy_info(infos, shared_by(found, millis), keys.len() - place)?;
             place += 1;
         }
     }
@@ -289,7 +295,8 @@ fn copy_shared<C: PublicKey>(
 {
     for place in 0..peers.len() {
         let known = bits.get(place as u64);
-        copy_info(infos, shared(records, &peers[place], known, millis))?;
+        let info = shared(records, &peers[place], known, millis);
+        copy_info(infos, info, peers.len() - place)?;
     }
     Ok(())
 }
@@ -435,19 +442,25 @@ fn copy_asked<C: PublicKey>(
     let Some(place) = peers.position(peer) else {
         return Ok(());
     };
-    copy_info(infos, shared(records, peer, bits.get(place as u64), millis))
+    let info = shared(records, peer, bits.get(place as u64), millis);
+    copy_info(infos, info, peers.len() - place)
 }
 
-// Appends a copy of the info.
+// Appends a copy of the info, if there is one. There is capacity for some of the infos that may be
+// left once the first is appended.
 fn copy_info<C: PublicKey>(
     infos: &mut Vec<Info<C>>,
     info: Option<&Info<C>>,
+    left: usize,
 ) -> Result<(), AllocError>
     ensures infos { OnOk result (infos.new.items
         ≡ infos.old.items ++ option_to_list (option_copied info.entry)) }
     ensures err { OnErr result (0 < length (option_to_list (option_copied info.entry))) }
 {
     if let Some(info) = info {
+        if infos.is_empty() {
+            infos.reserve(left.min(FIRST))?;
+        }
         infos.push(info.clone()?)?;
     }
     Ok(())

@@ -20,9 +20,9 @@ returns-in_default-clause-infos g c =
 pub returns-clause-infos : goal.returns-clause-infos
 returns-clause-infos g c =
     let q = c.args.peer.now in
-    let same : option_copied c.shared.result
+    let same : option_copied c.shared-info.result
     ≡ shared_with g.C.Ord.cmp c.args.records.now c.args.millis c.args.peers.now c.args.bits.now q =
-    c.shared.ensures
+    c.shared-info.ensures
     ∙ sym (ap (λ o. option_and_then (λ known. shared_at g.C.Ord.cmp c.args.records.now c.args.millis (q, known)) o)
     (found_at g.met.C.Ord.total c.args.peers.now c.args.bits.now c.in-Some.place q c.get.result
     c.position.ensures.sorted c.in-Some.ensures.found.in_range c.in-Some.ensures.found.at_place c.get.ensures)) in
@@ -32,9 +32,9 @@ returns-clause-infos g c =
 pub returns-clause-err : goal.returns-clause-err
 returns-clause-err g c =
     let q = c.args.peer.now in
-    let same : option_copied c.shared.result
+    let same : option_copied c.shared-info.result
     ≡ shared_with g.C.Ord.cmp c.args.records.now c.args.millis c.args.peers.now c.args.bits.now q =
-    c.shared.ensures
+    c.shared-info.ensures
     ∙ sym (ap (λ o. option_and_then (λ known. shared_at g.C.Ord.cmp c.args.records.now c.args.millis (q, known)) o)
     (found_at g.met.C.Ord.total c.args.peers.now c.args.bits.now c.in-Some.place q c.get.result
     c.position.ensures.sorted c.in-Some.ensures.found.in_range c.in-Some.ensures.found.at_place c.get.ensures)) in

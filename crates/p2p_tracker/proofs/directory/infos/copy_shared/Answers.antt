@@ -23,7 +23,7 @@ returns-in_err-copy_info-clause-err g c =
     (omega (
       arith,
       some,
-      ap (λ o. length (option_to_list o)) c.shared.ensures,
+      ap (λ o. length (option_to_list o)) c.shared-info.ensures,
       ap length here,
       length-append one rest,
       chosen_within f c.args.peers.now c.args.bits.now place,
@@ -39,7 +39,7 @@ loop-place-preserved g c =
     c.get-known.result c.index.ensures c.get-known.ensures in
     ap (λ infos. infos ++ rest)
     (c.in_ok-copy_info.ensures.infos
-    ∙ ap (λ o. c.loop-place.infos.items ++ option_to_list o) c.shared.ensures)
+    ∙ ap (λ o. c.loop-place.infos.items ++ option_to_list o) c.shared-info.ensures)
     ∙ append_assoc c.loop-place.infos.items one rest
     ∙ ap (λ infos. c.loop-place.infos.items ++ infos) (sym here)
     ∙ c.loop-place.invariant
