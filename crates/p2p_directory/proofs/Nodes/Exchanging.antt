@@ -10,7 +10,7 @@ use Rattle.p2p_directory.specs.Received.{Standing}
 use Rattle.p2p_directory.specs.Exchange.ExchangeOutcome.{AskRefused}
 use Rattle.p2p_directory.specs.Exchange.{ExchangeOutcome, asked_at, replied_at, exchanged_at, exchange_may_want_memory, IsExchangeAnswer}
 use Rattle.p2p_directory.specs.Private.Exchanging.{RepliesToBits}
-use Rattle.p2p_directory.specs.Private.Frames.{HasSpelling}
+use Rattle.p2p_directory.specs.Exchange.{HasSpelling}
 
 pub bits_are : {C S : Type 0} (x y : BitVec) → ◌≡◌ {A = Payload C S} (said.BitVec x) (said.BitVec y) → x ≡ y
 bits_are x y h = cc

@@ -9,8 +9,7 @@ use Rattle.p2p_directory.specs.declared.node.exchanged.Exchanged.{Exchanged}
 use Rattle.p2p_directory.specs.declared.node.exchanged.Exchanged.TheVariants as exchanged
 use Rattle.p2p_directory.specs.Received.{Standing}
 use Rattle.p2p_directory.specs.Exchange.{ExchangeOutcome, replied_at, IsExchangeAnswer}
-use Rattle.p2p_directory.specs.Exchange.{infos_applied}
-use Rattle.p2p_directory.specs.Private.Frames.{HaveSpelling}
+use Rattle.p2p_directory.specs.Exchange.{infos_applied, HaveSpelling}
 
 module _ {C S : Type 0} where
   -- the bits cannot be read, or want of memory

@@ -14,8 +14,8 @@ ghost use Rattle.p2p_directory.specs.Exchange.{asked_at, replied_at, judged_at, 
 ghost use Rattle.p2p_directory.specs.Exchange.{infos_applied, Exchanges};
 ghost use Rattle.p2p_directory.specs.Private.Endpoints.{node_of};
 ghost use Rattle.p2p_directory.specs.Private.Exchanging.{RepliesToBits, ask_fault, reply_fault};
-ghost use Rattle.p2p_directory.specs.Private.Frames.{HasSpelling, HaveSpelling, IsReadBack};
-ghost use Rattle.p2p_directory.specs.Private.Frames.{SpellsBits, SpellsInfos};
+ghost use Rattle.p2p_directory.specs.Exchange.{HasSpelling, HaveSpelling};
+ghost use Rattle.p2p_directory.specs.Private.Frames.{SpellsBits, SpellsInfos, IsReadBack};
 
 use crate::node::endpoint::Endpoint;
 use crate::node::exchanged::Exchanged;
