@@ -132,27 +132,33 @@ module _ {C S : Type 0} (wire : Wire C S) (asker replier : Standing C S) (place 
   IsCarried s t (Invalid error) = TakesReply s t (only (received.Invalid error))
   IsCarried s t (Applied infos) = TakesReply s t (applying (received.Applied (length infos)) infos)
 
--- bits have a spelling: their index and their number fit
+-- WHAT HAS A SPELLING
+
+-- bits: their index and their number fit
 pub record HasSpelling (v : BitVec) : Type 0 where
   pub index : v.index < 2 ^ 64
   pub count : length v.bits < 2 ^ 64
 
--- infos have a spelling: their number fits, and they are made of values of their types
+-- infos: their number fits, and they are made of values of their types
 pub record HaveSpelling {C S : Type 0} (IsKey : C → Type 0) (IsSignature : S → Type 0)
     (infos : List (Info C S)) : Type 0 where
   pub count : length infos < 2 ^ 32
   pub values : AreValues IsKey IsSignature infos
 
--- all that is told has a spelling: the asker's bits, and the infos for them where the replier reads
--- so many bits
+-- the replier's infos for bits at a moment, where it reads so many bits
+abbrev pub CanBeReplied : {C S : Type 0} → (C → Type 0) → (S → Type 0) → Standing C S → ℕ →
+    BitVec → Type 0
+CanBeReplied IsKey IsSignature replier t v = length v.bits ≤ replier.limits.max_bit_vec →
+    IfSome (replier.infos v.index v.bits t) (HaveSpelling IsKey IsSignature)
+
+-- all that is told in an exchange: the asker's bits, and the replier's infos for them
 pub record CanBeSpelled {C S : Type 0} (IsKey : C → Type 0) (IsSignature : S → Type 0)
     (asker replier : Standing C S) (place t : ℕ) : Type 0 where
   pub bits : IfSome (asker.bits place) HasSpelling
-  pub infos : IfSome (asker.bits place) (λ v. length v.bits ≤ replier.limits.max_bit_vec →
-      IfSome (replier.infos v.index v.bits t) (HaveSpelling IsKey IsSignature))
+  pub infos : IfSome (asker.bits place) (CanBeReplied IsKey IsSignature replier t)
 
--- CARRIED, BY WHAT IS SEEN: what an exchange comes to the frames come to, and the asker is left as
--- by `receive` of the reply, if there is one
+-- CARRIED, BY WHAT IS SEEN: the frames come to this outcome, and the asker is left as it is by
+-- `receive` of the reply, if there is one
 
 pub record IsCarriedTo {C S : Type 0} (cmp : C → C → Ordering) (wire : Wire C S) (place s t : ℕ)
     (o : ExchangeOutcome C S) (a b a2 : NodeView C S) : Type 0 where
@@ -162,7 +168,7 @@ pub record IsCarriedTo {C S : Type 0} (cmp : C → C → Ordering) (wire : Wire 
       (received.Reply reply) →
       AnswersFrame cmp wire reply s (received_at wire (standing_of cmp wire a) reply s).answer a a2
 
--- .. whatever it comes to by its answer, unless memory was refused
+-- .. to the outcome that is answered, unless memory was refused
 abbrev pub Carries : {C S : Type 0} → (C → C → Ordering) → Wire C S → ℕ → ℕ → ℕ →
     Exchanged C S → NodeView C S → NodeView C S → NodeView C S → Type 0
 Carries {C} {S} cmp wire place s t r a b a2 = (o : ExchangeOutcome C S) →
