@@ -10,6 +10,7 @@ pub mod GossipExamples
 mod FrameExamples
 pub mod ExchangePremises
 pub mod LatePremises
+mod CarriedExamples
 mod ForeignNodes
 mod Examples
 mod Corners

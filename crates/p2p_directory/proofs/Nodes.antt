@@ -4,6 +4,7 @@ pub mod Standing
 pub mod Worlds
 pub mod ReadBack
 pub mod Exchanging
+pub mod Carried
 -- .. and what one of a network answers is what is replied to a command.
 pub mod Frames
 pub mod Among

@@ -1,6 +1,6 @@
 -- What an exchange of infos comes to, by how both nodes stand, each at a moment of its own.
-use Rattle.std.specs.Prelude.{ℕ, ◌≡◌, Bool, true, if◌then◌else◌, List, length, Option, Some, None}
-use Rattle.std.specs.Prelude.{is_some, nat_lt}
+use Rattle.std.specs.Prelude.{ℕ, ◌≡◌, ◌≤◌, ◌<◌, ◌^◌, Bool, true, false, if◌then◌else◌}
+use Rattle.std.specs.Prelude.{List, length, Option, Some, None, IfSome, is_some, nat_lt}
 use Rattle.std.specs.declared.cmp.Ordering.{Ordering}
 use Rattle.p2p_discovery.specs.declared.codec.error.CodecError.{CodecError}
 use Rattle.p2p_discovery.specs.declared.codec.error.CodecError.TheVariants.{InvalidLength}
@@ -10,10 +10,13 @@ use Rattle.p2p_discovery.specs.declared.discovery.Info.{Info}
 use Rattle.p2p_discovery.specs.Judgement.{list_refusal}
 use Rattle.p2p_directory.specs.declared.node.exchanged.Exchanged.{Exchanged}
 use Rattle.p2p_directory.specs.declared.node.exchanged.Exchanged.TheVariants as exchanged
+use Rattle.p2p_directory.specs.declared.node.Received.{Received}
+use Rattle.p2p_directory.specs.declared.node.Received.TheVariants as received
 use Rattle.p2p_tracker.specs.Calls.{Call}
-use Rattle.p2p_directory.specs.Received.{Wire, Standing}
+use Rattle.p2p_directory.specs.Received.{Wire, Standing, FrameOutcome, only, applying}
+use Rattle.p2p_directory.specs.Received.{ask_frame_at, received_at}
 use Rattle.p2p_directory.specs.Nodes.{NodeView, Made, NodeStandsAt, AtEach, IsLeft, calls_with}
-use Rattle.p2p_directory.specs.Nodes.{standing_of, standing_in}
+use Rattle.p2p_directory.specs.Nodes.{standing_of, standing_in, AreValues, AnswersFrame}
 use Rattle.p2p_directory.specs.Run.{world_after}
 
 -- what an exchange comes to, want of memory aside
@@ -104,3 +107,69 @@ abbrev pub IsExchanged : {C S : Type 0} → (C → C → Ordering) → Wire C S 
     Exchanged C S → NodeView C S → NodeView C S → NodeView C S → Type 0
 IsExchanged cmp wire place s t r a b a2 =
     AtEach cmp a (λ m cs. AtEach cmp b (λ n ds. IsExchangedAt m n wire cs ds place s t r a2))
+
+-- AN EXCHANGE AS THREE FRAMES: that of `ask`, and the answers of two calls of `receive`, by the
+-- replier at the moment t and by the asker at the moment s
+
+module _ {C S : Type 0} (wire : Wire C S) (asker replier : Standing C S) (place : ℕ) where
+  -- the asker asks with a frame; the replier answers it with this, and applies nothing
+  abbrev pub AnswersAsk : ℕ → Received → Type 0
+  AnswersAsk t answer = (frame : List ℕ) × (ask_frame_at wire asker place ≡ Some frame)
+      × ((received_at wire replier frame t).answer ≡ answer)
+      × ((received_at wire replier frame t).applied ≡ None)
+
+  -- .. with a reply; this is what the asker answers to that, and which infos it applies
+  abbrev pub TakesReply : ℕ → ℕ → FrameOutcome C S → Type 0
+  TakesReply s t o = (reply : List ℕ) × AnswersAsk t (received.Reply reply)
+      × (received_at wire asker reply s ≡ o)
+
+  -- CARRIED: what the frames come to
+  abbrev pub IsCarried : ℕ → ℕ → ExchangeOutcome C S → Type 0
+  IsCarried s t NoSet = ask_frame_at wire asker place ≡ None
+  IsCarried s t (AskRefused fault) = AnswersAsk t (received.Codec fault)
+  IsCarried s t Malformed = AnswersAsk t received.Malformed
+  IsCarried s t (ReplyRefused fault) = TakesReply s t (only (received.Codec fault))
+  IsCarried s t (Invalid error) = TakesReply s t (only (received.Invalid error))
+  IsCarried s t (Applied infos) = TakesReply s t (applying (received.Applied (length infos)) infos)
+
+-- WHAT HAS A SPELLING
+
+-- bits: their index and their number fit
+pub record HasSpelling (v : BitVec) : Type 0 where
+  pub index : v.index < 2 ^ 64
+  pub count : length v.bits < 2 ^ 64
+
+-- infos: their number fits, and they are made of values of their types
+pub record HaveSpelling {C S : Type 0} (IsKey : C → Type 0) (IsSignature : S → Type 0)
+    (infos : List (Info C S)) : Type 0 where
+  pub count : length infos < 2 ^ 32
+  pub values : AreValues IsKey IsSignature infos
+
+-- the replier's infos for bits at a moment, where it reads so many bits
+abbrev pub CanBeReplied : {C S : Type 0} → (C → Type 0) → (S → Type 0) → Standing C S → ℕ →
+    BitVec → Type 0
+CanBeReplied IsKey IsSignature replier t v = length v.bits ≤ replier.limits.max_bit_vec →
+    IfSome (replier.infos v.index v.bits t) (HaveSpelling IsKey IsSignature)
+
+-- all that is told in an exchange: the asker's bits, and the replier's infos for them
+pub record CanBeSpelled {C S : Type 0} (IsKey : C → Type 0) (IsSignature : S → Type 0)
+    (asker replier : Standing C S) (place t : ℕ) : Type 0 where
+  pub bits : IfSome (asker.bits place) HasSpelling
+  pub infos : IfSome (asker.bits place) (CanBeReplied IsKey IsSignature replier t)
+
+-- CARRIED, BY WHAT IS SEEN: the frames come to this outcome, and the asker is left as it is by
+-- `receive` of the reply, if there is one
+
+pub record IsCarriedTo {C S : Type 0} (cmp : C → C → Ordering) (wire : Wire C S) (place s t : ℕ)
+    (o : ExchangeOutcome C S) (a b a2 : NodeView C S) : Type 0 where
+  pub frames : IsCarried wire (standing_of cmp wire a) (standing_of cmp wire b) place s t o
+  pub left : (reply : List ℕ) →
+      AnswersAsk wire (standing_of cmp wire a) (standing_of cmp wire b) place t
+      (received.Reply reply) →
+      AnswersFrame cmp wire reply s (received_at wire (standing_of cmp wire a) reply s).answer a a2
+
+-- .. to the outcome that is answered, unless memory was refused
+abbrev pub Carries : {C S : Type 0} → (C → C → Ordering) → Wire C S → ℕ → ℕ → ℕ →
+    Exchanged C S → NodeView C S → NodeView C S → NodeView C S → Type 0
+Carries {C} {S} cmp wire place s t r a b a2 = (o : ExchangeOutcome C S) →
+    IsExchangeAnswer false o r → IsCarriedTo cmp wire place s t o a b a2

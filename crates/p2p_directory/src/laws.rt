@@ -38,8 +38,10 @@ ghost use Rattle.p2p_directory.specs.Laws.IsolationRuns.{KeepAlone};
 ghost use Rattle.p2p_directory.specs.Laws.OrderRuns.{KeepOrder};
 ghost use Rattle.p2p_directory.specs.Laws.BoundRuns.{KeepBound};
 ghost use Rattle.p2p_discovery.specs.Info.{IsInfo, IsKeyed};
-ghost use Rattle.p2p_directory.specs.Received.{Wire, wire_of};
+ghost use Rattle.p2p_directory.specs.Received.{Wire, Standing, wire_of};
 ghost use Rattle.p2p_directory.specs.Nodes.{Made, NodeView, IsReceivedAt};
+ghost use Rattle.p2p_directory.specs.Exchange.{ExchangeOutcome, exchanged_at};
+ghost use Rattle.p2p_directory.specs.Exchange.{CanBeSpelled, IsCarried};
 ghost use Rattle.p2p_directory.specs.Laws.Gossip.{IsMade};
 ghost use Rattle.p2p_directory.specs.Laws.LateFrames.{TakesLateAt};
 ghost use Rattle.p2p_directory.specs.declared.node.Received.{Received};
@@ -303,6 +305,26 @@ pub fn infos_may_come_late<C: PublicKey>()
         C.Signature.SIZE C.Signature.spelled C.Signature.value C.verifies in
         IsReceivedAt m wire calls frame now r v →
         TakesLateAt wire C.IsValue C.Signature.IsValue m calls frame now r }
+{}
+
+/// An exchange is carried as bytes. If all that is told in it has an encoding, it comes to what three
+/// frames come to: that of [`Node::ask`](crate::node::Node::ask), the replier's result of
+/// [`Node::receive`](crate::node::Node::receive) for that frame, and the asker's for the reply. This
+/// holds in each of the six cases, and the frames come to nothing else.
+///
+/// Applied infos are those that the asker's `receive` applies, and as many as it returns.
+pub fn exchanges_are_carried<C: PublicKey>()
+    ensures carried { let wire = wire_of C.SIZE C.spelled C.value
+        C.Signature.SIZE C.Signature.spelled C.Signature.value C.verifies in
+        (asker replier : Standing C C.Signature) (place s t : ℕ) →
+        CanBeSpelled C.IsValue C.Signature.IsValue asker replier place t →
+        IsCarried wire asker replier place s t (exchanged_at asker replier place s t) }
+    ensures only { let wire = wire_of C.SIZE C.spelled C.value
+        C.Signature.SIZE C.Signature.spelled C.Signature.value C.verifies in
+        (asker replier : Standing C C.Signature) (place s t : ℕ) →
+        CanBeSpelled C.IsValue C.Signature.IsValue asker replier place t →
+        (o : ExchangeOutcome C C.Signature) → IsCarried wire asker replier place s t o →
+        o ≡ exchanged_at asker replier place s t }
 {}
 
 /// Gossip of any number of nodes, by the replies to what is done to them from their start.

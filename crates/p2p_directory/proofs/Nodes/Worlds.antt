@@ -22,7 +22,7 @@ use Rattle.p2p_directory.specs.Exchange.{exchanged_at, infos_applied, IsExchange
 use Rattle.p2p_directory.specs.Nodes.{Made, NodeView, NodeStandsAt, IsAnsweredAt, IsReceivedAt, IsReceivedByAt, IsAskedAt}
 use Rattle.p2p_directory.specs.Nodes.{standing_of, standing_in, calls_with, IsLeft, Answers}
 use Rattle.p2p_directory.specs.Nodes.{AsksWith, AreValues}
-use Rattle.p2p_directory.specs.Private.Frames.{HasSpelling}
+use Rattle.p2p_directory.specs.Exchange.{HasSpelling}
 use Rattle.p2p_directory.proofs.Definitions.Law
 use Rattle.p2p_directory.proofs.LawsOfRuns.Forgotten
 use Rattle.p2p_directory.proofs.Refinement.KnowledgeRefines

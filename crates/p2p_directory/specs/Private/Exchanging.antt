@@ -1,5 +1,5 @@
 -- The parts of an exchange: what the replier makes of bits, and where it ends.
-use Rattle.std.specs.Prelude.{ℕ, ◌≡◌, true, List, Some, None, Result, Ok, Err}
+use Rattle.std.specs.Prelude.{ℕ, ◌≡◌, true, ◌⊎◌, List, Some, None, Result, Ok, Err}
 use Rattle.p2p_discovery.specs.declared.codec.error.CodecError.{CodecError}
 use Rattle.p2p_discovery.specs.declared.codec.error.CodecError.TheVariants.{Memory}
 use Rattle.p2p_discovery.specs.declared.discovery.Info.{Info}
@@ -9,8 +9,7 @@ use Rattle.p2p_directory.specs.declared.node.exchanged.Exchanged.{Exchanged}
 use Rattle.p2p_directory.specs.declared.node.exchanged.Exchanged.TheVariants as exchanged
 use Rattle.p2p_directory.specs.Received.{Standing}
 use Rattle.p2p_directory.specs.Exchange.{ExchangeOutcome, replied_at, IsExchangeAnswer}
-use Rattle.p2p_directory.specs.Exchange.{infos_applied}
-use Rattle.p2p_directory.specs.Private.Frames.{HaveSpelling}
+use Rattle.p2p_directory.specs.Exchange.{infos_applied, HaveSpelling}
 
 module _ {C S : Type 0} where
   -- the bits cannot be read, or want of memory
@@ -33,3 +32,12 @@ module _ {C S : Type 0} where
       × ((asker : Standing C S) (now : ℕ) → comes asker now ≡ replied_at asker now (Some infos))
   RepliesToBits IsKey IsSignature spelling comes (Err ended) = (infos_applied ended ≡ None)
       × ((asker : Standing C S) (now : ℕ) → IsExchangeAnswer true (comes asker now) ended)
+
+  -- this holds, unless memory was refused
+  abbrev pub UnlessRefused : Type 0 → Exchanged C S → Type 0
+  UnlessRefused P r = (r ≡ exchanged.Memory) ⊎ P
+
+  -- .. where there is a reply, or an end of the exchange
+  abbrev pub UnlessReplyRefused : Type 0 → Result (List ℕ) (Exchanged C S) → Type 0
+  UnlessReplyRefused P (Ok frame) = P
+  UnlessReplyRefused P (Err ended) = UnlessRefused P ended

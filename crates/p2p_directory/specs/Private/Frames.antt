@@ -1,6 +1,6 @@
 -- Frames: what has a spelling, what is answered where one cannot be read, and what is read of one
 -- that was spelled.
-use Rattle.std.specs.Prelude.{ℕ, ◌≡◌, ◌<◌, ◌^◌, Bool, true, false, ◌⊎◌, List, length}
+use Rattle.std.specs.Prelude.{ℕ, ◌≡◌, Bool, true, false, ◌⊎◌, List}
 use Rattle.std.specs.Prelude.{Result, Ok, Err}
 use Rattle.p2p_discovery.specs.declared.codec.error.CodecError.{CodecError}
 use Rattle.p2p_discovery.specs.declared.codec.error.CodecError.TheVariants.{InvalidLength, Memory}
@@ -10,23 +10,12 @@ use Rattle.p2p_discovery.specs.declared.discovery.Payload.{Payload}
 use Rattle.p2p_discovery.specs.declared.discovery.Payload.TheVariants as said
 use Rattle.p2p_directory.specs.declared.node.Received.{Received}
 use Rattle.p2p_directory.specs.declared.node.Received.TheVariants as received
-use Rattle.p2p_directory.specs.Nodes.{AreValues}
+use Rattle.p2p_directory.specs.Exchange.{HasSpelling, HaveSpelling}
 
 -- a fault, or want of memory
 abbrev pub fault_answer : CodecError → Received
 fault_answer Memory = received.Memory
 fault_answer e = received.Codec e
-
--- bits have a spelling: their index and their number fit
-pub record HasSpelling (v : BitVec) : Type 0 where
-  pub index : v.index < 2 ^ 64
-  pub count : length v.bits < 2 ^ 64
-
--- infos have a spelling: their number fits, and they are made of values of their types
-pub record HaveSpelling {C S : Type 0} (IsKey : C → Type 0) (IsSignature : S → Type 0)
-    (infos : List (Info C S)) : Type 0 where
-  pub count : length infos < 2 ^ 32
-  pub values : AreValues IsKey IsSignature infos
 
 -- a frame spells bits, as payloads are spelled
 abbrev pub SpellsBits : {C S : Type 0} → (Payload C S → List ℕ) → List ℕ → Type 0

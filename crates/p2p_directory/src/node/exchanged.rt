@@ -3,7 +3,8 @@
 ghost use Rattle.std.specs.Prelude.{◌≡◌, None};
 ghost use Rattle.std.specs.Duration.{as_nanos};
 ghost use Rattle.p2p_directory.specs.Received.{wire_of};
-ghost use Rattle.p2p_directory.specs.Exchange.{Exchanges, IsExchanged, infos_applied};
+ghost use Rattle.p2p_directory.specs.Exchange.{Exchanges, IsExchanged, Carries};
+ghost use Rattle.p2p_directory.specs.Exchange.{infos_applied};
 
 use crate::node::Node;
 use p2p_discovery::codec::{CodecError, PublicKey};
@@ -47,9 +48,9 @@ impl<C: PublicKey> fmt::Debug for Exchanged<C> {
 
 /// The asker asks the replier for the wanted infos of the asker's retained set at a position,
 /// counted from 0 in order of index, and applies the reply. This is [`Node::ask`] of the asker,
-/// [`Node::receive`] of that frame by the replier, and of its reply by the asker. The replier
-/// replies at `replier_now`, and the asker verifies at `asker_now`, durations since the epoch. The
-/// replier stays as it was.
+/// [`Node::receive`] of that frame by the replier, and of its reply by the asker: the result is
+/// read off theirs, and the asker is left as by the last. The replier replies at `replier_now`, and
+/// the asker verifies at `asker_now`, durations since the epoch. The replier stays as it was.
 ///
 /// The result is the first of these that holds, unless an allocation fails:
 ///
@@ -86,6 +87,10 @@ pub fn exchange<C: PublicKey>(
         asker.old replier.now asker.new }
     ensures unchanged { infos_applied result ≡ None → asker.new ≡ asker.old }
     ensures exchanged { IsExchanged C.cmp (wire_of C.SIZE C.spelled C.value
+        C.Signature.SIZE C.Signature.spelled C.Signature.value C.verifies)
+        place (as_nanos asker_now) (as_nanos replier_now) result
+        asker.old replier.now asker.new }
+    ensures carried { Carries C.cmp (wire_of C.SIZE C.spelled C.value
         C.Signature.SIZE C.Signature.spelled C.Signature.value C.verifies)
         place (as_nanos asker_now) (as_nanos replier_now) result
         asker.old replier.now asker.new }

@@ -1,6 +1,7 @@
 //! An exchange of infos: the asker's bits and the replier's infos are encoded, and read.
 
-ghost use Rattle.std.specs.Prelude.{◌≡◌, ◌<◌, ◌^◌, true, None, Some, List, IfOk, length, nat_lt};
+ghost use Rattle.std.specs.Prelude.{◌≡◌, ◌<◌, ◌^◌, true, None, Some, List, IfOk, IfSome, length};
+ghost use Rattle.std.specs.Prelude.{nat_lt};
 ghost use Rattle.std.specs.Duration.{as_nanos};
 ghost use Rattle.p2p_discovery.specs.declared.discovery.BitVec.{BitVec};
 ghost use Rattle.p2p_discovery.specs.declared.discovery.Info.{Info};
@@ -14,8 +15,10 @@ ghost use Rattle.p2p_directory.specs.Exchange.{asked_at, replied_at, judged_at, 
 ghost use Rattle.p2p_directory.specs.Exchange.{infos_applied, Exchanges};
 ghost use Rattle.p2p_directory.specs.Private.Endpoints.{node_of};
 ghost use Rattle.p2p_directory.specs.Private.Exchanging.{RepliesToBits, ask_fault, reply_fault};
-ghost use Rattle.p2p_directory.specs.Private.Frames.{HasSpelling, HaveSpelling, IsReadBack};
-ghost use Rattle.p2p_directory.specs.Private.Frames.{SpellsBits, SpellsInfos};
+ghost use Rattle.p2p_directory.specs.Private.Exchanging.{UnlessRefused, UnlessReplyRefused};
+ghost use Rattle.p2p_directory.specs.Exchange.{HasSpelling, HaveSpelling, CanBeReplied};
+ghost use Rattle.p2p_directory.specs.Exchange.{CanBeSpelled};
+ghost use Rattle.p2p_directory.specs.Private.Frames.{SpellsBits, SpellsInfos, IsReadBack};
 
 use crate::node::endpoint::Endpoint;
 use crate::node::exchanged::Exchanged;
@@ -40,6 +43,11 @@ impl<C: PublicKey> Endpoint<C> {
             (node_of self.old) (node_of replier.now) (node_of self.new) }
         ensures unchanged { infos_applied result ≡ None → self.new ≡ self.old }
         ensures slots { self.new.slots ≡ self.old.slots }
+        ensures spelled { let wire = wire_of C.SIZE C.spelled C.value
+            C.Signature.SIZE C.Signature.spelled C.Signature.value C.verifies in
+            UnlessRefused (CanBeSpelled C.IsValue C.Signature.IsValue
+            (standing_of C.cmp wire (node_of self.old)) (standing_of C.cmp wire (node_of replier.now))
+            place (as_nanos replier_now)) result }
     {
         match self.ask(place) {
             Ok(Some(frame)) => self.hand_to(replier, frame, asker_now, replier_now),
@@ -68,6 +76,12 @@ impl<C: PublicKey> Endpoint<C> {
             (node_of self.old) (infos_applied result) (node_of self.new) }
         ensures unchanged { infos_applied result ≡ None → self.new ≡ self.old }
         ensures slots { self.new.slots ≡ self.old.slots }
+        ensures spelled { (v : BitVec) → HasSpelling v →
+            frame ≡ payload_spelling C.spelled C.Signature.spelled (said.BitVec v) →
+            UnlessRefused (CanBeReplied C.IsValue C.Signature.IsValue
+            (standing_of C.cmp (wire_of C.SIZE C.spelled C.value
+            C.Signature.SIZE C.Signature.spelled C.Signature.value C.verifies)
+            (node_of replier.now)) (as_nanos replier_now) v) result }
     {
         match replier.reply_to(frame, replier_now) {
             Ok(reply) => self.take_reply(reply, asker_now),
@@ -78,13 +92,19 @@ impl<C: PublicKey> Endpoint<C> {
     // The replier's part: reads a frame of bits, and replies.
     fn reply_to(&self, frame: Bytes, now: Duration) -> Result<Bytes, Exchanged<C>>
         requires { SpellsBits (payload_spelling C.spelled C.Signature.spelled) frame }
-        ensures { (v : BitVec) → HasSpelling v →
+        ensures replies { (v : BitVec) → HasSpelling v →
             frame ≡ payload_spelling C.spelled C.Signature.spelled (said.BitVec v) →
             RepliesToBits C.IsValue C.Signature.IsValue
             (payload_spelling C.spelled C.Signature.spelled)
             (λ asker asker_now. asked_at asker (standing_of C.cmp (wire_of C.SIZE C.spelled C.value
             C.Signature.SIZE C.Signature.spelled C.Signature.value C.verifies)
             (node_of self.now)) asker_now (as_nanos now) (Some v)) result }
+        ensures spelled { (v : BitVec) → HasSpelling v →
+            frame ≡ payload_spelling C.spelled C.Signature.spelled (said.BitVec v) →
+            UnlessReplyRefused (CanBeReplied C.IsValue C.Signature.IsValue
+            (standing_of C.cmp (wire_of C.SIZE C.spelled C.value
+            C.Signature.SIZE C.Signature.spelled C.Signature.value C.verifies)
+            (node_of self.now)) (as_nanos now) v) result }
     {
         match self.read(frame) {
             Ok(Payload::BitVec(bits)) => self.reply_with(&bits, now),
@@ -96,11 +116,14 @@ impl<C: PublicKey> Endpoint<C> {
     // Replies to bits with a frame of the infos for them.
     fn reply_with(&self, bits: &BitVec, now: Duration) -> Result<Bytes, Exchanged<C>>
         requires { length bits.now.bits < 2 ^ 32 }
-        ensures { RepliesToBits C.IsValue C.Signature.IsValue
+        ensures replies { RepliesToBits C.IsValue C.Signature.IsValue
             (payload_spelling C.spelled C.Signature.spelled)
             (λ asker asker_now. replied_at asker asker_now
             (infos_in C.cmp self.now.directory bits.now.index bits.now.bits (as_nanos now)))
             result }
+        ensures spelled { UnlessReplyRefused (IfSome
+            (infos_in C.cmp self.now.directory bits.now.index bits.now.bits (as_nanos now))
+            (HaveSpelling C.IsValue C.Signature.IsValue)) result }
     {
         match self.reply_frame(bits, now) {
             Ok(Some(reply)) => Ok(reply),

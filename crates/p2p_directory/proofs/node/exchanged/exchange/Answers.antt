@@ -2,6 +2,7 @@ use Rattle.std.specs.Duration.{as_nanos}
 use Rattle.p2p_directory.specs.Received.{wire_of}
 use Rattle.p2p_directory.specs.Nodes.{made_of}
 use Rattle.p2p_directory.specs.Private.Endpoints.{node_of}
+use Rattle.p2p_directory.proofs.Nodes.Carried.{carries}
 use Rattle.p2p_directory.proofs.Nodes.Worlds.{exchanged_in}
 use Rattle.p2p_directory.proofs.node.exchanged.exchange.Goals as goal
 
@@ -13,3 +14,10 @@ returns-clause-exchanged g c = rw (← c.asker.view_is, ← c.replier.view_is) (
     cs ds (node_of c.asker.inside.endpoint) (node_of c.replier.inside.endpoint) at there given.cfg.max_sets.ok
     c.args.place (as_nanos c.args.asker_now) (as_nanos c.args.replier_now)
     c.exchange_with.result (node_of c.exchange_with.new.self) c.exchange_with.ensures.seen.answer c.exchange_with.ensures.seen.left)
+
+pub returns-clause-carried : goal.returns-clause-carried
+returns-clause-carried g c = rw (← c.asker.view_is, ← c.replier.view_is)
+    (carries g.met.C.FixedBytes.fixed g.met.C.Signature.FixedBytes.fixed g.C.PublicKey.verifies g.C.Ord.cmp
+    c.args.place (as_nanos c.args.asker_now) (as_nanos c.args.replier_now) c.exchange_with.result
+    (node_of c.asker.inside.endpoint) (node_of c.replier.inside.endpoint) (node_of c.exchange_with.new.self)
+    c.exchange_with.ensures.seen c.exchange_with.ensures.spelled)

@@ -4,7 +4,7 @@ use Rattle.p2p_discovery.specs.Payload.{payload_spelling}
 use Rattle.p2p_directory.specs.Received.{wire_of}
 use Rattle.p2p_directory.specs.Nodes.{standing_of}
 use Rattle.p2p_directory.specs.Private.Endpoints.{node_of}
-use Rattle.p2p_directory.proofs.Nodes.Exchanging.{handed}
+use Rattle.p2p_directory.proofs.Nodes.Exchanging.{handed, all_spelled}
 use Rattle.p2p_directory.proofs.node.endpoint.Endpoint.exchange_with.Goals as goal
 
 pub returns-in-Ok-Some-clause-seen : goal.returns-in-Ok-Some-clause-seen
@@ -21,3 +21,16 @@ returns-in-Ok-Some-clause-seen g c =
           c.in-Ok-Some.ensures.spelled c.hand_to.ensures.answer;
       left = c.hand_to.ensures.left;
     }
+
+pub returns-in-Ok-Some-clause-spelled : goal.returns-in-Ok-Some-clause-spelled
+returns-in-Ok-Some-clause-spelled g c =
+    let wire = wire_of g.C.FixedBytes.SIZE g.C.FixedBytes.spelled g.C.FixedBytes.value
+    g.C.Signature.FixedBytes.SIZE g.C.Signature.FixedBytes.spelled g.C.Signature.FixedBytes.value
+    g.C.PublicKey.verifies in
+    all_spelled g.C.FixedBytes.IsValue g.C.Signature.FixedBytes.IsValue
+    (payload_spelling g.C.FixedBytes.spelled g.C.Signature.FixedBytes.spelled)
+    (standing_of g.C.Ord.cmp wire (node_of c.args.self.now))
+    (standing_of g.C.Ord.cmp wire (node_of c.args.replier.now))
+    c.args.place (as_nanos c.args.replier_now) c.in-Ok-Some.frame
+    c.hand_to.result _ refl (sym c.in-Ok-Some.field-0-is ∙ c.in-Ok-Some.ensures.seen.frame)
+    c.in-Ok-Some.ensures.spelled c.hand_to.ensures.spelled

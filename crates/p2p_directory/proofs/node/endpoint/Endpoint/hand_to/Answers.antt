@@ -6,7 +6,7 @@ use Rattle.p2p_directory.proofs.node.endpoint.Endpoint.hand_to.Goals as goal
 
 pub returns-in-Err-clause-answer : goal.returns-in-Err-clause-answer
 returns-in-Err-clause-answer g c = λ v fits spelled.
-    (c.in-Err.ensures v fits spelled).1
+    (c.in-Err.ensures.replies v fits spelled).1
     (standing_of g.C.Ord.cmp
     (wire_of g.C.FixedBytes.SIZE g.C.FixedBytes.spelled g.C.FixedBytes.value g.C.Signature.FixedBytes.SIZE
     g.C.Signature.FixedBytes.spelled g.C.Signature.FixedBytes.value g.C.PublicKey.verifies)

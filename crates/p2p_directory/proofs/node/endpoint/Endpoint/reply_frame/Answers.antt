@@ -3,7 +3,7 @@ use Rattle.std.specs.Prelude.{IfSome}
 use Rattle.std.specs.Option.{option_map}
 use Rattle.std.specs.Duration.{as_nanos}
 use Rattle.p2p_tracker.specs.Directory.{infos_in}
-use Rattle.p2p_directory.specs.Private.Frames.{HaveSpelling}
+use Rattle.p2p_directory.specs.Exchange.{HaveSpelling}
 use Rattle.p2p_tracker.proofs.SetsAndRecords.Shared.{few_told}
 use Rattle.p2p_directory.proofs.node.endpoint.Endpoint.reply_frame.Goals as goal
 
