@@ -9,7 +9,8 @@ use Rattle.p2p_directory.specs.Network.{Done}
 use Rattle.p2p_directory.specs.Pairs.{two, commands_in, replies_in}
 use Rattle.p2p_directory.specs.Laws.Network as network
 use Rattle.p2p_directory.specs.Laws.Network.{AtEachPoint, OfEachReply, GivesSigned, HoldSigned}
-use Rattle.p2p_directory.specs.Laws.Network.{CarriesExchange, TakesGreeting, RepliesInfos, TakesFrame}
+use Rattle.p2p_directory.specs.Laws.Network.{CarriesExchange, TakesGreeting, RepliesInfos}
+use Rattle.p2p_directory.specs.Laws.Network.{TakesFrame}
 
 module _ {C S : Type 0} (wire : Wire C S) (left right : Made C S) where
   -- each exchange of a run
