@@ -307,10 +307,10 @@ pub fn infos_may_come_late<C: PublicKey>()
         TakesLateAt wire C.IsValue C.Signature.IsValue m calls frame now r }
 {}
 
-/// An exchange is carried as bytes. If all that is told in it has an encoding, it comes to what three
-/// frames come to: that of [`Node::ask`](crate::node::Node::ask), the replier's result of
-/// [`Node::receive`](crate::node::Node::receive) for that frame, and the asker's for the reply. This
-/// holds in each of the six cases, and the frames come to nothing else.
+/// An exchange is carried as bytes. If all that is shared in it has an encoding, it comes to what
+/// three frames come to: that of [`Node::ask`](crate::node::Node::ask), the replier's result of
+/// [`Node::receive`](crate::node::Node::receive) for that frame, and the asker's for the reply.
+/// This holds in each of the six cases, and the frames come to nothing else.
 ///
 /// Applied infos are those that the asker's `receive` applies, and as many as it returns.
 pub fn exchanges_are_carried<C: PublicKey>()

@@ -13,7 +13,7 @@ use Rattle.p2p_directory.specs.Received.{Wire}
 use Rattle.p2p_directory.specs.Nodes.{Made, NodeView, NodeStandsAt, made_of}
 use Rattle.p2p_directory.specs.Network.{Done, IsNetworkAnswer, AreNetworkAnswers, done_after}
 use Rattle.p2p_directory.specs.Network.{StandAfter, node_made, AreReleased}
-use Rattle.p2p_directory.specs.Laws.Network.{IsWritten, AreWritten}
+use Rattle.p2p_directory.specs.Laws.Network.{OfEachReply}
 use Rattle.p2p_directory.specs.Private.Endpoints.{EndpointView, node_of}
 use Rattle.p2p_directory.specs.Private.Networks.{nodes_of, IsAnsweredAt}
 
@@ -128,15 +128,14 @@ module _ {C S : Type 0} (wire : Wire C S) (size : ℕ) (node : ℕ → Made C S)
         served.stand,
   )
 
-  -- what is told with one more reply has a spelling, too
-  module _ (IsKey : C → Type 0) (IsSignature : S → Type 0) where
-    pub written_push : (done : Done C S) (cs : List (NetworkCommand C S))
-        (rs : List (NetworkReply C S)) (c : NetworkCommand C S) (r : NetworkReply C S) →
-        AreNetworkAnswers wire size node done cs rs → AreWritten wire size node IsKey IsSignature done cs rs →
-        IsWritten wire size node IsKey IsSignature (done_after wire size node done cs rs) c r →
-        AreWritten wire size node IsKey IsSignature done (cs ++ c ∷ []) (rs ++ r ∷ [])
-    written_push done [] [] c r h told last = (last, tt)
-    written_push done [] (q ∷ rs) c r h told last = absurd h
-    written_push done (b ∷ cs) [] c r h told last = absurd h
-    written_push done (b ∷ cs) (q ∷ rs) c r h told last =
-        (told.0, written_push ((b, q) ∷ done) cs rs c r h.1 told.1 last)
+  -- a law of one reply holds of one more reply, too
+  pub reply_push : (P : Done C S → NetworkCommand C S → NetworkReply C S → Type 0) (done : Done C S)
+      (cs : List (NetworkCommand C S)) (rs : List (NetworkReply C S)) (c : NetworkCommand C S) (r : NetworkReply C S) →
+      AreNetworkAnswers wire size node done cs rs → OfEachReply wire size node P done cs rs →
+      P (done_after wire size node done cs rs) c r →
+      OfEachReply wire size node P done (cs ++ c ∷ []) (rs ++ r ∷ [])
+  reply_push P done [] [] c r h each last = (last, tt)
+  reply_push P done [] (q ∷ rs) c r h each last = absurd h
+  reply_push P done (b ∷ cs) [] c r h each last = absurd h
+  reply_push P done (b ∷ cs) (q ∷ rs) c r h each last =
+      (each.0, reply_push P ((b, q) ∷ done) cs rs c r h.1 each.1 last)

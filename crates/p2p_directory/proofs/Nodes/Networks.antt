@@ -32,7 +32,7 @@ use Rattle.p2p_directory.specs.Network.{Done, changed_by, calls_then, is_node, c
 use Rattle.p2p_directory.specs.Network.{standing_at, StandAfter, IsNetworkAnswer}
 use Rattle.p2p_directory.specs.Network as network
 use Rattle.p2p_directory.specs.Laws.Network.{IsWritten}
-use Rattle.p2p_directory.specs.Exchange.{Exchanges, IsExchangedAt}
+use Rattle.p2p_directory.specs.Exchange.{Carries, Exchanges, IsExchangedAt}
 use Rattle.p2p_directory.specs.Private.Endpoints.{EndpointView, node_of, IsEndpointServedAt}
 use Rattle.p2p_directory.specs.Private.Networks.{nodes_of, reply_to_ask, HasRoomFor, GrowSlots}
 use Rattle.p2p_directory.specs.Private.Networks.{KeepSlots, IsAnsweredAt, ExchangesAmong}
@@ -336,16 +336,20 @@ pub exchanged_among : {C S : Type 0} (cmp : C → C → Ordering) (wire : Wire C
     (a b left : EndpointView C S) → es2 ≡ slice_set es asker left →
     ((e : EndpointView C S) → a ≡ slice_index_or es asker e) →
     ((e : EndpointView C S) → b ≡ slice_index_or es replier e) →
-    Exchanges cmp wire place s t r (node_of a) (node_of b) (node_of left) → left.slots ≡ a.slots →
+    Exchanges cmp wire place s t r (node_of a) (node_of b) (node_of left) →
+    Carries cmp wire place s t r (node_of a) (node_of b) (node_of left) → left.slots ≡ a.slots →
     ExchangesAmong cmp wire asker replier place s t r es es2
 exchanged_among {C} {S} cmp wire asker replier place s t r es es2 a b left rest of_a of_b seen
-    same =
+    carried same =
     record {
       left = left;
       rest = rest;
       seen = λ e. subst (λ (x : EndpointView C S × EndpointView C S).
           Exchanges cmp wire place s t r (node_of x.0) (node_of x.1) (node_of left))
           (λ i. (of_a e i, of_b e i)) seen;
+      carried = λ e. subst (λ (x : EndpointView C S × EndpointView C S).
+          Carries cmp wire place s t r (node_of x.0) (node_of x.1) (node_of left))
+          (λ i. (of_a e i, of_b e i)) carried;
       slots = λ e. same ∙ ap (λ (x : EndpointView C S). x.slots) (of_a e);
     }
 

@@ -22,7 +22,7 @@ use Rattle.p2p_directory.specs.Exchange.{exchanged_at, infos_applied, IsExchange
 use Rattle.p2p_directory.specs.Nodes.{Made, NodeView, NodeStandsAt, IsAnsweredAt, IsReceivedAt, IsReceivedByAt, IsAskedAt}
 use Rattle.p2p_directory.specs.Nodes.{standing_of, standing_in, calls_with, IsLeft, Answers}
 use Rattle.p2p_directory.specs.Nodes.{AsksWith, AreValues}
-use Rattle.p2p_directory.specs.Exchange.{HasSpelling}
+use Rattle.p2p_directory.specs.Exchange.{HasSpelling, ExchangeOutcome, IsCarried}
 use Rattle.p2p_directory.proofs.Definitions.Law
 use Rattle.p2p_directory.proofs.LawsOfRuns.Forgotten
 use Rattle.p2p_directory.proofs.Refinement.KnowledgeRefines
@@ -126,3 +126,12 @@ module _ {C S : Type 0} (m n : Made C S) (wire : Wire C S) (cs ds : List (Call C
         answer);
     left = left_at m wire cs a at some (infos_applied r) a2 left;
   }
+
+  -- what its frames come to
+  pub carried_in : (place s t : ℕ) (o : ExchangeOutcome C S) →
+      IsCarried wire (standing_of m.directory.cmp wire a) (standing_of n.directory.cmp wire b) place s t o →
+      IsCarried wire (standing_in m wire (world_after m.directory cs)) (standing_in n wire (world_after n.directory ds)) place s t o
+  carried_in place s t o carried =
+      let asker = standing_in m wire (world_after m.directory cs) in
+      subst (λ replier. IsCarried wire asker replier place s t o) (stands_alike n wire ds b there)
+      (subst (λ asker. IsCarried wire asker (standing_of n.directory.cmp wire b) place s t o) (stands_alike m wire cs a at) carried)

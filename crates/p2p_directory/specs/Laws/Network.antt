@@ -26,7 +26,8 @@ use Rattle.p2p_directory.specs.Received.{Wire, applies, received_at, told_with}
 use Rattle.p2p_tracker.specs.Answers.{is_present_in, set_at_place, set_with_index, infos_for}
 use Rattle.p2p_tracker.specs.Answers.{bits_of, epoch_millis, sharable_info}
 use Rattle.p2p_directory.specs.Nodes.{Made, AreValues}
-use Rattle.p2p_directory.specs.Exchange.{infos_applied}
+use Rattle.p2p_directory.specs.Exchange.{ExchangeOutcome, IsExchangeAnswer, infos_applied}
+use Rattle.p2p_directory.specs.Exchange.{IsCarried}
 use Rattle.p2p_directory.specs.Network.{infos_of_frame}
 use Rattle.p2p_directory.specs.Network.{Done, changed_by, is_node, calls_at, world_at_node}
 use Rattle.p2p_directory.specs.Network.{standing_at, IsNetworkAnswer}
@@ -258,6 +259,14 @@ module _ {C S : Type 0} (wire : Wire C S) (size : ℕ) (node : ℕ → Made C S)
       (command.Exchange asker replier place asker_now replier_now) r
       (infos_to_bring done asker replier (as_nanos replier_now) x)
   BringsWanted done _ _ = Unit {0}
+
+  -- the outcome of an exchange is what its frames come to, unless memory was refused
+  abbrev pub CarriesExchange : Done C S → NetworkCommand C S → NetworkReply C S → Type 0
+  CarriesExchange done (command.Exchange asker replier place asker_now replier_now)
+      (reply.Exchange r) = (o : ExchangeOutcome C S) → IsExchangeAnswer false o r →
+      IsCarried wire (standing_at wire size node done asker)
+      (standing_at wire size node done replier) place (as_nanos asker_now) (as_nanos replier_now) o
+  CarriesExchange done _ _ = Unit {0}
 
   -- a greeting with the own info of any node is taken by another for which it is signed, want of
   -- memory aside, where their keys differ and its timestamp is within the bound

@@ -9,13 +9,19 @@ use Rattle.p2p_directory.specs.Network.{Done}
 use Rattle.p2p_directory.specs.Pairs.{two, commands_in, replies_in}
 use Rattle.p2p_directory.specs.Laws.Network as network
 use Rattle.p2p_directory.specs.Laws.Network.{AtEachPoint, OfEachReply, GivesSigned, HoldSigned}
-use Rattle.p2p_directory.specs.Laws.Network.{TakesGreeting, RepliesInfos, TakesFrame}
+use Rattle.p2p_directory.specs.Laws.Network.{CarriesExchange, TakesGreeting, RepliesInfos}
+use Rattle.p2p_directory.specs.Laws.Network.{TakesFrame}
 
 module _ {C S : Type 0} (wire : Wire C S) (left right : Made C S) where
   -- each exchange of a run
   abbrev pub KeepPairExchanges : Done C S → List (PairCommand C S) → List (PairReply C S) → Type 0
   KeepPairExchanges done cs rs =
       network.KeepExchanges wire 2 (two left right) done (commands_in cs) (replies_in rs)
+
+  -- .. as frames
+  abbrev pub KeepCarried : Done C S → List (PairCommand C S) → List (PairReply C S) → Type 0
+  KeepCarried done cs rs = let node = two left right in
+      OfEachReply wire 2 node (CarriesExchange wire 2 node) done (commands_in cs) (replies_in rs)
 
   -- what is given and what is held at each point of a run, the last one too
   abbrev pub KeepSigned : Done C S → List (PairCommand C S) → List (PairReply C S) → Type 0

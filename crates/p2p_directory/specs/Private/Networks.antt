@@ -10,10 +10,10 @@ use Rattle.p2p_directory.specs.declared.node.network.NetworkReply.{NetworkReply}
 use Rattle.p2p_directory.specs.declared.node.network.NetworkReply.TheVariants as reply
 use Rattle.p2p_directory.specs.declared.node.exchanged.Exchanged.{Exchanged}
 use Rattle.p2p_directory.specs.Received.{Wire}
-use Rattle.p2p_directory.specs.Exchange.{Exchanges}
+use Rattle.p2p_directory.specs.Exchange.{Exchanges, Carries}
 use Rattle.p2p_directory.specs.Nodes.{NodeView, Made}
 use Rattle.p2p_directory.specs.Network.{Done, OfNetwork, StandAfter, IsNetworkAnswer}
-use Rattle.p2p_directory.specs.Laws.Network.{IsWritten}
+use Rattle.p2p_directory.specs.Laws.Network.{IsWritten, CarriesExchange}
 use Rattle.p2p_directory.specs.Private.Endpoints.{EndpointView, node_of}
 use Rattle.p2p_directory.specs.Private.Serving.{has_slot_for}
 use Rattle.p2p_directory.specs.Private.Slots.{has_slot}
@@ -77,6 +77,13 @@ IsNetworkWritten {C} {S} cmp wire IsKey IsSignature c r vs =
     OfNetwork cmp setups (λ size node. StandAfter wire size node done vs →
     IsWritten wire size node IsKey IsSignature done c r)
 
+-- .. the outcome of an exchange is what its frames come to
+abbrev pub IsNetworkCarried : {C S : Type 0} → (C → C → Ordering) → Wire C S →
+    NetworkCommand C S → NetworkReply C S → List (NodeView C S) → Type 0
+IsNetworkCarried {C} {S} cmp wire c r vs = (setups : List (Setup C S)) (done : Done C S) →
+    OfNetwork cmp setups (λ size node. StandAfter wire size node done vs →
+    CarriesExchange wire size node done c r)
+
 -- the asker exchanges infos with the replier, at their moments s and t, and all else stays: es
 -- before it, es2 after it
 pub record ExchangesAmong {C S : Type 0} (cmp : C → C → Ordering) (wire : Wire C S)
@@ -85,5 +92,7 @@ pub record ExchangesAmong {C S : Type 0} (cmp : C → C → Ordering) (wire : Wi
   pub left : EndpointView C S
   pub rest : es2 ≡ slice_set es asker left
   pub seen : (e : EndpointView C S) → Exchanges cmp wire place s t r
+      (node_of (slice_index_or es asker e)) (node_of (slice_index_or es replier e)) (node_of left)
+  pub carried : (e : EndpointView C S) → Carries cmp wire place s t r
       (node_of (slice_index_or es asker e)) (node_of (slice_index_or es replier e)) (node_of left)
   pub slots : (e : EndpointView C S) → left.slots ≡ (slice_index_or es asker e).slots

@@ -12,7 +12,7 @@ ghost use Rattle.p2p_directory.specs.Network.{IsNetworkServed, IsServedAmong, Ar
 ghost use Rattle.p2p_directory.specs.Network.{IsAdded, IsReplaced};
 ghost use Rattle.p2p_directory.specs.Laws.Network.{KeepExchanges, AtEachPoint, OfEachReply};
 ghost use Rattle.p2p_directory.specs.Laws.Network.{Provenance, GivesSigned, HoldSigned};
-ghost use Rattle.p2p_directory.specs.Laws.Network.{OnlyGetNewer, Reach};
+ghost use Rattle.p2p_directory.specs.Laws.Network.{OnlyGetNewer, Reach, CarriesExchange};
 ghost use Rattle.p2p_directory.specs.Laws.Network.{Acquaint, TakesGreeting, RepliesInfos};
 ghost use Rattle.p2p_directory.specs.Laws.Network.{TakesFrame, LeavesOtherNodes, Isolate, Reorder};
 ghost use Rattle.p2p_directory.specs.Private.Endpoints.{node_of};
@@ -382,6 +382,8 @@ impl<C: PublicKey> NetworkRun<C> {
 ///   replier's time is at most the asker's bound after the asker's. Afterwards the asker's info of
 ///   each of their peers is at least as new. The same exchange directly repeated is `Applied` and
 ///   changes nothing at any node, unless an allocation fails.
+/// - Frames: each result of an exchange, of any infos, is what its three frames come to, as for
+///   [`exchange`](crate::node::exchange), unless an allocation fails.
 /// - Provenance: each info that is given to a node, or that it holds, was passed in. Gossip invents
 ///   nothing.
 /// - Given: if all infos passed in are signed in the namespaces of one node or of two, so are all
@@ -452,6 +454,11 @@ pub fn run_network<C: PublicKey>(
         let wire = wire_of C.SIZE C.spelled C.value
         C.Signature.SIZE C.Signature.spelled C.Signature.value C.verifies in
         KeepExchanges wire size node
+        [] commands.items run.replies.items)) }
+    ensures carried { IfOk result (λ run. OfNetwork C.cmp setups.items (λ size node.
+        let wire = wire_of C.SIZE C.spelled C.value
+        C.Signature.SIZE C.Signature.spelled C.Signature.value C.verifies in
+        OfEachReply wire size node (CarriesExchange wire size node)
         [] commands.items run.replies.items)) }
     ensures provenance { IfOk result (λ run. OfNetwork C.cmp setups.items (λ size node.
         let wire = wire_of C.SIZE C.spelled C.value

@@ -11,7 +11,7 @@ ghost use Rattle.p2p_directory.specs.Pairs.{ArePairAnswers, calls_left, commands
 ghost use Rattle.p2p_directory.specs.Pairs.{replies_in, reply_in};
 ghost use Rattle.p2p_directory.specs.Pairs as pairs;
 ghost use Rattle.p2p_directory.specs.Laws.TwoNodes.{KeepPairExchanges, KeepSigned, KeepGreetings};
-ghost use Rattle.p2p_directory.specs.Laws.TwoNodes.{KeepReplies, KeepLate};
+ghost use Rattle.p2p_directory.specs.Laws.TwoNodes.{KeepReplies, KeepLate, KeepCarried};
 ghost use Rattle.p2p_directory.specs.Private.Networks.{is_of_node};
 
 use crate::node::exchanged::Exchanged;
@@ -112,6 +112,8 @@ pub struct PairRun<C: PublicKey> {
 ///   replier's time is at most the asker's bound after the asker's. Afterwards the asker's info of
 ///   each of their peers is at least as new. The same exchange directly repeated is `Applied` and
 ///   changes nothing, unless an allocation fails.
+/// - Frames: each result of an exchange, of any infos, is what its three frames come to, as for
+///   [`exchange`](crate::node::exchange), unless an allocation fails.
 /// - Infos: each info that either node holds is signed in the namespaces of both.
 /// - Greetings: a frame with the greeting of the other node's local info is `Greeted`, unless an
 ///   allocation fails, if the local keys differ and its timestamp is within the bound.
@@ -164,6 +166,9 @@ pub fn run_pair<C: PublicKey>(
         (made_of C.cmp left) (made_of C.cmp right) commands.items run.replies.items side.Right)
         run.right) }
     ensures exchanges { IfOk result (λ run. KeepPairExchanges (wire_of C.SIZE C.spelled C.value
+        C.Signature.SIZE C.Signature.spelled C.Signature.value C.verifies)
+        (made_of C.cmp left) (made_of C.cmp right) [] commands.items run.replies.items) }
+    ensures carried { IfOk result (λ run. KeepCarried (wire_of C.SIZE C.spelled C.value
         C.Signature.SIZE C.Signature.spelled C.Signature.value C.verifies)
         (made_of C.cmp left) (made_of C.cmp right) [] commands.items run.replies.items) }
     ensures infos { IfOk result (λ run. KeepSigned (wire_of C.SIZE C.spelled C.value

@@ -46,8 +46,8 @@ impl<C: PublicKey> Endpoint<C> {
         ensures spelled { let wire = wire_of C.SIZE C.spelled C.value
             C.Signature.SIZE C.Signature.spelled C.Signature.value C.verifies in
             UnlessRefused (CanBeSpelled C.IsValue C.Signature.IsValue
-            (standing_of C.cmp wire (node_of self.old)) (standing_of C.cmp wire (node_of replier.now))
-            place (as_nanos replier_now)) result }
+            (standing_of C.cmp wire (node_of self.old))
+            (standing_of C.cmp wire (node_of replier.now)) place (as_nanos replier_now)) result }
     {
         match self.ask(place) {
             Ok(Some(frame)) => self.hand_to(replier, frame, asker_now, replier_now),

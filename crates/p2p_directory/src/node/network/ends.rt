@@ -8,7 +8,7 @@ ghost use Rattle.p2p_directory.specs.Received.{wire_of};
 ghost use Rattle.p2p_directory.specs.Network.{IsNetworkServed, IsServedAmong};
 ghost use Rattle.p2p_directory.specs.Private.Networks.{nodes_of, HasRoomFor, GrowSlots, KeepSlots};
 ghost use Rattle.p2p_directory.specs.Private.Networks.{IsNetworkAnswered, IsNetworkWritten};
-ghost use Rattle.p2p_directory.specs.Private.Networks.{ExchangesAmong};
+ghost use Rattle.p2p_directory.specs.Private.Networks.{IsNetworkCarried, ExchangesAmong};
 ghost use Rattle.p2p_directory.specs.Private.Networks as networks;
 
 use crate::node::endpoint::Endpoint;
@@ -86,6 +86,9 @@ pub fn serve<C: PublicKey>(ends: &mut [Endpoint<C>], command: NetworkCommand<C>)
     ensures written { IsNetworkWritten C.cmp (wire_of C.SIZE C.spelled C.value
         C.Signature.SIZE C.Signature.spelled C.Signature.value C.verifies)
         C.IsValue C.Signature.IsValue command result (nodes_of ends.old) }
+    ensures carried { IsNetworkCarried C.cmp (wire_of C.SIZE C.spelled C.value
+        C.Signature.SIZE C.Signature.spelled C.Signature.value C.verifies)
+        command result (nodes_of ends.old) }
     ensures slots { KeepSlots C.cmp ends.old ends.new }
 {
     match command {
@@ -206,6 +209,10 @@ pub fn exchange<C: PublicKey>(
         C.Signature.SIZE C.Signature.spelled C.Signature.value C.verifies)
         (NetworkCommand.Exchange asker replier place asker_now replier_now) result
         (nodes_of ends.old) (nodes_of ends.new) }
+    ensures carried { IsNetworkCarried C.cmp (wire_of C.SIZE C.spelled C.value
+        C.Signature.SIZE C.Signature.spelled C.Signature.value C.verifies)
+        (NetworkCommand.Exchange asker replier place asker_now replier_now) result
+        (nodes_of ends.old) }
     ensures slots { KeepSlots C.cmp ends.old ends.new }
 {
     if asker >= ends.len() || replier >= ends.len() || asker == replier {

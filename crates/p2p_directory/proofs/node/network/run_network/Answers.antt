@@ -8,7 +8,7 @@ use Rattle.std.specs.Result.{is_err}
 use Rattle.p2p_directory.specs.Network.{AreNetworkAnswers, StandAfter, done_after, node_made}
 use Rattle.p2p_directory.specs.Received.{wire_of}
 use Rattle.p2p_directory.specs.Private.Networks.{HasRoomFor, KeepSlots, nodes_of}
-use Rattle.p2p_directory.proofs.Nodes.NetworkRuns.{one_more, written_push}
+use Rattle.p2p_directory.proofs.Nodes.NetworkRuns.{one_more, reply_push}
 use Rattle.p2p_directory.proofs.Nodes.Networks.{room_for_stays}
 use Rattle.p2p_tracker.proofs.SetsAndRecords.Moved.{item_left, item_moved, item_has, all_moved}
 use Rattle.std.specs.declared.cmp.Ordering.{Ordering}
@@ -44,6 +44,7 @@ loop-command-init g c =
       rest = c.into_iter-command-iterator.ensures.into_iter_gives.0;
       answers = λ other. rw c.in_ok-replies.ensures.items tt;
       written = λ other. tt;
+      carried = λ other. tt;
       stand = λ other. subst (StandAfter wire (length c.args.setups.items)
           (node_made g.C.Ord.cmp other c.args.setups.items) [])
           (sym c.ends.view_is ∙ ap (λ es. nodes_of es) (sym c.deref_mut.ensures.value)
@@ -106,9 +107,15 @@ loop-command-preserved g c =
           (rw value (kept.stand other)))).0;
       written = λ other. let size = length setups in
           let node = node_made g.C.Ord.cmp other setups in
-          rw pushed.items (written_push wire size node g.C.FixedBytes.IsValue
-          g.C.Signature.FixedBytes.IsValue [] xs rs x r (kept.answers other) (kept.written other)
+          rw pushed.items (reply_push wire size node (networks.IsWritten wire size node g.C.FixedBytes.IsValue
+          g.C.Signature.FixedBytes.IsValue) [] xs rs x r (kept.answers other) (kept.written other)
           (c.serve.ensures.written setups (done_after wire size node [] xs rs) other
+          (rw value (kept.stand other))));
+      carried = λ other. let size = length setups in
+          let node = node_made g.C.Ord.cmp other setups in
+          rw pushed.items (reply_push wire size node (networks.CarriesExchange wire size node)
+          [] xs rs x r (kept.answers other) (kept.carried other)
+          (c.serve.ensures.carried setups (done_after wire size node [] xs rs) other
           (rw value (kept.stand other))));
       stand = λ other. let size = length setups in
           let node = node_made g.C.Ord.cmp other setups in
@@ -324,6 +331,18 @@ returns-clause-infos_replied g c = λ other.
     (subst (λ xs. networks.AreWritten wire size node g.C.FixedBytes.IsValue
     g.C.Signature.FixedBytes.IsValue [] xs rs) (all_taken g c)
     (c.loop-command.invariant.written other))
+
+pub returns-clause-carried : goal.returns-clause-carried
+returns-clause-carried g c = λ other.
+    let wire = wire_of g.C.FixedBytes.SIZE g.C.FixedBytes.spelled g.C.FixedBytes.value
+    g.C.Signature.FixedBytes.SIZE g.C.Signature.FixedBytes.spelled g.C.Signature.FixedBytes.value
+    g.C.PublicKey.verifies in
+    let setups = c.args.setups.items in
+    let size = length setups in
+    let node = node_made g.C.Ord.cmp other setups in
+    subst (λ xs. networks.OfEachReply wire size node (networks.CarriesExchange wire size node)
+    [] xs c.loop-command.replies.items) (all_taken g c)
+    (c.loop-command.invariant.carried other)
 
 pub returns-clause-late : goal.returns-clause-late
 returns-clause-late g c = λ other.

@@ -3,11 +3,11 @@ use Rattle.std.specs.List.{All}
 use Rattle.p2p_directory.specs.Network.{OfNetwork, AreNetworkAnswers, StandAfter, done_after}
 use Rattle.p2p_directory.specs.Received.{wire_of}
 use Rattle.p2p_directory.specs.Private.Networks.{nodes_of, HasRoomFor}
-use Rattle.p2p_directory.specs.Laws.Network.{AreWritten}
+use Rattle.p2p_directory.specs.Laws.Network.{AreWritten, OfEachReply, CarriesExchange}
 use Rattle.p2p_directory.proofs.node.network.run_network.Given as goal
 
--- the replies so far answer the commands so far, what is told has a spelling, all nodes stand where
--- these lead, and there is room for all
+-- the replies so far answer the commands so far, what is told has a spelling, exchanges are
+-- carried, all nodes stand where these lead, and there is room for all
 abbrev pub invariant-loop-command : goal.invariant-loop-command
 invariant-loop-command g l =
     let wire = wire_of g.C.FixedBytes.SIZE g.C.FixedBytes.spelled g.C.FixedBytes.value
@@ -20,6 +20,8 @@ invariant-loop-command g l =
       written : OfNetwork g.C.Ord.cmp l.fn.setups.items (λ size node.
           AreWritten wire size node g.C.FixedBytes.IsValue g.C.Signature.FixedBytes.IsValue
           [] l.yielded l.replies.items);
+      carried : OfNetwork g.C.Ord.cmp l.fn.setups.items (λ size node.
+          OfEachReply wire size node (CarriesExchange wire size node) [] l.yielded l.replies.items);
       stand : OfNetwork g.C.Ord.cmp l.fn.setups.items (λ size node.
           StandAfter wire size node (done_after wire size node [] l.yielded l.replies.items)
           (nodes_of l.ends.items));

@@ -123,6 +123,14 @@ returns-clause-exchanges g c =
     told_of_two g c (λ size node cs rs. networks.KeepExchanges wire size node [] cs rs)
     c.in_ok-nodes.ensures.exchanges
 
+pub returns-clause-carried : goal.returns-clause-carried
+returns-clause-carried g c =
+    let wire = wire_of g.C.FixedBytes.SIZE g.C.FixedBytes.spelled g.C.FixedBytes.value
+    g.C.Signature.FixedBytes.SIZE g.C.Signature.FixedBytes.spelled g.C.Signature.FixedBytes.value
+    g.C.PublicKey.verifies in
+    told_of_two g c (λ size node cs rs. networks.OfEachReply wire size node
+    (networks.CarriesExchange wire size node) [] cs rs) c.in_ok-nodes.ensures.carried
+
 pub returns-clause-infos : goal.returns-clause-infos
 returns-clause-infos g c =
     let wire = wire_of g.C.FixedBytes.SIZE g.C.FixedBytes.spelled g.C.FixedBytes.value

@@ -10,7 +10,7 @@ use Rattle.p2p_directory.specs.Private.Slots.{has_slot}
 use Rattle.p2p_directory.proofs.Nodes.Among.{not_there, not_two, exchanged_among_nodes}
 use Rattle.p2p_directory.proofs.Nodes.Networks.{stands_at, none_more, not_served, exchange_more}
 use Rattle.p2p_directory.proofs.Nodes.Networks.{keep_slots}
-use Rattle.p2p_directory.proofs.Nodes.Worlds.{exchanged_in}
+use Rattle.p2p_directory.proofs.Nodes.Worlds.{exchanged_in, carried_in}
 use Rattle.p2p_directory.proofs.node.network.ends.exchange.Goals as goal
 
 pub returns-then-asker-ends-clause-answered : goal.returns-then-asker-ends-clause-answered
@@ -75,3 +75,21 @@ returns-clause-seen g c =
     c.args.asker_now c.args.replier_now c.exchange_between.result c.exchange_between.new.ends
     c.if-asker-ends.false c.if-replier-ends.false c.if-asker-replier.false
     c.exchange_between.ensures
+
+pub returns-clause-carried : goal.returns-clause-carried
+returns-clause-carried g c = λ setups done other at o answer.
+    let wire = wire_of g.C.FixedBytes.SIZE g.C.FixedBytes.spelled g.C.FixedBytes.value
+    g.C.Signature.FixedBytes.SIZE g.C.Signature.FixedBytes.spelled g.C.Signature.FixedBytes.value
+    g.C.PublicKey.verifies in
+    let size = length setups in
+    let node = node_made g.C.Ord.cmp other setups in
+    let es = c.args.ends.now in
+    let i = c.args.asker in
+    let j = c.args.replier in
+    let x = c.exchange_between.ensures in
+    carried_in (node i) (node j) wire (calls_at wire size node done i) (calls_at wire size node done j)
+    (node_of (slice_index_or es i x.left)) (node_of (slice_index_or es j x.left))
+    (stands_at wire size node done es at i x.left c.if-asker-ends.false)
+    (stands_at wire size node done es at j x.left c.if-replier-ends.false)
+    c.args.place (as_nanos c.args.asker_now) (as_nanos c.args.replier_now) o
+    (x.carried x.left o answer).frames

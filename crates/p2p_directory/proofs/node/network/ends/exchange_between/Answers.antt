@@ -3,6 +3,8 @@ use Rattle.std.specs.Prelude.{slice_index_or, length, ◌<◌}
 use Rattle.std.specs.Duration.{as_nanos}
 use Rattle.std.proofs.lemmas.Bool.{eqb-false}
 use Rattle.p2p_directory.specs.Received.{wire_of}
+use Rattle.p2p_directory.specs.Private.Endpoints.{node_of}
+use Rattle.p2p_directory.proofs.Nodes.Carried.{carries}
 use Rattle.p2p_directory.proofs.Nodes.Networks.{exchanged_among, set_in_front, set_in_back}
 use Rattle.p2p_directory.proofs.Nodes.Networks.{of_front, first_of_back}
 use Rattle.p2p_directory.proofs.node.network.ends.exchange_between.Goals as goal
@@ -27,7 +29,12 @@ returns-then-asker-replier g c =
     (set_in_front all front back parts.value c.args.asker left there)
     (λ e. of_front all front back parts.value c.args.asker a e there)
     (λ e. first_of_back all front back parts.value c.args.replier b e parts.front_len some)
-    c.exchange_with.ensures.seen c.exchange_with.ensures.slots
+    c.exchange_with.ensures.seen
+    (carries g.met.C.FixedBytes.fixed g.met.C.Signature.FixedBytes.fixed g.C.PublicKey.verifies g.C.Ord.cmp
+    c.args.place (as_nanos c.args.asker_now) (as_nanos c.args.replier_now) c.exchange_with.result
+    (node_of (slice_index_or front c.args.asker a)) (node_of (slice_index_or back 0 b)) (node_of left)
+    c.exchange_with.ensures.seen c.exchange_with.ensures.spelled)
+    c.exchange_with.ensures.slots
 
 pub returns-else-asker-replier : goal.returns-else-asker-replier
 returns-else-asker-replier g c =
@@ -52,7 +59,13 @@ returns-else-asker-replier g c =
     (set_in_back all front back parts.value c.args.asker left parts.front_len)
     (λ e. first_of_back all front back parts.value c.args.asker a e parts.front_len some)
     (λ e. of_front all front back parts.value c.args.replier b e there)
-    c.exchange_with-else-asker-replier.ensures.seen c.exchange_with-else-asker-replier.ensures.slots
+    c.exchange_with-else-asker-replier.ensures.seen
+    (carries g.met.C.FixedBytes.fixed g.met.C.Signature.FixedBytes.fixed g.C.PublicKey.verifies g.C.Ord.cmp
+    c.args.place (as_nanos c.args.asker_now) (as_nanos c.args.replier_now)
+    c.exchange_with-else-asker-replier.result (node_of (slice_index_or back 0 a))
+    (node_of (slice_index_or front c.args.replier b)) (node_of left)
+    c.exchange_with-else-asker-replier.ensures.seen c.exchange_with-else-asker-replier.ensures.spelled)
+    c.exchange_with-else-asker-replier.ensures.slots
 
 pub bounds-front-replier : goal.bounds-front-replier
 bounds-front-replier g c =

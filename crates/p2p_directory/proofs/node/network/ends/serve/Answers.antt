@@ -15,5 +15,8 @@ returns-in-Frame-clause-answered g c = rw c.in-Frame.is c.receive.ensures.answer
 pub returns-in-Frame-clause-written : goal.returns-in-Frame-clause-written
 returns-in-Frame-clause-written g c = rw c.in-Frame.is c.receive.ensures.written
 
+pub returns-in-Exchange-clause-carried : goal.returns-in-Exchange-clause-carried
+returns-in-Exchange-clause-carried g c = rw c.in-Exchange.is c.exchange.ensures.carried
+
 pub returns-in-Exchange-clause-answered : goal.returns-in-Exchange-clause-answered
 returns-in-Exchange-clause-answered g c = rw c.in-Exchange.is c.exchange.ensures.answered
