@@ -1,6 +1,6 @@
 //! What holds of a session call after call.
 
-ghost use Rattle.std.specs.Prelude.{◌≡◌, ℕ, Bool, List, ◌++◌, Option};
+ghost use Rattle.std.specs.Prelude.{◌≡◌, ℕ, Bool, List, ◌∷◌, ◌++◌, Option, Some};
 ghost use Rattle.p2p_discovery.specs.Reading.{IsBytes, whole};
 ghost use Rattle.p2p_discovery.specs.declared.data.Data.{Data};
 ghost use Rattle.p2p_discovery.specs.declared.discovery.Info.{Info};
@@ -9,7 +9,7 @@ ghost use Rattle.p2p_directory.specs.declared.node.Received.TheVariants as recei
 ghost use Rattle.p2p_session.specs.Answers.{key_bytes};
 ghost use Rattle.p2p_session.specs.Frames.{Hears, ReceivesOf, greeter_in};
 ghost use Rattle.p2p_session.specs.Given.{Asked};
-ghost use Rattle.p2p_session.specs.Laws.{Goes};
+ghost use Rattle.p2p_session.specs.Laws.{Goes, GoOn, StandsSomewhere};
 ghost use Rattle.p2p_session.specs.Sessions.{InitsBy, Serves};
 ghost use Rattle.p2p_session.specs.Views.{View, wire};
 ghost use Rattle.p2p_session.specs.declared.Session.{Session};
@@ -19,8 +19,9 @@ ghost use Rattle.p2p_session.specs.declared.setup.Numbers.{Numbers};
 
 /// Whatever calls a session served, its node is at the point after the calls that were accepted
 /// since it was created. A call that is served, or a frame that is processed, leads from each point
-/// to one, and `init` leads to the first. So all that is promised of a run holds of the node behind
-/// a host's pointer, call after call. All other calls leave it as it is.
+/// to the same or to the one after it, and `init` leads to the first. So all that is promised of a
+/// run holds of the node behind a host's pointer, call after call. All other calls leave it as it
+/// is.
 pub fn sessions_go_on()
     ensures served { (given : Asked) (out out2 : List ℕ) (o o2 : Option View) (n : ℕ) →
         Serves given out out2 o o2 n → Goes o o2 }
@@ -31,6 +32,8 @@ pub fn sessions_go_on()
         (before after : Session) (n : ℕ) →
         InitsBy numbers namespace bootstrappers myself before after n → n ≡ 1 →
         Goes before.node after.node }
+    ensures stands { (before : List (Option View)) (v : View) → GoOn (Some v ∷ before) →
+        StandsSomewhere v }
 {}
 
 /// A frame that is accepted as a message ends with it, so a host finds it by its length. One that

@@ -1,32 +1,57 @@
-use Rattle.std.proofs.Common.{◌≡◌, inl, inr, ℕ, Bool, List, Option, Some, None, Result, Ok, Err, sym, subst}
+use Rattle.std.proofs.Common.{◌≡◌, inl, inr, ℕ, Bool, true, false, List, [], ◌∷◌, Option, Some, None, Result, Ok, Err, refl, sym, subst}
+use Rattle.std.specs.Prelude.{if◌then◌else◌}
+use Rattle.p2p_discovery.specs.declared.discovery.Info.{Info}
+use Rattle.p2p_tracker.specs.Calls.{Call}
+use Rattle.p2p_tracker.specs.Calls.Call.{Update}
+use Rattle.p2p_directory.specs.Nodes.{made_of, standing_in, calls_with}
+use Rattle.p2p_directory.specs.Received.{applied_with, received_by}
+use Rattle.p2p_directory.specs.Run.{next, was_made, world_after}
+use Rattle.p2p_session.specs.contracts.key.KeyOrd.TheImpl.{ghosts as order}
 use Rattle.p2p_directory.specs.declared.node.Received.{Received}
 use Rattle.p2p_session.specs.declared.key.Key.{Key}
 use Rattle.p2p_session.specs.declared.key.Signature.{Signature}
 use Rattle.p2p_session.specs.declared.refusal.Refusal.{Refusal}
 use Rattle.p2p_session.specs.Frames.{ReceivesAt, ReceivesOf, HearsAt}
 use Rattle.p2p_session.specs.Given.{Asked, moment_at}
-use Rattle.p2p_session.specs.Laws.{Goes}
+use Rattle.p2p_session.specs.Laws.{Goes, GoOn, IsNext, StandsSomewhere}
 use Rattle.p2p_session.specs.Sessions.{Serves, IsMade}
-use Rattle.p2p_session.specs.Views.{View}
+use Rattle.p2p_session.specs.Views.{View, wire}
 use Rattle.p2p_directory.specs.declared.node.Setup.{Setup}
 use Rattle.p2p_session.proofs.laws.sessions_go_on.Goals as goal
 
 stays : (o : Option View) → Goes o o
 stays None = tt
-stays (Some v) = λ given calls stands. (calls, stands)
+stays (Some v) = λ given calls stands. (calls, inl refl, stands)
 
 same : (o o2 : Option View) → o2 ≡ o → Goes o o2
 same o o2 e = let P : Option View → Type 0 = λ u. Goes o u in subst P (sym e) (stays o)
+
+-- a call that was accepted or not, and an update that was made or not, is one more or none
+next_is : (calls : List (Call Key Signature)) (c : Call Key Signature) (made : Bool) →
+    IsNext calls (if made then c ∷ calls else calls)
+next_is calls c true = inr (c, refl)
+next_is calls c false = inl refl
+
+with_is : (infos : Option (List (Info Key Signature))) (calls : List (Call Key Signature)) →
+    IsNext calls (calls_with infos calls)
+with_is None calls = inl refl
+with_is (Some infos) calls = inr (Update infos, refl)
 
 serves : (given : Asked) (out out2 : List ℕ) (o o2 : Option View) (n : ℕ) → Serves given out out2 o o2 n → Goes o o2
 serves given out out2 None o2 n h = same None o2 h.0
 serves (Err why) out out2 (Some v) o2 n h = same (Some v) o2 h.0
 serves (Ok call) out out2 (Some v) None n h = h
-serves (Ok call) out out2 (Some v) (Some v2) n h = λ given calls stands. (_, (h.1.stepped given calls stands).left)
+serves (Ok call) out out2 (Some v) (Some v2) n h = λ given calls stands.
+    (next (made_of order.cmp given).directory calls call h.0, next_is calls call (was_made h.0),
+    (h.1.stepped given calls stands).left)
 
 hears : (verdicts : List Bool) (frame : List ℕ) (now : Result ℕ Refusal) (v v2 : View) (r : Received) →
     HearsAt verdicts frame now v v2 r → Goes (Some v) (Some v2)
-hears verdicts frame (Ok t) v v2 r h = λ given calls stands. (_, (h.received given calls stands).left)
+hears verdicts frame (Ok t) v v2 r h = λ given calls stands.
+    let m = made_of order.cmp given in
+    let node = standing_in m wire (world_after m.directory calls) in
+    let infos = applied_with (received_by wire (λ _. verdicts) node frame t) r in
+    (calls_with infos calls, with_is infos calls, (h.received given calls stands).left)
 hears verdicts frame (Err why) v v2 r h = absurd h
 
 takes : (verdicts : List Bool) (frame : List ℕ) (now : Result ℕ Refusal) (out out2 : List ℕ) (v v2 : View) (n : ℕ) →
@@ -54,3 +79,15 @@ returns-clause-received c = receives
 pub returns-clause-made : goal.returns-clause-made
 returns-clause-made c = λ numbers namespace bootstrappers myself before after n h one.
     let made = h.made one in makes before.node after.node made.1.0 made.0 made.1.2
+
+-- by the calls before: the newest node is new, or it stands at the next calls
+somewhere : (before : List (Option View)) (v : View) → GoOn (Some v ∷ before) → StandsSomewhere v
+somewhere [] v h = absurd cc
+somewhere (None ∷ before) v h = (h.0.0, [], h.0.1)
+somewhere (Some u ∷ before) v h =
+    let s = somewhere before u h.1 in
+    let later = h.0 s.0 s.1 s.2 in
+    (s.0, later.0, later.2)
+
+pub returns-clause-stands : goal.returns-clause-stands
+returns-clause-stands c = somewhere
