@@ -1,4 +1,5 @@
--- What an exchange of infos comes to, by how both nodes stand, each at a moment of its own.
+-- What an exchange of infos comes to, by how both nodes stand, each at a moment of its own, and the
+-- frames that carry it.
 use Rattle.std.specs.Prelude.{ℕ, ◌≡◌, ◌≤◌, ◌<◌, ◌^◌, Bool, true, false, if◌then◌else◌}
 use Rattle.std.specs.Prelude.{List, length, Option, Some, None, IfSome, is_some, nat_lt}
 use Rattle.std.specs.declared.cmp.Ordering.{Ordering}
