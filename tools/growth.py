@@ -11,11 +11,11 @@ PEERS = (1_000, 10_000, 100_000, 1_000_000)
 
 # Scenario, and what of the call is counted: "peer" where it is one call of all peers, "call" where it is many calls.
 SCENARIOS = (
-    ("track", "a set, a peer", "peer"),
+    ("track", "track, a peer of the set", "peer"),
     ("listen", "listen and release", "call"),
     ("dial", "dial and release", "call"),
     ("connect", "listen, connect and release", "call"),
-    ("update_1", "update_peers, lists of 1", "call"),
+    ("update_1", "update_peers, lists of 1, an info", "peer"),
     ("update_100", "update_peers, lists of 100, an info", "peer"),
     ("block", "block", "call"),
     ("unblock_expired", "unblock_expired that ends all, a block", "peer"),
@@ -59,7 +59,7 @@ def main():
     print("call," + ",".join(str(peers) for peers in PEERS))
     for scenario, name, counted in SCENARIOS:
         cells = (nanoseconds(program, scenario, counted, peers, processor) for peers in PEERS)
-        print('"' + name + '",' + ",".join(f"{cell:.3g}" for cell in cells), flush=True)
+        print('"' + name + '",' + ",".join((f"{cell:.3g}" if cell < 1000 else f"{cell:.0f}") for cell in cells), flush=True)
 
 
 main()
