@@ -41,9 +41,11 @@ serves : (given : Asked) (out out2 : List ℕ) (o o2 : Option View) (n : ℕ) �
 serves given out out2 None o2 n h = same None o2 h.0
 serves (Err why) out out2 (Some v) o2 n h = same (Some v) o2 h.0
 serves (Ok call) out out2 (Some v) None n h = h
-serves (Ok call) out out2 (Some v) (Some v2) n h = λ given calls stands.
-    (next (made_of order.cmp given).directory calls call h.0, next_is calls call (was_made h.0),
-    (h.1.stepped given calls stands).left)
+serves (Ok call) out out2 (Some v) (Some v2) n h = λ given calls stands. (
+  next (made_of order.cmp given).directory calls call h.0,
+  next_is calls call (was_made h.0),
+  (h.1.stepped given calls stands).left,
+)
 
 hears : (verdicts : List Bool) (frame : List ℕ) (now : Result ℕ Refusal) (v v2 : View) (r : Received) →
     HearsAt verdicts frame now v v2 r → Goes (Some v) (Some v2)
