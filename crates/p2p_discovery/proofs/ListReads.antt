@@ -87,18 +87,13 @@ begins least r count left bytes k =
 
 -- ---- room
 
-above_zero : (n : ℕ) → (n ≡ 0 → ⊥) → 0 < n
-above_zero zero h = absurd (h refl)
-above_zero (suc n) h = omega arith
-
 one_fits : (least total : ℕ) → 0 < least → 0 < total / least → least ≤ total
 one_fits least total p h = let k : 1 * least ≤ total = (le-div_iff_mul-le p).0 h in omega arith
 
-pub no_memory : {A : Type 0} (least : ℕ) (r : List ℕ → Reading A) (n room : ℕ) (rest : List ℕ) → 0 < least →
-    room ≡ min n (length rest / least) → (room ≡ 0 → ⊥) → Fails Memory (items_at least r n rest)
+pub no_memory : {A : Type 0} (least : ℕ) (r : List ℕ → Reading A) (n : ℕ) (rest : List ℕ) → 0 < least →
+    0 < min n (length rest / least) → Fails Memory (items_at least r n rest)
 unfolding items_at
-no_memory least r n room rest p e h =
-    let some = above_zero room h in
+no_memory least r n rest p some =
     let fits = one_fits least (length rest) p (omega arith) in
     let t : ltb 0 n ≡ true = lt-ltb 0 n (omega arith) in
     let u : leb least (length rest) ≡ true = le-leb least (length rest) fits in

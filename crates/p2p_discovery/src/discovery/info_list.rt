@@ -1,7 +1,8 @@
 //! Lists of infos, and how they are encoded.
 
-ghost use Rattle.std.specs.Prelude.{◌≡◌, ℕ, ◌+◌, ◌<◌, ◌≤◌, ◌^◌, ◌*◌, List, [], ◌∷◌, ◌++◌, length};
-ghost use Rattle.std.specs.Prelude.{Ok, OnOk, IfOk, IfErr, vec_len, vec_capacity};
+ghost use Rattle.std.specs.Prelude.{◌≡◌, ℕ, ◌+◌, ◌<◌, ◌≤◌, ◌^◌, ◌*◌, ◌/◌, List, [], ◌∷◌, ◌++◌};
+ghost use Rattle.std.specs.Prelude.{length, min, Ok, OnOk, OnErr, IfOk, IfErr};
+ghost use Rattle.std.specs.Prelude.{vec_len, vec_capacity};
 ghost use Rattle.std.specs.List.{AllByRecursion};
 ghost use Rattle.p2p_discovery.specs.declared.discovery.Info.{Info};
 ghost use Rattle.p2p_discovery.specs.Reading.{Fails, GivesAs};
@@ -17,7 +18,7 @@ use crate::codec::{
 use crate::discovery::Info;
 use crate::types::Ingress;
 use bytes::BytesMut;
-use std::alloc::Global;
+use std::alloc::{AllocError, Global};
 use std::marker::Model;
 
 /// Infos, one after the other. A contract sees the list of them.
@@ -122,8 +123,7 @@ impl<C: PublicKey> Read for Infos<C> {
     ghost lawful = { lawful_infos C.fixed C.Signature.fixed };
 }
 
-// Reads so many infos, each of which has at least `least` bytes. It reserves capacity for no more
-// of them than the bytes that are left can hold.
+// Reads so many infos, each of which has at least `least` bytes.
 fn read_infos<C: PublicKey>(
     alloc: Global,
     reader: &mut Reader<'_>,
@@ -137,12 +137,28 @@ fn read_infos<C: PublicKey>(
         (info_at C.SIZE C.value C.Signature.SIZE C.Signature.value) count reader.old) }
     ensures room { IfOk result (λ v. vec_capacity v * least ≤ length reader.old) }
 {
-    let room = count.min(reader.rest().len() / least);
-    let mut infos = Vec::with_capacity(alloc, room)?;
+    let mut infos = reserve_infos(alloc, count, reader.rest().len(), least)?;
     for _ in 0..count {
         push_info(alloc, reader, &mut infos)?;
     }
     Ok(infos)
+}
+
+// A vector with capacity for so many infos, but for no more than so many bytes can hold, if each
+// info has at least `least` bytes.
+fn reserve_infos<C: PublicKey>(
+    alloc: Global,
+    count: usize,
+    bytes: usize,
+    least: usize,
+) -> Result<Vec<Info<C>>, AllocError>
+    requires some { 0 < least }
+    ensures room { IfOk result (λ v. vec_capacity v * least ≤ bytes) }
+    ensures exact { IfOk result (λ v. vec_capacity v ≡ min count (bytes / least)) }
+    ensures empty { IfOk result (λ v. (v.items ≡ []) × (vec_len v ≡ 0)) }
+    ensures err { OnErr result (0 < min count (bytes / least)) }
+{
+    Vec::with_capacity(alloc, count.min(bytes / least))
 }
 
 // Reads an info onto the end of a vector, which has room for it. It is put there part by part, and

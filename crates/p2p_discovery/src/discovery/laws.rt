@@ -1,9 +1,12 @@
 //! Laws of what is decoded from frames: each function's contract is one, and it only decodes.
 
-ghost use Rattle.std.specs.Prelude.{◌≡◌, ◌+◌, ◌*◌, ◌≤◌, length, IfOk};
+ghost use Rattle.std.specs.Prelude.{◌≡◌, ◌+◌, ◌*◌, ◌≤◌, [], length, IfOk, OnErr};
 ghost use Rattle.p2p_discovery.specs.declared.data.Data.{Data as Message};
 ghost use Rattle.p2p_discovery.specs.declared.discovery.Payload.TheVariants as payload;
-ghost use Rattle.p2p_discovery.specs.Payload.{payload_spelling, IsBoundedBy};
+ghost use Rattle.p2p_discovery.specs.Reading.{Gives, whole};
+ghost use Rattle.p2p_discovery.specs.Info.{infos_at};
+ghost use Rattle.p2p_discovery.specs.BitVec.{bit_vec_read_at};
+ghost use Rattle.p2p_discovery.specs.Payload.{payload_spelling, payload_at, IsBoundedBy};
 
 use crate::codec::{CodecError, FixedBytes, PublicKey, RangeCfg, Read};
 use crate::discovery::{BitVec, Infos, Payload, PayloadConfig};
@@ -24,14 +27,17 @@ pub fn short_data_frames<C: PublicKey>()
 ///
 /// # Errors
 ///
-/// Those of [`Read::read_cfg`].
+/// Those of [`Read::read_cfg`]. The buffer is unchanged.
 pub fn bounded_infos<C: PublicKey>(
     alloc: Global,
     buf: &mut Bytes,
     limit: &RangeCfg,
 ) -> Result<Infos<C>, CodecError>
-    ensures { IfOk result (λ infos. length infos * (6 + C.SIZE + C.Signature.SIZE)
+    ensures bounded { IfOk result (λ infos. length infos * (6 + C.SIZE + C.Signature.SIZE)
         + length buf.new ≤ length buf.old) }
+    ensures exact { Gives result buf.new
+        (infos_at C.SIZE C.value C.Signature.SIZE C.Signature.value limit.now buf.old) }
+    ensures err { OnErr result (buf.new ≡ buf.old) }
 {
     Infos::read_cfg(alloc, buf, limit)
 }
@@ -41,9 +47,11 @@ pub fn bounded_infos<C: PublicKey>(
 ///
 /// # Errors
 ///
-/// Those of [`Read::read_cfg`].
+/// Those of [`Read::read_cfg`]. The buffer is unchanged.
 pub fn bounded_bits(alloc: Global, buf: &mut Bytes, limit: &u64) -> Result<BitVec, CodecError>
-    ensures { IfOk result (λ v. length v.bits + 8 * length buf.new ≤ 8 * length buf.old) }
+    ensures bounded { IfOk result (λ v. length v.bits + 8 * length buf.new ≤ 8 * length buf.old) }
+    ensures exact { Gives result buf.new (bit_vec_read_at limit.now buf.old) }
+    ensures err { OnErr result (buf.new ≡ buf.old) }
 {
     BitVec::read_cfg(alloc, buf, limit)
 }
@@ -59,7 +67,9 @@ pub fn bounded_payload<C: PublicKey>(
     frame: Bytes,
     limits: &PayloadConfig,
 ) -> Result<Payload<C>, CodecError>
-    ensures { IfOk result (IsBoundedBy (6 + C.SIZE + C.Signature.SIZE) (length frame)) }
+    ensures bounded { IfOk result (IsBoundedBy (6 + C.SIZE + C.Signature.SIZE) (length frame)) }
+    ensures exact { Gives result [] (whole
+        (payload_at C.SIZE C.value C.Signature.SIZE C.Signature.value limits.now) frame) }
 {
     Payload::decode_cfg(alloc, frame, limits)
 }

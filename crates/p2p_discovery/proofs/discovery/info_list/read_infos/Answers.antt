@@ -1,11 +1,11 @@
-use Rattle.std.proofs.Common.{◌+◌, ◌-◌, length, arith, subst}
+use Rattle.std.proofs.Common.{◌+◌, ◌-◌, length, vec_capacity, ◌∙◌, arith, subst}
 use Rattle.std.proofs.lemmas.Result.{err_from_is_err_and}
 use Rattle.p2p_discovery.specs.Reading.{IsBytes}
 use Rattle.p2p_discovery.specs.FieldsLaws.{IsBytes-after}
 use Rattle.p2p_discovery.specs.Info.{info_at, info_spelling}
 use Rattle.p2p_discovery.specs.InfoLaws.{lawful_info}
 use Rattle.p2p_discovery.specs.Lists.{items_at}
-use Rattle.p2p_discovery.proofs.ListReads.{goes_on, ends, is_done, begins, no_memory, is_room, room_fits, used_more}
+use Rattle.p2p_discovery.proofs.ListReads.{goes_on, ends, is_done, begins, no_memory, is_room, used_more}
 use Rattle.p2p_discovery.proofs.discovery.info_list.read_infos.Goals as goal
 
 pub returns-in_err-infos : goal.returns-in_err-infos
@@ -14,21 +14,18 @@ returns-in_err-infos g c =
     rw (p.1, p.2)
     (record {
       room = tt;
-      exact = no_memory c.args.least (info_at g.C.FixedBytes.SIZE g.C.FixedBytes.value g.C.Signature.FixedBytes.SIZE g.C.Signature.FixedBytes.value) c.args.count c.min-room.result
-          c.args.reader.now c.requires.some (rw c.rest.ensures.rest at c.min-room.ensures)
-          (λ z. let h = c.in_err-infos.ensures.succeeds z in cc);
+      exact = no_memory c.args.least (info_at g.C.FixedBytes.SIZE g.C.FixedBytes.value g.C.Signature.FixedBytes.SIZE g.C.Signature.FixedBytes.value) c.args.count
+          c.args.reader.now c.requires.some (rw c.rest.ensures.rest at c.in_err-infos.ensures.err);
     })
 
 pub loop-init : goal.loop-init
 loop-init g c = record {
-  goes = rw c.in_ok-infos.ensures.items (begins c.args.least (info_at g.C.FixedBytes.SIZE g.C.FixedBytes.value g.C.Signature.FixedBytes.SIZE g.C.Signature.FixedBytes.value) c.args.count (c.args.count - 0) c.args.reader.now (omega arith));
+  goes = rw c.in_ok-infos.ensures.empty.0 (begins c.args.least (info_at g.C.FixedBytes.SIZE g.C.FixedBytes.value g.C.Signature.FixedBytes.SIZE g.C.Signature.FixedBytes.value) c.args.count (c.args.count - 0) c.args.reader.now (omega arith));
   bytes = c.rest.ensures.bytes;
-  len = c.in_ok-infos.ensures.len;
+  len = c.in_ok-infos.ensures.empty.1;
   used = omega arith;
-  room = c.in_ok-infos.ensures.capacity;
-  most = rw c.in_ok-infos.ensures.exact
-      (room_fits c.args.least c.args.count (length c.args.reader.now) c.min-room.result c.requires.some
-      (rw c.rest.ensures.rest at c.min-room.ensures));
+  capacity = rw c.rest.ensures.rest at c.in_ok-infos.ensures.exact;
+  most = rw c.rest.ensures.rest at c.in_ok-infos.ensures.room;
 }
 
 pub returns-in_err-push_info : goal.returns-in_err-push_info
@@ -51,9 +48,9 @@ push_info-requires g c = record {
       let le = c.requires.least info t.0.0 in
       let u = used_more c.args.least c.loop.counter (length c.args.reader.now) c.loop.reader
       (info_spelling g.C.FixedBytes.spelled g.C.Signature.FixedBytes.spelled info) rest t.1 le c.loop.invariant.used in
-      let r = is_room c.args.least c.loop.counter c.args.count (length c.args.reader.now) c.min-room.result
-      c.requires.some c.loop-test.true (omega arith) (rw c.rest.ensures.rest at c.min-room.ensures) in
-      omega (arith, r, c.loop.invariant.len, c.loop.invariant.room);
+      let r = is_room c.args.least c.loop.counter c.args.count (length c.args.reader.now) (vec_capacity c.loop.infos)
+      c.requires.some c.loop-test.true (omega arith) c.loop.invariant.capacity in
+      omega (arith, r, c.loop.invariant.len);
 }
 
 pub loop-preserved : goal.loop-preserved
@@ -71,7 +68,7 @@ loop-preserved g c =
       len = omega (arith, c.in_ok-push_info.ensures.len);
       used = used_more c.args.least c.loop.counter (length c.args.reader.now) c.loop.reader
           (info_spelling g.C.FixedBytes.spelled g.C.Signature.FixedBytes.spelled p.0) c.push_info.new.reader t.1 le c.loop.invariant.used;
-      room = omega (arith, c.in_ok-push_info.ensures.capacity);
+      capacity = c.in_ok-push_info.ensures.capacity ∙ c.loop.invariant.capacity;
       most = rw c.in_ok-push_info.ensures.capacity c.loop.invariant.most;
     }
 

@@ -1,4 +1,4 @@
-use Rattle.std.proofs.Common.{◌≡◌, ◌-◌, ◌+◌, ◌*◌, ◌≤◌, length, vec_len, vec_capacity}
+use Rattle.std.proofs.Common.{◌≡◌, ◌-◌, ◌+◌, ◌*◌, ◌/◌, ◌≤◌, length, min, vec_len, vec_capacity}
 use Rattle.p2p_discovery.specs.Reading.{IsBytes}
 use Rattle.p2p_discovery.specs.Info.{info_at}
 use Rattle.p2p_discovery.specs.Lists.{items_at}
@@ -11,6 +11,6 @@ invariant-loop g l = record {
   bytes : IsBytes l.reader;
   len : vec_len l.infos ≡ l.counter;
   used : l.least * l.counter + length l.reader ≤ length l.initial.reader;
-  room : l.room ≤ vec_capacity l.infos;
+  capacity : vec_capacity l.infos ≡ min l.count (length l.initial.reader / l.least);
   most : vec_capacity l.infos * l.least ≤ length l.initial.reader;
 }

@@ -5,8 +5,8 @@ use Rattle.p2p_discovery.specs.BitVec.{bit_vec_spelling}
 use Rattle.p2p_discovery.specs.PayloadLaws.{bits_bounded}
 use Rattle.p2p_discovery.proofs.discovery.laws.bounded_bits.Goals as goal
 
-pub returns : goal.returns
-returns c =
+pub returns-clause-bounded : goal.returns-clause-bounded
+returns-clause-bounded c =
     IfOk-weaker c.read_cfg.result _
     (λ v. length v.bits + 8 * length c.read_cfg.new.buf ≤ 8 * length c.args.buf.now)
     (λ v h. omega (

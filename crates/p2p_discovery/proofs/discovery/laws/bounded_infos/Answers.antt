@@ -5,8 +5,8 @@ use Rattle.p2p_discovery.specs.Info.{infos_spelling}
 use Rattle.p2p_discovery.specs.PayloadLaws.{infos_bounded}
 use Rattle.p2p_discovery.proofs.discovery.laws.bounded_infos.Goals as goal
 
-pub returns : goal.returns
-returns g c =
+pub returns-clause-bounded : goal.returns-clause-bounded
+returns-clause-bounded g c =
     let spelled = infos_spelling g.C.FixedBytes.spelled g.C.Signature.FixedBytes.spelled in
     IfOk-weaker c.read_cfg.result _
     (λ is. length is * (6 + g.C.FixedBytes.SIZE + g.C.Signature.FixedBytes.SIZE)

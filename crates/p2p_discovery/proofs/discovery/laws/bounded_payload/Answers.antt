@@ -4,8 +4,8 @@ use Rattle.p2p_discovery.specs.Payload.{IsBoundedBy}
 use Rattle.p2p_discovery.specs.PayloadLaws.{payload_bounded}
 use Rattle.p2p_discovery.proofs.discovery.laws.bounded_payload.Goals as goal
 
-pub returns : goal.returns
-returns g c =
+pub returns-clause-bounded : goal.returns-clause-bounded
+returns-clause-bounded g c =
     let least = 6 + g.C.FixedBytes.SIZE + g.C.Signature.FixedBytes.SIZE in
     IfOk-weaker c.decode_cfg.result _ (IsBoundedBy least (length c.args.frame))
     (λ p h. subst (λ n. IsBoundedBy least n p) (sym (ap length h.2))
