@@ -184,6 +184,13 @@ impl<C: PublicKey> Window<C> {
         self.sets.len()
     }
 
+    /// Does nothing. Its contract says that the indices of the sets ascend.
+    pub fn agrees(&self)
+        ensures { IsAscending self.now }
+    {
+        let _count = self.sets.len();
+    }
+
     /// The set at a position, counted from 0 in order of index.
     pub fn at(&self, place: usize) -> Option<&PeerSet<C>>
         ensures { option_copied result ≡ slice_get self.now place }

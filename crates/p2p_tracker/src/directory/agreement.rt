@@ -1,7 +1,10 @@
 //! What holds between calls.
 
-ghost use Rattle.std.specs.Prelude.{ℕ, ◌≡◌, true, false, IfSome, is_some, map, not, slice_get};
-ghost use Rattle.std.specs.Option.{option_map};
+ghost use Rattle.std.specs.Prelude.{ℕ, ◌≡◌, ◌≤◌, true, false, IfSome, is_some, length, map, not};
+ghost use Rattle.std.specs.Prelude.{slice_get};
+ghost use Rattle.std.specs.Option.{option_map, option_map_or};
+ghost use Rattle.std.specs.List.Sorted.{IsStrictlySortedBy};
+ghost use Rattle.std.specs.Ordering.{nat_cmp};
 
 use crate::directory::Directory;
 use p2p_discovery::codec::PublicKey;
@@ -11,7 +14,8 @@ impl<C: PublicKey> Directory<C> {
     ghost use Rattle.p2p_tracker.specs.Seen.{record_of, cooldown_of};
     ghost use Rattle.p2p_tracker.specs.Directory.{bit_vec_at, wants_in};
     ghost use Rattle.p2p_tracker.specs.World.{reservable_from, dialable_from};
-    ghost use Rattle.p2p_tracker.specs.Record.{is_deletable};
+    ghost use Rattle.p2p_tracker.specs.Record.{is_deletable, is_myself};
+    ghost use Rattle.std.specs.BTreeMap.{is_at};
     ghost use Rattle.p2p_tracker.specs.declared.record.Role.TheVariants as Role;
     ghost use Rattle.p2p_tracker.specs.PeerSets.{set_count};
 
@@ -19,6 +23,8 @@ impl<C: PublicKey> Directory<C> {
     ///
     /// - each record's two counts are the numbers of retained sets that name its peer in that role;
     /// - each peer of a set has a record;
+    /// - one key, the local one, has the address `Myself`, and its record is persistent;
+    /// - at most `max_sets` sets are retained, in ascending order of index;
     /// - no record is deletable;
     /// - each record has its peer's cooldown, or the epoch twice if there is none;
     /// - for each primary peer in order, the bits of a retained set, which
@@ -34,11 +40,19 @@ impl<C: PublicKey> Directory<C> {
         ensures cooled { (q : C) → IfSome (record_of C.cmp self.now q) (λ r.
             (r.next_reservable_at ≡ reservable_from (cooldown_of C.cmp self.now q))
             × (r.next_dial_at ≡ dialable_from (cooldown_of C.cmp self.now q))) }
+        ensures own { (me : C) × ((q : C) →
+            (option_map_or (λ r. is_myself r.address) (record_of C.cmp self.now q) false
+            ≡ is_at (C.cmp me) q)
+            × IfSome (record_of C.cmp self.now q) (λ r.
+            is_myself r.address ≡ true → r.persistent ≡ true)) }
+        ensures few { length self.now.sets ≤ self.now.config.max_sets }
+        ensures ascending { IsStrictlySortedBy nat_cmp (map (λ set. set.index) self.now.sets) }
         ensures bits { (place : ℕ) → bit_vec_at C.cmp self.now place ≡ option_map (λ set. record {
           index = set.index;
           bits = map (λ q. not (wants_in C.cmp self.now q)) set.primary;
         }) (slice_get self.now.sets place) }
     {
         let _count = self.records.len();
+        self.sets.agrees();
     }
 }
