@@ -12,7 +12,7 @@ use crate::scenarios::wire::{Way, bits, infos, ingresses, judgements, peers};
 use crate::stop::Stop;
 use crate::times::Times;
 
-const NAMES: [&str; 21] = [
+const NAMES: [&str; 22] = [
     "encode",
     "decode",
     "encode_names",
@@ -28,6 +28,7 @@ const NAMES: [&str; 21] = [
     "node_status",
     "node_listen",
     "node_track",
+    "node_dialable",
     "receive",
     "run_tracks",
     "run_listens",
@@ -59,6 +60,7 @@ fn of_calls(rt: &HostRuntime, name: &str, count: usize, samples: usize) -> Resul
         "node_status" => of_nodes(rt, count, samples, Call::Status),
         "node_listen" => of_nodes(rt, count, samples, Call::Listen),
         "node_track" => of_nodes(rt, count, samples, Call::Track),
+        "node_dialable" => of_nodes(rt, count, samples, Call::Dialable),
         "receive" => of_nodes(rt, count, samples, Call::Receive),
         "run_tracks" => runs(rt, count, samples, Kind::Tracks),
         "run_listens" => runs(rt, count, samples, Kind::Listens),

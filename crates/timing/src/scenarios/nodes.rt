@@ -24,6 +24,8 @@ pub(crate) enum Call {
     Listen,
     /// A set of which a quarter is new.
     Track,
+    /// The list of who may be dialled: all peers.
+    Dialable,
     /// A frame with the infos of all peers, each time newer ones.
     Receive,
     /// An exchange of the infos of all peers, each time newer ones.
@@ -36,6 +38,7 @@ enum Ready {
     Status,
     Listen(Duration),
     Track(u64, TrackedPeers<Key32>),
+    Dialable,
     Receive(Bytes),
     Exchange,
 }
@@ -83,6 +86,7 @@ fn make_ready(
             Ok(Ready::Listen(Duration::from_secs(seconds)))
         }
         Call::Track => Ok(Ready::Track(number, set_at(alloc, keys, sample)?)),
+        Call::Dialable => Ok(Ready::Dialable),
         Call::Receive => Ok(Ready::Receive(frame_of(alloc, keys, number)?)),
         Call::Exchange => {
             replier.step(Command::UpdatePeers(infos_of(alloc, keys, number)?));
@@ -121,6 +125,13 @@ fn exchanged(asker: &mut Node<Key32>, replier: &mut Node<Key32>) -> usize {
     }
 }
 
+fn dialable(node: &mut Node<Key32>) -> usize {
+    match node.step(Command::Dialable(Duration::from_secs(100))) {
+        Reply::Dialable(dialable) => dialable.peers.len(),
+        _ => 0,
+    }
+}
+
 // Makes a call, and returns how much it did.
 fn make(nodes: &mut Nodes, keys: &[Key32], ready: Ready) -> usize {
     let Nodes { asker, replier } = nodes;
@@ -130,6 +141,7 @@ fn make(nodes: &mut Nodes, keys: &[Key32], ready: Ready) -> usize {
         Ready::Track(index, peers) => {
             usize::from(matches!(asker.track(index, peers), Reply::Track(Some(_))))
         }
+        Ready::Dialable => dialable(asker),
         Ready::Receive(frame) => {
             let answer = asker.receive(frame, Duration::from_secs(100));
             usize::from(matches!(answer, Received::Applied(_)))
@@ -184,6 +196,10 @@ fn time(
     }
     let all = keys(rt.alloc(), count)?;
     fill(rt.alloc(), nodes, &all)?;
+    if let Call::Dialable = call {
+        let infos = infos_of(rt.alloc(), &all, 0)?;
+        nodes.asker.step(Command::UpdatePeers(infos));
+    }
     time_each(rt, nodes, &all, samples, call)
 }
 

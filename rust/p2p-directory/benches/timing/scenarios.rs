@@ -7,7 +7,8 @@ use crate::made::{
     tracked, verify,
 };
 use crate::times::Times;
-use p2p_directory::{Directory, Key, Moment, Received};
+use p2p_directory::{Data, Directory, Key, Moment, Payload, Received};
+use std::hint::black_box;
 use std::time::{Duration, Instant};
 
 // How many calls with a time as argument are measured as one.
@@ -16,7 +17,7 @@ const REPEATS: usize = 100;
 // The time of queries.
 const NOW: Moment = Moment::from_secs(1000);
 
-const NAMES: [&str; 32] = [
+const NAMES: [&str; 34] = [
     "init",
     "track",
     "status",
@@ -45,6 +46,8 @@ const NAMES: [&str; 32] = [
     "acceptable",
     "dialable",
     "receive",
+    "data",
+    "copy",
     "keys",
     "fill",
     "fill_known",
@@ -67,6 +70,7 @@ pub(crate) fn times_of(name: &str, count: usize, samples: usize) -> Outcome<Time
         }
         "forget_cooled" => forgets(&all, samples),
         "receive" => receives(&all, samples),
+        "data" | "copy" => messages(count, samples, name),
         "day" => hours(count, samples),
         "keys" => Ok(once(all.len())),
         "fill" => Ok(once(full(&all)?.tracked())),
@@ -246,6 +250,31 @@ fn receives(all: &[Key], samples: usize) -> Outcome<Times> {
         let answer = node.receive(&frame, Moment::from_secs(100), verify);
         let time = start.elapsed();
         times.add(time, matches!(answer, Received::Applied(_)).into());
+    }
+    Ok(times)
+}
+
+// A node receives a message of so many bytes, or its frame is copied.
+fn messages(count: usize, samples: usize, name: &str) -> Outcome<Times> {
+    let mut node = node(&[])?;
+    let message = vec![7; count];
+    let frame = Payload::Data(Data {
+        channel: 1,
+        message,
+    })
+    .encode();
+    let mut times = Times::default();
+    for _ in 0..samples {
+        let start = Instant::now();
+        let done = if name == "copy" {
+            black_box(frame.clone()).len()
+        } else {
+            match node.receive(&frame, NOW, verify) {
+                Received::Data { message, .. } => message.len(),
+                _ => 0,
+            }
+        };
+        times.add(start.elapsed(), done);
     }
     Ok(times)
 }
