@@ -4,8 +4,8 @@
     exports.py TABLE ROOT
 
 Under ROOT it writes crates/CRATE/src and proofs, include/PREFIX.h and rust/p2p-directory-sys/src/exports.rs. The
-table has lines NAME: VALUE for crate, lib, type, words and prefix, and then a line for each export, below lines with
-/// that say what it answers:
+table has lines NAME: VALUE for crate, lib, type, words and prefix; a line `refusal NAME: WHEN` for each number that is
+no answer, from UINT64_MAX downwards; and then a line for each export, below lines with /// that say what it answers:
 
     add(x: u64) -> bool = Adds
 
@@ -229,23 +229,6 @@ shr_slice_vals shr_slice_Tells mut_slice_vals mut_slice_Tells SliceRefOf plain t
 Stays walk_of says stay_dropped Goes-dropped gave_slice Goes-gave_slice ends_at framed lft_new lft_end lends_ref ref_back Body mem WpFn""".split()
 
 
-# The numbers from UINT64_MAX downwards that are no answers, and when they are answered.
-REFUSALS = {
-    'MEMORY': 'Out of memory.',
-    'NO_NODE': '`init` has created no node yet. This comes before all others.',
-    'NONE': 'There is none.',
-    'NO_ROOM': 'The buffer is shorter than the longest answer of a call that changes something.',
-    'NOT_RESERVED': 'There is no reservation to connect.',
-    'NOT_HELD': 'There is no reservation to release.',
-    'BAD_KEY': "Another number of bytes than a key's.",
-    'BAD_KEYS': "A number of bytes that is no multiple of a key's.",
-    'BAD_INFO': 'No info, no list of infos, no address, or no bootstrappers.',
-    'BAD_BITS': 'No bits with their index, or more than `u32::MAX` of them.',
-    'BAD_MOMENT': 'A second of nanoseconds or more.',
-    'BAD_SETTING': 'A setting out of its bounds, or there is a node already.',
-    'BAD_VERDICTS': 'Not as many verdicts as infos.',
-}
-
 HOST = """Obligations of the host, which nothing checks. The memory of a session has size bytes and begins at a multiple of 16. It is
 neither read, written nor moved while a session is in it. new comes before each other call, and free once, after the
 last. One call at a time is made on a session, on whatever thread. A slice is its first byte and its length, points to
@@ -280,14 +263,18 @@ def wrapped(text, before, width=100):
 
 
 def read_table(path):
-    names, exports, doc = {}, [], []
+    refusals, exports, doc = {}, [], []
+    names = {'refusals': refusals}
     for line in open(path):
         line = line.strip()
         if not line or line.startswith('#'):
             continue
         export = re.fullmatch(r'(fn )?(\w+)\((.*)\) -> (\w+) = ([\w.]+)', line)
+        refusal = re.fullmatch(r'refusal (\w+): (.*)', line)
         if line.startswith('///'):
             doc.append(line[3:].strip())
+        elif refusal:
+            refusals[refusal.group(1)] = refusal.group(2)
         elif export:
             apart, method, params, result, word = export.groups()
             params = [Param(*p.split(': ')) for p in params.split(', ')] if params else []
@@ -363,7 +350,7 @@ def interface_of(names, exports):
     """A name that another interface doesn't have: a hash of what the calls are called, take and answer, of the refusals
     in their order, and of both sizes."""
     said = [f"{method}({', '.join(f'{p.name}: {p.text}' for p in params)}) -> {result}" for method, params, result, _, _ in calls_of(exports)]
-    said += [names['prefix'], *REFUSALS, *(f'{name} = {size}' for name, size in key_sizes(names).items())]
+    said += [names['prefix'], *names['refusals'], *(f'{name} = {size}' for name, size in key_sizes(names).items())]
     return 'interface_' + hashlib.sha256('\n'.join(said).encode()).hexdigest()[:16]
 
 
@@ -433,7 +420,7 @@ def rust_exports(names, calls, exports):
             inner = ''.join(f'        {p},\n' for p in rust_params)
             one = f"    fn {prefix}_{method}(\n{inner}    ){f' -> {result}' if result else ''};"
         rust.append(f"{one}\n")
-    numbers = ''.join(f"/// {said}\npub const {name}: u64 = u64::MAX{f' - {i}' if i else ''};\n" for i, (name, said) in enumerate(REFUSALS.items()))
+    numbers = ''.join(f"/// {said}\npub const {name}: u64 = u64::MAX{f' - {i}' if i else ''};\n" for i, (name, said) in enumerate(names['refusals'].items()))
     head = 'Written by tools/exports.sh from tools/exports/session.table.'
     return (RUST_HEAD.format(head=head, host=wrapped(HOST, '//! '), numbers=numbers)
             + 'unsafe extern "C" {\n' + '\n'.join(rust) + '}\n\n' + session.replace('PREFIX', prefix)
@@ -491,9 +478,9 @@ def header(names, calls):
         if items:
             nullable.append(c_nullable(answer, name, declared, passed))
     nullable.append(GUARDED.replace('PREFIX', prefix).replace('INTERFACE', names['interface']))
-    numbers = ''.join(f"#define {upper}_{name} (UINT64_MAX{f' - {i}' if i else ''})\n" for i, name in enumerate(REFUSALS))
+    numbers = ''.join(f"#define {upper}_{name} (UINT64_MAX{f' - {i}' if i else ''})\n" for i, name in enumerate(names['refusals']))
     filled = {'NAME': upper, **key_sizes(names), 'STACK': str(2 * STACK),
-              'MEASURED': wrapped(STACK_MEASURED, '//   '), 'REFUSALS': numbers, 'LAST': f'{upper}_{list(REFUSALS)[-1]}',
+              'MEASURED': wrapped(STACK_MEASURED, '//   '), 'REFUSALS': numbers, 'LAST': f'{upper}_{[*names["refusals"]][-1]}',
               'DECLARATIONS': '\n'.join(declarations), 'NULLABLE': '\n'.join(nullable)}
     text = open(os.path.join(HERE, 'template/header.h.in')).read()
     text = re.sub(r'@([A-Z]+)@', lambda found: names[found.group(1).lower()], text)
