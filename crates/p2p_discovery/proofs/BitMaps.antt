@@ -19,7 +19,7 @@ use Rattle.std.proofs.lemmas.Nat.Bits.{bit_at_clear_other}
 use Rattle.std.proofs.lemmas.Option.{slice_get-get_or}
 use Rattle.p2p_discovery.specs.Reading.{IsBytes}
 use Rattle.p2p_discovery.specs.Bits.{bit_in, bits_in, byte_count, IsPacked, packed}
-use Rattle.p2p_discovery.specs.BitsLaws.{length-bits_in, get_or-bits_in, bits_are, packed-bits_in, power_more}
+use Rattle.p2p_discovery.specs.Laws.Bits.{length-bits_in, get_or-bits_in, bits_are, packed-bits_in, power_more}
 
 -- ---- one bit is read
 

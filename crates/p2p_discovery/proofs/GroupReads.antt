@@ -7,7 +7,7 @@ use Rattle.p2p_discovery.specs.declared.codec.error.CodecError.{CodecError}
 use Rattle.p2p_discovery.specs.declared.codec.error.CodecError.TheVariants.{InvalidVarint}
 use Rattle.p2p_discovery.specs.Reading.{Reading, ◌>>=◌, reads, refuses, byte_at, outcome_then, Fails}
 use Rattle.p2p_discovery.specs.Varint.{groups_at, last_group}
-use Rattle.p2p_discovery.specs.VarintLaws.{at_zero, at_more, first_fails, low_gives}
+use Rattle.p2p_discovery.specs.Laws.Varint.{at_zero, at_more, first_fails, low_gives}
 
 -- What is still read, as so many units beside what was read before, is the whole number.
 abbrev pub SumsTo : ℕ → ℕ → ℕ → ℕ → ℕ → List ℕ → Reading ℕ → Type 0

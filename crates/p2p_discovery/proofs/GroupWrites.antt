@@ -1,7 +1,7 @@
 -- Writing the groups of a number two at a time.
 use Rattle.std.proofs.Common.{◌≡◌, ℕ, ◌+◌, ◌/◌, ◌%◌, ◌^◌, ◌≤◌, ◌<◌, List, [], ◌∷◌, ap, ◌∙◌, arith}
 use Rattle.p2p_discovery.specs.Varint.{groups}
-use Rattle.p2p_discovery.specs.VarintLaws.{groups_small, groups_more}
+use Rattle.p2p_discovery.specs.Laws.Varint.{groups_small, groups_more}
 
 pub one_group : (most n : ℕ) → 0 < most → n / 128 ≡ 0 → groups most n ≡ (n % 128) ∷ []
 one_group most n some e =

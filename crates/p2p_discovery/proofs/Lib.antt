@@ -9,3 +9,4 @@ pub mod Naming
 pub mod ReadLaws
 pub mod Sorting
 pub mod Verdicts
+pub mod Unions

@@ -7,7 +7,7 @@ ghost use Rattle.std.specs.Prelude.{IfOk, IfErr};
 ghost use Rattle.std.specs.List.{concat};
 ghost use Rattle.p2p_discovery.specs.Data.{data_spelling, IsDataAllowed, data_at, header};
 ghost use Rattle.p2p_discovery.specs.Data.{data_payload};
-ghost use Rattle.p2p_discovery.specs.DataLaws.{lawful_data};
+ghost use Rattle.p2p_discovery.specs.Laws.Data.{lawful_data};
 
 use crate::codec::{
     CodecError, EncodeSize, RangeCfg, Read, Reader, Write, counted_size, read_length, write_counted,
@@ -128,7 +128,7 @@ impl EncodedData {
     ///
     /// One look at the length of each buffer, one small buffer for the header, and capacity for one
     /// more element of the list.
-    #[tactic(auto, using(crate::specs::DataLaws::frame_is, crate::specs::DataLaws::frame_short))]
+    #[tactic(auto, using(crate::specs::Laws::Data::frame_is, crate::specs::Laws::Data::frame_short))]
     pub fn new(
         alloc: Global,
         channel: u64,
@@ -159,7 +159,7 @@ impl EncodedData {
 }
 
 // The number of bytes in all of the buffers.
-#[tactic(auto, using(crate::specs::DataLaws::joined_len))]
+#[tactic(auto, using(crate::specs::Laws::Data::joined_len))]
 fn total_len(buffers: &VecDeque<Bytes>) -> u32
     requires { length (concat buffers.now.items) < 2 ^ 32 }
     ensures { result ≡ length (concat buffers.now.items) }

@@ -13,7 +13,7 @@ use Rattle.p2p_discovery.specs.declared.discovery.Info.{Info}
 use Rattle.p2p_discovery.specs.declared.discovery.Payload.{Payload}
 use Rattle.p2p_discovery.specs.declared.discovery.Payload.TheVariants as said
 use Rattle.p2p_discovery.specs.declared.discovery.PayloadConfig.{PayloadConfig}
-use Rattle.p2p_discovery.specs.PayloadLaws.{lawful_payload}
+use Rattle.p2p_discovery.specs.Laws.Payload.{lawful_payload}
 use Rattle.p2p_discovery.specs.Reading.{IsBytes, ends_whole, whole}
 use Rattle.p2p_directory.specs.Nodes.{AnswersFrameBy}
 use Rattle.p2p_directory.specs.Received as frames
@@ -28,7 +28,7 @@ use Rattle.p2p_session.specs.contracts.key.KeyOrd.TheImpl.{ghosts as order}
 use Rattle.p2p_session.specs.declared.key.TheConstants.{KEY_SIZE, SIGNATURE_SIZE}
 use Rattle.p2p_session.specs.Answers.{key_bytes, signature_bytes}
 use Rattle.p2p_session.specs.Given.{key_of, signature_of}
-use Rattle.p2p_discovery.specs.ArraysLaws.{fixed_array}
+use Rattle.p2p_discovery.specs.Laws.Arrays.{fixed_array}
 use Rattle.p2p_discovery.specs.Fields.{IsSized}
 use Rattle.p2p_discovery.specs.Fixed.{IsFixed}
 use Rattle.p2p_discovery.specs.Ingress.{ingress_spelling}

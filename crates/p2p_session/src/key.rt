@@ -6,7 +6,7 @@ ghost use Rattle.std.specs.Cmp.Lexicographic.{slice_cmp};
 ghost use Rattle.std.specs.Ordering.{nat_cmp};
 ghost use Rattle.std.proofs.Common.{lit≤};
 ghost use Rattle.p2p_discovery.specs.Arrays.{array_spelling};
-ghost use Rattle.p2p_discovery.specs.ArraysLaws.{fixed_array, one_array, exact_array};
+ghost use Rattle.p2p_discovery.specs.Laws.Arrays.{fixed_array, one_array, exact_array};
 ghost use Rattle.p2p_discovery.specs.Fields.{IsSized};
 ghost use Rattle.p2p_discovery.specs.Reading.{IsBytes};
 

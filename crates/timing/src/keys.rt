@@ -4,7 +4,7 @@ ghost use Rattle.std.specs.Prelude.{◌≡◌, ◌==◌, take, refl, Some, IfOk,
 ghost use Rattle.std.proofs.Common.{lit≤};
 ghost use Rattle.std.specs.Cmp.Lexicographic.{pointwise};
 ghost use Rattle.p2p_discovery.specs.Arrays.{array_spelling};
-ghost use Rattle.p2p_discovery.specs.ArraysLaws.{fixed_array, one_array, exact_array};
+ghost use Rattle.p2p_discovery.specs.Laws.Arrays.{fixed_array, one_array, exact_array};
 ghost use Rattle.p2p_discovery.specs.Fields.{IsSized};
 
 use p2p_discovery::codec::{FixedBytes, PublicKey, read_array, write_array};

@@ -7,7 +7,7 @@ use Rattle.p2p_discovery.specs.declared.discovery.Payload.{Payload}
 use Rattle.p2p_discovery.specs.declared.discovery.PayloadConfig.{PayloadConfig}
 use Rattle.p2p_discovery.specs.Fixed.{IsFixed}
 use Rattle.p2p_discovery.specs.Payload.{IsPayload, IsAdmitted, payload_spelling, payload_at}
-use Rattle.p2p_discovery.specs.PayloadLaws.{lawful_payload}
+use Rattle.p2p_discovery.specs.Laws.Payload.{lawful_payload}
 use Rattle.p2p_discovery.specs.Reading.{whole, ends_whole}
 use Rattle.p2p_directory.specs.declared.node.Received.{Received}
 use Rattle.p2p_directory.specs.declared.node.Received.TheVariants as received

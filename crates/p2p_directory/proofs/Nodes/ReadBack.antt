@@ -13,7 +13,7 @@ use Rattle.p2p_discovery.specs.declared.discovery.Payload.TheVariants as said
 use Rattle.p2p_discovery.specs.declared.discovery.PayloadConfig.{PayloadConfig}
 use Rattle.p2p_discovery.specs.Reading.{Reading, ◌>>=◌, whole, Gives, Leaves, outcome_then, checked, refuses, takes_memory, counted_at, is_within}
 use Rattle.p2p_discovery.specs.Varint.{varint32, varint64, varint32_at, varint64_at}
-use Rattle.p2p_discovery.specs.VarintLaws.{groups_lawful}
+use Rattle.p2p_discovery.specs.Laws.Varint.{groups_lawful}
 use Rattle.p2p_discovery.specs.Bits.{packed, byte_count}
 use Rattle.p2p_discovery.specs.BitVec.{bits_read_at, bit_vec_read_at, unpacked}
 use Rattle.p2p_discovery.specs.Counted.{length_at}

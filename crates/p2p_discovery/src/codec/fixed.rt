@@ -13,7 +13,7 @@ use bytes::BytesMut;
 ///
 /// Laws: `SIZE` is at most 65535. Equal values are one value. What was written decodes to that
 /// value, and bytes that are decoded are those that the value writes. For a newtype over an array
-/// of bytes, `specs/ArraysLaws` has all of them, in addition to [`write_array`] and [`read_array`].
+/// of bytes, `specs/Laws/Arrays` has all of them, in addition to [`write_array`] and [`read_array`].
 /// `array_keys.rt` of `p2p_discovery_tests` has a worked example: a key of 32 bytes with a
 /// signature of 64.
 pub trait FixedBytes: Copy + Eq {

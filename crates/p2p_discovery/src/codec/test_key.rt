@@ -2,8 +2,8 @@
 
 ghost use Rattle.std.specs.Prelude.{◌≡◌, ◌==◌, ◌<◌, ◌^◌, Some};
 ghost use Rattle.std.specs.Int.{w64, to_be_bytes, from_be_bytes};
-ghost use Rattle.p2p_discovery.specs.KeysLaws.{one_key, one_signature, exact_key, fixed_key};
-ghost use Rattle.p2p_discovery.specs.KeysLaws.{fixed_signature};
+ghost use Rattle.p2p_discovery.specs.Laws.Keys.{one_key, one_signature, exact_key, fixed_key};
+ghost use Rattle.p2p_discovery.specs.Laws.Keys.{fixed_signature};
 ghost use Rattle.p2p_discovery.specs.TestSignatures.{signature_of, mix_of, next_of};
 
 use crate::codec::{FixedBytes, PublicKey};

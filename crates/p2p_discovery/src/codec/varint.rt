@@ -4,10 +4,10 @@ ghost use Rattle.std.specs.Prelude.{◌≡◌, ℕ, ◌+◌, ◌*◌, ◌^◌, �
 ghost use Rattle.std.specs.Prelude.{length, IfOk};
 ghost use Rattle.std.proofs.Common.{lit<};
 ghost use Rattle.p2p_discovery.specs.Reading.{Gives};
-ghost use Rattle.p2p_discovery.specs.FieldsLaws.{lawful_unlimited};
+ghost use Rattle.p2p_discovery.specs.Laws.Fields.{lawful_unlimited};
 ghost use Rattle.p2p_discovery.specs.Varint.{groups, groups_at, last_group, varint64, varint64_at};
 ghost use Rattle.p2p_discovery.specs.Varint.{varint32, varint32_at};
-ghost use Rattle.p2p_discovery.specs.VarintLaws.{groups_lawful, groups_short};
+ghost use Rattle.p2p_discovery.specs.Laws.Varint.{groups_lawful, groups_short};
 
 use crate::codec::{CodecError, EncodeSize, MaxEncodeSize, Read, Reader, Write};
 use bytes::BytesMut;

@@ -4,7 +4,7 @@ ghost use Rattle.std.specs.Prelude.{◌≡◌, ◌+◌, ◌<◌, ◌≤◌, ◌^
 ghost use Rattle.p2p_discovery.specs.Reading.{Gives};
 ghost use Rattle.p2p_discovery.specs.BitVec.{bit_vec_spelling, IsBitVecAllowed, bits_read_at};
 ghost use Rattle.p2p_discovery.specs.BitVec.{bit_vec_read_at};
-ghost use Rattle.p2p_discovery.specs.BitVecLaws.{lawful_bit_vec};
+ghost use Rattle.p2p_discovery.specs.Laws.BitVec.{lawful_bit_vec};
 
 use crate::codec::{CodecError, EncodeSize, Read, Reader, Write};
 use crate::discovery::BitVec;

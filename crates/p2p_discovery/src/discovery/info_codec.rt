@@ -3,7 +3,7 @@
 ghost use Rattle.std.specs.Prelude.{◌≡◌, ◌+◌, ◌≤◌, length};
 ghost use Rattle.p2p_discovery.specs.declared.discovery.Info.{Info};
 ghost use Rattle.p2p_discovery.specs.Info.{IsInfo, IsKeyed, info_spelling, info_at};
-ghost use Rattle.p2p_discovery.specs.InfoLaws.{lawful_info};
+ghost use Rattle.p2p_discovery.specs.Laws.Info.{lawful_info};
 
 use crate::codec::{
     CodecError, EncodeSize, FixedBytes, MaxEncodeSize, PublicKey, Read, Reader, What, Write,

@@ -9,7 +9,7 @@ ghost use Rattle.p2p_discovery.specs.Reading.{Fails, GivesAs};
 ghost use Rattle.p2p_discovery.specs.Lists.{items_at, spellings};
 ghost use Rattle.p2p_discovery.specs.Info.{IsInfo, IsKeyed, info_spelling, infos_spelling};
 ghost use Rattle.p2p_discovery.specs.Info.{AreAllowed, info_at, infos_at};
-ghost use Rattle.p2p_discovery.specs.InfoLaws.{lawful_infos};
+ghost use Rattle.p2p_discovery.specs.Laws.Info.{lawful_infos};
 
 use crate::codec::{
     CodecError, EncodeSize, FixedBytes, PublicKey, RangeCfg, Read, Reader, What, Write,

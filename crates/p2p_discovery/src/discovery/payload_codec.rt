@@ -7,7 +7,7 @@ ghost use Rattle.p2p_discovery.specs.Reading.{Gives};
 ghost use Rattle.p2p_discovery.specs.Payload.{up_to, prefix_of, IsPayload, IsKeyedPayload};
 ghost use Rattle.p2p_discovery.specs.Payload.{IsAdmitted, CanSpell, payload_spelling, body_at};
 ghost use Rattle.p2p_discovery.specs.Payload.{payload_at, gossip_size};
-ghost use Rattle.p2p_discovery.specs.PayloadLaws.{lawful_payload};
+ghost use Rattle.p2p_discovery.specs.Laws.Payload.{lawful_payload};
 
 use crate::codec::{
     CodecError, EncodeSize, FixedBytes, MaxEncodeSize, PublicKey, RangeCfg, Read, Reader, Write,

@@ -1,13 +1,13 @@
 //! Where a peer is reached, and where its connections come from.
 
 ghost use Rattle.std.specs.Prelude.{◌≡◌, ◌↔◌, ◌≤◌, length, true, IfOk, IsOk, IsTrue};
-ghost use Rattle.p2p_discovery.specs.FieldsLaws.{lawful_unlimited};
+ghost use Rattle.p2p_discovery.specs.Laws.Fields.{lawful_unlimited};
 ghost use Rattle.p2p_discovery.specs.Address.{same_address, dialled_ingress, egress_of, IsAddress};
 ghost use Rattle.p2p_discovery.specs.Address.{address_spelling, address_at};
 ghost use Rattle.p2p_discovery.specs.Ingress.{takes_none};
 ghost use Rattle.p2p_discovery.specs.Socket.{socket_ip};
-ghost use Rattle.p2p_discovery.specs.AddressLaws.{lawful_address, address_short};
-ghost use Rattle.p2p_discovery.specs.SameLaws.{address_equivalence, address_laws};
+ghost use Rattle.p2p_discovery.specs.Laws.Address.{lawful_address, address_short};
+ghost use Rattle.p2p_discovery.specs.Laws.Same.{address_equivalence, address_laws};
 
 use crate::codec::{CodecError, EncodeSize, MaxEncodeSize, Read, Reader, Write};
 use crate::types::{Ingress, IpAddr, SocketAddr};

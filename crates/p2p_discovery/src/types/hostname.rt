@@ -8,11 +8,11 @@ ghost use Rattle.std.specs.Cmp.Rules.{comparing};
 ghost use Rattle.std.specs.Cmp.Lexicographic.{pointwise, slice_cmp};
 ghost use Rattle.std.proofs.Common.{rules};
 ghost use Rattle.p2p_discovery.specs.Reading.{Gives, is_within};
-ghost use Rattle.p2p_discovery.specs.FieldsLaws.{lawful_unlimited};
+ghost use Rattle.p2p_discovery.specs.Laws.Fields.{lawful_unlimited};
 ghost use Rattle.p2p_discovery.specs.Hostname.{is_label, is_hostname, host_limit, formed, named};
 ghost use Rattle.p2p_discovery.specs.Hostname.{IsHostname, hostname_spelling, hostname_at};
 ghost use Rattle.p2p_discovery.specs.Hostname.{is_name_byte, are_name_bytes};
-ghost use Rattle.p2p_discovery.specs.HostnameLaws.{lawful_hostname, hostname_short};
+ghost use Rattle.p2p_discovery.specs.Laws.Hostname.{lawful_hostname, hostname_short};
 
 use crate::codec::{
     CodecError, EncodeSize, MaxEncodeSize, RangeCfg, Read, Reader, What, Write, counted_size,

@@ -1,11 +1,11 @@
 //! Where a peer is reached.
 
 ghost use Rattle.std.specs.Prelude.{◌≡◌, ◌↔◌, ◌≤◌, length, true, IfOk, IsOk, IsTrue};
-ghost use Rattle.p2p_discovery.specs.FieldsLaws.{lawful_unlimited};
+ghost use Rattle.p2p_discovery.specs.Laws.Fields.{lawful_unlimited};
 ghost use Rattle.p2p_discovery.specs.Ingress.{same_ingress, is_valid, port_of, ip_of, takes_none};
 ghost use Rattle.p2p_discovery.specs.Ingress.{IsIngress, ingress_spelling, ingress_at};
-ghost use Rattle.p2p_discovery.specs.IngressLaws.{lawful_ingress, ingress_short};
-ghost use Rattle.p2p_discovery.specs.SameLaws.{ingress_equivalence, ingress_laws};
+ghost use Rattle.p2p_discovery.specs.Laws.Ingress.{lawful_ingress, ingress_short};
+ghost use Rattle.p2p_discovery.specs.Laws.Same.{ingress_equivalence, ingress_laws};
 
 use crate::codec::{CodecError, EncodeSize, MaxEncodeSize, Read, Reader, Write};
 use crate::types::socket::read_port;

@@ -3,11 +3,11 @@
 ghost use Rattle.std.specs.Prelude.{◌≡◌, ◌+◌, ◌<◌, ◌≤◌, ◌∷◌, ◌++◌, length};
 ghost use Rattle.p2p_discovery.specs.Reading.{Gives};
 ghost use Rattle.p2p_discovery.specs.Fields.{IsSized, port_at};
-ghost use Rattle.p2p_discovery.specs.FieldsLaws.{lawful_unlimited};
+ghost use Rattle.p2p_discovery.specs.Laws.Fields.{lawful_unlimited};
 ghost use Rattle.p2p_discovery.specs.Global.{is_global};
 ghost use Rattle.p2p_discovery.specs.Socket.{socket_from, socket_ip, socket_port, IsIp, IsSocket};
 ghost use Rattle.p2p_discovery.specs.Socket.{ip_spelling, socket_spelling, socket_at};
-ghost use Rattle.p2p_discovery.specs.SocketLaws.{lawful_socket, socket_short};
+ghost use Rattle.p2p_discovery.specs.Laws.Socket.{lawful_socket, socket_short};
 
 use crate::codec::{
     CodecError, EncodeSize, MaxEncodeSize, Read, Reader, Write, are_bytes, read_array,

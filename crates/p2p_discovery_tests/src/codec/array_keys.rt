@@ -1,13 +1,13 @@
 //! What a user provides: a key of 32 bytes and a signature of 64, as newtypes over arrays.
 //!
-//! The laws are those of `specs/ArraysLaws`. The predicate is a toy: a signature is valid if it
+//! The laws are those of `specs/Laws/Arrays`. The predicate is a toy: a signature is valid if it
 //! begins with the key. A real one calls the user's signature scheme instead.
 
 ghost use Rattle.std.specs.Prelude.{◌==◌, take, refl, Some};
 ghost use Rattle.std.proofs.Common.{lit≤};
 ghost use Rattle.std.specs.Cmp.Lexicographic.{pointwise};
 ghost use Rattle.p2p_discovery.specs.Arrays.{array_spelling};
-ghost use Rattle.p2p_discovery.specs.ArraysLaws.{fixed_array, one_array, exact_array};
+ghost use Rattle.p2p_discovery.specs.Laws.Arrays.{fixed_array, one_array, exact_array};
 ghost use Rattle.p2p_discovery.specs.Fields.{IsSized};
 
 use p2p_discovery::codec::{FixedBytes, PublicKey, read_array, write_array};

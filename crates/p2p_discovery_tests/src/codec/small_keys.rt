@@ -5,7 +5,7 @@ ghost use Rattle.std.proofs.Common.{lit≤};
 ghost use Rattle.std.proofs.lemmas.Bool.{eqb-true};
 ghost use Rattle.std.proofs.lemmas.Map.Lookups.{exact_unsigned};
 ghost use Rattle.p2p_discovery.specs.Arrays.{number_below};
-ghost use Rattle.p2p_discovery.specs.ArraysLaws.{fixed_below};
+ghost use Rattle.p2p_discovery.specs.Laws.Arrays.{fixed_below};
 
 use p2p_discovery::codec::{FixedBytes, PublicKey};
 use std::marker::Model;

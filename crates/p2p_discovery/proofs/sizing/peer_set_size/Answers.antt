@@ -1,7 +1,7 @@
 use Rattle.std.proofs.Common.{◌+◌, ◌^◌, length, refl, sym, ap, ◌∙◌, subst, inl, inr, arith}
 use Rattle.std.specs.Option.{option_copied}
 use Rattle.p2p_discovery.specs.Sizing.{IsUnionSize}
-use Rattle.p2p_discovery.specs.SizingLaws.{extended, unextended, fits_without, in_from_any, not_in_from_any}
+use Rattle.p2p_discovery.proofs.Unions.{extended, unextended, fits_without, in_from_any, not_in_from_any}
 use Rattle.p2p_discovery.proofs.sizing.peer_set_size.Goals as goal
 
 pub union_size-size-requires-clause-fits : goal.union_size-size-requires-clause-fits

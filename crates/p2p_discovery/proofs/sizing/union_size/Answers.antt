@@ -1,5 +1,5 @@
 use Rattle.std.proofs.Common.{◌≤◌, length, arith, sym, ◌∙◌, ◌⊎◌, inl, inr}
-use Rattle.p2p_discovery.specs.SizingLaws.{union, less_met, equal_met, greater_met, met_all, union_is, union_size}
+use Rattle.p2p_discovery.proofs.Unions.{union, less_met, equal_met, greater_met, met_all, union_is, union_size}
 use Rattle.p2p_discovery.proofs.sizing.union_size.Goals as goal
 use Rattle.p2p_discovery.proofs.sizing.union_size.Goals.{then-loop-i-test+else-j-secondary, else-loop-i-test}
 

@@ -1,5 +1,5 @@
 use Rattle.std.proofs.Common.{◌≡◌, ◌+◌, ◌-◌, ◌≤◌, length, drop}
-use Rattle.p2p_discovery.specs.SizingLaws.{common}
+use Rattle.p2p_discovery.proofs.Unions.{common}
 use Rattle.p2p_discovery.proofs.sizing.union_size.Given as goal
 
 -- the members that both lists have are those that were met and those that both still have

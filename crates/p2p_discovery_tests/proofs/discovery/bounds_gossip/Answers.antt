@@ -1,5 +1,5 @@
 use Rattle.std.proofs.Common.{arith}
-use Rattle.p2p_discovery.specs.VarintLaws.{groups_short}
+use Rattle.p2p_discovery.specs.Laws.Varint.{groups_short}
 use Rattle.p2p_discovery_tests.proofs.discovery.bounds_gossip.Goals as goal
 
 pub max_gossip_size-requires : goal.max_gossip_size-requires

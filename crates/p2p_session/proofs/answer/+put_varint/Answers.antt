@@ -1,6 +1,6 @@
 use Rattle.std.proofs.Common.{◌∷◌, [], ◌+◌, ◌%◌, ◌/◌, arith, ap, length}
 use Rattle.p2p_discovery.specs.Varint.{groups}
-use Rattle.p2p_discovery.specs.VarintLaws.{groups_small, groups_more}
+use Rattle.p2p_discovery.specs.Laws.Varint.{groups_small, groups_more}
 use Rattle.p2p_session.proofs.Puts.{put_more}
 use Rattle.p2p_session.proofs.answer.+put_varint.Goals as goal
 

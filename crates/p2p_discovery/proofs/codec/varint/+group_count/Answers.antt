@@ -1,5 +1,5 @@
 use Rattle.std.proofs.Common.{arith, ap, sym, length}
-use Rattle.p2p_discovery.specs.VarintLaws.{groups_small, groups_more, groups_short}
+use Rattle.p2p_discovery.specs.Laws.Varint.{groups_small, groups_more, groups_short}
 use Rattle.p2p_discovery.proofs.codec.varint.+group_count.Goals as goal
 
 pub returns-then-n-lt128-clause-size : goal.returns-then-n-lt128-clause-size

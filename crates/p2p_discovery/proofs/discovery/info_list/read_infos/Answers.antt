@@ -1,9 +1,9 @@
 use Rattle.std.proofs.Common.{◌+◌, ◌-◌, length, vec_capacity, ◌∙◌, arith, subst}
 use Rattle.std.proofs.lemmas.Result.{err_from_is_err_and}
 use Rattle.p2p_discovery.specs.Reading.{IsBytes}
-use Rattle.p2p_discovery.specs.FieldsLaws.{IsBytes-after}
+use Rattle.p2p_discovery.specs.Laws.Fields.{IsBytes-after}
 use Rattle.p2p_discovery.specs.Info.{info_at, info_spelling}
-use Rattle.p2p_discovery.specs.InfoLaws.{lawful_info}
+use Rattle.p2p_discovery.specs.Laws.Info.{lawful_info}
 use Rattle.p2p_discovery.specs.Lists.{items_at}
 use Rattle.p2p_discovery.proofs.ListReads.{goes_on, ends, is_done, begins, no_memory, is_room, used_more}
 use Rattle.p2p_discovery.proofs.discovery.info_list.read_infos.Goals as goal

@@ -1,8 +1,8 @@
 use Rattle.std.proofs.Common.{refl, arith, ◌∷◌, []}
 use Rattle.std.specs.List.Sorted.{IsStrictlySortedBy}
 use Rattle.std.specs.Option.{option_copied}
-use Rattle.p2p_discovery.specs.KeysLaws.{key_total, exact_key}
-use Rattle.p2p_discovery.specs.SizingLaws.{union_short}
+use Rattle.p2p_discovery.specs.Laws.Keys.{key_total, exact_key}
+use Rattle.p2p_discovery.proofs.Unions.{union_short}
 use Rattle.rows.proofs.row.sizes.set_size.Goals as goal
 
 pub peer_set_size-requires-clause-primary : goal.peer_set_size-requires-clause-primary

@@ -1,7 +1,7 @@
 use Rattle.std.proofs.Common.{◌∙◌, sym, ap}
 use Rattle.p2p_discovery.specs.Reading.{IsBytes}
 use Rattle.p2p_discovery.specs.Bits.{packed}
-use Rattle.p2p_discovery.specs.BitsLaws.{packed-bits_in}
+use Rattle.p2p_discovery.specs.Laws.Bits.{packed-bits_in}
 use Rattle.p2p_discovery.proofs.sets.bit_map.BitMap.as_bytes.Goals as goal
 
 pub returns : goal.returns

@@ -1,5 +1,5 @@
 use Rattle.std.proofs.Common.{arith}
-use Rattle.p2p_discovery.specs.BitsLaws.{packed_unpadded}
+use Rattle.p2p_discovery.specs.Laws.Bits.{packed_unpadded}
 use Rattle.p2p_discovery.proofs.sets.bit_map.BitMap.from_bytes.Goals as goal
 
 pub invariant_of-result : goal.invariant_of-result

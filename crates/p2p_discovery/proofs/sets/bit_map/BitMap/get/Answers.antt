@@ -1,7 +1,7 @@
 use Rattle.std.proofs.Common.{◌≡◌, ◌∙◌, ◌<◌, ◌/◌, ◌%◌, ◌^◌, sym, ap, length, arith, Some, eqb, bit_and, get_or}
 use Rattle.std.specs.List.{slice_get}
 use Rattle.std.proofs.lemmas.List.{get_or_default}
-use Rattle.p2p_discovery.specs.BitsLaws.{length-bits_in}
+use Rattle.p2p_discovery.specs.Laws.Bits.{length-bits_in}
 use Rattle.p2p_discovery.proofs.BitMaps.{bit_read}
 use Rattle.p2p_discovery.proofs.sets.bit_map.BitMap.get.Goals as goal
 

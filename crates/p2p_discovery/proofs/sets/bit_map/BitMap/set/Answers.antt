@@ -1,6 +1,6 @@
 use Rattle.std.proofs.Common.{◌∙◌, ◌/◌, sym, ap, length, arith, set}
 use Rattle.std.proofs.lemmas.List.{get_or_default}
-use Rattle.p2p_discovery.specs.BitsLaws.{length-bits_in}
+use Rattle.p2p_discovery.specs.Laws.Bits.{length-bits_in}
 use Rattle.p2p_discovery.proofs.BitMaps.{wrote_true, wrote_false}
 use Rattle.p2p_discovery.proofs.sets.bit_map.BitMap.set.Goals as goal
 

@@ -10,7 +10,7 @@ use Rattle.std.proofs.lemmas.Nat.{from_be_bytes-to_be_bytes_8}
 use Rattle.p2p_discovery.specs.declared.codec.test_key.TestKey.{TestKey}
 use Rattle.p2p_discovery.specs.declared.codec.test_key.TestSignature.{TestSignature}
 use Rattle.p2p_discovery.specs.Fixed.{IsFixed}
-use Rattle.p2p_discovery.specs.FixedLaws.{fixed64}
+use Rattle.p2p_discovery.specs.Laws.Fixed.{fixed64}
 
 abbrev key_from : ℕ → TestKey
 key_from n = record { 0 = n }

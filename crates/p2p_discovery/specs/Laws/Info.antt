@@ -13,16 +13,16 @@ use Rattle.p2p_discovery.specs.declared.types.ingress.Ingress.{Ingress}
 use Rattle.p2p_discovery.specs.declared.types.ingress.Ingress.TheVariants.{Socket, Dns}
 use Rattle.p2p_discovery.specs.declared.discovery.Info.{Info}
 use Rattle.p2p_discovery.specs.Reading.{Lawful}
-use Rattle.p2p_discovery.specs.FieldsLaws.{lawful_both, lawful_as, lawful_same}
+use Rattle.p2p_discovery.specs.Laws.Fields.{lawful_both, lawful_as, lawful_same}
 use Rattle.p2p_discovery.specs.Fixed.{IsFixed}
-use Rattle.p2p_discovery.specs.FixedLaws.{lawful_fixed}
+use Rattle.p2p_discovery.specs.Laws.Fixed.{lawful_fixed}
 use Rattle.p2p_discovery.specs.Counted.{counted_spelling}
 use Rattle.p2p_discovery.specs.Socket.{IsIp, ip_spelling}
 use Rattle.p2p_discovery.specs.Ingress.{IsIngress, ingress_spelling}
-use Rattle.p2p_discovery.specs.IngressLaws.{lawful_ingress, ingress_short}
-use Rattle.p2p_discovery.specs.ListsLaws.{lawful_list}
+use Rattle.p2p_discovery.specs.Laws.Ingress.{lawful_ingress, ingress_short}
+use Rattle.p2p_discovery.specs.Laws.Lists.{lawful_list}
 use Rattle.p2p_discovery.specs.Varint.{groups, varint32, varint64}
-use Rattle.p2p_discovery.specs.VarintLaws.{groups_lawful, groups_short}
+use Rattle.p2p_discovery.specs.Laws.Varint.{groups_lawful, groups_short}
 use Rattle.p2p_discovery.specs.Info.{IsInfo, IsKeyed, info_spelling, info_at, infos_spelling}
 use Rattle.p2p_discovery.specs.Info.{AreAllowed, infos_at}
 

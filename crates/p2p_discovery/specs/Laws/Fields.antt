@@ -13,8 +13,8 @@ use Rattle.p2p_discovery.specs.declared.codec.error.CodecError.TheVariants.{EndO
 use Rattle.p2p_discovery.specs.declared.codec.error.CodecError.TheVariants.{InvalidEnum}
 use Rattle.p2p_discovery.specs.Reading.{Reading, ◌>>=◌, reads, refuses, outcome_then, checked}
 use Rattle.p2p_discovery.specs.Reading.{takes_memory, byte_at, counted_at, Lawful, IsBytes}
-use Rattle.p2p_discovery.specs.ReadingLaws.{bind_ok, ok_is, guard_ok, done, split_at, head_is}
-use Rattle.p2p_discovery.specs.ReadingLaws.{tail_is, one_byte_front}
+use Rattle.p2p_discovery.specs.Laws.Reading.{bind_ok, ok_is, guard_ok, done, split_at, head_is}
+use Rattle.p2p_discovery.specs.Laws.Reading.{tail_is, one_byte_front}
 use Rattle.p2p_discovery.specs.Fields.{◌&◌, choice, IsSized, port_at}
 
 -- ---- one field after another

@@ -5,8 +5,8 @@ use Rattle.std.proofs.lemmas.Bool.Decides.{nat_tests}
 use Rattle.p2p_discovery.specs.declared.codec.error.CodecError.TheVariants.{Invalid}
 use Rattle.p2p_discovery.specs.declared.codec.error.What.TheVariants as what
 use Rattle.p2p_discovery.specs.Reading.{◌>>=◌, counted_at, Lawful, is_within}
-use Rattle.p2p_discovery.specs.FieldsLaws.{lawful_sized, lawful_checked, lawful_part, lawful_same}
-use Rattle.p2p_discovery.specs.CountedLaws.{lawful_length, counted_short}
+use Rattle.p2p_discovery.specs.Laws.Fields.{lawful_sized, lawful_checked, lawful_part, lawful_same}
+use Rattle.p2p_discovery.specs.Laws.Counted.{lawful_length, counted_short}
 use Rattle.p2p_discovery.specs.Hostname.{is_hostname, host_limit, hostname_spelling, IsHostname}
 use Rattle.p2p_discovery.specs.Hostname.{formed, hostname_at}
 

@@ -5,8 +5,8 @@ use Rattle.std.specs.Int.{w64, to_be_bytes, from_be_bytes}
 use Rattle.std.proofs.lemmas.Nat.{be_bytes_8, from_be_bytes-to_be_bytes_8}
 use Rattle.p2p_discovery.specs.declared.codec.error.What.{What}
 use Rattle.p2p_discovery.specs.Reading.{counted_at, outcome_then, Lawful, IsBytes}
-use Rattle.p2p_discovery.specs.ReadingLaws.{bind_ok, ok_is}
-use Rattle.p2p_discovery.specs.FieldsLaws.{lawful_counted}
+use Rattle.p2p_discovery.specs.Laws.Reading.{bind_ok, ok_is}
+use Rattle.p2p_discovery.specs.Laws.Fields.{lawful_counted}
 use Rattle.p2p_discovery.specs.Fixed.{IsFixed, fixed_at, valued}
 
 valued_ok : {K : Type 0} (what : What) (o : Option K) (mid : List ℕ) (v : K) (rest : List ℕ)

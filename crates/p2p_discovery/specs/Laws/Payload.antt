@@ -10,21 +10,21 @@ use Rattle.p2p_discovery.specs.declared.discovery.Payload.{Payload}
 use Rattle.p2p_discovery.specs.declared.discovery.Payload.TheVariants as said
 use Rattle.p2p_discovery.specs.declared.discovery.PayloadConfig.{PayloadConfig}
 use Rattle.p2p_discovery.specs.Reading.{◌>>=◌, reads, is_within, Lawful}
-use Rattle.p2p_discovery.specs.FieldsLaws.{lawful_sized, lawful_byte, lawful_if, lawful_made}
-use Rattle.p2p_discovery.specs.FieldsLaws.{lawful_none, lawful_same}
+use Rattle.p2p_discovery.specs.Laws.Fields.{lawful_sized, lawful_byte, lawful_if, lawful_made}
+use Rattle.p2p_discovery.specs.Laws.Fields.{lawful_none, lawful_same}
 use Rattle.p2p_discovery.specs.Fixed.{IsFixed}
 use Rattle.p2p_discovery.specs.Varint.{varint32, varint64}
-use Rattle.p2p_discovery.specs.VarintLaws.{groups_short, groups_less}
+use Rattle.p2p_discovery.specs.Laws.Varint.{groups_short, groups_less}
 use Rattle.p2p_discovery.specs.Data as messages
-use Rattle.p2p_discovery.specs.DataLaws.{lawful_data}
+use Rattle.p2p_discovery.specs.Laws.Data.{lawful_data}
 use Rattle.p2p_discovery.specs.Info.{IsInfo, info_spelling, infos_spelling, info_at, infos_at}
-use Rattle.p2p_discovery.specs.InfoLaws.{lawful_info, lawful_infos, info_short, info_long}
+use Rattle.p2p_discovery.specs.Laws.Info.{lawful_info, lawful_infos, info_short, info_long}
 use Rattle.p2p_discovery.specs.Lists.{spellings}
-use Rattle.p2p_discovery.specs.ListsLaws.{spellings_short, spellings_long}
+use Rattle.p2p_discovery.specs.Laws.Lists.{spellings_short, spellings_long}
 use Rattle.p2p_discovery.specs.Bits.{packed}
-use Rattle.p2p_discovery.specs.BitsLaws.{length-packed}
+use Rattle.p2p_discovery.specs.Laws.Bits.{length-packed}
 use Rattle.p2p_discovery.specs.BitVec as bits
-use Rattle.p2p_discovery.specs.BitVecLaws.{lawful_bit_vec}
+use Rattle.p2p_discovery.specs.Laws.BitVec.{lawful_bit_vec}
 use Rattle.p2p_discovery.specs.Payload.{up_to, prefix_of, IsPayload, IsAdmitted, body_spelling}
 use Rattle.p2p_discovery.specs.Payload.{payload_spelling, body_at, payload_at, gossip_size}
 use Rattle.p2p_discovery.specs.Payload.{IsBoundedBy}

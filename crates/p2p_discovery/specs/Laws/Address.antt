@@ -5,11 +5,11 @@ use Rattle.p2p_discovery.specs.declared.types.address.Address.{Address}
 use Rattle.p2p_discovery.specs.declared.types.address.Address.TheVariants.{Symmetric, Asymmetric}
 use Rattle.p2p_discovery.specs.Reading.{◌>>=◌, reads, Lawful}
 use Rattle.p2p_discovery.specs.Fields.{◌&◌}
-use Rattle.p2p_discovery.specs.FieldsLaws.{lawful_choice, lawful_both, lawful_as}
+use Rattle.p2p_discovery.specs.Laws.Fields.{lawful_choice, lawful_both, lawful_as}
 use Rattle.p2p_discovery.specs.Socket.{socket_at, socket_spelling, IsSocket}
-use Rattle.p2p_discovery.specs.SocketLaws.{lawful_socket, socket_short}
+use Rattle.p2p_discovery.specs.Laws.Socket.{lawful_socket, socket_short}
 use Rattle.p2p_discovery.specs.Ingress.{ingress_at, ingress_spelling, IsIngress}
-use Rattle.p2p_discovery.specs.IngressLaws.{lawful_ingress, ingress_short}
+use Rattle.p2p_discovery.specs.Laws.Ingress.{lawful_ingress, ingress_short}
 use Rattle.p2p_discovery.specs.Address.{dialled_ingress, egress_of, address_at, address_spelling}
 use Rattle.p2p_discovery.specs.Address.{IsAddress}
 

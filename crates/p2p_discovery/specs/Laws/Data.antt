@@ -8,11 +8,11 @@ use Rattle.std.proofs.lemmas.List.Concat.{concat_is, length-flat_map}
 use Rattle.p2p_discovery.specs.declared.codec.error.RangeCfg.{RangeCfg}
 use Rattle.p2p_discovery.specs.declared.data.Data.{Data}
 use Rattle.p2p_discovery.specs.Reading.{Lawful, is_within}
-use Rattle.p2p_discovery.specs.FieldsLaws.{lawful_sized, lawful_both, lawful_as}
+use Rattle.p2p_discovery.specs.Laws.Fields.{lawful_sized, lawful_both, lawful_as}
 use Rattle.p2p_discovery.specs.Counted.{counted_spelling}
-use Rattle.p2p_discovery.specs.CountedLaws.{lawful_length, lawful_cut, counted_short}
+use Rattle.p2p_discovery.specs.Laws.Counted.{lawful_length, lawful_cut, counted_short}
 use Rattle.p2p_discovery.specs.Varint.{varint32, varint64}
-use Rattle.p2p_discovery.specs.VarintLaws.{groups_lawful, groups_short}
+use Rattle.p2p_discovery.specs.Laws.Varint.{groups_lawful, groups_short}
 use Rattle.p2p_discovery.specs.Data.{data_spelling, IsDataAllowed, message_at, data_at, header}
 use Rattle.p2p_discovery.specs.Data.{data_payload}
 

@@ -7,8 +7,8 @@ use Rattle.p2p_discovery.specs.declared.types.socket.IpAddr.TheVariants.{V4, V6}
 use Rattle.p2p_discovery.specs.declared.types.socket.SocketAddr.{SocketAddr}
 use Rattle.p2p_discovery.specs.Reading.{◌>>=◌, reads, counted_at, Lawful}
 use Rattle.p2p_discovery.specs.Fields.{IsSized}
-use Rattle.p2p_discovery.specs.FieldsLaws.{lawful_choice, lawful_both, lawful_as, lawful_counted}
-use Rattle.p2p_discovery.specs.FieldsLaws.{lawful_port}
+use Rattle.p2p_discovery.specs.Laws.Fields.{lawful_choice, lawful_both, lawful_as, lawful_counted}
+use Rattle.p2p_discovery.specs.Laws.Fields.{lawful_port}
 use Rattle.p2p_discovery.specs.Socket.{IsIp, IsSocket, ip_spelling, socket_spelling, ip_at}
 use Rattle.p2p_discovery.specs.Socket.{socket_at}
 

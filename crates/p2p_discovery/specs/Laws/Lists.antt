@@ -8,9 +8,9 @@ use Rattle.p2p_discovery.specs.declared.codec.error.CodecError.TheVariants.{EndO
 use Rattle.p2p_discovery.specs.declared.codec.error.RangeCfg.{RangeCfg}
 use Rattle.p2p_discovery.specs.Reading.{Reading, ◌>>=◌, reads, is_within, Lawful, IsBytes}
 use Rattle.p2p_discovery.specs.Reading.{outcome_then}
-use Rattle.p2p_discovery.specs.ReadingLaws.{bind_ok, ok_is, split_at}
-use Rattle.p2p_discovery.specs.FieldsLaws.{IsBytes-after, lawful_sized}
-use Rattle.p2p_discovery.specs.CountedLaws.{lawful_length}
+use Rattle.p2p_discovery.specs.Laws.Reading.{bind_ok, ok_is, split_at}
+use Rattle.p2p_discovery.specs.Laws.Fields.{IsBytes-after, lawful_sized}
+use Rattle.p2p_discovery.specs.Laws.Counted.{lawful_length}
 use Rattle.p2p_discovery.specs.Lists.{spellings, list_spelling, elems, items_at, list_at}
 
 elems_take : {A : Type 0} {r : List ℕ → Reading A} {sp : A → List ℕ} {P : A → Type 0}

@@ -6,14 +6,14 @@ use Rattle.p2p_discovery.specs.declared.codec.error.CodecError.TheVariants.{Inva
 use Rattle.p2p_discovery.specs.declared.codec.error.What.TheVariants as what
 use Rattle.p2p_discovery.specs.Reading.{◌>>=◌, refuses, takes_memory, counted_at, outcome_then}
 use Rattle.p2p_discovery.specs.Reading.{Lawful}
-use Rattle.p2p_discovery.specs.ReadingLaws.{bind_ok, ok_is, done}
-use Rattle.p2p_discovery.specs.FieldsLaws.{lawful_counted, lawful_part, lawful_checked}
-use Rattle.p2p_discovery.specs.FieldsLaws.{lawful_sized, lawful_both, lawful_as, chosen}
+use Rattle.p2p_discovery.specs.Laws.Reading.{bind_ok, ok_is, done}
+use Rattle.p2p_discovery.specs.Laws.Fields.{lawful_counted, lawful_part, lawful_checked}
+use Rattle.p2p_discovery.specs.Laws.Fields.{lawful_sized, lawful_both, lawful_as, chosen}
 use Rattle.p2p_discovery.specs.Varint.{varint64}
-use Rattle.p2p_discovery.specs.VarintLaws.{groups_lawful}
+use Rattle.p2p_discovery.specs.Laws.Varint.{groups_lawful}
 use Rattle.p2p_discovery.specs.Bits.{bits_in, byte_count, padding_of, packed}
-use Rattle.p2p_discovery.specs.BitsLaws.{length-bits_in, length-packed, bits_in-packed}
-use Rattle.p2p_discovery.specs.BitsLaws.{packed-bits_in, packed_unpadded, unpadded}
+use Rattle.p2p_discovery.specs.Laws.Bits.{length-bits_in, length-packed, bits_in-packed}
+use Rattle.p2p_discovery.specs.Laws.Bits.{packed-bits_in, packed_unpadded, unpadded}
 use Rattle.p2p_discovery.specs.BitVec.{bit_vec_spelling, IsBitVecAllowed, unpacked, bits_read_at}
 use Rattle.p2p_discovery.specs.BitVec.{bit_vec_read_at}
 

@@ -10,8 +10,8 @@ use Rattle.p2p_discovery.specs.declared.codec.error.CodecError.TheVariants.{EndO
 use Rattle.p2p_discovery.specs.declared.codec.error.CodecError.TheVariants.{InvalidVarint}
 use Rattle.p2p_discovery.specs.Reading.{◌>>=◌, reads, byte_at, Fails, Gives, Lawful, IsBytes}
 use Rattle.p2p_discovery.specs.Varint.{SpellsFrom, groups, groups_at, last_group}
-use Rattle.p2p_discovery.specs.ReadingLaws.{fails_first, gives_next, guard_ok, done, ok_is, bind_ok}
-use Rattle.p2p_discovery.specs.ReadingLaws.{head_is, tail_is, one_byte_front}
+use Rattle.p2p_discovery.specs.Laws.Reading.{fails_first, gives_next, guard_ok, done, ok_is, bind_ok}
+use Rattle.p2p_discovery.specs.Laws.Reading.{head_is, tail_is, one_byte_front}
 
 pub groups_small : (most n : ℕ) → 0 < most → n < 128 → groups most n ≡ n ∷ []
 unfolding groups

@@ -8,11 +8,11 @@ use Rattle.p2p_discovery.specs.declared.types.ingress.Ingress.{Ingress}
 use Rattle.p2p_discovery.specs.declared.types.ingress.Ingress.TheVariants.{Socket, Dns}
 use Rattle.p2p_discovery.specs.Reading.{◌>>=◌, reads, Lawful}
 use Rattle.p2p_discovery.specs.Fields.{◌&◌, port_at}
-use Rattle.p2p_discovery.specs.FieldsLaws.{lawful_choice, lawful_both, lawful_as, lawful_port}
+use Rattle.p2p_discovery.specs.Laws.Fields.{lawful_choice, lawful_both, lawful_as, lawful_port}
 use Rattle.p2p_discovery.specs.Socket.{socket_at, socket_spelling, IsSocket}
-use Rattle.p2p_discovery.specs.SocketLaws.{lawful_socket, socket_short}
+use Rattle.p2p_discovery.specs.Laws.Socket.{lawful_socket, socket_short}
 use Rattle.p2p_discovery.specs.Hostname.{hostname_at, hostname_spelling, IsHostname}
-use Rattle.p2p_discovery.specs.HostnameLaws.{lawful_hostname, hostname_short}
+use Rattle.p2p_discovery.specs.Laws.Hostname.{lawful_hostname, hostname_short}
 use Rattle.p2p_discovery.specs.Ingress.{ingress_at, ingress_spelling, IsIngress}
 
 socket_of : Ingress → SocketAddr

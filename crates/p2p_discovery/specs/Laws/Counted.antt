@@ -5,9 +5,9 @@ use Rattle.std.proofs.lemmas.List.{length-append}
 use Rattle.p2p_discovery.specs.declared.codec.error.RangeCfg.{RangeCfg}
 use Rattle.p2p_discovery.specs.declared.codec.error.CodecError.TheVariants.{InvalidLength}
 use Rattle.p2p_discovery.specs.Reading.{Lawful, cut_at, is_within}
-use Rattle.p2p_discovery.specs.FieldsLaws.{lawful_checked, lawful_kept, lawful_part}
+use Rattle.p2p_discovery.specs.Laws.Fields.{lawful_checked, lawful_kept, lawful_part}
 use Rattle.p2p_discovery.specs.Varint.{varint32}
-use Rattle.p2p_discovery.specs.VarintLaws.{groups_lawful, groups_short}
+use Rattle.p2p_discovery.specs.Laws.Varint.{groups_lawful, groups_short}
 use Rattle.p2p_discovery.specs.Counted.{counted_spelling, length_at}
 
 pub lawful_length : (limit : RangeCfg)

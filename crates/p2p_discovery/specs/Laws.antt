@@ -1,0 +1,19 @@
+-- Theorems on the words beside this folder, by the word that they are on. Proofs cite them.
+pub mod Address
+pub mod Arrays
+pub mod BitVec
+pub mod Bits
+pub mod Counted
+pub mod Data
+pub mod Fields
+pub mod Fixed
+pub mod Hostname
+pub mod Info
+pub mod Ingress
+pub mod Keys
+pub mod Lists
+pub mod Payload
+pub mod Reading
+pub mod Same
+pub mod Socket
+pub mod Varint
