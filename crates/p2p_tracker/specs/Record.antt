@@ -12,10 +12,10 @@ use Rattle.p2p_tracker.specs.declared.record.Address.TheVariants.{Unknown, Mysel
 use Rattle.p2p_tracker.specs.declared.record.Address.TheVariants.{Discovered}
 use Rattle.p2p_tracker.specs.declared.record.Status.{Status}
 use Rattle.p2p_tracker.specs.declared.record.Status.TheVariants.{Inert, Reserved, Active}
-use Rattle.p2p_tracker.specs.declared.record.DialStatus.{DialStatus}
-use Rattle.p2p_tracker.specs.declared.record.DialStatus.TheVariants as dial
-use Rattle.p2p_tracker.specs.declared.record.ReserveResult.{ReserveResult}
-use Rattle.p2p_tracker.specs.declared.record.ReserveResult.TheVariants as answer
+use Rattle.p2p_tracker.specs.declared.record.dialing.DialStatus.{DialStatus}
+use Rattle.p2p_tracker.specs.declared.record.dialing.DialStatus.TheVariants as dial
+use Rattle.p2p_tracker.specs.declared.record.dialing.ReserveResult.{ReserveResult}
+use Rattle.p2p_tracker.specs.declared.record.dialing.ReserveResult.TheVariants as answer
 use Rattle.p2p_tracker.specs.Moments.{cap, jitter}
 use Rattle.p2p_tracker.specs.Calls.{Cooldown}
 use Rattle.p2p_tracker.specs.History.{is_inert, first_greatest}

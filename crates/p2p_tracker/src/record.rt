@@ -1,15 +1,13 @@
 //! What is known of one peer.
 
-ghost use Rattle.std.specs.Prelude.{◌≡◌, ◌+◌, ◌-◌, ◌<◌, ◌^◌, [], false, not, true};
+ghost use Rattle.std.specs.Prelude.{◌≡◌, ◌+◌, ◌-◌, ◌<◌, ◌^◌, false, not, true};
 ghost use Rattle.std.specs.Prelude.{IfOk, IfSome, IsOk, None};
 ghost use Rattle.std.specs.Option.{option_copied, option_map};
 ghost use Rattle.std.specs.Duration.{as_nanos};
 ghost use Rattle.p2p_discovery.specs.Ingress.{takes_none};
-ghost use Rattle.p2p_tracker.specs.Moments.{cap, jitter};
 ghost use Rattle.p2p_tracker.specs.History.{is_inert, is_reserved};
 ghost use Rattle.p2p_tracker.specs.Record.{new_record, reserve_answer, record_after_asking};
 ghost use Rattle.p2p_tracker.specs.Record.{reserved_record, fresh};
-ghost use Rattle.p2p_tracker.specs.Moments.{moments_after};
 ghost use Rattle.p2p_tracker.specs.Cooldowns.{cooldown_view};
 ghost use Rattle.p2p_tracker.specs.Record.{is_eligible, is_deletable, needs_teardown};
 ghost use Rattle.p2p_tracker.specs.Record.{is_outbound_target};
@@ -20,6 +18,11 @@ ghost use Rattle.p2p_tracker.specs.Record.{ingress_of, dial_view, dial_status, i
 ghost use Rattle.p2p_tracker.specs.Private.Counts.{with_one_more, with_one_less};
 ghost use Rattle.p2p_tracker.specs.Private.Counts.{is_torn_down_without};
 
+mod dialing;
+mod moments;
+
+pub use crate::record::dialing::{DialStatus, Dialable, ReserveResult};
+pub(crate) use crate::record::moments::next_moments;
 use p2p_discovery::codec::PublicKey;
 use p2p_discovery::discovery::Info;
 use p2p_discovery::types::Ingress;
@@ -56,51 +59,6 @@ pub enum Status {
 pub(crate) enum Role {
     Primary,
     Secondary,
-}
-
-/// The result of a request for a reservation.
-#[derive(Clone, Copy, Debug, PartialEq, Eq)]
-pub enum ReserveResult {
-    /// The peer is reserved now.
-    Reserved,
-    /// The last reservation was too recent.
-    RateLimited,
-    /// The peer is the local node, or is reserved or connected already.
-    Unavailable,
-}
-
-/// When a peer may be dialled.
-#[derive(Clone, Copy, Debug, PartialEq, Eq)]
-pub enum DialStatus {
-    /// Now.
-    Now,
-    /// After this time, a duration since the epoch.
-    After(Duration),
-    /// The peer is not to be dialled, is reserved or connected already, or has no valid ingress.
-    Unavailable,
-}
-
-/// The peers that may be dialled, and when asking again is useful.
-#[derive(Debug, Drop)]
-pub struct Dialable<C: PublicKey> {
-    /// The peers that may be dialled now, in ascending order.
-    pub peers: Vec<C>,
-    /// The earliest time, a duration since the epoch, at which another peer may become dialable, if
-    /// there is one.
-    pub next_query_at: Option<Duration>,
-}
-
-impl<C: PublicKey> Dialable<C> {
-    /// No peer may be dialled, and no time is known at which one may. It doesn't allocate.
-    pub fn new(alloc: Global) -> Self
-        ensures peers { result.peers.items ≡ [] }
-        ensures moment { result.next_query_at ≡ None }
-    {
-        Dialable {
-            peers: Vec::new(alloc),
-            next_query_at: None,
-        }
-    }
 }
 
 /// What is known of one peer: its address, its connection, in how many retained sets it is, and
@@ -553,31 +511,5 @@ impl<C: PublicKey> Record<C> {
         ensures { result.now ≡ self.now.address }
     {
         &self.address
-    }
-}
-
-/// From when a peer may be reserved again, and from when it may be dialled again, after a grant at
-/// the time `now`.
-pub(crate) fn next_moments(
-    now: Duration,
-    draw: Duration,
-    interval: Duration,
-) -> (Duration, Duration)
-    ensures { cooldown_view result ≡
-        moments_after (as_nanos now) (as_nanos draw) (as_nanos interval) }
-{
-    let reservable = now.saturating_add(interval);
-    (reservable, jittered(reservable, draw, interval))
-}
-
-// The time with the jitter added.
-fn jittered(moment: Duration, draw: Duration, cooldown: Duration) -> Duration
-    ensures { as_nanos result ≡ cap (as_nanos moment + jitter (as_nanos draw) (as_nanos cooldown)) }
-{
-    let width = (cooldown / 2).saturating_mul(2);
-    if draw.as_nanos() < width.as_nanos() {
-        moment.saturating_add(draw)
-    } else {
-        moment.saturating_add(width)
     }
 }

@@ -4,7 +4,7 @@ use Rattle.std.specs.Cmp.{IsTotalOrder}
 use Rattle.p2p_tracker.specs.Calls.{Settings, Question, Call}
 use Rattle.p2p_tracker.specs.Calls.Question.{DialableAt}
 use Rattle.p2p_tracker.specs.Calls.Call.{Track, Dial, Listen, Connect, Release, Update, Block, UnblockExpired, ForgetCooled, Ask}
-use Rattle.p2p_tracker.specs.declared.record.Dialable.{Dialable}
+use Rattle.p2p_tracker.specs.declared.record.dialing.Dialable.{Dialable}
 use Rattle.p2p_tracker.specs.History
 use Rattle.p2p_tracker.specs.History.{last_with}
 use Rattle.p2p_tracker.specs.World

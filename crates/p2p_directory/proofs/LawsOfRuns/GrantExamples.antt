@@ -5,7 +5,7 @@ use Rattle.p2p_tracker.specs.Calls.{Call, Question}
 use Rattle.p2p_tracker.specs.Calls.Call.{Listen, Block, UnblockExpired, ForgetCooled, Release, Ask}
 use Rattle.p2p_tracker.specs.Calls.Question.{NumberTracked, DialableAt}
 use Rattle.p2p_tracker.specs.History.{life}
-use Rattle.p2p_tracker.specs.declared.record.Dialable.{Dialable}
+use Rattle.p2p_tracker.specs.declared.record.dialing.Dialable.{Dialable}
 use Rattle.p2p_directory.specs.declared.run.commands.Reply.{Reply}
 use Rattle.p2p_directory.specs.declared.run.commands.Reply.TheVariants as reply
 use Rattle.p2p_directory.specs.Run.{AreAnswers}

@@ -10,7 +10,7 @@ use Rattle.p2p_tracker.specs.Calls.Question.{InfosFor, BitsAt, IsEligible, IsAcc
 use Rattle.p2p_tracker.specs.Calls.Call.{Track, Dial, Listen, Connect, Release, Update, Block, UnblockExpired, ForgetCooled, Ask}
 use Rattle.p2p_tracker.specs.History
 use Rattle.p2p_tracker.specs.World.{World}
-use Rattle.p2p_tracker.specs.declared.record.Dialable.{Dialable}
+use Rattle.p2p_tracker.specs.declared.record.dialing.Dialable.{Dialable}
 use Rattle.p2p_tracker.specs.Answers.{was_granted, was_blocked, was_taken, is_torn_down, is_dialable}
 use Rattle.p2p_directory.specs.Run
 use Rattle.p2p_directory.specs.declared.run.commands.Reply.{Reply}

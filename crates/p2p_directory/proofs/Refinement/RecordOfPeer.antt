@@ -11,7 +11,7 @@ use Rattle.p2p_tracker.specs.declared.record.Address.{Address}
 use Rattle.p2p_tracker.specs.declared.record.Address.TheVariants.{Unknown, Myself, Discovered}
 use Rattle.p2p_tracker.specs.declared.record.Status.{Status}
 use Rattle.p2p_tracker.specs.declared.record.Status.TheVariants.{Inert, Reserved, Active}
-use Rattle.p2p_tracker.specs.declared.record.ReserveResult.TheVariants as reserve
+use Rattle.p2p_tracker.specs.declared.record.dialing.ReserveResult.TheVariants as reserve
 use Rattle.p2p_tracker.specs.Calls.{Settings, SetAt, Direction, Cooldown}
 use Rattle.p2p_tracker.specs.Calls.Direction.{Listener, Dialer}
 use Rattle.p2p_tracker.specs.History.{same, is_own, is_inert, is_persistent, is_named, is_present_with, primary_count, secondary_count, is_entitled}

@@ -9,7 +9,7 @@ use Rattle.p2p_tracker.specs.Calls.Call.{Dial, Ask}
 use Rattle.p2p_tracker.specs.History.{same, is_in}
 use Rattle.p2p_directory.specs.declared.run.commands.Reply.{Reply}
 use Rattle.p2p_directory.specs.declared.run.commands.Reply.TheVariants as reply
-use Rattle.p2p_tracker.specs.declared.record.Dialable.{Dialable}
+use Rattle.p2p_tracker.specs.declared.record.dialing.Dialable.{Dialable}
 use Rattle.p2p_tracker.specs.Dials.{IsBefore}
 
 -- a dial was granted, or memory was refused

@@ -2,7 +2,7 @@
 -- replies are in order, the oldest first.
 use Rattle.std.specs.Prelude.{ℕ, ◌≡◌, Bool, true, if◌then◌else◌, List, ◌∷◌, Option, Some, None}
 use Rattle.std.specs.Option.{option_map}
-use Rattle.p2p_tracker.specs.declared.record.Dialable.{Dialable}
+use Rattle.p2p_tracker.specs.declared.record.dialing.Dialable.{Dialable}
 use Rattle.p2p_tracker.specs.Calls.{Settings, Call}
 use Rattle.p2p_tracker.specs.Calls.Question.{DialableAt}
 use Rattle.p2p_tracker.specs.Calls.Call.{Track, Ask}

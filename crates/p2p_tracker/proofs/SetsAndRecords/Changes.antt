@@ -17,7 +17,7 @@ use Rattle.p2p_tracker.specs.declared.record.Address.{Address}
 use Rattle.p2p_tracker.specs.declared.record.Address.TheVariants.{Unknown, Myself, Bootstrapper, Discovered}
 use Rattle.p2p_tracker.specs.declared.record.Status.{Status}
 use Rattle.p2p_tracker.specs.declared.record.Status.TheVariants.{Inert, Reserved, Active}
-use Rattle.p2p_tracker.specs.declared.record.ReserveResult.TheVariants as answer
+use Rattle.p2p_tracker.specs.declared.record.dialing.ReserveResult.TheVariants as answer
 use Rattle.p2p_tracker.specs.Calls.{SetAt, Cooldown}
 use Rattle.p2p_tracker.specs.History.{is_inert, first_greatest}
 use Rattle.p2p_tracker.specs.Record.{is_myself, is_wanted, is_outbound_target}
