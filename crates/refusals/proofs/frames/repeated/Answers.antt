@@ -1,6 +1,6 @@
 use Rattle.std.proofs.Common.{arith, ap, length}
 use Rattle.std.specs.List.{concat}
-use Rattle.p2p_discovery.specs.DataLaws.{joined_push}
+use Rattle.p2p_discovery.specs.Laws.Data.{joined_push}
 use Rattle.refusals.proofs.frames.repeated.Goals as goal
 
 pub loop-part-preserved : goal.loop-part-preserved
