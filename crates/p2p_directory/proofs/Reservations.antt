@@ -2,6 +2,7 @@
 pub mod Slots
 pub mod Listed
 pub mod Holding
+pub mod Effects
 pub mod Served
 pub mod Told
 pub mod Replies

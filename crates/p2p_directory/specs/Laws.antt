@@ -12,6 +12,8 @@ pub mod OrderRuns
 pub mod BoundRuns
 -- What is kept answers as a world does.
 pub mod Refined
+-- .. and what each call does to it leads to the next world.
+pub mod Effects
 -- .. and those in Gossip and LateFrames in what is promised of nodes that exchange infos.
 pub mod Gossip
 pub mod LateFrames

@@ -1,23 +1,33 @@
 //! Laws of whole runs.
 
 ghost use Rattle.std.specs.Prelude.{◌≡◌, ◌≤◌, ◌<◌, ◌^◌, ℕ, Bool, true, false, List, [], ◌∷◌, ◌++◌};
-ghost use Rattle.std.specs.Prelude.{map, Option, None};
+ghost use Rattle.std.specs.Prelude.{map, Option, Some, None, option_map, is_some, IfSome, IfNone};
+ghost use Rattle.std.specs.Prelude.{◌+◌};
 ghost use Rattle.std.specs.List.{AllByRecursion};
 ghost use Rattle.p2p_discovery.specs.declared.discovery.Info.{Info};
-ghost use Rattle.p2p_tracker.specs.Calls.{Settings, Call};
-ghost use Rattle.p2p_tracker.specs.Calls.Call.{Update};
+ghost use Rattle.p2p_tracker.specs.Calls.{Settings, Call, Question};
+ghost use Rattle.p2p_tracker.specs.Calls.Call.{Track, Dial, Listen, Connect, Release, Update};
+ghost use Rattle.p2p_tracker.specs.Calls.Call.{Block, UnblockExpired, ForgetCooled, Ask};
 ghost use Rattle.p2p_tracker.specs.History.{taken_sets};
 ghost use Rattle.p2p_tracker.specs.World.{World, world_at, past};
 ghost use Rattle.p2p_tracker.specs.Step.{step, new_known};
 ghost use Rattle.p2p_tracker.specs.Lists.{Lists, IsLeastOf};
 ghost use Rattle.p2p_tracker.specs.Answers.{is_present_in, IsNumberTracked, IsNumberCooled};
-ghost use Rattle.p2p_tracker.specs.Answers.{is_torn_down, IsDialable};
+ghost use Rattle.p2p_tracker.specs.Answers.{is_torn_down, IsDialable, IsTrackAnswer, was_blocked};
+ghost use Rattle.p2p_tracker.specs.Moments.{cap};
+ghost use Rattle.p2p_tracker.specs.PeerSets.{set_of, latest_index, is_above};
 ghost use Rattle.p2p_tracker.specs.declared.directory.Metadata.{Metadata};
 ghost use Rattle.p2p_tracker.specs.Directory.{Reserves, Connects, Releases};
-ghost use Rattle.p2p_tracker.specs.Seen.{DirectoryView};
+ghost use Rattle.p2p_tracker.specs.Seen.{DirectoryView, record_of};
 ghost use Rattle.p2p_tracker.specs.Directory.{BlocksUntil, Updates, LeavesOthers, IsAsBefore};
 ghost use Rattle.p2p_tracker.specs.Directory.{infos_of};
+ghost use Rattle.p2p_tracker.specs.Directory.{first_record, TakesSet, AreTornDown, IsReserved};
+ghost use Rattle.p2p_tracker.specs.Directory.{may_dial_in, may_listen_in, ingress_in, may_block};
+ghost use Rattle.p2p_tracker.specs.Directory.{EndsBlocks, ForgetsCooled};
 ghost use Rattle.p2p_tracker.specs.Seen.{key_of};
+ghost use Rattle.p2p_directory.specs.Held.{AreHeld};
+ghost use Rattle.p2p_directory.specs.Laws.Effects.{HoldsNone, AddsHeld, DropsHeld};
+ghost use Rattle.p2p_directory.specs.Laws.Effects.{DirectoryStandsAt, granted_after};
 ghost use Rattle.p2p_directory.specs.Laws.Isolation.{SameFor, AnswersAlike, left_for};
 ghost use Rattle.p2p_directory.specs.Laws.Isolation.{is_on_another, narrowed};
 ghost use Rattle.p2p_directory.specs.Laws.Order.{HaveSame, IsUnambiguous};
@@ -26,8 +36,8 @@ ghost use Rattle.p2p_directory.specs.Laws.Grants.{KeepsCooldown, KeepsCooldownUn
 ghost use Rattle.p2p_directory.specs.Laws.Grants.{NeverGoBack, KeepsBlocks};
 ghost use Rattle.p2p_tracker.specs.Dials.{AreChosen, AreDialled, IsBefore};
 ghost use Rattle.p2p_directory.specs.declared.run.commands.Reply.{Reply};
-ghost use Rattle.p2p_directory.specs.Refinement.{Refines};
-ghost use Rattle.p2p_directory.specs.Run.{AreAnswers, world_after};
+ghost use Rattle.p2p_directory.specs.Refinement.{Refines, config_of};
+ghost use Rattle.p2p_directory.specs.Run.{AreAnswers, world_after, event_of};
 ghost use Rattle.p2p_directory.specs.Laws.Refined.{AnswersAs};
 ghost use Rattle.p2p_directory.specs.Laws.GrantRuns.{RunKeepsCooldownUnlessForgotten};
 ghost use Rattle.p2p_directory.specs.Laws.GrantRuns.{RunKeepsCooldown};
@@ -66,14 +76,109 @@ pub fn recomputed_is_one_step<C: PublicKey>()
 
 /// If a directory refines the world that the accepted calls make, its results are those of that
 /// world. By its clause `directory`, [`run`](crate::run::run) returns such a directory. So this law
-/// is for callers that go on with a directory that a run or a node leaves. The results are those of
-/// the calls of [`Directory`](p2p_tracker::directory::Directory): of each query, who is granted,
-/// whether a block has ended, and how many cooldowns. The failure limit fits `usize`, as in each
-/// `Config`.
+/// is for callers that go on with a directory that a run or a node leaves, or that make all calls
+/// by hand: [`effects_refine`]. The results are those of the calls of
+/// [`Directory`](p2p_tracker::directory::Directory): of each query, who is granted, whether a block
+/// has ended, and how many cooldowns. The failure limit fits `usize`, as in each `Config`.
 pub fn refined_answers<C: PublicKey>()
     ensures { (s : Settings C C.Signature) → s.cmp ≡ C.cmp → s.dial_fail_limit < 2 ^ 64 →
         (cs : List (Call C C.Signature)) (d : DirectoryView C C.Signature) →
         Refines s (world_after s cs) d → AnswersAs s (world_after s cs) d }
+{}
+
+/// Calls made by hand. A directory, with the reservations that its caller holds, stands at the
+/// point after some accepted calls if it refines the world that they make and these are the grants
+/// of that world. If it does before a call, it does after it: what a clause wants to know of the
+/// call is what the contract of the call says. By [`refined_answers`] each query then has the
+/// result of that world.
+///
+/// - A new directory, of which nothing is held, stands at the point before any call.
+/// - A track, a dial, a listen and a block are accepted whether or not they take effect. A track
+///   returns the peers that the worlds tear down. A dial and a listen return the reservation that
+///   is granted in the world, for a dial at the address that is known there; the caller then holds
+///   it. A block takes effect if it does in the world.
+/// - A reservation that is released is the one that is held of its peer.
+/// - Queries change nothing. A call that runs out of memory isn't accepted.
+///
+/// Reservations are held of exactly the peers that are reserved or connected.
+pub fn effects_refine<C: PublicKey>()
+    ensures starts { (s : Settings C C.Signature) → s.cmp ≡ C.cmp →
+        (d : DirectoryView C C.Signature) (held : C → Option (Metadata C C.Signature)) →
+        d.config ≡ config_of s → d.sets ≡ [] → d.blocks ≡ [] → d.cooldowns ≡ [] →
+        ((q : C) → record_of C.cmp d q ≡ first_record C.cmp s.bootstrappers s.own q) →
+        HoldsNone held → DirectoryStandsAt s [] d held }
+    ensures tracks { (s : Settings C C.Signature) → s.cmp ≡ C.cmp → 1 ≤ s.max_sets →
+        (cs : List (Call C C.Signature)) (old new : DirectoryView C C.Signature)
+        (held : C → Option (Metadata C C.Signature)) (index : ℕ) (primary secondary : List C)
+        (torn : Option (List C)) → DirectoryStandsAt s cs old held →
+        is_some torn ≡ is_above index (latest_index old.sets) → IfNone torn (new ≡ old) →
+        IfSome torn (λ _. TakesSet C.cmp old new (set_of C.cmp index primary secondary)) →
+        IfSome torn (AreTornDown C.cmp old new) →
+        let c = Track index primary secondary in DirectoryStandsAt s (c ∷ cs) new held ×
+        IsTrackAnswer s (event_of s cs c) (world_after s cs) (world_after s (c ∷ cs)) torn }
+    ensures dials { (s : Settings C C.Signature) → s.cmp ≡ C.cmp → 1 ≤ s.max_sets →
+        (cs : List (Call C C.Signature)) (old new : DirectoryView C C.Signature)
+        (held left : C → Option (Metadata C C.Signature)) (p : C) (now draw : ℕ)
+        (reservation : Option (Metadata C C.Signature)) → DirectoryStandsAt s cs old held →
+        is_some reservation ≡ may_dial_in C.cmp old now p → IfNone reservation (new ≡ old) →
+        IfSome reservation (λ metadata.
+        option_map (Metadata.Dialer p) (ingress_in C.cmp old p) ≡ Some metadata) →
+        IfSome reservation (λ _. Reserves C.cmp old new p now draw) →
+        AddsHeld C.cmp held left p reservation →
+        let c = Dial p now draw in
+        DirectoryStandsAt s (c ∷ cs) new left × (reservation ≡ granted_after s cs p c) }
+    ensures listens { (s : Settings C C.Signature) → s.cmp ≡ C.cmp → 1 ≤ s.max_sets →
+        (cs : List (Call C C.Signature)) (old new : DirectoryView C C.Signature)
+        (held left : C → Option (Metadata C C.Signature)) (p : C) (now draw : ℕ)
+        (reservation : Option (Metadata C C.Signature)) → DirectoryStandsAt s cs old held →
+        is_some reservation ≡ may_listen_in C.cmp old now p → IfNone reservation (new ≡ old) →
+        IfSome reservation (λ metadata. metadata ≡ Metadata.Listener p) →
+        IfSome reservation (λ _. Reserves C.cmp old new p now draw) →
+        AddsHeld C.cmp held left p reservation →
+        let c = Listen p now draw in
+        DirectoryStandsAt s (c ∷ cs) new left × (reservation ≡ granted_after s cs p c) }
+    ensures connects { (s : Settings C C.Signature) → s.cmp ≡ C.cmp → 1 ≤ s.max_sets →
+        (cs : List (Call C C.Signature)) (old new : DirectoryView C C.Signature)
+        (held : C → Option (Metadata C C.Signature)) (p : C) (dialer : Bool) →
+        DirectoryStandsAt s cs old held → IsReserved C.cmp old p →
+        Connects C.cmp old new p dialer → DirectoryStandsAt s (Connect p dialer ∷ cs) new held }
+    ensures releases { (s : Settings C C.Signature) → s.cmp ≡ C.cmp → 1 ≤ s.max_sets →
+        (cs : List (Call C C.Signature)) (old new : DirectoryView C C.Signature)
+        (held left : C → Option (Metadata C C.Signature)) (metadata : Metadata C C.Signature) →
+        DirectoryStandsAt s cs old held → held (key_of metadata) ≡ Some metadata →
+        Releases C.cmp old new metadata → DropsHeld C.cmp held left (key_of metadata) →
+        DirectoryStandsAt s (Release (key_of metadata) ∷ cs) new left }
+    ensures updates { (s : Settings C C.Signature) → s.cmp ≡ C.cmp → 1 ≤ s.max_sets →
+        (cs : List (Call C C.Signature)) (old new : DirectoryView C C.Signature)
+        (held : C → Option (Metadata C C.Signature)) (infos : List (Info C C.Signature)) →
+        DirectoryStandsAt s cs old held → Updates C.cmp old new infos →
+        DirectoryStandsAt s (Update infos ∷ cs) new held }
+    ensures blocks { (s : Settings C C.Signature) → s.cmp ≡ C.cmp → 1 ≤ s.max_sets →
+        (cs : List (Call C C.Signature)) (old new : DirectoryView C C.Signature)
+        (held : C → Option (Metadata C C.Signature)) (p : C) (now : ℕ) (taken : Bool) →
+        DirectoryStandsAt s cs old held → taken ≡ may_block C.cmp old now p →
+        (taken ≡ false → new ≡ old) → (taken ≡ true →
+        BlocksUntil C.cmp old new p (cap (now + old.config.block_duration))) →
+        let c = Block p now in
+        DirectoryStandsAt s (c ∷ cs) new held × (taken ≡ was_blocked (event_of s cs c)) }
+    ensures unblocks { (s : Settings C C.Signature) → s.cmp ≡ C.cmp → 1 ≤ s.max_sets →
+        (cs : List (Call C C.Signature)) (old new : DirectoryView C C.Signature)
+        (held : C → Option (Metadata C C.Signature)) (now : ℕ) →
+        DirectoryStandsAt s cs old held → EndsBlocks C.cmp old new now →
+        DirectoryStandsAt s (UnblockExpired now ∷ cs) new held }
+    ensures forgets { (s : Settings C C.Signature) → s.cmp ≡ C.cmp → 1 ≤ s.max_sets →
+        (cs : List (Call C C.Signature)) (old new : DirectoryView C C.Signature)
+        (held : C → Option (Metadata C C.Signature)) (now : ℕ) →
+        DirectoryStandsAt s cs old held → ForgetsCooled C.cmp old new now →
+        DirectoryStandsAt s (ForgetCooled now ∷ cs) new held }
+    ensures asks { (s : Settings C C.Signature) → s.cmp ≡ C.cmp → 1 ≤ s.max_sets →
+        (cs : List (Call C C.Signature)) (d : DirectoryView C C.Signature)
+        (held : C → Option (Metadata C C.Signature)) (question : Question C) →
+        DirectoryStandsAt s cs d held → DirectoryStandsAt s (Ask question ∷ cs) d held }
+    ensures agree { (s : Settings C C.Signature) → s.cmp ≡ C.cmp →
+        (cs : List (Call C C.Signature)) (d : DirectoryView C C.Signature)
+        (held : C → Option (Metadata C C.Signature)) →
+        DirectoryStandsAt s cs d held → AreHeld C.cmp d held }
 {}
 
 /// A result that lists the keys with a property, gives the earliest time of some keys, or counts
