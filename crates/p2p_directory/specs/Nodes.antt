@@ -184,6 +184,12 @@ module _ {C S : Type 0} (cmp : C → C → Ordering) where
       Type 0
   IsAsked wire place r v = AtEach v (λ m calls. IsAskedAt m wire calls place r)
 
+-- a node stands somewhere: there are a setup that it was made from, and calls that it accepted
+pub record StandsSomewhere {C S : Type 0} (cmp : C → C → Ordering) (v : NodeView C S) : Type 0 where
+  pub given : Setup C S
+  pub calls : List (Call C S)
+  pub stands : NodeStandsAt (made_of cmp given) calls v
+
 -- infos are made of values of their types
 abbrev pub AreValues : {C S : Type 0} → (C → Type 0) → (S → Type 0) → List (Info C S) → Type 0
 AreValues IsKey IsSignature infos =

@@ -10,7 +10,7 @@ ghost use Rattle.p2p_directory.specs.Received.{wire_of, applies};
 ghost use Rattle.p2p_directory.specs.Nodes.{NodeStandsAt, made_of, IsStepped, IsAsked, IsReceived};
 ghost use Rattle.p2p_directory.specs.Nodes.{AnswersFrame, AsksWith, TellsValues, AtEach};
 ghost use Rattle.p2p_directory.specs.Nodes.{AnswersFrameBy, IsReceivedBy, standing_of};
-ghost use Rattle.p2p_directory.specs.Nodes.{TearsDownFew};
+ghost use Rattle.p2p_directory.specs.Nodes.{TearsDownFew, StandsSomewhere};
 ghost use Rattle.p2p_directory.specs.Received.{are_miscounted, IsWantOfMemory};
 ghost use Rattle.p2p_directory.specs.Received.{received_of, AreFew};
 ghost use Rattle.p2p_discovery.specs.Payload.{payload_at};
@@ -155,6 +155,15 @@ impl<C: PublicKey> Node<C> {
         Ok(Node {
             endpoint: Endpoint::new(server, verifier, payload),
         })
+    }
+
+    /// Does nothing. Its contract says what holds between calls: the node stands where the calls
+    /// lead that it accepted, for some setup that it was made from and some calls. What each call
+    /// returns follows from these two, so a function that is lent a node can say it, too.
+    pub fn stands(&self)
+        ensures { StandsSomewhere C.cmp self.now }
+    {
+        self.endpoint.stands();
     }
 
     /// Serves one command, as [`run`](crate::run::run) does: a granted reservation is held, and a

@@ -11,6 +11,7 @@ use Rattle.p2p_directory.specs.Held.{held_of}
 use Rattle.p2p_directory.specs.Refinement.{Refines}
 use Rattle.p2p_directory.specs.Run.{call_of, world_after, next, Holds}
 use Rattle.p2p_directory.specs.Nodes.{Made, NodeView, NodeStandsAt, IsStepped, IsSteppedAt, made_of, may_reserve}
+use Rattle.p2p_directory.specs.Nodes.{StandsSomewhere}
 use Rattle.p2p_directory.specs.Private.Endpoints.{IsEndpointServedAt}
 use Rattle.p2p_directory.specs.Private.Serving.{ServerView, StandsAt}
 use Rattle.p2p_directory.specs.Private.Serving as serving
@@ -79,3 +80,28 @@ stepped_by cmp x r n n2 v v2 directory held directory2 held2 limits verifier ser
 pub no_room : {C S : Type 0} (m : Made C S) (calls : List (Call C S)) (n n2 : NodeView C S) (c : Call C S) →
     n2 ≡ n → may_reserve c ≡ true → NodeStandsAt m calls n → IsSteppedAt m calls c reply.OutOfMemory n2
 no_room m calls n n2 c same reserves at = record { answer = inr (reserves, refl); left = subst (NodeStandsAt m calls) (sym same) at }
+
+-- IT STANDS SOMEWHERE after each step
+
+pub still : {C S : Type 0} (cmp : C → C → Ordering) (x : Command C S) (r : Reply C S) (n n2 : NodeView C S) →
+    StandsSomewhere cmp n → IsStepped cmp x r n n2 → StandsSomewhere cmp n2
+still cmp x r n n2 somewhere steps =
+    let m = made_of cmp somewhere.given in
+    record {
+      given = somewhere.given;
+      calls = next m.directory somewhere.calls (call_of x) r;
+      stands = (steps somewhere.given somewhere.calls somewhere.stands).left;
+    }
+
+-- .. after a command that a server served: n is the node before it, n2 after it
+pub still_by : {C S : Type 0} (cmp : C → C → Ordering) (x : Command C S) (r : Reply C S) (n n2 : NodeView C S) (v v2 : ServerView C S) →
+    n.directory ≡ v.directory → ((q : C) → held_of cmp n.held q ≡ held_in cmp v.slots q) →
+    n2.directory ≡ v2.directory →
+    ((q : C) → held_of cmp n2.held q ≡ held_in cmp v2.slots q) → n2.limits ≡ n.limits →
+    n2.verifier ≡ n.verifier → serving.IsServed cmp x r v v2 → StandsSomewhere cmp n → StandsSomewhere cmp n2
+still_by cmp x r n n2 v v2 directory held directory2 held2 limits verifier serves somewhere =
+    still cmp x r n n2 somewhere (stepped_by cmp x r n n2 v v2 directory held directory2 held2 limits verifier serves)
+
+-- .. where nothing is seen to change
+pub still_same : {C S : Type 0} (cmp : C → C → Ordering) (n n2 : NodeView C S) → n2 ≡ n → StandsSomewhere cmp n → StandsSomewhere cmp n2
+still_same cmp n n2 same somewhere = subst (StandsSomewhere cmp) (sym same) somewhere

@@ -1,10 +1,14 @@
 -- What a node answers by what is seen is what it answers in the world that the accepted calls make.
 use Rattle.std.proofs.Common.{◌≡◌, ◌≤◌, ◌<◌, ◌^◌, ℕ, Bool, true, List, ◌∷◌, length, Option, Some, None, Result, Ok, Err, is_some, sym, ◌∙◌, ap, subst}
 use Rattle.std.specs.Prelude.{IfOk, IfSome, OnErr, slice_get}
+use Rattle.std.specs.declared.cmp.Ordering.{Ordering}
 use Rattle.p2p_discovery.specs.declared.discovery.BitVec.{BitVec}
 use Rattle.p2p_discovery.specs.declared.discovery.Info.{Info}
-use Rattle.p2p_discovery.specs.Judgement.{judge_of}
+use Rattle.p2p_discovery.specs.declared.discovery.PayloadConfig.{PayloadConfig}
+use Rattle.p2p_discovery.specs.Judgement.{judge_of, Verifier}
 use Rattle.p2p_directory.specs.declared.node.Received.{Received}
+use Rattle.p2p_tracker.specs.declared.directory.Metadata.{Metadata}
+use Rattle.p2p_tracker.specs.Seen.{DirectoryView}
 use Rattle.p2p_tracker.specs.Calls.{Call}
 use Rattle.p2p_tracker.specs.Calls.Call.{Update}
 use Rattle.p2p_tracker.specs.Calls.Event.{Updated}
@@ -21,11 +25,31 @@ use Rattle.p2p_directory.specs.Exchange as exchange
 use Rattle.p2p_directory.specs.Exchange.{exchanged_at, infos_applied, IsExchangedAt}
 use Rattle.p2p_directory.specs.Nodes.{Made, NodeView, NodeStandsAt, IsAnsweredAt, IsReceivedAt, IsReceivedByAt, IsAskedAt}
 use Rattle.p2p_directory.specs.Nodes.{standing_of, standing_in, calls_with, IsLeft, Answers}
-use Rattle.p2p_directory.specs.Nodes.{AsksWith, AreValues}
+use Rattle.p2p_directory.specs.Nodes.{AsksWith, AreValues, StandsSomewhere, made_of}
 use Rattle.p2p_directory.specs.Exchange.{HasSpelling, ExchangeOutcome, IsCarried}
+use Rattle.p2p_directory.specs.Private.Slots.{contents, held_in}
 use Rattle.p2p_directory.proofs.Definitions.Law
 use Rattle.p2p_directory.proofs.LawsOfRuns.Forgotten
 use Rattle.p2p_directory.proofs.Refinement.KnowledgeRefines
+
+module _ {C S : Type 0} (m : Made C S) (calls : List (Call C S)) (v : NodeView C S) (at : NodeStandsAt m calls v) where
+  -- once infos were applied it stands after one more call
+  updated : 1 ≤ m.directory.max_sets → (infos : List (Info C S)) (v2 : NodeView C S) →
+      Updates m.directory.cmp v.directory v2.directory infos → v2 ≡ record v { directory = v2.directory } →
+      NodeStandsAt m (Update infos ∷ calls) v2
+  updated some infos v2 change same =
+      let s = m.directory in
+      let w = world_after s calls in
+      let back : world_with s (Updated infos) w ≡ world_after s (Update infos ∷ calls) = sym (Law.recomputed_is_one_step s some calls (Update infos)) in
+      let holds : Holds s (world_with s (Updated infos) w) (held_of s.cmp v.held) = record { peers = at.holds.peers; metadata = at.holds.metadata } in
+      record {
+        limit_fits = at.limit_fits;
+        refines = subst (λ w. Refines s w v2.directory) back (KnowledgeRefines.tie_update s w v.directory v2.directory infos at.refines change);
+        holds = subst (λ held. Holds s (world_after s (Update infos ∷ calls)) (held_of s.cmp held))
+            (sym (ap (λ v. v.held) same)) (subst (λ w. Holds s w (held_of s.cmp v.held)) back holds);
+        limits = ap (λ v. v.limits) same ∙ at.limits;
+        verifier = ap (λ v. v.verifier) same ∙ at.verifier;
+      }
 
 module _ {C S : Type 0} (m : Made C S) (wire : Wire C S) (calls : List (Call C S)) (v : NodeView C S) (at : NodeStandsAt m calls v) where
   abbrev w : World C S
@@ -46,27 +70,10 @@ module _ {C S : Type 0} (m : Made C S) (wire : Wire C S) (calls : List (Call C S
     infos = λ index bits t. KnowledgeRefines.tie_infos m.directory w v.directory index bits t at.refines i;
   }
 
-  -- once infos were applied it stands after one more call
-  updated : 1 ≤ m.directory.max_sets → (infos : List (Info C S)) (v2 : NodeView C S) →
-      Updates m.directory.cmp v.directory v2.directory infos → v2 ≡ record v { directory = v2.directory } →
-      NodeStandsAt m (Update infos ∷ calls) v2
-  updated some infos v2 change same =
-      let s = m.directory in
-      let back : world_with s (Updated infos) w ≡ world_after s (Update infos ∷ calls) = sym (Law.recomputed_is_one_step s some calls (Update infos)) in
-      let holds : Holds s (world_with s (Updated infos) w) (held_of s.cmp v.held) = record { peers = at.holds.peers; metadata = at.holds.metadata } in
-      record {
-        limit_fits = at.limit_fits;
-        refines = subst (λ w. Refines s w v2.directory) back (KnowledgeRefines.tie_update s w v.directory v2.directory infos at.refines change);
-        holds = subst (λ held. Holds s (world_after s (Update infos ∷ calls)) (held_of s.cmp held))
-            (sym (ap (λ v. v.held) same)) (subst (λ w. Holds s w (held_of s.cmp v.held)) back holds);
-        limits = ap (λ v. v.limits) same ∙ at.limits;
-        verifier = ap (λ v. v.verifier) same ∙ at.verifier;
-      }
-
   left_at : 1 ≤ m.directory.max_sets → (o : Option (List (Info C S))) (v2 : NodeView C S) →
       IsLeft m.directory.cmp v o v2 → NodeStandsAt m (calls_with o calls) v2
   left_at some None v2 same = subst (NodeStandsAt m calls) (sym same) at
-  left_at some (Some infos) v2 change = updated some infos v2 change.0 change.1
+  left_at some (Some infos) v2 change = updated m calls v at some infos v2 change.0 change.1
 
   pub answered_in : 1 ≤ m.directory.max_sets → (may : Standing C S → Bool) (outcome : Standing C S → FrameOutcome C S) (r : Received) (v2 : NodeView C S) →
       Answers m.directory.cmp (may seen) (outcome seen) r v v2 → IsAnsweredAt m wire calls may outcome r v2
@@ -135,3 +142,25 @@ module _ {C S : Type 0} (m n : Made C S) (wire : Wire C S) (cs ds : List (Call C
       let asker = standing_in m wire (world_after m.directory cs) in
       subst (λ replier. IsCarried wire asker replier place s t o) (stands_alike n wire ds b there)
       (subst (λ asker. IsCarried wire asker (standing_of n.directory.cmp wire b) place s t o) (stands_alike m wire cs a at) carried)
+
+-- IT STANDS SOMEWHERE
+
+-- .. once infos were applied, with the same slots
+pub still_updated : {C S : Type 0} (cmp : C → C → Ordering) (d d2 : DirectoryView C S) (slots slots2 : List (C × Option (Metadata C S)))
+    (limits : PayloadConfig) (verifier : Verifier C) (infos : List (Info C S)) → slots2 ≡ slots → Updates cmp d d2 infos →
+    ((q : C) → held_of cmp (contents slots) q ≡ held_in cmp slots q) →
+    StandsSomewhere cmp (record { directory = d; held = contents slots; limits = limits; verifier = verifier }) →
+    ((q : C) → held_of cmp (contents slots2) q ≡ held_in cmp slots2 q)
+    × StandsSomewhere cmp (record { directory = d2; held = contents slots2; limits = limits; verifier = verifier })
+still_updated cmp d d2 slots slots2 limits verifier infos same change held somewhere =
+    let given = somewhere.given in (
+      subst (λ xs. (q : _) → held_of cmp (contents xs) q ≡ held_in cmp xs q) (sym same) held,
+      record {
+        given = given;
+        calls = Update infos ∷ somewhere.calls;
+        stands = updated (made_of cmp given) somewhere.calls (record { directory = d; held = contents slots; limits = limits; verifier = verifier })
+            somewhere.stands given.cfg.max_sets.ok infos
+            (record { directory = d2; held = contents slots2; limits = limits; verifier = verifier }) change
+            (ap (λ xs. record { directory = d2; held = contents xs; limits = limits; verifier = verifier }) same);
+      },
+    )

@@ -21,6 +21,7 @@ ghost use Rattle.p2p_discovery.specs.Reading.{GivesAs, whole};
 ghost use Rattle.p2p_directory.specs.Nodes.{AnswersFrameBy, standing_of};
 ghost use Rattle.p2p_directory.specs.Nodes.{may_reserve, Answers, AnswersFrame, AsksWith};
 ghost use Rattle.p2p_directory.specs.Nodes.{AreValues, TellsValues, IsStepped, TearsDownFew};
+ghost use Rattle.p2p_directory.specs.Nodes.{StandsSomewhere};
 ghost use Rattle.p2p_directory.specs.Exchange.{HasSpelling, HaveSpelling};
 ghost use Rattle.p2p_directory.specs.Private.Frames.{fault_answer};
 ghost use Rattle.p2p_directory.specs.Private.Serving.{has_slot_for};
@@ -54,6 +55,7 @@ pub struct Endpoint<C: PublicKey> {
 impl<C: PublicKey> Model for Endpoint<C> {
     ghost use Rattle.std.specs.Prelude.{◌≡◌, ◌<◌, ◌^◌};
     ghost use Rattle.p2p_directory.specs.Held.{held_of};
+    ghost use Rattle.p2p_directory.specs.Nodes.{StandsSomewhere};
     ghost use Rattle.p2p_directory.specs.Private.Endpoints.{EndpointView};
     ghost use Rattle.p2p_directory.specs.Private.Slots.{contents, held_in};
 
@@ -66,14 +68,26 @@ impl<C: PublicKey> Model for Endpoint<C> {
       verifier = e.verifier;
     } };
 
-    ghost invariant = { λ e. (e.payload.max_bit_vec < 2 ^ 32) × ((q : C) →
-        held_of C.cmp (contents e.server.slots) q ≡ held_in C.cmp e.server.slots q) };
+    ghost invariant = { λ e. (e.payload.max_bit_vec < 2 ^ 32)
+        × ((q : C) → held_of C.cmp (contents e.server.slots) q ≡ held_in C.cmp e.server.slots q)
+        × StandsSomewhere C.cmp (record {
+          directory = e.server.directory;
+          held = contents e.server.slots;
+          limits = e.payload;
+          verifier = e.verifier;
+        }) };
 }
 
 impl<C: PublicKey> Endpoint<C> {
-    /// An endpoint of this server, with this verifier and these limits.
+    /// An endpoint of this server, with this verifier and these limits. It stands somewhere.
     pub fn new(server: Server<C>, verifier: InfoVerifier<C>, payload: PayloadConfig) -> Self
-        requires { payload.max_bit_vec < 2 ^ 32 }
+        requires bits { payload.max_bit_vec < 2 ^ 32 }
+        requires stands { StandsSomewhere C.cmp (record {
+          directory = server.directory;
+          held = contents server.slots;
+          limits = payload;
+          verifier = verifier;
+        }) }
         ensures { result ≡ record {
           directory = server.directory;
           slots = server.slots;
@@ -160,6 +174,13 @@ impl<C: PublicKey> Endpoint<C> {
         let reply = self.server.track(index, peers);
         self.server.in_order();
         reply
+    }
+
+    /// Does nothing. Its contract says that the node stands somewhere.
+    pub fn stands(&self)
+        ensures { StandsSomewhere C.cmp (node_of self.now) }
+    {
+        let _limits = &self.payload;
     }
 
     /// The directory.

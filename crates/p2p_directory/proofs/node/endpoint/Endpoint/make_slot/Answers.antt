@@ -1,8 +1,19 @@
+use Rattle.p2p_directory.proofs.Nodes.Standing.{still_same}
 use Rattle.p2p_directory.proofs.Reservations.Slots.{held_is, same_contents}
 use Rattle.p2p_directory.proofs.node.endpoint.Endpoint.make_slot.Goals as goal
 
 pub invariant_of-self : goal.invariant_of-self
-invariant_of-self g c = (c.self.invariant.0, held_is g.met.C.Ord.total g.met.C.PublicKey.exact c.make_slot-made.new.self.slots c.in_order-2.ensures)
+invariant_of-self g c = (
+  c.self.invariant.0,
+  held_is g.met.C.Ord.total g.met.C.PublicKey.exact c.make_slot-made.new.self.slots c.in_order-2.ensures,
+  still_same g.C.Ord.cmp _ _ (λ i. record {
+    directory = c.make_slot-made.ensures.directory i;
+    held = same_contents g.met.C.Ord.total g.met.C.PublicKey.exact c.self.inside.server.slots
+        c.make_slot-made.new.self.slots c.in_order.ensures c.in_order-2.ensures c.make_slot-made.ensures.held i;
+    limits = c.self.inside.payload;
+    verifier = c.self.inside.verifier;
+  }) c.self.invariant.2,
+)
 
 pub returns-clause-same : goal.returns-clause-same
 returns-clause-same g c = rw (← c.self.view_is) (λ i. record {

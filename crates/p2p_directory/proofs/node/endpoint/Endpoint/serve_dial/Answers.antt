@@ -2,12 +2,18 @@ use Rattle.std.proofs.Common.{refl}
 use Rattle.p2p_directory.specs.declared.run.commands.Command.TheVariants as command
 use Rattle.p2p_directory.specs.Nodes.{made_of}
 use Rattle.p2p_directory.specs.Run.{call_of}
-use Rattle.p2p_directory.proofs.Nodes.Standing.{served}
+use Rattle.p2p_directory.proofs.Nodes.Standing.{served, still_by}
 use Rattle.p2p_directory.proofs.Reservations.Slots.{held_is}
 use Rattle.p2p_directory.proofs.node.endpoint.Endpoint.serve_dial.Goals as goal
 
 pub invariant_of-self : goal.invariant_of-self
-invariant_of-self g c = (c.self.invariant.0, held_is g.met.C.Ord.total g.met.C.PublicKey.exact c.dial-reply.new.self.slots c.in_order.ensures)
+invariant_of-self g c =
+    let held = held_is g.met.C.Ord.total g.met.C.PublicKey.exact c.dial-reply.new.self.slots c.in_order.ensures in (
+      c.self.invariant.0,
+      held,
+      still_by g.C.Ord.cmp (command.Dial c.args.peer.now c.args.now c.args.draw) c.dial-reply.result _ _ c.self.inside.server c.dial-reply.new.self refl c.self.invariant.1 refl
+          held refl refl c.dial-reply.ensures.served c.self.invariant.2,
+    )
 
 pub returns-clause-served : goal.returns-clause-served
 returns-clause-served g c = rw (← c.self.view_is) (λ given calls at.
