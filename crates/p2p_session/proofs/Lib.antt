@@ -5,3 +5,5 @@ pub mod Greeters
 pub mod Rooms
 pub mod Direct
 pub mod Compared
+pub mod Bootstrappers
+pub mod Setups

@@ -1,7 +1,8 @@
 -- What a session is given: bytes and numbers, and what they are.
-use Rattle.std.specs.Prelude.{◌≡◌, ◌⊎◌, ℕ, ◌+◌, ◌*◌, ◌%◌, ◌^◌, ◌-◌, ◌==◌, nat_lt, if◌then◌else◌}
-use Rattle.std.specs.Prelude.{List, ◌++◌, length, Option, Some, Result, Ok, Err, ◌↔◌, Vec, flat_map}
-use Rattle.std.specs.List.{Contains}
+use Rattle.std.specs.Prelude.{◌≡◌, ◌⊎◌, ℕ, ◌+◌, ◌*◌, ◌%◌, ◌^◌, ◌-◌, ◌==◌, ◌<◌, nat_lt}
+use Rattle.std.specs.Prelude.{if◌then◌else◌, Bool, ◌&&◌, List, ◌++◌, length, Option, Some, Result}
+use Rattle.std.specs.Prelude.{Ok, Err, ◌↔◌, Vec, flat_map}
+use Rattle.std.specs.List.{AllByRecursion, Contains}
 use Rattle.std.specs.List.Sorted.{IsStrictlySortedBy}
 use Rattle.std.specs.Duration.{as_nanos}
 use Rattle.std.specs.declared.time.Duration.{Duration}
@@ -9,7 +10,8 @@ use Rattle.p2p_discovery.specs.declared.discovery.BitVec.{BitVec}
 use Rattle.p2p_discovery.specs.declared.discovery.Info.{Info}
 use Rattle.p2p_discovery.specs.declared.codec.error.CodecError.{CodecError}
 use Rattle.p2p_discovery.specs.Reading.{whole}
-use Rattle.p2p_discovery.specs.Info.{info_spelling, infos_at}
+use Rattle.p2p_discovery.specs.Fields.{IsSized}
+use Rattle.p2p_discovery.specs.Info.{IsInfo, IsKeyed, info_spelling, infos_at}
 use Rattle.p2p_discovery.specs.BitVec.{bit_vec_read_at}
 use Rattle.p2p_discovery.specs.Payload.{up_to}
 use Rattle.p2p_tracker.specs.Calls.{Call}
@@ -27,7 +29,7 @@ use Rattle.p2p_session.specs.declared.setup.Numbers.{Numbers}
 use Rattle.p2p_session.specs.Answers.{key_bytes, keys_bytes, signature_bytes}
 use Rattle.p2p_directory.specs.declared.node.Setup.{Setup}
 use Rattle.p2p_discovery.specs.declared.types.ingress.Ingress.{Ingress}
-use Rattle.p2p_discovery.specs.Ingress.{ingress_spelling}
+use Rattle.p2p_discovery.specs.Ingress.{IsIngress, ingress_spelling}
 use Rattle.std.specs.Int.NonZero.{non_zero_usize_get}
 
 -- what is asked for, or why it can't be read
@@ -66,23 +68,20 @@ abbrev pub asked : Result (Command Key Signature) Refusal → Asked
 asked (Ok x) = Ok (call_of x)
 asked (Err why) = Err why
 
+-- a key has its number of bytes
+abbrev pub IsKey : Key → Type 0
+IsKey key = length key.0 ≡ KEY_SIZE
+
+-- bytes that are keys, one after the other
+abbrev pub AreKeys : List ℕ → Type 0
+AreKeys bytes = length bytes % KEY_SIZE ≡ 0
+
 -- the set of the keys that stand in these bytes one after the other, in whatever order and however
 -- often each of them comes
 abbrev pub IsSetOf : List ℕ → List Key → Type 0
 IsSetOf bytes set = IsStrictlySortedBy order.cmp set × ((keys : List Key)
-    × (keys_bytes keys ≡ bytes) × ((q : Key) → Contains set q ↔ Contains keys q))
-
--- a set that was read, or why there is none
-abbrev pub IsSetRead : List ℕ → Result (List Key) Refusal → Type 0
-IsSetRead bytes (Ok set) = IsSetOf bytes set
-IsSetRead bytes (Err why) =
-    (why ≡ refusal.Memory) ⊎ ((why ≡ refusal.BadKeys) × (¬ (length bytes % KEY_SIZE ≡ 0)))
-
--- keys that were read, or why there are none
-abbrev pub AreKeysRead : {A : Type 0} → List ℕ → Result (Vec Key A) Refusal → Type 0
-AreKeysRead bytes (Ok keys) = keys_bytes keys.items ≡ bytes
-AreKeysRead bytes (Err why) =
-    (why ≡ refusal.Memory) ⊎ ((why ≡ refusal.BadKeys) × (¬ (length bytes % KEY_SIZE ≡ 0)))
+    × AllByRecursion IsKey keys × (keys_bytes keys ≡ bytes)
+    × ((q : Key) → Contains set q ↔ Contains keys q))
 
 -- infos that were read, as a list
 abbrev pub infos_of : {A : Type 0} → Result (Vec (Info Key Signature) A) Refusal →
@@ -107,13 +106,15 @@ bits_spelled bytes = spelled refusal.BadBits (whole (bit_vec_read_at (2 ^ 32 - 1
 abbrev pub IsRead : {A : Type 0} → Result A Refusal → Result A Refusal → Type 0
 IsRead read it = (read ≡ Err refusal.Memory) ⊎ (read ≡ it)
 
--- the peers of a set that were read, or why there are none
+-- the peers of a set that were read, or why there are none: bytes that are no keys are refused
+-- first, and then memory may be, where there is a key
 abbrev pub ArePeersRead : List ℕ → List ℕ → Result (TrackedPeers Key Signature) Refusal → Type 0
 ArePeersRead primary secondary (Ok peers) =
     IsSetOf primary peers.primary × IsSetOf secondary peers.secondary
-ArePeersRead primary secondary (Err why) = (why ≡ refusal.Memory)
-    ⊎ ((why ≡ refusal.BadKeys) × ((¬ (length primary % KEY_SIZE ≡ 0))
-    ⊎ (¬ (length secondary % KEY_SIZE ≡ 0))))
+ArePeersRead primary secondary (Err why) =
+    ((why ≡ refusal.BadKeys) × (¬ (AreKeys primary × AreKeys secondary)))
+    ⊎ ((why ≡ refusal.Memory) × AreKeys primary × AreKeys secondary
+    × (0 < length primary + length secondary))
 
 -- the track of the set of these peers
 abbrev pub track_of : ℕ → Result (TrackedPeers Key Signature) Refusal → Asked
@@ -127,9 +128,43 @@ IsTrackRead index primary secondary given = (peers : Result (TrackedPeers Key Si
 
 -- ---- what a node is made from
 
--- keys and ingresses, one after the other
+-- a key and an ingress, each of its form
+abbrev pub IsBootstrapper : Key × Ingress → Type 0
+IsBootstrapper b = IsKey b.0 × IsIngress b.1
+
+abbrev pub bootstrapper_spelling : Key × Ingress → List ℕ
+bootstrapper_spelling b = key_bytes b.0 ++ ingress_spelling b.1
+
+-- one after the other
 abbrev pub bootstrappers_spelling : List (Key × Ingress) → List ℕ
-bootstrappers_spelling bs = flat_map (λ b. key_bytes b.0 ++ ingress_spelling b.1) bs
+bootstrappers_spelling bs = flat_map bootstrapper_spelling bs
+
+-- an info of these keys and signatures
+abbrev pub IsInfoOfKeys : Info Key Signature → Type 0
+IsInfoOfKeys i = IsInfo i
+    × IsKeyed (λ key. IsSized KEY_SIZE key.0) (λ signature. IsSized SIGNATURE_SIZE signature.0) i
+
+-- these bytes are some bootstrappers
+abbrev pub SpellBootstrappers : List ℕ → Type 0
+SpellBootstrappers bytes = (bs : List (Key × Ingress)) × AllByRecursion IsBootstrapper bs
+    × (bootstrappers_spelling bs ≡ bytes)
+
+-- .. an info
+abbrev pub SpellInfo : List ℕ → Type 0
+SpellInfo bytes = (i : Info Key Signature) × IsInfoOfKeys i
+    × (info_spelling key_bytes signature_bytes i ≡ bytes)
+
+-- a node retains a set, and not as many as fit no list, and a frame encodes as many bits
+abbrev pub are_settings : Numbers → Bool
+are_settings n =
+    nat_lt 0 n.max_sets && (nat_lt n.max_sets (2 ^ 64 - 1) && nat_lt n.max_bit_vec (2 ^ 32))
+
+-- the numbers of a setup are fine, or the first that isn't is refused: settings, then the durations
+abbrev pub numbers_at : Numbers → Result ℕ Refusal
+numbers_at n = if are_settings n
+    then and_then (moment_at n.cooldown.0 n.cooldown.1) (λ _.
+    and_then (moment_at n.block.0 n.block.1) (λ _. moment_at n.bound.0 n.bound.1))
+    else Err refusal.BadSetting
 
 -- a setup of these numbers and bytes
 pub record IsSetup (n : Numbers) (namespace bootstrappers myself : List ℕ)
@@ -147,4 +182,20 @@ pub record IsSetup (n : Numbers) (namespace bootstrappers myself : List ℕ)
   pub bound : moment_at n.bound.0 n.bound.1 ≡ Ok (as_nanos s.synchrony_bound)
   pub namespace_is : s.namespace.items ≡ namespace
   pub bootstrappers_are : bootstrappers_spelling s.bootstrappers.items ≡ bootstrappers
+  pub are_bootstrappers : AllByRecursion IsBootstrapper s.bootstrappers.items
   pub myself_is : info_spelling key_bytes signature_bytes s.myself ≡ myself
+  pub is_info : IsInfoOfKeys s.myself
+
+-- why numbers and bytes are no setup: the first number that is refused; else want of memory, or
+-- bytes that spell no bootstrappers, or no info
+abbrev pub IsSetupRefusal : Result ℕ Refusal → List ℕ → List ℕ → Refusal → Type 0
+IsSetupRefusal (Err fault) bootstrappers myself why = why ≡ fault
+IsSetupRefusal (Ok bound) bootstrappers myself why = (why ≡ refusal.Memory)
+    ⊎ ((why ≡ refusal.BadInfo) × (¬ (SpellBootstrappers bootstrappers × SpellInfo myself)))
+
+-- a setup that was read, or why there is none
+abbrev pub IsSetupRead : Numbers → List ℕ → List ℕ → List ℕ → Result (Setup Key Signature) Refusal →
+    Type 0
+IsSetupRead n namespace bootstrappers myself (Ok s) = IsSetup n namespace bootstrappers myself s
+IsSetupRead n namespace bootstrappers myself (Err why) =
+    IsSetupRefusal (numbers_at n) bootstrappers myself why

@@ -19,6 +19,7 @@ use Rattle.p2p_directory.specs.declared.run.commands.Reply.{Reply}
 use Rattle.p2p_session.specs.declared.key.Key.{Key}
 use Rattle.p2p_session.specs.declared.key.Signature.{Signature}
 use Rattle.p2p_session.specs.declared.key.TheConstants.{KEY_SIZE}
+use Rattle.p2p_session.specs.declared.refusal.Refusal.{Refusal}
 use Rattle.p2p_session.specs.declared.refusal.Refusal.TheVariants as refusal
 use Rattle.p2p_session.specs.declared.Session.{Session}
 use Rattle.p2p_session.specs.contracts.key.KeyOrd.TheImpl.{ghosts as order}
@@ -27,7 +28,7 @@ use Rattle.p2p_session.specs.Frames.{TellsHeldOf, ReceivesOf, ChecksAt}
 use Rattle.p2p_session.specs.Answers.{Tells, TellsReply, Refuses, optional, moment_bytes}
 use Rattle.p2p_session.specs.Refusals.{number_of}
 use Rattle.p2p_session.specs.Given.{Asked, and_then, key_at, moment_at, IsTrackRead, IsRead}
-use Rattle.p2p_session.specs.Given.{infos_spelled, bits_spelled, IsSetup}
+use Rattle.p2p_session.specs.Given.{infos_spelled, bits_spelled, IsSetup, IsSetupRefusal, numbers_at}
 use Rattle.p2p_directory.specs.Received.{ask_frame_at}
 
 -- no node has been made
@@ -228,12 +229,19 @@ abbrev pub IsMade : Option View → Setup Key Signature → Type 0
 IsMade None given = ⊥
 IsMade (Some v) given = NodeStandsAt (made_of order.cmp given) [] v
 
--- 1 where there was none and it is made from these, and else nothing changes
+-- why none is made: there is one already, or the setup is refused
+abbrev pub IsInitRefusal : Numbers → List ℕ → List ℕ → Option View → Refusal → Type 0
+IsInitRefusal numbers bootstrappers myself (Some v) why = why ≡ refusal.BadSetting
+IsInitRefusal numbers bootstrappers myself None why =
+    IsSetupRefusal (numbers_at numbers) bootstrappers myself why
+
+-- 1 where there was none and it is made from these; else why not, and nothing changes
 pub record InitsBy (numbers : Numbers) (namespace bootstrappers myself : List ℕ)
     (before after : Session) (n : ℕ) : Type 0 where
   pub made : n ≡ 1 → (before.node ≡ None) × ((given : Setup Key Signature)
       × IsSetup numbers namespace bootstrappers myself given × IsMade after.node given)
-  pub refused : ¬ (n ≡ 1) → after.node ≡ before.node
+  pub refused : ¬ (n ≡ 1) → (after.node ≡ before.node) × ((why : Refusal)
+      × IsInitRefusal numbers bootstrappers myself before.node why × (n ≡ number_of why))
 
 abbrev pub Inits : Bool → Bool → ℕ → ℕ → ℕ → ℕ → ℕ → ℕ → ℕ → ℕ → ℕ → ℕ → ℕ → ℕ →
     List ℕ → List ℕ → List ℕ → Session → Session → ℕ → Type 0

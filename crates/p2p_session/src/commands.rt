@@ -7,7 +7,7 @@ ghost use Rattle.p2p_session.specs.Sessions.{of_peer, at_moment};
 ghost use Rattle.p2p_tracker.specs.Calls.Call.{Ask, Update};
 ghost use Rattle.p2p_tracker.specs.Calls.Question.{BlockedAt, InfoOf, DialableAt, InfosFor};
 
-use crate::given::{bits, infos, key, moment, set};
+use crate::given::{are_keys, bits, infos, key, moment, set};
 use crate::key::Key;
 use crate::refusal::Refusal;
 use p2p_directory::directory::TrackedPeers;
@@ -17,6 +17,9 @@ use std::alloc::Global;
 pub fn peers(alloc: Global, primary: &[u8], secondary: &[u8]) -> Result<TrackedPeers<Key>, Refusal>
     ensures { ArePeersRead primary.now secondary.now result }
 {
+    if !are_keys(primary) || !are_keys(secondary) {
+        return Err(Refusal::BadKeys);
+    }
     let primary = set(alloc, primary)?;
     let secondary = set(alloc, secondary)?;
     Ok(TrackedPeers::new(primary, secondary))

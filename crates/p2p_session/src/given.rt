@@ -1,8 +1,10 @@
 //! What a session is given, as values: keys, times, sets, infos and bits.
 
-ghost use Rattle.std.specs.Prelude.{◌≡◌, ◌+◌, ◌≤◌, take, drop, length};
-ghost use Rattle.p2p_session.specs.Given.{key_at, moment_at, nanos_of, IsSetRead, IsRead};
-ghost use Rattle.p2p_session.specs.Given.{infos_spelled, bits_spelled, infos_of, AreKeysRead};
+ghost use Rattle.std.specs.Prelude.{◌≡◌, ◌+◌, ◌%◌, ◌==◌, ◌≤◌, ◌<◌, take, drop, length, IfOk, OnErr};
+ghost use Rattle.std.specs.List.{AllByRecursion};
+ghost use Rattle.p2p_session.specs.Answers.{keys_bytes};
+ghost use Rattle.p2p_session.specs.Given.{key_at, moment_at, nanos_of, IsKey, AreKeys, IsSetOf};
+ghost use Rattle.p2p_session.specs.Given.{infos_spelled, bits_spelled, infos_of, IsRead};
 
 use crate::key::{KEY_SIZE, Key};
 use crate::refusal::Refusal;
@@ -10,7 +12,7 @@ use bytes::Bytes;
 use p2p_discovery::codec::{CodecError, RangeCfg, Read, read_array};
 use p2p_discovery::discovery::{BitVec, Info, Infos};
 use p2p_discovery::sets::OrderedSet;
-use std::alloc::Global;
+use std::alloc::{AllocError, Global};
 use std::time::Duration;
 
 const NANOS_PER_SECOND: u32 = 1_000_000_000;
@@ -35,25 +37,38 @@ pub fn moment(seconds: u64, nanos: u32) -> Result<Duration, Refusal>
     Ok(Duration::new(seconds, nanos))
 }
 
+/// Whether these bytes are keys, one after the other.
+pub fn are_keys(bytes: &[u8]) -> bool
+    ensures { result ≡ (length bytes.now % KEY_SIZE == 0) }
+{
+    bytes.len() % KEY_SIZE == 0
+}
+
 /// The set of the keys in these bytes, which follow each other in any order and may repeat.
-pub fn set(alloc: Global, bytes: &[u8]) -> Result<OrderedSet<Key>, Refusal>
-    ensures { IsSetRead bytes.now result }
+///
+/// # Conditions
+///
+/// They are keys, as [`are_keys`] says.
+pub fn set(alloc: Global, bytes: &[u8]) -> Result<OrderedSet<Key>, AllocError>
+    requires { AreKeys bytes.now }
+    ensures set { IfOk result (IsSetOf bytes.now) }
+    ensures err { OnErr result (0 < length bytes.now) }
 {
     Ok(OrderedSet::from_vec_dedup(keys(alloc, bytes)?))
 }
 
 // The keys in these bytes, one after the other.
 #[tactic(auto, using(crate::proofs::Puts::keys_next))]
-fn keys(alloc: Global, bytes: &[u8]) -> Result<Vec<Key>, Refusal>
-    ensures { AreKeysRead bytes.now result }
+fn keys(alloc: Global, bytes: &[u8]) -> Result<Vec<Key>, AllocError>
+    requires { AreKeys bytes.now }
+    ensures are { IfOk result (λ keys. AllByRecursion IsKey keys.items) }
+    ensures spelled { IfOk result (λ keys. keys_bytes keys.items ≡ bytes.now) }
+    ensures err { OnErr result (0 < length bytes.now) }
 {
-    if bytes.len() % KEY_SIZE != 0 {
-        return Err(Refusal::BadKeys);
-    }
     let count = bytes.len() / KEY_SIZE;
     let mut keys = Vec::with_capacity(alloc, count)?;
     for place in 0..count {
-        keys.push(key_in(bytes, place * KEY_SIZE))?;
+        keys.push_reserved(key_in(bytes, place * KEY_SIZE));
     }
     Ok(keys)
 }

@@ -13,7 +13,10 @@
 //! given the results. There is no signature scheme in here.
 #![tactic(auto)]
 
-ghost use Rattle.std.specs.Prelude.{◌≡◌, None};
+ghost use Rattle.std.specs.Prelude.{◌≡◌, ◌<◌, ◌-◌, ◌^◌, None};
+ghost use Rattle.std.specs.Int.NonZero.{non_zero_usize_get};
+ghost use Rattle.p2p_session.specs.Refusals.{number_of};
+ghost use Rattle.p2p_session.specs.declared.refusal.Refusal.TheVariants.{Memory};
 ghost use Rattle.p2p_session.specs.Given.{asked, track_of};
 ghost use Rattle.p2p_session.specs.Sessions.{IsFresh, Serves, Dials, Listens, Connects, Releases};
 ghost use Rattle.p2p_session.specs.Sessions.{Blocks, Unblocks, Forgets, TellsUnblock, TellsBlocked};
@@ -117,23 +120,23 @@ impl Session {
             peer_gossip_max_count,
             bound: (bound_seconds, bound_nanos),
         };
+        if let Some(_node) = &self.node {
+            return Refusal::BadSetting.number();
+        }
         match setup(alloc, &numbers, namespace, bootstrappers, myself) {
             Ok(setup) => self.make(alloc, setup),
             Err(refusal) => refusal.number(),
         }
     }
 
-    // Creates the node, if there is none.
+    // Creates the node.
     fn make(&mut self, alloc: Global, setup: Setup<Key>) -> u64
-        ensures made { result ≡ 1 → (self.old.node ≡ None) × IsMade self.new.node setup }
-        ensures refused { ¬ (result ≡ 1) → self.new.node ≡ self.old.node }
+        requires none { self.old.node ≡ None }
+        requires sets { non_zero_usize_get setup.cfg.max_sets < 2 ^ 64 - 1 }
+        requires bits { setup.payload.max_bit_vec < 2 ^ 32 }
+        ensures made { result ≡ 1 → IsMade self.new.node setup }
+        ensures refused { ¬ (result ≡ 1) → (self.new.node ≡ None) × (result ≡ number_of Memory) }
     {
-        if setup.cfg.max_sets.get() == usize::MAX || setup.payload.max_bit_vec >= 1 << 32 {
-            return Refusal::BadSetting.number();
-        }
-        if let Some(_node) = &self.node {
-            return Refusal::BadSetting.number();
-        }
         let Ok(node) = Node::new(alloc, setup) else {
             return Refusal::Memory.number();
         };

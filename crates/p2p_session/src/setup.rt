@@ -1,12 +1,21 @@
 //! What a node is created from, decoded from what a session is given.
 
-ghost use Rattle.std.specs.Prelude.{◌≡◌, ◌<◌, ◌++◌, length, IfOk, OnOk};
+ghost use Rattle.std.specs.Prelude.{◌≡◌, ◌≢◌, ◌<◌, ◌⊎◌, ◌++◌, ℕ, List, true, length, Ok, Err};
+ghost use Rattle.std.specs.Prelude.{IfOk, OnOk, IfErr};
+ghost use Rattle.std.specs.List.{AllByRecursion};
+ghost use Rattle.p2p_discovery.specs.declared.codec.error.CodecError.TheVariants as fault;
 ghost use Rattle.p2p_discovery.specs.Info.{info_spelling};
-ghost use Rattle.p2p_discovery.specs.Ingress.{ingress_spelling};
+ghost use Rattle.p2p_discovery.specs.declared.types.ingress.Ingress.{Ingress};
 ghost use Rattle.std.specs.Duration.{as_nanos};
 ghost use Rattle.std.specs.Int.NonZero.{non_zero_usize_get};
 ghost use Rattle.p2p_session.specs.Answers.{key_bytes, signature_bytes};
-ghost use Rattle.p2p_session.specs.Given.{bootstrappers_spelling, IsSetup, moment_at};
+ghost use Rattle.p2p_session.specs.Given.{bootstrapper_spelling, bootstrappers_spelling};
+ghost use Rattle.p2p_session.specs.Given.{IsKey, IsBootstrapper, SpellBootstrappers, IsInfoOfKeys};
+ghost use Rattle.p2p_session.specs.Given.{SpellInfo, are_settings, numbers_at, moment_at};
+ghost use Rattle.p2p_session.specs.Given.{IsSetup, IsSetupRead};
+ghost use Rattle.p2p_session.specs.declared.key.Key.{Key};
+ghost use Rattle.p2p_session.specs.declared.key.TheConstants.{KEY_SIZE};
+ghost use Rattle.p2p_session.specs.declared.refusal.Refusal.TheVariants.{Memory, BadInfo};
 
 use crate::given::{key_in, moment};
 use crate::key::{KEY_SIZE, Key};
@@ -36,7 +45,8 @@ pub struct Numbers {
     pub bound: (u64, u32),
 }
 
-/// What a node is created from.
+/// What a node is created from. Refused are, first, settings that no node may have, then durations,
+/// then bytes that encode no bootstrappers or no info.
 pub fn setup(
     alloc: Global,
     numbers: &Numbers,
@@ -44,7 +54,8 @@ pub fn setup(
     bootstrappers: &[u8],
     myself: &[u8],
 ) -> Result<Setup<Key>, Refusal>
-    ensures { IfOk result (IsSetup numbers.now namespace.now bootstrappers.now myself.now) }
+    ensures read { IsSetupRead numbers.now namespace.now bootstrappers.now myself.now result }
+    ensures settings { OnOk result (are_settings numbers.now ≡ true) }
 {
     let cfg = config(numbers)?;
     let synchrony_bound = moment(numbers.bound.0, numbers.bound.1)?;
@@ -67,6 +78,7 @@ pub fn setup(
 
 // How a directory behaves.
 fn config(numbers: &Numbers) -> Result<Config, Refusal>
+    ensures settings { OnOk result (are_settings numbers.now ≡ true) }
     ensures private_ips { IfOk result (λ c.
         c.allow_private_ips ≡ numbers.now.allow_private_ips) }
     ensures dns { IfOk result (λ c. c.allow_dns ≡ numbers.now.allow_dns) }
@@ -76,10 +88,14 @@ fn config(numbers: &Numbers) -> Result<Config, Refusal>
         ≡ Ok (as_nanos c.peer_connection_cooldown)) }
     ensures block { IfOk result (λ c. moment_at numbers.now.block.0 numbers.now.block.1
         ≡ Ok (as_nanos c.block_duration)) }
+    ensures refused { IfErr result (λ why. numbers_at numbers.now ≡ Err why) }
 {
     let Some(max_sets) = NonZeroUsize::new(numbers.max_sets as usize) else {
         return Err(Refusal::BadSetting);
     };
+    if numbers.max_sets == u64::MAX || numbers.max_bit_vec >= 1 << 32 {
+        return Err(Refusal::BadSetting);
+    }
     Ok(Config {
         allow_private_ips: numbers.allow_private_ips,
         allow_dns: numbers.allow_dns,
@@ -92,19 +108,34 @@ fn config(numbers: &Numbers) -> Result<Config, Refusal>
 
 // The info that the bytes encode.
 fn info(alloc: Global, bytes: &[u8]) -> Result<Info<Key>, Refusal>
-    ensures { IfOk result (λ i. info_spelling key_bytes signature_bytes i ≡ bytes.now) }
+    ensures is_info { IfOk result IsInfoOfKeys }
+    ensures spelled { IfOk result (λ i. info_spelling key_bytes signature_bytes i ≡ bytes.now) }
+    ensures refused { IfErr result (λ why.
+        (why ≡ Memory) ⊎ ((why ≡ BadInfo) × (¬ SpellInfo bytes.now))) }
 {
     let bytes = Bytes::copy_from_slice(alloc, bytes)?;
     match Info::decode(alloc, bytes) {
         Ok(info) => Ok(info),
-        Err(CodecError::Memory) => Err(Refusal::Memory),
-        Err(_) => Err(Refusal::BadInfo),
+        Err(error) => Err(undecoded(error)),
+    }
+}
+
+// Why bytes aren't decoded.
+fn undecoded(error: CodecError) -> Refusal
+    ensures { (result ≡ Memory) ⊎ ((result ≡ BadInfo) × (error ≢ fault.Memory)) }
+{
+    match error {
+        CodecError::Memory => Refusal::Memory,
+        _ => Refusal::BadInfo,
     }
 }
 
 // The bootstrappers that the bytes encode: a key and an ingress each, one after the other.
 fn bootstrappers_of(alloc: Global, bytes: &[u8]) -> Result<Vec<(Key, Ingress)>, Refusal>
-    ensures { IfOk result (λ bs. bootstrappers_spelling bs.items ≡ bytes.now) }
+    ensures are { IfOk result (λ bs. AllByRecursion IsBootstrapper bs.items) }
+    ensures spelled { IfOk result (λ bs. bootstrappers_spelling bs.items ≡ bytes.now) }
+    ensures refused { IfErr result (λ why.
+        (why ≡ Memory) ⊎ ((why ≡ BadInfo) × (¬ SpellBootstrappers bytes.now))) }
 {
     let mut left = Bytes::copy_from_slice(alloc, bytes)?;
     let mut read = Vec::new(alloc);
@@ -117,22 +148,28 @@ fn bootstrappers_of(alloc: Global, bytes: &[u8]) -> Result<Vec<(Key, Ingress)>, 
 
 // A key, and an ingress.
 fn bootstrapper(alloc: Global, left: &mut Bytes) -> Result<(Key, Ingress), Refusal>
-    ensures spelled { IfOk result (λ b.
-        left.old ≡ key_bytes b.0 ++ ingress_spelling b.1 ++ left.new) }
+    ensures is { IfOk result IsBootstrapper }
+    ensures spelled { IfOk result (λ b. left.old ≡ bootstrapper_spelling b ++ left.new) }
     ensures shorter { OnOk result (length left.new < length left.old) }
+    ensures rest { OnOk result ((b : Key × Ingress) (rest : List ℕ) → IsBootstrapper b →
+        left.old ≡ bootstrapper_spelling b ++ rest → left.new ≡ rest) }
+    ensures refused { IfErr result (λ why. (why ≡ Memory) ⊎ ((why ≡ BadInfo)
+        × ((b : Key × Ingress) (rest : List ℕ) → IsBootstrapper b →
+        ¬ (left.old ≡ bootstrapper_spelling b ++ rest)))) }
 {
     let key = front_key(left)?;
     match Ingress::read_cfg(alloc, left, &()) {
         Ok(ingress) => Ok((key, ingress)),
-        Err(CodecError::Memory) => Err(Refusal::Memory),
-        Err(_) => Err(Refusal::BadInfo),
+        Err(error) => Err(undecoded(error)),
     }
 }
 
 // The key with which the bytes begin. They then begin after it.
 fn front_key(left: &mut Bytes) -> Result<Key, Refusal>
+    ensures is { IfOk result IsKey }
     ensures spelled { IfOk result (λ key. left.old ≡ key_bytes key ++ left.new) }
     ensures shorter { OnOk result (length left.new < length left.old) }
+    ensures refused { IfErr result (λ why. (why ≡ BadInfo) × (length left.old < KEY_SIZE)) }
 {
     if left.len() < KEY_SIZE {
         return Err(Refusal::BadInfo);
