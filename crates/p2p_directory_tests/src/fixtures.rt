@@ -71,13 +71,18 @@ pub fn node(alloc: Global, key: u16, max_data_length: usize) -> Result<Node<Test
     Node::new(alloc, setup(alloc, key, max_data_length)?)
 }
 
-/// The command that tracks a set of these primary peers at index 0.
-pub fn track(alloc: Global, keys: &[u64]) -> Result<Command<TestKey>, AllocError> {
+/// A peer set with these primary peers only.
+pub fn tracked(alloc: Global, keys: &[u64]) -> Result<TrackedPeers<TestKey>, AllocError> {
     let primary = OrderedSet::from_iter_dedup(alloc, keys.iter().map(|key| TestKey(*key)))?;
     let secondary = OrderedSet::from_iter_dedup(alloc, [].into_iter().map(TestKey))?;
+    Ok(TrackedPeers::new(primary, secondary))
+}
+
+/// The command that tracks a set of these primary peers at index 0.
+pub fn track(alloc: Global, keys: &[u64]) -> Result<Command<TestKey>, AllocError> {
     Ok(Command::Track {
         index: 0,
-        peers: TrackedPeers::new(primary, secondary),
+        peers: tracked(alloc, keys)?,
     })
 }
 
