@@ -1,6 +1,7 @@
 -- What is held, and the commands of a run.
 pub mod Slots
 pub mod Listed
+pub mod Rooms
 pub mod Holding
 pub mod Served
 pub mod Told
