@@ -1,6 +1,7 @@
 -- What is held, and the commands of a run.
 pub mod Slots
 pub mod Listed
+pub mod Rooms
 pub mod Holding
 pub mod Effects
 pub mod Served

@@ -24,7 +24,7 @@ use Rattle.p2p_directory.specs.declared.run.commands.Reply.TheVariants as run_re
 use Rattle.p2p_tracker.specs.Calls.{Call}
 use Rattle.p2p_tracker.specs.World.{World}
 use Rattle.p2p_tracker.specs.Answers.{set_at_place}
-use Rattle.p2p_directory.specs.Run.{call_of, next, world_after}
+use Rattle.p2p_directory.specs.Run.{call_of, next, world_after, was_made}
 use Rattle.p2p_directory.specs.Run as run
 use Rattle.p2p_directory.specs.Received.{Wire, Standing, applies, received_at, ask_frame_at}
 use Rattle.p2p_directory.specs.Received as frames
@@ -241,6 +241,15 @@ module _ {C S : Type 0} (cmp : C → C → Ordering) (wire : Wire C S) where
   IsServedAmong (command.Exchange i j place s t) (reply.Exchange r) vs vs2 =
       ExchangesAt i j place (as_nanos s) (as_nanos t) r vs vs2
   IsServedAmong c r vs vs2 = ⊥
+
+-- the command may have changed a node, by its reply
+abbrev pub may_change : {C S : Type 0} → NetworkReply C S → Bool
+may_change (reply.Call r) = was_made r
+may_change (reply.Ask frame) = false
+may_change (reply.Frame r) = applies r
+may_change (reply.Exchange r) = is_some (infos_applied r)
+may_change reply.OutOfMemory = false
+may_change reply.NoNode = false
 
 -- A NEW NODE of a setup: vs before it, vs2 after it
 

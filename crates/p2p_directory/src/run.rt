@@ -1,11 +1,12 @@
 //! Commands to a directory, served one after the other, and their replies.
 
-ghost use Rattle.std.specs.Prelude.{ℕ, ◌≡◌, ◌<◌, ◌-◌, ◌^◌, [], None, true, IfOk, OnOk, OnErr};
+ghost use Rattle.std.specs.Prelude.{ℕ, ◌≡◌, ◌<◌, ◌-◌, ◌^◌, ◌||◌, [], None, true, false};
+ghost use Rattle.std.specs.Prelude.{IfOk, OnOk, OnErr};
 ghost use Rattle.std.specs.Int.NonZero.{non_zero_usize_get};
 ghost use Rattle.std.specs.List.{All, AllPass};
 ghost use Rattle.p2p_tracker.specs.Directory.{bit_vec_at};
 ghost use Rattle.p2p_directory.specs.Held.{held_of};
-ghost use Rattle.p2p_directory.specs.Private.Slots.{has_slot, held_in};
+ghost use Rattle.p2p_directory.specs.Private.Slots.{has_slot, held_in, is_named};
 ghost use Rattle.p2p_directory.specs.Private.Serving.{has_slot_for, reserved_peer, IsAmong};
 ghost use Rattle.p2p_directory.specs.Nodes.{may_reserve};
 ghost use Rattle.p2p_directory.specs.Refinement.{Refines};
@@ -190,7 +191,10 @@ fn reserved_peer<C: PublicKey>(command: &Command<C>) -> Option<C>
 fn make_slot<C: PublicKey>(slots: &mut Slots<C>, command: &Command<C>) -> Result<(), AllocError>
     ensures err { OnErr result (slots.new ≡ slots.old) }
     ensures reserves { OnErr result (may_reserve (call_of command.now) ≡ true) }
+    ensures absent { OnErr result (has_slot_for C.cmp slots.old command.now ≡ false) }
     ensures room { OnOk result (has_slot_for C.cmp slots.new command.now ≡ true) }
+    ensures grown { OnOk result ((q : C) → has_slot C.cmp slots.new q ≡
+        (is_named C.cmp (reserved_peer command.now) q || has_slot C.cmp slots.old q)) }
     ensures slots { OnOk result ((q : C) →
         has_slot C.cmp slots.old q ≡ true → has_slot C.cmp slots.new q ≡ true) }
     ensures held { (q : C) → held_in C.cmp slots.new q ≡ held_in C.cmp slots.old q }

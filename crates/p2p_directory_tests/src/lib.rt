@@ -16,6 +16,8 @@ mod fixtures;
 #[cfg(test)]
 mod held;
 #[cfg(test)]
+mod lent;
+#[cfg(test)]
 mod network;
 #[cfg(test)]
 mod node;

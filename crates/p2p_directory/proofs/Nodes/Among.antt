@@ -1,12 +1,14 @@
 -- One of some nodes was given a command, by what its calls say, and all others stayed.
 use Rattle.std.proofs.Common.{◌≡◌, ◌<◌, ◌≤◌, ℕ, length, Bool, false, List, Option, Some, None, Result, Ok}
 use Rattle.std.proofs.Common.{[], ◌∷◌, ◌++◌, Err, inl, inr, refl, sym, ◌∙◌, ap, subst, arith}
-use Rattle.std.specs.Prelude.{◌==◌, ◌&&◌, not, ◌⊎◌, nat_lt, slice_index_or, slice_set}
+use Rattle.std.specs.Prelude.{◌==◌, ◌&&◌, not, ◌⊎◌, is_some, nat_lt, slice_index_or, slice_set}
 use Rattle.std.specs.Duration.{as_nanos}
 use Rattle.std.specs.declared.cmp.Ordering.{Ordering}
 use Rattle.std.specs.declared.time.Duration.{Duration}
 use Rattle.std.proofs.lemmas.Bool.{eq-eqb, lt-ltb, le-ltb}
+use Rattle.std.proofs.Math.Seq.{map-set_same}
 use Rattle.std.proofs.lemmas.List.{get_or-map, length-map, map-set, map-append}
+use Rattle.p2p_discovery.specs.declared.discovery.Info.{Info}
 use Rattle.p2p_tracker.specs.Seen.{DirectoryView}
 use Rattle.p2p_directory.specs.declared.node.Received.{Received}
 use Rattle.p2p_directory.specs.declared.node.Setup.{Setup}
@@ -21,7 +23,7 @@ use Rattle.p2p_directory.specs.Exchange.{IsExchanged}
 use Rattle.p2p_directory.specs.Held.{ReleasesAll}
 use Rattle.p2p_directory.specs.Network.{are_there, IsServedAmong, IsAdded, IsReplaced, ReplacesAt}
 use Rattle.p2p_directory.specs.Nodes.{NodeView, NodeStandsAt, made_of, IsStepped, AnswersFrame, AsksWith}
-use Rattle.p2p_directory.specs.Nodes.{IsReceived}
+use Rattle.p2p_directory.specs.Nodes.{IsReceived, IsLeft}
 use Rattle.p2p_directory.specs.Received.{Wire}
 use Rattle.p2p_directory.specs.Private.Endpoints.{EndpointView, node_of}
 use Rattle.p2p_directory.specs.Private.Networks.{nodes_of, reply_to_ask, ExchangesAmong}
@@ -132,6 +134,17 @@ pub among : {C S : Type 0} (cmp : C → C → Ordering) (wire : Wire C S) (c : N
 among cmp wire c r before after seen = subst
     (λ (x : List (EndpointView _ _) × List (EndpointView _ _)).
     IsServedAmong cmp wire c r (nodes_of x.0) (nodes_of x.1)) (λ i. (before i, sym after i)) seen
+
+-- an endpoint became another, which is the same node
+pub same_nodes : {C S : Type 0} (es : List (EndpointView C S)) (i : ℕ) (d e2 : EndpointView C S) →
+    node_of e2 ≡ node_of (slice_index_or es i d) → nodes_of (slice_set es i e2) ≡ nodes_of es
+same_nodes es i d e2 same = map-set_same node_of es i e2 d same
+
+-- .. where no infos were applied
+pub same_left : {C S : Type 0} (cmp : C → C → Ordering) (o : Option (List (Info C S))) (v v2 : NodeView C S) →
+    is_some o ≡ false → IsLeft cmp v o v2 → v2 ≡ v
+same_left cmp None v v2 none left = left
+same_left cmp (Some infos) v v2 none left = absurd cc
 
 -- as many endpoints are as many nodes
 pub so_many : {C S : Type 0} (es es2 : List (EndpointView C S)) → length es2 ≡ length es →

@@ -281,6 +281,12 @@ module _ {C S : Type 0} {cmp : C → C → Ordering} (total : IsTotalOrder cmp) 
   gone_removed xs ys p are is = ap (λ slots. has_slot cmp slots p) is ∙ ap is_some (found_without xs p are.ordered p)
       ∙ ap (λ b. is_some (cond b None (slot_of cmp xs p))) (itself total p p refl)
 
+  pub others_removed : (xs ys : List (C × Option (Metadata C S))) (p : C) → AreSlots cmp xs →
+      ys ≡ remove_entry (is_at (cmp p)) xs →
+      (q : C) → is_at (cmp p) q ≡ false → has_slot cmp ys q ≡ has_slot cmp xs q
+  others_removed xs ys p are is q other = ap (λ slots. has_slot cmp slots q) is
+      ∙ ap is_some (found_without xs p are.ordered q ∙ ap (λ b. cond b None (slot_of cmp xs q)) other)
+
   -- what is held once the reservation of p is taken, whether its slot stays or goes
   pub contents_without : (xs ys : List (C × Option (Metadata C S))) (p : C) → AreSlots cmp xs → AreSlots cmp ys →
       ((q : C) → held_in cmp ys q ≡ cond (is_at (cmp p) q) None (held_in cmp xs q)) →

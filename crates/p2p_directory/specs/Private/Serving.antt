@@ -34,7 +34,12 @@ reserved_peer (command.Dial peer now draw) = Some peer
 reserved_peer (command.Listen peer now draw) = Some peer
 reserved_peer _ = None
 
--- .. is one of these
+-- .. or that it may release
+abbrev pub named_peer : {C S : Type 0} → Command C S → Option C
+named_peer (command.Release peer) = Some peer
+named_peer x = reserved_peer x
+
+-- the peer that the command may be granted a reservation of is one of these
 abbrev pub IsAmong : {C S : Type 0} → List C → Command C S → Type 0
 IsAmong peers x = IfSome (reserved_peer x) (Contains peers)
 

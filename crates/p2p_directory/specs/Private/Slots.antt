@@ -1,6 +1,7 @@
 -- Slots, made beforehand for the reservations of some peers, by what private contracts see of them.
-use Rattle.std.specs.Prelude.{◌≡◌, ◌<◌, ◌≤◌, ℕ, Bool, true, List, [], ◌∷◌, length}
-use Rattle.std.specs.Prelude.{Option, is_some, IfSome, Result, MatchResult}
+use Rattle.std.specs.Prelude.{◌≡◌, ◌<◌, ◌≤◌, ℕ, Bool, true, false, List, [], ◌∷◌, length}
+use Rattle.std.specs.Prelude.{Option, Some, None, is_some, IfSome, Result, MatchResult}
+use Rattle.std.specs.Prelude.{if◌then◌else◌}
 use Rattle.std.specs.List.{filter_map, HoldsAt}
 use Rattle.std.specs.List.Sorted.{IsStrictlySortedBy, IsPartitionPoint}
 use Rattle.std.specs.Option.{option_flatten}
@@ -20,6 +21,11 @@ abbrev pub begins_full : {C X : Type 0} → List (C × Option X) → Bool
 begins_full [] = true
 begins_full (slot ∷ slots) = is_some slot.1
 
+-- q is the peer that is named, if one is
+abbrev pub is_named : {C : Type 0} → (C → C → Ordering) → Option C → C → Bool
+is_named cmp None q = false
+is_named cmp (Some p) q = is_at (cmp p) q
+
 module _ {C S : Type 0} (cmp : C → C → Ordering) where
   -- the slot of q, if there is one
   abbrev pub slot_of : List (C × Option (Metadata C S)) → C → Option (Option (Metadata C S))
@@ -31,6 +37,14 @@ module _ {C S : Type 0} (cmp : C → C → Ordering) where
   -- what is held in the slot of q, if anything
   abbrev pub held_in : List (C × Option (Metadata C S)) → C → Option (Metadata C S)
   held_in slots q = option_flatten (slot_of slots q)
+
+  -- a call that names a peer, or none, leaves room for that peer exactly where something is held of
+  -- it, and for each other peer where there was some
+  abbrev pub KeepsRoom : Option C → List (C × Option (Metadata C S)) →
+      List (C × Option (Metadata C S)) → Type 0
+  KeepsRoom named before after = (q : C) → has_slot after q ≡ (if is_named cmp named q
+      then is_some (held_in after q)
+      else has_slot before q)
 
   -- where the slot of p is, or the place between those of lesser and of greater peers
   abbrev pub IsPlaceFor : List (C × Option (Metadata C S)) → C → Result ℕ ℕ → Type 0

@@ -1,7 +1,7 @@
 //! The parts of a node: a directory that serves commands, the verifier of infos, and limits.
 
 ghost use Rattle.std.specs.Prelude.{◌≡◌, ◌<◌, ◌^◌, [], true, false, None, IfOk, IfSome, OnOk, OnErr};
-ghost use Rattle.std.specs.Prelude.{length};
+ghost use Rattle.std.specs.Prelude.{length, ◌||◌};
 ghost use Rattle.std.specs.Prelude.{is_some, option_map};
 ghost use Rattle.std.specs.Duration.{as_nanos};
 ghost use Rattle.p2p_discovery.specs.Payload.{CanSpell, payload_spelling, IsPayload};
@@ -24,8 +24,8 @@ ghost use Rattle.p2p_directory.specs.Nodes.{AreValues, TellsValues, IsStepped, T
 ghost use Rattle.p2p_directory.specs.Nodes.{StandsSomewhere};
 ghost use Rattle.p2p_directory.specs.Exchange.{HasSpelling, HaveSpelling};
 ghost use Rattle.p2p_directory.specs.Private.Frames.{fault_answer};
-ghost use Rattle.p2p_directory.specs.Private.Serving.{has_slot_for};
-ghost use Rattle.p2p_directory.specs.Private.Slots.{contents, has_slot, held_in};
+ghost use Rattle.p2p_directory.specs.Private.Serving.{has_slot_for, reserved_peer, named_peer};
+ghost use Rattle.p2p_directory.specs.Private.Slots.{contents, has_slot, is_named, KeepsRoom};
 ghost use Rattle.p2p_directory.specs.Private.Endpoints.{node_of, IsServedBy};
 
 use crate::node::decoded::{Decoded, are_equal};
@@ -122,7 +122,10 @@ impl<C: PublicKey> Endpoint<C> {
     pub fn make_room(&mut self, command: &Command<C>) -> Result<(), AllocError>
         ensures err { OnErr result (self.new ≡ self.old) }
         ensures reserves { OnErr result (may_reserve (call_of command.now) ≡ true) }
+        ensures absent { OnErr result (has_slot_for C.cmp self.old.slots command.now ≡ false) }
         ensures room { OnOk result (has_slot_for C.cmp self.new.slots command.now ≡ true) }
+        ensures grown { OnOk result ((q : C) → has_slot C.cmp self.new.slots q ≡
+            (is_named C.cmp (reserved_peer command.now) q || has_slot C.cmp self.old.slots q)) }
         ensures slots { OnOk result ((q : C) →
             has_slot C.cmp self.old.slots q ≡ true → has_slot C.cmp self.new.slots q ≡ true) }
         ensures same { node_of self.new ≡ node_of self.old }
@@ -136,8 +139,7 @@ impl<C: PublicKey> Endpoint<C> {
 
     /// Removes the slot of the peer if it is empty. It doesn't allocate.
     pub fn drop_room(&mut self, peer: Option<C>)
-        ensures dropped { IfSome peer (λ p. held_in C.cmp self.old.slots p ≡ None →
-            has_slot C.cmp self.new.slots p ≡ false) }
+        ensures room { KeepsRoom C.cmp peer self.old.slots self.new.slots }
         ensures same { node_of self.new ≡ node_of self.old }
     {
         // For the proof: the slots are in order before, and after.
@@ -152,6 +154,7 @@ impl<C: PublicKey> Endpoint<C> {
         ensures unchanged { was_made result ≡ false → node_of self.new ≡ node_of self.old }
         ensures limits { self.new.limits ≡ self.old.limits }
         ensures verifier { self.new.verifier ≡ self.old.verifier }
+        ensures room { KeepsRoom C.cmp (named_peer command) self.old.slots self.new.slots }
     {
         let peer = peer_of(&command);
         if let Err(AllocError) = self.make_room(&command) {
@@ -169,6 +172,7 @@ impl<C: PublicKey> Endpoint<C> {
         ensures unchanged { was_made result ≡ false → self.new ≡ self.old }
         ensures limits { self.new.limits ≡ self.old.limits }
         ensures verifier { self.new.verifier ≡ self.old.verifier }
+        ensures slots { self.new.slots ≡ self.old.slots }
         ensures few { TearsDownFew self.old.directory result }
     {
         let reply = self.server.track(index, peers);
@@ -664,7 +668,9 @@ fn refused(fault: CodecError) -> Received
 }
 
 // The peer whose slot the command may leave empty, if there is one.
-fn peer_of<C: PublicKey>(command: &Command<C>) -> Option<C> {
+fn peer_of<C: PublicKey>(command: &Command<C>) -> Option<C>
+    ensures { result ≡ named_peer command.now }
+{
     match command {
         Command::Dial { peer, .. } | Command::Listen { peer, .. } => Some(*peer),
         Command::Release(peer) => Some(*peer),

@@ -1,7 +1,7 @@
 //! Any number of nodes that serve commands, are asked, receive frames and exchange infos.
 
 ghost use Rattle.std.specs.Prelude.{◌≡◌, ◌<◌, ◌≤◌, ◌-◌, ◌^◌, [], IfOk, length, slice_index_or};
-ghost use Rattle.std.specs.Prelude.{MatchOption, ◌∷◌, IfSome, OnOk, OnErr};
+ghost use Rattle.std.specs.Prelude.{MatchOption, ◌∷◌, IfSome, OnOk, OnErr, false};
 ghost use Rattle.std.specs.Int.NonZero.{non_zero_usize_get};
 ghost use Rattle.std.specs.List.{All};
 ghost use Rattle.p2p_discovery.specs.Info.{IsInfo, IsKeyed};
@@ -9,7 +9,7 @@ ghost use Rattle.p2p_directory.specs.Received.{wire_of};
 ghost use Rattle.p2p_directory.specs.Nodes.{NodeView, NodeStandsAt, made_of};
 ghost use Rattle.p2p_directory.specs.Network.{OfNetwork, StandAfter, AreNetworkAnswers, done_after};
 ghost use Rattle.p2p_directory.specs.Network.{IsNetworkServed, IsServedAmong, AreReleased};
-ghost use Rattle.p2p_directory.specs.Network.{IsAdded, IsReplaced};
+ghost use Rattle.p2p_directory.specs.Network.{IsAdded, IsReplaced, may_change};
 ghost use Rattle.p2p_directory.specs.Laws.Network.{KeepExchanges, AtEachPoint, OfEachReply};
 ghost use Rattle.p2p_directory.specs.Laws.Network.{Provenance, GivesSigned, HoldSigned};
 ghost use Rattle.p2p_directory.specs.Laws.Network.{OnlyGetNewer, Reach, CarriesExchange};
@@ -240,6 +240,7 @@ impl<C: PublicKey> Network<C> {
         ensures seen { IsServedAmong C.cmp (wire_of C.SIZE C.spelled C.value
             C.Signature.SIZE C.Signature.spelled C.Signature.value C.verifies)
             command result self.old self.new }
+        ensures unchanged { may_change result ≡ false → self.new ≡ self.old }
         ensures count { length self.new ≡ length self.old }
     {
         match command {

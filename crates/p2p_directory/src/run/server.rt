@@ -1,13 +1,14 @@
 //! A directory that serves commands, and holds the reservations that it grants.
 
 ghost use Rattle.std.specs.Prelude.{◌≡◌, ◌<◌, true, false, None, OnOk, OnErr, IfOk, IfSome};
-ghost use Rattle.std.specs.Prelude.{length, option_map};
+ghost use Rattle.std.specs.Prelude.{length, option_map, is_some, ◌||◌};
+ghost use Rattle.std.specs.BTreeMap.{is_at};
 ghost use Rattle.std.specs.Duration.{as_nanos};
 ghost use Rattle.std.specs.Option.{IsSomeAnd};
 ghost use Rattle.p2p_tracker.specs.Directory.{infos_in, Updates};
 ghost use Rattle.p2p_directory.specs.Held.{held_of, AreHeld};
-ghost use Rattle.p2p_directory.specs.Private.Slots.{has_slot, held_in, AreSlots};
-ghost use Rattle.p2p_directory.specs.Private.Serving.{has_slot_for, IsServed};
+ghost use Rattle.p2p_directory.specs.Private.Slots.{has_slot, held_in, is_named, AreSlots};
+ghost use Rattle.p2p_directory.specs.Private.Serving.{has_slot_for, reserved_peer, IsServed};
 ghost use Rattle.p2p_directory.specs.Nodes.{may_reserve, TearsDownFew};
 ghost use Rattle.p2p_directory.specs.Run.{call_of, was_made};
 
@@ -100,7 +101,10 @@ impl<C: PublicKey> Server<C> {
     pub fn make_room(&mut self, command: &Command<C>) -> Result<(), AllocError>
         ensures err { OnErr result (self.new ≡ self.old) }
         ensures reserves { OnErr result (may_reserve (call_of command.now) ≡ true) }
+        ensures absent { OnErr result (has_slot_for C.cmp self.old.slots command.now ≡ false) }
         ensures room { OnOk result (has_slot_for C.cmp self.new.slots command.now ≡ true) }
+        ensures grown { OnOk result ((q : C) → has_slot C.cmp self.new.slots q ≡
+            (is_named C.cmp (reserved_peer command.now) q || has_slot C.cmp self.old.slots q)) }
         ensures slots { OnOk result ((q : C) →
             has_slot C.cmp self.old.slots q ≡ true → has_slot C.cmp self.new.slots q ≡ true) }
         ensures directory { self.new.directory ≡ self.old.directory }
@@ -113,7 +117,10 @@ impl<C: PublicKey> Server<C> {
     /// Makes a slot for the peer if there is none.
     pub fn make_slot(&mut self, peer: &C) -> Result<(), AllocError>
         ensures err { OnErr result (self.new ≡ self.old) }
+        ensures absent { OnErr result (has_slot C.cmp self.old.slots peer.now ≡ false) }
         ensures room { OnOk result (has_slot C.cmp self.new.slots peer.now ≡ true) }
+        ensures grown { OnOk result ((q : C) → has_slot C.cmp self.new.slots q ≡
+            (is_at (C.cmp peer.now) q || has_slot C.cmp self.old.slots q)) }
         ensures directory { self.new.directory ≡ self.old.directory }
         ensures held { (q : C) →
             held_in C.cmp self.new.slots q ≡ held_in C.cmp self.old.slots q }
@@ -125,6 +132,8 @@ impl<C: PublicKey> Server<C> {
     pub fn drop_room(&mut self, peer: Option<C>)
         ensures dropped { IfSome peer (λ p. held_in C.cmp self.old.slots p ≡ None →
             has_slot C.cmp self.new.slots p ≡ false) }
+        ensures others { (q : C) → is_named C.cmp peer q ≡ false →
+            has_slot C.cmp self.new.slots q ≡ has_slot C.cmp self.old.slots q }
         ensures directory { self.new.directory ≡ self.old.directory }
         ensures held { (q : C) →
             held_in C.cmp self.new.slots q ≡ held_in C.cmp self.old.slots q }
@@ -203,6 +212,8 @@ impl<C: PublicKey> Server<C> {
         ensures unchanged { was_made result ≡ false → self.new ≡ self.old }
         ensures slots { (q : C) →
             has_slot C.cmp self.new.slots q ≡ has_slot C.cmp self.old.slots q }
+        ensures granted { result ≡ Reply.Dial true →
+            is_some (held_in C.cmp self.new.slots peer.now) ≡ true }
     {
         match self.directory.dial(peer, now, draw) {
             Ok(Some(reservation)) => {
@@ -222,6 +233,8 @@ impl<C: PublicKey> Server<C> {
         ensures unchanged { was_made result ≡ false → self.new ≡ self.old }
         ensures slots { (q : C) →
             has_slot C.cmp self.new.slots q ≡ has_slot C.cmp self.old.slots q }
+        ensures granted { result ≡ Reply.Listen true →
+            is_some (held_in C.cmp self.new.slots peer.now) ≡ true }
     {
         match self.directory.listen(peer, now, draw) {
             Ok(Some(reservation)) => {
@@ -272,6 +285,8 @@ impl<C: PublicKey> Server<C> {
         ensures held { was_made result ≡ false → (q : C) →
             held_in C.cmp self.new.slots q ≡ held_in C.cmp self.old.slots q }
         ensures gone { has_slot C.cmp self.new.slots peer.now ≡ false }
+        ensures others { (q : C) → is_at (C.cmp peer.now) q ≡ false →
+            has_slot C.cmp self.new.slots q ≡ has_slot C.cmp self.old.slots q }
     {
         match self.slots.remove(peer) {
             Some(reservation) => {

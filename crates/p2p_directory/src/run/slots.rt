@@ -81,6 +81,7 @@ impl<C: PublicKey> Slots<C> {
     /// Makes an empty slot for the peer if it has none.
     pub fn make(&mut self, peer: C) -> Result<(), AllocError>
         ensures err { OnErr result (self.new ≡ self.old) }
+        ensures absent { OnErr result (has_slot C.cmp self.old peer ≡ false) }
         ensures slots { OnOk result ((q : C) →
             has_slot C.cmp self.new q ≡ (is_at (C.cmp peer) q || has_slot C.cmp self.old q)) }
         ensures held { (q : C) → held_in C.cmp self.new q ≡ held_in C.cmp self.old q }
@@ -150,6 +151,8 @@ impl<C: PublicKey> Slots<C> {
         ensures taken { result ≡ held_in C.cmp self.old peer.now }
         ensures peer { IfSome result (λ metadata. key_of metadata ≡ peer.now) }
         ensures gone { has_slot C.cmp self.new peer.now ≡ false }
+        ensures others { (q : C) → is_at (C.cmp peer.now) q ≡ false →
+            has_slot C.cmp self.new q ≡ has_slot C.cmp self.old q }
         ensures held { (q : C) → held_in C.cmp self.new q
             ≡ (if is_at (C.cmp peer.now) q then None else held_in C.cmp self.old q) }
     {
@@ -198,6 +201,8 @@ impl<C: PublicKey> Slots<C> {
     pub fn drop_empty(&mut self, peer: &C)
         ensures dropped { held_in C.cmp self.old peer.now ≡ None →
             has_slot C.cmp self.new peer.now ≡ false }
+        ensures others { (q : C) → is_at (C.cmp peer.now) q ≡ false →
+            has_slot C.cmp self.new q ≡ has_slot C.cmp self.old q }
         ensures held { (q : C) → held_in C.cmp self.new q ≡ held_in C.cmp self.old q }
     {
         match &mut self.table {

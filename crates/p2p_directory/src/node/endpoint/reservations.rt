@@ -1,11 +1,13 @@
 //! Calls that reserve a peer or release it: the same as [`Endpoint::step`] of their commands,
-//! without making a command. A peer has a slot while it is reserved or connected.
+//! without making a command. A peer that a call names has a slot afterwards only if it is reserved
+//! or connected.
 
-ghost use Rattle.std.specs.Prelude.{◌≡◌, true, false, None, OnOk, OnErr};
+ghost use Rattle.std.specs.Prelude.{◌≡◌, true, false, Some, is_some, ◌||◌, OnOk, OnErr};
+ghost use Rattle.std.specs.BTreeMap.{is_at};
 ghost use Rattle.p2p_directory.specs.Run.{was_made};
 ghost use Rattle.p2p_directory.specs.Nodes.{IsStepped};
 ghost use Rattle.p2p_directory.specs.Private.Endpoints.{node_of, IsServedBy};
-ghost use Rattle.p2p_directory.specs.Private.Slots.{has_slot, held_in};
+ghost use Rattle.p2p_directory.specs.Private.Slots.{has_slot, held_in, KeepsRoom};
 ghost use Rattle.p2p_directory.specs.declared.run.commands.Command.{Command};
 
 use crate::node::endpoint::Endpoint;
@@ -22,6 +24,7 @@ impl<C: PublicKey> Endpoint<C> {
         ensures unchanged { was_made result ≡ false → node_of self.new ≡ node_of self.old }
         ensures limits { self.new.limits ≡ self.old.limits }
         ensures verifier { self.new.verifier ≡ self.old.verifier }
+        ensures room { KeepsRoom C.cmp (Some peer.now) self.old.slots self.new.slots }
     {
         if let Err(AllocError) = self.make_slot(peer) {
             return Reply::OutOfMemory;
@@ -38,6 +41,7 @@ impl<C: PublicKey> Endpoint<C> {
         ensures unchanged { was_made result ≡ false → node_of self.new ≡ node_of self.old }
         ensures limits { self.new.limits ≡ self.old.limits }
         ensures verifier { self.new.verifier ≡ self.old.verifier }
+        ensures room { KeepsRoom C.cmp (Some peer.now) self.old.slots self.new.slots }
     {
         if let Err(AllocError) = self.make_slot(peer) {
             return Reply::OutOfMemory;
@@ -54,7 +58,7 @@ impl<C: PublicKey> Endpoint<C> {
         ensures unchanged { was_made result ≡ false → node_of self.new ≡ node_of self.old }
         ensures limits { self.new.limits ≡ self.old.limits }
         ensures verifier { self.new.verifier ≡ self.old.verifier }
-        ensures gone { has_slot C.cmp self.new.slots peer.now ≡ false }
+        ensures room { KeepsRoom C.cmp (Some peer.now) self.old.slots self.new.slots }
     {
         // For the proof: the slots are in order before, and after.
         self.server.in_order();
@@ -66,7 +70,10 @@ impl<C: PublicKey> Endpoint<C> {
     // Makes a slot for the peer if there is none.
     fn make_slot(&mut self, peer: &C) -> Result<(), AllocError>
         ensures err { OnErr result (self.new ≡ self.old) }
+        ensures absent { OnErr result (has_slot C.cmp self.old.slots peer.now ≡ false) }
         ensures room { OnOk result (has_slot C.cmp self.new.slots peer.now ≡ true) }
+        ensures grown { OnOk result ((q : C) → has_slot C.cmp self.new.slots q ≡
+            (is_at (C.cmp peer.now) q || has_slot C.cmp self.old.slots q)) }
         ensures same { node_of self.new ≡ node_of self.old }
     {
         // For the proof: the slots are in order before, and after.
@@ -84,6 +91,10 @@ impl<C: PublicKey> Endpoint<C> {
         ensures unchanged { was_made result ≡ false → self.new ≡ self.old }
         ensures limits { self.new.limits ≡ self.old.limits }
         ensures verifier { self.new.verifier ≡ self.old.verifier }
+        ensures slots { (q : C) →
+            has_slot C.cmp self.new.slots q ≡ has_slot C.cmp self.old.slots q }
+        ensures granted { result ≡ Reply.Dial true →
+            is_some (held_in C.cmp self.new.slots peer.now) ≡ true }
     {
         let reply = self.server.dial(peer, now, draw);
         self.server.in_order();
@@ -98,6 +109,10 @@ impl<C: PublicKey> Endpoint<C> {
         ensures unchanged { was_made result ≡ false → self.new ≡ self.old }
         ensures limits { self.new.limits ≡ self.old.limits }
         ensures verifier { self.new.verifier ≡ self.old.verifier }
+        ensures slots { (q : C) →
+            has_slot C.cmp self.new.slots q ≡ has_slot C.cmp self.old.slots q }
+        ensures granted { result ≡ Reply.Listen true →
+            is_some (held_in C.cmp self.new.slots peer.now) ≡ true }
     {
         let reply = self.server.listen(peer, now, draw);
         self.server.in_order();
@@ -106,8 +121,9 @@ impl<C: PublicKey> Endpoint<C> {
 
     // Removes the slot of the peer if it is empty, unless a reservation was just granted.
     fn drop_slot_unless(&mut self, granted: bool, peer: &C)
-        ensures dropped { granted ≡ false → held_in C.cmp self.old.slots peer.now ≡ None →
-            has_slot C.cmp self.new.slots peer.now ≡ false }
+        ensures room { granted ≡ false →
+            KeepsRoom C.cmp (Some peer.now) self.old.slots self.new.slots }
+        ensures unchanged { granted ≡ true → self.new ≡ self.old }
         ensures same { node_of self.new ≡ node_of self.old }
     {
         if !granted {

@@ -21,6 +21,7 @@ impl<C: PublicKey> Endpoint<C> {
         ensures unchanged { was_made result ≡ false → self.new ≡ self.old }
         ensures limits { self.new.limits ≡ self.old.limits }
         ensures verifier { self.new.verifier ≡ self.old.verifier }
+        ensures slots { self.new.slots ≡ self.old.slots }
     {
         let reply = self.server.connect(peer, dialer);
         self.server.in_order();
@@ -34,6 +35,7 @@ impl<C: PublicKey> Endpoint<C> {
         ensures unchanged { was_made result ≡ false → self.new ≡ self.old }
         ensures limits { self.new.limits ≡ self.old.limits }
         ensures verifier { self.new.verifier ≡ self.old.verifier }
+        ensures slots { self.new.slots ≡ self.old.slots }
     {
         let reply = self.server.block(peer, now);
         self.server.in_order();
@@ -47,6 +49,7 @@ impl<C: PublicKey> Endpoint<C> {
             (node_of self.old) (node_of self.new) }
         ensures limits { self.new.limits ≡ self.old.limits }
         ensures verifier { self.new.verifier ≡ self.old.verifier }
+        ensures slots { self.new.slots ≡ self.old.slots }
     {
         let ended = self.server.unblock_expired(now);
         self.server.in_order();
@@ -59,6 +62,7 @@ impl<C: PublicKey> Endpoint<C> {
             (node_of self.old) (node_of self.new) }
         ensures limits { self.new.limits ≡ self.old.limits }
         ensures verifier { self.new.verifier ≡ self.old.verifier }
+        ensures slots { self.new.slots ≡ self.old.slots }
     {
         let count = self.server.forget_cooled(now);
         self.server.in_order();

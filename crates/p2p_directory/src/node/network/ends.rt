@@ -5,7 +5,7 @@ ghost use Rattle.std.specs.Prelude.{slice_set};
 ghost use Rattle.std.specs.List.{All};
 ghost use Rattle.std.specs.Duration.{as_nanos};
 ghost use Rattle.p2p_directory.specs.Received.{wire_of};
-ghost use Rattle.p2p_directory.specs.Network.{IsNetworkServed, IsServedAmong};
+ghost use Rattle.p2p_directory.specs.Network.{IsNetworkServed, IsServedAmong, may_change};
 ghost use Rattle.p2p_directory.specs.Private.Networks.{nodes_of, HasRoomFor, GrowSlots, KeepSlots};
 ghost use Rattle.p2p_directory.specs.Private.Networks.{IsNetworkAnswered, IsNetworkWritten};
 ghost use Rattle.p2p_directory.specs.Private.Networks.{IsNetworkCarried, ExchangesAmong};
@@ -131,6 +131,7 @@ pub fn step<C: PublicKey>(
     ensures seen { IsServedAmong C.cmp (wire_of C.SIZE C.spelled C.value
         C.Signature.SIZE C.Signature.spelled C.Signature.value C.verifies)
         (NetworkCommand.Call node command) result (nodes_of ends.old) (nodes_of ends.new) }
+    ensures unchanged { may_change result ≡ false → nodes_of ends.new ≡ nodes_of ends.old }
 {
     if node >= ends.len() {
         return NetworkReply::NoNode;
@@ -185,6 +186,7 @@ pub fn receive<C: PublicKey>(
         C.Signature.SIZE C.Signature.spelled C.Signature.value C.verifies)
         (NetworkCommand.Frame node frame now) result (nodes_of ends.old) (nodes_of ends.new) }
     ensures slots { KeepSlots C.cmp ends.old ends.new }
+    ensures unchanged { may_change result ≡ false → nodes_of ends.new ≡ nodes_of ends.old }
 {
     if node >= ends.len() {
         return NetworkReply::NoNode;
@@ -214,6 +216,7 @@ pub fn exchange<C: PublicKey>(
         (NetworkCommand.Exchange asker replier place asker_now replier_now) result
         (nodes_of ends.old) }
     ensures slots { KeepSlots C.cmp ends.old ends.new }
+    ensures unchanged { may_change result ≡ false → nodes_of ends.new ≡ nodes_of ends.old }
 {
     if asker >= ends.len() || replier >= ends.len() || asker == replier {
         return NetworkReply::NoNode;

@@ -54,6 +54,7 @@ impl<C: PublicKey> Tree<C> {
     /// Makes an empty slot for the peer if it has none.
     pub fn make(&mut self, peer: C) -> Result<(), AllocError>
         ensures err { OnErr result (self.new ≡ self.old) }
+        ensures absent { OnErr result (has_slot C.cmp self.old peer ≡ false) }
         ensures slots { OnOk result ((q : C) →
             has_slot C.cmp self.new q ≡ (is_at (C.cmp peer) q || has_slot C.cmp self.old q)) }
         ensures held { (q : C) → held_in C.cmp self.new q ≡ held_in C.cmp self.old q }
@@ -105,6 +106,8 @@ impl<C: PublicKey> Tree<C> {
         ensures taken { result ≡ held_in C.cmp self.old peer.now }
         ensures peer { IfSome result (λ metadata. key_of metadata ≡ peer.now) }
         ensures gone { has_slot C.cmp self.new peer.now ≡ false }
+        ensures others { (q : C) → is_at (C.cmp peer.now) q ≡ false →
+            has_slot C.cmp self.new q ≡ has_slot C.cmp self.old q }
         ensures held { (q : C) → held_in C.cmp self.new q
             ≡ (if is_at (C.cmp peer.now) q then None else held_in C.cmp self.old q) }
     {
@@ -147,6 +150,8 @@ impl<C: PublicKey> Tree<C> {
     pub fn drop_empty(&mut self, peer: &C)
         ensures dropped { held_in C.cmp self.old peer.now ≡ None →
             has_slot C.cmp self.new peer.now ≡ false }
+        ensures others { (q : C) → is_at (C.cmp peer.now) q ≡ false →
+            has_slot C.cmp self.new q ≡ has_slot C.cmp self.old q }
         ensures held { (q : C) → held_in C.cmp self.new q ≡ held_in C.cmp self.old q }
     {
         remove_empty(&mut self.reservations, peer);
@@ -207,6 +212,7 @@ fn add_empty<C: PublicKey>(
     requires { AreSlots C.cmp slots.old.entries }
     ensures slots { AreSlots C.cmp slots.new.entries }
     ensures err { OnErr result (slots.new.entries ≡ slots.old.entries) }
+    ensures absent { OnErr result (has_slot C.cmp slots.old.entries peer ≡ false) }
     ensures made { OnOk result ((q : C) → has_slot C.cmp slots.new.entries q ≡
         (is_at (C.cmp peer) q || has_slot C.cmp slots.old.entries q)) }
     ensures held { (q : C) →
@@ -230,6 +236,8 @@ fn remove_empty<C: PublicKey>(slots: &mut BTreeMap<C, Option<Reservation<C>>>, p
         held_in C.cmp slots.new.entries q ≡ held_in C.cmp slots.old.entries q }
     ensures dropped { held_in C.cmp slots.old.entries peer.now ≡ None →
         has_slot C.cmp slots.new.entries peer.now ≡ false }
+    ensures others { (q : C) → is_at (C.cmp peer.now) q ≡ false →
+        has_slot C.cmp slots.new.entries q ≡ has_slot C.cmp slots.old.entries q }
 {
     if let Some(None) = slots.get(peer) {
         if let Some(slot) = slots.remove(peer) {

@@ -1,4 +1,5 @@
 use Rattle.p2p_directory.proofs.Nodes.Standing.{still_same}
+use Rattle.p2p_directory.proofs.Reservations.Rooms.{room_dropped}
 use Rattle.p2p_directory.proofs.Reservations.Slots.{held_is, same_contents}
 use Rattle.p2p_directory.proofs.node.endpoint.Endpoint.drop_room.Goals as goal
 
@@ -23,3 +24,8 @@ returns-clause-same g c = rw (← c.self.view_is) (λ i. record {
   limits = c.self.inside.payload;
   verifier = c.self.inside.verifier;
 })
+
+pub returns-clause-room : goal.returns-clause-room
+returns-clause-room g c = rw (← c.self.view_is)
+    (room_dropped g.met.C.PublicKey.exact c.self.inside.server.slots c.drop_room.new.self.slots c.args.peer
+    c.drop_room.ensures.dropped c.drop_room.ensures.others c.drop_room.ensures.held)

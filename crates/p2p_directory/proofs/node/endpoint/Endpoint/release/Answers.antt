@@ -1,6 +1,7 @@
 use Rattle.std.proofs.Common.{refl}
 use Rattle.p2p_directory.specs.declared.run.commands.Command.TheVariants as command
 use Rattle.p2p_directory.proofs.Nodes.Standing.{stepped_by, still_by}
+use Rattle.p2p_directory.proofs.Reservations.Rooms.{room_gone}
 use Rattle.p2p_directory.proofs.Reservations.Slots.{held_is, same_contents}
 use Rattle.p2p_directory.proofs.node.endpoint.Endpoint.release.Goals as goal
 
@@ -28,3 +29,8 @@ returns-clause-unchanged g c = rw (← c.self.view_is) (λ no i. record {
   limits = c.self.inside.payload;
   verifier = c.self.inside.verifier;
 })
+
+pub returns-clause-room : goal.returns-clause-room
+returns-clause-room g c = rw (← c.self.view_is)
+    (room_gone g.met.C.PublicKey.exact c.self.inside.server.slots c.release_slot-reply.new.self.slots c.args.peer.now
+    c.release_slot-reply.ensures.gone c.release_slot-reply.ensures.others)

@@ -159,3 +159,21 @@ invariant_of-self-in-Exchange g c =
       c.self.invariant.0,
       omega (arith, ap length same, c.exchange.auto.ends, c.deref_mut-in-Exchange.ensures.len, c.self.invariant.1),
     )
+
+pub returns-in-Call-clause-unchanged : goal.returns-in-Call-clause-unchanged
+returns-in-Call-clause-unchanged g c = rw (← c.self.view_is) (λ no.
+    let same = with_items_is c.self.inside.ends c.step.new.ends
+    (omega (arith, c.step.auto.ends, c.deref_mut.ensures.len)) in
+    ap (λ es. nodes_of es) same ∙ c.step.ensures.unchanged no ∙ ap (λ es. nodes_of es) c.deref_mut.ensures.value)
+
+pub returns-in-Frame-clause-unchanged : goal.returns-in-Frame-clause-unchanged
+returns-in-Frame-clause-unchanged g c = rw (← c.self.view_is) (λ no.
+    let same = with_items_is c.self.inside.ends c.receive.new.ends
+    (omega (arith, c.receive.auto.ends, c.deref_mut-in-Frame.ensures.len)) in
+    ap (λ es. nodes_of es) same ∙ c.receive.ensures.unchanged no ∙ ap (λ es. nodes_of es) c.deref_mut-in-Frame.ensures.value)
+
+pub returns-in-Exchange-clause-unchanged : goal.returns-in-Exchange-clause-unchanged
+returns-in-Exchange-clause-unchanged g c = rw (← c.self.view_is) (λ no.
+    let same = with_items_is c.self.inside.ends c.exchange.new.ends
+    (omega (arith, c.exchange.auto.ends, c.deref_mut-in-Exchange.ensures.len)) in
+    ap (λ es. nodes_of es) same ∙ c.exchange.ensures.unchanged no ∙ ap (λ es. nodes_of es) c.deref_mut-in-Exchange.ensures.value)

@@ -1,13 +1,15 @@
-use Rattle.std.proofs.Common.{ap, subst, sym}
+use Rattle.std.proofs.Common.{ap, subst, sym, ◌∙◌}
 use Rattle.std.specs.Prelude.{length, slice_index_or}
 use Rattle.std.specs.Duration.{as_nanos}
 use Rattle.p2p_directory.specs.declared.node.network.NetworkCommand.TheVariants as command
 use Rattle.p2p_directory.specs.Network.{node_made, calls_at}
 use Rattle.p2p_directory.specs.Received.{wire_of}
 use Rattle.p2p_directory.specs.Private.Endpoints.{node_of}
-use Rattle.p2p_directory.specs.Private.Networks.{KeepSlots}
+use Rattle.p2p_directory.specs.Exchange.{infos_applied}
+use Rattle.p2p_directory.specs.Private.Networks.{KeepSlots, nodes_of}
 use Rattle.p2p_directory.specs.Private.Slots.{has_slot}
 use Rattle.p2p_directory.proofs.Nodes.Among.{not_there, not_two, exchanged_among_nodes}
+use Rattle.p2p_directory.proofs.Nodes.Among.{same_nodes, same_left}
 use Rattle.p2p_directory.proofs.Nodes.Networks.{stands_at, none_more, not_served, exchange_more}
 use Rattle.p2p_directory.proofs.Nodes.Networks.{keep_slots}
 use Rattle.p2p_directory.proofs.Nodes.Worlds.{exchanged_in, carried_in}
@@ -93,3 +95,12 @@ returns-clause-carried g c = λ setups done other at o answer.
     (stands_at wire size node done es at j x.left c.if-replier-ends.false)
     c.args.place (as_nanos c.args.asker_now) (as_nanos c.args.replier_now) o
     (x.carried x.left o answer).frames
+
+pub returns-clause-unchanged : goal.returns-clause-unchanged
+returns-clause-unchanged g c = λ no.
+    let x = c.exchange_between.ensures in
+    let es = c.args.ends.now in
+    let e = slice_index_or es c.args.asker x.left in
+    ap (λ es. nodes_of es) x.rest
+    ∙ same_nodes es c.args.asker x.left x.left
+    (same_left g.C.Ord.cmp (infos_applied c.exchange_between.result) (node_of e) (node_of x.left) no (x.seen x.left).left)

@@ -7,7 +7,7 @@ use Rattle.p2p_directory.specs.Received.{wire_of}
 use Rattle.p2p_directory.specs.Private.Endpoints.{node_of}
 use Rattle.std.proofs.Common.{ap}
 use Rattle.p2p_directory.specs.Private.Slots.{has_slot}
-use Rattle.p2p_directory.proofs.Nodes.Among.{not_there, received_among}
+use Rattle.p2p_directory.proofs.Nodes.Among.{not_there, received_among, same_nodes}
 use Rattle.p2p_directory.proofs.Nodes.Networks.{stands_at, none_more, is_absent, frame_more}
 use Rattle.p2p_directory.proofs.Nodes.Networks.{keep_slots}
 use Rattle.p2p_directory.proofs.Nodes.Worlds.{received_in, told_in}
@@ -77,3 +77,7 @@ returns-clause-seen g c =
     received_among g.C.Ord.cmp wire c.args.ends.now c.args.node c.args.frame c.args.now
     c.answer.result c.index-ends-node.result c.answer.new.self c.if-node-ends.false
     c.answer.ensures.seen
+
+pub returns-clause-unchanged : goal.returns-clause-unchanged
+returns-clause-unchanged g c = λ no. same_nodes c.args.ends.now c.args.node c.index-ends-node.result
+    c.answer.new.self (ap node_of (c.answer.ensures.unchanged no))

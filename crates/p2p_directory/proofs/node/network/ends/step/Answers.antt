@@ -3,7 +3,7 @@ use Rattle.std.specs.Prelude.{length, slice_index_or}
 use Rattle.p2p_directory.specs.declared.node.network.NetworkCommand.TheVariants as command
 use Rattle.p2p_directory.specs.Network.{node_made, calls_at}
 use Rattle.p2p_directory.specs.Received.{wire_of}
-use Rattle.p2p_directory.proofs.Nodes.Among.{not_there, stepped_among}
+use Rattle.p2p_directory.proofs.Nodes.Among.{not_there, stepped_among, same_nodes}
 use Rattle.p2p_directory.proofs.Nodes.Networks.{stands_at, none_more, is_absent, step_more}
 use Rattle.p2p_directory.proofs.Nodes.Networks.{answered_served}
 use Rattle.p2p_directory.proofs.node.network.ends.step.Goals as goal
@@ -49,3 +49,7 @@ returns-clause-seen g c =
     g.C.PublicKey.verifies in
     stepped_among g.C.Ord.cmp wire c.args.ends.now c.args.node c.args.command c.step.result
     c.index-ends-node.result c.step.new.self c.if-node-ends.false c.step.ensures.stepped
+
+pub returns-clause-unchanged : goal.returns-clause-unchanged
+returns-clause-unchanged g c = λ no.
+    same_nodes c.args.ends.now c.args.node c.index-ends-node.result c.step.new.self (c.step.ensures.unchanged no)

@@ -12,6 +12,8 @@ use Rattle.p2p_directory.specs.Private.Slots.{held_in}
 use Rattle.p2p_directory.proofs.Reservations.Holding.{held_by_grant}
 use Rattle.std.specs.Duration.{as_nanos}
 use Rattle.p2p_directory.specs.Run.{settings}
+use Rattle.p2p_tracker.proofs.SetsAndRecords.Searches.{itself}
+use Rattle.p2p_directory.proofs.Reservations.Rooms.{full_at}
 use Rattle.p2p_directory.proofs.Reservations.Served
 use Rattle.p2p_directory.proofs.run.server.Server.dial.Goals as goal
 
@@ -66,3 +68,7 @@ returns-in-Err-clause-served g c = rw (← c.self.view_is) (λ bootstrappers mys
     Served.served_no_dial (settings g.C.Ord.cmp bootstrappers myself cfg) cfg.max_sets.ok g.met.C.PublicKey.exact
     calls _ _ at c.args.peer.now (as_nanos c.args.now) (as_nanos c.args.draw)
     (true_unless _ (λ no. let f = sym c.in-Err.is ∙ c.dial.ensures.none no in cc)) c.in-Err.ensures.err refl)
+
+pub returns-in-Ok-Some-clause-granted : goal.returns-in-Ok-Some-clause-granted
+returns-in-Ok-Some-clause-granted g c = λ is.
+    let p = c.args.peer.now in full_at _ _ _ _ (held g c p) (itself g.met.C.Ord.total p p refl)

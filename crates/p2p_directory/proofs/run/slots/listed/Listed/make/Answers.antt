@@ -1,9 +1,9 @@
-use Rattle.std.proofs.Common.{◌≡◌, Option, None, Result, Ok, Err, ap, sym, subst, ◌∙◌}
-use Rattle.std.specs.Prelude.{OnOk, OnErr, ◌||◌}
+use Rattle.std.proofs.Common.{◌≡◌, false, Option, None, Result, Ok, Err, ap, sym, subst, ◌∙◌}
+use Rattle.std.specs.Prelude.{OnOk, OnErr, ◌||◌, is_some}
 use Rattle.std.specs.BTreeMap.{is_at}
 use Rattle.p2p_tracker.specs.declared.directory.Metadata.{Metadata}
 use Rattle.p2p_directory.specs.Private.Slots.{has_slot, held_in}
-use Rattle.p2p_tracker.proofs.SetsAndRecords.Searches.{found_at}
+use Rattle.p2p_tracker.proofs.SetsAndRecords.Searches.{found_at, missing}
 use Rattle.p2p_directory.proofs.Reservations.Listed.{slots_with_or, has_with, held_with_or, has_already}
 use Rattle.p2p_directory.proofs.run.slots.listed.Listed.make.Goals as goal
 use Rattle.p2p_directory.proofs.run.slots.listed.Listed.make.Goals.{in-Ok, in-Err-insert}
@@ -48,3 +48,14 @@ returns-clause-held g c = λ q.
     c.insert.new.self.items c.in-Err.place c.args.peer c.in-Err.ensures.1
     c.insert.ensures.items (same _ _ c.insert.result c.insert.ensures.unchanged) q
     ∙ ap (λ slots. held_in g.C.Ord.cmp slots q) c.self.view_is
+
+abbrev Absent : (g : _) → goal.Joined-insert g → Type 0
+Absent g c = has_slot g.C.Ord.cmp c.args.self.now c.args.peer ≡ false
+
+pub returns-clause-absent : goal.returns-clause-absent
+returns-clause-absent g c = elim c.match-insert.branch [
+  | in-Ok w ↦ subst (λ r. OnErr r (Absent g c)) (sym w.result-is) tt
+  | in-Err-insert w ↦ subst (λ r. OnErr r (Absent g c)) (sym w.result-is)
+      (subst (λ slots. has_slot g.C.Ord.cmp slots c.args.peer ≡ false) c.self.view_is
+      (ap is_some (missing g.met.C.Ord.total c.self.inside.rows.items c.in-Err.place c.args.peer c.in-Err.ensures.1)))
+]

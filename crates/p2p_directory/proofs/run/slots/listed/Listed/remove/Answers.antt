@@ -7,7 +7,7 @@ use Rattle.p2p_tracker.specs.declared.directory.Metadata.{Metadata}
 use Rattle.p2p_directory.specs.Private.Slots.{has_slot, held_in, slot_of}
 use Rattle.p2p_tracker.proofs.SetsAndRecords.Searches.{removed_at, missing}
 use Rattle.p2p_directory.proofs.Reservations.Listed.{read_at, key_held, held_none}
-use Rattle.p2p_directory.proofs.Reservations.Listed.{slots_removed, held_removed, gone_removed}
+use Rattle.p2p_directory.proofs.Reservations.Listed.{slots_removed, held_removed, gone_removed, others_removed}
 use Rattle.p2p_directory.proofs.run.slots.listed.Listed.remove.Goals as goal
 use Rattle.p2p_directory.proofs.run.slots.listed.Listed.remove.Goals.{In-Some, In-Err}
 
@@ -66,3 +66,9 @@ returns-in-Err-clause-held g c = λ q.
     subst (λ slots. held_in g.C.Ord.cmp slots q ≡ cond (is_at (g.C.Ord.cmp p) q) None (held_in g.C.Ord.cmp slots q))
     c.self.view_is
     (held_none g.met.C.Ord.total g.met.C.PublicKey.exact c.self.inside.rows.items p (none g c) q)
+
+pub returns-in-Some-clause-others : goal.returns-in-Some-clause-others
+returns-in-Some-clause-others g c = λ q other.
+    others_removed g.met.C.Ord.total g.met.C.PublicKey.exact c.self.inside.rows.items c.remove.new.self.items
+    c.args.peer.now c.self.invariant (gone g c) q other
+    ∙ ap (λ slots. has_slot g.C.Ord.cmp slots q) c.self.view_is

@@ -1,0 +1,60 @@
+//! What a function says that is lent a node.
+
+ghost use Rattle.std.specs.Prelude.{◌≡◌, true, Some};
+ghost use Rattle.p2p_tracker.specs.Answers.{status_in};
+ghost use Rattle.p2p_directory.specs.Nodes.{StandsSomewhere, made_of};
+ghost use Rattle.p2p_directory.specs.Run.{call_of, next, world_after};
+
+use crate::fixtures::{info, node, track};
+use p2p_directory::node::Node;
+use p2p_directory::record::Status;
+use p2p_directory::run::{Command, Reply};
+use p2p_discovery::codec::{PublicKey, TestKey};
+use std::test::Fail;
+use std::time::Duration;
+
+// Dials a peer, and returns the reply and how the peer stands then: reserved if the dial was
+// granted. It is the status in the world to which the accepted calls lead, with the dial.
+fn dial_and_look<C: PublicKey>(
+    node: &mut Node<C>,
+    peer: &C,
+    now: Duration,
+    draw: Duration,
+) -> (Reply<C>, Option<Status>)
+    ensures reserved { result.0 ≡ Reply.Dial true → result.1 ≡ Some Status.Reserved }
+    ensures seen { (before : StandsSomewhere C.cmp node.old)
+        × (let s = (made_of C.cmp before.given).directory in
+        let dial = call_of (Command.Dial peer.now now draw) in
+        result.1 ≡ status_in s (world_after s (next s before.calls dial result.0)) peer.now) }
+{
+    node.stands();
+    let reply = node.dial(peer, now, draw);
+    let status = node.status(peer);
+    (reply, status)
+}
+
+#[test]
+fn a_lent_node_says_whom_it_reserves(rt: HostRuntime) -> Result<(), Fail> {
+    let alloc = rt.alloc();
+    let set = track(alloc, &[1, 2])?;
+    let mut infos = Vec::new(alloc);
+    infos.push(info(1, 5))?;
+    let now = Duration::from_secs(100);
+    let mut node = node(alloc, 9, 32)?;
+    node.step(set);
+    node.step(Command::UpdatePeers(infos));
+    let (granted, reserved) = dial_and_look(&mut node, &TestKey(1), now, Duration::ZERO);
+    let (again, still) = dial_and_look(&mut node, &TestKey(1), now, Duration::ZERO);
+    let (refused, inert) = dial_and_look(&mut node, &TestKey(2), now, Duration::ZERO);
+    let (unknown, nothing) = dial_and_look(&mut node, &TestKey(3), now, Duration::ZERO);
+    node.finish();
+    assert!(rt; matches!(granted, Reply::Dial(true)));
+    assert_eq!(rt; reserved, Some(Status::Reserved));
+    assert!(rt; matches!(again, Reply::Dial(false)));
+    assert_eq!(rt; still, Some(Status::Reserved));
+    assert!(rt; matches!(refused, Reply::Dial(false)));
+    assert_eq!(rt; inert, Some(Status::Inert));
+    assert!(rt; matches!(unknown, Reply::Dial(false)));
+    assert_eq!(rt; nothing, None);
+    Ok(())
+}
