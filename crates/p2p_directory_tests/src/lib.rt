@@ -23,3 +23,5 @@ mod network;
 mod node;
 #[cfg(test)]
 mod run;
+#[cfg(test)]
+mod slots;
