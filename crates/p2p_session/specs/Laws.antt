@@ -27,8 +27,3 @@ abbrev pub GoOn : List (Option View) → Type 0
 GoOn [] = Unit {0}
 GoOn (o ∷ []) = o ≡ None
 GoOn (o2 ∷ o ∷ before) = Goes o o2 × GoOn (o ∷ before)
-
--- a node was made from some setup, and stands at calls that it accepted
-abbrev pub StandsSomewhere : View → Type 0
-StandsSomewhere v = (given : Setup Key Signature) × (calls : List (Call Key Signature))
-    × NodeStandsAt (made_of order.cmp given) calls v

@@ -9,7 +9,9 @@ ghost use Rattle.p2p_directory.specs.declared.node.Received.TheVariants as recei
 ghost use Rattle.p2p_session.specs.Answers.{key_bytes};
 ghost use Rattle.p2p_session.specs.Frames.{Hears, ReceivesOf, greeter_in};
 ghost use Rattle.p2p_session.specs.Given.{Asked};
-ghost use Rattle.p2p_session.specs.Laws.{Goes, GoOn, StandsSomewhere};
+ghost use Rattle.p2p_session.specs.Laws.{Goes, GoOn};
+ghost use Rattle.p2p_session.specs.contracts.key.KeyOrd.TheImpl.{ghosts as order};
+ghost use Rattle.p2p_directory.specs.Nodes.{StandsSomewhere};
 ghost use Rattle.p2p_session.specs.Sessions.{InitsBy, Serves};
 ghost use Rattle.p2p_session.specs.Views.{View, wire};
 ghost use Rattle.p2p_session.specs.declared.Session.{Session};
@@ -33,7 +35,7 @@ pub fn sessions_go_on()
         InitsBy numbers namespace bootstrappers myself before after n → n ≡ 1 →
         Goes before.node after.node }
     ensures stands { (before : List (Option View)) (v : View) → GoOn (Some v ∷ before) →
-        StandsSomewhere v }
+        StandsSomewhere order.cmp v }
 {}
 
 /// A frame that is accepted as a message ends with it, so a host finds it by its length. One that

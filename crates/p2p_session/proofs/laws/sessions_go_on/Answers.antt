@@ -3,7 +3,7 @@ use Rattle.std.specs.Prelude.{if◌then◌else◌}
 use Rattle.p2p_discovery.specs.declared.discovery.Info.{Info}
 use Rattle.p2p_tracker.specs.Calls.{Call}
 use Rattle.p2p_tracker.specs.Calls.Call.{Update}
-use Rattle.p2p_directory.specs.Nodes.{made_of, standing_in, calls_with}
+use Rattle.p2p_directory.specs.Nodes.{made_of, standing_in, calls_with, StandsSomewhere}
 use Rattle.p2p_directory.specs.Received.{applied_with, received_by}
 use Rattle.p2p_directory.specs.Run.{next, was_made, world_after}
 use Rattle.p2p_session.specs.contracts.key.KeyOrd.TheImpl.{ghosts as order}
@@ -13,7 +13,7 @@ use Rattle.p2p_session.specs.declared.key.Signature.{Signature}
 use Rattle.p2p_session.specs.declared.refusal.Refusal.{Refusal}
 use Rattle.p2p_session.specs.Frames.{ReceivesAt, ReceivesOf, HearsAt}
 use Rattle.p2p_session.specs.Given.{Asked, moment_at}
-use Rattle.p2p_session.specs.Laws.{Goes, GoOn, IsNext, StandsSomewhere}
+use Rattle.p2p_session.specs.Laws.{Goes, GoOn, IsNext}
 use Rattle.p2p_session.specs.Sessions.{Serves, IsMade}
 use Rattle.p2p_session.specs.Views.{View, wire}
 use Rattle.p2p_directory.specs.declared.node.Setup.{Setup}
@@ -83,13 +83,13 @@ returns-clause-made c = λ numbers namespace bootstrappers myself before after n
     let made = h.made one in makes before.node after.node made.1.0 made.0 made.1.2
 
 -- by the calls before: the newest node is new, or it stands at the next calls
-somewhere : (before : List (Option View)) (v : View) → GoOn (Some v ∷ before) → StandsSomewhere v
+somewhere : (before : List (Option View)) (v : View) → GoOn (Some v ∷ before) → StandsSomewhere order.cmp v
 somewhere [] v h = absurd cc
-somewhere (None ∷ before) v h = (h.0.0, [], h.0.1)
+somewhere (None ∷ before) v h = record { given = h.0.0; calls = []; stands = h.0.1 }
 somewhere (Some u ∷ before) v h =
     let s = somewhere before u h.1 in
-    let later = h.0 s.0 s.1 s.2 in
-    (s.0, later.0, later.2)
+    let later = h.0 s.given s.calls s.stands in
+    record { given = s.given; calls = later.0; stands = later.2 }
 
 pub returns-clause-stands : goal.returns-clause-stands
 returns-clause-stands c = somewhere
