@@ -13,6 +13,8 @@ usage: tools/documents.py [--check] [FOLDER], by default this repository
 - wrong number, unknown count: between <!-- count:NAME --> and <!-- /count --> stands another number than the sources
   have. tools/documents/marks.py has the names.
 - changed excerpt: the code block after <!-- excerpt: FILE FROM..TO --> has other lines than the file.
+- no row, row of nothing: the table after <!-- folders --> lacks a folder at the top, of rust/ or of crates, or has
+  another; the table after <!-- crates --> likewise.
 
 Without --check numbers are written, and excerpts: one whose lines moved gets its new place, another its new lines.
 """
@@ -24,6 +26,7 @@ sys.dont_write_bytecode = True
 ROOT = Path(__file__).resolve().parent.parent
 sys.path.insert(0, str(ROOT / "tools/documents"))
 
+import folders  # noqa: E402
 import links  # noqa: E402
 import markdown  # noqa: E402
 import marks  # noqa: E402
@@ -39,6 +42,7 @@ def faults(root, document, known, anchors):
     yield from names.check(known, blocks)
     yield from private.check(blocks)
     yield from marks.check(root, text)
+    yield from folders.check(root, text)
 
 
 def check(root):

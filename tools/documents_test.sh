@@ -59,6 +59,12 @@ refuses 'private word: Beside' '| Beside | it |'
 refuses 'wrong number: worked-examples is ' '<!-- count:worked-examples -->1<!-- /count -->'
 refuses 'unknown count: nowhere' '<!-- count:nowhere -->1<!-- /count -->'
 
+refuses 'no row: docs/' '<!-- folders -->'
+refuses 'row of nothing: nowhere/' '<!-- folders -->
+| `nowhere/` | nothing |'
+refuses 'no row: p2p_tracker' '<!-- crates -->
+| `p2p_directory` | runs |'
+
 example=rust/p2p-directory/examples/two_nodes.rs
 second=$(sed -n 2p "$copy/$example")
 excerpt() {
