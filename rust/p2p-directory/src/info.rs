@@ -143,7 +143,7 @@ impl Info {
     /// ```
     #[must_use]
     pub fn encode(&self) -> Vec<u8> {
-        let mut out = Vec::new();
+        let mut out = Vec::with_capacity(self.encode_size());
         self.write(&mut out);
         out
     }
@@ -218,8 +218,10 @@ impl fmt::Display for Info {
 }
 
 fn signed_bytes(ingress: &Ingress, timestamp: u64) -> Vec<u8> {
-    let mut out = ingress.encode();
-    out.extend_from_slice(&timestamp.to_be_bytes());
+    let timestamp = timestamp.to_be_bytes();
+    let mut out = Vec::with_capacity(ingress.encode_size() + timestamp.len());
+    ingress.write(&mut out);
+    out.extend_from_slice(&timestamp);
     out
 }
 

@@ -292,7 +292,7 @@ impl Ingress {
     /// ```
     #[must_use]
     pub fn encode(&self) -> Vec<u8> {
-        let mut out = Vec::new();
+        let mut out = Vec::with_capacity(self.encode_size());
         self.write(&mut out);
         out
     }

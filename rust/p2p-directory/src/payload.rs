@@ -184,7 +184,7 @@ impl Payload {
     /// ```
     #[must_use]
     pub fn encode(&self) -> Vec<u8> {
-        let mut out = Vec::new();
+        let mut out = Vec::with_capacity(self.encode_size());
         match self {
             Payload::Data(data) => {
                 out.push(DATA_PREFIX);
