@@ -1,7 +1,7 @@
 //! The directory of peers: the retained sets, and a record of each peer that is in one of them,
 //! persistent, reserved or connected.
 
-ghost use Rattle.std.specs.Prelude.{◌≡◌, ◌<◌, ◌^◌, ◌-◌, [], false, Some, None};
+ghost use Rattle.std.specs.Prelude.{◌≡◌, ◌<◌, ◌^◌, ◌-◌, [], true, false, Some, None};
 ghost use Rattle.std.specs.Prelude.{IfSome, IfNone, IfOk, OnErr, is_some, length};
 ghost use Rattle.std.specs.List.Sorted.{IsStrictlySortedBy};
 ghost use Rattle.std.specs.Option.{option_map};
@@ -32,7 +32,6 @@ mod agreement;
 pub(crate) mod blocked;
 mod cooled;
 mod eligibility;
-mod grants;
 mod infos;
 mod peer_sets;
 pub(crate) mod records;
@@ -175,7 +174,8 @@ impl<C: PublicKey> Directory<C> {
     ghost use Rattle.p2p_tracker.specs.Directory.{IsBusy, IsReserved, StayBusy, StayReserved};
     ghost use Rattle.p2p_tracker.specs.Directory.{Reserves, Releases, Connects, Updates};
     ghost use Rattle.p2p_tracker.specs.Directory.{TakesSet, AreTornDown};
-    ghost use Rattle.p2p_tracker.specs.Directory.{other_keys};
+    ghost use Rattle.p2p_tracker.specs.Directory.{other_keys, has_status};
+    ghost use Rattle.p2p_tracker.specs.History.{is_reserved};
     ghost use Rattle.p2p_tracker.specs.Directory.{may_listen_in, may_dial_in, ingress_in};
 
     /// A directory that retains no set and blocks nobody. It has a record of the local node and one
@@ -330,12 +330,16 @@ impl<C: PublicKey> Directory<C> {
         if self.is_blocked(peer, now) {
             return Ok(None);
         }
-        match self.grant_dialled(peer, now, draw)? {
-            Some(ingress) => Ok(Some(Reservation {
-                metadata: Metadata::Dialer(*peer, ingress),
-            })),
-            None => Ok(None),
-        }
+        let cfg = self.config;
+        let Some(ingress) = self
+            .records
+            .reserve_dialled(&mut self.cooldowns, peer, now, draw, &cfg)?
+        else {
+            return Ok(None);
+        };
+        Ok(Some(Reservation {
+            metadata: Metadata::Dialer(*peer, ingress),
+        }))
     }
 
     /// Reserves the peer for an inbound connection at the time `now`, a duration since the epoch.
@@ -383,12 +387,19 @@ impl<C: PublicKey> Directory<C> {
         ensures busy { StayBusy C.cmp self.old self.new }
         ensures reserved { StayReserved C.cmp self.old self.new }
     {
-        if self.is_blocked(peer, now) || !self.grant_coming(peer, now, draw)? {
+        if self.is_blocked(peer, now) {
             return Ok(None);
         }
-        Ok(Some(Reservation {
-            metadata: Metadata::Listener(*peer),
-        }))
+        let cooldown = self.config.peer_connection_cooldown;
+        if self
+            .records
+            .reserve_coming(&mut self.cooldowns, peer, now, draw, cooldown)?
+        {
+            return Ok(Some(Reservation {
+                metadata: Metadata::Listener(*peer),
+            }));
+        }
+        Ok(None)
     }
 
     /// Releases a reservation: its peer is inert. If it was for a dial, this counts one failure at
@@ -428,9 +439,7 @@ impl<C: PublicKey> Directory<C> {
     ///
     /// # Cost
     ///
-    /// One search among the records. If the peer's info becomes wanted or is no longer wanted, one
-    /// among the positions. Then, for each retained set that has the peer as primary, the search of
-    /// that set by its index, and one bit.
+    /// That of [`Directory::try_connect`].
     pub fn connect(&mut self, peer: &C, dialer: bool)
         requires { IsReserved C.cmp self.old peer.now }
         ensures connected { Connects C.cmp self.old self.new peer.now dialer }
@@ -438,9 +447,31 @@ impl<C: PublicKey> Directory<C> {
         ensures reserved { (q : C) → is_at (C.cmp peer.now) q ≡ false →
             IsReserved C.cmp self.old q → IsReserved C.cmp self.new q }
     {
+        let _connected = self.try_connect(peer, dialer);
+    }
+
+    /// Connects the peer as [`Directory::connect`] does, if it is reserved, and returns whether it
+    /// was. If it wasn't, nothing changes. It doesn't allocate.
+    ///
+    /// # Cost
+    ///
+    /// One search among the records. If the peer's info becomes wanted or is no longer wanted, one
+    /// among the positions. Then, for each retained set that has the peer as primary, the search of
+    /// that set by its index, and one bit.
+    pub fn try_connect(&mut self, peer: &C, dialer: bool) -> bool
+        ensures answer { result ≡ has_status is_reserved (record_of C.cmp self.old peer.now) }
+        ensures refused { result ≡ false → self.new ≡ self.old }
+        ensures connected { result ≡ true → Connects C.cmp self.old self.new peer.now dialer }
+        ensures busy { StayBusy C.cmp self.old self.new }
+        ensures reserved { (q : C) → is_at (C.cmp peer.now) q ≡ false →
+            IsReserved C.cmp self.old q → IsReserved C.cmp self.new q }
+    {
         let limit = self.config.dial_fail_limit;
-        let known = self.records.connect(peer, dialer, limit);
+        let Some(known) = self.records.connect(peer, dialer, limit) else {
+            return false;
+        };
         self.sets.renew(peer, known);
+        true
     }
 
     /// Offers infos to the records of their peers. Of the known info of a peer and those in the

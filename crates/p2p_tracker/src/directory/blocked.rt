@@ -120,6 +120,16 @@ impl<C: PublicKey> Directory<C> {
     {
         self.own.cmp(peer) == Ordering::Equal
     }
+
+    // Whether the peer is blocked at this time.
+    pub(super) fn is_blocked(&self, peer: &C, now: Duration) -> bool
+        ensures { result ≡ is_blocked_in C.cmp self.now (as_nanos now) peer.now }
+    {
+        match self.blocks.get(peer) {
+            Some(until) => now.as_nanos() < until.as_nanos(),
+            None => false,
+        }
+    }
 }
 
 /// The peers whose blocks hold at the time `now`, a duration since the epoch.

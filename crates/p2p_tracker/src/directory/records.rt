@@ -23,7 +23,7 @@ ghost use Rattle.p2p_tracker.specs.Directory.{connected_record, updated_record, 
 use crate::directory::{Config, Metadata};
 use crate::kept::cooldowns::Cooldowns;
 use crate::kept::{Known, forget, put};
-use crate::record::{DialStatus, Record, ReserveResult, next_moments};
+use crate::record::{DialStatus, Record, ReserveResult, Status, next_moments};
 use p2p_discovery::codec::PublicKey;
 use p2p_discovery::discovery::Info;
 use p2p_discovery::types::Ingress;
@@ -178,29 +178,31 @@ impl<C: PublicKey> Records<C> {
         known
     }
 
-    /// Connects the peer; `dialer` says whether the local node dialled it. Returns whether the
-    /// peer's info is known and not wanted, before and after.
-    pub fn connect(&mut self, peer: &C, dialer: bool, limit: usize) -> Known
-        requires { has_status is_reserved (record_at C.cmp self.old peer.now) ≡ true }
-        ensures change { ChangesAt C.cmp self.old self.new peer.now
-            (option_map (connected_record dialer)) }
-        ensures before { result.before ≡ is_known limit (record_at C.cmp self.old peer.now) }
-        ensures after { result.after ≡ is_known limit (record_at C.cmp self.new peer.now) }
+    /// Marks the peer as connected if it is reserved, and returns whether its info is known and not
+    /// wanted, before and after. Returns `None`, and changes nothing, if it isn't reserved.
+    pub fn connect(&mut self, peer: &C, dialer: bool, limit: usize) -> Option<Known>
+        ensures none { IfNone result (self.new ≡ self.old) }
+        ensures unreserved { IfNone result
+            (has_status is_reserved (record_at C.cmp self.old peer.now) ≡ false) }
+        ensures reserved { IfSome result (λ _.
+            has_status is_reserved (record_at C.cmp self.old peer.now) ≡ true) }
+        ensures change { IfSome result (λ _. ChangesAt C.cmp self.old self.new peer.now
+            (option_map (connected_record dialer))) }
+        ensures before { IfSome result (λ known.
+            known.before ≡ is_known limit (record_at C.cmp self.old peer.now)) }
+        ensures after { IfSome result (λ known.
+            known.after ≡ is_known limit (record_at C.cmp self.new peer.now)) }
     {
-        match self.map.get_mut(peer) {
-            Some(found) => {
-                let before = !found.want(limit);
-                connect_record(found, dialer);
-                Known {
-                    before,
-                    after: !found.want(limit),
-                }
-            }
-            None => Known {
-                before: false,
-                after: false,
-            },
+        let found = self.map.get_mut(peer)?;
+        if found.status() != Status::Reserved {
+            return None;
         }
+        let before = !found.want(limit);
+        connect_record(found, dialer);
+        Some(Known {
+            before,
+            after: !found.want(limit),
+        })
     }
 
     /// Offers an info to the record of its peer. If it is accepted, returns whether the peer's info

@@ -5,7 +5,7 @@ use Rattle.p2p_tracker.specs.Seen.{record_at}
 use Rattle.p2p_tracker.specs.Cooldowns.{cooldown_in}
 use Rattle.p2p_tracker.proofs.SetsAndRecords.Changes.{dialled_may_come, reserved_at}
 use Rattle.p2p_tracker.proofs.SetsAndRecords.Cooled.{cooled_reserved}
-use Rattle.p2p_tracker.proofs.directory.Directory.grant_dialled.Goals as goal
+use Rattle.p2p_tracker.proofs.directory.Directory.dial.Goals as goal
 
 pub invariant_of-self-2 : goal.invariant_of-self-2
 invariant_of-self-2 g c =

@@ -5,7 +5,7 @@ use Rattle.p2p_tracker.specs.Seen.{record_at}
 use Rattle.p2p_tracker.specs.Cooldowns.{cooldown_in}
 use Rattle.p2p_tracker.proofs.SetsAndRecords.Changes.{reserved_at}
 use Rattle.p2p_tracker.proofs.SetsAndRecords.Cooled.{cooled_reserved}
-use Rattle.p2p_tracker.proofs.directory.Directory.grant_coming.Goals as goal
+use Rattle.p2p_tracker.proofs.directory.Directory.listen.Goals as goal
 
 pub invariant_of-self-then-branch : goal.invariant_of-self-then-branch
 invariant_of-self-then-branch g c =

@@ -9,39 +9,39 @@ use Rattle.p2p_tracker.specs.Cooldowns.{cooldown_in}
 use Rattle.p2p_tracker.proofs.SetsAndRecords.Cooled.{cooled_at, connect_keeps}
 use Rattle.p2p_tracker.proofs.SetsAndRecords.Changes.{changed_at, kept_connected, changes_view}
 use Rattle.p2p_tracker.proofs.SetsAndRecords.Changes.{status_after_change, others_status, marked_again}
-use Rattle.p2p_tracker.proofs.directory.Directory.connect.Goals as goal
+use Rattle.p2p_tracker.proofs.directory.Directory.try_connect.Goals as goal
 
 pub renew-requires : goal.renew-requires
 renew-requires g c =
     let cmp = g.C.Ord.cmp in
     marked_again cmp g.met.C.PublicKey.exact c.self.inside.config.dial_fail_limit c.self.inside.sets
-    (record_at cmp c.self.inside.records) c.args.peer.now c.connect-known.result.before
-    c.self.invariant.whole.bits c.connect-known.ensures.before
+    (record_at cmp c.self.inside.records) c.args.peer.now c.in-Some.known.before
+    c.self.invariant.whole.bits c.in-Some.ensures.before
 
-pub invariant_of-self : goal.invariant_of-self
-invariant_of-self g c =
+pub invariant_of-self-2 : goal.invariant_of-self-2
+invariant_of-self-2 g c =
     let cmp = g.C.Ord.cmp in
     let cfg = c.self.inside.config in
     let old = record_at cmp c.self.inside.records in
-    let new = record_at cmp c.connect-known.new.self in
+    let new = record_at cmp c.connect.new.self in
     record {
       whole = changed_at cmp g.met.C.PublicKey.exact (non_zero_usize_get cfg.max_sets) cfg.dial_fail_limit
           c.self.inside.sets c.renew.new.self (record_at cmp c.self.inside.records)
-          (record_at cmp c.connect-known.new.self)
-          c.args.peer.now (option_map (connected_record c.args.dialer)) c.connect-known.result.after
-          c.self.invariant.whole c.connect-known.ensures.change (kept_connected c.args.dialer)
-          c.connect-known.ensures.after c.renew.ensures;
+          (record_at cmp c.connect.new.self)
+          c.args.peer.now (option_map (connected_record c.args.dialer)) c.in-Some.known.after
+          c.self.invariant.whole c.in-Some.ensures.change (kept_connected c.args.dialer)
+          c.in-Some.ensures.after c.renew.ensures;
       cooled = cooled_at cmp old new (cooldown_in cmp c.self.inside.cooldowns) c.args.peer.now
-          (option_map (connected_record c.args.dialer)) c.self.invariant.cooled c.connect-known.ensures.change
+          (option_map (connected_record c.args.dialer)) c.self.invariant.cooled c.in-Some.ensures.change
           (connect_keeps c.args.dialer);
     }
 
 pub returns-clause-connected : goal.returns-clause-connected
-returns-clause-connected g c =
+returns-clause-connected g c = λ _.
     changes_view g.C.Ord.cmp c.args.self.now (config_view c.self.inside.config) c.self.inside.sets
-    c.renew.new.self c.self.inside.records c.connect-known.new.self c.self.inside.blocks
+    c.renew.new.self c.self.inside.records c.connect.new.self c.self.inside.blocks
     c.self.inside.cooldowns
-    c.args.peer.now (option_map (connected_record c.args.dialer)) c.connect-known.result.after c.self.view_is c.renew.ensures c.connect-known.ensures.change
+    c.args.peer.now (option_map (connected_record c.args.dialer)) c.in-Some.known.after c.self.view_is c.renew.ensures c.in-Some.ensures.change
 
 busy : {C S : Type 0} (dialer : Bool) (o : Option (RecordView C S)) → is_busy o ≡ true → is_busy (option_map (connected_record dialer) o) ≡ true
 busy dialer None e = absurd cc
@@ -50,9 +50,9 @@ busy dialer (Some r) e = refl
 pub returns-clause-busy : goal.returns-clause-busy
 returns-clause-busy g c =
     status_after_change g.C.Ord.cmp (λ status. not (is_inert status)) c.args.self.now _ c.args.peer.now
-    (option_map (connected_record c.args.dialer)) (returns-clause-connected g c) (busy c.args.dialer)
+    (option_map (connected_record c.args.dialer)) (returns-clause-connected g c refl) (busy c.args.dialer)
 
 pub returns-clause-reserved : goal.returns-clause-reserved
 returns-clause-reserved g c = λ q other reserved.
     others_status g.C.Ord.cmp is_reserved c.args.self.now _ c.args.peer.now
-    (option_map (connected_record c.args.dialer)) (returns-clause-connected g c) q other reserved
+    (option_map (connected_record c.args.dialer)) (returns-clause-connected g c refl) q other reserved
