@@ -11,8 +11,8 @@ use Rattle.p2p_discovery.specs.declared.discovery.Info.{Info}
 use Rattle.p2p_discovery.specs.Judgement.{list_refusal}
 use Rattle.p2p_directory.specs.declared.node.exchanged.Exchanged.{Exchanged}
 use Rattle.p2p_directory.specs.declared.node.exchanged.Exchanged.TheVariants as exchanged
-use Rattle.p2p_directory.specs.declared.node.Received.{Received}
-use Rattle.p2p_directory.specs.declared.node.Received.TheVariants as received
+use Rattle.p2p_directory.specs.declared.node.received.Received.{Received}
+use Rattle.p2p_directory.specs.declared.node.received.Received.TheVariants as received
 use Rattle.p2p_tracker.specs.Calls.{Call}
 use Rattle.p2p_directory.specs.Received.{Wire, Standing, FrameOutcome, only, applying}
 use Rattle.p2p_directory.specs.Received.{ask_frame_at, received_at}

@@ -13,13 +13,14 @@ use Rattle.p2p_discovery.specs.Info.{IsInfo, IsKeyed}
 use Rattle.p2p_discovery.specs.Judgement.{Verifier, judge_of}
 use Rattle.p2p_discovery.specs.Reading.{Reading, whole}
 use Rattle.p2p_tracker.specs.declared.directory.Metadata.{Metadata}
-use Rattle.p2p_directory.specs.declared.node.Received.{Received}
-use Rattle.p2p_directory.specs.declared.node.Setup.{Setup}
+use Rattle.p2p_directory.specs.declared.node.received.Received.{Received}
+use Rattle.p2p_directory.specs.declared.node.setup.Setup.{Setup}
 use Rattle.p2p_directory.specs.declared.run.commands.Command.{Command}
 use Rattle.p2p_directory.specs.declared.run.commands.Reply.{Reply}
 use Rattle.p2p_directory.specs.declared.run.commands.Reply.TheVariants as reply
 use Rattle.p2p_tracker.specs.Calls.{Settings, Call}
-use Rattle.p2p_tracker.specs.Calls.Call.{Dial, Listen, Update}
+use Rattle.p2p_tracker.specs.Calls.Call.{Track, Dial, Listen, Connect, Release, Update, Block}
+use Rattle.p2p_tracker.specs.Calls.Call.{UnblockExpired, ForgetCooled, Ask}
 use Rattle.p2p_tracker.specs.World.{World}
 use Rattle.p2p_tracker.specs.Answers.{infos_for, set_at_place}
 use Rattle.p2p_tracker.specs.Directory.{Updates, bit_vec_at, infos_in, other_keys}
@@ -87,7 +88,14 @@ made_of cmp given = record {
 abbrev pub may_reserve : {C S : Type 0} → Call C S → Bool
 may_reserve (Dial p t draw) = true
 may_reserve (Listen p t draw) = true
-may_reserve _ = false
+may_reserve (Track index primary secondary) = false
+may_reserve (Connect p dialer) = false
+may_reserve (Release p) = false
+may_reserve (Update infos) = false
+may_reserve (Block p t) = false
+may_reserve (UnblockExpired t) = false
+may_reserve (ForgetCooled t) = false
+may_reserve (Ask question) = false
 
 -- the calls accepted after some, where an update with these infos was one more
 abbrev pub calls_with : {C S : Type 0} → Option (List (Info C S)) → List (Call C S) →

@@ -1,9 +1,9 @@
 -- Two nodes are a network of two: the left is node 0, the right node 1.
 use Rattle.std.specs.Prelude.{ℕ, zero, suc, List, [], map}
-use Rattle.p2p_directory.specs.declared.node.network.NetworkCommand.{NetworkCommand}
-use Rattle.p2p_directory.specs.declared.node.network.NetworkCommand.TheVariants as network_command
-use Rattle.p2p_directory.specs.declared.node.network.NetworkReply.{NetworkReply}
-use Rattle.p2p_directory.specs.declared.node.network.NetworkReply.TheVariants as network_reply
+use Rattle.p2p_directory.specs.declared.node.network.commands.NetworkCommand.{NetworkCommand}
+use Rattle.p2p_directory.specs.declared.node.network.commands.NetworkCommand.TheVariants as network_command
+use Rattle.p2p_directory.specs.declared.node.network.commands.NetworkReply.{NetworkReply}
+use Rattle.p2p_directory.specs.declared.node.network.commands.NetworkReply.TheVariants as network_reply
 use Rattle.p2p_directory.specs.declared.node.pair.Side.{Side}
 use Rattle.p2p_directory.specs.declared.node.pair.Side.TheVariants.{Left, Right}
 use Rattle.p2p_directory.specs.declared.node.pair.PairCommand.{PairCommand}

@@ -12,10 +12,10 @@ use Rattle.p2p_discovery.specs.declared.discovery.PayloadConfig.{PayloadConfig}
 use Rattle.p2p_discovery.specs.Reading.{Reading, whole}
 use Rattle.p2p_discovery.specs.Judgement.{Judge, refusal_if, list_refusal_by, verdicts_on}
 use Rattle.p2p_discovery.specs.Payload.{payload_spelling, payload_at, infos_of_payload}
-use Rattle.p2p_directory.specs.declared.node.Answer.{Answer}
-use Rattle.p2p_directory.specs.declared.node.Answer.TheVariants as answer
-use Rattle.p2p_directory.specs.declared.node.Received.{Received}
-use Rattle.p2p_directory.specs.declared.node.Received.TheVariants as received
+use Rattle.p2p_directory.specs.declared.node.received.Answer.{Answer}
+use Rattle.p2p_directory.specs.declared.node.received.Answer.TheVariants as answer
+use Rattle.p2p_directory.specs.declared.node.received.Received.{Received}
+use Rattle.p2p_directory.specs.declared.node.received.Received.TheVariants as received
 
 -- what all nodes have in common: how payloads are spelled and read, and which signatures are right
 pub record Wire (C S : Type 0) : Type 0 where

@@ -6,7 +6,7 @@ ghost use Rattle.std.specs.Int.NonZero.{non_zero_usize_get};
 ghost use Rattle.std.specs.List.{All, AllPass};
 ghost use Rattle.p2p_tracker.specs.Directory.{bit_vec_at};
 ghost use Rattle.p2p_directory.specs.Held.{held_of};
-ghost use Rattle.p2p_directory.specs.Private.Slots.{has_slot, held_in, is_named};
+ghost use Rattle.p2p_directory.specs.Private.Slots.{held_in, AreSlots};
 ghost use Rattle.p2p_directory.specs.Private.Serving.{has_slot_for, reserved_peer, IsAmong};
 ghost use Rattle.p2p_directory.specs.Nodes.{may_reserve};
 ghost use Rattle.p2p_directory.specs.Refinement.{Refines};
@@ -156,6 +156,7 @@ pub fn run<C: PublicKey>(
 fn slots_for<C: PublicKey>(alloc: Global, commands: &[Command<C>]) -> Result<Slots<C>, AllocError>
     ensures room { IfOk result (λ slots. AllPass (has_slot_for C.cmp slots) commands.now) }
     ensures empty { IfOk result (λ slots. (q : C) → held_in C.cmp slots q ≡ None) }
+    ensures ordered { IfOk result (AreSlots C.cmp) }
 {
     let peers = reserved_peers(alloc, commands)?;
     Slots::of_peers(alloc, peers)
@@ -170,37 +171,9 @@ fn reserved_peers<C: PublicKey>(
 {
     let mut peers = Vec::with_capacity(alloc, commands.len())?;
     for command in commands {
-        if let Some(peer) = reserved_peer(command) {
+        if let Some(peer) = command.reserved_peer() {
             peers.push_reserved(peer);
         }
     }
     Ok(peers)
-}
-
-// The peer of which the command may be granted a reservation, if there is one.
-fn reserved_peer<C: PublicKey>(command: &Command<C>) -> Option<C>
-    ensures { result ≡ reserved_peer command.now }
-{
-    match command {
-        Command::Dial { peer, .. } | Command::Listen { peer, .. } => Some(*peer),
-        _ => None,
-    }
-}
-
-// Makes a slot for the peer of which the command may be granted a reservation, if there is one.
-fn make_slot<C: PublicKey>(slots: &mut Slots<C>, command: &Command<C>) -> Result<(), AllocError>
-    ensures err { OnErr result (slots.new ≡ slots.old) }
-    ensures reserves { OnErr result (may_reserve (call_of command.now) ≡ true) }
-    ensures absent { OnErr result (has_slot_for C.cmp slots.old command.now ≡ false) }
-    ensures room { OnOk result (has_slot_for C.cmp slots.new command.now ≡ true) }
-    ensures grown { OnOk result ((q : C) → has_slot C.cmp slots.new q ≡
-        (is_named C.cmp (reserved_peer command.now) q || has_slot C.cmp slots.old q)) }
-    ensures slots { OnOk result ((q : C) →
-        has_slot C.cmp slots.old q ≡ true → has_slot C.cmp slots.new q ≡ true) }
-    ensures held { (q : C) → held_in C.cmp slots.new q ≡ held_in C.cmp slots.old q }
-{
-    match command {
-        Command::Dial { peer, .. } | Command::Listen { peer, .. } => slots.make(*peer),
-        _ => Ok(()),
-    }
 }

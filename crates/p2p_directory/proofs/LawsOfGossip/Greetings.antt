@@ -9,8 +9,8 @@ use Rattle.p2p_discovery.specs.Fixed.{IsFixed}
 use Rattle.p2p_discovery.specs.Payload.{IsPayload, IsAdmitted, payload_spelling, payload_at}
 use Rattle.p2p_discovery.specs.Laws.Payload.{lawful_payload}
 use Rattle.p2p_discovery.specs.Reading.{whole, ends_whole}
-use Rattle.p2p_directory.specs.declared.node.Received.{Received}
-use Rattle.p2p_directory.specs.declared.node.Received.TheVariants as received
+use Rattle.p2p_directory.specs.declared.node.received.Received.{Received}
+use Rattle.p2p_directory.specs.declared.node.received.Received.TheVariants as received
 use Rattle.p2p_directory.specs.Received as frames
 use Rattle.p2p_directory.specs.Received.{FrameOutcome}
 

@@ -13,10 +13,10 @@ use Rattle.std.proofs.lemmas.Cmp.{tied_itself}
 use Rattle.p2p_discovery.specs.declared.discovery.Info.{Info}
 use Rattle.p2p_directory.specs.declared.node.exchanged.Exchanged.{Exchanged}
 use Rattle.p2p_directory.specs.declared.node.exchanged.Exchanged.TheVariants as exchanged
-use Rattle.p2p_directory.specs.declared.node.network.NetworkCommand.{NetworkCommand}
-use Rattle.p2p_directory.specs.declared.node.network.NetworkCommand.TheVariants as command
-use Rattle.p2p_directory.specs.declared.node.network.NetworkReply.{NetworkReply}
-use Rattle.p2p_directory.specs.declared.node.network.NetworkReply.TheVariants as reply
+use Rattle.p2p_directory.specs.declared.node.network.commands.NetworkCommand.{NetworkCommand}
+use Rattle.p2p_directory.specs.declared.node.network.commands.NetworkCommand.TheVariants as command
+use Rattle.p2p_directory.specs.declared.node.network.commands.NetworkReply.{NetworkReply}
+use Rattle.p2p_directory.specs.declared.node.network.commands.NetworkReply.TheVariants as reply
 use Rattle.p2p_tracker.specs.Calls.{Call, SetAt}
 use Rattle.p2p_tracker.specs.Calls.Call.{Update}
 use Rattle.p2p_tracker.specs.History

@@ -13,8 +13,8 @@ use Rattle.p2p_discovery.specs.declared.discovery.Info.{Info}
 use Rattle.p2p_directory.specs.declared.node.exchanged.Exchanged.{Exchanged}
 use Rattle.p2p_directory.specs.declared.node.exchanged.Exchanged.TheVariants as exchanged
 use Rattle.p2p_tracker.specs.Calls.{SetAt}
-use Rattle.p2p_directory.specs.declared.node.network.NetworkCommand.TheVariants as command_of
-use Rattle.p2p_directory.specs.declared.node.network.NetworkReply.TheVariants as reply_of
+use Rattle.p2p_directory.specs.declared.node.network.commands.NetworkCommand.TheVariants as command_of
+use Rattle.p2p_directory.specs.declared.node.network.commands.NetworkReply.TheVariants as reply_of
 use Rattle.p2p_tracker.specs.Calls.Call.{Update}
 use Rattle.p2p_tracker.specs.History
 use Rattle.p2p_tracker.specs.World.{Peer}

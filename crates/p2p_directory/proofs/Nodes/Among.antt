@@ -10,13 +10,13 @@ use Rattle.std.proofs.Math.Seq.{map-set_same}
 use Rattle.std.proofs.lemmas.List.{get_or-map, length-map, map-set, map-append}
 use Rattle.p2p_discovery.specs.declared.discovery.Info.{Info}
 use Rattle.p2p_tracker.specs.Seen.{DirectoryView}
-use Rattle.p2p_directory.specs.declared.node.Received.{Received}
-use Rattle.p2p_directory.specs.declared.node.Setup.{Setup}
+use Rattle.p2p_directory.specs.declared.node.received.Received.{Received}
+use Rattle.p2p_directory.specs.declared.node.setup.Setup.{Setup}
 use Rattle.p2p_directory.specs.declared.node.exchanged.Exchanged.{Exchanged}
-use Rattle.p2p_directory.specs.declared.node.network.NetworkCommand.{NetworkCommand}
-use Rattle.p2p_directory.specs.declared.node.network.NetworkCommand.TheVariants as command
-use Rattle.p2p_directory.specs.declared.node.network.NetworkReply.TheVariants as reply
-use Rattle.p2p_directory.specs.declared.node.network.NetworkReply.{NetworkReply}
+use Rattle.p2p_directory.specs.declared.node.network.commands.NetworkCommand.{NetworkCommand}
+use Rattle.p2p_directory.specs.declared.node.network.commands.NetworkCommand.TheVariants as command
+use Rattle.p2p_directory.specs.declared.node.network.commands.NetworkReply.TheVariants as reply
+use Rattle.p2p_directory.specs.declared.node.network.commands.NetworkReply.{NetworkReply}
 use Rattle.p2p_directory.specs.declared.run.commands.Command.{Command}
 use Rattle.p2p_directory.specs.declared.run.commands.Reply.{Reply}
 use Rattle.p2p_directory.specs.Exchange.{IsExchanged}

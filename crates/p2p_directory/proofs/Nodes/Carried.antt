@@ -15,8 +15,8 @@ use Rattle.p2p_discovery.specs.Judgement.{list_refusal}
 use Rattle.p2p_discovery.specs.Reading.{whole}
 use Rattle.p2p_directory.specs.declared.node.exchanged.Exchanged.{Exchanged}
 use Rattle.p2p_directory.specs.declared.node.exchanged.Exchanged.TheVariants as exchanged
-use Rattle.p2p_directory.specs.declared.node.Received.{Received}
-use Rattle.p2p_directory.specs.declared.node.Received.TheVariants as received
+use Rattle.p2p_directory.specs.declared.node.received.Received.{Received}
+use Rattle.p2p_directory.specs.declared.node.received.Received.TheVariants as received
 use Rattle.p2p_directory.specs.Received.{Wire, Standing, FrameOutcome, wire_of, read_at, received_at}
 use Rattle.p2p_directory.specs.Received.{ask_frame_at, only, applying, replied, taken, frame_may_want_memory}
 use Rattle.p2p_directory.specs.Exchange.{ExchangeOutcome, judged_at, replied_at, asked_at, exchanged_at}

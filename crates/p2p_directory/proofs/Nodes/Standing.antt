@@ -15,7 +15,12 @@ use Rattle.p2p_directory.specs.Nodes.{StandsSomewhere}
 use Rattle.p2p_directory.specs.Private.Endpoints.{IsEndpointServedAt}
 use Rattle.p2p_directory.specs.Private.Serving.{ServerView, StandsAt}
 use Rattle.p2p_directory.specs.Private.Serving as serving
-use Rattle.p2p_directory.specs.Private.Slots.{held_in}
+use Rattle.p2p_directory.specs.Private.Slots.{held_in, contents, AreSlots}
+use Rattle.p2p_discovery.specs.declared.discovery.PayloadConfig.{PayloadConfig}
+use Rattle.p2p_discovery.specs.Judgement.{Verifier}
+use Rattle.std.specs.Cmp.{IsTotalOrder}
+use Rattle.std.proofs.lemmas.Map.Lookups.{CmpEqualImpliesEq}
+use Rattle.p2p_directory.proofs.Reservations.Slots.{held_is, same_contents}
 
 holds_alike : {C S : Type 0} (s : Settings C S) (w : World C S) (h h2 : C → Option (Metadata C S)) → ((q : C) → h2 q ≡ h q) → Holds s w h → Holds s w h2
 holds_alike s w h h2 same holds = record { peers = λ q. ap is_some (same q) ∙ holds.peers q; metadata = λ q. same q ∙ holds.metadata q }
@@ -105,3 +110,44 @@ still_by cmp x r n n2 v v2 directory held directory2 held2 limits verifier serve
 -- .. where nothing is seen to change
 pub still_same : {C S : Type 0} (cmp : C → C → Ordering) (n n2 : NodeView C S) → n2 ≡ n → StandsSomewhere cmp n → StandsSomewhere cmp n2
 still_same cmp n n2 same somewhere = subst (StandsSomewhere cmp) (sym same) somewhere
+
+-- THE NODE OF A SERVER whose slots are in order
+
+-- .. with these limits and this verifier
+abbrev pub node_at : {C S : Type 0} → PayloadConfig → Verifier C → ServerView C S → NodeView C S
+node_at limits verifier v = record {
+  directory = v.directory;
+  held = contents v.slots;
+  limits = limits;
+  verifier = verifier;
+}
+
+module _ {C S : Type 0} {cmp : C → C → Ordering} (total : IsTotalOrder cmp) (exact : CmpEqualImpliesEq cmp)
+    (limits : PayloadConfig) (verifier : Verifier C) where
+  pub step_of : (x : Command C S) (r : Reply C S) (v v2 : ServerView C S) → AreSlots cmp v.slots → AreSlots cmp v2.slots →
+      serving.IsServed cmp x r v v2 → IsStepped cmp x r (node_at limits verifier v) (node_at limits verifier v2)
+  step_of x r v v2 are are2 serves =
+      stepped_by cmp x r (node_at limits verifier v) (node_at limits verifier v2) v v2 refl
+      (held_is total exact v.slots are) refl (held_is total exact v2.slots are2) refl refl serves
+
+  pub step_alone : (x : Command C S) (r : Reply C S) (v v2 : ServerView C S) → AreSlots cmp v.slots → AreSlots cmp v2.slots →
+      serving.IsSteppedAlone cmp x r v v2 → IsStepped cmp x r (node_at limits verifier v) (node_at limits verifier v2)
+  step_alone x r v v2 are are2 steps = λ given calls at.
+      let m = made_of cmp given in
+      let n = node_at limits verifier v in
+      let n2 = node_at limits verifier v2 in
+      let answers = steps given.bootstrappers.items given.myself given.cfg calls (of_node m calls n v refl (held_is total exact v.slots are) at) in
+      record {
+        answer = answers.answer;
+        left = of_server m (next m.directory calls (call_of x) r) n2 v2 refl (held_is total exact v2.slots are2) at.limits at.verifier answers.left;
+      }
+
+  -- what is held of it is the same list, where the same is held of each peer
+  pub same_node : (v v2 : ServerView C S) → AreSlots cmp v.slots → AreSlots cmp v2.slots → v2.directory ≡ v.directory →
+      ((q : C) → held_in cmp v2.slots q ≡ held_in cmp v.slots q) → node_at limits verifier v2 ≡ node_at limits verifier v
+  same_node v v2 are are2 directory held i = record {
+    directory = directory i;
+    held = same_contents total exact v.slots v2.slots are are2 held i;
+    limits = limits;
+    verifier = verifier;
+  }

@@ -6,7 +6,7 @@ use Rattle.p2p_discovery.specs.declared.discovery.BitVec.{BitVec}
 use Rattle.p2p_discovery.specs.declared.discovery.Info.{Info}
 use Rattle.p2p_discovery.specs.declared.discovery.PayloadConfig.{PayloadConfig}
 use Rattle.p2p_discovery.specs.Judgement.{judge_of, Verifier}
-use Rattle.p2p_directory.specs.declared.node.Received.{Received}
+use Rattle.p2p_directory.specs.declared.node.received.Received.{Received}
 use Rattle.p2p_tracker.specs.declared.directory.Metadata.{Metadata}
 use Rattle.p2p_tracker.specs.Seen.{DirectoryView}
 use Rattle.p2p_tracker.specs.Calls.{Call}
@@ -27,7 +27,7 @@ use Rattle.p2p_directory.specs.Nodes.{Made, NodeView, NodeStandsAt, IsAnsweredAt
 use Rattle.p2p_directory.specs.Nodes.{standing_of, standing_in, calls_with, IsLeft, Answers}
 use Rattle.p2p_directory.specs.Nodes.{AsksWith, AreValues, StandsSomewhere, made_of}
 use Rattle.p2p_directory.specs.Exchange.{HasSpelling, ExchangeOutcome, IsCarried}
-use Rattle.p2p_directory.specs.Private.Slots.{contents, held_in}
+use Rattle.p2p_directory.specs.Private.Slots.{contents, held_in, AreSlots}
 use Rattle.p2p_directory.proofs.Definitions.Law
 use Rattle.p2p_directory.proofs.LawsOfRuns.Forgotten
 use Rattle.p2p_directory.proofs.Refinement.KnowledgeRefines
@@ -148,13 +148,11 @@ module _ {C S : Type 0} (m n : Made C S) (wire : Wire C S) (cs ds : List (Call C
 -- .. once infos were applied, with the same slots
 pub still_updated : {C S : Type 0} (cmp : C → C → Ordering) (d d2 : DirectoryView C S) (slots slots2 : List (C × Option (Metadata C S)))
     (limits : PayloadConfig) (verifier : Verifier C) (infos : List (Info C S)) → slots2 ≡ slots → Updates cmp d d2 infos →
-    ((q : C) → held_of cmp (contents slots) q ≡ held_in cmp slots q) →
-    StandsSomewhere cmp (record { directory = d; held = contents slots; limits = limits; verifier = verifier }) →
-    ((q : C) → held_of cmp (contents slots2) q ≡ held_in cmp slots2 q)
-    × StandsSomewhere cmp (record { directory = d2; held = contents slots2; limits = limits; verifier = verifier })
-still_updated cmp d d2 slots slots2 limits verifier infos same change held somewhere =
+    AreSlots cmp slots → StandsSomewhere cmp (record { directory = d; held = contents slots; limits = limits; verifier = verifier }) →
+    AreSlots cmp slots2 × StandsSomewhere cmp (record { directory = d2; held = contents slots2; limits = limits; verifier = verifier })
+still_updated cmp d d2 slots slots2 limits verifier infos same change are somewhere =
     let given = somewhere.given in (
-      subst (λ xs. (q : _) → held_of cmp (contents xs) q ≡ held_in cmp xs q) (sym same) held,
+      subst (AreSlots cmp) (sym same) are,
       record {
         given = given;
         calls = Update infos ∷ somewhere.calls;

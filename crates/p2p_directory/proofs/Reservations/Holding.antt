@@ -6,7 +6,9 @@ use Rattle.std.specs.BTreeMap.{is_at}
 use Rattle.std.specs.declared.cmp.Ordering.{Ordering}
 use Rattle.std.proofs.lemmas.Map.Lookups.{CmpEqualImpliesEq}
 use Rattle.std.proofs.lemmas.Map.Views.{tells_apart}
+use Rattle.p2p_discovery.specs.declared.types.ingress.Ingress.{Ingress}
 use Rattle.p2p_tracker.specs.declared.directory.Metadata.{Metadata}
+use Rattle.p2p_tracker.specs.declared.directory.Metadata.TheVariants as metadata
 use Rattle.p2p_tracker.specs.declared.record.Status.{Status}
 use Rattle.p2p_tracker.specs.declared.record.Status.TheVariants.{Inert, Reserved, Active}
 use Rattle.p2p_tracker.specs.Calls.{SetAt}
@@ -120,3 +122,12 @@ module _ {C S : Type 0} (cmp : C → C → Ordering) where
   pub held_record : (d : DirectoryView C S) (held : C → Option (Metadata C S)) (q : C) (m : Metadata C S) →
       AreHeld cmp d held → held q ≡ Some m → key_of m ≡ q → IsBusy cmp d (key_of m)
   held_record d held q m agree e key = subst (IsBusy cmp d) (sym key) (sym (agree q) ∙ ap is_some e)
+
+-- whom a reservation for a dial is for
+pub dialled_key : {C S : Type 0} (p : C) (o : Option Ingress) (m : Metadata C S) → option_map (metadata.Dialer p) o ≡ Some m → key_of m ≡ p
+dialled_key p None m e = absurd cc
+dialled_key p (Some a) m e = let f : m ≡ metadata.Dialer p a = cc in ap key_of f
+
+pub true_unless : (b : Bool) → (b ≡ false → ⊥) → b ≡ true
+true_unless true h = refl
+true_unless false h = absurd (h refl)

@@ -29,7 +29,11 @@ use Rattle.p2p_tracker.specs.Directory.{EndsBlocks, IsNumberCooledIn, ForgetsCoo
 use Rattle.p2p_tracker.specs.Directory.{may_dial_in, ingress_in, ChangesRecord, Reserves, Connects}
 use Rattle.p2p_tracker.specs.Directory.{Updates, TakesSet, AreTornDown}
 use Rattle.p2p_directory.specs.Laws.Effects.{AddsHeld, DropsHeld, DirectoryStandsAt}
-use Rattle.p2p_directory.specs.Private.Serving.{ServerView, StandsAt, IsCallServedAt}
+use Rattle.p2p_directory.specs.Nodes.{may_reserve}
+use Rattle.p2p_directory.specs.declared.run.commands.Reply.{Reply}
+use Rattle.p2p_tracker.specs.Seen.{RecordView}
+use Rattle.p2p_tracker.specs.Directory.{has_status}
+use Rattle.p2p_directory.specs.Private.Serving.{ServerView, StandsAt, IsCallServedAt, IsCallSteppedAt}
 use Rattle.p2p_directory.specs.Private.Slots.{held_in}
 use Rattle.p2p_directory.specs.Refinement.{Refines, config_of, metadata_of}
 use Rattle.p2p_directory.specs.Run.{world_after, event_of, MayWantMemory}
@@ -94,10 +98,10 @@ module _ {C S : Type 0} (s : Settings C S) where
 
       -- refused memory, where the call would take effect
       refused_memory : (c : Call C S) → MayWantMemory s (event_of s cs c) (world_after s cs) c →
-          v2.directory ≡ v.directory → v2.slots ≡ v.slots → IsCallServedAt s cs c reply.OutOfMemory v2
-      refused_memory c may directory slots = record {
+          v2.directory ≡ v.directory → ((q : C) → held_in s.cmp v2.slots q ≡ held_in s.cmp v.slots q) → IsCallServedAt s cs c reply.OutOfMemory v2
+      refused_memory c may directory held = record {
         answer = inl (refl, may);
-        left = same_views cs v v2 directory (same_slots slots) at;
+        left = same_views cs v v2 directory held at;
       }
 
       -- TRACK
@@ -108,7 +112,7 @@ module _ {C S : Type 0} (s : Settings C S) where
       served_no_memory index primary secondary next directory slots =
           let is = Effects.track_is s some exact cs v.directory v2.directory (held_in s.cmp v.slots) before index primary secondary true next in
           refused_memory (Track index primary secondary)
-          (ap was_taken (event (Track index primary secondary) (Tracked (set_of s.cmp index primary secondary)) is)) directory slots
+          (ap was_taken (event (Track index primary secondary) (Tracked (set_of s.cmp index primary secondary)) is)) directory (same_slots slots)
 
       -- whether the set was taken or not
       pub served_track : (index : ℕ) (primary secondary : List C) (torn : Option (List C)) →
@@ -138,17 +142,17 @@ module _ {C S : Type 0} (s : Settings C S) where
       served_granted p now draw can change held = served_listen p now draw (Some (metadata.Listener p)) (sym can) tt refl change held
 
       pub served_refused : (p : C) (now draw : ℕ) → may_listen_in s.cmp v.directory now p ≡ false →
-          v2.directory ≡ v.directory → v2.slots ≡ v.slots →
+          v2.directory ≡ v.directory → ((q : C) → held_in s.cmp v2.slots q ≡ held_in s.cmp v.slots q) →
           IsCallServedAt s cs (Listen p now draw) (reply.Listen false) v2
-      served_refused p now draw can directory slots = served_listen p now draw None (sym can) directory tt tt (same_slots slots)
+      served_refused p now draw can directory held = served_listen p now draw None (sym can) directory tt tt held
 
       -- .. that is refused memory
       pub served_no_listen : (p : C) (now draw : ℕ) → may_listen_in s.cmp v.directory now p ≡ true →
-          v2.directory ≡ v.directory → v2.slots ≡ v.slots → IsCallServedAt s cs (Listen p now draw) reply.OutOfMemory v2
-      served_no_listen p now draw can directory slots =
+          v2.directory ≡ v.directory → ((q : C) → held_in s.cmp v2.slots q ≡ held_in s.cmp v.slots q) → IsCallServedAt s cs (Listen p now draw) reply.OutOfMemory v2
+      served_no_listen p now draw can directory held =
           let is = Effects.listen_is s some exact cs v.directory v2.directory (held_in s.cmp v.slots) before p now draw true can in
           refused_memory (Listen p now draw)
-          (ap was_granted (event (Listen p now draw) (Granted p (record { t = now; draw = draw; direction = Listener })) is)) directory slots
+          (ap was_granted (event (Listen p now draw) (Granted p (record { t = now; draw = draw; direction = Listener })) is)) directory held
 
       -- DIAL
 
@@ -170,16 +174,16 @@ module _ {C S : Type 0} (s : Settings C S) where
       served_dialled p now draw m can is_for change held = served_dial p now draw (Some m) (sym can) tt is_for change held
 
       pub served_not_dialled : (p : C) (now draw : ℕ) → may_dial_in s.cmp v.directory now p ≡ false →
-          v2.directory ≡ v.directory → v2.slots ≡ v.slots → IsCallServedAt s cs (Dial p now draw) (reply.Dial false) v2
-      served_not_dialled p now draw can directory slots = served_dial p now draw None (sym can) directory tt tt (same_slots slots)
+          v2.directory ≡ v.directory → ((q : C) → held_in s.cmp v2.slots q ≡ held_in s.cmp v.slots q) → IsCallServedAt s cs (Dial p now draw) (reply.Dial false) v2
+      served_not_dialled p now draw can directory held = served_dial p now draw None (sym can) directory tt tt held
 
       -- .. refused memory
       pub served_no_dial : (p : C) (now draw : ℕ) → may_dial_in s.cmp v.directory now p ≡ true →
-          v2.directory ≡ v.directory → v2.slots ≡ v.slots → IsCallServedAt s cs (Dial p now draw) reply.OutOfMemory v2
-      served_no_dial p now draw can directory slots =
+          v2.directory ≡ v.directory → ((q : C) → held_in s.cmp v2.slots q ≡ held_in s.cmp v.slots q) → IsCallServedAt s cs (Dial p now draw) reply.OutOfMemory v2
+      served_no_dial p now draw can directory held =
           let found = Effects.dial_is s some exact cs v.directory v2.directory (held_in s.cmp v.slots) before p now draw can in
           refused_memory (Dial p now draw)
-          (ap was_granted (event (Dial p now draw) (Granted p (record { t = now; draw = draw; direction = Dialer found.0 })) found.3)) directory slots
+          (ap was_granted (event (Dial p now draw) (Granted p (record { t = now; draw = draw; direction = Dialer found.0 })) found.3)) directory held
 
       -- BLOCKS
 
@@ -197,7 +201,7 @@ module _ {C S : Type 0} (s : Settings C S) where
           v2.directory ≡ v.directory → v2.slots ≡ v.slots → IsCallServedAt s cs (Block p now) reply.OutOfMemory v2
       served_no_block p now can directory slots =
           let is = Effects.block_is s some exact cs v.directory v2.directory (held_in s.cmp v.slots) before p now true can in
-          refused_memory (Block p now) (ap was_blocked (event (Block p now) (Blocked p now) is)) directory slots
+          refused_memory (Block p now) (ap was_blocked (event (Block p now) (Blocked p now) is)) directory (same_slots slots)
 
       pub served_expired : (now : ℕ) (any : Bool) → IsAnyUntil (unblock_of s.cmp v.directory) now any →
           EndsBlocks s.cmp v.directory v2.directory now → v2.slots ≡ v.slots →
@@ -223,25 +227,34 @@ module _ {C S : Type 0} (s : Settings C S) where
 
       -- CONNECTS, INFOS, RELEASES
 
-      -- the status that is told of p says whether p is reserved
-      reserved_is : (p : C) (o : Option Status) (b : Bool) →
-          o ≡ option_map (λ r. r.status) (record_of s.cmp v.directory p) → option_map_or is_reserved o false ≡ b →
+      -- whether p is reserved in the directory, it is in the world
+      reserved_is : (p : C) (b : Bool) → has_status is_reserved (record_of s.cmp v.directory p) ≡ b →
           is_reserved ((world_after s cs).peer p).status ≡ b
-      reserved_is p o b told is =
-          sym (KnowledgeRefines.tie_reserved s (world_after s cs) v.directory p at.refines) ∙ sym (ap (λ o. option_map_or is_reserved o false) told) ∙ is
+      reserved_is p b is =
+          sym (KnowledgeRefines.tie_reserved s (world_after s cs) v.directory p at.refines) ∙ by_status (record_of s.cmp v.directory p) ∙ is
+        where
+          by_status : (o : Option (RecordView C S)) →
+              option_map_or is_reserved (option_map (λ r. r.status) o) false ≡ has_status is_reserved o
+          by_status None = refl
+          by_status (Some r) = refl
 
-      pub served_connected : (p : C) (dialer : Bool) (o : Option Status) →
-          o ≡ option_map (λ r. r.status) (record_of s.cmp v.directory p) →
-          option_map_or is_reserved o false ≡ true →
+      pub served_connected : (p : C) (dialer : Bool) → has_status is_reserved (record_of s.cmp v.directory p) ≡ true →
           Connects s.cmp v.directory v2.directory p dialer → v2.slots ≡ v.slots → IsCallServedAt s cs (Connect p dialer) reply.Connect v2
-      served_connected p dialer o told reserved change slots =
-          let may = reserved_is p o true told reserved in
+      served_connected p dialer reserved change slots =
+          let may = reserved_is p true reserved in
           record {
             answer = inr (ap (λ b. if b then reply.Connect else reply.NotReserved) (sym may));
             left =
                 stands_with (Connect p dialer ∷ cs) v v2 at.limit_fits slots
                 (Effects.connects s some exact cs v.directory v2.directory (held_in s.cmp v.slots) before p dialer may change);
           }
+
+      pub served_not_reserved : (p : C) (dialer : Bool) → has_status is_reserved (record_of s.cmp v.directory p) ≡ false →
+          v2.directory ≡ v.directory → v2.slots ≡ v.slots → IsCallServedAt s cs (Connect p dialer) reply.NotReserved v2
+      served_not_reserved p dialer unreserved directory slots = record {
+        answer = inr (ap (λ b. if b then reply.Connect else reply.NotReserved) (sym (reserved_is p false unreserved)));
+        left = same_views cs v v2 directory (same_slots slots) at;
+      }
 
       pub served_updated : (infos : List (Info C S)) → Updates s.cmp v.directory v2.directory infos →
           v2.slots ≡ v.slots → IsCallServedAt s cs (Update infos) reply.UpdatePeers v2
@@ -275,6 +288,17 @@ module _ {C S : Type 0} (s : Settings C S) where
           go : (q : C) (b : Bool) → is_at (s.cmp p) q ≡ b → (if b then None else held_in s.cmp v.slots q) ≡ held_in s.cmp v.slots q
           go q true e = sym (ap (held_in s.cmp v.slots) (sym (tells_apart exact p q e)) ∙ none)
           go q false e = refl
+
+  -- ALONE: a command for which a slot is made
+
+  -- .. and that is served then
+  pub alone : (cs : List (Call C S)) (c : Call C S) (r : Reply C S) (v : ServerView C S) → IsCallServedAt s cs c r v → IsCallSteppedAt s cs c r v
+  alone cs c r v served = record { answer = inl served.answer; left = served.left }
+
+  -- .. where the allocation for it fails
+  pub no_slot : (cs : List (Call C S)) (c : Call C S) (v : ServerView C S) → may_reserve c ≡ true → StandsAt s cs v →
+      IsCallSteppedAt s cs c reply.OutOfMemory v
+  no_slot cs c v may at = record { answer = inr (may, refl); left = at }
 
   -- before any command nothing is held
   pub stands_at_start : (v : ServerView C S) → s.dial_fail_limit < 2 ^ 64 → v.directory.config ≡ config_of s →

@@ -4,7 +4,8 @@ use Rattle.std.specs.Prelude.{option_to_list}
 use Rattle.std.specs.List.{AllByRecursion, list_any}
 use Rattle.p2p_tracker.specs.Moments.{cap}
 use Rattle.p2p_tracker.specs.Calls.{Settings, Call, Grant, Event}
-use Rattle.p2p_tracker.specs.Calls.Call.{Dial, Listen, Block, UnblockExpired, ForgetCooled}
+use Rattle.p2p_tracker.specs.Calls.Call.{Track, Dial, Listen, Connect, Release, Update, Block}
+use Rattle.p2p_tracker.specs.Calls.Call.{UnblockExpired, ForgetCooled, Ask}
 use Rattle.p2p_tracker.specs.History.{last_with, grant_by, is_forgetting, block_by}
 
 -- a moment, or now where there is none
@@ -58,7 +59,11 @@ module _ {C S : Type 0} (s : Settings C S) where
   moment_of (Block p t) = Some t
   moment_of (UnblockExpired t) = Some t
   moment_of (ForgetCooled t) = Some t
-  moment_of _ = None
+  moment_of (Track index primary secondary) = None
+  moment_of (Connect p dialer) = None
+  moment_of (Release p) = None
+  moment_of (Update infos) = None
+  moment_of (Ask question) = None
 
   -- .. or now, where it has none
   abbrev pub moment_or : ℕ → Call C S → ℕ

@@ -5,8 +5,8 @@ use Rattle.std.specs.List.{AllByRecursion}
 use Rattle.p2p_discovery.specs.declared.discovery.Info.{Info}
 use Rattle.p2p_discovery.specs.declared.discovery.Payload.TheVariants as said
 use Rattle.p2p_discovery.specs.Judgement.{is_signed_in}
-use Rattle.p2p_directory.specs.declared.node.Received.{Received}
-use Rattle.p2p_directory.specs.declared.node.Received.TheVariants as received
+use Rattle.p2p_directory.specs.declared.node.received.Received.{Received}
+use Rattle.p2p_directory.specs.declared.node.received.Received.TheVariants as received
 use Rattle.p2p_tracker.specs.Calls.{Call}
 use Rattle.p2p_tracker.specs.Calls.Call.{Update}
 use Rattle.p2p_tracker.specs.History.{is_own}

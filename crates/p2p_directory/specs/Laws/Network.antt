@@ -11,15 +11,16 @@ use Rattle.std.specs.declared.time.Duration.{Duration}
 use Rattle.p2p_discovery.specs.declared.discovery.Info.{Info}
 use Rattle.p2p_discovery.specs.declared.discovery.Payload.TheVariants as said
 use Rattle.p2p_discovery.specs.Judgement.{is_signed_in}
-use Rattle.p2p_directory.specs.declared.node.Received.TheVariants as received
+use Rattle.p2p_directory.specs.declared.node.received.Received.TheVariants as received
 use Rattle.p2p_directory.specs.declared.node.exchanged.Exchanged.{Exchanged}
 use Rattle.p2p_directory.specs.declared.node.exchanged.Exchanged.TheVariants as exchanged
-use Rattle.p2p_directory.specs.declared.node.network.NetworkCommand.{NetworkCommand}
-use Rattle.p2p_directory.specs.declared.node.network.NetworkCommand.TheVariants as command
-use Rattle.p2p_directory.specs.declared.node.network.NetworkReply.{NetworkReply}
-use Rattle.p2p_directory.specs.declared.node.network.NetworkReply.TheVariants as reply
+use Rattle.p2p_directory.specs.declared.node.network.commands.NetworkCommand.{NetworkCommand}
+use Rattle.p2p_directory.specs.declared.node.network.commands.NetworkCommand.TheVariants as command
+use Rattle.p2p_directory.specs.declared.node.network.commands.NetworkReply.{NetworkReply}
+use Rattle.p2p_directory.specs.declared.node.network.commands.NetworkReply.TheVariants as reply
 use Rattle.p2p_tracker.specs.Calls.{Call, SetAt}
-use Rattle.p2p_tracker.specs.Calls.Call.{Update}
+use Rattle.p2p_tracker.specs.Calls.Call.{Track, Dial, Listen, Connect, Release, Update, Block}
+use Rattle.p2p_tracker.specs.Calls.Call.{UnblockExpired, ForgetCooled, Ask}
 use Rattle.p2p_tracker.specs.History.{is_own, is_in}
 use Rattle.p2p_directory.specs.Run.{call_of, world_after}
 use Rattle.p2p_directory.specs.Received.{Wire, applies, received_at, told_with}
@@ -47,7 +48,15 @@ module _ {C S : Type 0} where
   -- the infos that a call gives
   abbrev pub given_by : Call C S → List (Info C S)
   given_by (Update infos) = infos
-  given_by _ = []
+  given_by (Track index primary secondary) = []
+  given_by (Dial p t draw) = []
+  given_by (Listen p t draw) = []
+  given_by (Connect p dialer) = []
+  given_by (Release p) = []
+  given_by (Block p t) = []
+  given_by (UnblockExpired t) = []
+  given_by (ForgetCooled t) = []
+  given_by (Ask question) = []
 
 module _ {C S : Type 0} (wire : Wire C S) (size : ℕ) (node : ℕ → Made C S) where
   -- each node is made from one setup

@@ -3,11 +3,11 @@
 use Rattle.std.specs.Prelude.{ℕ, ◌≡◌, ◌<◌, true, List, ◌∷◌, length, map, slice_index_or, slice_set}
 use Rattle.std.specs.Prelude.{Bool, false, Option, Result, Ok, Err}
 use Rattle.std.specs.declared.cmp.Ordering.{Ordering}
-use Rattle.p2p_directory.specs.declared.node.Setup.{Setup}
-use Rattle.p2p_directory.specs.declared.node.network.NetworkCommand.{NetworkCommand}
-use Rattle.p2p_directory.specs.declared.node.network.NetworkCommand.TheVariants as command
-use Rattle.p2p_directory.specs.declared.node.network.NetworkReply.{NetworkReply}
-use Rattle.p2p_directory.specs.declared.node.network.NetworkReply.TheVariants as reply
+use Rattle.p2p_directory.specs.declared.node.setup.Setup.{Setup}
+use Rattle.p2p_directory.specs.declared.node.network.commands.NetworkCommand.{NetworkCommand}
+use Rattle.p2p_directory.specs.declared.node.network.commands.NetworkCommand.TheVariants as command
+use Rattle.p2p_directory.specs.declared.node.network.commands.NetworkReply.{NetworkReply}
+use Rattle.p2p_directory.specs.declared.node.network.commands.NetworkReply.TheVariants as reply
 use Rattle.p2p_directory.specs.declared.node.exchanged.Exchanged.{Exchanged}
 use Rattle.p2p_directory.specs.Received.{Wire}
 use Rattle.p2p_directory.specs.Exchange.{Exchanges, Carries}

@@ -1,6 +1,7 @@
 -- Serving one command: from wherever the calls accepted before led, the reply is the answer.
-use Rattle.std.specs.Prelude.{◌<◌, ◌^◌, Bool, true, List, Option, Some, None, IfSome}
+use Rattle.std.specs.Prelude.{◌≡◌, ◌⊎◌, ◌<◌, ◌^◌, Bool, true, List, Option, Some, None, IfSome}
 use Rattle.std.specs.List.{Contains}
+use Rattle.std.specs.Option.{option_map_or}
 use Rattle.std.specs.declared.cmp.Ordering.{Ordering}
 use Rattle.p2p_discovery.specs.declared.discovery.Info.{Info}
 use Rattle.p2p_discovery.specs.declared.types.ingress.Ingress.{Ingress}
@@ -9,8 +10,10 @@ use Rattle.p2p_tracker.specs.declared.directory.Metadata.{Metadata}
 use Rattle.p2p_directory.specs.declared.run.commands.Command.{Command}
 use Rattle.p2p_directory.specs.declared.run.commands.Command.TheVariants as command
 use Rattle.p2p_directory.specs.declared.run.commands.Reply.{Reply}
+use Rattle.p2p_directory.specs.declared.run.commands.Reply.TheVariants as reply
 use Rattle.p2p_tracker.specs.Calls.{Settings, Call}
 use Rattle.p2p_tracker.specs.Seen.{DirectoryView}
+use Rattle.p2p_directory.specs.Nodes.{may_reserve}
 use Rattle.p2p_directory.specs.Refinement.{Refines}
 use Rattle.p2p_directory.specs.Private.Slots.{has_slot, held_in}
 use Rattle.p2p_directory.specs.Run.{settings, call_of, world_after}
@@ -21,23 +24,41 @@ pub record ServerView (C S : Type 0) : Type 0 where
   pub directory : DirectoryView C S
   pub slots : List (C × Option (Metadata C S))
 
-module _ {C S : Type 0} (cmp : C → C → Ordering) where
-  -- there is a slot for what the command may be granted
-  abbrev pub has_slot_for : List (C × Option (Metadata C S)) → Command C S → Bool
-  has_slot_for slots (command.Dial peer now draw) = has_slot cmp slots peer
-  has_slot_for slots (command.Listen peer now draw) = has_slot cmp slots peer
-  has_slot_for slots _ = true
-
 -- the peer that the command may be granted a reservation of, if there is one
 abbrev pub reserved_peer : {C S : Type 0} → Command C S → Option C
 reserved_peer (command.Dial peer now draw) = Some peer
 reserved_peer (command.Listen peer now draw) = Some peer
-reserved_peer _ = None
+reserved_peer (command.Track index peers) = None
+reserved_peer (command.Connect peer dialer) = None
+reserved_peer (command.Release peer) = None
+reserved_peer (command.UpdatePeers infos) = None
+reserved_peer (command.Block peer now) = None
+reserved_peer (command.UnblockExpired now) = None
+reserved_peer (command.ForgetCooled now) = None
+reserved_peer command.NextUnblock = None
+reserved_peer (command.BlockedPeers now) = None
+reserved_peer (command.Status peer) = None
+reserved_peer (command.GetPeerSet index) = None
+reserved_peer command.LatestUpdate = None
+reserved_peer command.LatestSetIndex = None
+reserved_peer command.All = None
+reserved_peer (command.Info peer) = None
+reserved_peer (command.Infos bits now) = None
+reserved_peer (command.GetRandomBitVec place) = None
+reserved_peer (command.Eligible peer now) = None
+reserved_peer (command.Acceptable peer now) = None
+reserved_peer (command.Dialable now) = None
+reserved_peer command.Tracked = None
 
 -- .. or that it may release
 abbrev pub named_peer : {C S : Type 0} → Command C S → Option C
 named_peer (command.Release peer) = Some peer
 named_peer x = reserved_peer x
+
+-- there is a slot for what the command may be granted
+abbrev pub has_slot_for : {C S : Type 0} → (C → C → Ordering) →
+    List (C × Option (Metadata C S)) → Command C S → Bool
+has_slot_for cmp slots x = option_map_or (has_slot cmp slots) (reserved_peer x) true
 
 -- the peer that the command may be granted a reservation of is one of these
 abbrev pub IsAmong : {C S : Type 0} → List C → Command C S → Type 0
@@ -56,6 +77,12 @@ module _ {C S : Type 0} (s : Settings C S) where
     pub answer : IsAnswer s calls c r
     pub left : StandsAt (next s calls c r) v
 
+  -- .. or an allocation for its slot failed
+  pub record IsCallSteppedAt
+      (calls : List (Call C S)) (c : Call C S) (r : Reply C S) (v : ServerView C S) : Type 0 where
+    pub answer : IsAnswer s calls c r ⊎ ((may_reserve c ≡ true) × (r ≡ reply.OutOfMemory))
+    pub left : StandsAt (next s calls c r) v
+
 -- .. of a command, whatever the setup and the calls accepted before: v before it, v2 after it
 abbrev pub IsServed : {C S : Type 0} → (C → C → Ordering) →
     Command C S → Reply C S → ServerView C S → ServerView C S → Type 0
@@ -63,3 +90,11 @@ IsServed {C} {S} cmp x r v v2 =
     (bootstrappers : List (C × Ingress)) (myself : Info C S) (cfg : Config) →
     (calls : List (Call C S)) → let s = settings cmp bootstrappers myself cfg in
     StandsAt s calls v → IsCallServedAt s calls (call_of x) r v2
+
+-- .. with a slot made for it
+abbrev pub IsSteppedAlone : {C S : Type 0} → (C → C → Ordering) →
+    Command C S → Reply C S → ServerView C S → ServerView C S → Type 0
+IsSteppedAlone {C} {S} cmp x r v v2 =
+    (bootstrappers : List (C × Ingress)) (myself : Info C S) (cfg : Config) →
+    (calls : List (Call C S)) → let s = settings cmp bootstrappers myself cfg in
+    StandsAt s calls v → IsCallSteppedAt s calls (call_of x) r v2

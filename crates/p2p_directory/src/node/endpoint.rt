@@ -26,10 +26,9 @@ ghost use Rattle.p2p_directory.specs.Exchange.{HasSpelling, HaveSpelling};
 ghost use Rattle.p2p_directory.specs.Private.Frames.{fault_answer};
 ghost use Rattle.p2p_directory.specs.Private.Serving.{has_slot_for, reserved_peer, named_peer};
 ghost use Rattle.p2p_directory.specs.Private.Slots.{contents, has_slot, is_named, KeepsRoom};
+ghost use Rattle.p2p_directory.specs.Private.Slots.{AreSlots};
 ghost use Rattle.p2p_directory.specs.Private.Endpoints.{node_of, IsServedBy};
 
-use crate::node::decoded::{Decoded, are_equal};
-use crate::node::{Answer, Miscounted, Received};
 use crate::run::server::Server;
 use crate::run::{Command, Held, Reply};
 use bytes::Bytes;
@@ -41,23 +40,21 @@ use std::marker::Model;
 use std::time::Duration;
 
 mod exchanges;
-mod reservations;
-mod single;
+mod frames;
 
 /// A server, the verifier of infos, and the limits under which frames are read. A contract sees its
 /// directory and its slots, and these two. It must be consumed by [`Endpoint::into_parts`].
 pub struct Endpoint<C: PublicKey> {
-    server: Server<C>,
-    verifier: InfoVerifier<C>,
-    payload: PayloadConfig,
+    pub(super) server: Server<C>,
+    pub(super) verifier: InfoVerifier<C>,
+    pub(super) payload: PayloadConfig,
 }
 
 impl<C: PublicKey> Model for Endpoint<C> {
     ghost use Rattle.std.specs.Prelude.{◌≡◌, ◌<◌, ◌^◌};
-    ghost use Rattle.p2p_directory.specs.Held.{held_of};
     ghost use Rattle.p2p_directory.specs.Nodes.{StandsSomewhere};
     ghost use Rattle.p2p_directory.specs.Private.Endpoints.{EndpointView};
-    ghost use Rattle.p2p_directory.specs.Private.Slots.{contents, held_in};
+    ghost use Rattle.p2p_directory.specs.Private.Slots.{contents, AreSlots};
 
     ghost Value = { EndpointView C C.Signature };
 
@@ -69,7 +66,7 @@ impl<C: PublicKey> Model for Endpoint<C> {
     } };
 
     ghost invariant = { λ e. (e.payload.max_bit_vec < 2 ^ 32)
-        × ((q : C) → held_of C.cmp (contents e.server.slots) q ≡ held_in C.cmp e.server.slots q)
+        × AreSlots C.cmp e.server.slots
         × StandsSomewhere C.cmp (record {
           directory = e.server.directory;
           held = contents e.server.slots;
@@ -81,6 +78,7 @@ impl<C: PublicKey> Model for Endpoint<C> {
 impl<C: PublicKey> Endpoint<C> {
     /// An endpoint of this server, with this verifier and these limits. It stands somewhere.
     pub fn new(server: Server<C>, verifier: InfoVerifier<C>, payload: PayloadConfig) -> Self
+        requires ordered { AreSlots C.cmp server.slots }
         requires bits { payload.max_bit_vec < 2 ^ 32 }
         requires stands { StandsSomewhere C.cmp (record {
           directory = server.directory;
@@ -95,7 +93,6 @@ impl<C: PublicKey> Endpoint<C> {
           verifier = verifier;
         } }
     {
-        server.in_order();
         Endpoint {
             server,
             verifier,
@@ -113,9 +110,7 @@ impl<C: PublicKey> Endpoint<C> {
         ensures slots { (q : C) →
             has_slot C.cmp self.new.slots q ≡ has_slot C.cmp self.old.slots q }
     {
-        let reply = self.server.serve(command);
-        self.server.in_order();
-        reply
+        self.server.serve(command)
     }
 
     /// Makes a slot for the reservation that the command may be granted, if there is none.
@@ -130,11 +125,7 @@ impl<C: PublicKey> Endpoint<C> {
             has_slot C.cmp self.old.slots q ≡ true → has_slot C.cmp self.new.slots q ≡ true) }
         ensures same { node_of self.new ≡ node_of self.old }
     {
-        // For the proof: the slots are in order before, and after.
-        self.server.in_order();
-        let made = self.server.make_room(command);
-        self.server.in_order();
-        made
+        self.server.make_room(command)
     }
 
     /// Removes the slot of the peer if it is empty. It doesn't allocate.
@@ -142,10 +133,7 @@ impl<C: PublicKey> Endpoint<C> {
         ensures room { KeepsRoom C.cmp peer self.old.slots self.new.slots }
         ensures same { node_of self.new ≡ node_of self.old }
     {
-        // For the proof: the slots are in order before, and after.
-        self.server.in_order();
         self.server.drop_room(peer);
-        self.server.in_order();
     }
 
     /// Serves one command, with a slot for the reservation that it may be granted while it does.
@@ -156,27 +144,12 @@ impl<C: PublicKey> Endpoint<C> {
         ensures verifier { self.new.verifier ≡ self.old.verifier }
         ensures room { KeepsRoom C.cmp (named_peer command) self.old.slots self.new.slots }
     {
-        let peer = peer_of(&command);
+        let peer = command.named_peer();
         if let Err(AllocError) = self.make_room(&command) {
             return Reply::OutOfMemory;
         }
         let reply = self.serve(command);
         self.drop_room(peer);
-        reply
-    }
-
-    /// Registers a peer set, as [`Endpoint::step`] does.
-    pub fn track(&mut self, index: u64, peers: TrackedPeers<C>) -> Reply<C>
-        ensures stepped { IsStepped C.cmp (Command.Track index peers) result
-            (node_of self.old) (node_of self.new) }
-        ensures unchanged { was_made result ≡ false → self.new ≡ self.old }
-        ensures limits { self.new.limits ≡ self.old.limits }
-        ensures verifier { self.new.verifier ≡ self.old.verifier }
-        ensures slots { self.new.slots ≡ self.old.slots }
-        ensures few { TearsDownFew self.old.directory result }
-    {
-        let reply = self.server.track(index, peers);
-        self.server.in_order();
         reply
     }
 
@@ -192,38 +165,6 @@ impl<C: PublicKey> Endpoint<C> {
         ensures { result.now ≡ self.now.directory }
     {
         self.server.directory()
-    }
-
-    /// A frame with the payload that it encodes under the limits.
-    pub fn decode(&self, frame: Bytes) -> Result<Decoded<C>, CodecError>
-        ensures exact { GivesAs (λ d. d.payload) result [] (whole (payload_at C.SIZE C.value
-            C.Signature.SIZE C.Signature.value self.now.limits) frame) }
-        ensures frame { IfOk result (λ d. d.frame ≡ frame) }
-        ensures limits { IfOk result (λ d. d.limits ≡ self.now.limits) }
-    {
-        Decoded::new(self.server.directory().allocator(), frame, self.payload)
-    }
-
-    /// The verifier of infos.
-    pub fn verifier(&self) -> &InfoVerifier<C>
-        ensures { result.now ≡ self.now.verifier }
-    {
-        &self.verifier
-    }
-
-    /// The limits under which frames are read.
-    pub fn limits(&self) -> PayloadConfig
-        ensures { result ≡ self.now.limits }
-    {
-        self.payload
-    }
-
-    /// Whom the reservation of the peer is for, if one is held.
-    pub fn held(&self, peer: &C) -> Option<&Metadata<C>>
-        ensures { option_map (λ m. m.now) result
-            ≡ held_of C.cmp (contents self.now.slots) peer.now }
-    {
-        self.server.held(peer)
     }
 
     /// The frame of the bits of the set at a position, or `None` if there is no such position.
@@ -244,136 +185,6 @@ impl<C: PublicKey> Endpoint<C> {
             }
             None => Ok(None),
         }
-    }
-
-    /// Processes a frame that was received at this time.
-    pub fn answer(&mut self, frame: Bytes, now: Duration) -> Received
-        ensures seen { AnswersFrame C.cmp (wire_of C.SIZE C.spelled C.value
-            C.Signature.SIZE C.Signature.spelled C.Signature.value C.verifies)
-            frame (as_nanos now) result (node_of self.old) (node_of self.new) }
-        ensures unchanged { applies result ≡ false → self.new ≡ self.old }
-        ensures values { TellsValues C.cmp (wire_of C.SIZE C.spelled C.value
-            C.Signature.SIZE C.Signature.spelled C.Signature.value C.verifies)
-            C.IsValue C.Signature.IsValue frame (as_nanos now) result (node_of self.old) }
-        ensures slots { self.new.slots ≡ self.old.slots }
-    {
-        let alloc = self.server.directory().allocator();
-        match Payload::<C>::decode_cfg(alloc, frame, &self.payload) {
-            Ok(Payload::Data(message)) => Received::Data(message),
-            Ok(Payload::Greeting(info)) => self.greet(info, now),
-            Ok(Payload::BitVec(bits)) => self.reply(&bits, now),
-            Ok(Payload::Peers(infos)) => self.take(infos, now),
-            Err(fault) => refused(fault),
-        }
-    }
-
-    /// Processes a frame that was received at this time, given whether the signatures of its infos
-    /// are valid. There must be as many verification results as infos in the frame, if it encodes a
-    /// payload.
-    pub fn answer_by(
-        &mut self,
-        frame: Bytes,
-        now: Duration,
-        verdicts: &[bool],
-    ) -> Result<Received, Miscounted>
-        ensures seen { IfOk result (λ r. AnswersFrameBy C.cmp (wire_of C.SIZE C.spelled C.value
-            C.Signature.SIZE C.Signature.spelled C.Signature.value C.verifies)
-            verdicts.now frame (as_nanos now) r (node_of self.old) (node_of self.new)) }
-        ensures unchanged { IfOk result (λ r. applies r ≡ false → self.new ≡ self.old) }
-        ensures counted { let node = standing_of C.cmp (wire_of C.SIZE C.spelled C.value
-            C.Signature.SIZE C.Signature.spelled C.Signature.value C.verifies) (node_of self.old) in
-            IfOk result (λ r. are_miscounted (wire_of C.SIZE C.spelled C.value
-            C.Signature.SIZE C.Signature.spelled C.Signature.value C.verifies)
-            node frame verdicts.now ≡ true → IsWantOfMemory r) }
-        ensures err { let node = standing_of C.cmp (wire_of C.SIZE C.spelled C.value
-            C.Signature.SIZE C.Signature.spelled C.Signature.value C.verifies) (node_of self.old) in
-            OnErr result (are_miscounted (wire_of C.SIZE C.spelled C.value
-            C.Signature.SIZE C.Signature.spelled C.Signature.value C.verifies)
-            node frame verdicts.now ≡ true) }
-        ensures err_same { OnErr result (self.new ≡ self.old) }
-        ensures slots { self.new.slots ≡ self.old.slots }
-    {
-        let alloc = self.server.directory().allocator();
-        match Payload::<C>::decode_cfg(alloc, frame, &self.payload) {
-            Ok(payload) => self.answer_payload_by(payload, now, verdicts),
-            Err(fault) => Ok(refused(fault)),
-        }
-    }
-
-    /// Processes a frame as [`Endpoint::answer_by`] does, but the infos of a reply aren't encoded.
-    pub fn answer_frame(
-        &mut self,
-        frame: Bytes,
-        now: Duration,
-        verdicts: &[bool],
-    ) -> Result<Answer<C>, Miscounted>
-        ensures seen { IfOk result (λ a. AnswersFrameBy C.cmp (wire_of C.SIZE C.spelled C.value
-            C.Signature.SIZE C.Signature.spelled C.Signature.value C.verifies)
-            verdicts.now frame (as_nanos now) (received_of (wire_of C.SIZE C.spelled C.value
-            C.Signature.SIZE C.Signature.spelled C.Signature.value C.verifies) a)
-            (node_of self.old) (node_of self.new)) }
-        ensures unchanged { IfOk result (λ a. applies (received_of (wire_of C.SIZE C.spelled C.value
-            C.Signature.SIZE C.Signature.spelled C.Signature.value C.verifies) a) ≡ false
-            → self.new ≡ self.old) }
-        ensures counted { let node = standing_of C.cmp (wire_of C.SIZE C.spelled C.value
-            C.Signature.SIZE C.Signature.spelled C.Signature.value C.verifies) (node_of self.old) in
-            IfOk result (λ a. are_miscounted (wire_of C.SIZE C.spelled C.value
-            C.Signature.SIZE C.Signature.spelled C.Signature.value C.verifies)
-            node frame verdicts.now ≡ true → IsWantOfMemory (received_of (wire_of C.SIZE C.spelled C.value
-            C.Signature.SIZE C.Signature.spelled C.Signature.value C.verifies) a)) }
-        ensures few { IfOk result AreFew }
-        ensures err { let node = standing_of C.cmp (wire_of C.SIZE C.spelled C.value
-            C.Signature.SIZE C.Signature.spelled C.Signature.value C.verifies) (node_of self.old) in
-            OnErr result (are_miscounted (wire_of C.SIZE C.spelled C.value
-            C.Signature.SIZE C.Signature.spelled C.Signature.value C.verifies)
-            node frame verdicts.now ≡ true) }
-        ensures err_same { OnErr result (self.new ≡ self.old) }
-        ensures slots { self.new.slots ≡ self.old.slots }
-    {
-        let alloc = self.server.directory().allocator();
-        match Payload::<C>::decode_cfg(alloc, frame, &self.payload) {
-            Ok(payload) => self.answer_payload(payload, now, verdicts),
-            Err(fault) => Ok(Answer::Received(refused(fault))),
-        }
-    }
-
-    /// Processes a frame that was decoded, as [`Endpoint::answer_frame`] does. It is decoded anew if
-    /// that was done under other limits.
-    pub fn answer_decoded(
-        &mut self,
-        decoded: Decoded<C>,
-        now: Duration,
-        verdicts: &[bool],
-    ) -> Result<Answer<C>, Miscounted>
-        ensures seen { IfOk result (λ a. AnswersFrameBy C.cmp (wire_of C.SIZE C.spelled C.value
-            C.Signature.SIZE C.Signature.spelled C.Signature.value C.verifies)
-            verdicts.now decoded.frame (as_nanos now) (received_of (wire_of C.SIZE C.spelled C.value
-            C.Signature.SIZE C.Signature.spelled C.Signature.value C.verifies) a)
-            (node_of self.old) (node_of self.new)) }
-        ensures unchanged { IfOk result (λ a. applies (received_of (wire_of C.SIZE C.spelled C.value
-            C.Signature.SIZE C.Signature.spelled C.Signature.value C.verifies) a) ≡ false
-            → self.new ≡ self.old) }
-        ensures counted { let node = standing_of C.cmp (wire_of C.SIZE C.spelled C.value
-            C.Signature.SIZE C.Signature.spelled C.Signature.value C.verifies) (node_of self.old) in
-            IfOk result (λ a. are_miscounted (wire_of C.SIZE C.spelled C.value
-            C.Signature.SIZE C.Signature.spelled C.Signature.value C.verifies)
-            node decoded.frame verdicts.now ≡ true → IsWantOfMemory (received_of (wire_of C.SIZE C.spelled C.value
-            C.Signature.SIZE C.Signature.spelled C.Signature.value C.verifies) a)) }
-        ensures few { IfOk result AreFew }
-        ensures err { let node = standing_of C.cmp (wire_of C.SIZE C.spelled C.value
-            C.Signature.SIZE C.Signature.spelled C.Signature.value C.verifies) (node_of self.old) in
-            OnErr result (are_miscounted (wire_of C.SIZE C.spelled C.value
-            C.Signature.SIZE C.Signature.spelled C.Signature.value C.verifies)
-            node decoded.frame verdicts.now ≡ true) }
-        ensures err_same { OnErr result (self.new ≡ self.old) }
-        ensures slots { self.new.slots ≡ self.old.slots }
-    {
-        let (frame, payload, limits) = decoded.into_parts();
-        if are_equal(limits, self.payload) {
-            drop(frame);
-            return self.answer_payload(payload, now, verdicts);
-        }
-        self.answer_frame(frame, now, verdicts)
     }
 
     /// Releases all reservations, and returns the directory. It doesn't allocate.
@@ -399,230 +210,6 @@ impl<C: PublicKey> Endpoint<C> {
         } = self;
         server.into_parts()
     }
-
-    // Processes a payload, given whether the signatures of its infos are valid.
-    fn answer_payload_by(
-        &mut self,
-        payload: Payload<C>,
-        now: Duration,
-        verdicts: &[bool],
-    ) -> Result<Received, Miscounted>
-        requires admitted { IsAdmitted C.IsValue C.Signature.IsValue self.old.limits payload }
-        requires limit { self.old.limits.max_bit_vec < 2 ^ 32 }
-        ensures seen { let o = answered_by (wire_of C.SIZE C.spelled C.value
-            C.Signature.SIZE C.Signature.spelled C.Signature.value C.verifies) verdicts.now
-            (standing_of C.cmp (wire_of C.SIZE C.spelled C.value
-            C.Signature.SIZE C.Signature.spelled C.Signature.value C.verifies) (node_of self.old))
-            (as_nanos now) payload in
-            IfOk result (λ r.
-            Answers C.cmp (takes_room o.answer) o r (node_of self.old) (node_of self.new)) }
-        ensures unchanged { IfOk result (λ r. applies r ≡ false → self.new ≡ self.old) }
-        ensures counted { IfOk result (λ _.
-            length (infos_of_payload payload) ≡ length verdicts.now) }
-        ensures err { OnErr result (¬ (length (infos_of_payload payload) ≡ length verdicts.now)) }
-        ensures err_same { OnErr result (self.new ≡ self.old) }
-        ensures slots { self.new.slots ≡ self.old.slots }
-    {
-        if count_infos(&payload) != verdicts.len() {
-            return Err(Miscounted);
-        }
-        Ok(match payload {
-            Payload::Data(message) => Received::Data(message),
-            Payload::Greeting(info) => self.greet_by(info, now, is_first_right(verdicts)),
-            Payload::BitVec(bits) => self.reply(&bits, now),
-            Payload::Peers(infos) => self.take_by(infos, now, verdicts),
-        })
-    }
-
-    // Processes a payload, given whether the signatures of its infos are valid. The infos of a reply
-    // aren't encoded.
-    fn answer_payload(
-        &mut self,
-        payload: Payload<C>,
-        now: Duration,
-        verdicts: &[bool],
-    ) -> Result<Answer<C>, Miscounted>
-        requires admitted { IsAdmitted C.IsValue C.Signature.IsValue self.old.limits payload }
-        requires limit { self.old.limits.max_bit_vec < 2 ^ 32 }
-        ensures seen { let o = answered_by (wire_of C.SIZE C.spelled C.value
-            C.Signature.SIZE C.Signature.spelled C.Signature.value C.verifies) verdicts.now
-            (standing_of C.cmp (wire_of C.SIZE C.spelled C.value
-            C.Signature.SIZE C.Signature.spelled C.Signature.value C.verifies) (node_of self.old))
-            (as_nanos now) payload in
-            IfOk result (λ a. Answers C.cmp (takes_room o.answer) o
-            (received_of (wire_of C.SIZE C.spelled C.value
-            C.Signature.SIZE C.Signature.spelled C.Signature.value C.verifies) a)
-            (node_of self.old) (node_of self.new)) }
-        ensures unchanged { IfOk result (λ a. applies (received_of (wire_of C.SIZE C.spelled C.value
-            C.Signature.SIZE C.Signature.spelled C.Signature.value C.verifies) a) ≡ false
-            → self.new ≡ self.old) }
-        ensures counted { IfOk result (λ _.
-            length (infos_of_payload payload) ≡ length verdicts.now) }
-        ensures few { IfOk result AreFew }
-        ensures err { OnErr result (¬ (length (infos_of_payload payload) ≡ length verdicts.now)) }
-        ensures err_same { OnErr result (self.new ≡ self.old) }
-        ensures slots { self.new.slots ≡ self.old.slots }
-    {
-        match payload {
-            Payload::BitVec(_) if !verdicts.is_empty() => Err(Miscounted),
-            Payload::BitVec(bits) => Ok(self.infos_for(&bits, now)),
-            payload => Ok(Answer::Received(self.answer_payload_by(payload, now, verdicts)?)),
-        }
-    }
-
-    // The infos with which bits are answered.
-    fn infos_for(&self, bits: &BitVec, now: Duration) -> Answer<C>
-        requires { length bits.now.bits < 2 ^ 32 }
-        ensures seen { let o = replied (wire_of C.SIZE C.spelled C.value
-            C.Signature.SIZE C.Signature.spelled C.Signature.value C.verifies)
-            (infos_in C.cmp self.now.directory bits.now.index bits.now.bits (as_nanos now)) in
-            Answers C.cmp (takes_room o.answer) o (received_of (wire_of C.SIZE C.spelled C.value
-            C.Signature.SIZE C.Signature.spelled C.Signature.value C.verifies) result)
-            (node_of self.now) (node_of self.now) }
-        ensures few { AreFew result }
-    {
-        match self.server.infos_for(bits, now) {
-            Ok(Some(infos)) => Answer::Infos(Infos::from_vec(infos)),
-            Ok(None) => Answer::Received(Received::Malformed),
-            Err(AllocError) => Answer::Received(Received::Memory),
-        }
-    }
-
-    // Verifies the info of a greeting, and applies it.
-    fn greet(&mut self, info: Info<C>, now: Duration) -> Received
-        ensures unchanged { applies result ≡ false → self.new ≡ self.old }
-        ensures seen { let o = greeted (wire_of C.SIZE C.spelled C.value
-            C.Signature.SIZE C.Signature.spelled C.Signature.value C.verifies) info
-            (refusal (judge_of C.cmp C.verifies self.old.verifier) (as_nanos now) info) in
-            Answers C.cmp (takes_room o.answer) o result (node_of self.old) (node_of self.new) }
-        ensures slots { self.new.slots ≡ self.old.slots }
-    {
-        if let Err(error) = self.verifier.validate_info(now, &info) {
-            return Received::Invalid(error);
-        }
-        self.apply_greeting(info)
-    }
-
-    // Verifies the info of a greeting, given whether its signature is valid, and applies it.
-    fn greet_by(&mut self, info: Info<C>, now: Duration, right: bool) -> Received
-        ensures unchanged { applies result ≡ false → self.new ≡ self.old }
-        ensures seen { let o = greeted (wire_of C.SIZE C.spelled C.value
-            C.Signature.SIZE C.Signature.spelled C.Signature.value C.verifies) info
-            (refusal_if (judge_of C.cmp C.verifies self.old.verifier) right (as_nanos now) info) in
-            Answers C.cmp (takes_room o.answer) o result (node_of self.old) (node_of self.new) }
-        ensures slots { self.new.slots ≡ self.old.slots }
-    {
-        if let Err(error) = self.verifier.validate_info_by(now, &info, right) {
-            return Received::Invalid(error);
-        }
-        self.apply_greeting(info)
-    }
-
-    // Applies the info of a greeting.
-    fn apply_greeting(&mut self, info: Info<C>) -> Received
-        ensures unchanged { applies result ≡ false → self.new ≡ self.old }
-        ensures seen { Answers C.cmp true (greeted (wire_of C.SIZE C.spelled C.value
-            C.Signature.SIZE C.Signature.spelled C.Signature.value C.verifies) info None)
-            result (node_of self.old) (node_of self.new) }
-        ensures slots { self.new.slots ≡ self.old.slots }
-    {
-        match Vec::with_capacity(self.server.directory().allocator(), 1) {
-            Ok(mut infos) => {
-                infos.push_reserved(info);
-                self.server.update(infos);
-                Received::Greeted
-            }
-            Err(AllocError) => Received::Memory,
-        }
-    }
-
-    // Replies to bits with the infos for them.
-    fn reply(&self, bits: &BitVec, now: Duration) -> Received
-        requires { length bits.now.bits < 2 ^ 32 }
-        ensures seen { let o = replied (wire_of C.SIZE C.spelled C.value
-            C.Signature.SIZE C.Signature.spelled C.Signature.value C.verifies)
-            (infos_in C.cmp self.now.directory bits.now.index bits.now.bits (as_nanos now)) in
-            Answers C.cmp (takes_room o.answer) o result (node_of self.now) (node_of self.now) }
-        ensures values { AreValues C.IsValue C.Signature.IsValue (told_with
-            (replied (wire_of C.SIZE C.spelled C.value
-            C.Signature.SIZE C.Signature.spelled C.Signature.value C.verifies)
-            (infos_in C.cmp self.now.directory bits.now.index bits.now.bits (as_nanos now)))
-            result) }
-    {
-        match self.reply_frame(bits, now) {
-            Ok(Some(frame)) => Received::Reply(frame),
-            Ok(None) => Received::Malformed,
-            Err(AllocError) => Received::Memory,
-        }
-    }
-
-    // The frame of the infos for bits, or `None` if their number differs from that of the peers.
-    fn reply_frame(&self, bits: &BitVec, now: Duration) -> Result<Option<Bytes>, AllocError>
-        requires { length bits.now.bits < 2 ^ 32 }
-        ensures frame { IfOk result (λ frame. frame ≡ option_map
-            (λ infos. payload_spelling C.spelled C.Signature.spelled (Peers infos))
-            (infos_in C.cmp self.now.directory bits.now.index bits.now.bits (as_nanos now))) }
-        ensures spelled { IfOk result (λ _.
-            IfSome (infos_in C.cmp self.now.directory bits.now.index bits.now.bits (as_nanos now))
-            (HaveSpelling C.IsValue C.Signature.IsValue)) }
-        ensures err { OnErr result (is_some
-            (infos_in C.cmp self.now.directory bits.now.index bits.now.bits (as_nanos now))
-            ≡ true) }
-    {
-        match self.server.infos_for(bits, now)? {
-            Some(infos) => {
-                let alloc = self.server.directory().allocator();
-                let infos = Infos::from_vec(infos);
-                let frame = frame_of::<C>(alloc, Payload::Peers(infos))?;
-                Ok(Some(frame))
-            }
-            None => Ok(None),
-        }
-    }
-
-    // Verifies infos, all of them, and applies them.
-    fn take(&mut self, infos: Infos<C>, now: Duration) -> Received
-        ensures unchanged { applies result ≡ false → self.new ≡ self.old }
-        ensures seen { Answers C.cmp false (taken (wire_of C.SIZE C.spelled C.value
-            C.Signature.SIZE C.Signature.spelled C.Signature.value C.verifies) infos
-            (list_refusal (judge_of C.cmp C.verifies self.old.verifier) (as_nanos now) infos))
-            result (node_of self.old) (node_of self.new) }
-        ensures slots { self.new.slots ≡ self.old.slots }
-    {
-        if let Err(error) = self.verifier.validate(now, infos.as_slice()) {
-            return Received::Invalid(error);
-        }
-        self.apply(infos)
-    }
-
-    // Verifies infos, all of them, given whether their signatures are valid, and applies them.
-    fn take_by(&mut self, infos: Infos<C>, now: Duration, verdicts: &[bool]) -> Received
-        ensures unchanged { applies result ≡ false → self.new ≡ self.old }
-        ensures seen { Answers C.cmp false (taken (wire_of C.SIZE C.spelled C.value
-            C.Signature.SIZE C.Signature.spelled C.Signature.value C.verifies) infos
-            (list_refusal_by (judge_of C.cmp C.verifies self.old.verifier) verdicts.now
-            (as_nanos now) infos)) result (node_of self.old) (node_of self.new) }
-        ensures slots { self.new.slots ≡ self.old.slots }
-    {
-        if let Err(error) = self.verifier.validate_by(now, infos.as_slice(), verdicts) {
-            return Received::Invalid(error);
-        }
-        self.apply(infos)
-    }
-
-    // Applies infos.
-    fn apply(&mut self, infos: Infos<C>) -> Received
-        ensures unchanged { applies result ≡ false → self.new ≡ self.old }
-        ensures seen { Answers C.cmp false (taken (wire_of C.SIZE C.spelled C.value
-            C.Signature.SIZE C.Signature.spelled C.Signature.value C.verifies) infos None)
-            result (node_of self.old) (node_of self.new) }
-        ensures slots { self.new.slots ≡ self.old.slots }
-    {
-        let infos = infos.into_vec();
-        let count = infos.len();
-        self.server.update(infos);
-        Received::Applied(count)
-    }
 }
 
 // The encoding of a payload.
@@ -634,46 +221,4 @@ fn frame_of<C: PublicKey>(alloc: Global, payload: Payload<C>) -> Result<Bytes, A
     ensures keyed { IfOk result (λ _. IsKeyedPayload C.IsValue C.Signature.IsValue payload) }
 {
     payload.encode(alloc)
-}
-
-// How many infos a payload has.
-fn count_infos<C: PublicKey>(payload: &Payload<C>) -> usize
-    ensures { result ≡ length (infos_of_payload payload.now) }
-{
-    match payload {
-        Payload::Data(_) | Payload::BitVec(_) => 0,
-        Payload::Greeting(_) => 1,
-        Payload::Peers(infos) => infos.as_slice().len(),
-    }
-}
-
-// Whether the first verification result says that a signature is valid.
-fn is_first_right(verdicts: &[bool]) -> bool
-    ensures { result ≡ first_verdict verdicts.now }
-{
-    match verdicts {
-        [right, ..] => *right,
-        [] => false,
-    }
-}
-
-// The error of a frame, or out of memory.
-fn refused(fault: CodecError) -> Received
-    ensures { result ≡ fault_answer fault }
-{
-    match fault {
-        CodecError::Memory => Received::Memory,
-        _ => Received::Codec(fault),
-    }
-}
-
-// The peer whose slot the command may leave empty, if there is one.
-fn peer_of<C: PublicKey>(command: &Command<C>) -> Option<C>
-    ensures { result ≡ named_peer command.now }
-{
-    match command {
-        Command::Dial { peer, .. } | Command::Listen { peer, .. } => Some(*peer),
-        Command::Release(peer) => Some(*peer),
-        _ => None,
-    }
 }

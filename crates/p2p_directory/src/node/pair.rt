@@ -14,9 +14,11 @@ ghost use Rattle.p2p_directory.specs.Laws.TwoNodes.{KeepPairExchanges, KeepSigne
 ghost use Rattle.p2p_directory.specs.Laws.TwoNodes.{KeepReplies, KeepLate, KeepCarried};
 ghost use Rattle.p2p_directory.specs.Private.Networks.{is_of_node};
 
+use crate::node::Node;
 use crate::node::exchanged::Exchanged;
 use crate::node::network::{NetworkCommand, NetworkReply, NetworkRun, run_network};
-use crate::node::{Node, Received, Setup};
+use crate::node::received::Received;
+use crate::node::setup::Setup;
 use crate::run::{Command, Reply};
 use bytes::Bytes;
 use p2p_discovery::codec::PublicKey;

@@ -1,5 +1,8 @@
 //! Commands and their replies.
 
+ghost use Rattle.std.specs.Prelude.{◌≡◌};
+ghost use Rattle.p2p_directory.specs.Private.Serving.{reserved_peer, named_peer};
+
 use p2p_discovery::codec::PublicKey;
 use p2p_discovery::discovery::{BitVec, Info};
 use p2p_discovery::sets::OrderedSet;
@@ -103,6 +106,48 @@ pub enum Command<C: PublicKey> {
     Dialable(Duration),
     /// [`Directory::tracked`].
     Tracked,
+}
+
+impl<C: PublicKey> Command<C> {
+    // The peer that the command may reserve, if there is one.
+    pub(crate) fn reserved_peer(&self) -> Option<C>
+        ensures { result ≡ reserved_peer self.now }
+    {
+        match self {
+            Command::Dial { peer, .. } | Command::Listen { peer, .. } => Some(*peer),
+            Command::Track { .. }
+            | Command::Connect { .. }
+            | Command::Release(_)
+            | Command::UpdatePeers(_)
+            | Command::Block { .. }
+            | Command::UnblockExpired(_)
+            | Command::ForgetCooled(_)
+            | Command::NextUnblock
+            | Command::BlockedPeers(_)
+            | Command::Status(_)
+            | Command::GetPeerSet(_)
+            | Command::LatestUpdate
+            | Command::LatestSetIndex
+            | Command::All
+            | Command::Info(_)
+            | Command::Infos { .. }
+            | Command::GetRandomBitVec(_)
+            | Command::Eligible { .. }
+            | Command::Acceptable { .. }
+            | Command::Dialable(_)
+            | Command::Tracked => None,
+        }
+    }
+
+    // The peer that the command may reserve or release, if there is one.
+    pub(crate) fn named_peer(&self) -> Option<C>
+        ensures { result ≡ named_peer self.now }
+    {
+        match self {
+            Command::Release(peer) => Some(*peer),
+            command => command.reserved_peer(),
+        }
+    }
 }
 
 /// The reply to a command.

@@ -37,10 +37,9 @@ impl<C: PublicKey> Model for Held<C> {
 impl<C: PublicKey> Held<C> {
     // The reservations in these slots.
     pub(crate) fn new(mut slots: Slots<C>) -> Self
+        requires { AreSlots C.cmp slots }
         ensures { (q : C) → held_of C.cmp result q ≡ held_in C.cmp slots q }
     {
-        // For the proof: the slots are in order.
-        slots.in_order();
         drop_empty_first(&mut slots);
         Held { slots }
     }
@@ -78,8 +77,6 @@ impl<C: PublicKey> Held<C> {
         ensures absent { IfNone result (self.new ≡ self.old) }
     {
         let taken = self.slots.take_out(peer);
-        // For the proof: the slots are in order.
-        self.slots.in_order();
         drop_empty_first(&mut self.slots);
         taken
     }

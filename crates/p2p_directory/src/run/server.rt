@@ -14,18 +14,17 @@ ghost use Rattle.p2p_directory.specs.Run.{call_of, was_made};
 
 use crate::run::commands::{Command, Reply};
 use crate::run::held::Held;
-use crate::run::make_slot;
 use crate::run::outcome::Run;
 use crate::run::slots::Slots;
 use p2p_discovery::codec::PublicKey;
 use p2p_discovery::discovery::{BitVec, Info};
 use p2p_tracker::directory::{Directory, Metadata, TrackedPeers};
-use p2p_tracker::record::Status;
 use std::alloc::AllocError;
 use std::marker::Model;
 use std::time::Duration;
 
 mod questions;
+mod reservations;
 
 /// A directory, and slots with the reservations that it granted and that were not released: they
 /// are those of exactly the peers that are reserved or connected.
@@ -36,20 +35,22 @@ pub struct Server<C: PublicKey> {
 
 impl<C: PublicKey> Model for Server<C> {
     ghost use Rattle.p2p_directory.specs.Held.{AreHeld};
-    ghost use Rattle.p2p_directory.specs.Private.Slots.{held_in};
+    ghost use Rattle.p2p_directory.specs.Private.Slots.{held_in, AreSlots};
     ghost use Rattle.p2p_directory.specs.Private.Serving.{ServerView};
 
     ghost Value = { ServerView C C.Signature };
 
     ghost view = { λ s. record { directory = s.directory; slots = s.slots } };
 
-    ghost invariant = { λ s. AreHeld C.cmp s.directory (held_in C.cmp s.slots) };
+    ghost invariant = { λ s. AreHeld C.cmp s.directory (held_in C.cmp s.slots)
+        × AreSlots C.cmp s.slots };
 }
 
 impl<C: PublicKey> Server<C> {
     /// A server with the reservations in the slots.
     pub fn new(directory: Directory<C>, slots: Slots<C>) -> Self
-        requires { AreHeld C.cmp directory (held_in C.cmp slots) }
+        requires held { AreHeld C.cmp directory (held_in C.cmp slots) }
+        requires ordered { AreSlots C.cmp slots }
         ensures { result ≡ record { directory = directory; slots = slots } }
     {
         Server { directory, slots }
@@ -62,6 +63,7 @@ impl<C: PublicKey> Server<C> {
         ensures unchanged { was_made result ≡ false → self.new ≡ self.old }
         ensures slots { (q : C) →
             has_slot C.cmp self.new.slots q ≡ has_slot C.cmp self.old.slots q }
+        ensures ordered { AreSlots C.cmp self.old.slots → AreSlots C.cmp self.new.slots }
     {
         match command {
             Command::Track { index, peers } => self.track(index, peers),
@@ -97,52 +99,6 @@ impl<C: PublicKey> Server<C> {
         &self.directory
     }
 
-    /// Makes a slot for the reservation that the command may be granted, if there is none.
-    pub fn make_room(&mut self, command: &Command<C>) -> Result<(), AllocError>
-        ensures err { OnErr result (self.new ≡ self.old) }
-        ensures reserves { OnErr result (may_reserve (call_of command.now) ≡ true) }
-        ensures absent { OnErr result (has_slot_for C.cmp self.old.slots command.now ≡ false) }
-        ensures room { OnOk result (has_slot_for C.cmp self.new.slots command.now ≡ true) }
-        ensures grown { OnOk result ((q : C) → has_slot C.cmp self.new.slots q ≡
-            (is_named C.cmp (reserved_peer command.now) q || has_slot C.cmp self.old.slots q)) }
-        ensures slots { OnOk result ((q : C) →
-            has_slot C.cmp self.old.slots q ≡ true → has_slot C.cmp self.new.slots q ≡ true) }
-        ensures directory { self.new.directory ≡ self.old.directory }
-        ensures held { (q : C) →
-            held_in C.cmp self.new.slots q ≡ held_in C.cmp self.old.slots q }
-    {
-        make_slot(&mut self.slots, command)
-    }
-
-    /// Makes a slot for the peer if there is none.
-    pub fn make_slot(&mut self, peer: &C) -> Result<(), AllocError>
-        ensures err { OnErr result (self.new ≡ self.old) }
-        ensures absent { OnErr result (has_slot C.cmp self.old.slots peer.now ≡ false) }
-        ensures room { OnOk result (has_slot C.cmp self.new.slots peer.now ≡ true) }
-        ensures grown { OnOk result ((q : C) → has_slot C.cmp self.new.slots q ≡
-            (is_at (C.cmp peer.now) q || has_slot C.cmp self.old.slots q)) }
-        ensures directory { self.new.directory ≡ self.old.directory }
-        ensures held { (q : C) →
-            held_in C.cmp self.new.slots q ≡ held_in C.cmp self.old.slots q }
-    {
-        self.slots.make(*peer)
-    }
-
-    /// Removes the slot of the peer if it is empty. It doesn't allocate.
-    pub fn drop_room(&mut self, peer: Option<C>)
-        ensures dropped { IfSome peer (λ p. held_in C.cmp self.old.slots p ≡ None →
-            has_slot C.cmp self.new.slots p ≡ false) }
-        ensures others { (q : C) → is_named C.cmp peer q ≡ false →
-            has_slot C.cmp self.new.slots q ≡ has_slot C.cmp self.old.slots q }
-        ensures directory { self.new.directory ≡ self.old.directory }
-        ensures held { (q : C) →
-            held_in C.cmp self.new.slots q ≡ held_in C.cmp self.old.slots q }
-    {
-        if let Some(peer) = peer {
-            self.slots.drop_empty(&peer);
-        }
-    }
-
     /// Whom the reservation of the peer is for, if one is held. It doesn't allocate.
     pub fn held(&self, peer: &C) -> Option<&Metadata<C>>
         ensures { option_map (λ m. m.now) result ≡ held_in C.cmp self.now.slots peer.now }
@@ -164,13 +120,6 @@ impl<C: PublicKey> Server<C> {
             (λ infos. 0 < length infos)) }
     {
         self.slots.infos(&self.directory, bit_vec, now)
-    }
-
-    // For the proof: the slots are in order, and each is of its peer.
-    pub fn in_order(&self)
-        ensures { AreSlots C.cmp self.now.slots }
-    {
-        self.slots.in_order();
     }
 
     /// Offers infos to the records of their peers. It doesn't allocate.
@@ -214,6 +163,7 @@ impl<C: PublicKey> Server<C> {
             has_slot C.cmp self.new.slots q ≡ has_slot C.cmp self.old.slots q }
         ensures granted { result ≡ Reply.Dial true →
             is_some (held_in C.cmp self.new.slots peer.now) ≡ true }
+        ensures ordered { AreSlots C.cmp self.new.slots }
     {
         match self.directory.dial(peer, now, draw) {
             Ok(Some(reservation)) => {
@@ -235,6 +185,7 @@ impl<C: PublicKey> Server<C> {
             has_slot C.cmp self.new.slots q ≡ has_slot C.cmp self.old.slots q }
         ensures granted { result ≡ Reply.Listen true →
             is_some (held_in C.cmp self.new.slots peer.now) ≡ true }
+        ensures ordered { AreSlots C.cmp self.new.slots }
     {
         match self.directory.listen(peer, now, draw) {
             Ok(Some(reservation)) => {
@@ -253,13 +204,10 @@ impl<C: PublicKey> Server<C> {
         ensures unchanged { was_made result ≡ false → self.new ≡ self.old }
         ensures slots { self.new.slots ≡ self.old.slots }
     {
-        match self.directory.status(peer) {
-            Some(Status::Reserved) => {
-                self.directory.connect(peer, dialer);
-                Reply::Connect
-            }
-            Some(Status::Inert | Status::Active) | None => Reply::NotReserved,
+        if self.directory.try_connect(peer, dialer) {
+            return Reply::Connect;
         }
+        Reply::NotReserved
     }
 
     /// Releases the reservation of the peer if one is held.
@@ -268,27 +216,9 @@ impl<C: PublicKey> Server<C> {
         ensures unchanged { was_made result ≡ false → self.new ≡ self.old }
         ensures slots { (q : C) →
             has_slot C.cmp self.new.slots q ≡ has_slot C.cmp self.old.slots q }
+        ensures ordered { AreSlots C.cmp self.new.slots }
     {
         match self.slots.take(peer) {
-            Some(reservation) => {
-                self.directory.release(reservation);
-                Reply::Release
-            }
-            None => Reply::NotHeld,
-        }
-    }
-
-    /// Releases the reservation of the peer if one is held, and removes its slot.
-    pub fn release_slot(&mut self, peer: &C) -> Reply<C>
-        ensures served { IsServed C.cmp (Command.Release peer.now) result self.old self.new }
-        ensures directory { was_made result ≡ false → self.new.directory ≡ self.old.directory }
-        ensures held { was_made result ≡ false → (q : C) →
-            held_in C.cmp self.new.slots q ≡ held_in C.cmp self.old.slots q }
-        ensures gone { has_slot C.cmp self.new.slots peer.now ≡ false }
-        ensures others { (q : C) → is_at (C.cmp peer.now) q ≡ false →
-            has_slot C.cmp self.new.slots q ≡ has_slot C.cmp self.old.slots q }
-    {
-        match self.slots.remove(peer) {
             Some(reservation) => {
                 self.directory.release(reservation);
                 Reply::Release

@@ -12,8 +12,13 @@ ghost use Rattle.std.specs.List.{All};
 ghost use Rattle.p2p_tracker.specs.Seen.{key_of};
 ghost use Rattle.p2p_tracker.specs.declared.directory.Metadata.{Metadata};
 ghost use Rattle.p2p_directory.specs.Held.{held_of};
-ghost use Rattle.p2p_directory.specs.Private.Slots.{begins_full, has_slot, held_in, AreSlots};
+ghost use Rattle.p2p_directory.specs.Nodes.{may_reserve};
+ghost use Rattle.p2p_directory.specs.Run.{call_of};
+ghost use Rattle.p2p_directory.specs.Private.Serving.{has_slot_for, reserved_peer};
+ghost use Rattle.p2p_directory.specs.Private.Slots.{begins_full, has_slot, held_in, is_named};
+ghost use Rattle.p2p_directory.specs.Private.Slots.{AreSlots};
 
+use crate::run::commands::Command;
 use crate::run::held::Held;
 use listed::Listed;
 use p2p_discovery::codec::PublicKey;
@@ -71,6 +76,7 @@ impl<C: PublicKey> Slots<C> {
         ensures slots { IfOk result (λ slots.
             All (λ q. has_slot C.cmp slots q ≡ true) peers.items) }
         ensures held { IfOk result (λ slots. (q : C) → held_in C.cmp slots q ≡ None) }
+        ensures ordered { IfOk result (AreSlots C.cmp) }
     {
         let listed = Listed::of_peers(alloc, peers)?;
         Ok(Slots {
@@ -85,10 +91,30 @@ impl<C: PublicKey> Slots<C> {
         ensures slots { OnOk result ((q : C) →
             has_slot C.cmp self.new q ≡ (is_at (C.cmp peer) q || has_slot C.cmp self.old q)) }
         ensures held { (q : C) → held_in C.cmp self.new q ≡ held_in C.cmp self.old q }
+        ensures ordered { AreSlots C.cmp self.new }
     {
         match &mut self.table {
             Table::Listed(listed) => listed.make(peer),
             Table::Tree(tree) => tree.make(peer),
+        }
+    }
+
+    /// Makes an empty slot for the reservation that the command may be granted, if there is none.
+    pub fn make_for(&mut self, command: &Command<C>) -> Result<(), AllocError>
+        ensures err { OnErr result (self.new ≡ self.old) }
+        ensures reserves { OnErr result (may_reserve (call_of command.now) ≡ true) }
+        ensures absent { OnErr result (has_slot_for C.cmp self.old command.now ≡ false) }
+        ensures room { OnOk result (has_slot_for C.cmp self.new command.now ≡ true) }
+        ensures grown { OnOk result ((q : C) → has_slot C.cmp self.new q ≡
+            (is_named C.cmp (reserved_peer command.now) q || has_slot C.cmp self.old q)) }
+        ensures slots { OnOk result ((q : C) →
+            has_slot C.cmp self.old q ≡ true → has_slot C.cmp self.new q ≡ true) }
+        ensures held { (q : C) → held_in C.cmp self.new q ≡ held_in C.cmp self.old q }
+        ensures ordered { AreSlots C.cmp self.old → AreSlots C.cmp self.new }
+    {
+        match command.reserved_peer() {
+            Some(peer) => self.make(peer),
+            None => Ok(()),
         }
     }
 
@@ -100,6 +126,7 @@ impl<C: PublicKey> Slots<C> {
         ensures held { (q : C) → held_in C.cmp self.new q ≡ (if is_at (C.cmp (key_of reservation)) q
             then Some reservation
             else held_in C.cmp self.old q) }
+        ensures ordered { AreSlots C.cmp self.new }
     {
         match &mut self.table {
             Table::Listed(listed) => listed.put(reservation),
@@ -116,6 +143,7 @@ impl<C: PublicKey> Slots<C> {
         ensures held { (q : C) → held_in C.cmp self.new q
             ≡ (if is_at (C.cmp peer.now) q then None else held_in C.cmp self.old q) }
         ensures none { IfNone result (self.new ≡ self.old) }
+        ensures ordered { AreSlots C.cmp self.new }
     {
         match &mut self.table {
             Table::Listed(listed) => listed.take(peer),
@@ -134,6 +162,7 @@ impl<C: PublicKey> Slots<C> {
         ensures peer { IfSome result (λ metadata. key_of metadata ≡ peer.now) }
         ensures held { (q : C) → held_in C.cmp self.new q
             ≡ (if is_at (C.cmp peer.now) q then None else held_in C.cmp self.old q) }
+        ensures ordered { AreSlots C.cmp self.new }
     {
         match &mut self.table {
             Table::Listed(listed) => listed.take(peer),
@@ -155,6 +184,7 @@ impl<C: PublicKey> Slots<C> {
             has_slot C.cmp self.new q ≡ has_slot C.cmp self.old q }
         ensures held { (q : C) → held_in C.cmp self.new q
             ≡ (if is_at (C.cmp peer.now) q then None else held_in C.cmp self.old q) }
+        ensures ordered { AreSlots C.cmp self.new }
     {
         match &mut self.table {
             Table::Listed(listed) => listed.remove(peer),
@@ -204,20 +234,11 @@ impl<C: PublicKey> Slots<C> {
         ensures others { (q : C) → is_at (C.cmp peer.now) q ≡ false →
             has_slot C.cmp self.new q ≡ has_slot C.cmp self.old q }
         ensures held { (q : C) → held_in C.cmp self.new q ≡ held_in C.cmp self.old q }
+        ensures ordered { AreSlots C.cmp self.old → AreSlots C.cmp self.new }
     {
         match &mut self.table {
             Table::Listed(listed) => listed.drop_empty(peer),
             Table::Tree(tree) => tree.drop_empty(peer),
-        }
-    }
-
-    // For the proof: the slots are in order, and each is of its peer.
-    pub fn in_order(&self)
-        ensures { AreSlots C.cmp self.now }
-    {
-        match &self.table {
-            Table::Listed(listed) => listed.in_order(),
-            Table::Tree(tree) => tree.in_order(),
         }
     }
 
@@ -248,6 +269,7 @@ impl<C: PublicKey> Slots<C> {
         ensures first { IfSome result (λ slot. self.old ≡ slot ∷ self.new) }
         ensures none { IfNone result (self.old ≡ []) }
         ensures unchanged { IfNone result (self.new ≡ self.old) }
+        ensures ordered { AreSlots C.cmp self.new }
     {
         match &mut self.table {
             Table::Listed(listed) => listed.pop_first(),
@@ -268,6 +290,7 @@ impl<C: PublicKey> Slots<C> {
 
     /// The reservations in the slots. It doesn't allocate.
     pub fn into_held(self) -> Held<C>
+        requires { AreSlots C.cmp self }
         ensures { (q : C) → held_of C.cmp result q ≡ held_in C.cmp self q }
     {
         Held::new(self)
@@ -275,7 +298,8 @@ impl<C: PublicKey> Slots<C> {
 
     /// Consumes the slots, if no reservation is in them.
     pub fn close(self)
-        requires { (q : C) → held_in C.cmp self q ≡ None }
+        requires ordered { AreSlots C.cmp self }
+        requires empty { (q : C) → held_in C.cmp self q ≡ None }
     {
         self.into_held().close();
     }

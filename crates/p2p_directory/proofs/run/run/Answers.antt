@@ -26,7 +26,10 @@ new-server-requires g c =
     let at = stands_at_start s (record { directory = c.in-Ok.directory; slots = c.in_ok-slots.slots })
     (omega (arith, c.well_formed)) c.in-Ok.ensures.config c.in-Ok.ensures.sets c.in-Ok.ensures.blocks
     c.in-Ok.ensures.cooldowns c.in-Ok.ensures.records c.in_ok-slots.ensures.empty in
-    are_held s (world_after s []) c.in-Ok.directory (held_in g.C.Ord.cmp c.in_ok-slots.slots) at.refines at.holds
+    record {
+      held = are_held s (world_after s []) c.in-Ok.directory (held_in g.C.Ord.cmp c.in_ok-slots.slots) at.refines at.holds;
+      ordered = c.in_ok-slots.ensures.ordered;
+    }
 
 -- the limit is a `usize`
 fits : (g : _) (c : goal.After-into_iter-command-iterator g) → c.args.cfg.dial_fail_limit < 2 ^ 64

@@ -13,7 +13,7 @@ ghost use Rattle.p2p_directory.specs.Private.Networks as networks;
 
 use crate::node::endpoint::Endpoint;
 use crate::node::exchanged::Exchanged;
-use crate::node::network::{NetworkCommand, NetworkReply};
+use crate::node::network::commands::{NetworkCommand, NetworkReply};
 use crate::run::Command;
 use bytes::Bytes;
 use p2p_discovery::codec::PublicKey;
@@ -46,7 +46,9 @@ fn make_one<C: PublicKey>(
 {
     match command {
         NetworkCommand::Call(node, command) => room_at(ends, *node, command),
-        _ => Ok(()),
+        NetworkCommand::Ask(..) | NetworkCommand::Frame(..) | NetworkCommand::Exchange { .. } => Ok(
+            (),
+        ),
     }
 }
 

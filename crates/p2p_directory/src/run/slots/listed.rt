@@ -50,6 +50,7 @@ impl<C: PublicKey> Listed<C> {
         ensures slots { IfOk result (λ slots.
             All (λ q. has_slot C.cmp slots q ≡ true) peers.items) }
         ensures held { IfOk result (λ slots. (q : C) → held_in C.cmp slots q ≡ None) }
+        ensures ordered { IfOk result (AreSlots C.cmp) }
     {
         let set = OrderedSet::from_vec_dedup(peers);
         let sorted = set.as_slice();
@@ -71,6 +72,7 @@ impl<C: PublicKey> Listed<C> {
         ensures slots { OnOk result ((q : C) →
             has_slot C.cmp self.new q ≡ (is_at (C.cmp peer) q || has_slot C.cmp self.old q)) }
         ensures held { (q : C) → held_in C.cmp self.new q ≡ held_in C.cmp self.old q }
+        ensures ordered { AreSlots C.cmp self.new }
     {
         let Err(place) = place_of(&self.rows, &peer) else {
             return Ok(());
@@ -92,6 +94,7 @@ impl<C: PublicKey> Listed<C> {
         ensures held { (q : C) → held_in C.cmp self.new q ≡ (if is_at (C.cmp (key_of reservation)) q
             then Some reservation
             else held_in C.cmp self.old q) }
+        ensures ordered { AreSlots C.cmp self.new }
     {
         let peer = *reservation.metadata().public_key();
         match exchange(&mut self.rows, &peer, Some(reservation)) {
@@ -109,6 +112,7 @@ impl<C: PublicKey> Listed<C> {
         ensures held { (q : C) → held_in C.cmp self.new q
             ≡ (if is_at (C.cmp peer.now) q then None else held_in C.cmp self.old q) }
         ensures none { IfNone result (self.new ≡ self.old) }
+        ensures ordered { AreSlots C.cmp self.new }
     {
         match exchange(&mut self.rows, peer, None) {
             Ok(slot) => slot,
@@ -133,6 +137,7 @@ impl<C: PublicKey> Listed<C> {
             has_slot C.cmp self.new q ≡ has_slot C.cmp self.old q }
         ensures held { (q : C) → held_in C.cmp self.new q
             ≡ (if is_at (C.cmp peer.now) q then None else held_in C.cmp self.old q) }
+        ensures ordered { AreSlots C.cmp self.new }
     {
         match place_of(&self.rows, peer) {
             Ok(place) => match self.rows.remove(place) {
@@ -167,17 +172,11 @@ impl<C: PublicKey> Listed<C> {
         ensures others { (q : C) → is_at (C.cmp peer.now) q ≡ false →
             has_slot C.cmp self.new q ≡ has_slot C.cmp self.old q }
         ensures held { (q : C) → held_in C.cmp self.new q ≡ held_in C.cmp self.old q }
+        ensures ordered { AreSlots C.cmp self.old → AreSlots C.cmp self.new }
     {
         if self.held(peer).is_none() {
             spend_empty(self.remove(peer));
         }
-    }
-
-    // For the proof: the slots are in order, and each is of its peer.
-    pub fn in_order(&self)
-        ensures { AreSlots C.cmp self.now }
-    {
-        let _count = self.rows.len();
     }
 
     /// The peer of the first slot, or `None` if there is no slot. It doesn't allocate.
@@ -207,6 +206,7 @@ impl<C: PublicKey> Listed<C> {
         ensures first { IfSome result (λ slot. self.old ≡ slot ∷ self.new) }
         ensures none { IfNone result (self.old ≡ []) }
         ensures unchanged { IfNone result (self.new ≡ self.old) }
+        ensures ordered { AreSlots C.cmp self.new }
     {
         self.rows.pop_front()
     }

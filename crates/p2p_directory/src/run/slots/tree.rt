@@ -58,6 +58,7 @@ impl<C: PublicKey> Tree<C> {
         ensures slots { OnOk result ((q : C) →
             has_slot C.cmp self.new q ≡ (is_at (C.cmp peer) q || has_slot C.cmp self.old q)) }
         ensures held { (q : C) → held_in C.cmp self.new q ≡ held_in C.cmp self.old q }
+        ensures ordered { AreSlots C.cmp self.new }
     {
         add_empty(&mut self.reservations, peer)
     }
@@ -70,6 +71,7 @@ impl<C: PublicKey> Tree<C> {
         ensures held { (q : C) → held_in C.cmp self.new q ≡ (if is_at (C.cmp (key_of reservation)) q
             then Some reservation
             else held_in C.cmp self.old q) }
+        ensures ordered { AreSlots C.cmp self.new }
     {
         match self
             .reservations
@@ -89,6 +91,7 @@ impl<C: PublicKey> Tree<C> {
         ensures held { (q : C) → held_in C.cmp self.new q
             ≡ (if is_at (C.cmp peer.now) q then None else held_in C.cmp self.old q) }
         ensures none { IfNone result (self.new ≡ self.old) }
+        ensures ordered { AreSlots C.cmp self.new }
     {
         let Some(slot) = self.reservations.get_mut(peer) else {
             return None;
@@ -110,6 +113,7 @@ impl<C: PublicKey> Tree<C> {
             has_slot C.cmp self.new q ≡ has_slot C.cmp self.old q }
         ensures held { (q : C) → held_in C.cmp self.new q
             ≡ (if is_at (C.cmp peer.now) q then None else held_in C.cmp self.old q) }
+        ensures ordered { AreSlots C.cmp self.new }
     {
         self.reservations.remove(peer).flatten()
     }
@@ -153,15 +157,9 @@ impl<C: PublicKey> Tree<C> {
         ensures others { (q : C) → is_at (C.cmp peer.now) q ≡ false →
             has_slot C.cmp self.new q ≡ has_slot C.cmp self.old q }
         ensures held { (q : C) → held_in C.cmp self.new q ≡ held_in C.cmp self.old q }
+        ensures ordered { AreSlots C.cmp self.old → AreSlots C.cmp self.new }
     {
         remove_empty(&mut self.reservations, peer);
-    }
-
-    // For the proof: the slots are in order, and each is of its peer.
-    pub fn in_order(&self)
-        ensures { AreSlots C.cmp self.now }
-    {
-        let _count = self.reservations.len();
     }
 
     /// The peer of the first slot, or `None` if there is no slot. It doesn't allocate.
@@ -191,6 +189,7 @@ impl<C: PublicKey> Tree<C> {
         ensures first { IfSome result (λ slot. self.old ≡ slot ∷ self.new) }
         ensures none { IfNone result (self.old ≡ []) }
         ensures unchanged { IfNone result (self.new ≡ self.old) }
+        ensures ordered { AreSlots C.cmp self.new }
     {
         self.reservations.pop_first()
     }

@@ -1,16 +1,25 @@
-use Rattle.std.proofs.Common.{◌≡◌, List, [], Option, refl, sym, ap, ◌∙◌, rules}
+use Rattle.std.proofs.Common.{◌≡◌, List, [], Option, refl, sym, ap, subst, ◌∙◌, rules}
+use Rattle.std.specs.List.Sorted.{IsStrictlySortedBy}
 use Rattle.std.specs.declared.cmp.Ordering.{Ordering}
 use Rattle.p2p_tracker.specs.declared.directory.Metadata.{Metadata}
 use Rattle.p2p_tracker.specs.Seen.{DirectoryView}
-use Rattle.p2p_directory.specs.declared.node.Setup.{Setup}
+use Rattle.p2p_directory.specs.declared.node.setup.Setup.{Setup}
 use Rattle.p2p_directory.specs.Held.{held_of}
 use Rattle.p2p_directory.specs.Nodes.{NodeStandsAt, made_of}
 use Rattle.p2p_directory.specs.Run.{settings, world_after}
 use Rattle.p2p_directory.specs.Private.Serving.{ServerView, StandsAt}
-use Rattle.p2p_directory.specs.Private.Slots.{held_in, contents}
+use Rattle.p2p_directory.specs.Private.Slots.{held_in, contents, AreSlots}
 use Rattle.p2p_directory.proofs.Nodes.Standing.{of_server}
 use Rattle.p2p_directory.proofs.Reservations.Served.{are_held, stands_at_start}
 use Rattle.p2p_directory.proofs.node.Node.new.Goals as goal
+
+none_sorted : {C : Type 0} (cmp : C → C → Ordering) → IsStrictlySortedBy cmp []
+unfolding IsStrictlySortedBy
+none_sorted cmp = tt
+
+-- no slots are in order
+no_slots : {C S : Type 0} (cmp : C → C → Ordering) → AreSlots {C = C} {S = S} cmp []
+no_slots cmp = record { ordered = none_sorted cmp; keyed = λ q. tt }
 
 pub new-server-requires : goal.new-server-requires
 new-server-requires g c =
@@ -19,7 +28,13 @@ new-server-requires g c =
     let at = stands_at_start s (record { directory = c.in_ok-directory.directory; slots = c.new.result })
     (search rules) made.config made.sets made.blocks made.cooldowns made.records
     (λ q. ap (λ slots. held_in g.C.Ord.cmp slots q) c.new.ensures) in
-    are_held s (world_after s []) c.in_ok-directory.directory (held_in g.C.Ord.cmp c.new.result) at.refines at.holds
+    record {
+      held = are_held s (world_after s []) c.in_ok-directory.directory (held_in g.C.Ord.cmp c.new.result) at.refines at.holds;
+      ordered = subst (AreSlots g.C.Ord.cmp) (sym c.new.ensures) (no_slots g.C.Ord.cmp);
+    }
+
+pub new-requires-2-clause-ordered : goal.new-requires-2-clause-ordered
+new-requires-2-clause-ordered g c = rw c.new-server.ensures (subst (AreSlots g.C.Ord.cmp) (sym c.new.ensures) (no_slots g.C.Ord.cmp))
 
 -- it stands where its server does, and no call was accepted
 at_start : {C S : Type 0} (cmp : C → C → Ordering) (given : Setup C S) (d : DirectoryView C S) (slots : List (C × Option (Metadata C S))) →

@@ -13,7 +13,7 @@ use Rattle.p2p_directory.proofs.Nodes.Networks.{room_for_stays}
 use Rattle.p2p_tracker.proofs.SetsAndRecords.Moved.{item_left, item_moved, item_has, all_moved}
 use Rattle.std.specs.declared.cmp.Ordering.{Ordering}
 use Rattle.std.proofs.lemmas.Bool.{ltb-true}
-use Rattle.p2p_directory.specs.declared.node.Setup.{Setup}
+use Rattle.p2p_directory.specs.declared.node.setup.Setup.{Setup}
 use Rattle.p2p_directory.specs.Received.{Wire}
 use Rattle.p2p_directory.specs.Network.{calls_at}
 use Rattle.p2p_directory.specs.Laws.Network as networks

@@ -3,8 +3,8 @@ use Rattle.std.proofs.Common.{arith}
 use Rattle.std.proofs.lemmas.List.{length-map}
 use Rattle.std.specs.Int.NonZero.{non_zero_usize_get}
 use Rattle.std.specs.List.{All}
-use Rattle.p2p_directory.specs.declared.node.network.NetworkCommand.{NetworkCommand}
-use Rattle.p2p_directory.specs.declared.node.network.NetworkReply.{NetworkReply}
+use Rattle.p2p_directory.specs.declared.node.network.commands.NetworkCommand.{NetworkCommand}
+use Rattle.p2p_directory.specs.declared.node.network.commands.NetworkReply.{NetworkReply}
 use Rattle.p2p_directory.specs.Nodes.{Made, made_of}
 use Rattle.p2p_directory.specs.Network.{OfNetwork, AreNetworkAnswers, StandAfter, done_after}
 use Rattle.p2p_directory.specs.Pairs.{two, command_in, commands_in, replies_in}

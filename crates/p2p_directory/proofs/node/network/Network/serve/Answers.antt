@@ -1,8 +1,8 @@
 use Rattle.std.proofs.Common.{ap, sym, subst, arith, ◌∙◌}
 use Rattle.std.proofs.lemmas.List.{with_items_is}
 use Rattle.std.specs.Prelude.{length}
-use Rattle.p2p_directory.specs.declared.node.network.NetworkCommand.{NetworkCommand}
-use Rattle.p2p_directory.specs.declared.node.network.NetworkCommand.TheVariants as command
+use Rattle.p2p_directory.specs.declared.node.network.commands.NetworkCommand.{NetworkCommand}
+use Rattle.p2p_directory.specs.declared.node.network.commands.NetworkCommand.TheVariants as command
 use Rattle.p2p_directory.specs.Network.{node_made, StandAfter, IsNetworkServedAt, IsServedAmong}
 use Rattle.p2p_directory.specs.Received.{wire_of}
 use Rattle.p2p_directory.specs.Private.Networks.{nodes_of}

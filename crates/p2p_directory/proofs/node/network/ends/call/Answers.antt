@@ -1,5 +1,5 @@
 use Rattle.std.specs.Prelude.{length, slice_index_or}
-use Rattle.p2p_directory.specs.declared.node.network.NetworkCommand.TheVariants as command
+use Rattle.p2p_directory.specs.declared.node.network.commands.NetworkCommand.TheVariants as command
 use Rattle.p2p_directory.specs.Network.{node_made, calls_at}
 use Rattle.p2p_directory.specs.Received.{wire_of}
 use Rattle.p2p_directory.proofs.Nodes.Networks.{stands_at, none_more, is_absent, call_more}

@@ -1,6 +1,6 @@
 use Rattle.std.proofs.Common.{◌≡◌, ℕ, ◌<◌, get_or}
 use Rattle.p2p_directory.specs.Private.Networks.{nodes_of, HasRoomFor}
-use Rattle.p2p_directory.specs.declared.node.network.NetworkCommand.{NetworkCommand}
+use Rattle.p2p_directory.specs.declared.node.network.commands.NetworkCommand.{NetworkCommand}
 use Rattle.p2p_directory.proofs.node.network.ends.make_room.Given as goal
 
 -- there is room for each command so far, and all nodes are as they were but for it

@@ -1,6 +1,6 @@
 use Rattle.std.proofs.lemmas.Bool.{le-ltb}
 use Rattle.std.specs.Prelude.{length, slice_index_or}
-use Rattle.p2p_directory.specs.declared.node.network.NetworkCommand.TheVariants as command
+use Rattle.p2p_directory.specs.declared.node.network.commands.NetworkCommand.TheVariants as command
 use Rattle.p2p_directory.specs.Network.{node_made, calls_at}
 use Rattle.p2p_directory.specs.Received.{wire_of}
 use Rattle.p2p_directory.proofs.Nodes.Among.{not_there, stepped_among, same_nodes}

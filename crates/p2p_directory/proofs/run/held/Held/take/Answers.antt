@@ -19,7 +19,7 @@ returns-clause-rest g c =
     let slots = c.self.inside.slots in
     let p = c.args.peer.now in
     c.drop_empty_first.ensures.same
-    ∙ contents_without total exact slots c.take_out-taken.new.self p c.self.invariant.slots_are c.in_order.ensures
+    ∙ contents_without total exact slots c.take_out-taken.new.self p c.self.invariant.slots_are c.take_out-taken.ensures.ordered
     c.take_out-taken.ensures.held
     ∙ rest_is total exact slots p c.self.invariant.slots_are
     ∙ ap (all_but g.C.Ord.cmp p) c.self.view_is
@@ -31,7 +31,7 @@ returns-clause-left g c = λ q.
     let exact = g.met.C.PublicKey.exact in
     let slots = c.self.inside.slots in
     ap (λ ms. held_of cmp ms q) c.drop_empty_first.ensures.same
-    ∙ held_is total exact c.take_out-taken.new.self c.in_order.ensures q
+    ∙ held_is total exact c.take_out-taken.new.self c.take_out-taken.ensures.ordered q
     ∙ c.take_out-taken.ensures.held q
     ∙ ap (cond (is_at (cmp c.args.peer.now) q) None) (sym (held_is total exact slots c.self.invariant.slots_are q)
     ∙ ap (λ ms. held_of cmp ms q) c.self.view_is)
@@ -46,7 +46,7 @@ returns-clause-length g c =
     let left = contents c.drop_empty_first.new.slots in
     let is : left ≡ contents (remove_entry test slots) = c.drop_empty_first.ensures.same
     ∙ contents_without total exact slots c.take_out-taken.new.self c.args.peer.now c.self.invariant.slots_are
-    c.in_order.ensures c.take_out-taken.ensures.held in
+    c.take_out-taken.ensures.ordered c.take_out-taken.ensures.held in
     subst (λ old. IfSome r (λ _. length old ≡ length left + 1)) c.self.view_is
     (subst (λ ms. IfSome r (λ _. length (contents slots) ≡ length ms + 1)) (sym is)
     (one_fewer total exact test slots r c.take_out-taken.ensures.taken))
@@ -59,4 +59,4 @@ returns-clause-absent g c =
     subst (λ old. IfNone r (left ≡ old)) c.self.view_is
     (subst (λ ms. IfNone r (ms ≡ contents slots)) (sym c.drop_empty_first.ensures.same)
     (none_taken g.met.C.Ord.total g.met.C.PublicKey.exact slots c.take_out-taken.new.self c.args.peer.now r
-    c.self.invariant.slots_are c.in_order.ensures c.take_out-taken.ensures.held c.take_out-taken.ensures.taken))
+    c.self.invariant.slots_are c.take_out-taken.ensures.ordered c.take_out-taken.ensures.held c.take_out-taken.ensures.taken))

@@ -23,9 +23,11 @@ records_same g c = elim c.match-block.branch [
     answered true untaken taken = taken refl
 
 pub invariant_of-self : goal.invariant_of-self
-invariant_of-self g c =
-    held_by_records g.C.Ord.cmp c.self.inside.directory c.block.new.self (held_in g.C.Ord.cmp c.self.inside.slots)
-    (records_same g c) c.self.invariant
+invariant_of-self g c = (
+  held_by_records g.C.Ord.cmp c.self.inside.directory c.block.new.self (held_in g.C.Ord.cmp c.self.inside.slots)
+      (records_same g c) c.self.invariant.0,
+  c.self.invariant.1,
+)
 
 pub returns-clause-served : goal.returns-clause-served
 returns-clause-served g c = rw (← c.self.view_is) (λ bootstrappers myself cfg calls at.

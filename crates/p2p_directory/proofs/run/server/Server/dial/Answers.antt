@@ -37,13 +37,15 @@ held g c q =
 pub invariant_of-self : goal.invariant_of-self
 invariant_of-self g c =
     let cmp = g.C.Ord.cmp in
-    let facts = rw c.in-Ok-Some.field-0-is at c.in-Ok-Some.ensures in
-    held_by_grant cmp g.met.C.PublicKey.exact c.self.inside.directory c.dial.new.self c.args.peer.now
-    c.in-Ok-Some.reservation
-    (option_map (reserved_record (as_nanos c.args.now) (as_nanos c.args.draw)
-    c.self.inside.directory.config.cooldown)) (held_in cmp c.self.inside.slots) (held_in cmp c.put.new.self)
-    c.self.invariant
-    facts.granted.records (subst (IsBusy cmp c.dial.new.self) (of_peer g c) facts.is_busy) (held g c)
+    let facts = rw c.in-Ok-Some.field-0-is at c.in-Ok-Some.ensures in (
+      held_by_grant cmp g.met.C.PublicKey.exact c.self.inside.directory c.dial.new.self c.args.peer.now
+          c.in-Ok-Some.reservation
+          (option_map (reserved_record (as_nanos c.args.now) (as_nanos c.args.draw)
+          c.self.inside.directory.config.cooldown)) (held_in cmp c.self.inside.slots) (held_in cmp c.put.new.self)
+          c.self.invariant.0
+          facts.granted.records (subst (IsBusy cmp c.dial.new.self) (of_peer g c) facts.is_busy) (held g c),
+      c.put.ensures.ordered,
+    )
 
 pub returns-in-Ok-Some-clause-served : goal.returns-in-Ok-Some-clause-served
 returns-in-Ok-Some-clause-served g c = rw (← c.self.view_is) (λ bootstrappers myself cfg calls at.
@@ -57,7 +59,7 @@ returns-in-Ok-None-clause-served g c = rw (← c.self.view_is) (λ bootstrappers
     let facts = rw c.in-Ok-None.field-0-is at c.in-Ok-None.ensures in
     Served.served_not_dialled (settings g.C.Ord.cmp bootstrappers myself cfg) cfg.max_sets.ok
     g.met.C.PublicKey.exact calls _ _ at c.args.peer.now (as_nanos c.args.now) (as_nanos c.args.draw)
-    (sym facts.answer) facts.refused refl)
+    (sym facts.answer) facts.refused (λ q. refl))
 
 true_unless : (b : Bool) → (b ≡ false → ⊥) → b ≡ true
 true_unless true h = refl
@@ -67,7 +69,7 @@ pub returns-in-Err-clause-served : goal.returns-in-Err-clause-served
 returns-in-Err-clause-served g c = rw (← c.self.view_is) (λ bootstrappers myself cfg calls at.
     Served.served_no_dial (settings g.C.Ord.cmp bootstrappers myself cfg) cfg.max_sets.ok g.met.C.PublicKey.exact
     calls _ _ at c.args.peer.now (as_nanos c.args.now) (as_nanos c.args.draw)
-    (true_unless _ (λ no. let f = sym c.in-Err.is ∙ c.dial.ensures.none no in cc)) c.in-Err.ensures.err refl)
+    (true_unless _ (λ no. let f = sym c.in-Err.is ∙ c.dial.ensures.none no in cc)) c.in-Err.ensures.err (λ q. refl))
 
 pub returns-in-Ok-Some-clause-granted : goal.returns-in-Ok-Some-clause-granted
 returns-in-Ok-Some-clause-granted g c = λ is.

@@ -13,6 +13,8 @@ returns-clause-served g c = rw (← c.self.view_is) (λ bootstrappers myself cfg
     c.forget_cooled.ensures.forgotten refl)
 
 pub invariant_of-self : goal.invariant_of-self
-invariant_of-self g c =
-    held_by_forgetting g.C.Ord.cmp c.self.inside.directory c.forget_cooled.new.self (as_nanos c.args.now)
-    (held_in g.C.Ord.cmp c.self.inside.slots) c.self.invariant c.forget_cooled.ensures.forgotten
+invariant_of-self g c = (
+  held_by_forgetting g.C.Ord.cmp c.self.inside.directory c.forget_cooled.new.self (as_nanos c.args.now)
+      (held_in g.C.Ord.cmp c.self.inside.slots) c.self.invariant.0 c.forget_cooled.ensures.forgotten,
+  c.self.invariant.1,
+)

@@ -6,4 +6,4 @@ pub returns-clause-held : goal.returns-clause-held
 returns-clause-held g c = rw (← c.self.view_is) c.into_held.ensures
 
 pub returns-clause-agree : goal.returns-clause-agree
-returns-clause-agree g c = λ q. ap is_some (c.into_held.ensures q) ∙ c.self.invariant q
+returns-clause-agree g c = λ q. ap is_some (c.into_held.ensures q) ∙ c.self.invariant.0 q

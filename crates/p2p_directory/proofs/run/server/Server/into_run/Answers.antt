@@ -5,7 +5,7 @@ use Rattle.p2p_directory.specs.Private.Slots.{held_in}
 use Rattle.p2p_directory.proofs.run.server.Server.into_run.Goals as goal
 
 pub invariant_of-result : goal.invariant_of-result
-invariant_of-result g c = record { agree = λ q. ap is_some (c.into_held.ensures q) ∙ c.self.invariant q }
+invariant_of-result g c = record { agree = λ q. ap is_some (c.into_held.ensures q) ∙ c.self.invariant.0 q }
 
 pub returns-clause-held : goal.returns-clause-held
 returns-clause-held g c = λ q.

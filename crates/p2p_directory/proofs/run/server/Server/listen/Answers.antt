@@ -18,7 +18,7 @@ returns-in-Ok-None-clause-served g c = rw (← c.self.view_is) (λ bootstrappers
     let facts = rw c.in-Ok-None.field-0-is at c.in-Ok-None.ensures in
     Served.served_refused (settings g.C.Ord.cmp bootstrappers myself cfg) cfg.max_sets.ok g.met.C.PublicKey.exact
     calls _ _ at c.args.peer.now (as_nanos c.args.now) (as_nanos c.args.draw)
-    (sym facts.answer) facts.refused refl)
+    (sym facts.answer) facts.refused (λ q. refl))
 
 true_unless : (b : Bool) → (b ≡ false → ⊥) → b ≡ true
 true_unless true h = refl
@@ -28,7 +28,7 @@ pub returns-in-Err-clause-served : goal.returns-in-Err-clause-served
 returns-in-Err-clause-served g c = rw (← c.self.view_is) (λ bootstrappers myself cfg calls at.
     Served.served_no_listen (settings g.C.Ord.cmp bootstrappers myself cfg) cfg.max_sets.ok g.met.C.PublicKey.exact
     calls _ _ at c.args.peer.now (as_nanos c.args.now) (as_nanos c.args.draw)
-    (true_unless _ (λ no. let f = sym c.in-Err.is ∙ c.listen.ensures.none no in cc)) c.in-Err.ensures.err refl)
+    (true_unless _ (λ no. let f = sym c.in-Err.is ∙ c.listen.ensures.none no in cc)) c.in-Err.ensures.err (λ q. refl))
 
 pub returns-in-Ok-Some-clause-granted : goal.returns-in-Ok-Some-clause-granted
 returns-in-Ok-Some-clause-granted g c = λ is.

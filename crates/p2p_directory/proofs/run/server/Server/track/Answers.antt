@@ -27,12 +27,13 @@ invariant_of-self g c =
     let cmp = g.C.Ord.cmp in
     let d = c.self.inside.directory in
     let held = held_in cmp c.self.inside.slots in
-    elim c.match-track.branch [
+    let after : AreHeld cmp c.track.new.self held = elim c.match-track.branch [
       | in-Ok w ↦
           held_after cmp d c.track.new.self (set_of cmp c.args.index c.args.peers.primary c.args.peers.secondary)
-          held w.in-Ok.torn c.self.invariant w.in-Ok.ensures.taken w.in-Ok.ensures.refused
-      | in-Err w ↦ subst (λ d. AreHeld cmp d held) (sym w.in-Err.ensures.err) c.self.invariant
-    ]
+          held w.in-Ok.torn c.self.invariant.0 w.in-Ok.ensures.taken w.in-Ok.ensures.refused
+      | in-Err w ↦ subst (λ d. AreHeld cmp d held) (sym w.in-Err.ensures.err) c.self.invariant.0
+    ] in
+    (after, c.self.invariant.1)
 
 true_unless : (b : Bool) → (b ≡ false → ⊥) → b ≡ true
 true_unless true h = refl

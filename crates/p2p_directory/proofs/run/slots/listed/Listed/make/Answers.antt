@@ -59,3 +59,6 @@ returns-clause-absent g c = elim c.match-insert.branch [
       (subst (λ slots. has_slot g.C.Ord.cmp slots c.args.peer ≡ false) c.self.view_is
       (ap is_some (missing g.met.C.Ord.total c.self.inside.rows.items c.in-Err.place c.args.peer c.in-Err.ensures.1)))
 ]
+
+pub returns-clause-ordered : goal.returns-clause-ordered
+returns-clause-ordered g c = invariant_of-self g c

@@ -31,3 +31,10 @@ returns-clause-held g c =
     held_bare _ g.C.Ord.cmp c.loop-peer.rows.items c.as_slice-sorted.result.now
     (all bare c.loop-peer.rows.items c.loop-peer.peer-index c.as_slice-sorted.result.now c.loop-peer.invariant.made
     c.loop-peer-test.false)
+
+pub returns-clause-ordered : goal.returns-clause-ordered
+returns-clause-ordered g c =
+    slots_bare _ g.C.Ord.cmp c.loop-peer.rows.items c.as_slice-sorted.result.now
+    (subst (IsStrictlySortedBy g.C.Ord.cmp) (sym c.as_slice-sorted.ensures.all) c.as_slice-sorted.ensures.sorted)
+    (all bare c.loop-peer.rows.items c.loop-peer.peer-index c.as_slice-sorted.result.now c.loop-peer.invariant.made
+    c.loop-peer-test.false)

@@ -5,3 +5,6 @@ pub invariant_of-self : goal.invariant_of-self
 invariant_of-self g c =
     slots_popped_or g.met.C.Ord.total g.met.C.PublicKey.exact c.pop_front.result c.self.inside.rows.items
     c.pop_front.new.self.items c.self.invariant c.pop_front.ensures.items
+
+pub returns-clause-ordered : goal.returns-clause-ordered
+returns-clause-ordered g c = invariant_of-self g c

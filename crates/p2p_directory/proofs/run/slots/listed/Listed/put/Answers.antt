@@ -28,3 +28,6 @@ returns-clause-held g c = λ q.
     (of_peer g c)
     ∙ ap (λ slots. cond (is_at (g.C.Ord.cmp (key_of c.args.reservation)) q) (Some c.args.reservation) (held_in g.C.Ord.cmp slots q))
     c.self.view_is
+
+pub returns-clause-ordered : goal.returns-clause-ordered
+returns-clause-ordered g c = invariant_of-self g c

@@ -72,3 +72,6 @@ returns-in-Some-clause-others g c = λ q other.
     others_removed g.met.C.Ord.total g.met.C.PublicKey.exact c.self.inside.rows.items c.remove.new.self.items
     c.args.peer.now c.self.invariant (gone g c) q other
     ∙ ap (λ slots. has_slot g.C.Ord.cmp slots q) c.self.view_is
+
+pub returns-in-Some-clause-ordered : goal.returns-in-Some-clause-ordered
+returns-in-Some-clause-ordered g c = invariant_of-self g c

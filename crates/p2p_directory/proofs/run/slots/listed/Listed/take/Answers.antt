@@ -43,3 +43,6 @@ returns-clause-none g c =
     (same_emptied g.met.C.Ord.total g.met.C.PublicKey.exact c.self.inside.rows.items c.exchange.new.rows.items
     c.args.peer.now c.exchange.result c.match-exchange.result c.exchange.ensures.was c.exchange.ensures.is
     c.exchange.ensures.unchanged (taken g c))
+
+pub returns-clause-ordered : goal.returns-clause-ordered
+returns-clause-ordered g c = invariant_of-self g c

@@ -1,0 +1,67 @@
+use Rattle.std.proofs.Common.{◌≡◌, Bool, true, false, Option, Some, None, sym, subst, ap, ◌∙◌}
+use Rattle.std.specs.Prelude.{if◌then◌else◌}
+use Rattle.std.specs.Option.{option_map}
+use Rattle.std.specs.BTreeMap.{is_at}
+use Rattle.std.specs.Duration.{as_nanos}
+use Rattle.p2p_tracker.specs.Record.{reserved_record}
+use Rattle.p2p_tracker.specs.Directory.{ingress_in, IsBusy}
+use Rattle.p2p_tracker.specs.Seen.{key_of}
+use Rattle.p2p_directory.specs.Run.{settings}
+use Rattle.p2p_directory.specs.Private.Slots.{held_in}
+use Rattle.p2p_directory.proofs.Reservations.Holding.{held_by_grant, dialled_key, true_unless}
+use Rattle.p2p_directory.proofs.Reservations.Served
+use Rattle.p2p_directory.proofs.run.server.Server.dial_slot.Goals as goal
+use Rattle.p2p_directory.proofs.run.server.Server.dial_slot.Goals.{in-Ok-None, in-Err-dial}
+
+of_peer : (g : _) (c : goal.After-put g) → key_of c.in-Ok-Some.reservation ≡ c.args.peer.now
+of_peer g c =
+    let facts = rw c.in-Ok-Some.field-0-is at c.in-Ok-Some.ensures in
+    dialled_key c.args.peer.now (ingress_in g.C.Ord.cmp c.self.inside.directory c.args.peer.now) c.in-Ok-Some.reservation facts.reservation
+
+held : (g : _) (c : goal.After-put g) (q : g.row.C.Denot) →
+    held_in g.C.Ord.cmp c.put.new.self q
+    ≡ (if is_at (g.C.Ord.cmp c.args.peer.now) q then Some c.in-Ok-Some.reservation else held_in g.C.Ord.cmp
+    c.self.inside.slots q)
+held g c q =
+    c.put.ensures.held q
+    ∙ ap (λ o. if is_at (g.C.Ord.cmp (key_of c.in-Ok-Some.reservation)) q then Some c.in-Ok-Some.reservation else o) (c.make.ensures.held q)
+    ∙ ap (λ p. if is_at (g.C.Ord.cmp p) q then Some c.in-Ok-Some.reservation else held_in g.C.Ord.cmp c.self.inside.slots q) (of_peer g c)
+
+pub invariant_of-self-in-Ok-Some : goal.invariant_of-self-in-Ok-Some
+invariant_of-self-in-Ok-Some g c =
+    let cmp = g.C.Ord.cmp in
+    let facts = rw c.in-Ok-Some.field-0-is at c.in-Ok-Some.ensures in (
+      held_by_grant cmp g.met.C.PublicKey.exact c.self.inside.directory c.dial.new.self c.args.peer.now
+          c.in-Ok-Some.reservation
+          (option_map (reserved_record (as_nanos c.args.now) (as_nanos c.args.draw)
+          c.self.inside.directory.config.cooldown)) (held_in cmp c.self.inside.slots) (held_in cmp c.put.new.self)
+          c.self.invariant.0
+          facts.granted.records (subst (IsBusy cmp c.dial.new.self) (of_peer g c) facts.is_busy) (held g c),
+      c.put.ensures.ordered,
+    )
+
+pub returns-in-Ok-Some-clause-stepped : goal.returns-in-Ok-Some-clause-stepped
+returns-in-Ok-Some-clause-stepped g c = rw (← c.self.view_is) (λ bootstrappers myself cfg calls at.
+    let s = settings g.C.Ord.cmp bootstrappers myself cfg in
+    let facts = rw c.in-Ok-Some.field-0-is at c.in-Ok-Some.ensures in
+    Served.alone s calls _ _ _ (Served.served_dialled s cfg.max_sets.ok g.met.C.PublicKey.exact
+    calls _ _ at c.args.peer.now (as_nanos c.args.now) (as_nanos c.args.draw) c.in-Ok-Some.reservation
+    (sym facts.answer) facts.reservation facts.granted (held g c)))
+
+pub returns-clause-stepped : goal.returns-clause-stepped
+returns-clause-stepped g c = rw (← c.self.view_is) (λ bootstrappers myself cfg calls at.
+    let s = settings g.C.Ord.cmp bootstrappers myself cfg in
+    let held : (q : g.row.C.Denot) → held_in g.C.Ord.cmp c.drop_empty.new.self q ≡ held_in g.C.Ord.cmp c.self.inside.slots q =
+    λ q. c.drop_empty.ensures.held q ∙ c.make.ensures.held q in
+    elim c.match-dial.branch [
+      | in-Ok-None w ↦
+          let facts = rw w.in-Ok-None.field-0-is at w.in-Ok-None.ensures in
+          rw w.refusal-is
+          (Served.alone s calls _ _ _ (Served.served_not_dialled s cfg.max_sets.ok g.met.C.PublicKey.exact
+          calls _ _ at c.args.peer.now (as_nanos c.args.now) (as_nanos c.args.draw) (sym facts.answer) facts.refused held))
+      | in-Err-dial w ↦
+          rw w.refusal-is
+          (Served.alone s calls _ _ _ (Served.served_no_dial s cfg.max_sets.ok g.met.C.PublicKey.exact
+          calls _ _ at c.args.peer.now (as_nanos c.args.now) (as_nanos c.args.draw)
+          (true_unless _ (λ no. let f = sym w.in-Err-dial.is ∙ c.dial.ensures.none no in cc)) w.in-Err-dial.ensures.err held))
+    ])

@@ -1,0 +1,146 @@
+//! The calls of a node that may change its directory, made without a command.
+
+ghost use Rattle.std.specs.Prelude.{◌≡◌, false};
+ghost use Rattle.p2p_directory.specs.Run.{was_made};
+ghost use Rattle.p2p_directory.specs.Nodes.{IsStepped, TearsDownFew};
+ghost use Rattle.p2p_directory.specs.declared.run.commands.Command.{Command};
+ghost use Rattle.p2p_directory.specs.declared.run.commands.Reply.{Reply};
+
+use crate::node::Node;
+use crate::run::Reply;
+use p2p_discovery::codec::PublicKey;
+use p2p_tracker::directory::TrackedPeers;
+use std::time::Duration;
+
+impl<C: PublicKey> Node<C> {
+    /// Registers a peer set, as [`Node::step`] of `Command::Track` does. It returns no more peers
+    /// than there are records without that of the local node, so a buffer for so many keys is long
+    /// enough for the result.
+    ///
+    /// # Cost
+    ///
+    /// That of [`Directory::track`].
+    pub fn track(&mut self, index: u64, peers: TrackedPeers<C>) -> Reply<C>
+        ensures stepped { IsStepped C.cmp (Command.Track index peers) result self.old self.new }
+        ensures unchanged { was_made result ≡ false → self.new ≡ self.old }
+        ensures limits { self.new.limits ≡ self.old.limits }
+        ensures verifier { self.new.verifier ≡ self.old.verifier }
+        ensures few { TearsDownFew self.old.directory result }
+    {
+        self.endpoint.server.track(index, peers)
+    }
+
+    /// Reserves the peer for a dial at the time `now`, a duration since the epoch, with `draw`, a
+    /// random duration, for the jitter, as [`Node::step`] of `Command::Dial` does. A granted
+    /// reservation is held. If an allocation fails, it returns `Reply::OutOfMemory`.
+    ///
+    /// # Cost
+    ///
+    /// That of [`Directory::dial`], and three searches among the reservations if it is granted;
+    /// otherwise two if one of the peer is held already, and four if none is.
+    pub fn dial(&mut self, peer: &C, now: Duration, draw: Duration) -> Reply<C>
+        ensures stepped { IsStepped C.cmp (Command.Dial peer.now now draw) result
+            self.old self.new }
+        ensures unchanged { was_made result ≡ false → self.new ≡ self.old }
+        ensures limits { self.new.limits ≡ self.old.limits }
+        ensures verifier { self.new.verifier ≡ self.old.verifier }
+    {
+        self.endpoint.server.dial_slot(peer, now, draw)
+    }
+
+    /// Reserves an inbound peer at the time `now`, a duration since the epoch, with `draw`, a
+    /// random duration, for the jitter, as [`Node::step`] of `Command::Listen` does. A granted
+    /// reservation is held. If an allocation fails, it returns `Reply::OutOfMemory`.
+    ///
+    /// # Cost
+    ///
+    /// That of [`Directory::listen`], and three searches among the reservations if it is granted;
+    /// otherwise two if one of the peer is held already, and four if none is.
+    pub fn listen(&mut self, peer: &C, now: Duration, draw: Duration) -> Reply<C>
+        ensures stepped { IsStepped C.cmp (Command.Listen peer.now now draw) result
+            self.old self.new }
+        ensures unchanged { was_made result ≡ false → self.new ≡ self.old }
+        ensures limits { self.new.limits ≡ self.old.limits }
+        ensures verifier { self.new.verifier ≡ self.old.verifier }
+    {
+        self.endpoint.server.listen_slot(peer, now, draw)
+    }
+
+    /// Connects the peer if it is reserved, as [`Node::step`] of `Command::Connect` does. It
+    /// doesn't allocate.
+    ///
+    /// # Cost
+    ///
+    /// That of two calls of the directory, its `status` and its `connect`.
+    pub fn connect(&mut self, peer: &C, dialer: bool) -> Reply<C>
+        ensures stepped { IsStepped C.cmp (Command.Connect peer.now dialer) result
+            self.old self.new }
+        ensures unchanged { was_made result ≡ false → self.new ≡ self.old }
+        ensures limits { self.new.limits ≡ self.old.limits }
+        ensures verifier { self.new.verifier ≡ self.old.verifier }
+    {
+        self.endpoint.server.connect(peer, dialer)
+    }
+
+    /// Releases the reservation of the peer if one is held, as [`Node::step`] of `Command::Release`
+    /// does. It doesn't allocate.
+    ///
+    /// # Cost
+    ///
+    /// A search among the reservations, and that of [`Directory::release`].
+    pub fn release(&mut self, peer: &C) -> Reply<C>
+        ensures stepped { IsStepped C.cmp (Command.Release peer.now) result self.old self.new }
+        ensures unchanged { was_made result ≡ false → self.new ≡ self.old }
+        ensures limits { self.new.limits ≡ self.old.limits }
+        ensures verifier { self.new.verifier ≡ self.old.verifier }
+    {
+        self.endpoint.server.release_slot(peer)
+    }
+
+    /// Blocks the peer at the time `now`, a duration since the epoch, as [`Node::step`] of
+    /// `Command::Block` does. If an allocation fails, it returns `Reply::OutOfMemory`.
+    ///
+    /// # Cost
+    ///
+    /// That of [`Directory::block`].
+    pub fn block(&mut self, peer: &C, now: Duration) -> Reply<C>
+        ensures stepped { IsStepped C.cmp (Command.Block peer.now now) result self.old self.new }
+        ensures unchanged { was_made result ≡ false → self.new ≡ self.old }
+        ensures limits { self.new.limits ≡ self.old.limits }
+        ensures verifier { self.new.verifier ≡ self.old.verifier }
+    {
+        self.endpoint.server.block(peer, now)
+    }
+
+    /// Ends the blocks that hold until the time `now`, a duration since the epoch, or until an
+    /// earlier time, and returns whether there were any, as [`Node::step`] replies to
+    /// `Command::UnblockExpired`. It doesn't allocate.
+    ///
+    /// # Cost
+    ///
+    /// That of [`Directory::unblock_expired`].
+    pub fn unblock_expired(&mut self, now: Duration) -> bool
+        ensures stepped { IsStepped C.cmp (Command.UnblockExpired now) (Reply.UnblockExpired result)
+            self.old self.new }
+        ensures limits { self.new.limits ≡ self.old.limits }
+        ensures verifier { self.new.verifier ≡ self.old.verifier }
+    {
+        self.endpoint.server.unblock_expired(now)
+    }
+
+    /// Forgets the cooldowns whose dial time is at or before the time `now`, a duration since the
+    /// epoch, and returns how many, as [`Node::step`] replies to `Command::ForgetCooled`. It
+    /// doesn't allocate.
+    ///
+    /// # Cost
+    ///
+    /// That of [`Directory::forget_cooled`].
+    pub fn forget_cooled(&mut self, now: Duration) -> usize
+        ensures stepped { IsStepped C.cmp (Command.ForgetCooled now) (Reply.ForgetCooled result)
+            self.old self.new }
+        ensures limits { self.new.limits ≡ self.old.limits }
+        ensures verifier { self.new.verifier ≡ self.old.verifier }
+    {
+        self.endpoint.server.forget_cooled(now)
+    }
+}

@@ -1,0 +1,429 @@
+//! The frames that an endpoint receives.
+
+ghost use Rattle.std.specs.Prelude.{◌≡◌, ◌<◌, ◌^◌, [], true, false, None, IfOk, IfSome, OnOk, OnErr};
+ghost use Rattle.std.specs.Prelude.{length, ◌||◌};
+ghost use Rattle.std.specs.Prelude.{is_some, option_map};
+ghost use Rattle.std.specs.Duration.{as_nanos};
+ghost use Rattle.p2p_discovery.specs.Payload.{CanSpell, payload_spelling, IsPayload};
+ghost use Rattle.p2p_discovery.specs.Payload.{IsKeyedPayload, IsAdmitted};
+ghost use Rattle.p2p_discovery.specs.Judgement.{judge_of, refusal, list_refusal};
+ghost use Rattle.p2p_discovery.specs.Judgement.{refusal_if, list_refusal_by};
+ghost use Rattle.p2p_discovery.specs.declared.discovery.Payload.TheVariants.{Peers};
+ghost use Rattle.p2p_tracker.specs.Directory.{bit_vec_at, infos_in};
+ghost use Rattle.p2p_directory.specs.Held.{held_of, AreHeld, ReleasesAll};
+ghost use Rattle.p2p_directory.specs.Run.{call_of, was_made};
+ghost use Rattle.p2p_directory.specs.Received.{wire_of, greeted, replied, taken, takes_room};
+ghost use Rattle.p2p_directory.specs.Received.{applies, told_with, are_miscounted, answered_by};
+ghost use Rattle.p2p_directory.specs.Received.{received_of, AreFew};
+ghost use Rattle.p2p_directory.specs.Received.{first_verdict, IsWantOfMemory};
+ghost use Rattle.p2p_discovery.specs.Payload.{infos_of_payload, payload_at};
+ghost use Rattle.p2p_discovery.specs.Reading.{GivesAs, whole};
+ghost use Rattle.p2p_directory.specs.Nodes.{AnswersFrameBy, standing_of};
+ghost use Rattle.p2p_directory.specs.Nodes.{may_reserve, Answers, AnswersFrame, AsksWith};
+ghost use Rattle.p2p_directory.specs.Nodes.{AreValues, TellsValues, IsStepped, TearsDownFew};
+ghost use Rattle.p2p_directory.specs.Nodes.{StandsSomewhere};
+ghost use Rattle.p2p_directory.specs.Exchange.{HasSpelling, HaveSpelling};
+ghost use Rattle.p2p_directory.specs.Private.Frames.{fault_answer};
+ghost use Rattle.p2p_directory.specs.Private.Serving.{has_slot_for, reserved_peer, named_peer};
+ghost use Rattle.p2p_directory.specs.Private.Slots.{contents, has_slot, is_named, KeepsRoom};
+ghost use Rattle.p2p_directory.specs.Private.Endpoints.{node_of, IsServedBy};
+
+use crate::node::decoded::{Decoded, are_equal};
+use crate::node::endpoint::{Endpoint, frame_of};
+use crate::node::received::{Answer, Miscounted, Received};
+use bytes::Bytes;
+use p2p_discovery::codec::{CodecError, PublicKey, Read};
+use p2p_discovery::discovery::{BitVec, Info, Infos, Payload};
+use std::alloc::AllocError;
+use std::time::Duration;
+
+impl<C: PublicKey> Endpoint<C> {
+    /// Processes a frame that was received at this time.
+    pub fn answer(&mut self, frame: Bytes, now: Duration) -> Received
+        ensures seen { AnswersFrame C.cmp (wire_of C.SIZE C.spelled C.value
+            C.Signature.SIZE C.Signature.spelled C.Signature.value C.verifies)
+            frame (as_nanos now) result (node_of self.old) (node_of self.new) }
+        ensures unchanged { applies result ≡ false → self.new ≡ self.old }
+        ensures values { TellsValues C.cmp (wire_of C.SIZE C.spelled C.value
+            C.Signature.SIZE C.Signature.spelled C.Signature.value C.verifies)
+            C.IsValue C.Signature.IsValue frame (as_nanos now) result (node_of self.old) }
+        ensures slots { self.new.slots ≡ self.old.slots }
+    {
+        let alloc = self.server.directory().allocator();
+        match Payload::<C>::decode_cfg(alloc, frame, &self.payload) {
+            Ok(Payload::Data(message)) => Received::Data(message),
+            Ok(Payload::Greeting(info)) => self.greet(info, now),
+            Ok(Payload::BitVec(bits)) => self.reply(&bits, now),
+            Ok(Payload::Peers(infos)) => self.take(infos, now),
+            Err(fault) => refused(fault),
+        }
+    }
+
+    /// Processes a frame that was received at this time, given whether the signatures of its infos
+    /// are valid. There must be as many verification results as infos in the frame, if it encodes a
+    /// payload.
+    pub fn answer_by(
+        &mut self,
+        frame: Bytes,
+        now: Duration,
+        verdicts: &[bool],
+    ) -> Result<Received, Miscounted>
+        ensures seen { IfOk result (λ r. AnswersFrameBy C.cmp (wire_of C.SIZE C.spelled C.value
+            C.Signature.SIZE C.Signature.spelled C.Signature.value C.verifies)
+            verdicts.now frame (as_nanos now) r (node_of self.old) (node_of self.new)) }
+        ensures unchanged { IfOk result (λ r. applies r ≡ false → self.new ≡ self.old) }
+        ensures counted { let node = standing_of C.cmp (wire_of C.SIZE C.spelled C.value
+            C.Signature.SIZE C.Signature.spelled C.Signature.value C.verifies) (node_of self.old) in
+            IfOk result (λ r. are_miscounted (wire_of C.SIZE C.spelled C.value
+            C.Signature.SIZE C.Signature.spelled C.Signature.value C.verifies)
+            node frame verdicts.now ≡ true → IsWantOfMemory r) }
+        ensures err { let node = standing_of C.cmp (wire_of C.SIZE C.spelled C.value
+            C.Signature.SIZE C.Signature.spelled C.Signature.value C.verifies) (node_of self.old) in
+            OnErr result (are_miscounted (wire_of C.SIZE C.spelled C.value
+            C.Signature.SIZE C.Signature.spelled C.Signature.value C.verifies)
+            node frame verdicts.now ≡ true) }
+        ensures err_same { OnErr result (self.new ≡ self.old) }
+        ensures slots { self.new.slots ≡ self.old.slots }
+    {
+        let alloc = self.server.directory().allocator();
+        match Payload::<C>::decode_cfg(alloc, frame, &self.payload) {
+            Ok(payload) => self.answer_payload_by(payload, now, verdicts),
+            Err(fault) => Ok(refused(fault)),
+        }
+    }
+
+    /// Processes a frame as [`Endpoint::answer_by`] does, but the infos of a reply aren't encoded.
+    pub fn answer_frame(
+        &mut self,
+        frame: Bytes,
+        now: Duration,
+        verdicts: &[bool],
+    ) -> Result<Answer<C>, Miscounted>
+        ensures seen { IfOk result (λ a. AnswersFrameBy C.cmp (wire_of C.SIZE C.spelled C.value
+            C.Signature.SIZE C.Signature.spelled C.Signature.value C.verifies)
+            verdicts.now frame (as_nanos now) (received_of (wire_of C.SIZE C.spelled C.value
+            C.Signature.SIZE C.Signature.spelled C.Signature.value C.verifies) a)
+            (node_of self.old) (node_of self.new)) }
+        ensures unchanged { IfOk result (λ a. applies (received_of (wire_of C.SIZE C.spelled C.value
+            C.Signature.SIZE C.Signature.spelled C.Signature.value C.verifies) a) ≡ false
+            → self.new ≡ self.old) }
+        ensures counted { let node = standing_of C.cmp (wire_of C.SIZE C.spelled C.value
+            C.Signature.SIZE C.Signature.spelled C.Signature.value C.verifies) (node_of self.old) in
+            IfOk result (λ a. are_miscounted (wire_of C.SIZE C.spelled C.value
+            C.Signature.SIZE C.Signature.spelled C.Signature.value C.verifies)
+            node frame verdicts.now ≡ true → IsWantOfMemory (received_of (wire_of C.SIZE C.spelled C.value
+            C.Signature.SIZE C.Signature.spelled C.Signature.value C.verifies) a)) }
+        ensures few { IfOk result AreFew }
+        ensures err { let node = standing_of C.cmp (wire_of C.SIZE C.spelled C.value
+            C.Signature.SIZE C.Signature.spelled C.Signature.value C.verifies) (node_of self.old) in
+            OnErr result (are_miscounted (wire_of C.SIZE C.spelled C.value
+            C.Signature.SIZE C.Signature.spelled C.Signature.value C.verifies)
+            node frame verdicts.now ≡ true) }
+        ensures err_same { OnErr result (self.new ≡ self.old) }
+        ensures slots { self.new.slots ≡ self.old.slots }
+    {
+        let alloc = self.server.directory().allocator();
+        match Payload::<C>::decode_cfg(alloc, frame, &self.payload) {
+            Ok(payload) => self.answer_payload(payload, now, verdicts),
+            Err(fault) => Ok(Answer::Received(refused(fault))),
+        }
+    }
+
+    /// Processes a frame that was decoded, as [`Endpoint::answer_frame`] does. It is decoded anew if
+    /// that was done under other limits.
+    pub fn answer_decoded(
+        &mut self,
+        decoded: Decoded<C>,
+        now: Duration,
+        verdicts: &[bool],
+    ) -> Result<Answer<C>, Miscounted>
+        ensures seen { IfOk result (λ a. AnswersFrameBy C.cmp (wire_of C.SIZE C.spelled C.value
+            C.Signature.SIZE C.Signature.spelled C.Signature.value C.verifies)
+            verdicts.now decoded.frame (as_nanos now) (received_of (wire_of C.SIZE C.spelled C.value
+            C.Signature.SIZE C.Signature.spelled C.Signature.value C.verifies) a)
+            (node_of self.old) (node_of self.new)) }
+        ensures unchanged { IfOk result (λ a. applies (received_of (wire_of C.SIZE C.spelled C.value
+            C.Signature.SIZE C.Signature.spelled C.Signature.value C.verifies) a) ≡ false
+            → self.new ≡ self.old) }
+        ensures counted { let node = standing_of C.cmp (wire_of C.SIZE C.spelled C.value
+            C.Signature.SIZE C.Signature.spelled C.Signature.value C.verifies) (node_of self.old) in
+            IfOk result (λ a. are_miscounted (wire_of C.SIZE C.spelled C.value
+            C.Signature.SIZE C.Signature.spelled C.Signature.value C.verifies)
+            node decoded.frame verdicts.now ≡ true → IsWantOfMemory (received_of (wire_of C.SIZE C.spelled C.value
+            C.Signature.SIZE C.Signature.spelled C.Signature.value C.verifies) a)) }
+        ensures few { IfOk result AreFew }
+        ensures err { let node = standing_of C.cmp (wire_of C.SIZE C.spelled C.value
+            C.Signature.SIZE C.Signature.spelled C.Signature.value C.verifies) (node_of self.old) in
+            OnErr result (are_miscounted (wire_of C.SIZE C.spelled C.value
+            C.Signature.SIZE C.Signature.spelled C.Signature.value C.verifies)
+            node decoded.frame verdicts.now ≡ true) }
+        ensures err_same { OnErr result (self.new ≡ self.old) }
+        ensures slots { self.new.slots ≡ self.old.slots }
+    {
+        let (frame, payload, limits) = decoded.into_parts();
+        if are_equal(limits, self.payload) {
+            drop(frame);
+            return self.answer_payload(payload, now, verdicts);
+        }
+        self.answer_frame(frame, now, verdicts)
+    }
+
+    // Processes a payload, given whether the signatures of its infos are valid.
+    fn answer_payload_by(
+        &mut self,
+        payload: Payload<C>,
+        now: Duration,
+        verdicts: &[bool],
+    ) -> Result<Received, Miscounted>
+        requires admitted { IsAdmitted C.IsValue C.Signature.IsValue self.old.limits payload }
+        requires limit { self.old.limits.max_bit_vec < 2 ^ 32 }
+        ensures seen { let o = answered_by (wire_of C.SIZE C.spelled C.value
+            C.Signature.SIZE C.Signature.spelled C.Signature.value C.verifies) verdicts.now
+            (standing_of C.cmp (wire_of C.SIZE C.spelled C.value
+            C.Signature.SIZE C.Signature.spelled C.Signature.value C.verifies) (node_of self.old))
+            (as_nanos now) payload in
+            IfOk result (λ r.
+            Answers C.cmp (takes_room o.answer) o r (node_of self.old) (node_of self.new)) }
+        ensures unchanged { IfOk result (λ r. applies r ≡ false → self.new ≡ self.old) }
+        ensures counted { IfOk result (λ _.
+            length (infos_of_payload payload) ≡ length verdicts.now) }
+        ensures err { OnErr result (¬ (length (infos_of_payload payload) ≡ length verdicts.now)) }
+        ensures err_same { OnErr result (self.new ≡ self.old) }
+        ensures slots { self.new.slots ≡ self.old.slots }
+    {
+        if count_infos(&payload) != verdicts.len() {
+            return Err(Miscounted);
+        }
+        Ok(match payload {
+            Payload::Data(message) => Received::Data(message),
+            Payload::Greeting(info) => self.greet_by(info, now, is_first_right(verdicts)),
+            Payload::BitVec(bits) => self.reply(&bits, now),
+            Payload::Peers(infos) => self.take_by(infos, now, verdicts),
+        })
+    }
+
+    // Processes a payload, given whether the signatures of its infos are valid. The infos of a reply
+    // aren't encoded.
+    fn answer_payload(
+        &mut self,
+        payload: Payload<C>,
+        now: Duration,
+        verdicts: &[bool],
+    ) -> Result<Answer<C>, Miscounted>
+        requires admitted { IsAdmitted C.IsValue C.Signature.IsValue self.old.limits payload }
+        requires limit { self.old.limits.max_bit_vec < 2 ^ 32 }
+        ensures seen { let o = answered_by (wire_of C.SIZE C.spelled C.value
+            C.Signature.SIZE C.Signature.spelled C.Signature.value C.verifies) verdicts.now
+            (standing_of C.cmp (wire_of C.SIZE C.spelled C.value
+            C.Signature.SIZE C.Signature.spelled C.Signature.value C.verifies) (node_of self.old))
+            (as_nanos now) payload in
+            IfOk result (λ a. Answers C.cmp (takes_room o.answer) o
+            (received_of (wire_of C.SIZE C.spelled C.value
+            C.Signature.SIZE C.Signature.spelled C.Signature.value C.verifies) a)
+            (node_of self.old) (node_of self.new)) }
+        ensures unchanged { IfOk result (λ a. applies (received_of (wire_of C.SIZE C.spelled C.value
+            C.Signature.SIZE C.Signature.spelled C.Signature.value C.verifies) a) ≡ false
+            → self.new ≡ self.old) }
+        ensures counted { IfOk result (λ _.
+            length (infos_of_payload payload) ≡ length verdicts.now) }
+        ensures few { IfOk result AreFew }
+        ensures err { OnErr result (¬ (length (infos_of_payload payload) ≡ length verdicts.now)) }
+        ensures err_same { OnErr result (self.new ≡ self.old) }
+        ensures slots { self.new.slots ≡ self.old.slots }
+    {
+        match payload {
+            Payload::BitVec(_) if !verdicts.is_empty() => Err(Miscounted),
+            Payload::BitVec(bits) => Ok(self.infos_for(&bits, now)),
+            payload => Ok(Answer::Received(self.answer_payload_by(payload, now, verdicts)?)),
+        }
+    }
+
+    // The infos with which bits are answered.
+    fn infos_for(&self, bits: &BitVec, now: Duration) -> Answer<C>
+        requires { length bits.now.bits < 2 ^ 32 }
+        ensures seen { let o = replied (wire_of C.SIZE C.spelled C.value
+            C.Signature.SIZE C.Signature.spelled C.Signature.value C.verifies)
+            (infos_in C.cmp self.now.directory bits.now.index bits.now.bits (as_nanos now)) in
+            Answers C.cmp (takes_room o.answer) o (received_of (wire_of C.SIZE C.spelled C.value
+            C.Signature.SIZE C.Signature.spelled C.Signature.value C.verifies) result)
+            (node_of self.now) (node_of self.now) }
+        ensures few { AreFew result }
+    {
+        match self.server.infos_for(bits, now) {
+            Ok(Some(infos)) => Answer::Infos(Infos::from_vec(infos)),
+            Ok(None) => Answer::Received(Received::Malformed),
+            Err(AllocError) => Answer::Received(Received::Memory),
+        }
+    }
+
+    // Verifies the info of a greeting, and applies it.
+    fn greet(&mut self, info: Info<C>, now: Duration) -> Received
+        ensures unchanged { applies result ≡ false → self.new ≡ self.old }
+        ensures seen { let o = greeted (wire_of C.SIZE C.spelled C.value
+            C.Signature.SIZE C.Signature.spelled C.Signature.value C.verifies) info
+            (refusal (judge_of C.cmp C.verifies self.old.verifier) (as_nanos now) info) in
+            Answers C.cmp (takes_room o.answer) o result (node_of self.old) (node_of self.new) }
+        ensures slots { self.new.slots ≡ self.old.slots }
+    {
+        if let Err(error) = self.verifier.validate_info(now, &info) {
+            return Received::Invalid(error);
+        }
+        self.apply_greeting(info)
+    }
+
+    // Verifies the info of a greeting, given whether its signature is valid, and applies it.
+    fn greet_by(&mut self, info: Info<C>, now: Duration, right: bool) -> Received
+        ensures unchanged { applies result ≡ false → self.new ≡ self.old }
+        ensures seen { let o = greeted (wire_of C.SIZE C.spelled C.value
+            C.Signature.SIZE C.Signature.spelled C.Signature.value C.verifies) info
+            (refusal_if (judge_of C.cmp C.verifies self.old.verifier) right (as_nanos now) info) in
+            Answers C.cmp (takes_room o.answer) o result (node_of self.old) (node_of self.new) }
+        ensures slots { self.new.slots ≡ self.old.slots }
+    {
+        if let Err(error) = self.verifier.validate_info_by(now, &info, right) {
+            return Received::Invalid(error);
+        }
+        self.apply_greeting(info)
+    }
+
+    // Applies the info of a greeting.
+    fn apply_greeting(&mut self, info: Info<C>) -> Received
+        ensures unchanged { applies result ≡ false → self.new ≡ self.old }
+        ensures seen { Answers C.cmp true (greeted (wire_of C.SIZE C.spelled C.value
+            C.Signature.SIZE C.Signature.spelled C.Signature.value C.verifies) info None)
+            result (node_of self.old) (node_of self.new) }
+        ensures slots { self.new.slots ≡ self.old.slots }
+    {
+        match Vec::with_capacity(self.server.directory().allocator(), 1) {
+            Ok(mut infos) => {
+                infos.push_reserved(info);
+                self.server.update(infos);
+                Received::Greeted
+            }
+            Err(AllocError) => Received::Memory,
+        }
+    }
+
+    // Replies to bits with the infos for them.
+    fn reply(&self, bits: &BitVec, now: Duration) -> Received
+        requires { length bits.now.bits < 2 ^ 32 }
+        ensures seen { let o = replied (wire_of C.SIZE C.spelled C.value
+            C.Signature.SIZE C.Signature.spelled C.Signature.value C.verifies)
+            (infos_in C.cmp self.now.directory bits.now.index bits.now.bits (as_nanos now)) in
+            Answers C.cmp (takes_room o.answer) o result (node_of self.now) (node_of self.now) }
+        ensures values { AreValues C.IsValue C.Signature.IsValue (told_with
+            (replied (wire_of C.SIZE C.spelled C.value
+            C.Signature.SIZE C.Signature.spelled C.Signature.value C.verifies)
+            (infos_in C.cmp self.now.directory bits.now.index bits.now.bits (as_nanos now)))
+            result) }
+    {
+        match self.reply_frame(bits, now) {
+            Ok(Some(frame)) => Received::Reply(frame),
+            Ok(None) => Received::Malformed,
+            Err(AllocError) => Received::Memory,
+        }
+    }
+
+    // The frame of the infos for bits, or `None` if their number differs from that of the peers.
+    pub(super) fn reply_frame(
+        &self,
+        bits: &BitVec,
+        now: Duration,
+    ) -> Result<Option<Bytes>, AllocError>
+        requires { length bits.now.bits < 2 ^ 32 }
+        ensures frame { IfOk result (λ frame. frame ≡ option_map
+            (λ infos. payload_spelling C.spelled C.Signature.spelled (Peers infos))
+            (infos_in C.cmp self.now.directory bits.now.index bits.now.bits (as_nanos now))) }
+        ensures spelled { IfOk result (λ _.
+            IfSome (infos_in C.cmp self.now.directory bits.now.index bits.now.bits (as_nanos now))
+            (HaveSpelling C.IsValue C.Signature.IsValue)) }
+        ensures err { OnErr result (is_some
+            (infos_in C.cmp self.now.directory bits.now.index bits.now.bits (as_nanos now))
+            ≡ true) }
+    {
+        match self.server.infos_for(bits, now)? {
+            Some(infos) => {
+                let alloc = self.server.directory().allocator();
+                let infos = Infos::from_vec(infos);
+                let frame = frame_of::<C>(alloc, Payload::Peers(infos))?;
+                Ok(Some(frame))
+            }
+            None => Ok(None),
+        }
+    }
+
+    // Verifies infos, all of them, and applies them.
+    fn take(&mut self, infos: Infos<C>, now: Duration) -> Received
+        ensures unchanged { applies result ≡ false → self.new ≡ self.old }
+        ensures seen { Answers C.cmp false (taken (wire_of C.SIZE C.spelled C.value
+            C.Signature.SIZE C.Signature.spelled C.Signature.value C.verifies) infos
+            (list_refusal (judge_of C.cmp C.verifies self.old.verifier) (as_nanos now) infos))
+            result (node_of self.old) (node_of self.new) }
+        ensures slots { self.new.slots ≡ self.old.slots }
+    {
+        if let Err(error) = self.verifier.validate(now, infos.as_slice()) {
+            return Received::Invalid(error);
+        }
+        self.apply(infos)
+    }
+
+    // Verifies infos, all of them, given whether their signatures are valid, and applies them.
+    fn take_by(&mut self, infos: Infos<C>, now: Duration, verdicts: &[bool]) -> Received
+        ensures unchanged { applies result ≡ false → self.new ≡ self.old }
+        ensures seen { Answers C.cmp false (taken (wire_of C.SIZE C.spelled C.value
+            C.Signature.SIZE C.Signature.spelled C.Signature.value C.verifies) infos
+            (list_refusal_by (judge_of C.cmp C.verifies self.old.verifier) verdicts.now
+            (as_nanos now) infos)) result (node_of self.old) (node_of self.new) }
+        ensures slots { self.new.slots ≡ self.old.slots }
+    {
+        if let Err(error) = self.verifier.validate_by(now, infos.as_slice(), verdicts) {
+            return Received::Invalid(error);
+        }
+        self.apply(infos)
+    }
+
+    // Applies infos.
+    fn apply(&mut self, infos: Infos<C>) -> Received
+        ensures unchanged { applies result ≡ false → self.new ≡ self.old }
+        ensures seen { Answers C.cmp false (taken (wire_of C.SIZE C.spelled C.value
+            C.Signature.SIZE C.Signature.spelled C.Signature.value C.verifies) infos None)
+            result (node_of self.old) (node_of self.new) }
+        ensures slots { self.new.slots ≡ self.old.slots }
+    {
+        let infos = infos.into_vec();
+        let count = infos.len();
+        self.server.update(infos);
+        Received::Applied(count)
+    }
+}
+
+// How many infos a payload has.
+fn count_infos<C: PublicKey>(payload: &Payload<C>) -> usize
+    ensures { result ≡ length (infos_of_payload payload.now) }
+{
+    match payload {
+        Payload::Data(_) | Payload::BitVec(_) => 0,
+        Payload::Greeting(_) => 1,
+        Payload::Peers(infos) => infos.as_slice().len(),
+    }
+}
+
+// Whether the first verification result says that a signature is valid.
+fn is_first_right(verdicts: &[bool]) -> bool
+    ensures { result ≡ first_verdict verdicts.now }
+{
+    match verdicts {
+        [right, ..] => *right,
+        [] => false,
+    }
+}
+
+// The error of a frame, or out of memory.
+fn refused(fault: CodecError) -> Received
+    ensures { result ≡ fault_answer fault }
+{
+    match fault {
+        CodecError::Memory => Received::Memory,
+        _ => Received::Codec(fault),
+    }
+}

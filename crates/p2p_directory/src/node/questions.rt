@@ -1,0 +1,90 @@
+//! The calls of a node that change nothing and return a number or a time.
+
+ghost use Rattle.std.specs.Prelude.{◌≡◌};
+ghost use Rattle.p2p_directory.specs.Nodes.{IsStepped};
+ghost use Rattle.p2p_directory.specs.declared.run.commands.Command.{Command};
+ghost use Rattle.p2p_directory.specs.declared.run.commands.Reply.{Reply};
+
+use crate::node::Node;
+use p2p_discovery::codec::PublicKey;
+use p2p_tracker::record::Status;
+use std::time::Duration;
+
+impl<C: PublicKey> Node<C> {
+    /// When the first block ends, a duration since the epoch, as [`Node::step`] replies to
+    /// `Command::NextUnblock`. It doesn't allocate, and changes nothing.
+    ///
+    /// # Cost
+    ///
+    /// That of [`Directory::next_unblock`].
+    pub fn next_unblock(&self) -> Option<Duration>
+        ensures { IsStepped C.cmp Command.NextUnblock (Reply.NextUnblock result) self.now self.now }
+    {
+        self.endpoint.server.next_unblock()
+    }
+
+    /// The index of the latest set, as [`Node::step`] replies to `Command::LatestSetIndex`. It
+    /// doesn't allocate, and changes nothing.
+    ///
+    /// # Cost
+    ///
+    /// Constant.
+    pub fn latest_set_index(&self) -> Option<u64>
+        ensures { IsStepped C.cmp Command.LatestSetIndex (Reply.LatestSetIndex result)
+            self.now self.now }
+    {
+        self.endpoint.server.latest_set_index()
+    }
+
+    /// Whether the peer is connected, or `None` if there is no record of it, as [`Node::step`]
+    /// replies to `Command::Status`. It doesn't allocate, and changes nothing.
+    ///
+    /// # Cost
+    ///
+    /// That of [`Directory::status`].
+    pub fn status(&self, peer: &C) -> Option<Status>
+        ensures { IsStepped C.cmp (Command.Status peer.now) (Reply.Status result)
+            self.now self.now }
+    {
+        self.endpoint.server.status(peer)
+    }
+
+    /// Whether the peer may be connected at the time `now`, a duration since the epoch, as
+    /// [`Node::step`] replies to `Command::Eligible`. It doesn't allocate, and changes nothing.
+    ///
+    /// # Cost
+    ///
+    /// That of [`Directory::eligible`].
+    pub fn eligible(&self, peer: &C, now: Duration) -> bool
+        ensures { IsStepped C.cmp (Command.Eligible peer.now now) (Reply.Eligible result)
+            self.now self.now }
+    {
+        self.endpoint.server.eligible(peer, now)
+    }
+
+    /// Whether an inbound connection of the peer may be accepted at the time `now`, a duration
+    /// since the epoch, as [`Node::step`] replies to `Command::Acceptable`. It doesn't allocate,
+    /// and changes nothing.
+    ///
+    /// # Cost
+    ///
+    /// That of [`Directory::acceptable`].
+    pub fn acceptable(&self, peer: &C, now: Duration) -> bool
+        ensures { IsStepped C.cmp (Command.Acceptable peer.now now) (Reply.Acceptable result)
+            self.now self.now }
+    {
+        self.endpoint.server.acceptable(peer, now)
+    }
+
+    /// How many peers have a record, not counting the local node, as [`Node::step`] replies to
+    /// `Command::Tracked`. It doesn't allocate, and changes nothing.
+    ///
+    /// # Cost
+    ///
+    /// That of [`Directory::tracked`].
+    pub fn tracked(&self) -> usize
+        ensures { IsStepped C.cmp Command.Tracked (Reply.Tracked result) self.now self.now }
+    {
+        self.endpoint.server.tracked()
+    }
+}
