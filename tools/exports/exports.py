@@ -164,7 +164,7 @@ def walk(names, method, params, result, word):
     else:
         w('    ' + ' '.join(['move ! (4 ∷ 3 ∷ []) $ join ! $'] + ['move ! (4 ∷ 0 ∷ []) $ join ! $'] * (m - 1)))
     w('    move ! (1 ∷ 0 ∷ []) $ join ! $ move ! (2 ∷ 3 ∷ []) $ join ! $ join ! $ nothing ! $ move ! (1 ∷ 0 ∷ []) $ use2 𝓛 (raw (G.pre y)) (id⊢ 𝓤 _) $')
-    w(f"    calls_at ! (framed 𝓤 𝓛.H 𝓜 (tables 𝓤 𝓛.H 𝓜 𝓡 𝓡.env)) G (met 𝓤 𝓛 𝓜 𝓡 (code.calls-{names['lib']}::{type_}::{method} 𝓡.env wired)) y")
+    w(f"    calls_at ! (framed 𝓤 𝓛.H 𝓜 (tables 𝓤 𝓛.H 𝓜 𝓡 𝓡.env)) G (met 𝓤 𝓛 𝓜 𝓡 (code.calls-{names['lib']}::{names['module']}::{type_}::{method} 𝓡.env wired)) y")
     w('    ' + '(and_then ! (get ! refl) ' * (m + 1) + '(no_more !)' + ')' * (m + 1) + ' (λ v.')
     last = lambda i: at('xs', 1 + kept.index(i))
     said = {'alloc': None, 'shr': lambda p, i: f'{p.word}.now', 'mut': lambda p, i: f'{p.word}.now {last(i)}', 'int': lambda p, i: p.word, 'bool': lambda p, i: p.word, 'sint': lambda p, i: p.word}
@@ -204,11 +204,11 @@ def walk(names, method, params, result, word):
 
 IMPORTS = """-- The value at the pointer is lent for the call of `{method}`, and comes back. Written by tools/exports.py.
 use Rattle.{crate}.proofs.Steps.{{{steps}}}
-{alloc}use Rattle.{lib}.specs.declared.{type}.{{{type}}}
-use Rattle.{lib}.specs.contracts.{type}.{{the_row as R}}
+{alloc}use Rattle.{lib}.specs.declared.{module}.{type}.{{{type}}}
+use Rattle.{lib}.specs.contracts.{module}.{type}.{{the_row as R}}
 use Rattle.{lib}.specs.{words}.{{{word}}}
-use Rattle.{lib}.specs.contracts.{type}.{method} as g
-use Rattle.{lib}.proofs.{type}.{method}.Met.{{met}}
+use Rattle.{lib}.specs.contracts.{module}.{type}.{method} as g
+use Rattle.{lib}.proofs.{module}.{type}.{method}.Met.{{met}}
 use Rattle.{crate}.specs.contracts.{prefix}_{method} as f
 use Rattle.{crate}.proofs.{prefix}_{method}.Statement.{{statement}}
 use Rattle.{crate}.proofs.{prefix}_{method}.Code as code

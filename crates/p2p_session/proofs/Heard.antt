@@ -1,7 +1,7 @@
 -- A frame that was taken by equal bytes.
 use Rattle.std.proofs.Common.{◌≡◌, ℕ, Bool, List, Result, Ok, sym, subst}
 use Rattle.p2p_directory.specs.Nodes.{AnswersFrameBy, IsReceivedBy}
-use Rattle.p2p_directory.specs.declared.node.Received.{Received}
+use Rattle.p2p_directory.specs.declared.node.received.Received.{Received}
 use Rattle.p2p_session.specs.declared.refusal.Refusal.{Refusal}
 use Rattle.p2p_session.specs.contracts.key.KeyOrd.TheImpl.{ghosts as order}
 use Rattle.p2p_session.specs.Views.{View, wire}

@@ -1,7 +1,7 @@
 -- Setups, as they are read.
 use Rattle.std.proofs.Common.{◌≡◌, ◌⊎◌, inl, ℕ, List, true, Ok, Option, None, refl, arith}
 use Rattle.std.specs.Duration.{as_nanos}
-use Rattle.p2p_directory.specs.declared.node.Setup.{Setup}
+use Rattle.p2p_directory.specs.declared.node.setup.Setup.{Setup}
 use Rattle.p2p_session.specs.declared.key.Key.{Key}
 use Rattle.p2p_session.specs.declared.key.Signature.{Signature}
 use Rattle.p2p_session.specs.declared.refusal.Refusal.{Refusal}

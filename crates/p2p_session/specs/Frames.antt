@@ -18,8 +18,8 @@ use Rattle.p2p_tracker.specs.declared.directory.Metadata.TheVariants.{Dialer, Li
 use Rattle.p2p_directory.specs.Held.{held_of}
 use Rattle.p2p_directory.specs.Nodes.{standing_of, AnswersFrameBy, IsReceivedBy}
 use Rattle.p2p_directory.specs.Received.{are_miscounted, IsWantOfMemory}
-use Rattle.p2p_directory.specs.declared.node.Received.{Received}
-use Rattle.p2p_directory.specs.declared.node.Received.TheVariants as received
+use Rattle.p2p_directory.specs.declared.node.received.Received.{Received}
+use Rattle.p2p_directory.specs.declared.node.received.Received.TheVariants as received
 use Rattle.p2p_session.specs.declared.key.Key.{Key}
 use Rattle.p2p_session.specs.declared.key.Signature.{Signature}
 use Rattle.p2p_session.specs.declared.key.TheConstants.{KEY_SIZE, SIGNATURE_SIZE}

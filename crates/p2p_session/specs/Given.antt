@@ -27,7 +27,7 @@ use Rattle.p2p_session.specs.declared.refusal.Refusal.TheVariants as refusal
 use Rattle.p2p_session.specs.contracts.key.KeyOrd.TheImpl.{ghosts as order}
 use Rattle.p2p_session.specs.declared.setup.Numbers.{Numbers}
 use Rattle.p2p_session.specs.Answers.{key_bytes, keys_bytes, signature_bytes}
-use Rattle.p2p_directory.specs.declared.node.Setup.{Setup}
+use Rattle.p2p_directory.specs.declared.node.setup.Setup.{Setup}
 use Rattle.p2p_discovery.specs.declared.types.ingress.Ingress.{Ingress}
 use Rattle.p2p_discovery.specs.Ingress.{IsIngress, ingress_spelling}
 use Rattle.std.specs.Int.NonZero.{non_zero_usize_get}

@@ -2,7 +2,7 @@
 use Rattle.std.specs.Prelude.{◌≡◌, ◌⊎◌, List, [], ◌∷◌, Option, Some, None}
 use Rattle.p2p_tracker.specs.Calls.{Call}
 use Rattle.p2p_directory.specs.Nodes.{NodeStandsAt, AtEach, made_of}
-use Rattle.p2p_directory.specs.declared.node.Setup.{Setup}
+use Rattle.p2p_directory.specs.declared.node.setup.Setup.{Setup}
 use Rattle.p2p_session.specs.declared.key.Key.{Key}
 use Rattle.p2p_session.specs.declared.key.Signature.{Signature}
 use Rattle.p2p_session.specs.contracts.key.KeyOrd.TheImpl.{ghosts as order}

@@ -5,7 +5,7 @@ ghost use Rattle.p2p_discovery.specs.Reading.{IsBytes, whole};
 ghost use Rattle.p2p_discovery.specs.declared.data.Data.{Data};
 ghost use Rattle.p2p_discovery.specs.declared.discovery.Info.{Info};
 ghost use Rattle.p2p_discovery.specs.declared.discovery.Payload.TheVariants as said;
-ghost use Rattle.p2p_directory.specs.declared.node.Received.TheVariants as received;
+ghost use Rattle.p2p_directory.specs.declared.node.received.Received.TheVariants as received;
 ghost use Rattle.p2p_session.specs.Answers.{key_bytes};
 ghost use Rattle.p2p_session.specs.Frames.{Hears, ReceivesOf, greeter_in};
 ghost use Rattle.p2p_session.specs.Given.{Asked};
@@ -14,7 +14,7 @@ ghost use Rattle.p2p_session.specs.contracts.key.KeyOrd.TheImpl.{ghosts as order
 ghost use Rattle.p2p_directory.specs.Nodes.{StandsSomewhere};
 ghost use Rattle.p2p_session.specs.Sessions.{InitsBy, Serves};
 ghost use Rattle.p2p_session.specs.Views.{View, wire};
-ghost use Rattle.p2p_session.specs.declared.Session.{Session};
+ghost use Rattle.p2p_session.specs.declared.session.Session.{Session};
 ghost use Rattle.p2p_session.specs.declared.key.Key.{Key};
 ghost use Rattle.p2p_session.specs.declared.key.Signature.{Signature};
 ghost use Rattle.p2p_session.specs.declared.setup.Numbers.{Numbers};

@@ -24,8 +24,8 @@ ghost use Rattle.p2p_session.specs.Sessions.{TellsTracked, TellsUnblock, TellsUp
 ghost use Rattle.p2p_session.specs.Sessions.{Tracks, Unblocks, UpdatesPeers};
 ghost use Rattle.p2p_session.specs.Addresses.{TellsGlobal};
 ghost use Rattle.p2p_session.specs.Addresses.{TellsValid};
-ghost use Rattle.p2p_session.specs.declared.Session.{Session};
-ghost use Rattle.p2p_session.specs.contracts.Session.{the_row};
+ghost use Rattle.p2p_session.specs.declared.session.Session.{Session};
+ghost use Rattle.p2p_session.specs.contracts.session.Session.{the_row};
 
 use p2p_session::Session;
 use std::alloc::Global;

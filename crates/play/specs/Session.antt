@@ -3,7 +3,7 @@ use Rattle.std.specs.Prelude.{ℕ, ◌≡◌, ◌<◌, ◌⊎◌, List, [], ◌�
 use Rattle.std.specs.Prelude.{slice_set, string_bytes}
 use Rattle.std.specs.List.{All}
 use Rattle.std.specs.declared.cmp.Ordering.{Ordering}
-use Rattle.p2p_directory.specs.declared.node.Setup.{Setup}
+use Rattle.p2p_directory.specs.declared.node.setup.Setup.{Setup}
 use Rattle.p2p_directory.specs.Network.{IsAdded, ReplacesAt}
 use Rattle.p2p_directory.specs.Nodes.{NodeView}
 use Rattle.play.specs.declared.session.label.Label.{Label}

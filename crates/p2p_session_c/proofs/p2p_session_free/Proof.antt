@@ -5,10 +5,10 @@ use denote.Memory.{lone}
 use Rattle.std.specs.contracts.alloc.Global.{the_row as A}
 use Rattle.std.proofs.alloc.Global.TheLaws as alloc_laws
 use Rattle.std.specs.contracts.impls.GlobalAllocator.TheImpl as I
-use Rattle.p2p_session.specs.contracts.Session.{the_row as R}
-use Rattle.p2p_session.proofs.Session.TheLaws as laws
-use Rattle.p2p_session.specs.contracts.Session.end as g
-use Rattle.p2p_session.proofs.Session.end.Met.{met}
+use Rattle.p2p_session.specs.contracts.session.Session.{the_row as R}
+use Rattle.p2p_session.proofs.session.Session.TheLaws as laws
+use Rattle.p2p_session.specs.contracts.session.Session.end as g
+use Rattle.p2p_session.proofs.session.Session.end.Met.{met}
 use Rattle.p2p_session_c.specs.contracts.p2p_session_free as f
 use Rattle.p2p_session_c.proofs.p2p_session_free.Statement.{statement}
 use Rattle.p2p_session_c.proofs.p2p_session_free.Code as code
@@ -41,7 +41,7 @@ p2p_session_free_spec 𝓤 𝓛 𝓜 𝓡 wired =
     let G = triple_of 𝓛 g.signature (g.spec 𝓛 𝓜.mem 𝓡.returns) in
     let y : G.Ghost = ((tt, tt, tt, (before, (alloc, tt)), (v ∷ [], (u ∷ [], tt))), tt) in
     move ! (2 ∷ []) $ nothing ! $ move ! (1 ∷ 0 ∷ []) $ join ! $ move ! (1 ∷ 0 ∷ []) $ join ! $ nothing ! $ join ! $ nothing ! $ move ! (1 ∷ 0 ∷ []) $ use2 𝓛 (raw (G.pre y)) (id⊢ 𝓤 _) $
-    calls_at ! (framed 𝓤 𝓛.H 𝓜 (tables 𝓤 𝓛.H 𝓜 𝓡 𝓡.env)) G (met 𝓤 𝓛 𝓜 𝓡 (code.calls-p2p_session::Session::end 𝓡.env wired)) y (and_then ! (get ! refl) (and_then ! (get ! refl) (no_more !))) (λ w.
+    calls_at ! (framed 𝓤 𝓛.H 𝓜 (tables 𝓤 𝓛.H 𝓜 𝓡 𝓡.env)) G (met 𝓤 𝓛 𝓜 𝓡 (code.calls-p2p_session::session::Session::end 𝓡.env wired)) y (and_then ! (get ! refl) (and_then ! (get ! refl) (no_more !))) (λ w.
     use1 𝓛 (later (some (λ (r : Unit {0}). (‵ ftrue ⊛ ‵ (unit.own_val r (w ∷ []))) ⊛
     some (λ (xs : Lasts g.ended tt (before, (alloc, tt))). ‵ (lasts g.ended tt (before, (alloc, tt)) xs) ⊛ ‵ ftrue)))) (id⊢ 𝓤 _) $
     await ! tt $ pick ! (λ r. split ! $ split ! $ drop ! $ feq_l ! (λ is_unit. drop ! $

@@ -3,11 +3,11 @@ use Rattle.p2p_session_c.proofs.Steps.{◌≡◌, ℕ, List, [], ◌∷◌, ◌+
 use Rattle.std.specs.contracts.alloc.Global.{the_row as A}
 use Rattle.std.proofs.alloc.Global.TheLaws as alloc_laws
 use Rattle.std.specs.contracts.impls.GlobalAllocator.TheImpl as I
-use Rattle.p2p_session.specs.declared.Session.{Session}
-use Rattle.p2p_session.specs.contracts.Session.{the_row as R}
+use Rattle.p2p_session.specs.declared.session.Session.{Session}
+use Rattle.p2p_session.specs.contracts.session.Session.{the_row as R}
 use Rattle.p2p_session.specs.Sessions.{Inits}
-use Rattle.p2p_session.specs.contracts.Session.init as g
-use Rattle.p2p_session.proofs.Session.init.Met.{met}
+use Rattle.p2p_session.specs.contracts.session.Session.init as g
+use Rattle.p2p_session.proofs.session.Session.init.Met.{met}
 use Rattle.p2p_session_c.specs.contracts.p2p_session_init as f
 use Rattle.p2p_session_c.proofs.p2p_session_init.Statement.{statement}
 use Rattle.p2p_session_c.proofs.p2p_session_init.Code as code
@@ -99,7 +99,7 @@ p2p_session_init_spec 𝓤 𝓛 𝓜 𝓡 wired =
     let y : G.Ghost = (((κ, (κ0, (κ1, (κ2, tt)))), (full_share, (q0, (q1, (q2, tt)))), tt, (r γ, (arg-alloc, (arg-allow_private_ips, (arg-allow_dns, (arg-max_sets, (arg-dial_fail_limit, (arg-cooldown_seconds, (arg-cooldown_nanos, (arg-block_seconds, (arg-block_nanos, (arg-max_bit_vec, (arg-max_peers, (arg-max_data_length, (arg-peer_gossip_max_count, (arg-bound_seconds, (arg-bound_nanos, (arg-namespace, (arg-bootstrappers, (arg-myself, tt))))))))))))))))))), (vptr b o ∷ [], (u ∷ [], (bool_vals arg-allow_private_ips, (bool_vals arg-allow_dns, (uint_vals w64 arg-max_sets, (uint_vals w64 arg-dial_fail_limit, (uint_vals w64 arg-cooldown_seconds, (uint_vals w32 arg-cooldown_nanos, (uint_vals w64 arg-block_seconds, (uint_vals w32 arg-block_nanos, (uint_vals w64 arg-max_bit_vec, (uint_vals w64 arg-max_peers, (uint_vals w64 arg-max_data_length, (uint_vals w64 arg-peer_gossip_max_count, (uint_vals w64 arg-bound_seconds, (uint_vals w32 arg-bound_nanos, (shr_slice_vals arg-namespace, (shr_slice_vals arg-bootstrappers, (shr_slice_vals arg-myself, tt)))))))))))))))))))), tt) in
     move ! (4 ∷ 3 ∷ []) $ join ! $ move ! (4 ∷ 0 ∷ []) $ join ! $ move ! (4 ∷ 0 ∷ []) $ join ! $ move ! (4 ∷ 0 ∷ []) $ join ! $ move ! (4 ∷ 0 ∷ []) $ join ! $ move ! (4 ∷ 0 ∷ []) $ join ! $ move ! (4 ∷ 0 ∷ []) $ join ! $ move ! (4 ∷ 0 ∷ []) $ join ! $ move ! (4 ∷ 0 ∷ []) $ join ! $ move ! (4 ∷ 0 ∷ []) $ join ! $ move ! (4 ∷ 0 ∷ []) $ join ! $ move ! (4 ∷ 0 ∷ []) $ join ! $ move ! (4 ∷ 0 ∷ []) $ join ! $ move ! (4 ∷ 0 ∷ []) $ join ! $ move ! (4 ∷ 0 ∷ []) $ join ! $ move ! (4 ∷ 0 ∷ []) $ join ! $ move ! (4 ∷ 0 ∷ []) $ join ! $ move ! (4 ∷ 0 ∷ []) $ join ! $
     move ! (1 ∷ 0 ∷ []) $ join ! $ move ! (2 ∷ 3 ∷ []) $ join ! $ join ! $ nothing ! $ move ! (1 ∷ 0 ∷ []) $ use2 𝓛 (raw (G.pre y)) (id⊢ 𝓤 _) $
-    calls_at ! (framed 𝓤 𝓛.H 𝓜 (tables 𝓤 𝓛.H 𝓜 𝓡 𝓡.env)) G (met 𝓤 𝓛 𝓜 𝓡 (code.calls-p2p_session::Session::init 𝓡.env wired)) y
+    calls_at ! (framed 𝓤 𝓛.H 𝓜 (tables 𝓤 𝓛.H 𝓜 𝓡 𝓡.env)) G (met 𝓤 𝓛 𝓜 𝓡 (code.calls-p2p_session::session::Session::init 𝓡.env wired)) y
     (and_then ! (get ! refl) (and_then ! (get ! refl) (and_then ! (get ! refl) (and_then ! (get ! refl) (and_then ! (get ! refl) (and_then ! (get ! refl) (and_then ! (get ! refl) (and_then ! (get ! refl) (and_then ! (get ! refl) (and_then ! (get ! refl) (and_then ! (get ! refl) (and_then ! (get ! refl) (and_then ! (get ! refl) (and_then ! (get ! refl) (and_then ! (get ! refl) (and_then ! (get ! refl) (and_then ! (get ! refl) (and_then ! (get ! refl) (and_then ! (get ! refl) (no_more !)))))))))))))))))))) (λ v.
     use1 𝓛 (later (some (λ (t : ℕ). ((‵ (flft κ full_share) ⊛ ‵ (flft κ0 q0) ⊛ ‵ (flft κ1 q1) ⊛ ‵ (flft κ2 q2) ⊛ ‵ ftrue) ⊛ ‵ (u64.own_val t (v ∷ []))) ⊛
     some (λ (xs : Lasts g.ended y.0.0 y.0.3). ‵ (lasts g.ended y.0.0 y.0.3 xs) ⊛ raw (fact 𝓤 (Inits arg-allow_private_ips arg-allow_dns arg-max_sets arg-dial_fail_limit arg-cooldown_seconds arg-cooldown_nanos arg-block_seconds arg-block_nanos arg-max_bit_vec arg-max_peers arg-max_data_length arg-peer_gossip_max_count arg-bound_seconds arg-bound_nanos arg-namespace.now arg-bootstrappers.now arg-myself.now before xs.0 t)))))) (id⊢ 𝓤 _) $

@@ -3,12 +3,12 @@ use Rattle.p2p_session_c.proofs.Steps.{◌≡◌, List, [], ◌∷◌, ◌++◌,
 use Rattle.std.specs.contracts.alloc.Global.{the_row as A}
 use Rattle.std.proofs.alloc.Global.TheLaws as alloc_laws
 use Rattle.std.specs.contracts.impls.GlobalAllocator.TheImpl as I
-use Rattle.p2p_session.specs.declared.Session.{Session}
-use Rattle.p2p_session.specs.contracts.Session.{the_row as R}
-use Rattle.p2p_session.proofs.Session.TheLaws as laws
+use Rattle.p2p_session.specs.declared.session.Session.{Session}
+use Rattle.p2p_session.specs.contracts.session.Session.{the_row as R}
+use Rattle.p2p_session.proofs.session.Session.TheLaws as laws
 use Rattle.p2p_session.specs.Sessions.{IsFresh}
-use Rattle.p2p_session.specs.contracts.Session.new as g
-use Rattle.p2p_session.proofs.Session.new.Met.{met}
+use Rattle.p2p_session.specs.contracts.session.Session.new as g
+use Rattle.p2p_session.proofs.session.Session.new.Met.{met}
 use Rattle.p2p_session_c.specs.contracts.p2p_session_new as f
 use Rattle.p2p_session_c.proofs.p2p_session_new.Statement.{statement}
 use Rattle.p2p_session_c.proofs.p2p_session_new.Code as code
@@ -33,7 +33,7 @@ p2p_session_new_spec 𝓤 𝓛 𝓜 𝓡 wired =
     let G = triple_of 𝓛 g.signature (g.spec 𝓛 𝓜.mem 𝓡.returns) in
     let y : G.Ghost = ((tt, tt, tt, (alloc, tt), (u ∷ [], tt)), tt) in
     move ! (1 ∷ []) $ nothing ! $ move ! (1 ∷ 0 ∷ []) $ join ! $ nothing ! $ join ! $ nothing ! $ move ! (1 ∷ 0 ∷ []) $ use2 𝓛 (raw (G.pre y)) (id⊢ 𝓤 _) $
-    calls_at ! (framed 𝓤 𝓛.H 𝓜 (tables 𝓤 𝓛.H 𝓜 𝓡 𝓡.env)) G (met 𝓤 𝓛 𝓜 𝓡 (code.calls-p2p_session::Session::new 𝓡.env wired)) y (and_then ! (get ! refl) (no_more !)) (λ v.
+    calls_at ! (framed 𝓤 𝓛.H 𝓜 (tables 𝓤 𝓛.H 𝓜 𝓡 𝓡.env)) G (met 𝓤 𝓛 𝓜 𝓡 (code.calls-p2p_session::session::Session::new 𝓡.env wired)) y (and_then ! (get ! refl) (no_more !)) (λ v.
     use1 𝓛 (later (some (λ (r : Session). (‵ ftrue ⊛ ‵ (R.own_val r (v ∷ []))) ⊛
     some (λ (ws : Lasts g.ended tt (alloc, tt)). ‵ (lasts g.ended tt (alloc, tt) ws) ⊛ raw (fact 𝓤 (IsFresh r)))))) (id⊢ 𝓤 _) $
     await ! tt $ pick ! (λ r. split ! $ split ! $ drop ! $ move ! (1 ∷ []) $ pick ! (λ ws. split ! $ drop ! $ heard ! _ (λ empty.

@@ -3,11 +3,11 @@ use Rattle.p2p_session_c.proofs.Steps.{◌≡◌, ℕ, List, [], ◌∷◌, ◌+
 use Rattle.std.specs.contracts.alloc.Global.{the_row as A}
 use Rattle.std.proofs.alloc.Global.TheLaws as alloc_laws
 use Rattle.std.specs.contracts.impls.GlobalAllocator.TheImpl as I
-use Rattle.p2p_session.specs.declared.Session.{Session}
-use Rattle.p2p_session.specs.contracts.Session.{the_row as R}
+use Rattle.p2p_session.specs.declared.session.Session.{Session}
+use Rattle.p2p_session.specs.contracts.session.Session.{the_row as R}
 use Rattle.p2p_session.specs.Sessions.{Receives}
-use Rattle.p2p_session.specs.contracts.Session.receive as g
-use Rattle.p2p_session.proofs.Session.receive.Met.{met}
+use Rattle.p2p_session.specs.contracts.session.Session.receive as g
+use Rattle.p2p_session.proofs.session.Session.receive.Met.{met}
 use Rattle.p2p_session_c.specs.contracts.p2p_session_receive as f
 use Rattle.p2p_session_c.proofs.p2p_session_receive.Statement.{statement}
 use Rattle.p2p_session_c.proofs.p2p_session_receive.Code as code
@@ -65,7 +65,7 @@ p2p_session_receive_spec 𝓤 𝓛 𝓜 𝓡 wired =
     let y : G.Ghost = (((κ, (κ0, (κ1, (κ2, tt)))), (full_share, (q0, (q1, (q2, tt)))), tt, (r γ, (arg-alloc, (arg-frame, (arg-seconds, (arg-nanos, (arg-verdicts, (arg-out, tt))))))), (vptr b o ∷ [], (u ∷ [], (shr_slice_vals arg-frame, (uint_vals w64 arg-seconds, (uint_vals w32 arg-nanos, (shr_slice_vals arg-verdicts, (mut_slice_vals arg-out, tt)))))))), tt) in
     move ! (4 ∷ 3 ∷ []) $ join ! $ move ! (4 ∷ 0 ∷ []) $ join ! $ move ! (4 ∷ 0 ∷ []) $ join ! $ move ! (4 ∷ 0 ∷ []) $ join ! $ move ! (4 ∷ 0 ∷ []) $ join ! $ move ! (4 ∷ 0 ∷ []) $ join ! $
     move ! (1 ∷ 0 ∷ []) $ join ! $ move ! (2 ∷ 3 ∷ []) $ join ! $ join ! $ nothing ! $ move ! (1 ∷ 0 ∷ []) $ use2 𝓛 (raw (G.pre y)) (id⊢ 𝓤 _) $
-    calls_at ! (framed 𝓤 𝓛.H 𝓜 (tables 𝓤 𝓛.H 𝓜 𝓡 𝓡.env)) G (met 𝓤 𝓛 𝓜 𝓡 (code.calls-p2p_session::Session::receive 𝓡.env wired)) y
+    calls_at ! (framed 𝓤 𝓛.H 𝓜 (tables 𝓤 𝓛.H 𝓜 𝓡 𝓡.env)) G (met 𝓤 𝓛 𝓜 𝓡 (code.calls-p2p_session::session::Session::receive 𝓡.env wired)) y
     (and_then ! (get ! refl) (and_then ! (get ! refl) (and_then ! (get ! refl) (and_then ! (get ! refl) (and_then ! (get ! refl) (and_then ! (get ! refl) (and_then ! (get ! refl) (no_more !)))))))) (λ v.
     use1 𝓛 (later (some (λ (t : ℕ). ((‵ (flft κ full_share) ⊛ ‵ (flft κ0 q0) ⊛ ‵ (flft κ1 q1) ⊛ ‵ (flft κ2 q2) ⊛ ‵ ftrue) ⊛ ‵ (u64.own_val t (v ∷ []))) ⊛
     some (λ (xs : Lasts g.ended y.0.0 y.0.3). ‵ (lasts g.ended y.0.0 y.0.3 xs) ⊛ raw (fact 𝓤 (Receives arg-frame.now arg-seconds arg-nanos arg-verdicts.now arg-out.now xs.1.1.1.1.1.1.0 before xs.0 t)))))) (id⊢ 𝓤 _) $

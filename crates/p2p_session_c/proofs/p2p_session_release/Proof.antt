@@ -1,10 +1,10 @@
 -- The value at the pointer is lent for the call of `release`, and comes back. Written by tools/exports.py.
 use Rattle.p2p_session_c.proofs.Steps.{◌≡◌, ℕ, List, [], ◌∷◌, ◌++◌, refl, sym, ap, ◌∙◌, w64, MutBor, proved_at, full_share, id⊢, sep, sem, ftrue, flft, flent, named, Val, vptr, fact, tables, ‵, raw, prop, at_ret, ◌⊛◌, some, later, ◌$◌, ◌∵◌, !, qed, done, drop, move, keep, use1, use2, use3, split, join, fsplit, pick, await, rewrite, regoal, suffices, frame, group, show, enter, of_opd, addr, stop, from, first, blocks, exec, no_more, and_then, returns, env, alloc_all, pass_all, free_all, look_at, get, through, sets, sets_last, lands_as, u8, u64, yes, shows, Is, uint_Lawful, Ptr, RawPtr, block_ptr, ptr_val, lies_at, in_a_block, rawptr_Tells, MutRef, ShrSlice, shr_slice_vals, shr_slice_Tells, SliceRefOf, plain, types_at, owns, nothing, heard, peeks, calls_at, lasts, Lasts, triple_of, Stays, walk_of, says, stay_dropped, Goes-dropped, ends_at, framed, lft_new, lft_end, lends_ref, ref_back, Body, mem, WpFn}
-use Rattle.p2p_session.specs.declared.Session.{Session}
-use Rattle.p2p_session.specs.contracts.Session.{the_row as R}
+use Rattle.p2p_session.specs.declared.session.Session.{Session}
+use Rattle.p2p_session.specs.contracts.session.Session.{the_row as R}
 use Rattle.p2p_session.specs.Sessions.{Releases}
-use Rattle.p2p_session.specs.contracts.Session.release as g
-use Rattle.p2p_session.proofs.Session.release.Met.{met}
+use Rattle.p2p_session.specs.contracts.session.Session.release as g
+use Rattle.p2p_session.proofs.session.Session.release.Met.{met}
 use Rattle.p2p_session_c.specs.contracts.p2p_session_release as f
 use Rattle.p2p_session_c.proofs.p2p_session_release.Statement.{statement}
 use Rattle.p2p_session_c.proofs.p2p_session_release.Code as code
@@ -44,7 +44,7 @@ p2p_session_release_spec 𝓤 𝓛 𝓜 𝓡 wired =
     let y : G.Ghost = (((κ, (κ0, tt)), (full_share, (q0, tt)), tt, (r γ, (arg-peer, tt)), (vptr b o ∷ [], (shr_slice_vals arg-peer, tt))), tt) in
     move ! (4 ∷ 3 ∷ []) $ join ! $
     move ! (1 ∷ 0 ∷ []) $ join ! $ move ! (2 ∷ 3 ∷ []) $ join ! $ join ! $ nothing ! $ move ! (1 ∷ 0 ∷ []) $ use2 𝓛 (raw (G.pre y)) (id⊢ 𝓤 _) $
-    calls_at ! (framed 𝓤 𝓛.H 𝓜 (tables 𝓤 𝓛.H 𝓜 𝓡 𝓡.env)) G (met 𝓤 𝓛 𝓜 𝓡 (code.calls-p2p_session::Session::release 𝓡.env wired)) y
+    calls_at ! (framed 𝓤 𝓛.H 𝓜 (tables 𝓤 𝓛.H 𝓜 𝓡 𝓡.env)) G (met 𝓤 𝓛 𝓜 𝓡 (code.calls-p2p_session::session::Session::release 𝓡.env wired)) y
     (and_then ! (get ! refl) (and_then ! (get ! refl) (no_more !))) (λ v.
     use1 𝓛 (later (some (λ (t : ℕ). ((‵ (flft κ full_share) ⊛ ‵ (flft κ0 q0) ⊛ ‵ ftrue) ⊛ ‵ (u64.own_val t (v ∷ []))) ⊛
     some (λ (xs : Lasts g.ended y.0.0 y.0.3). ‵ (lasts g.ended y.0.0 y.0.3 xs) ⊛ raw (fact 𝓤 (Releases arg-peer.now before xs.0 t)))))) (id⊢ 𝓤 _) $

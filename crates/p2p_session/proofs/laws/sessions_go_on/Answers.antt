@@ -7,7 +7,7 @@ use Rattle.p2p_directory.specs.Nodes.{made_of, standing_in, calls_with, StandsSo
 use Rattle.p2p_directory.specs.Received.{applied_with, received_by}
 use Rattle.p2p_directory.specs.Run.{next, was_made, world_after}
 use Rattle.p2p_session.specs.contracts.key.KeyOrd.TheImpl.{ghosts as order}
-use Rattle.p2p_directory.specs.declared.node.Received.{Received}
+use Rattle.p2p_directory.specs.declared.node.received.Received.{Received}
 use Rattle.p2p_session.specs.declared.key.Key.{Key}
 use Rattle.p2p_session.specs.declared.key.Signature.{Signature}
 use Rattle.p2p_session.specs.declared.refusal.Refusal.{Refusal}
@@ -16,7 +16,7 @@ use Rattle.p2p_session.specs.Given.{Asked, moment_at}
 use Rattle.p2p_session.specs.Laws.{Goes, GoOn, IsNext}
 use Rattle.p2p_session.specs.Sessions.{Serves, IsMade}
 use Rattle.p2p_session.specs.Views.{View, wire}
-use Rattle.p2p_directory.specs.declared.node.Setup.{Setup}
+use Rattle.p2p_directory.specs.declared.node.setup.Setup.{Setup}
 use Rattle.p2p_session.proofs.laws.sessions_go_on.Goals as goal
 
 stays : (o : Option View) → Goes o o

@@ -1,7 +1,7 @@
 use Rattle.std.proofs.Common.{refl, sym, ◌∙◌}
 use Rattle.p2p_session.specs.declared.refusal.Refusal.TheVariants.{BadSetting, Memory}
 use Rattle.p2p_session.proofs.Setups.{number_not_one, refused_memory}
-use Rattle.p2p_session.proofs.Session.init.Goals as goal
+use Rattle.p2p_session.proofs.session.Session.init.Goals as goal
 
 pub returns-in-Some : goal.returns-in-Some
 returns-in-Some c = record {

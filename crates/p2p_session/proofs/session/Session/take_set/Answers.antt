@@ -1,7 +1,7 @@
 use Rattle.std.proofs.Common.{subst}
 use Rattle.p2p_session.specs.Sessions.{HasRoom}
 use Rattle.p2p_session.proofs.Rooms.{track_whole}
-use Rattle.p2p_session.proofs.Session.take_set.Goals as goal
+use Rattle.p2p_session.proofs.session.Session.take_set.Goals as goal
 
 pub returns-in-Ok-clause-whole : goal.returns-in-Ok-clause-whole
 returns-in-Ok-clause-whole c = λ room. track_whole c.in-Some.node.directory c.track-reply.result c.args.torn.now

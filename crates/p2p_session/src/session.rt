@@ -1,0 +1,194 @@
+//! A session: a node, and the calls of a host to it.
+
+ghost use Rattle.std.specs.Prelude.{◌≡◌, ◌<◌, ◌-◌, ◌^◌, None};
+ghost use Rattle.std.specs.Int.NonZero.{non_zero_usize_get};
+ghost use Rattle.p2p_session.specs.Refusals.{number_of};
+ghost use Rattle.p2p_session.specs.declared.refusal.Refusal.TheVariants.{Memory};
+ghost use Rattle.p2p_session.specs.Given.{asked};
+ghost use Rattle.p2p_session.specs.Sessions.{IsFresh, Serves, Inits, IsMade, Asks};
+ghost use Rattle.p2p_session.specs.Sessions.{Checks, Receives};
+
+use crate::checked::Checked;
+use crate::frames;
+use crate::key::Key;
+use crate::refusal::Refusal;
+use crate::reply::{tell, tell_frame};
+use crate::setup::{Numbers, setup};
+use p2p_directory::node::{Node, Setup};
+use p2p_directory::run::Command;
+use std::alloc::Global;
+
+mod calls;
+mod questions;
+
+/// A node, once [`Session::init`] created one, and the frame that [`Session::check`] decoded last. It
+/// must be consumed by [`Session::end`].
+pub struct Session {
+    node: Option<Node<Key>>,
+    checked: Checked,
+}
+
+impl Session {
+    /// A session with no node. It allocates nothing.
+    pub fn new(_alloc: Global) -> Session
+        ensures { IsFresh result }
+    {
+        Session {
+            node: None,
+            checked: Checked::new(),
+        }
+    }
+
+    /// Ends the session, and frees all that it holds.
+    pub fn end(self, _alloc: Global) {
+        let Session { node, checked: _ } = self;
+        if let Some(node) = node {
+            node.finish();
+        }
+    }
+
+    /// Creates the node of a session that has none, with these settings. Returns 1. A peer's name
+    /// is its key; the info, and the ingress after each bootstrapper's key, are encoded.
+    #[allow(clippy::too_many_arguments)]
+    pub fn init(
+        &mut self,
+        alloc: Global,
+        allow_private_ips: bool,
+        allow_dns: bool,
+        max_sets: u64,
+        dial_fail_limit: u64,
+        cooldown_seconds: u64,
+        cooldown_nanos: u32,
+        block_seconds: u64,
+        block_nanos: u32,
+        max_bit_vec: u64,
+        max_peers: u64,
+        max_data_length: u64,
+        peer_gossip_max_count: u64,
+        bound_seconds: u64,
+        bound_nanos: u32,
+        namespace: &[u8],
+        bootstrappers: &[u8],
+        myself: &[u8],
+    ) -> u64
+        ensures { Inits allow_private_ips allow_dns max_sets dial_fail_limit
+            cooldown_seconds cooldown_nanos block_seconds block_nanos
+            max_bit_vec max_peers max_data_length peer_gossip_max_count bound_seconds bound_nanos
+            namespace.now bootstrappers.now myself.now self.old self.new result }
+    {
+        let numbers = Numbers {
+            allow_private_ips,
+            allow_dns,
+            max_sets,
+            dial_fail_limit,
+            cooldown: (cooldown_seconds, cooldown_nanos),
+            block: (block_seconds, block_nanos),
+            max_bit_vec,
+            max_peers,
+            max_data_length,
+            peer_gossip_max_count,
+            bound: (bound_seconds, bound_nanos),
+        };
+        if let Some(_node) = &self.node {
+            return Refusal::BadSetting.number();
+        }
+        match setup(alloc, &numbers, namespace, bootstrappers, myself) {
+            Ok(setup) => self.make(alloc, setup),
+            Err(refusal) => refusal.number(),
+        }
+    }
+
+    // Creates the node.
+    fn make(&mut self, alloc: Global, setup: Setup<Key>) -> u64
+        requires none { self.old.node ≡ None }
+        requires sets { non_zero_usize_get setup.cfg.max_sets < 2 ^ 64 - 1 }
+        requires bits { setup.payload.max_bit_vec < 2 ^ 32 }
+        ensures made { result ≡ 1 → IsMade self.new.node setup }
+        ensures refused { ¬ (result ≡ 1) → (self.new.node ≡ None) × (result ≡ number_of Memory) }
+    {
+        let Ok(node) = Node::new(alloc, setup) else {
+            return Refusal::Memory.number();
+        };
+        if let Some(old) = self.node.replace(node) {
+            old.finish();
+        }
+        1
+    }
+
+    /// The frame that asks for the wanted infos of the set at a position, or `None`.
+    pub fn ask(&mut self, place: u64, out: &mut [u8]) -> u64
+        ensures { Asks place out.old out.new self.old self.new result }
+    {
+        match &self.node {
+            Some(node) => tell_frame(node.ask(place as usize), out),
+            None => Refusal::NoNode.number(),
+        }
+    }
+
+    /// What has to be verified before [`Session::receive`]: how many infos the frame has, and those
+    /// whose signatures decide, each by the length of its signed bytes, its key, the signed bytes
+    /// and its signature. The list stops before the first info that is refused whatever its
+    /// signature is.
+    ///
+    /// A frame that encodes a payload is kept decoded, in place of the one before, so that
+    /// [`Session::receive`] needn't decode it again.
+    pub fn check(
+        &mut self,
+        alloc: Global,
+        frame: &[u8],
+        seconds: u64,
+        nanos: u32,
+        out: &mut [u8],
+    ) -> u64
+        ensures { Checks frame.now seconds nanos out.old out.new self.old self.new result }
+    {
+        match &self.node {
+            Some(node) => {
+                let time = (seconds, nanos);
+                frames::check(alloc, node, &mut self.checked, frame, time, out)
+            }
+            None => Refusal::NoNode.number(),
+        }
+    }
+
+    /// `Node::receive_by`: processes a frame, and writes the answer. `verdicts` has a byte for each
+    /// of its infos, which says whether its signature is valid. A frame that was checked last is
+    /// decoded already.
+    pub fn receive(
+        &mut self,
+        alloc: Global,
+        frame: &[u8],
+        seconds: u64,
+        nanos: u32,
+        verdicts: &[u8],
+        out: &mut [u8],
+    ) -> u64
+        ensures { Receives frame.now seconds nanos verdicts.now out.old out.new
+            self.old self.new result }
+    {
+        match &mut self.node {
+            Some(node) => {
+                let checked = &mut self.checked;
+                let time = (seconds, nanos);
+                frames::receive(alloc, node, checked, frame, time, verdicts, out)
+            }
+            None => Refusal::NoNode.number(),
+        }
+    }
+
+    // Serves the command, if there is a node and the command was decoded. Writes its reply.
+    fn serve(&mut self, command: Result<Command<Key>, Refusal>, out: &mut [u8]) -> u64
+        ensures { Serves (asked command) out.old out.new self.old.node self.new.node result }
+    {
+        let Some(node) = &mut self.node else {
+            return Refusal::NoNode.number();
+        };
+        match command {
+            Ok(command) => {
+                let reply = node.step(command);
+                tell(node.directory().allocator(), reply, out)
+            }
+            Err(refusal) => refusal.number(),
+        }
+    }
+}

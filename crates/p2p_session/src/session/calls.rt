@@ -1,0 +1,224 @@
+//! The calls that may change the node.
+
+ghost use Rattle.std.specs.Prelude.{◌≡◌};
+ghost use Rattle.p2p_session.specs.Given.{track_of};
+ghost use Rattle.p2p_session.specs.Sessions.{Serves, Dials, Listens, Connects, Releases, Blocks};
+ghost use Rattle.p2p_session.specs.Sessions.{Unblocks, Forgets, TellsRoom, room_refusal, Tracks};
+ghost use Rattle.p2p_session.specs.Sessions.{UpdatesPeers, HasRoom, IsWhole};
+
+use crate::given::{key, moment};
+use crate::key::Key;
+use crate::refusal::Refusal;
+use crate::reply::{tell, truth_of};
+use crate::session::Session;
+use crate::{answer, commands};
+use p2p_directory::directory::TrackedPeers;
+use std::alloc::Global;
+
+impl Session {
+    /// `Directory::track` of the sets of these keys. Returns the keys of the peers that must be
+    /// disconnected, or `None` if the set isn't accepted. The buffer must have
+    /// [`Session::track_room`] bytes.
+    pub fn track(
+        &mut self,
+        alloc: Global,
+        index: u64,
+        primary: &[u8],
+        secondary: &[u8],
+        torn: &mut [u8],
+    ) -> u64
+        ensures { Tracks index primary.now secondary.now torn.old torn.new
+            self.old self.new result }
+    {
+        if self.track_room() > torn.len() as u64 {
+            return self.without_room();
+        }
+        self.take_set(
+            alloc,
+            index,
+            commands::peers(alloc, primary, secondary),
+            torn,
+        )
+    }
+
+    // Registers the set, if there is a node and the peers were decoded. Writes who must be
+    // disconnected.
+    fn take_set(
+        &mut self,
+        alloc: Global,
+        index: u64,
+        peers: Result<TrackedPeers<Key>, Refusal>,
+        torn: &mut [u8],
+    ) -> u64
+        ensures served { Serves (track_of index peers) torn.old torn.new
+            self.old.node self.new.node result }
+        ensures whole { HasRoom self.old.node torn.old → IsWhole torn.old result }
+    {
+        let Some(node) = &mut self.node else {
+            return Refusal::NoNode.number();
+        };
+        match peers {
+            Ok(peers) => {
+                let reply = node.track(index, peers);
+                tell(alloc, reply, torn)
+            }
+            Err(refusal) => refusal.number(),
+        }
+    }
+
+    /// How long the buffer of `track` must be: the size of the keys of all peers with a record.
+    pub fn track_room(&mut self) -> u64
+        ensures { TellsRoom self.old self.new result }
+    {
+        match &self.node {
+            Some(node) => answer::size_of_keys(node.directory().tracked()),
+            None => Refusal::NoNode.number(),
+        }
+    }
+
+    // Why a call with too short a buffer isn't made.
+    fn without_room(&self) -> u64
+        ensures { result ≡ room_refusal self.now.node }
+    {
+        match &self.node {
+            Some(_node) => Refusal::NoRoom.number(),
+            None => Refusal::NoNode.number(),
+        }
+    }
+
+    /// `Directory::dial`. Returns 1 if the peer is reserved to be dialled, 0 if that isn't granted.
+    pub fn dial(
+        &mut self,
+        peer: &[u8],
+        seconds: u64,
+        nanos: u32,
+        draw_seconds: u64,
+        draw_nanos: u32,
+    ) -> u64
+        ensures { Dials peer.now seconds nanos draw_seconds draw_nanos self.old self.new result }
+    {
+        let Some(node) = &mut self.node else {
+            return Refusal::NoNode.number();
+        };
+        let now = moment(seconds, nanos);
+        let draw = moment(draw_seconds, draw_nanos);
+        match (key(peer), now, draw) {
+            (Ok(peer), Ok(now), Ok(draw)) => {
+                let reply = node.dial(&peer, now, draw);
+                tell(node.directory().allocator(), reply, &mut [])
+            }
+            (Err(refusal), _, _) | (Ok(_), Err(refusal), _) | (Ok(_), Ok(_), Err(refusal)) => {
+                refusal.number()
+            }
+        }
+    }
+
+    /// `Directory::listen`. Returns 1 if the inbound peer is reserved, 0 if that isn't granted.
+    pub fn listen(
+        &mut self,
+        peer: &[u8],
+        seconds: u64,
+        nanos: u32,
+        draw_seconds: u64,
+        draw_nanos: u32,
+    ) -> u64
+        ensures { Listens peer.now seconds nanos draw_seconds draw_nanos self.old self.new result }
+    {
+        let Some(node) = &mut self.node else {
+            return Refusal::NoNode.number();
+        };
+        let now = moment(seconds, nanos);
+        let draw = moment(draw_seconds, draw_nanos);
+        match (key(peer), now, draw) {
+            (Ok(peer), Ok(now), Ok(draw)) => {
+                let reply = node.listen(&peer, now, draw);
+                tell(node.directory().allocator(), reply, &mut [])
+            }
+            (Err(refusal), _, _) | (Ok(_), Err(refusal), _) | (Ok(_), Ok(_), Err(refusal)) => {
+                refusal.number()
+            }
+        }
+    }
+
+    /// `Directory::connect`. Returns 1, or `NotReserved`.
+    pub fn connect(&mut self, peer: &[u8], dialer: bool) -> u64
+        ensures { Connects peer.now dialer self.old self.new result }
+    {
+        let Some(node) = &mut self.node else {
+            return Refusal::NoNode.number();
+        };
+        match key(peer) {
+            Ok(peer) => {
+                let reply = node.connect(&peer, dialer);
+                tell(node.directory().allocator(), reply, &mut [])
+            },
+            Err(refusal) => refusal.number(),
+        }
+    }
+
+    /// `Directory::release` of what is held of the peer. Returns 1, or `NotHeld`.
+    pub fn release(&mut self, peer: &[u8]) -> u64
+        ensures { Releases peer.now self.old self.new result }
+    {
+        let Some(node) = &mut self.node else {
+            return Refusal::NoNode.number();
+        };
+        match key(peer) {
+            Ok(peer) => {
+                let reply = node.release(&peer);
+                tell(node.directory().allocator(), reply, &mut [])
+            },
+            Err(refusal) => refusal.number(),
+        }
+    }
+
+    /// `Directory::update_peers` with the infos that these bytes encode as a list. Returns 1. The
+    /// host must have made or verified the infos itself.
+    pub fn update_peers(&mut self, alloc: Global, infos: &[u8]) -> u64
+        ensures { UpdatesPeers infos.now self.old self.new result }
+    {
+        self.serve(commands::update_peers(alloc, infos), &mut [])
+    }
+
+    /// `Directory::block`. Returns 1 if the block takes effect, else 0.
+    pub fn block(&mut self, peer: &[u8], seconds: u64, nanos: u32) -> u64
+        ensures { Blocks peer.now seconds nanos self.old self.new result }
+    {
+        let Some(node) = &mut self.node else {
+            return Refusal::NoNode.number();
+        };
+        match (key(peer), moment(seconds, nanos)) {
+            (Ok(peer), Ok(now)) => {
+                let reply = node.block(&peer, now);
+                tell(node.directory().allocator(), reply, &mut [])
+            },
+            (Err(refusal), _) | (Ok(_), Err(refusal)) => refusal.number(),
+        }
+    }
+
+    /// `Directory::unblock_expired`. Returns 1 if a block ended, else 0.
+    pub fn unblock_expired(&mut self, seconds: u64, nanos: u32) -> u64
+        ensures { Unblocks seconds nanos self.old self.new result }
+    {
+        let Some(node) = &mut self.node else {
+            return Refusal::NoNode.number();
+        };
+        match moment(seconds, nanos) {
+            Ok(now) => truth_of(node.unblock_expired(now)),
+            Err(refusal) => refusal.number(),
+        }
+    }
+
+    /// `Directory::forget_cooled`. Returns how many cooldowns were forgotten.
+    pub fn forget_cooled(&mut self, seconds: u64, nanos: u32) -> u64
+        ensures { Forgets seconds nanos self.old self.new result }
+    {
+        let Some(node) = &mut self.node else {
+            return Refusal::NoNode.number();
+        };
+        match moment(seconds, nanos) {
+            Ok(now) => node.forget_cooled(now) as u64,
+            Err(refusal) => refusal.number(),
+        }
+    }
+}

@@ -1,0 +1,187 @@
+//! The calls that change nothing.
+
+ghost use Rattle.p2p_session.specs.Sessions.{TellsUnblock, TellsBlocked, TellsStatus, TellsPeerSet};
+ghost use Rattle.p2p_session.specs.Sessions.{TellsLatestIndex, TellsUpdate, TellsAll, TellsInfo};
+ghost use Rattle.p2p_session.specs.Sessions.{TellsBits, TellsEligible, TellsAcceptable};
+ghost use Rattle.p2p_session.specs.Sessions.{TellsDialable, TellsTracked, TellsInfos};
+ghost use Rattle.p2p_session.specs.Sessions.{TellsReservation, TellsRetained, TellsNextCooled};
+
+use crate::commands;
+use crate::given::{key, moment};
+use crate::refusal::Refusal;
+use crate::reply::{status_of, tell_held, tell_index, tell_moment, truth_of};
+use crate::session::Session;
+use p2p_directory::run::Command;
+use std::alloc::Global;
+
+impl Session {
+    /// `Directory::infos` for the encoded bits and their index. Returns the encoded list, or
+    /// `None`.
+    pub fn infos(
+        &mut self,
+        alloc: Global,
+        bits: &[u8],
+        seconds: u64,
+        nanos: u32,
+        out: &mut [u8],
+    ) -> u64
+        ensures { TellsInfos bits.now seconds nanos out.old out.new self.old self.new result }
+    {
+        self.serve(commands::infos_for(alloc, bits, seconds, nanos), out)
+    }
+
+    /// `Directory::next_unblock`: the time, or `None`.
+    pub fn next_unblock(&mut self, out: &mut [u8]) -> u64
+        ensures { TellsUnblock out.old out.new self.old self.new result }
+    {
+        let Some(node) = &self.node else {
+            return Refusal::NoNode.number();
+        };
+        tell_moment(node.next_unblock(), out)
+    }
+
+    /// `Directory::blocked_peers`: their keys.
+    pub fn blocked_peers(&mut self, seconds: u64, nanos: u32, out: &mut [u8]) -> u64
+        ensures { TellsBlocked seconds nanos out.old out.new self.old self.new result }
+    {
+        self.serve(commands::blocked_peers(seconds, nanos), out)
+    }
+
+    /// `Directory::status`: 0 for `Inert`, 1 for `Reserved`, 2 for `Active`, or `None`.
+    pub fn status(&mut self, peer: &[u8]) -> u64
+        ensures { TellsStatus peer.now self.old self.new result }
+    {
+        let Some(node) = &self.node else {
+            return Refusal::NoNode.number();
+        };
+        match key(peer) {
+            Ok(peer) => status_of(node.status(&peer)),
+            Err(refusal) => refusal.number(),
+        }
+    }
+
+    /// `Directory::get_peer_set`: the number of primary peers, their keys, and the keys of the
+    /// secondary peers, or `None`.
+    pub fn get_peer_set(&mut self, index: u64, out: &mut [u8]) -> u64
+        ensures { TellsPeerSet index out.old out.new self.old self.new result }
+    {
+        self.serve(Ok(Command::GetPeerSet(index)), out)
+    }
+
+    /// `Directory::latest_set_index`: the index, or `None`.
+    pub fn latest_set_index(&mut self, out: &mut [u8]) -> u64
+        ensures { TellsLatestIndex out.old out.new self.old self.new result }
+    {
+        let Some(node) = &self.node else {
+            return Refusal::NoNode.number();
+        };
+        tell_index(node.latest_set_index(), out)
+    }
+
+    /// `Directory::latest_update`: the index, the lengths of the first three lists, and the primary
+    /// and secondary peers of the latest set and of all sets, or `None`.
+    pub fn latest_update(&mut self, out: &mut [u8]) -> u64
+        ensures { TellsUpdate out.old out.new self.old self.new result }
+    {
+        self.serve(Ok(Command::LatestUpdate), out)
+    }
+
+    /// `Directory::all`: the number of primary peers, their keys, and the keys of the secondary
+    /// peers.
+    pub fn all(&mut self, out: &mut [u8]) -> u64
+        ensures { TellsAll out.old out.new self.old self.new result }
+    {
+        self.serve(Ok(Command::All), out)
+    }
+
+    /// `Directory::info`: the encoded info, or `None`.
+    pub fn info(&mut self, _alloc: Global, peer: &[u8], out: &mut [u8]) -> u64
+        ensures { TellsInfo peer.now out.old out.new self.old self.new result }
+    {
+        self.serve(commands::info(peer), out)
+    }
+
+    /// `Directory::get_random_bit_vec`: the encoded bits with their index, or `None`.
+    pub fn get_random_bit_vec(&mut self, _alloc: Global, place: u64, out: &mut [u8]) -> u64
+        ensures { TellsBits place out.old out.new self.old self.new result }
+    {
+        self.serve(Ok(Command::GetRandomBitVec(place as usize)), out)
+    }
+
+    /// `Directory::eligible`: 1 or 0.
+    pub fn eligible(&mut self, peer: &[u8], seconds: u64, nanos: u32) -> u64
+        ensures { TellsEligible peer.now seconds nanos self.old self.new result }
+    {
+        let Some(node) = &self.node else {
+            return Refusal::NoNode.number();
+        };
+        match (key(peer), moment(seconds, nanos)) {
+            (Ok(peer), Ok(now)) => truth_of(node.eligible(&peer, now)),
+            (Err(refusal), _) | (Ok(_), Err(refusal)) => refusal.number(),
+        }
+    }
+
+    /// `Directory::acceptable`: 1 or 0.
+    pub fn acceptable(&mut self, peer: &[u8], seconds: u64, nanos: u32) -> u64
+        ensures { TellsAcceptable peer.now seconds nanos self.old self.new result }
+    {
+        let Some(node) = &self.node else {
+            return Refusal::NoNode.number();
+        };
+        match (key(peer), moment(seconds, nanos)) {
+            (Ok(peer), Ok(now)) => truth_of(node.acceptable(&peer, now)),
+            (Err(refusal), _) | (Ok(_), Err(refusal)) => refusal.number(),
+        }
+    }
+
+    /// `Directory::dialable`: whether a time to ask again follows, that time, and the keys.
+    pub fn dialable(&mut self, seconds: u64, nanos: u32, out: &mut [u8]) -> u64
+        ensures { TellsDialable seconds nanos out.old out.new self.old self.new result }
+    {
+        self.serve(commands::dialable(seconds, nanos), out)
+    }
+
+    /// `Directory::tracked`: how many peers have a record, except the local node.
+    pub fn tracked(&mut self) -> u64
+        ensures { TellsTracked self.old self.new result }
+    {
+        let Some(node) = &self.node else {
+            return Refusal::NoNode.number();
+        };
+        node.tracked() as u64
+    }
+
+    /// `Directory::retained`. Returns the number of retained sets.
+    pub fn retained(&mut self) -> u64
+        ensures { TellsRetained self.old self.new result }
+    {
+        let Some(node) = &self.node else {
+            return Refusal::NoNode.number();
+        };
+        node.directory().retained() as u64
+    }
+
+    /// `Directory::next_cooled`: the time, or `None`.
+    pub fn next_cooled(&mut self, out: &mut [u8]) -> u64
+        ensures { TellsNextCooled out.old out.new self.old self.new result }
+    {
+        let Some(node) = &self.node else {
+            return Refusal::NoNode.number();
+        };
+        tell_moment(node.directory().next_cooled(), out)
+    }
+
+    /// Whom the reservation that is held of a peer is for: byte 0 for an inbound peer, or byte 1
+    /// and the encoded ingress that is dialled. `None` if none is held. It allocates nothing.
+    pub fn reservation(&mut self, peer: &[u8], out: &mut [u8]) -> u64
+        ensures { TellsReservation peer.now out.old out.new self.old self.new result }
+    {
+        let Some(node) = &self.node else {
+            return Refusal::NoNode.number();
+        };
+        match key(peer) {
+            Ok(peer) => tell_held(node.held(&peer), out),
+            Err(refusal) => refusal.number(),
+        }
+    }
+}
