@@ -12,6 +12,10 @@ pub mod ExchangePremises
 pub mod LatePremises
 mod CarriedExamples
 mod ForeignNodes
+pub mod ShownRun
+pub mod RunPremises
+pub mod RunFrames
+pub mod WrongReplies
 mod Examples
 mod Corners
 mod Forgetting
