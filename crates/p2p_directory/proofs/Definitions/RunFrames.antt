@@ -15,7 +15,6 @@ use Rattle.p2p_discovery.specs.Socket.{ip_at, socket_at}
 use Rattle.p2p_discovery.specs.BitVec.{bits_read_at, bit_vec_read_at}
 use Rattle.p2p_discovery.specs.Bits.{bits_in, packed}
 use Rattle.p2p_discovery.specs.Lists.{spellings, elems, items_at, list_at}
-use Rattle.p2p_tracker.specs.Calls.{Call}
 use Rattle.p2p_tracker.specs.Calls.Call.{Update}
 use Rattle.p2p_tracker.specs.History.{life}
 use Rattle.p2p_directory.specs.declared.node.Received.{Received}
@@ -30,15 +29,16 @@ use Rattle.p2p_directory.specs.Network.{Done, calls_at, world_at_node}
 use Rattle.p2p_directory.specs.Laws.Isolation.{left_for}
 use Rattle.p2p_directory.specs.Laws.LateFrames.{FitsAt, AreKnown, IsTaken}
 use Rattle.p2p_directory.specs.Laws.Network.{IsGivenOnly, HaveOneList}
-use Rattle.p2p_directory.specs.Laws.Network.{TakesGreeting, TakesFrame, RepliesInfos, IsReplyFor}
+use Rattle.p2p_directory.specs.Laws.Network.{TakesGreeting, TakesFrame, RepliesInfos, IsReplyFor, AreWritten}
 use Rattle.p2p_directory.specs.Laws.Order.{HaveSame, IsUnambiguous, Member}
 use Rattle.p2p_directory.specs.Laws.OrderRuns.{with_updates}
 use Rattle.p2p_directory.proofs.Definitions.Setting.{sec, track}
 use Rattle.p2p_directory.proofs.Definitions.GossipExamples.{wire, signed, asker, replier, own_of_8}
-use Rattle.p2p_directory.proofs.Definitions.LatePremises.{Any, peers_1, spells}
+use Rattle.p2p_directory.proofs.Definitions.LatePremises.{peers_1}
+use Rattle.p2p_directory.proofs.Definitions.ByteKeys.{IsByte, spells}
 use Rattle.p2p_directory.proofs.Definitions.ExchangePremises.{three, done, seconds, x, IsHonest, honest, one_list}
-use Rattle.p2p_directory.proofs.Definitions.ShownRun.{Infos, bits, peers, greeting_of_8, frames, after, after_refused}
-use Rattle.p2p_directory.proofs.Definitions.ShownRun.{once, before_late}
+use Rattle.p2p_directory.proofs.Definitions.ShownRun.{Infos, Steps, commands_of, replies_of, first, bits, peers, greeting_of_8, frames, after, after_refused}
+use Rattle.p2p_directory.proofs.Definitions.ShownRun.{once, before_late, after_frames, refused, applied, late, commands, replies}
 
 -- REPLIES: node 0 was asked for its bits, and node 1 is handed them
 
@@ -58,17 +58,57 @@ have_one_list = record {
 
 -- each reply is then for node 0
 is_for_0 : (given : List ℕ) →
-    RepliesInfos wire 3 three Any Any questioned (network.Frame 1 bits (seconds 100)) (answer.Frame (received.Reply given)) →
-    IsReplyFor wire 3 three Any Any 0 1 (sec 100) given
+    RepliesInfos wire 3 three IsByte IsByte questioned (network.Frame 1 bits (seconds 100)) (answer.Frame (received.Reply given)) →
+    IsReplyFor wire 3 three IsByte IsByte 0 1 (sec 100) given
 is_for_0 given kept = kept ((network.Ask 0 0, answer.OutOfMemory) ∷ []) done 0 0 x given refl replier_is_honest
     have_one_list refl
 
 -- and no empty frame is one
-empty_is_refused : RepliesInfos wire 3 three Any Any questioned (network.Frame 1 bits (seconds 100))
+empty_is_refused : RepliesInfos wire 3 three IsByte IsByte questioned (network.Frame 1 bits (seconds 100))
     (answer.Frame (received.Reply [])) → ⊥
 empty_is_refused kept =
-    let is : IsReplyFor wire 3 three Any Any 0 1 (sec 100) [] = is_for_0 [] kept in
+    let is : IsReplyFor wire 3 three IsByte IsByte 0 1 (sec 100) [] = is_for_0 [] kept in
     absurd (let e : [] ≡ wire.spelling (said.Peers is.infos) = is.spells.spelled in cc)
+
+-- all that is told in the run is made of values of their types, as the law wants it
+
+abbrev AreWrittenFrom : Done ℕ ℕ → Steps → Type 0
+AreWrittenFrom before xs = AreWritten wire 3 three IsByte IsByte before (commands_of xs) (replies_of xs)
+
+first_written : AreWrittenFrom [] first
+unfolding life payload_at body_at data_at message_at length_at groups groups_at texts.info_at ingress_at ip_at
+    socket_at bits_read_at bit_vec_read_at bits_in packed spellings elems items_at list_at
+first_written =
+    (tt, (tt, (tt, ((tt, tt), ((tt, tt), ((tt, tt), (tt, (tt, (tt, (tt, tt))))))))))
+
+frames_written : AreWrittenFrom done frames
+unfolding life payload_at body_at data_at message_at length_at groups groups_at texts.info_at ingress_at ip_at
+    socket_at bits_read_at bit_vec_read_at bits_in packed spellings elems items_at list_at
+frames_written =
+    ((omega arith, omega arith), (tt, (spells.values, ((tt, tt), ((tt, tt), ((tt, tt), ((tt, tt), tt)))))))
+
+refused_written : AreWrittenFrom after_frames refused
+refused_written = (tt, (tt, (tt, (tt, (tt, (tt, (tt, tt)))))))
+
+joined_written : (before : Done ℕ ℕ) (xs ys : Steps) → AreWrittenFrom before xs → AreWrittenFrom (after xs before) ys →
+    AreWrittenFrom before (xs ++ ys)
+joined_written before [] ys h k = k
+joined_written before (x ∷ xs) ys h k = (h.0, joined_written (x ∷ before) xs ys h.1 k)
+
+module _ (brought none passed : Infos) where
+  applied_written : AreWrittenFrom after_refused (applied brought none)
+  applied_written = (tt, (tt, (tt, tt)))
+
+  late_written : AreWrittenFrom (before_late brought none) (late passed)
+  unfolding life payload_at body_at data_at message_at length_at groups groups_at texts.info_at ingress_at ip_at
+      socket_at bits_read_at bit_vec_read_at bits_in packed spellings elems items_at list_at
+  late_written = ((tt, tt), (tt, ((tt, tt), (tt, (tt, tt)))))
+
+  pub are_written : AreWritten wire 3 three IsByte IsByte [] (commands brought none passed) (replies brought none passed)
+  are_written = joined_written [] first (frames ++ (refused ++ (applied brought none ++ late passed))) first_written
+      (joined_written done frames (refused ++ (applied brought none ++ late passed)) frames_written
+      (joined_written after_frames refused (applied brought none ++ late passed) refused_written
+      (joined_written after_refused (applied brought none) (late passed) applied_written late_written)))
 
 -- GREETINGS: node 0 receives that of node 1
 
@@ -101,13 +141,13 @@ module _ (brought none : Infos) (is_brought : brought.items ≡ signed 1 100000 
   dropped = (network.Call 0 (command.Track 2 (peers (2 ∷ 3 ∷ []))), answer.Call (reply.Track (Some [])))
       ∷ (late_frame 1000, answer.Frame (received.Applied 1)) ∷ first_late
 
-  is_taken : (r : Received) → TakesFrame wire 3 three Any Any first_late (late_frame 1000) (answer.Frame r) →
+  is_taken : (r : Received) → TakesFrame wire 3 three IsByte IsByte first_late (late_frame 1000) (answer.Frame r) →
       (r ≡ received.Applied 1) ⊎ (r ≡ received.Memory)
   is_taken r takes = let taken : IsTaken asker (calls_at wire 3 three first_late 0) (signed 1 100000 ∷ []) r
       (calls_at wire 3 three ((late_frame 1000, answer.Frame r) ∷ first_late) 0) =
       takes (sec 100) (signed 1 100000 ∷ []) spells fits_at in taken.answer
 
-  is_taken_later : (r : Received) → TakesFrame wire 3 three Any Any dropped (late_frame 2000) (answer.Frame r) →
+  is_taken_later : (r : Received) → TakesFrame wire 3 three IsByte IsByte dropped (late_frame 2000) (answer.Frame r) →
       (r ≡ received.Applied 1) ⊎ (r ≡ received.Memory)
   is_taken_later r takes = let taken : IsTaken asker (calls_at wire 3 three dropped 0) (signed 1 100000 ∷ []) r
       (calls_at wire 3 three ((late_frame 2000, answer.Frame r) ∷ dropped) 0) =

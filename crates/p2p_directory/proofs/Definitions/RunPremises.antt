@@ -2,7 +2,7 @@
 -- exchanges, given, newer, reach, acquaintance, greetings, replies, late frames, isolation and order.
 use Rattle.std.proofs.Common.{◌≡◌, ℕ, zero, suc, ◌^◌, ◌<◌, true, false, List, [], ◌∷◌, Option, Some, refl}
 use Rattle.std.proofs.Common.{sym, subst, ap, arith, ◌∙◌}
-use Rattle.std.specs.Prelude.{IfSome}
+use Rattle.std.specs.Prelude.{◌⊎◌, IfSome}
 use Rattle.std.specs.List.{AllByRecursion}
 use Rattle.std.specs.Ordering.{nat_cmp}
 use Rattle.std.specs.declared.cmp.Ordering.TheVariants.{Equal}
@@ -20,10 +20,11 @@ use Rattle.p2p_discovery.specs.Socket.{ip_at, socket_at}
 use Rattle.p2p_discovery.specs.BitVec.{bits_read_at, bit_vec_read_at}
 use Rattle.p2p_discovery.specs.Bits.{bits_in, packed}
 use Rattle.p2p_discovery.specs.Lists.{spellings, elems, items_at, list_at}
-use Rattle.p2p_tracker.specs.Calls.{Call}
 use Rattle.p2p_tracker.specs.Calls.Call.{Update}
 use Rattle.p2p_tracker.specs.History.{life}
+use Rattle.p2p_directory.specs.declared.node.exchanged.Exchanged.{Exchanged}
 use Rattle.p2p_directory.specs.declared.node.exchanged.Exchanged.TheVariants as exchanged
+use Rattle.p2p_directory.specs.Exchange.{infos_applied}
 use Rattle.p2p_directory.specs.declared.node.network.NetworkCommand.{NetworkCommand}
 use Rattle.p2p_directory.specs.declared.node.network.NetworkCommand.TheVariants as network
 use Rattle.p2p_directory.specs.declared.node.network.NetworkReply.{NetworkReply}
@@ -35,31 +36,31 @@ use Rattle.p2p_directory.specs.Run.{world_after}
 use Rattle.p2p_directory.specs.Network.{Done, is_node, calls_at, world_at_node}
 use Rattle.p2p_directory.specs.Laws.Gossip.{IsSince, unless_above}
 use Rattle.p2p_directory.specs.Laws.Network.{AreMade, GivesTo, AreAllGiven, IsGivenOnly, HaveOneList, Fits}
-use Rattle.p2p_directory.specs.Laws.Network.{MayBring, Brings, AreSame, info_to_bring, infos_to_bring, StaysPresent, HoldsSince}
+use Rattle.p2p_directory.specs.Laws.Network.{MayBring, Brings, KeepExchanges, AreSame, info_to_bring, infos_to_bring, StaysPresent, HoldsSince}
 use Rattle.p2p_directory.proofs.LawsOfNetworks.Provenance.{AreAnswered, gives_signed}
 use Rattle.p2p_directory.proofs.LawsOfNetworks.Exchanges.{keep_exchanges}
 use Rattle.p2p_directory.proofs.LawsOfNetworks.Reach.{reach, acquaint}
 use Rattle.p2p_directory.proofs.LawsOfNetworks.Newer.{only_get_newer}
 use Rattle.p2p_directory.proofs.Definitions.Setting.{sec}
 use Rattle.p2p_directory.proofs.Definitions.GossipExamples.{wire, signed, asker, replier}
-use Rattle.p2p_directory.proofs.Definitions.LatePremises.{Any}
+use Rattle.p2p_directory.proofs.Definitions.ByteKeys.{IsByte}
 use Rattle.p2p_directory.proofs.Definitions.ExchangePremises.{three, done, seconds, x, IsHonest}
 use Rattle.p2p_directory.proofs.Definitions.ShownRun.{Steps, AreSteps, Infos, after, first, frames, refused, applied}
-use Rattle.p2p_directory.proofs.Definitions.ShownRun.{asked, bits, after_frames, after_refused}
+use Rattle.p2p_directory.proofs.Definitions.ShownRun.{asked, after_frames, after_refused}
 use Rattle.p2p_directory.proofs.Definitions.ShownRun.{answered, are_applied, once, before_late}
 use Rattle.p2p_directory.proofs.Definitions.ShownRun.{answered_before_late}
 
 -- WHAT THE NODES ARE MADE FROM
 
-are_made : AreMade wire 3 three nat_cmp
+pub are_made : AreMade wire 3 three nat_cmp
 are_made zero there = record { order = refl; me = refl; sets = omega arith }
 are_made (suc zero) there = record { order = refl; me = refl; sets = omega arith }
 are_made (suc (suc i)) there = record { order = refl; me = refl; sets = omega arith }
 
-exact : (q p : ℕ) → nat_cmp q p ≡ Equal → q ≡ p
+pub exact : (q p : ℕ) → nat_cmp q p ≡ Equal → q ≡ p
 exact q p e = ranked q p Equal (sym e)
 
-bits_are_few : (i : ℕ) → is_node wire 3 three i ≡ true → (three i).limits.max_bit_vec < 2 ^ 32
+pub bits_are_few : (i : ℕ) → is_node wire 3 three i ≡ true → (three i).limits.max_bit_vec < 2 ^ 32
 bits_are_few zero there = omega arith
 bits_are_few (suc zero) there = omega arith
 bits_are_few (suc (suc i)) there = omega arith
@@ -78,13 +79,15 @@ bytes_8844 (suc (suc zero)) = omega arith
 bytes_8844 (suc (suc (suc zero))) = omega arith
 bytes_8844 (suc (suc (suc (suc i)))) = omega arith
 
-own_are_infos : (i : ℕ) → is_node wire 3 three i ≡ true → IsInfo (three i).directory.own
+pub own_are_infos : (i : ℕ) → is_node wire 3 three i ≡ true → IsInfo (three i).directory.own
 own_are_infos zero there = record { ingress = ((refl, bytes_8888), omega arith); timestamp = omega arith }
 own_are_infos (suc zero) there = record { ingress = ((refl, bytes_8844), omega arith); timestamp = omega arith }
 own_are_infos (suc (suc i)) there = record { ingress = ((refl, bytes_8844), omega arith); timestamp = omega arith }
 
-own_are_keyed : (i : ℕ) → is_node wire 3 three i ≡ true → IsKeyed Any Any (three i).directory.own
-own_are_keyed i there = record { key = tt; signature = tt }
+pub own_are_keyed : (i : ℕ) → is_node wire 3 three i ≡ true → IsKeyed IsByte IsByte (three i).directory.own
+own_are_keyed zero there = record { key = omega arith; signature = omega arith }
+own_are_keyed (suc zero) there = record { key = omega arith; signature = omega arith }
+own_are_keyed (suc (suc i)) there = record { key = omega arith; signature = omega arith }
 
 -- GIVEN: all that is given from outside is signed
 
@@ -149,6 +152,16 @@ may_bring = record {
   one = one_list;
   fits = subst (Fits wire 3 three 0 1 (sec 70) (sec 100) x) (sym to_bring) fits;
 }
+
+-- the law then leaves an exchange no other replies
+exchange_is_applied : (r : Exchanged ℕ ℕ) →
+    KeepExchanges wire 3 three after_refused (asked ∷ []) (answer.Exchange r ∷ []) →
+    (infos_applied r ≡ Some (infos_to_bring wire 3 three after_refused 0 1 (sec 100) x))
+    ⊎ (r ≡ exchanged.Memory)
+exchange_is_applied r kept =
+    let brings : Brings wire 3 three after_refused 0 1 (sec 100) x asked r
+    (infos_to_bring wire 3 three after_refused 0 1 (sec 100) x) = kept.0 x may_bring in
+    brings.answer
 
 -- whatever has the infos that were brought, none, and the info that a command passes
 module _ (brought none passed : Infos) (is_brought : brought.items ≡ signed 1 100000 ∷ [])
