@@ -5,7 +5,7 @@ use Rattle.std.specs.Ordering.{nat_cmp}
 use Rattle.std.proofs.lemmas.Cmp.{nat_cmp_total}
 use Rattle.p2p_directory.specs.declared.node.network.NetworkCommand.{NetworkCommand}
 use Rattle.p2p_directory.specs.declared.node.network.NetworkReply.{NetworkReply}
-use Rattle.p2p_directory.specs.Network.{AreNetworkAnswers}
+use Rattle.p2p_directory.specs.Network.{calls_at, AreNetworkAnswers}
 use Rattle.p2p_directory.specs.Laws.Network as law
 use Rattle.p2p_directory.specs.Laws.Network.{KeepExchanges, AtEachPoint, OfEachReply}
 use Rattle.p2p_directory.proofs.LawsOfNetworks.Provenance
@@ -14,6 +14,9 @@ use Rattle.p2p_directory.proofs.LawsOfNetworks.Newer
 use Rattle.p2p_directory.proofs.LawsOfNetworks.Reach
 use Rattle.p2p_directory.proofs.LawsOfNetworks.Frames
 use Rattle.p2p_directory.proofs.LawsOfNetworks.Replied
+use Rattle.p2p_directory.proofs.LawsOfRuns.Isolation
+use Rattle.p2p_directory.proofs.LawsOfRuns.OrderRuns
+use Rattle.p2p_directory.proofs.Definitions.Keys.{exact_from}
 use Rattle.p2p_directory.proofs.Definitions.GossipExamples.{wire, signed}
 use Rattle.p2p_directory.proofs.Definitions.ByteKeys.{IsByte, is_fixed}
 use Rattle.p2p_directory.proofs.Definitions.ExchangePremises.{three}
@@ -69,3 +72,15 @@ module _ (brought none passed : Infos) (is_brought : brought.items ≡ signed 1 
   infos_replied : OfEachReply wire 3 three (law.RepliesInfos wire 3 three IsByte IsByte) [] cs rs
   infos_replied = Replied.keep_replies is_fixed is_fixed wire.verifies 3 three nat_cmp exact are_made bits_are_few
       [] tt tt cs rs answers (are_written brought none passed)
+
+  isolation : AtEachPoint wire 3 three (law.Isolate wire 3 three) [] cs rs
+  isolation = Provenance.at_any_point wire 3 three (law.Isolate wire 3 three)
+      (λ done n there p. Isolation.isolated (three n).directory (are_made n there).sets
+      (exact_from (three n).directory nat_cmp (are_made n there).order exact) p
+      (calls_at wire 3 three done n)) [] cs rs
+
+  order : AtEachPoint wire 3 three (law.Reorder wire 3 three) [] cs rs
+  order = Provenance.at_any_point wire 3 three (law.Reorder wire 3 three)
+      (λ done n there later before first some more others is one have.
+      OrderRuns.reordered (three n).directory (are_made n there).sets (calls_at wire 3 three done n)
+      later before first some more others is one have) [] cs rs

@@ -1,5 +1,5 @@
--- The run of ShownRun meets the premises of each law of networks where its conclusion speaks: that of
--- exchanges, given, newer, reach, acquaintance, greetings, replies, late frames, isolation and order.
+-- The run of ShownRun meets the premises of the laws of exchanges, given, infos, newer, reach and
+-- acquaintance where their conclusions speak. Those of frames, isolation and order are in RunFrames.
 use Rattle.std.proofs.Common.{◌≡◌, ℕ, zero, suc, ◌^◌, ◌<◌, true, false, List, [], ◌∷◌, Option, Some, refl}
 use Rattle.std.proofs.Common.{sym, subst, ap, arith, ◌∙◌}
 use Rattle.std.specs.Prelude.{◌⊎◌, IfSome}
@@ -35,9 +35,9 @@ use Rattle.p2p_directory.specs.declared.run.commands.Reply.TheVariants as reply
 use Rattle.p2p_directory.specs.Run.{world_after}
 use Rattle.p2p_directory.specs.Network.{Done, is_node, calls_at, world_at_node}
 use Rattle.p2p_directory.specs.Laws.Gossip.{IsSince, unless_above}
-use Rattle.p2p_directory.specs.Laws.Network.{AreMade, GivesTo, AreAllGiven, IsGivenOnly, HaveOneList, Fits}
+use Rattle.p2p_directory.specs.Laws.Network.{AreMade, GivesTo, AreAllGiven, IsGivenOnly, HoldsOnly, IsSignedFor, HaveOneList, Fits}
 use Rattle.p2p_directory.specs.Laws.Network.{MayBring, Brings, KeepExchanges, AreSame, info_to_bring, infos_to_bring, StaysPresent, HoldsSince}
-use Rattle.p2p_directory.proofs.LawsOfNetworks.Provenance.{AreAnswered, gives_signed}
+use Rattle.p2p_directory.proofs.LawsOfNetworks.Provenance.{AreAnswered, gives_signed, hold_signed}
 use Rattle.p2p_directory.proofs.LawsOfNetworks.Exchanges.{keep_exchanges}
 use Rattle.p2p_directory.proofs.LawsOfNetworks.Reach.{reach, acquaint}
 use Rattle.p2p_directory.proofs.LawsOfNetworks.Newer.{only_get_newer}
@@ -45,9 +45,9 @@ use Rattle.p2p_directory.proofs.Definitions.Setting.{sec}
 use Rattle.p2p_directory.proofs.Definitions.GossipExamples.{wire, signed, asker, replier}
 use Rattle.p2p_directory.proofs.Definitions.ByteKeys.{IsByte}
 use Rattle.p2p_directory.proofs.Definitions.ExchangePremises.{three, done, seconds, x, IsHonest}
-use Rattle.p2p_directory.proofs.Definitions.ShownRun.{Steps, AreSteps, Infos, after, first, frames, refused, applied}
+use Rattle.p2p_directory.proofs.Definitions.ShownRun.{Steps, AreSteps, Infos, after, first, frames, refused, applied, late}
 use Rattle.p2p_directory.proofs.Definitions.ShownRun.{asked, after_frames, after_refused}
-use Rattle.p2p_directory.proofs.Definitions.ShownRun.{answered, are_applied, once, before_late}
+use Rattle.p2p_directory.proofs.Definitions.ShownRun.{answered, answered_of, are_applied, are_late, once, before_late}
 use Rattle.p2p_directory.proofs.Definitions.ShownRun.{answered_before_late}
 
 -- WHAT THE NODES ARE MADE FROM
@@ -89,42 +89,65 @@ own_are_keyed zero there = record { key = omega arith; signature = omega arith }
 own_are_keyed (suc zero) there = record { key = omega arith; signature = omega arith }
 own_are_keyed (suc (suc i)) there = record { key = omega arith; signature = omega arith }
 
--- GIVEN: all that is given from outside is signed
+-- GIVEN: what holds of all own infos and of each that is given from outside
 
-abbrev IsGiven : NetworkCommand ℕ ℕ × NetworkReply ℕ ℕ → Type 0
-IsGiven = GivesTo wire 3 three IsHonest
+module _ (P : Info ℕ ℕ → Type 0) (of_own : (i : ℕ) → is_node wire 3 three i ≡ true → P (three i).directory.own)
+    (of_1 : P (signed 1 100000)) where
+  abbrev IsGiven : NetworkCommand ℕ ℕ × NetworkReply ℕ ℕ → Type 0
+  IsGiven = GivesTo wire 3 three P
 
-all_after : (xs : Steps) (before : Done ℕ ℕ) → AllByRecursion IsGiven xs → AllByRecursion IsGiven before →
-    AllByRecursion IsGiven (after xs before)
-all_after [] before h k = k
-all_after (x ∷ xs) before h k = all_after xs (x ∷ before) h.1 (h.0, k)
+  all_after : (xs : Steps) (before : Done ℕ ℕ) → AllByRecursion IsGiven xs → AllByRecursion IsGiven before →
+      AllByRecursion IsGiven (after xs before)
+  all_after [] before h k = k
+  all_after (x ∷ xs) before h k = all_after xs (x ∷ before) h.1 (h.0, k)
 
-not_applied : {P : Type 0} → false ≡ true → P
-not_applied e = absurd (cc)
+  not_applied : {A : Type 0} → false ≡ true → A
+  not_applied e = absurd (cc)
 
-given_first : AllByRecursion IsGiven first
-unfolding payload_at body_at data_at message_at length_at groups groups_at texts.info_at ingress_at ip_at
-    socket_at bits_read_at bit_vec_read_at bits_in packed spellings elems items_at list_at
-given_first = (tt, (tt, (tt, (not_applied, (not_applied, ((λ e. (record { at_asker = refl; at_replier = refl }, tt)), (tt, (tt, (tt, (tt, tt))))))))))
+  given_first : AllByRecursion IsGiven first
+  unfolding payload_at body_at data_at message_at length_at groups groups_at texts.info_at ingress_at ip_at
+      socket_at bits_read_at bit_vec_read_at bits_in packed spellings elems items_at list_at
+  given_first =
+      (tt, (tt, (tt, (not_applied, (not_applied, ((λ e. (of_1, tt)), (tt, (tt, (tt, (tt, tt))))))))))
 
-given_frames : AllByRecursion IsGiven frames
-unfolding payload_at body_at data_at message_at length_at groups groups_at texts.info_at ingress_at ip_at
-    socket_at bits_read_at bit_vec_read_at bits_in packed spellings elems items_at list_at
-given_frames = (tt, (tt, (not_applied, ((λ e. (record { at_asker = refl; at_replier = refl }, tt)), (not_applied, (not_applied, (not_applied, tt)))))))
+  given_frames : AllByRecursion IsGiven frames
+  unfolding payload_at body_at data_at message_at length_at groups groups_at texts.info_at ingress_at ip_at
+      socket_at bits_read_at bit_vec_read_at bits_in packed spellings elems items_at list_at
+  given_frames =
+      (tt, (tt, (not_applied, ((λ e. (of_own 1 refl, tt)), (not_applied, (not_applied, (not_applied, tt)))))))
 
-given_refused : AllByRecursion IsGiven refused
-given_refused = (tt, (tt, (tt, (tt, (tt, (tt, (tt, tt)))))))
+  given_refused : AllByRecursion IsGiven refused
+  given_refused = (tt, (tt, (tt, (tt, (tt, (tt, (tt, tt)))))))
+
+  all_given_by : AllByRecursion IsGiven after_refused
+  all_given_by = all_after refused after_frames given_refused
+      (all_after frames done given_frames (all_after first [] given_first tt))
+
+  -- .. in the whole run
+  module _ (brought none passed : Infos) (of_passed : AllByRecursion P passed.items) where
+    given_late : AllByRecursion IsGiven (late passed)
+    unfolding payload_at body_at data_at message_at length_at groups groups_at texts.info_at ingress_at ip_at
+        socket_at bits_read_at bit_vec_read_at bits_in packed spellings elems items_at list_at
+    given_late = ((λ e. (of_1, tt)), (tt, ((λ e. (of_1, tt)), (of_passed, (tt, tt)))))
+
+    all_given_to_end : AreAllGiven wire 3 three P (after (late passed) (before_late brought none))
+    all_given_to_end = record {
+      own = of_own;
+      given = all_after (late passed) (before_late brought none) given_late
+          (all_after (applied brought none) after_refused (tt, (tt, (tt, tt))) all_given_by);
+    }
+
+-- all of them are signed
 
 own_are_honest : (i : ℕ) → is_node wire 3 three i ≡ true → IsHonest (three i).directory.own
 own_are_honest zero there = record { at_asker = refl; at_replier = refl }
 own_are_honest (suc zero) there = record { at_asker = refl; at_replier = refl }
 own_are_honest (suc (suc i)) there = record { at_asker = refl; at_replier = refl }
 
-pub all_given : AreAllGiven wire 3 three IsHonest after_refused
+all_given : AreAllGiven wire 3 three IsHonest after_refused
 all_given = record {
   own = own_are_honest;
-  given = all_after refused after_frames given_refused
-      (all_after frames done given_frames (all_after first [] given_first tt));
+  given = all_given_by IsHonest own_are_honest (record { at_asker = refl; at_replier = refl });
 }
 
 -- so is all that the replier was given
@@ -238,3 +261,22 @@ module _ (brought none passed : Infos) (is_brought : brought.items ≡ signed 1 
   acquainted = acquaint wire 3 three nat_cmp nat_cmp_total exact are_made run_late run_answered later after_refused
       0 1 0 (seconds 70) (seconds 100) (exchanged.Applied brought) x refl may_bring refl 1 (signed 1 100000) refl refl
       shared stays
+
+  -- INFOS: in the end all that was given is signed for node 2, and so is all that node 0 holds
+
+  abbrev end : Done ℕ ℕ
+  end = after (late passed) run_late
+
+  signed_for_2 : (i : ℕ) → is_node wire 3 three i ≡ true → IsSignedFor wire 3 three 2 (three i).directory.own
+  signed_for_2 zero there = refl
+  signed_for_2 (suc zero) there = refl
+  signed_for_2 (suc (suc i)) there = refl
+
+  given_to_0 : IsGivenOnly wire 3 three 0 (IsSignedFor wire 3 three 2) end
+  given_to_0 = (gives_signed wire 3 three end
+      (answered_of run_late run_answered (late passed) (are_late brought none passed is_brought is_none is_passed)) 2 2).0
+      (all_given_to_end (IsSignedFor wire 3 three 2) signed_for_2 refl brought none passed
+      (subst (AllByRecursion (IsSignedFor wire 3 three 2)) (sym is_passed) (refl, tt))) 0
+
+  held_by_0 : HoldsOnly wire 3 three 0 (IsSignedFor wire 3 three 2) end
+  held_by_0 = hold_signed wire 3 three end 2 0 given_to_0

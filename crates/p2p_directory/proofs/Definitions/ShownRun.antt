@@ -78,7 +78,7 @@ joined : (before : Done ℕ ℕ) (xs ys : Steps) → AreSteps before xs → AreS
 joined before [] ys h k = k
 joined before (x ∷ xs) ys h k = (h.0, joined (x ∷ before) xs ys h.1 k)
 
-answered_of : (before : Done ℕ ℕ) → AreAnswered wire 3 three before → (xs : Steps) → AreSteps before xs →
+pub answered_of : (before : Done ℕ ℕ) → AreAnswered wire 3 three before → (xs : Steps) → AreSteps before xs →
     AreAnswered wire 3 three (after xs before)
 answered_of before answered [] h = answered
 answered_of before answered (x ∷ xs) h = answered_of (x ∷ before) (h.0, answered) xs h.1
