@@ -49,6 +49,10 @@ answer_at (suc k) before (c ∷ cs) (r ∷ rs) h = answer_at k ((c, r) ∷ befor
 abbrev other_reply : Reply ℕ ℕ
 other_reply = reply.NotReserved
 
+message_of : Received → List ℕ
+message_of (received.Data d) = d.message
+message_of _ = []
+
 abbrev Is : ExchangeOutcome ℕ ℕ → ExchangeOutcome ℕ ℕ → Type 0
 Is a b = a ≡ b
 
@@ -114,21 +118,25 @@ module _ (brought none passed : Infos) where
       IsWrong 3 received.Malformed × IsWrong 4 received.Greeted
       -- .. of `Reply`: one without infos; of `Greeted`
       × IsWrong 12 (received.Reply (3 ∷ 0 ∷ [])) × IsWrong 13 (received.Invalid SynchronyBound)
-      -- .. of `Data`; of `Codec`: want of memory, where none may be wanted, and another fault
-      × IsWrong 14 (received.Codec EndOfBuffer) × IsWrong 15 received.Memory
+      -- .. of `Data`: also another message
+      × IsWrong 14 (received.Codec EndOfBuffer) × IsWrong 14 (received.Data (record { channel = 1; message = [] }))
+      -- .. of `Codec`: want of memory, where none may be wanted, and another fault
+      × IsWrong 15 received.Memory
       × IsWrong 15 (received.Codec (InvalidLength 0))
       -- .. of `Malformed`
       × IsWrong 16 (received.Reply (3 ∷ 0 ∷ []))
       -- .. of `Applied`: another number, and a refusal because it is late
       × IsWrong 27 (received.Applied 2) × IsWrong 29 (received.Invalid SynchronyBound)
   unfolding life payload_at body_at data_at message_at length_at groups groups_at texts.info_at ingress_at ip_at
-      socket_at bits_read_at bit_vec_read_at bits_in packed spellings elems items_at list_at
+      socket_at bits_read_at bit_vec_read_at bits_in packed spellings elems items_at list_at message_of
   wrong_frames = (
     frame_refused 3 received.Malformed (λ h. absurd (let e : received.Malformed ≡ received.Greeted = h.1 in cc)),
     frame_refused 4 received.Greeted (λ h. absurd (let e : received.Greeted ≡ received.Invalid SynchronyBound = h.1 in cc)),
     frame_refused 12 (received.Reply (3 ∷ 0 ∷ [])) (λ h. absurd (let e : received.Reply (3 ∷ 0 ∷ []) ≡ received.Reply peers_1 = h.1 in cc)),
     frame_refused 13 (received.Invalid SynchronyBound) (λ h. absurd (let e : received.Invalid SynchronyBound ≡ received.Greeted = h.1 in cc)),
     frame_refused 14 (received.Codec EndOfBuffer) (λ h. absurd (let e : received.Codec EndOfBuffer ≡ received.Data (record { channel = 1; message = hello }) = h.1 in cc)),
+    frame_refused 14 (received.Data (record { channel = 1; message = [] })) (λ h.
+        absurd (let e : [] ≡ hello = ap message_of h.1 in cc)),
     frame_refused 15 received.Memory (λ h. absurd (let e : false ≡ true = h.1 in cc)),
     frame_refused 15 (received.Codec (InvalidLength 0)) (λ h. absurd (let e : received.Codec (InvalidLength 0) ≡ received.Codec EndOfBuffer = h.1 in cc)),
     frame_refused 16 (received.Reply (3 ∷ 0 ∷ [])) (λ h. absurd (let e : received.Reply (3 ∷ 0 ∷ []) ≡ received.Malformed = h.1 in cc)),
@@ -155,6 +163,8 @@ module _ (brought none passed : Infos) where
       × IsWrongExchange 23 exchanged.NoSet × IsWrongExchange 31 (exchanged.Applied none)
       -- .. of `Applied`
       × IsWrongExchange 24 exchanged.NoSet × IsWrongExchange 24 (exchanged.Invalid SynchronyBound)
+      × IsWrongExchange 24 (exchanged.AskRefused (InvalidLength 2))
+      × IsWrongExchange 24 exchanged.Malformed × IsWrongExchange 24 (exchanged.ReplyRefused (InvalidLength 1))
   unfolding life payload_at body_at data_at message_at length_at groups groups_at texts.info_at ingress_at ip_at
       socket_at bits_read_at bit_vec_read_at bits_in packed spellings elems items_at list_at
   wrong_exchanges = (
@@ -167,6 +177,9 @@ module _ (brought none passed : Infos) where
     exchange_refused 31 (exchanged.Applied none) (λ h. absurd (let e : Is Malformed (Applied none.items) = h.1 in cc)),
     exchange_refused 24 exchanged.NoSet (λ h. absurd (let e : Is (Applied (signed 1 100000 ∷ [])) NoSet = h.1 in cc)),
     exchange_refused 24 (exchanged.Invalid SynchronyBound) (λ h. absurd (let e : Is (Applied (signed 1 100000 ∷ [])) (Invalid SynchronyBound) = h.1 in cc)),
+    exchange_refused 24 (exchanged.AskRefused (InvalidLength 2)) (λ h. absurd (let e : Is (Applied (signed 1 100000 ∷ [])) (AskRefused (InvalidLength 2)) = h.1 in cc)),
+    exchange_refused 24 exchanged.Malformed (λ h. absurd (let e : Is (Applied (signed 1 100000 ∷ [])) Malformed = h.1 in cc)),
+    exchange_refused 24 (exchanged.ReplyRefused (InvalidLength 1)) (λ h. absurd (let e : Is (Applied (signed 1 100000 ∷ [])) (ReplyRefused (InvalidLength 1)) = h.1 in cc)),
   )
 
   -- an exchange that is to apply an info isn't told as one that applied none
