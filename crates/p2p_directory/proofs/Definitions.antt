@@ -12,6 +12,15 @@ pub mod ExchangePremises
 pub mod LatePremises
 mod CarriedExamples
 mod ForeignNodes
+pub mod ByteKeys
+pub mod ShownRun
+pub mod GivenInfos
+pub mod RunPremises
+pub mod RunFrames
+pub mod RunLaws
+pub mod WrongReplies
+pub mod PairRun
+pub mod NewNode
 mod Examples
 mod Corners
 mod Forgetting

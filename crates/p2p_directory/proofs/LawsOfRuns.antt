@@ -2,6 +2,7 @@
 pub mod Isolation
 pub mod Ordered
 pub mod Bounded
+pub mod Listed
 pub mod Spacing
 pub mod Dialled
 pub mod GrantRuns

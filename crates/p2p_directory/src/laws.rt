@@ -5,7 +5,7 @@ ghost use Rattle.std.specs.Prelude.{map, Option, Some, None, option_map, is_some
 ghost use Rattle.std.specs.Prelude.{◌+◌};
 ghost use Rattle.std.specs.List.{AllByRecursion};
 ghost use Rattle.p2p_discovery.specs.declared.discovery.Info.{Info};
-ghost use Rattle.p2p_tracker.specs.Calls.{Settings, Call, Question};
+ghost use Rattle.p2p_tracker.specs.Calls.{Settings, SetAt, Call, Question};
 ghost use Rattle.p2p_tracker.specs.Calls.Call.{Track, Dial, Listen, Connect, Release, Update};
 ghost use Rattle.p2p_tracker.specs.Calls.Call.{Block, UnblockExpired, ForgetCooled, Ask};
 ghost use Rattle.p2p_tracker.specs.History.{taken_sets};
@@ -31,7 +31,8 @@ ghost use Rattle.p2p_directory.specs.Laws.Effects.{DirectoryStandsAt, granted_af
 ghost use Rattle.p2p_directory.specs.Laws.Isolation.{SameFor, AnswersAlike, left_for};
 ghost use Rattle.p2p_directory.specs.Laws.Isolation.{is_on_another, narrowed};
 ghost use Rattle.p2p_directory.specs.Laws.Order.{HaveSame, IsUnambiguous};
-ghost use Rattle.p2p_directory.specs.Laws.Bounds.{NamesAtMost, IsBounded};
+ghost use Rattle.p2p_directory.specs.Laws.Bounds.{NamesAtMost, IsBounded, AreListed};
+ghost use Rattle.p2p_directory.specs.Laws.Bounds.{IsNamingListed};
 ghost use Rattle.p2p_directory.specs.Laws.Grants.{KeepsCooldown, KeepsCooldownUnlessForgotten};
 ghost use Rattle.p2p_directory.specs.Laws.Grants.{NeverGoBack, KeepsBlocks};
 ghost use Rattle.p2p_tracker.specs.Dials.{AreChosen, AreDialled, IsBefore};
@@ -260,12 +261,17 @@ pub fn order_is_free<C: PublicKey>()
 
 /// If each registered set names at most n distinct peers, the number of present keys is bounded.
 /// The bound is n for each set that may be retained, plus the persistent keys, plus the peers that
-/// are not inert and in no set.
+/// are not inert and in no set. There are sorted lists of each of these keys, without repeats, and
+/// of the peers of each set: so the bound always says something.
 pub fn presence_is_bounded<C: PublicKey>()
-    ensures { (s : Settings C C.Signature) → s.cmp ≡ C.cmp →
+    ensures bounded { (s : Settings C C.Signature) → s.cmp ≡ C.cmp →
         (n : ℕ) (cs : List (Call C C.Signature)) →
         AllByRecursion (NamesAtMost s n) (taken_sets s (past s cs)) →
         IsBounded s n (world_at s (past s cs)) }
+    ensures listed { (s : Settings C C.Signature) → s.cmp ≡ C.cmp →
+        (cs : List (Call C C.Signature)) → AreListed s (world_at s (past s cs)) }
+    ensures named { (s : Settings C C.Signature) → s.cmp ≡ C.cmp →
+        (x : SetAt C) → IsNamingListed s x }
 {}
 
 /// The info and failures of an absent peer are forgotten: what is known of it is what is known of a

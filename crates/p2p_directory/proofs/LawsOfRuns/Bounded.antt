@@ -70,7 +70,7 @@ module _ {C S : Type 0} (s : Settings C S) (n : ℕ) where
       go (inl f) rest = or_left (History.is_in s p h.0.peers) (History.is_in s p (named_by xs h.1)) (h.0.all.members p ∙ f)
       go (inr f) rest = or_right (History.is_in s p h.0.peers) (History.is_in s p (named_by xs h.1)) (rest f)
 
-  named_any : (p : C) (xs : List (SetAt C)) → History.is_named s p xs ≡ true → list_any (λ x. names_in s x p) xs ≡ true
+  pub named_any : (p : C) (xs : List (SetAt C)) → History.is_named s p xs ≡ true → list_any (λ x. names_in s x p) xs ≡ true
   named_any p xs e = go (or_cases (nat_lt 0 (History.primary_count s p xs)) (nat_lt 0 (History.secondary_count s p xs)) e)
     where
       go : (nat_lt 0 (History.primary_count s p xs) ≡ true) ⊎ (nat_lt 0 (History.secondary_count s p xs) ≡ true) → list_any (λ x. names_in s x p) xs ≡ true

@@ -28,3 +28,13 @@ module _ {C S : Type 0} (s : Settings C S) where
       (present persistent left_over : List C) → Lists s.cmp (is_present_in s w) present →
       Lists s.cmp (is_persistent s) persistent → Lists s.cmp (is_left_over w) left_over →
       length present ≤ n * s.max_sets + length persistent + length left_over
+
+  -- there are lists of the present keys, of the persistent ones, and of those that are left over
+  pub record AreListed (w : World C S) : Type 0 where
+    pub present : (ps : List C) × Lists s.cmp (is_present_in s w) ps
+    pub persistent : (ps : List C) × Lists s.cmp (is_persistent s) ps
+    pub left_over : (ps : List C) × Lists s.cmp (is_left_over w) ps
+
+  -- .. and of the peers that a set names
+  abbrev pub IsNamingListed : SetAt C → Type 0
+  IsNamingListed x = (ps : List C) × Lists s.cmp (names_in x) ps
