@@ -22,7 +22,8 @@ ghost use Rattle.p2p_tracker.specs.Directory.{connected_record, updated_record, 
 
 use crate::directory::{Config, Metadata};
 use crate::kept::cooldowns::Cooldowns;
-use crate::kept::{Known, forget, put};
+use crate::kept::maps::{drop_value, put};
+use crate::kept::window::Known;
 use crate::record::{DialStatus, Record, ReserveResult, next_moments};
 use p2p_discovery::codec::PublicKey;
 use p2p_discovery::discovery::Info;
@@ -170,7 +171,7 @@ impl<C: PublicKey> Records<C> {
             known.before = !found.want(limit);
             release_record(found, metadata);
             if found.deletable() {
-                forget(self.map.remove(&peer));
+                drop_value(self.map.remove(&peer));
             } else {
                 known.after = !found.want(limit);
             }

@@ -4,7 +4,7 @@ use Rattle.p2p_tracker.specs.Private.Places.{with_bits_at, walk, indices}
 use Rattle.p2p_tracker.specs.Private.Window.{has_primary}
 use Rattle.p2p_tracker.proofs.SetsAndRecords.Indexed.{bits_of_all}
 use Rattle.p2p_tracker.proofs.SetsAndRecords.Places.{places_counted}
-use Rattle.p2p_tracker.proofs.kept.refresh_places.Goals as goal
+use Rattle.p2p_tracker.proofs.kept.window.refresh_places.Goals as goal
 
 pub set_bits-requires-clause-few : goal.set_bits-requires-clause-few
 set_bits-requires-clause-few g c =

@@ -7,7 +7,7 @@ use Rattle.p2p_tracker.specs.Private.Window.{SetWithBits}
 use Rattle.p2p_tracker.specs.Private.Places.{with_bits_at, walk, indices, has_index}
 use Rattle.p2p_tracker.proofs.SetsAndRecords.Indexed.{bits_last, bit_past, indices_with_bit}
 use Rattle.p2p_tracker.proofs.SetsAndRecords.Walks.{passed, met_at}
-use Rattle.p2p_tracker.proofs.kept.set_bits.Goals as goal
+use Rattle.p2p_tracker.proofs.kept.window.set_bits.Goals as goal
 
 nobody : {A : Type 0} (xs : List A) → length xs ≡ 0 → xs ≡ []
 nobody [] e = refl

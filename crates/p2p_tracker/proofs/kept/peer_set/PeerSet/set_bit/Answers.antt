@@ -2,7 +2,7 @@ use Rattle.std.proofs.Common.{sym, ◌∙◌, ap}
 use Rattle.std.specs.Map.{keys_of}
 use Rattle.p2p_discovery.specs.Ordered.{has_key}
 use Rattle.p2p_tracker.proofs.SetsAndRecords.Windows.{keys_with_bit}
-use Rattle.p2p_tracker.proofs.kept.PeerSet.set_bit.Goals as goal
+use Rattle.p2p_tracker.proofs.kept.peer_set.PeerSet.set_bit.Goals as goal
 
 pub invariant_of-self : goal.invariant_of-self
 invariant_of-self g c = λ q named.

@@ -3,7 +3,7 @@ use Rattle.std.specs.Map.{keys_of}
 use Rattle.p2p_discovery.specs.Ordered.{has_key}
 use Rattle.p2p_tracker.proofs.SetsAndRecords.Naming.{names-filter}
 use Rattle.p2p_tracker.proofs.SetsAndRecords.Windows.{unset_is, keys_with_bits}
-use Rattle.p2p_tracker.proofs.kept.PeerSet.new.Goals as goal
+use Rattle.p2p_tracker.proofs.kept.peer_set.PeerSet.new.Goals as goal
 
 -- a peer in both roles is primary only
 pub invariant_of-result : goal.invariant_of-result

@@ -1,6 +1,6 @@
 use Rattle.std.proofs.Common.{◌≡◌, ◌+◌, length}
 use Rattle.p2p_tracker.specs.Private.Places.{with_bits_at, walk, indices}
-use Rattle.p2p_tracker.proofs.kept.set_bits.Given as goal
+use Rattle.p2p_tracker.proofs.kept.window.set_bits.Given as goal
 
 -- with the bits that are still to be written all are, and with the places that are still to be met all are met
 abbrev pub invariant-loop-count : goal.invariant-loop-count

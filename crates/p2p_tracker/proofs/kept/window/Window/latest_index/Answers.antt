@@ -4,7 +4,7 @@ use Rattle.p2p_tracker.specs.PeerSets.{latest_index}
 use Rattle.p2p_tracker.specs.Private.Window.{SetWithBits, plain_sets}
 use Rattle.p2p_tracker.proofs.SetsAndRecords.Retained.{last_is}
 use Rattle.p2p_tracker.proofs.SetsAndRecords.Windows.{latest_plain}
-use Rattle.p2p_tracker.proofs.kept.Window.latest_index.Goals as goal
+use Rattle.p2p_tracker.proofs.kept.window.Window.latest_index.Goals as goal
 
 pub returns-in-Some : goal.returns-in-Some
 returns-in-Some g c =

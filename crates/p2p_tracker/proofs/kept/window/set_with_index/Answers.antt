@@ -3,7 +3,7 @@ use Rattle.std.specs.Prelude.{◌==◌}
 use Rattle.std.proofs.lemmas.Bool.Decides.{nat_tests}
 use Rattle.p2p_tracker.specs.Private.Window.{SetWithBits}
 use Rattle.p2p_tracker.proofs.SetsAndRecords.Windows.{found_at, not_found_more}
-use Rattle.p2p_tracker.proofs.kept.set_with_index.Goals as goal
+use Rattle.p2p_tracker.proofs.kept.window.set_with_index.Goals as goal
 
 pub returns-then-index : goal.returns-then-index
 returns-then-index g c =

@@ -4,7 +4,7 @@ use Rattle.std.specs.List.{last_or}
 use Rattle.std.specs.Option.{option_copied}
 use Rattle.std.proofs.lemmas.Bool.{ltb-true, lt-ltb}
 use Rattle.p2p_tracker.proofs.SetsAndRecords.Retained.{last_is}
-use Rattle.p2p_tracker.proofs.kept.Window.last.Goals as goal
+use Rattle.p2p_tracker.proofs.kept.window.Window.last.Goals as goal
 
 last_seen : {A : Type 0} (o : Option (Bor A)) (xs : List A) (n : ℕ) → n ≡ length xs →
     is_some o ≡ nat_lt 0 (length xs) → IfSome o (λ x. x.now ≡ get_or xs (n - 1) x.now) →

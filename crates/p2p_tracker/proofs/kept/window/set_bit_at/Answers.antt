@@ -4,7 +4,7 @@ use Rattle.std.proofs.lemmas.List.{get_or-map}
 use Rattle.std.proofs.lemmas.List.Sorted.{answers_always}
 use Rattle.p2p_tracker.specs.Private.Window.{SetWithBits}
 use Rattle.p2p_tracker.proofs.SetsAndRecords.Indexed.{bit_written, bit_nowhere, index_found, index_nowhere, none_has}
-use Rattle.p2p_tracker.proofs.kept.set_bit_at.Goals as goal
+use Rattle.p2p_tracker.proofs.kept.window.set_bit_at.Goals as goal
 
 pub returns-in-Some-clause-sets : goal.returns-in-Some-clause-sets
 returns-in-Some-clause-sets g c =
