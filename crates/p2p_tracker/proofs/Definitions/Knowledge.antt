@@ -6,6 +6,7 @@ use Rattle.std.specs.Prelude.{if◌then◌else◌, nat_lt, filter}
 use Rattle.std.proofs.lemmas.List.{append-nil}
 use Rattle.std.proofs.lemmas.List.Sums.{sum_by-cons}
 use Rattle.std.proofs.lemmas.Bool.{ltb-true, ltb-false, lt-ltb, le-ltb}
+use Rattle.std.proofs.Math.Bool.{or-true, or-false}
 use Rattle.p2p_discovery.specs.declared.discovery.Info.{Info}
 use Rattle.p2p_discovery.specs.declared.types.ingress.Ingress.{Ingress}
 use Rattle.p2p_tracker.specs.Calls.{Settings, Direction, Event}
@@ -77,14 +78,6 @@ module _ {C S : Type 0} (s : Settings C S) where
       go true e = refl
       go false e = not_newer (Some i) ∙ sym e
 
-  or_true : (x : Bool) → (x || true) ≡ true
-  or_true true = refl
-  or_true false = refl
-
-  or_false : (x : Bool) → (x || false) ≡ x
-  or_false true = refl
-  or_false false = refl
-
   newer_some : (j : Info C S) (c : Option (Info C S)) → History.is_newer None (later (Some j) c) ≡ true
   newer_some j None = refl
   newer_some j (Some k) =
@@ -92,9 +85,9 @@ module _ {C S : Type 0} (s : Settings C S) where
       [ true ↦ refl | false ↦ refl ]
 
   newer_chain : (a b c : Option (Info C S)) → History.is_newer a (later b c) ≡ (History.is_newer (later a b) c || History.is_newer a b)
-  newer_chain None None c = sym (or_false (History.is_newer None c))
-  newer_chain None (Some j) c = newer_some j c ∙ sym (or_true (History.is_newer (Some j) c))
-  newer_chain (Some i) None c = sym (or_false (History.is_newer (Some i) c))
+  newer_chain None None c = sym (or-false (History.is_newer None c))
+  newer_chain None (Some j) c = newer_some j c ∙ sym (or-true (History.is_newer (Some j) c))
+  newer_chain (Some i) None c = sym (or-false (History.is_newer (Some i) c))
   newer_chain (Some i) (Some j) None =
       elim (nat_lt i.timestamp j.timestamp) as
       (λ x. nat_lt i.timestamp j.timestamp
@@ -109,8 +102,8 @@ module _ {C S : Type 0} (s : Settings C S) where
           lt-ltb i.timestamp k.timestamp
           (omega (arith, ltb-true i.timestamp j.timestamp e, ltb-true j.timestamp k.timestamp f))
           ∙ sym (ap (λ x. x || nat_lt i.timestamp j.timestamp) f)
-      go true false e f = e ∙ sym (ap (λ x. nat_lt j.timestamp k.timestamp || x) e ∙ or_true (nat_lt j.timestamp k.timestamp))
-      go false true e f = sym (ap (λ x. nat_lt i.timestamp k.timestamp || x) e ∙ or_false (nat_lt i.timestamp k.timestamp))
+      go true false e f = e ∙ sym (ap (λ x. nat_lt j.timestamp k.timestamp || x) e ∙ or-true (nat_lt j.timestamp k.timestamp))
+      go false true e f = sym (ap (λ x. nat_lt i.timestamp k.timestamp || x) e ∙ or-false (nat_lt i.timestamp k.timestamp))
       go false false e f =
           ap (λ x. x || nat_lt i.timestamp j.timestamp)
           (sym (le-ltb i.timestamp k.timestamp

@@ -1,17 +1,13 @@
-use Rattle.std.proofs.Common.{◌≡◌, ◌<◌, ◌++◌, ◌∷◌, [], false, List, Some, None, length, ap, sym, ◌∙◌}
+use Rattle.std.proofs.Common.{◌≡◌, ◌<◌, ◌++◌, ◌∷◌, [], false, Some, None, length, ap, sym, ◌∙◌}
 use Rattle.std.proofs.Common.{refl, subst, arith, length-append, get_or}
 use Rattle.std.specs.List.Sorted.{IsStrictlySortedBy}
 use Rattle.std.specs.Ordering.{nat_cmp}
-use Rattle.std.proofs.lemmas.List.{length-map}
+use Rattle.std.proofs.lemmas.List.{length-map, nil_from_length}
 use Rattle.p2p_tracker.specs.Private.Window.{SetWithBits}
 use Rattle.p2p_tracker.specs.Private.Places.{with_bits_at, walk, indices, has_index}
 use Rattle.p2p_tracker.proofs.SetsAndRecords.Indexed.{bits_last, bit_past, indices_with_bit}
 use Rattle.p2p_tracker.proofs.SetsAndRecords.Walks.{passed, met_at}
 use Rattle.p2p_tracker.proofs.kept.window.set_bits.Goals as goal
-
-nobody : {A : Type 0} (xs : List A) → length xs ≡ 0 → xs ≡ []
-nobody [] e = refl
-nobody (x ∷ xs) e = absurd (omega (arith, e))
 
 pub loop-count-init : goal.loop-count-init
 loop-count-init g c = (refl, omega arith, refl)
@@ -83,7 +79,7 @@ loop-count-preserved g c =
 pub returns-clause-sets : goal.returns-clause-sets
 returns-clause-sets g c =
     let met = walk (indices c.args.sets.now.items) c.args.links.now.items c.loop-count.next in
-    let none = nobody met (omega (
+    let none = nil_from_length met (omega (
       arith,
       c.loop-count.invariant.1,
       c.requires.few,
