@@ -11,25 +11,21 @@ use Rattle.p2p_tracker.specs.declared.record.Address.{Address}
 use Rattle.p2p_tracker.specs.declared.record.Address.TheVariants.{Unknown, Myself, Bootstrapper}
 use Rattle.p2p_tracker.specs.declared.record.Address.TheVariants.{Discovered}
 use Rattle.p2p_tracker.specs.declared.record.Status.{Status}
-use Rattle.p2p_tracker.specs.declared.record.Status.TheVariants.{Inert, Reserved, Active}
+use Rattle.p2p_tracker.specs.declared.record.Status.TheVariants.{Inert, Reserved}
 use Rattle.p2p_tracker.specs.declared.record.dialing.DialStatus.{DialStatus}
 use Rattle.p2p_tracker.specs.declared.record.dialing.DialStatus.TheVariants as dial
 use Rattle.p2p_tracker.specs.declared.record.dialing.ReserveResult.{ReserveResult}
 use Rattle.p2p_tracker.specs.declared.record.dialing.ReserveResult.TheVariants as answer
 use Rattle.p2p_tracker.specs.Moments.{cap, jitter}
 use Rattle.p2p_tracker.specs.Calls.{Cooldown}
-use Rattle.p2p_tracker.specs.History.{is_inert, first_greatest}
-use Rattle.p2p_tracker.specs.World.{reservable_from, dialable_from}
+use Rattle.p2p_tracker.specs.Status.{is_inert, is_active}
+use Rattle.p2p_tracker.specs.Lists.{first_greatest}
+use Rattle.p2p_tracker.specs.Cooldowns.{reservable_from, dialable_from}
 
 -- the answer grants a reservation
 abbrev pub is_grant : ReserveResult → Bool
 is_grant answer.Reserved = true
 is_grant _ = false
-
--- the status is active
-abbrev pub is_active : Status → Bool
-is_active Active = true
-is_active _ = false
 
 -- when a peer may be dialled: now, after a moment in nanoseconds since the epoch, or never
 pub data DialView : Type 0 where

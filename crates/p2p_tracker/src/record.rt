@@ -5,7 +5,7 @@ ghost use Rattle.std.specs.Prelude.{IfOk, IfSome, IsOk, None};
 ghost use Rattle.std.specs.Option.{option_copied, option_map};
 ghost use Rattle.std.specs.Duration.{as_nanos};
 ghost use Rattle.p2p_discovery.specs.Ingress.{takes_none};
-ghost use Rattle.p2p_tracker.specs.History.{is_inert, is_reserved};
+ghost use Rattle.p2p_tracker.specs.Status.{is_inert, is_reserved};
 ghost use Rattle.p2p_tracker.specs.Record.{new_record, reserve_answer, record_after_asking};
 ghost use Rattle.p2p_tracker.specs.Record.{reserved_record, fresh};
 ghost use Rattle.p2p_tracker.specs.Cooldowns.{cooldown_view};

@@ -7,15 +7,19 @@ use Rattle.std.specs.Option.{option_map, option_map_or}
 use Rattle.std.specs.List.{list_any, list_all, last_or}
 use Rattle.std.proofs.lemmas.Map.Views.{tells_apart}
 use Rattle.p2p_discovery.specs.declared.types.ingress.Ingress.{Ingress}
+use Rattle.p2p_tracker.specs.Blocks.{is_blocked}
 use Rattle.p2p_tracker.specs.declared.record.Address.TheVariants.{Myself, Bootstrapper}
 use Rattle.p2p_tracker.specs.declared.record.Status.{Status}
 use Rattle.p2p_tracker.specs.declared.record.Status.TheVariants.{Inert, Reserved}
 use Rattle.p2p_tracker.specs.Calls.{Settings, Call, SetAt, Direction, Grant, Cooldown}
 use Rattle.p2p_tracker.specs.Calls.Event.{Tracked, Granted, Released, Forgot}
-use Rattle.p2p_tracker.specs.History.{same, is_own, is_inert, is_persistent, is_named, is_present_with, last_of}
+use Rattle.p2p_tracker.specs.History.{same, is_own, is_persistent, is_named, is_present_with}
+use Rattle.p2p_tracker.specs.Status.{is_inert}
 use Rattle.p2p_tracker.specs.World
 use Rattle.p2p_tracker.specs.Step
-use Rattle.p2p_tracker.specs.World.{World, Known, Peer, last_ingress_by, reservable_from, may_listen}
+use Rattle.p2p_tracker.specs.World.{World, Known, Peer, may_listen}
+use Rattle.p2p_tracker.specs.Lists.{last_ingress_by, last_of}
+use Rattle.p2p_tracker.specs.Cooldowns.{reservable_from}
 use Rattle.p2p_tracker.specs.Step.{new_known, world_with}
 use Rattle.p2p_tracker.specs.Answers.{is_present_in, IsTeardown, status_in, is_cooled_by, is_cooled_at, IsNumberCooled}
 use Rattle.p2p_tracker.specs.Record.{new_record, with_cooldown, is_eligible, reserved_record, unless_deletable}
@@ -182,7 +186,7 @@ module _ {C S : Type 0} (s : Settings C S) where
       where
         present : is_present_with s p w.sets (w.peer p).status ≡ true
         present = listened_present (is_own s p) (is_named s p w.sets) (is_persistent s p)
-            (is_inert (w.peer p).status) (not (World.is_blocked (w.unblock p) t))
+            (is_inert (w.peer p).status) (not (is_blocked (w.unblock p) t))
             (nat_le (reservable_from (w.cooldown p)) t) may
 
         grant : Grant

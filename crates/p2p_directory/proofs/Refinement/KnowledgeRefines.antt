@@ -19,14 +19,18 @@ use Rattle.p2p_tracker.specs.declared.record.Status.{Status}
 use Rattle.p2p_tracker.specs.declared.record.Status.TheVariants.{Inert, Reserved, Active}
 use Rattle.p2p_tracker.specs.Calls.{Settings, SetAt, Cooldown}
 use Rattle.p2p_tracker.specs.Calls.Event.{Connected, Updated}
-use Rattle.p2p_tracker.specs.History.{same, is_own, is_inert, is_reserved, is_persistent, is_named}
-use Rattle.p2p_tracker.specs.History.{is_present_with, is_newer, first_greatest, primary_count}
+use Rattle.p2p_tracker.specs.History.{same, is_own, is_persistent, is_named}
+use Rattle.p2p_tracker.specs.Status.{is_inert, is_reserved}
+use Rattle.p2p_tracker.specs.History.{is_present_with, is_newer, primary_count}
+use Rattle.p2p_tracker.specs.Lists.{first_greatest}
 use Rattle.p2p_tracker.specs.History.{secondary_count}
-use Rattle.p2p_tracker.specs.World.{World, Known, Peer, last_ingress, reservable_from, dialable_from}
+use Rattle.p2p_tracker.specs.World.{World, Known, Peer, last_ingress}
+use Rattle.p2p_tracker.specs.Cooldowns.{reservable_from, dialable_from}
 use Rattle.p2p_tracker.specs.Step
 use Rattle.p2p_tracker.specs.Step.{new_known, world_with, status_connected}
 use Rattle.p2p_tracker.specs.Answers.{is_present_in, wants, wants_with, active_info, sharable_of}
-use Rattle.p2p_tracker.specs.Answers.{sharable_info, shared_info, infos_for, epoch_millis}
+use Rattle.p2p_tracker.specs.Answers.{sharable_info, shared_info, infos_for}
+use Rattle.p2p_tracker.specs.Moments.{epoch_millis}
 use Rattle.p2p_tracker.specs.Answers.{IsNumberTracked}
 use Rattle.p2p_tracker.specs.PeerSets.{set_with}
 use Rattle.p2p_tracker.specs.Record.{is_myself, after_success, address_after_offer, address_after_infos, wants_by, sharable_by}

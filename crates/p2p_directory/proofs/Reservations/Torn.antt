@@ -15,7 +15,7 @@ use Rattle.std.proofs.lemmas.Grind.{common_steps}
 use Rattle.std.proofs.lemmas.Map.Keys.{IsDistinct-from_sorted}
 use Rattle.std.proofs.lemmas.Map.Made.{length-le_from_is_member}
 use Rattle.p2p_discovery.specs.Ordered.{has_key}
-use Rattle.p2p_tracker.specs.History.{is_inert}
+use Rattle.p2p_tracker.specs.Status.{is_inert}
 use Rattle.p2p_tracker.specs.Record.{is_eligible, is_myself, is_wanted}
 use Rattle.p2p_tracker.specs.Seen.{DirectoryView, RecordView, record_of}
 use Rattle.p2p_tracker.specs.Directory.{AreTornDown, is_torn_down_by, other_keys}

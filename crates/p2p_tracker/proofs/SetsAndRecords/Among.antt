@@ -24,7 +24,7 @@ use Rattle.p2p_tracker.specs.declared.record.Address.{Address}
 use Rattle.p2p_tracker.specs.declared.record.Address.TheVariants.{Unknown, Myself, Bootstrapper, Discovered}
 use Rattle.p2p_tracker.specs.declared.record.Status.{Status}
 use Rattle.p2p_tracker.specs.declared.record.Status.TheVariants.{Inert, Reserved, Active}
-use Rattle.p2p_tracker.specs.History.{is_inert}
+use Rattle.p2p_tracker.specs.Status.{is_inert}
 use Rattle.p2p_tracker.specs.Record.{is_myself, sharable_by}
 use Rattle.p2p_tracker.specs.Seen.{RecordView, record_at}
 use Rattle.p2p_tracker.specs.Directory.{is_busy, shared_at, shared_of, shared_for, sharable_of_record}

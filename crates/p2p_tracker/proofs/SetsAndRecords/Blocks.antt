@@ -19,7 +19,7 @@ use Rattle.std.proofs.lemmas.Map.Entries.{option_filter, lookup-filter-values}
 use Rattle.std.proofs.lemmas.Map.Keys.{IsDistinct-from_sorted}
 use Rattle.std.proofs.lemmas.Map.Lookups.{CmpEqualImpliesEq}
 use Rattle.std.proofs.lemmas.Bool.{ltb-false, le-ltb, lt-ltb, not-true}
-use Rattle.p2p_tracker.specs.World.{is_blocked}
+use Rattle.p2p_tracker.specs.Blocks.{is_blocked}
 use Rattle.p2p_discovery.specs.Ordered.{has_key}
 use Rattle.p2p_tracker.specs.Directory.{if_later}
 use Rattle.p2p_tracker.specs.Lists.{Lists, Somebody}

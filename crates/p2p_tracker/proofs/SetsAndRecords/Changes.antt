@@ -20,12 +20,13 @@ use Rattle.p2p_tracker.specs.declared.record.Status.{Status}
 use Rattle.p2p_tracker.specs.declared.record.Status.TheVariants.{Inert, Reserved, Active}
 use Rattle.p2p_tracker.specs.declared.record.dialing.ReserveResult.TheVariants as answer
 use Rattle.p2p_tracker.specs.Calls.{SetAt, Cooldown}
-use Rattle.p2p_tracker.specs.History.{is_inert, first_greatest}
+use Rattle.p2p_tracker.specs.Lists.{first_greatest}
 use Rattle.p2p_tracker.specs.Record.{is_myself, is_wanted, is_outbound_target}
 use Rattle.p2p_tracker.specs.Seen.{RecordView}
 use Rattle.p2p_tracker.specs.Record.{is_dial_candidate, has_valid_ingress, ingress_of}
 use Rattle.p2p_tracker.specs.Record.{may_be_dialled, reserve_answer, is_eligible, is_grant}
-use Rattle.p2p_tracker.specs.Record.{is_active, may_come, wants_by, is_deletable, reserved_record}
+use Rattle.p2p_tracker.specs.Record.{may_come, wants_by, is_deletable, reserved_record}
+use Rattle.p2p_tracker.specs.Status.{is_active, is_inert}
 use Rattle.p2p_tracker.specs.Record.{unless_deletable, after_failure, after_success}
 use Rattle.p2p_tracker.specs.Record.{address_after_update, address_after_offer}
 use Rattle.p2p_tracker.specs.Directory.{has_status, ChangesAt, ChangesRecord}

@@ -17,8 +17,8 @@ use Rattle.p2p_tracker.specs.declared.record.Status.TheVariants.{Inert, Reserved
 use Rattle.p2p_tracker.specs.declared.record.Role.{Role}
 use Rattle.p2p_tracker.specs.declared.record.Role.TheVariants.{Primary, Secondary}
 use Rattle.p2p_tracker.specs.Calls.{SetAt, Cooldown}
-use Rattle.p2p_tracker.specs.History.{last_of, is_inert}
-use Rattle.p2p_tracker.specs.World.{last_ingress_by}
+use Rattle.p2p_tracker.specs.Status.{is_inert}
+use Rattle.p2p_tracker.specs.Lists.{last_ingress_by, last_of}
 use Rattle.p2p_tracker.specs.Record.{new_record, fresh, is_myself, is_wanted, is_eligible, is_deletable, with_counts, unless_deletable}
 use Rattle.p2p_tracker.specs.Seen.{RecordView}
 use Rattle.p2p_tracker.specs.Private.Counts.{one_set_more, one_set_less, record_leaving}

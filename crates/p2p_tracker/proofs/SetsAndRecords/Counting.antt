@@ -11,7 +11,7 @@ use Rattle.p2p_discovery.proofs.Truth.{and-and_not}
 use Rattle.p2p_tracker.specs.declared.record.Role.{Role}
 use Rattle.p2p_tracker.specs.declared.record.Role.TheVariants.{Primary, Secondary}
 use Rattle.p2p_tracker.specs.Calls.{Cooldown}
-use Rattle.p2p_tracker.specs.History.{is_inert}
+use Rattle.p2p_tracker.specs.Status.{is_inert}
 use Rattle.p2p_tracker.specs.Record.{fresh, is_myself, is_wanted, is_eligible, is_deletable, with_counts, unless_deletable}
 use Rattle.p2p_tracker.specs.Seen.{RecordView}
 use Rattle.p2p_tracker.specs.Private.Counts.{is_torn_down_without, one_set_more, one_set_less}

@@ -10,7 +10,7 @@ use Rattle.std.specs.declared.cmp.Ordering.{Ordering}
 use Rattle.p2p_discovery.specs.declared.discovery.Info.{Info}
 use Rattle.p2p_discovery.proofs.Truth.{suc-plus_one}
 use Rattle.p2p_tracker.specs.Calls.{SetAt}
-use Rattle.p2p_tracker.specs.Answers.{epoch_millis}
+use Rattle.p2p_tracker.specs.Moments.{epoch_millis}
 use Rattle.p2p_tracker.specs.PeerSets.{set_with}
 use Rattle.p2p_tracker.specs.Seen.{RecordView}
 use Rattle.p2p_tracker.specs.Directory.{shared_at, shared_of, shared_for, infos_in}

@@ -13,7 +13,7 @@ use Rattle.std.proofs.lemmas.List.{map-append, length-map, drop-map}
 use Rattle.std.proofs.Math.Bool.{or-true}
 use Rattle.p2p_tracker.specs.declared.record.Role.TheVariants.{Primary, Secondary}
 use Rattle.p2p_tracker.specs.Calls.{SetAt, Cooldown}
-use Rattle.p2p_tracker.specs.History.{last_of}
+use Rattle.p2p_tracker.specs.Lists.{last_of}
 use Rattle.p2p_tracker.specs.Record.{fresh, is_myself, is_eligible, with_counts}
 use Rattle.p2p_tracker.specs.Seen.{RecordView}
 use Rattle.p2p_tracker.specs.PeerSets.{set_count, AreRolesDisjoint}

@@ -8,7 +8,7 @@ ghost use Rattle.std.specs.Map.{keys_of};
 ghost use Rattle.std.specs.List.Sorted.{IsStrictlySortedBy};
 ghost use Rattle.std.specs.Duration.{as_nanos};
 ghost use Rattle.std.specs.BTreeMap.{get, is_at};
-ghost use Rattle.p2p_tracker.specs.History.{is_inert, is_reserved};
+ghost use Rattle.p2p_tracker.specs.Status.{is_inert, is_reserved};
 ghost use Rattle.p2p_tracker.specs.Record.{may_come, reserved_record, with_cooldown};
 ghost use Rattle.p2p_tracker.specs.Moments.{moments_after};
 ghost use Rattle.p2p_tracker.specs.Cooldowns.{cooldown_in};

@@ -11,7 +11,7 @@ ghost use Rattle.std.specs.BTreeSet.{contains};
 ghost use Rattle.std.specs.Option.{option_map, option_map_or};
 ghost use Rattle.std.specs.Ordering.{is_gt};
 ghost use Rattle.p2p_tracker.specs.Blocks.{in_nanos, is_later, unblock_in};
-ghost use Rattle.p2p_tracker.specs.World.{is_blocked};
+ghost use Rattle.p2p_tracker.specs.Blocks.{is_blocked};
 ghost use Rattle.p2p_tracker.specs.Private.Ends.{end_cmp, end_in_nanos, IsFirstOf, AreEnds, AreKept};
 
 use crate::kept::maps::drop_value;

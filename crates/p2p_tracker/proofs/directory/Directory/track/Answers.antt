@@ -6,7 +6,8 @@ use Rattle.p2p_discovery.proofs.Results.{OnErr-from}
 use Rattle.p2p_tracker.specs.declared.record.Status.{Status}
 use Rattle.p2p_tracker.specs.declared.record.Status.TheVariants.{Inert}
 use Rattle.p2p_tracker.specs.PeerSets.{set_of}
-use Rattle.p2p_tracker.specs.History.{last_of, is_inert, is_reserved}
+use Rattle.p2p_tracker.specs.Lists.{last_of}
+use Rattle.p2p_tracker.specs.Status.{is_inert, is_reserved}
 use Rattle.p2p_tracker.specs.Record.{is_eligible}
 use Rattle.p2p_tracker.specs.Directory.{record_with_sets, is_connectable, has_status, is_known}
 use Rattle.p2p_tracker.specs.Seen.{DirectoryView, config_view, record_at, record_of}
