@@ -87,16 +87,16 @@ module _ {C S : Type 0} where
   is_myself _ = false
 
   -- in a set, or persistent
-  abbrev pub is_wanted : RecordView C S → Bool
-  is_wanted r = nat_lt 0 r.primary_sets || nat_lt 0 r.secondary_sets || r.persistent
+  abbrev pub is_named_or_persistent : RecordView C S → Bool
+  is_named_or_persistent r = nat_lt 0 r.primary_sets || nat_lt 0 r.secondary_sets || r.persistent
 
   -- its peer may be connected
   abbrev pub is_eligible : RecordView C S → Bool
-  is_eligible r = not (is_myself r.address) && is_wanted r
+  is_eligible r = not (is_myself r.address) && is_named_or_persistent r
 
   -- it may go
   abbrev pub is_deletable : RecordView C S → Bool
-  is_deletable r = not (is_wanted r) && is_inert r.status
+  is_deletable r = not (is_named_or_persistent r) && is_inert r.status
 
   -- reserved or connected, and no longer eligible
   abbrev pub needs_teardown : RecordView C S → Bool

@@ -21,7 +21,7 @@ use Rattle.p2p_tracker.specs.declared.record.Status.TheVariants.{Inert, Reserved
 use Rattle.p2p_tracker.specs.declared.record.dialing.ReserveResult.TheVariants as answer
 use Rattle.p2p_tracker.specs.Calls.{SetAt, Cooldown}
 use Rattle.p2p_tracker.specs.Lists.{first_greatest}
-use Rattle.p2p_tracker.specs.Record.{is_myself, is_wanted, is_outbound_target}
+use Rattle.p2p_tracker.specs.Record.{is_myself, is_named_or_persistent, is_outbound_target}
 use Rattle.p2p_tracker.specs.Seen.{RecordView}
 use Rattle.p2p_tracker.specs.Record.{is_dial_candidate, has_valid_ingress, ingress_of}
 use Rattle.p2p_tracker.specs.Record.{may_be_dialled, reserve_answer, is_eligible, is_grant}
@@ -61,7 +61,7 @@ module _ {C S : Type 0} where
 
   pub kept_reserved : (now draw cooldown : ℕ) (o : Option (RecordView C S)) → IsSound o → IsKept o (option_map (reserved_record now draw cooldown) o)
   kept_reserved now draw cooldown None sound = kept_same None sound
-  kept_reserved now draw cooldown (Some r) sound = record { sound = (and-false (not (is_wanted r)), sound.1); primary = refl; secondary = refl; own = refl }
+  kept_reserved now draw cooldown (Some r) sound = record { sound = (and-false (not (is_named_or_persistent r)), sound.1); primary = refl; secondary = refl; own = refl }
 
   success_own : (dialer : Bool) (a : Address C S) → is_myself (if dialer then after_success a else a) ≡ is_myself a
   success_own false a = refl
@@ -73,7 +73,7 @@ module _ {C S : Type 0} where
   pub kept_connected : (dialer : Bool) (o : Option (RecordView C S)) → IsSound o → IsKept o (option_map (connected_record dialer) o)
   kept_connected dialer None sound = kept_same None sound
   kept_connected dialer (Some r) sound = record {
-    sound = (and-false (not (is_wanted r)), λ own. sound.1 (sym (success_own dialer r.address) ∙ own));
+    sound = (and-false (not (is_named_or_persistent r)), λ own. sound.1 (sym (success_own dialer r.address) ∙ own));
     primary = refl;
     secondary = refl;
     own = success_own dialer r.address;
@@ -394,7 +394,7 @@ module _ {C S : Type 0} (cmp : C → C → Ordering) where
           let candidate = and_parts (is_inert r.status && is_outbound_target r) (has_valid_ingress cfg.allow_private_ips cfg.allow_dns r.address) parts.0 in
           let target = (and_parts (is_inert r.status) (is_outbound_target r) candidate.0).1 in
           and_from (is_eligible r) (is_grant (reserve_answer now r))
-          (and_from (not (is_myself r.address)) (is_wanted r) (known r.address candidate.1)
+          (and_from (not (is_myself r.address)) (is_named_or_persistent r) (known r.address candidate.1)
           (wanted (nat_lt 0 r.primary_sets) (nat_lt 0 r.secondary_sets) r.persistent target)) parts.1
       go false h f = absurd cc
 

@@ -19,7 +19,7 @@ use Rattle.p2p_tracker.specs.declared.record.Role.TheVariants.{Primary, Secondar
 use Rattle.p2p_tracker.specs.Calls.{SetAt, Cooldown}
 use Rattle.p2p_tracker.specs.Status.{is_inert}
 use Rattle.p2p_tracker.specs.Lists.{last_ingress_by, last_of}
-use Rattle.p2p_tracker.specs.Record.{new_record, fresh, is_myself, is_wanted, is_eligible, is_deletable, with_counts, unless_deletable}
+use Rattle.p2p_tracker.specs.Record.{new_record, fresh, is_myself, is_named_or_persistent, is_eligible, is_deletable, with_counts, unless_deletable}
 use Rattle.p2p_tracker.specs.Seen.{RecordView}
 use Rattle.p2p_tracker.specs.Private.Counts.{one_set_more, one_set_less, record_leaving}
 use Rattle.p2p_tracker.specs.PeerSets.{members, set_count, AreRolesDisjoint}
@@ -114,7 +114,7 @@ module _ {C : Type 0} (cmp : C → C → Ordering) where
 module _ {C S : Type 0} where
   -- what goes is inert
   pub status_unless : (test : Status → Bool) → test Inert ≡ false → (r : RecordView C S) → has_status test (unless_deletable r) ≡ test r.status
-  status_unless test idle r = go (is_wanted r) r.status refl
+  status_unless test idle r = go (is_named_or_persistent r) r.status refl
     where
       go : (wanted : Bool) (status : Status) → r.status ≡ status → has_status test (if not wanted && is_inert status then None else Some r) ≡ test r.status
       go true status e = refl

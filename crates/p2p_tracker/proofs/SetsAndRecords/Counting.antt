@@ -12,7 +12,7 @@ use Rattle.p2p_tracker.specs.declared.record.Role.{Role}
 use Rattle.p2p_tracker.specs.declared.record.Role.TheVariants.{Primary, Secondary}
 use Rattle.p2p_tracker.specs.Calls.{Cooldown}
 use Rattle.p2p_tracker.specs.Status.{is_inert}
-use Rattle.p2p_tracker.specs.Record.{fresh, is_myself, is_wanted, is_eligible, is_deletable, with_counts, unless_deletable}
+use Rattle.p2p_tracker.specs.Record.{fresh, is_myself, is_named_or_persistent, is_eligible, is_deletable, with_counts, unless_deletable}
 use Rattle.p2p_tracker.specs.Seen.{RecordView}
 use Rattle.p2p_tracker.specs.Private.Counts.{is_torn_down_without, one_set_more, one_set_less}
 
@@ -109,7 +109,7 @@ module _ {C S : Type 0} where
   abbrev pub at_counts : ℕ → ℕ → RecordView C S → Option (RecordView C S)
   at_counts p s r = unless_deletable (with_counts p s r)
 
-  stays : (r : RecordView C S) → is_wanted r ≡ true → unless_deletable r ≡ Some r
+  stays : (r : RecordView C S) → is_named_or_persistent r ≡ true → unless_deletable r ≡ Some r
   stays r e = ap (λ w. if not w && is_inert r.status then None else Some r) e
 
   -- who is in a set has a record
@@ -185,14 +185,14 @@ module _ {C S : Type 0} where
           ≡ (not (is_inert r.status) && is_eligible r)
       go true e = and_last (not (is_inert r.status)) (not (is_myself r.address))
           ∙ (λ i. not (is_inert r.status) &&
-          (not (is_myself r.address) && unwanted (is_wanted r) (is_inert r.status) e i))
+          (not (is_myself r.address) && unwanted (is_named_or_persistent r) (is_inert r.status) e i))
       go false e = refl
 
   pub eligible_kept : (r : RecordView C S) → option_map_or is_eligible (unless_deletable r) false ≡ is_eligible r
   eligible_kept r = go (is_deletable r) refl
     where
       go : (b : Bool) → is_deletable r ≡ b → option_map_or is_eligible (if b then None else Some r) false ≡ is_eligible r
-      go true e = sym (and-false (not (is_myself r.address))) ∙ (λ i. not (is_myself r.address) && unwanted (is_wanted r) (is_inert r.status) e i)
+      go true e = sym (and-false (not (is_myself r.address))) ∙ (λ i. not (is_myself r.address) && unwanted (is_named_or_persistent r) (is_inert r.status) e i)
       go false e = refl
 
   -- (a name that does not unfold by itself)

@@ -23,7 +23,7 @@ ghost use Rattle.p2p_tracker.specs.Directory.{connected_record, updated_record, 
 use crate::directory::{Config, Metadata};
 use crate::kept::cooldowns::Cooldowns;
 use crate::kept::maps::{drop_value, put};
-use crate::kept::window::Known;
+use crate::kept::window::BitChange;
 use crate::record::{DialStatus, Record, ReserveResult, next_moments};
 use p2p_discovery::codec::PublicKey;
 use p2p_discovery::discovery::Info;
@@ -153,7 +153,7 @@ impl<C: PublicKey> Records<C> {
 
     /// Ends the reservation of its peer, and removes the record if it is deletable then. Returns
     /// whether the peer's info is known and not wanted, before and after.
-    pub fn release(&mut self, metadata: &Metadata<C>, limit: usize) -> Known
+    pub fn release(&mut self, metadata: &Metadata<C>, limit: usize) -> BitChange
         requires { is_busy (record_at C.cmp self.old (key_of metadata.now)) ≡ true }
         ensures change { ChangesAt C.cmp self.old self.new (key_of metadata.now)
             (kept_after_release metadata.now) }
@@ -163,7 +163,7 @@ impl<C: PublicKey> Records<C> {
             is_known limit (record_at C.cmp self.new (key_of metadata.now)) }
     {
         let peer = *metadata.public_key();
-        let mut known = Known {
+        let mut known = BitChange {
             before: false,
             after: false,
         };
@@ -181,7 +181,7 @@ impl<C: PublicKey> Records<C> {
 
     /// Connects the peer; `dialer` says whether the local node dialled it. Returns whether the
     /// peer's info is known and not wanted, before and after.
-    pub fn connect(&mut self, peer: &C, dialer: bool, limit: usize) -> Known
+    pub fn connect(&mut self, peer: &C, dialer: bool, limit: usize) -> BitChange
         requires { has_status is_reserved (record_at C.cmp self.old peer.now) ≡ true }
         ensures change { ChangesAt C.cmp self.old self.new peer.now
             (option_map (connected_record dialer)) }
@@ -192,12 +192,12 @@ impl<C: PublicKey> Records<C> {
             Some(found) => {
                 let before = !found.want(limit);
                 connect_record(found, dialer);
-                Known {
+                BitChange {
                     before,
                     after: !found.want(limit),
                 }
             }
-            None => Known {
+            None => BitChange {
                 before: false,
                 after: false,
             },
@@ -206,7 +206,7 @@ impl<C: PublicKey> Records<C> {
 
     /// Offers an info to the record of its peer. If it is accepted, returns whether the peer's info
     /// is known and not wanted, before and after; if not, nothing has changed.
-    pub fn update(&mut self, info: Info<C>, limit: usize) -> Option<Known>
+    pub fn update(&mut self, info: Info<C>, limit: usize) -> Option<BitChange>
         ensures change { ChangesAt C.cmp self.old self.new info.public_key
             (option_map (updated_record (info ∷ []))) }
         ensures before { IfSome result (λ known.
@@ -220,7 +220,7 @@ impl<C: PublicKey> Records<C> {
         if let Some(found) = self.map.get_mut(&peer) {
             let before = !found.want(limit);
             if found.update(info) {
-                return Some(Known {
+                return Some(BitChange {
                     before,
                     after: !found.want(limit),
                 });

@@ -22,7 +22,7 @@ use std::marker::Model;
 
 /// Whether a peer's info is known and not wanted, before a change and after it.
 #[derive(Clone, Copy)]
-pub struct Known {
+pub struct BitChange {
     pub before: bool,
     pub after: bool,
 }
@@ -192,7 +192,7 @@ impl<C: PublicKey> Window<C> {
     /// # Cost
     ///
     /// Constant if the bit stays, otherwise that of [`Window::refresh`].
-    pub fn renew(&mut self, peer: &C, known: Known)
+    pub fn renew(&mut self, peer: &C, known: BitChange)
         requires { map (with_bit_of C.cmp peer.now known.before) self.old ≡ self.old }
         ensures { self.new ≡ map (with_bit_of C.cmp peer.now known.after) self.old }
     {
