@@ -14,7 +14,6 @@ mod CarriedExamples
 mod ForeignNodes
 pub mod ByteKeys
 pub mod ShownRun
-pub mod GivenInfos
 pub mod RunPremises
 pub mod RunFrames
 pub mod RunLaws

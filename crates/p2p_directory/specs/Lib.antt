@@ -1,6 +1,7 @@
 -- What `run` promises of replies and of what is left rests on these: read them in this order.
 pub use Rattle.p2p_tracker.specs.Calls
 pub use Rattle.p2p_tracker.specs.Moments
+pub use Rattle.p2p_tracker.specs.Status
 pub use Rattle.p2p_tracker.specs.PeerSets
 pub use Rattle.p2p_tracker.specs.Lists
 pub use Rattle.p2p_tracker.specs.Blocks

@@ -10,7 +10,8 @@ use Rattle.p2p_tracker.specs.declared.directory.Metadata.TheVariants as metadata
 use Rattle.p2p_tracker.specs.Calls.{Settings, Direction}
 use Rattle.p2p_tracker.specs.Calls.Direction.{Listener, Dialer}
 use Rattle.p2p_tracker.specs.History.{is_own, is_persistent, primary_count, secondary_count}
-use Rattle.p2p_tracker.specs.World.{World, Known, last_ingress, reservable_from, dialable_from}
+use Rattle.p2p_tracker.specs.World.{World, Known, last_ingress}
+use Rattle.p2p_tracker.specs.Cooldowns.{reservable_from, dialable_from}
 use Rattle.p2p_tracker.specs.Answers.{is_present_in}
 use Rattle.p2p_tracker.specs.Seen.{RecordView}
 use Rattle.p2p_tracker.specs.Seen.{ConfigView, DirectoryView, record_of}

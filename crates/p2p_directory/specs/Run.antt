@@ -25,7 +25,8 @@ use Rattle.p2p_tracker.specs.Calls.Call.{Track, Dial, Listen, Connect, Release, 
 use Rattle.p2p_tracker.specs.Calls.Call.{UnblockExpired, ForgetCooled, Ask}
 use Rattle.p2p_tracker.specs.PeerSets.{has_peers}
 use Rattle.p2p_tracker.specs.Lists.{Somebody}
-use Rattle.p2p_tracker.specs.History.{is_inert, is_named, taken_sets}
+use Rattle.p2p_tracker.specs.History.{is_named, taken_sets}
+use Rattle.p2p_tracker.specs.Status.{is_inert}
 use Rattle.p2p_tracker.specs.World.{World, world_at, past, event_in}
 use Rattle.p2p_tracker.specs.Answers.{IsTrackAnswer, was_granted, was_taken, was_blocked}
 use Rattle.p2p_tracker.specs.Answers.{may_connect, may_release, status_in, IsNumberTracked}

@@ -14,7 +14,8 @@ use Rattle.p2p_tracker.specs.Answers.{status_in, was_granted}
 use Rattle.p2p_tracker.specs.Calls.{Settings, Call}
 use Rattle.p2p_tracker.specs.Calls.Call.{Ask}
 use Rattle.p2p_tracker.specs.Calls.Question.{StatusOf}
-use Rattle.p2p_tracker.specs.History.{is_persistent, is_named, is_inert}
+use Rattle.p2p_tracker.specs.History.{is_persistent, is_named}
+use Rattle.p2p_tracker.specs.Status.{is_inert}
 use Rattle.p2p_tracker.specs.Step.{world_with}
 use Rattle.p2p_tracker.specs.World.{World, dial_event, may_dial, address_with}
 use Rattle.p2p_directory.specs.declared.run.commands.Command.TheVariants as command

@@ -16,6 +16,7 @@ use Rattle.std.specs.Option.{is_some}
 use Rattle.p2p_discovery.specs.BitSets.{with_bit, unset}
 use Rattle.std.specs.Map.{values_of}
 use Rattle.std.specs.Map.{keys_of}
+use Rattle.std.proofs.lemmas.Bool.{false_from_ne_true}
 
 pub zip_unset : {P : Type 0} (xs : List P) → zip xs (replicate (length xs) false) ≡ unset xs
 zip_unset [] = refl
@@ -75,14 +76,10 @@ module _ {P : Type 0} (test : P → Bool) where
       rw (apart) (ap (λ es. (x, c) ∷ es) rest.0, rest.1)
 
 module _ {P : Type 0} {cmp : P → P → Ordering} (o : IsTotalOrder cmp) (exact : CmpEqualImpliesEq cmp) where
-  either : (b : Bool) → (b ≡ true → ⊥) → b ≡ false
-  either true h = absurd (h refl)
-  either false h = refl
-
   -- a key that stands nowhere is not found
   pub no_place : (key : P) (xs : List P) → ((k : ℕ) → IsPlaceOf key xs k → ⊥) → (j : ℕ) → j < length xs → is_at (cmp key) (get_or xs j key) ≡ false
   no_place key xs h j low =
-      either (is_at (cmp key) (get_or xs j key))
+      false_from_ne_true (is_at (cmp key) (get_or xs j key))
       (λ e. h j (record { in_range = low; at_place = sym (tells_apart exact key (get_or xs j key) e) }))
 
   -- a key in order is found first at its place

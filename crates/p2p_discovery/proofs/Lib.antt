@@ -7,6 +7,8 @@ pub mod ListReads
 pub mod Names
 pub mod Naming
 pub mod ReadLaws
+pub mod Results
 pub mod Sorting
+pub mod Truth
 pub mod Verdicts
 pub mod Unions

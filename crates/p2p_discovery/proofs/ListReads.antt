@@ -1,12 +1,12 @@
 -- Reading and writing values one after the other, as a loop does.
-use Rattle.std.proofs.Common.{◌≡◌, ℕ, zero, suc, ◌+◌, ◌*◌, ◌/◌, ◌≤◌, ◌<◌, Bool, true, false, ◌||◌}
+use Rattle.std.proofs.Common.{◌≡◌, ℕ, suc, ◌+◌, ◌*◌, ◌/◌, ◌≤◌, ◌<◌, true}
 use Rattle.std.proofs.Common.{List, [], ◌∷◌, ◌++◌, length, Result, Ok, Err, refl, sym, ap, ◌∙◌}
 use Rattle.std.proofs.Common.{append_assoc, arith}
 use Rattle.std.proofs.Common.{min, ltb, leb, get_or, drop, add-one, drop-cons}
 use Rattle.std.specs.List.{AllByRecursion}
 use Rattle.p2p_discovery.specs.Lists.{spellings}
 use Rattle.std.proofs.Math.Nat.{le-div_iff_mul-le}
-use Rattle.std.proofs.lemmas.Bool.{lt-ltb, le-leb}
+use Rattle.std.proofs.lemmas.Bool.{lt-ltb, le-leb, or_left, or_right}
 use Rattle.std.proofs.lemmas.List.{append-nil, length-append, length-drop, nil_from_length}
 use Rattle.p2p_discovery.specs.declared.codec.error.CodecError.{CodecError}
 use Rattle.p2p_discovery.specs.declared.codec.error.CodecError.TheVariants.{Memory}
@@ -26,13 +26,6 @@ regroup : {A : Type 0} (front : List A) (x : A) (read : Result (List A × List �
     with_front front (outcome_then read (λ xs. reads (x ∷ xs))) ≡ with_front (front ++ x ∷ []) read
 regroup front x (Ok y) = ap (λ xs. Ok (xs, y.1)) (sym (append_assoc front (x ∷ []) y.0))
 regroup front x (Err e) = refl
-
-or_left : (a b : Bool) → a ≡ true → a || b ≡ true
-or_left a b e = rw e refl
-
-or_right : (a b : Bool) → b ≡ true → a || b ≡ true
-or_right true b e = refl
-or_right false b e = e
 
 pub goes_on : {A : Type 0} (r : List ℕ → Reading A) (front : List A) (left less : ℕ) (rest : List ℕ)
     (total : Reading (List A)) (x : A) (after : List ℕ) → left ≡ suc less → (r rest).outcome ≡ Ok (x, after)

@@ -5,8 +5,8 @@ use Rattle.std.proofs.Common.{arith, eqb, ltb}
 use Rattle.std.specs.List.{slice_split, onto_first, position, position_or_len}
 use Rattle.std.specs.Str.{IsAscii}
 use Rattle.std.proofs.lemmas.Bool.Decides.{nat_tests}
-use Rattle.std.proofs.lemmas.Bool.{eqb-true, ltb-true, ltb-false}
-use Rattle.std.proofs.Math.Bool.{and-true}
+use Rattle.std.proofs.lemmas.Bool.{eqb-true, ltb-true, ltb-false, and_parts, not-false, not-true, false_from_ne_true}
+use Rattle.std.proofs.Math.Bool.{and-true, or-true}
 use Rattle.std.proofs.lemmas.List.{length-drop, take_all}
 use Rattle.std.proofs.lemmas.List.Sums.{fails_before_first, passes_at_first, position_or_len_is}
 use Rattle.std.proofs.lemmas.List.Splits.{slice_split_none, slice_split_first}
@@ -38,20 +38,16 @@ abbrev AreNamed : List (List ℕ) → Type 0
 AreNamed [] = Unit {0}
 AreNamed (l ∷ ls) = (are_name_bytes l ≡ true) × AreNamed ls
 
-and_true : (a b : Bool) → a && b ≡ true → (a ≡ true) × (b ≡ true)
-and_true true b e = (refl, e)
-and_true false b e = absurd cc
-
 label_named : (l : List ℕ) → is_label l ≡ true → are_name_bytes l ≡ true
 unfolding is_label
 label_named l e =
-    let a = and_true _ (not (eqb (get_or l (length l - 1) 0) 45)) e in
-    let b = and_true _ (not (eqb (get_or l 0 0) 45)) a.0 in
-    (and_true _ (are_name_bytes l) b.0).1
+    let a = and_parts _ (not (eqb (get_or l (length l - 1) 0) 45)) e in
+    let b = and_parts _ (not (eqb (get_or l 0 0) 45)) a.0 in
+    (and_parts _ (are_name_bytes l) b.0).1
 
 labels_named : (ls : List (List ℕ)) → are_labels ls ≡ true → AreNamed ls
 labels_named [] e = tt
-labels_named (l ∷ ls) e = let a = and_true (is_label l) (are_labels ls) e in (label_named l a.0, labels_named ls a.1)
+labels_named (l ∷ ls) e = let a = and_parts (is_label l) (are_labels ls) e in (label_named l a.0, labels_named ls a.1)
 
 byte_ascii : (b : ℕ) → is_name_byte b ≡ true → b < 128
 byte_ascii b e = grind (arith, nat_tests)
@@ -59,8 +55,8 @@ byte_ascii b e = grind (arith, nat_tests)
 cons_named : (t : Bool) (b : ℕ) (parts : List (List ℕ)) → AreNamed (cond t ([] ∷ parts) (onto_first b parts)) →
     (t ≡ true → b < 128) → (b < 128) × AreNamed parts
 cons_named true b parts h dot = (dot refl, h.1)
-cons_named false b [] h dot = let a = and_true (is_name_byte b) true h.0 in (byte_ascii b a.0, tt)
-cons_named false b (p ∷ ps) h dot = let a = and_true (is_name_byte b) (are_name_bytes p) h.0 in (byte_ascii b a.0, (a.1, h.1))
+cons_named false b [] h dot = let a = and_parts (is_name_byte b) true h.0 in (byte_ascii b a.0, tt)
+cons_named false b (p ∷ ps) h dot = let a = and_parts (is_name_byte b) (are_name_bytes p) h.0 in (byte_ascii b a.0, (a.1, h.1))
 
 parts_ascii : (text : List ℕ) → AreNamed (slice_split is_dot text) → (i : ℕ) → get_or text i 0 < 128
 parts_ascii [] h i = omega arith
@@ -73,27 +69,11 @@ host_ascii text e = parts_ascii text (labels_named (slice_split is_dot text) e)
 
 -- ---- where a label ends
 
-not_false : (b : Bool) → not b ≡ false → b ≡ true
-not_false true e = refl
-not_false false e = absurd cc
-
-not_is : (b : Bool) → not b ≡ true → b ≡ false
-not_is true e = absurd cc
-not_is false e = refl
-
-not_true : (b : Bool) → (b ≡ true → ⊥) → b ≡ false
-not_true true h = absurd (h refl)
-not_true false h = refl
-
-or_true : (b : Bool) → b || true ≡ true
-or_true true = refl
-or_true false = refl
-
 abbrev pub is_other : ℕ → Bool
 is_other b = not (is_name_byte b)
 
 not_other : (b : ℕ) → is_other b ≡ false → is_name_byte b ≡ true
-not_other b e = not_false (is_name_byte b) e
+not_other b e = not-false (is_name_byte b) e
 
 name_no_dot : (b : ℕ) → is_name_byte b ≡ true → is_dot b ≡ false
 name_no_dot b e = grind (arith, nat_tests)
@@ -141,9 +121,9 @@ first_label text at e dot =
 -- a byte of a name is a dot or one of a label
 cons_part : (t : Bool) (b : ℕ) (parts : List (List ℕ)) → AreNamed (cond t ([] ∷ parts) (onto_first b parts)) →
     (is_name_byte b || t ≡ true) × AreNamed parts
-cons_part true b parts h = (or_true (is_name_byte b), h.1)
-cons_part false b [] h = let a = and_true (is_name_byte b) true h.0 in (rw a.0 refl, tt)
-cons_part false b (p ∷ ps) h = let a = and_true (is_name_byte b) (are_name_bytes p) h.0 in (rw a.0 refl, (a.1, h.1))
+cons_part true b parts h = (or-true (is_name_byte b), h.1)
+cons_part false b [] h = let a = and_parts (is_name_byte b) true h.0 in (rw a.0 refl, tt)
+cons_part false b (p ∷ ps) h = let a = and_parts (is_name_byte b) (are_name_bytes p) h.0 in (rw a.0 refl, (a.1, h.1))
 
 parts_are : (text : List ℕ) → AreNamed (slice_split is_dot text) → (i : ℕ) → i < length text →
     is_name_byte (get_or text i 0) || is_dot (get_or text i 0) ≡ true
@@ -158,8 +138,8 @@ no_name text at e other =
     let f = found (ltb (position_or_len is_other text) (length text)) (position_or_len is_other text) at e in
     let lt = ltb-true _ _ f.0 in
     let p : is_other (get_or text at 0) ≡ true = rw f.1 at (passes_at_first is_other text 0 lt) in
-    not_true (are_labels (slice_split is_dot text)) (λ h.
+    false_from_ne_true (are_labels (slice_split is_dot text)) (λ h.
     let a = parts_are text (labels_named (slice_split is_dot text) h) at (omega (arith, lt, f.1)) in
-    let n : is_name_byte (get_or text at 0) ≡ false = not_is (is_name_byte (get_or text at 0)) p in
+    let n : is_name_byte (get_or text at 0) ≡ false = not-true (is_name_byte (get_or text at 0)) p in
     let d : is_dot (get_or text at 0) ≡ true = rw n at a in
     other (eqb-true (get_or text at 0) 46 d))

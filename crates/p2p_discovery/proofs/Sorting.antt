@@ -13,12 +13,11 @@ use Rattle.std.proofs.lemmas.Map.Keys.{Less-from_sorted, apart_from_distinct, Is
 use Rattle.std.proofs.lemmas.List.{get_or_default}
 use Rattle.std.proofs.lemmas.List.Sorted.{searchable_from_sorted, all_adjacent_more}
 use Rattle.p2p_discovery.specs.Ordered.{IsPlaceOf}
+use Rattle.p2p_discovery.proofs.Truth.{Less-not_equal, Greater-not_equal}
 
-less_not_equal : Less ≡ Equal → ⊥
-less_not_equal e = true≢false (ap is_lt e)
-
-greater_not_equal : Greater ≡ Equal → ⊥
-greater_not_equal e = true≢false (sym (ap is_eq e))
+pub none_sorted : {C : Type 0} (cmp : C → C → Ordering) → IsStrictlySortedBy cmp []
+unfolding IsStrictlySortedBy
+none_sorted cmp = tt
 
 sorted_nil : {P : Type 0} (R : P → P → Ordering) → IsStrictlySortedBy R []
 unfolding IsStrictlySortedBy
@@ -41,8 +40,8 @@ module _ {P : Type 0} {R : P → P → Ordering} (o : IsTotalOrder R) where
       let parts = found (searchable xs x up) in
       let level : R (get_or xs k x) x ≡ Equal = ap (λ y. R y x) place.at_place ∙ tied_itself o x in
       elim (cases_lt k at) [
-        | inl below ↦ less_not_equal (sym (parts.0 k x (omega (arith, below)) below) ∙ level)
-        | inr from ↦ greater_not_equal (sym (parts.1 k x from place.in_range) ∙ level)
+        | inl below ↦ Less-not_equal (sym (parts.0 k x (omega (arith, below)) below) ∙ level)
+        | inr from ↦ Greater-not_equal (sym (parts.1 k x from place.in_range) ∙ level)
       ]
 
   rising_by : (r s : Ordering) → s ≡ ordering_reverse r → is_lt s ≡ false → is_eq r ≡ false → r ≡ Less

@@ -6,12 +6,14 @@ use mathlib.Core.Bool.{true≢false}
 use Rattle.std.specs.declared.cmp.Ordering.{Ordering}
 use Rattle.std.specs.declared.cmp.Ordering.TheVariants.{Less, Equal, Greater}
 use Rattle.std.specs.Cmp.{IsTotalOrder}
-use Rattle.std.specs.Ordering.{is_lt, is_eq, is_gt, ordering_reverse}
+use Rattle.std.specs.Ordering.{is_eq, ordering_reverse}
 use Rattle.std.specs.List.{Contains, AllByRecursion, list_any}
 use Rattle.std.specs.List.Sorted.{IsStrictlySortedBy}
 use Rattle.std.proofs.lemmas.Cmp.{tied_itself}
 use Rattle.std.proofs.lemmas.List.{length-drop, nil_from_length}
+use Rattle.std.proofs.lemmas.Bool.{or_cases, or_parts}
 use Rattle.p2p_discovery.specs.Sizing.{IsUnion, IsUnionSize}
+use Rattle.p2p_discovery.proofs.Truth.{Equal-from_is_eq, Less-not_equal, Greater-not_equal}
 
 -- ---- members
 
@@ -56,27 +58,8 @@ abbrev pub common : {P : Type 0} → (P → P → Ordering) → List P → List 
 common R xs [] = 0
 common R xs (y ∷ ys) = cond (has R y xs) (common R xs ys + 1) (common R xs ys)
 
-less_not_equal : Less ≡ Equal → ⊥
-less_not_equal e = true≢false (ap is_lt e)
-
-greater_not_equal : Greater ≡ Equal → ⊥
-greater_not_equal e = true≢false (ap is_gt e)
-
-pub is_equal : (r : Ordering) → is_eq r ≡ true → r ≡ Equal
-is_equal Less e = absurd (true≢false (sym e))
-is_equal Equal e = refl
-is_equal Greater e = absurd (true≢false (sym e))
-
 some_is : {P : Type 0} (x y : P) → Some x ≡ Some y → x ≡ y
 some_is x y e = cc
-
-or_cases : (a b : Bool) → a || b ≡ true → (a ≡ true) ⊎ (b ≡ true)
-or_cases true b e = inl refl
-or_cases false b e = inr e
-
-or_none : (a b : Bool) → a || b ≡ false → (a ≡ false) × (b ≡ false)
-or_none true b e = absurd (true≢false e)
-or_none false b e = (refl, e)
 
 module _ {P : Type 0} {R : P → P → Ordering} (o : IsTotalOrder R)
     (exact : (x y : P) → R x y ≡ Equal → x ≡ y) where
@@ -87,7 +70,7 @@ module _ {P : Type 0} {R : P → P → Ordering} (o : IsTotalOrder R)
   turned x y r e = o.antisymm y x ∙ ap ordering_reverse e
 
   not_below_itself : (x : P) → R x x ≡ Less → ⊥
-  not_below_itself x e = less_not_equal (sym e ∙ tied_itself o x)
+  not_below_itself x e = Less-not_equal (sym e ∙ tied_itself o x)
 
   below_below : (x y : P) (zs : List P) → R x y ≡ Less → Below y zs → Below x zs
   below_below x y [] l h = tt
@@ -178,7 +161,7 @@ module _ {P : Type 0} {R : P → P → Ordering} (o : IsTotalOrder R)
           absurd (not_below_itself x (o.trans x y x e (below_in y ys x s.0 k)))
       by Equal e again k = refl
       by Greater e again (inl same) =
-          absurd (greater_not_equal (sym (subst (λ z. R x z ≡ Greater) same e) ∙ tied_itself o x))
+          absurd (Greater-not_equal (sym (subst (λ z. R x z ≡ Greater) same e) ∙ tied_itself o x))
       by Greater e again (inr k) = omega (arith, again k)
 
   -- ---- the members of two
@@ -211,17 +194,17 @@ module _ {P : Type 0} {R : P → P → Ordering} (o : IsTotalOrder R)
   in_from_has z [] e = absurd (true≢false (sym e))
   in_from_has z (x ∷ xs) e =
       elim (or_cases (is_eq (R z x)) (has R z xs) e) [
-        | inl t ↦ inl (sym (exact z x (is_equal (R z x) t)))
+        | inl t ↦ inl (sym (exact z x (Equal-from_is_eq (R z x) t)))
         | inr t ↦ inr (in_from_has z xs t)
       ]
 
   not_in_from_has : (z : P) (xs : List P) → has R z xs ≡ false → In xs z → ⊥
   not_in_from_has z [] e h = h
   not_in_from_has z (x ∷ xs) e (inl same) =
-      let n = or_none (is_eq (R z x)) (has R z xs) e in
+      let n = or_parts (is_eq (R z x)) (has R z xs) e in
       true≢false (sym (ap is_eq (subst (λ w. R z w ≡ Equal) (sym same) (tied_itself o z))) ∙ n.0)
   not_in_from_has z (x ∷ xs) e (inr k) =
-      let n = or_none (is_eq (R z x)) (has R z xs) e in not_in_from_has z xs n.1 k
+      let n = or_parts (is_eq (R z x)) (has R z xs) e in not_in_from_has z xs n.1 k
 
   pub length-union : (xs ys : List P) → IsStrictlySortedBy R xs → IsStrictlySortedBy R ys
       → length (union R xs ys) + common R xs ys ≡ length xs + length ys
@@ -545,7 +528,7 @@ module _ {P : Type 0} (E : P → P → Bool) where
       → list_any (λ y. E y e) xs ≡ false → In xs e → ⊥
   not_in_from_any itself [] e h k = k
   not_in_from_any itself (x ∷ xs) e h (inl same) =
-      let n = or_none (E x e) (list_any (λ y. E y e) xs) h in
+      let n = or_parts (E x e) (list_any (λ y. E y e) xs) h in
       true≢false (sym (subst (λ z. E z e ≡ true) (sym same) (itself e)) ∙ n.0)
   not_in_from_any itself (x ∷ xs) e h (inr k) =
-      let n = or_none (E x e) (list_any (λ y. E y e) xs) h in not_in_from_any itself xs e n.1 k
+      let n = or_parts (E x e) (list_any (λ y. E y e) xs) h in not_in_from_any itself xs e n.1 k

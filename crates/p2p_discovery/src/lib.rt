@@ -1,4 +1,5 @@
-//! What peers tell each other: keys, addresses, signed infos and sets of peers.
+//! What peers tell each other: keys, addresses, signed infos and sets of peers, with their bytes.
+//! It may use `bytes` and `thiserror`; the crates above use it.
 #![tactic(auto)]
 
 pub mod codec;

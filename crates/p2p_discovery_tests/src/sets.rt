@@ -3,12 +3,12 @@
 use crate::out_of_memory::{STEPS, Tally};
 use low_memory::{LowMemory, STEP};
 use p2p_discovery::codec::TestKey;
+use p2p_discovery::sets::{OrderedSet, SetError};
 use std::alloc::{AllocError, Global};
 use std::test::Fail;
 
-mod bits;
-
-use p2p_discovery::sets::{OrderedSet, SetError};
+mod bit_map;
+mod bit_set;
 
 fn keys(alloc: Global, numbers: &[u64]) -> Result<Vec<TestKey>, AllocError> {
     let mut keys = Vec::with_capacity(alloc, numbers.len())?;

@@ -1,5 +1,5 @@
 -- What each call answers, in the world at the point before it. w is a world, p a key, t a moment.
-use Rattle.std.specs.Prelude.{◌≡◌, ℕ, ◌-◌, ◌/◌, ◌^◌, min, Bool, true, false, not, ◌&&◌}
+use Rattle.std.specs.Prelude.{◌≡◌, ℕ, Bool, true, false, not, ◌&&◌}
 use Rattle.std.specs.Prelude.{if◌then◌else◌, List, [], map, length, zip, filter_map, Option}
 use Rattle.std.specs.Prelude.{Some, None, option_map, nat_lt, nat_le, ◌==◌}
 use Rattle.std.specs.List.{slice_get, last_or}
@@ -8,16 +8,16 @@ use Rattle.p2p_tracker.specs.declared.record.Status.{Status}
 use Rattle.p2p_tracker.specs.Calls.{Settings, SetAt, Direction, Cooldown, Event}
 use Rattle.p2p_tracker.specs.declared.record.Status.TheVariants.{Active}
 use Rattle.p2p_tracker.specs.Calls.Event.{Tracked, Granted, Blocked}
-use Rattle.p2p_tracker.specs.History.{is_own, is_entitled, is_inert, is_reserved}
+use Rattle.p2p_tracker.specs.History.{is_own, is_entitled}
+use Rattle.p2p_tracker.specs.Status.{is_inert, is_reserved}
 use Rattle.p2p_tracker.specs.History.{is_present_with, primary_count, secondary_count}
+use Rattle.p2p_tracker.specs.Moments.{epoch_millis}
 use Rattle.p2p_tracker.specs.PeerSets.{set_with, latest_index}
 use Rattle.p2p_tracker.specs.Blocks.{IsAnyUntil}
 use Rattle.p2p_tracker.specs.Lists.{Lists, IsLeastOf}
-use Rattle.p2p_tracker.specs.World.{World, Peer, is_blocked, dialable_from, is_target}
-
--- the whole milliseconds of a moment, rounded down, at most the greatest `u64`
-abbrev pub epoch_millis : ℕ → ℕ
-epoch_millis t = min (t / 10 ^ 6) (2 ^ 64 - 1)
+use Rattle.p2p_tracker.specs.World.{World, Peer, is_target}
+use Rattle.p2p_tracker.specs.Blocks.{is_blocked}
+use Rattle.p2p_tracker.specs.Cooldowns.{dialable_from}
 
 -- WHAT AN EVENT DID
 

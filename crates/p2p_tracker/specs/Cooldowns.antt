@@ -14,6 +14,16 @@ abbrev pub cooldown_view : Duration × Duration → Cooldown
 cooldown_view moments =
     record { reservable_at = as_nanos moments.0; dial_at = as_nanos moments.1 }
 
+-- from when a peer may be reserved, by the moments that are kept of it; without any, from the epoch
+abbrev pub reservable_from : Option Cooldown → ℕ
+reservable_from None = 0
+reservable_from (Some cooldown) = cooldown.reservable_at
+
+-- from when a peer is dialable, by the moments that are kept of it; without any, from the epoch
+abbrev pub dialable_from : Option Cooldown → ℕ
+dialable_from None = 0
+dialable_from (Some cooldown) = cooldown.dial_at
+
 -- keys with these moments
 abbrev pub cooldowns_view : {C : Type 0} → List (C × (Duration × Duration)) → List (C × Cooldown)
 cooldowns_view entries = map (λ e. (e.0, cooldown_view e.1)) entries

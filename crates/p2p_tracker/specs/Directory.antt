@@ -22,9 +22,11 @@ use Rattle.p2p_tracker.specs.declared.directory.PeerSetUpdate.{PeerSetUpdate}
 use Rattle.p2p_tracker.specs.declared.directory.Metadata.{Metadata}
 use Rattle.p2p_tracker.specs.declared.directory.Metadata.TheVariants.{Dialer, Listener}
 use Rattle.p2p_tracker.specs.Calls.{SetAt, Cooldown}
-use Rattle.p2p_tracker.specs.History.{last_of, is_inert, is_reserved}
-use Rattle.p2p_tracker.specs.World.{last_ingress_by, is_blocked}
-use Rattle.p2p_tracker.specs.Answers.{epoch_millis, is_cooled_by}
+use Rattle.p2p_tracker.specs.Status.{is_inert, is_reserved}
+use Rattle.p2p_tracker.specs.Lists.{last_ingress_by, last_of}
+use Rattle.p2p_tracker.specs.Blocks.{is_blocked}
+use Rattle.p2p_tracker.specs.Answers.{is_cooled_by}
+use Rattle.p2p_tracker.specs.Moments.{epoch_millis}
 use Rattle.p2p_tracker.specs.Record.{new_record, fresh, is_myself, is_eligible}
 use Rattle.p2p_tracker.specs.Seen.{RecordView}
 use Rattle.p2p_tracker.specs.Record.{after_failure, after_success, reserved_record, with_counts}

@@ -1,13 +1,15 @@
 -- What the past says of a directory. A past is the list of what the accepted calls did, the newest
 -- first. p is a key, t a moment.
-use Rattle.std.specs.Prelude.{ℕ, ◌≡◌, ◌+◌, ◌-◌, Bool, true, false, not, ◌&&◌, ◌||◌, if◌then◌else◌}
-use Rattle.std.specs.Prelude.{List, [], ◌∷◌, ◌++◌, length, drop, Option, Some, None, nat_lt, nat_le}
+use Rattle.std.specs.Prelude.{ℕ, ◌≡◌, ◌+◌, Bool, true, false, not, ◌&&◌, ◌||◌, if◌then◌else◌}
+use Rattle.std.specs.Prelude.{List, [], ◌∷◌, ◌++◌, Option, Some, None, nat_lt, nat_le}
 use Rattle.std.specs.Prelude.{filter, count_by, option_map}
 use Rattle.std.specs.List.{list_any}
 use Rattle.std.specs.BTreeMap.{is_at}
 use Rattle.p2p_discovery.specs.declared.discovery.Info.{Info}
 use Rattle.p2p_discovery.specs.declared.types.ingress.Ingress.{Ingress}
 use Rattle.p2p_discovery.specs.Ingress.{same_ingress}
+use Rattle.p2p_tracker.specs.Status.{is_inert}
+use Rattle.p2p_tracker.specs.Lists.{last_of, first_greatest}
 use Rattle.p2p_tracker.specs.Moments.{cap, moments_after}
 use Rattle.p2p_tracker.specs.declared.record.Status.{Status}
 use Rattle.p2p_tracker.specs.Calls.{Settings, SetAt, Direction, Grant, Cooldown, Event}
@@ -20,10 +22,6 @@ use Rattle.p2p_discovery.specs.Ordered.{has_key}
 use Rattle.p2p_tracker.specs.declared.record.Role.TheVariants.{Primary, Secondary}
 
 -- LOOKING BACK
-
--- the last n elements
-abbrev pub last_of : {A : Type 0} → ℕ → List A → List A
-last_of n xs = drop (length xs - n) xs
 
 -- a value that the event e gives, else what was found before it
 abbrev pub found_with : {E A : Type 0} → Option A → E → Option (A × List E) → Option (A × List E)
@@ -45,29 +43,7 @@ unless_ended ends (Some found) = if list_any (ends found.0) found.1 then None el
 abbrev pub last_unless_ended : {E A : Type 0} → (E → Option A) → (A → E → Bool) → List E → Option A
 last_unless_ended gives ends h = unless_ended ends (last_with gives h)
 
--- STATUS
-
--- the status is inert
-abbrev pub is_inert : Status → Bool
-is_inert Inert = true
-is_inert _ = false
-
--- the status is reserved
-abbrev pub is_reserved : Status → Bool
-is_reserved Reserved = true
-is_reserved _ = false
-
--- TIMESTAMPS
-
--- of an info and the best of those after it, the first unless the second is newer
-abbrev pub earlier_best : {C S : Type 0} → Info C S → Option (Info C S) → Option (Info C S)
-earlier_best i None = Some i
-earlier_best i (Some j) = if nat_lt i.timestamp j.timestamp then Some j else Some i
-
--- the first of those with the greatest timestamp
-abbrev pub first_greatest : {C S : Type 0} → List (Info C S) → Option (Info C S)
-first_greatest [] = None
-first_greatest (i ∷ is) = earlier_best i (first_greatest is)
+-- INFOS AND DIALS
 
 -- there is a second info, and it is newer than the first, if there is a first
 abbrev pub is_newer : {C S : Type 0} → Option (Info C S) → Option (Info C S) → Bool

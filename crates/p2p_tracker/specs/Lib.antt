@@ -1,6 +1,7 @@
 -- What a directory promises rests on these: read them in this order.
 pub mod Calls
 pub mod Moments
+pub mod Status
 pub mod PeerSets
 pub mod Lists
 pub mod Blocks

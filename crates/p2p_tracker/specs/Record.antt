@@ -11,25 +11,21 @@ use Rattle.p2p_tracker.specs.declared.record.Address.{Address}
 use Rattle.p2p_tracker.specs.declared.record.Address.TheVariants.{Unknown, Myself, Bootstrapper}
 use Rattle.p2p_tracker.specs.declared.record.Address.TheVariants.{Discovered}
 use Rattle.p2p_tracker.specs.declared.record.Status.{Status}
-use Rattle.p2p_tracker.specs.declared.record.Status.TheVariants.{Inert, Reserved, Active}
+use Rattle.p2p_tracker.specs.declared.record.Status.TheVariants.{Inert, Reserved}
 use Rattle.p2p_tracker.specs.declared.record.dialing.DialStatus.{DialStatus}
 use Rattle.p2p_tracker.specs.declared.record.dialing.DialStatus.TheVariants as dial
 use Rattle.p2p_tracker.specs.declared.record.dialing.ReserveResult.{ReserveResult}
 use Rattle.p2p_tracker.specs.declared.record.dialing.ReserveResult.TheVariants as answer
 use Rattle.p2p_tracker.specs.Moments.{cap, jitter}
 use Rattle.p2p_tracker.specs.Calls.{Cooldown}
-use Rattle.p2p_tracker.specs.History.{is_inert, first_greatest}
-use Rattle.p2p_tracker.specs.World.{reservable_from, dialable_from}
+use Rattle.p2p_tracker.specs.Status.{is_inert, is_active}
+use Rattle.p2p_tracker.specs.Lists.{first_greatest}
+use Rattle.p2p_tracker.specs.Cooldowns.{reservable_from, dialable_from}
 
 -- the answer grants a reservation
 abbrev pub is_grant : ReserveResult → Bool
 is_grant answer.Reserved = true
 is_grant _ = false
-
--- the status is active
-abbrev pub is_active : Status → Bool
-is_active Active = true
-is_active _ = false
 
 -- when a peer may be dialled: now, after a moment in nanoseconds since the epoch, or never
 pub data DialView : Type 0 where
@@ -91,16 +87,16 @@ module _ {C S : Type 0} where
   is_myself _ = false
 
   -- in a set, or persistent
-  abbrev pub is_wanted : RecordView C S → Bool
-  is_wanted r = nat_lt 0 r.primary_sets || nat_lt 0 r.secondary_sets || r.persistent
+  abbrev pub is_named_or_persistent : RecordView C S → Bool
+  is_named_or_persistent r = nat_lt 0 r.primary_sets || nat_lt 0 r.secondary_sets || r.persistent
 
   -- its peer may be connected
   abbrev pub is_eligible : RecordView C S → Bool
-  is_eligible r = not (is_myself r.address) && is_wanted r
+  is_eligible r = not (is_myself r.address) && is_named_or_persistent r
 
   -- it may go
   abbrev pub is_deletable : RecordView C S → Bool
-  is_deletable r = not (is_wanted r) && is_inert r.status
+  is_deletable r = not (is_named_or_persistent r) && is_inert r.status
 
   -- reserved or connected, and no longer eligible
   abbrev pub needs_teardown : RecordView C S → Bool

@@ -2,8 +2,6 @@
 use Rattle.std.specs.Prelude.{ℕ, Bool, false, not, ◌&&◌, ◌||◌, if◌then◌else◌, List, [], ◌∷◌, Option}
 use Rattle.std.specs.Prelude.{Some, None, nat_lt, nat_le}
 use Rattle.std.specs.List.{list_all}
-use Rattle.std.specs.Ordering.{is_eq}
-use Rattle.std.specs.declared.cmp.Ordering.{Ordering}
 use Rattle.p2p_discovery.specs.declared.discovery.Info.{Info}
 use Rattle.p2p_discovery.specs.declared.types.ingress.Ingress.{Ingress}
 use Rattle.p2p_discovery.specs.Ingress.{is_valid}
@@ -15,9 +13,13 @@ use Rattle.p2p_tracker.specs.declared.record.Status.TheVariants.{Inert, Reserved
 use Rattle.p2p_tracker.specs.Calls.Direction.{Listener, Dialer}
 use Rattle.p2p_tracker.specs.Calls.Event.{Nothing, Tracked, Granted, Connected, Released, Updated}
 use Rattle.p2p_tracker.specs.Calls.Event.{Blocked, Expired, Forgot}
+use Rattle.p2p_tracker.specs.Lists.{last_ingress_by}
+use Rattle.p2p_tracker.specs.Blocks.{is_blocked}
+use Rattle.p2p_tracker.specs.Cooldowns.{reservable_from}
 use Rattle.p2p_tracker.specs.PeerSets.{set_of}
 use Rattle.p2p_tracker.specs.History.{is_own, taken_sets, retained_sets, primary_count}
-use Rattle.p2p_tracker.specs.History.{is_persistent, is_entitled, is_inert, status_at, held_at}
+use Rattle.p2p_tracker.specs.History.{is_persistent, is_entitled, status_at, held_at}
+use Rattle.p2p_tracker.specs.Status.{is_inert}
 use Rattle.p2p_tracker.specs.History.{life, info_in, fails_in, cooldown_at, unblock_at}
 
 -- what is known of a peer, and goes when the peer goes
@@ -43,30 +45,6 @@ pub record World (C S : Type 0) : Type 0 where
   pub state : State C S
   pub open state use *
   pub held : C → Option Grant
-
--- the unblock moment is later than t
-abbrev pub is_blocked : Option ℕ → ℕ → Bool
-is_blocked None t = false
-is_blocked (Some moment) t = nat_lt t moment
-
--- from when a peer may be reserved, by the moments that are kept of it; without any, from the epoch
-abbrev pub reservable_from : Option Cooldown → ℕ
-reservable_from None = 0
-reservable_from (Some cooldown) = cooldown.reservable_at
-
--- from when a peer is dialable, by the moments that are kept of it; without any, from the epoch
-abbrev pub dialable_from : Option Cooldown → ℕ
-dialable_from None = 0
-dialable_from (Some cooldown) = cooldown.dial_at
-
--- the last of these ingresses that is given for p, in this order of keys
-abbrev pub last_ingress_by : {C : Type 0} → (C → C → Ordering) → C → List (C × Ingress) →
-    Option Ingress
-last_ingress_by cmp p [] = None
-last_ingress_by cmp p (b ∷ bs) = elim (last_ingress_by cmp p bs) [
-  | None ↦ (if is_eq (cmp b.0 p) then Some b.1 else None)
-  | Some a ↦ Some a
-]
 
 module _ {C S : Type 0} (s : Settings C S) where
   -- THE WORLD THAT A PAST MAKES

@@ -17,7 +17,8 @@ use crate::directory::track::{add, drop_oldest};
 use crate::directory::update::update_each;
 use crate::kept::blocks::Blocks;
 use crate::kept::cooldowns::Cooldowns;
-use crate::kept::{PeerSet, Window};
+use crate::kept::peer_set::PeerSet;
+use crate::kept::window::Window;
 use crate::record::Status;
 use p2p_discovery::codec::PublicKey;
 use p2p_discovery::discovery::Info;
@@ -175,7 +176,7 @@ impl<C: PublicKey> Directory<C> {
     ghost use Rattle.p2p_tracker.specs.Directory.{Reserves, Releases, Connects, Updates};
     ghost use Rattle.p2p_tracker.specs.Directory.{TakesSet, AreTornDown};
     ghost use Rattle.p2p_tracker.specs.Directory.{other_keys, has_status};
-    ghost use Rattle.p2p_tracker.specs.History.{is_reserved};
+    ghost use Rattle.p2p_tracker.specs.Status.{is_reserved};
     ghost use Rattle.p2p_tracker.specs.Directory.{may_listen_in, may_dial_in, ingress_in};
 
     /// A directory that retains no set and blocks nobody. It has a record of the local node and one

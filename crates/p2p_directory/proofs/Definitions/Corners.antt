@@ -13,7 +13,8 @@ use Rattle.p2p_tracker.specs.declared.record.Status.TheVariants.{Inert, Reserved
 use Rattle.p2p_tracker.specs.Calls.Direction.{Dialer}
 use Rattle.p2p_discovery.specs.declared.types.ingress.Ingress.{Ingress}
 use Rattle.p2p_tracker.specs.History
-use Rattle.p2p_tracker.specs.World.{world_at, event_in, past_after, reservable_from, dialable_from}
+use Rattle.p2p_tracker.specs.World.{world_at, event_in, past_after}
+use Rattle.p2p_tracker.specs.Cooldowns.{reservable_from, dialable_from}
 use Rattle.p2p_tracker.specs.Answers.{was_granted, was_taken, was_blocked, status_in, may_connect}
 use Rattle.p2p_tracker.specs.Answers.{may_release, is_torn_down, is_tracked, set_with_index}
 use Rattle.p2p_tracker.specs.Answers.{is_primary_in, is_secondary_in, bits_at, is_dialable}

@@ -15,7 +15,9 @@ use Rattle.p2p_tracker.specs.Calls.Call.{Track, Dial, Listen, Connect, Release, 
 use Rattle.p2p_tracker.specs.Calls.Question.{StatusOf}
 use Rattle.p2p_tracker.specs.History
 use Rattle.p2p_tracker.specs.World.{World, world_at, event_in}
-use Rattle.p2p_tracker.specs.Answers.{was_granted, bits_at, is_dialable, query_moment, sharable_info, latest_index_in, is_tracked, epoch_millis}
+use Rattle.p2p_tracker.specs.Answers.{was_granted, bits_at, is_dialable, query_moment}
+use Rattle.p2p_tracker.specs.Answers.{sharable_info, latest_index_in, is_tracked}
+use Rattle.p2p_tracker.specs.Moments.{epoch_millis}
 use Rattle.p2p_directory.specs.Received.{Wire, Standing, wire_of}
 use Rattle.p2p_directory.specs.Nodes.{Made, standing_in}
 use Rattle.p2p_directory.specs.Exchange as exchange

@@ -15,7 +15,7 @@ use Rattle.p2p_discovery.specs.BitVec.{bits_read_at, bit_vec_read_at}
 use Rattle.p2p_discovery.specs.Bits.{bits_in, packed}
 use Rattle.p2p_discovery.specs.Lists.{spellings, elems, items_at, list_at}
 use Rattle.p2p_tracker.specs.History.{life}
-use Rattle.p2p_directory.specs.declared.node.Received.TheVariants as received
+use Rattle.p2p_directory.specs.declared.node.received.Received.TheVariants as received
 use Rattle.p2p_directory.specs.declared.node.exchanged.Exchanged.TheVariants as exchanged
 use Rattle.p2p_directory.specs.declared.node.pair.Side.TheVariants.{Left, Right}
 use Rattle.p2p_directory.specs.declared.node.pair.PairCommand.{PairCommand}

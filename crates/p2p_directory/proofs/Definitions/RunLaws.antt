@@ -3,8 +3,8 @@
 use Rattle.std.proofs.Common.{◌≡◌, ℕ, List, [], ◌∷◌}
 use Rattle.std.specs.Ordering.{nat_cmp}
 use Rattle.std.proofs.lemmas.Cmp.{nat_cmp_total}
-use Rattle.p2p_directory.specs.declared.node.network.NetworkCommand.{NetworkCommand}
-use Rattle.p2p_directory.specs.declared.node.network.NetworkReply.{NetworkReply}
+use Rattle.p2p_directory.specs.declared.node.network.commands.NetworkCommand.{NetworkCommand}
+use Rattle.p2p_directory.specs.declared.node.network.commands.NetworkReply.{NetworkReply}
 use Rattle.p2p_directory.specs.Network.{calls_at, AreNetworkAnswers}
 use Rattle.p2p_directory.specs.Laws.Network as law
 use Rattle.p2p_directory.specs.Laws.Network.{KeepExchanges, AtEachPoint, OfEachReply}

@@ -25,10 +25,10 @@ use Rattle.p2p_tracker.specs.History.{life}
 use Rattle.p2p_directory.specs.declared.node.exchanged.Exchanged.{Exchanged}
 use Rattle.p2p_directory.specs.declared.node.exchanged.Exchanged.TheVariants as exchanged
 use Rattle.p2p_directory.specs.Exchange.{infos_applied}
-use Rattle.p2p_directory.specs.declared.node.network.NetworkCommand.{NetworkCommand}
-use Rattle.p2p_directory.specs.declared.node.network.NetworkCommand.TheVariants as network
-use Rattle.p2p_directory.specs.declared.node.network.NetworkReply.{NetworkReply}
-use Rattle.p2p_directory.specs.declared.node.network.NetworkReply.TheVariants as answer
+use Rattle.p2p_directory.specs.declared.node.network.commands.NetworkCommand.{NetworkCommand}
+use Rattle.p2p_directory.specs.declared.node.network.commands.NetworkCommand.TheVariants as network
+use Rattle.p2p_directory.specs.declared.node.network.commands.NetworkReply.{NetworkReply}
+use Rattle.p2p_directory.specs.declared.node.network.commands.NetworkReply.TheVariants as answer
 use Rattle.p2p_tracker.specs.Answers.{sharable_info}
 use Rattle.p2p_directory.specs.declared.run.commands.Command.TheVariants as command
 use Rattle.p2p_directory.specs.declared.run.commands.Reply.TheVariants as reply

@@ -8,7 +8,8 @@ use Rattle.p2p_tracker.specs.declared.record.Status.TheVariants.{Inert, Reserved
 use Rattle.p2p_tracker.specs.Calls.Event.{Nothing, Tracked, Granted, Connected, Released, Updated, Blocked, Expired, Forgot}
 use Rattle.p2p_tracker.specs.Moments.{cap}
 use Rattle.p2p_tracker.specs.History
-use Rattle.p2p_tracker.specs.History.{last_of, last_with, found_with, last_unless_ended, unless_ended}
+use Rattle.p2p_tracker.specs.History.{last_with, found_with, last_unless_ended, unless_ended}
+use Rattle.p2p_tracker.specs.Lists.{last_of}
 use Rattle.p2p_tracker.specs.Step
 
 -- RETAINED SETS

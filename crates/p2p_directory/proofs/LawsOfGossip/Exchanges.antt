@@ -15,7 +15,8 @@ use Rattle.p2p_tracker.specs.History
 use Rattle.p2p_tracker.specs.World.{World}
 use Rattle.p2p_tracker.specs.Step
 use Rattle.p2p_tracker.specs.Answers.{is_present_in, bits_of, set_at_place, set_with_index}
-use Rattle.p2p_tracker.specs.Answers.{infos_for, shared_infos, wants, wants_with, epoch_millis}
+use Rattle.p2p_tracker.specs.Answers.{infos_for, shared_infos, wants, wants_with}
+use Rattle.p2p_tracker.specs.Moments.{epoch_millis}
 use Rattle.p2p_directory.specs.Run.{world_after, bit_vec_of}
 use Rattle.p2p_directory.specs.Received.{Wire}
 use Rattle.p2p_directory.specs.Exchange

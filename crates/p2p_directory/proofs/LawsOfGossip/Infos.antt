@@ -5,6 +5,8 @@ use Rattle.std.specs.Prelude.{if◌then◌else◌, nat_lt, nat_le, zip, ◌==◌
 use Rattle.std.specs.List.{AllByRecursion}
 use Rattle.p2p_discovery.specs.declared.discovery.Info.{Info}
 use Rattle.p2p_discovery.specs.declared.types.ingress.Ingress.{Ingress}
+use Rattle.p2p_tracker.specs.Lists.{earlier_best, first_greatest}
+use Rattle.p2p_tracker.specs.Moments.{epoch_millis}
 use Rattle.p2p_tracker.specs.declared.record.Status.{Status}
 use Rattle.p2p_tracker.specs.declared.record.Status.TheVariants.{Inert, Reserved, Active}
 use Rattle.p2p_tracker.specs.Calls.{Settings, Call, SetAt, Grant, Event}
@@ -113,16 +115,16 @@ module _ {C S : Type 0} (s : Settings C S) (P : Info C S → Type 0) where
       (of_life p l h.1) (of_event p e h.0)
 
   of_best : (Q : Info C S → Type 0) (is : List (Info C S)) → AllByRecursion Q is → (i : Info C S) →
-      History.first_greatest is ≡ Some i → Q i
+      first_greatest is ≡ Some i → Q i
   of_best Q [] h i e = absurd (cc)
-  of_best Q (j ∷ is) h i e = go (History.first_greatest is) (of_best Q is h.1) e
+  of_best Q (j ∷ is) h i e = go (first_greatest is) (of_best Q is h.1) e
     where
       pick : (k : Info C S) → Q k → (b : Bool) → (if b then Some k else Some j) ≡ Some i → Q i
       pick k q true f = subst Q (inside k i f) q
       pick k q false f = subst Q (inside j i f) h.0
 
       go : (o : Option (Info C S)) → ((k : Info C S) → o ≡ Some k → Q k) →
-          History.earlier_best j o ≡ Some i → Q i
+          earlier_best j o ≡ Some i → Q i
       go None rest f = subst Q (inside j i f) h.0
       go (Some k) rest f = pick k (rest k refl) (nat_lt j.timestamp k.timestamp) f
 
@@ -131,7 +133,7 @@ module _ {C S : Type 0} (s : Settings C S) (P : Info C S → Type 0) where
   known_of p l own h i e = go (History.is_own s p) refl e
     where
       go : (b : Bool) → History.is_own s p ≡ b →
-          (if b then Some s.own else History.first_greatest (History.infos_offered s p l)) ≡ Some i →
+          (if b then Some s.own else first_greatest (History.infos_offered s p l)) ≡ Some i →
           IsOf p i
       go true f g = subst (IsOf p) (inside s.own i g) (own, f)
       go false f g = of_best (IsOf p) (History.infos_offered s p l) (of_life p l h) i g
@@ -189,7 +191,7 @@ module _ {C S : Type 0} (s : Settings C S) (P : Info C S → Type 0) where
       w = World.world_at s (World.past s cs)
 
       millis : ℕ
-      millis = Answers.epoch_millis now
+      millis = epoch_millis now
 
       found : (x : SetAt C) (b : Bool) →
           (if b then Some (Answers.shared_infos s w millis x.primary bits) else None) ≡ Some infos →

@@ -11,7 +11,7 @@ use Rattle.p2p_discovery.specs.declared.discovery.Error.TheVariants.{SynchronyBo
 use Rattle.p2p_discovery.specs.declared.discovery.Info.{Info}
 use Rattle.p2p_discovery.specs.Judgement.{Judge, first_of, is_signed, is_too_late, refusal}
 use Rattle.p2p_discovery.specs.Judgement.{first_refusal, list_refusal}
-use Rattle.p2p_tracker.specs.Answers.{epoch_millis}
+use Rattle.p2p_tracker.specs.Moments.{epoch_millis}
 
 -- a timestamp that isn't above the milliseconds of a moment, which lies at most the bound past now,
 -- isn't too late

@@ -4,6 +4,7 @@ use Rattle.std.proofs.Common.{Some, None, refl, sym, subst, arith}
 use Rattle.std.specs.Prelude.{if◌then◌else◌, filter, nat_lt, nat_le, not}
 use Rattle.std.proofs.lemmas.Bool.{leb-true, le-leb}
 use Rattle.p2p_discovery.specs.declared.discovery.Info.{Info}
+use Rattle.p2p_tracker.specs.Lists.{first_greatest}
 use Rattle.p2p_tracker.specs.declared.record.Status.{Status}
 use Rattle.p2p_tracker.specs.declared.record.Status.TheVariants.{Inert, Reserved, Active}
 use Rattle.p2p_tracker.specs.Calls.{Settings, Call, SetAt}
@@ -12,7 +13,8 @@ use Rattle.p2p_tracker.specs.History
 use Rattle.p2p_tracker.specs.World.{World, Known}
 use Rattle.p2p_tracker.specs.Step
 use Rattle.p2p_tracker.specs.Answers.{is_present_in, set_at_place, set_with_index, wants}
-use Rattle.p2p_tracker.specs.Answers.{wants_with, epoch_millis}
+use Rattle.p2p_tracker.specs.Answers.{wants_with}
+use Rattle.p2p_tracker.specs.Moments.{epoch_millis}
 use Rattle.p2p_directory.specs.Run.{world_after}
 use Rattle.p2p_directory.specs.Received.{Wire}
 use Rattle.p2p_directory.specs.Exchange
@@ -67,7 +69,7 @@ module _ {C S : Type 0} (s : Settings C S) where
       (Knowledge.updated_all_with_best s k xs) e)
     where
       best : Option (Info C S)
-      best = History.first_greatest xs
+      best = first_greatest xs
 
       go : (own : Bool) → (not own && wants_with s status
           (if History.is_newer k.info best then 0 else k.fails) (Knowledge.later k.info best))

@@ -6,6 +6,7 @@ use Rattle.std.specs.Prelude.{if◌then◌else◌, filter, nat_lt}
 use Rattle.std.specs.List.{AllByRecursion}
 use Rattle.std.proofs.lemmas.Bool.{ltb-true, ltb-false, le-ltb}
 use Rattle.p2p_discovery.specs.declared.discovery.Info.{Info}
+use Rattle.p2p_tracker.specs.Lists.{earlier_best, first_greatest}
 use Rattle.p2p_tracker.specs.Calls.{Settings, Call}
 use Rattle.p2p_tracker.specs.Calls.Call.{Update}
 use Rattle.p2p_tracker.specs.History
@@ -22,7 +23,7 @@ module _ {C S : Type 0} (s : Settings C S) where
   -- AT LEAST AS NEW
 
   pub since_first : (n : ℕ) (i : Info C S) (o : Option (Info C S)) → n ≤ i.timestamp →
-      IsSince n (History.earlier_best i o)
+      IsSince n (earlier_best i o)
   since_first n i None le = le
   since_first n i (Some j) le = go (nat_lt i.timestamp j.timestamp) refl
     where
@@ -32,7 +33,7 @@ module _ {C S : Type 0} (s : Settings C S) where
       go false e = le
 
   since_rest : (n : ℕ) (i : Info C S) (o : Option (Info C S)) → IsSince n o →
-      IsSince n (History.earlier_best i o)
+      IsSince n (earlier_best i o)
   since_rest n i None h = absurd h
   since_rest n i (Some j) h = go (nat_lt i.timestamp j.timestamp) refl
     where
@@ -48,22 +49,22 @@ module _ {C S : Type 0} (s : Settings C S) where
 
   -- the best of those that pass a test is at least as new as each of them
   since_best : (test : Info C S → Bool) (xs : List (Info C S)) (i : Info C S) → Member xs i →
-      test i ≡ true → IsSince i.timestamp (History.first_greatest (filter test xs))
+      test i ≡ true → IsSince i.timestamp (first_greatest (filter test xs))
   since_best test [] i m e = absurd m
   since_best test (x ∷ xs) i (inl is) e = go (test x) (sym (ap test is) ∙ e)
     where
       go : (b : Bool) → b ≡ true →
-          IsSince i.timestamp (History.first_greatest
+          IsSince i.timestamp (first_greatest
           (cond b (x ∷ filter test xs) (filter test xs)))
-      go true f = since_first i.timestamp x (History.first_greatest (filter test xs))
+      go true f = since_first i.timestamp x (first_greatest (filter test xs))
           (omega (arith, ap (λ (j : Info C S). j.timestamp) is))
       go false f = absurd (cc)
   since_best test (x ∷ xs) i (inr m) e = go (since_best test xs i m e) (test x)
     where
-      go : IsSince i.timestamp (History.first_greatest (filter test xs)) → (b : Bool) →
-          IsSince i.timestamp (History.first_greatest
+      go : IsSince i.timestamp (first_greatest (filter test xs)) → (b : Bool) →
+          IsSince i.timestamp (first_greatest
           (cond b (x ∷ filter test xs) (filter test xs)))
-      go rest true = since_rest i.timestamp x (History.first_greatest (filter test xs)) rest
+      go rest true = since_rest i.timestamp x (first_greatest (filter test xs)) rest
       go rest false = rest
 
   -- after an update, what is known of a present peer other than the own is at least as new as each
@@ -82,7 +83,7 @@ module _ {C S : Type 0} (s : Settings C S) where
       (sym other)
       (subst (λ (x : Known C S). IsSince i.timestamp x.info)
       (sym (Knowledge.updated_all_with_best s k mine))
-      (since_later_right i.timestamp k.info (History.first_greatest mine)
+      (since_later_right i.timestamp k.info (first_greatest mine)
       (since_best (λ j. History.same s j.public_key p) infos i m e))))
 
   -- each info of an update that is of another present peer

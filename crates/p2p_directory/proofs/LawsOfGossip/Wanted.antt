@@ -5,6 +5,7 @@ use Rattle.std.specs.Prelude.{if◌then◌else◌, filter_map, nat_le, nat_lt, n
 use Rattle.std.specs.List.{cons_option}
 use Rattle.std.proofs.lemmas.Bool.{leb-true, lt-ltb, or_left, or_right}
 use Rattle.p2p_discovery.specs.declared.discovery.Info.{Info}
+use Rattle.p2p_tracker.specs.Status.{is_inert}
 use Rattle.p2p_tracker.specs.Calls.{Settings, SetAt}
 use Rattle.p2p_tracker.specs.History
 use Rattle.p2p_tracker.specs.World.{World}
@@ -98,7 +99,7 @@ module _ {C S : Type 0} (s : Settings C S) (itself : (p : C) → History.same s 
       or_left (nat_lt 0 (History.primary_count s p w.sets))
       (nat_lt 0 (History.secondary_count s p w.sets)) counted in
       or_left (History.is_persistent s p || History.is_named s p w.sets)
-      (not (History.is_inert (w.peer p).status))
+      (not (is_inert (w.peer p).status))
       (or_right (History.is_persistent s p) (History.is_named s p w.sets) named)
 
   pub primary_at_place : (w : World C S) (place : ℕ) (x : SetAt C) (p : C) →
@@ -119,5 +120,5 @@ module _ {C S : Type 0} (s : Settings C S) where
       or_left (nat_lt 0 (History.primary_count s p w.sets))
       (nat_lt 0 (History.secondary_count s p w.sets)) counted in
       or_left (History.is_persistent s p || History.is_named s p w.sets)
-      (not (History.is_inert (w.peer p).status))
+      (not (is_inert (w.peer p).status))
       (or_right (History.is_persistent s p) (History.is_named s p w.sets) named)

@@ -8,6 +8,7 @@ use Rattle.p2p_directory.specs.declared.node.network.commands.NetworkCommand.{Ne
 use Rattle.p2p_directory.specs.declared.node.network.commands.NetworkCommand.TheVariants as command
 use Rattle.p2p_directory.specs.declared.node.network.commands.NetworkReply.{NetworkReply}
 use Rattle.p2p_directory.specs.declared.node.network.commands.NetworkReply.TheVariants as reply
+use Rattle.p2p_tracker.specs.Lists.{first_greatest}
 use Rattle.p2p_tracker.specs.Calls.{Settings, Call, Event}
 use Rattle.p2p_tracker.specs.Calls.Call.{Update}
 use Rattle.p2p_tracker.specs.Calls.Event.{Nothing, Tracked, Granted, Connected, Released, Updated}
@@ -48,7 +49,7 @@ module _ {C S : Type 0} (s : Settings C S) (n : ℕ) where
       go true = h
       go false = subst (λ (x : Known C S). IsSince n x.info)
           (sym (Knowledge.updated_all_with_best s k mine))
-          (since_later_left k.info (History.first_greatest mine) h)
+          (since_later_left k.info (first_greatest mine) h)
   after_event p (Granted q grant) k h = h
   after_event p (Connected q dialer) k h = go (History.same s q p && dialer) _ h
     where

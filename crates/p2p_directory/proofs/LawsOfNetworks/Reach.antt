@@ -20,7 +20,8 @@ use Rattle.p2p_tracker.specs.History
 use Rattle.p2p_tracker.specs.World.{Peer}
 use Rattle.p2p_directory.specs.Run.{world_after}
 use Rattle.p2p_directory.specs.Nodes.{calls_with}
-use Rattle.p2p_tracker.specs.Answers.{epoch_millis, wants, wants_with, is_present_in}
+use Rattle.p2p_tracker.specs.Answers.{wants, wants_with, is_present_in}
+use Rattle.p2p_tracker.specs.Moments.{epoch_millis}
 use Rattle.p2p_tracker.specs.Answers.{sharable_info}
 use Rattle.p2p_directory.specs.Received.{Wire}
 use Rattle.p2p_directory.specs.Exchange.{infos_applied}

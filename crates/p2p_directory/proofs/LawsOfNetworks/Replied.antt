@@ -21,7 +21,8 @@ use Rattle.p2p_directory.specs.declared.node.network.commands.NetworkReply.TheVa
 use Rattle.p2p_tracker.specs.Calls.{SetAt}
 use Rattle.p2p_tracker.specs.History
 use Rattle.p2p_tracker.specs.World.{World}
-use Rattle.p2p_tracker.specs.Answers.{bits_of, wants, epoch_millis}
+use Rattle.p2p_tracker.specs.Answers.{bits_of, wants}
+use Rattle.p2p_tracker.specs.Moments.{epoch_millis}
 use Rattle.p2p_directory.specs.Run.{bit_vec_of}
 use Rattle.p2p_directory.specs.Received as frames
 use Rattle.p2p_directory.specs.Received.{Wire, Standing, FrameOutcome, wire_of, only, replied, read_at}

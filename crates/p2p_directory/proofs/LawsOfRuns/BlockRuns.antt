@@ -7,6 +7,7 @@ use Rattle.std.specs.Option.{option_map}
 use Rattle.std.specs.Option.{option_map}
 use Rattle.std.proofs.lemmas.Bool.{leb-true, ltb-false, not-true, and_parts}
 use Rattle.p2p_discovery.specs.declared.types.ingress.Ingress.{Ingress}
+use Rattle.p2p_tracker.specs.Blocks.{is_blocked}
 use Rattle.p2p_tracker.specs.declared.record.Status.{Status}
 use Rattle.p2p_tracker.specs.declared.record.Status.TheVariants.{Inert, Reserved, Active}
 use Rattle.p2p_tracker.specs.Calls.{Settings, Call, SetAt, Grant, Event}
@@ -75,7 +76,7 @@ module _ {C S : Type 0} (s : Settings C S) where
       go None = refl
       go (Some grant) = refl
   expiry_in sets w (Update infos) = refl
-  expiry_in sets w (Block q t) = go (not (History.is_own s q) && not (World.is_blocked (w.unblock q) t))
+  expiry_in sets w (Block q t) = go (not (History.is_own s q) && not (is_blocked (w.unblock q) t))
     where
       go : (b : Bool) → expiry_of (if b then Blocked q t else Nothing) ≡ None
       go true = refl
@@ -145,7 +146,7 @@ module _ {C S : Type 0} (s : Settings C S) where
 
   -- EACH GRANT AND EACH BLOCK
 
-  free : (t : ℕ) (end : Option ℕ) → World.is_blocked end t ≡ false → IsNotBefore (Some t) end
+  free : (t : ℕ) (end : Option ℕ) → is_blocked end t ≡ false → IsNotBefore (Some t) end
   free t None e = tt
   free t (Some end) e = ltb-false t end e
 
@@ -161,16 +162,16 @@ module _ {C S : Type 0} (s : Settings C S) where
 
   taken_free : History.IsExact s → (p : C) (sets : List (SetAt C)) (w v : World C S) (c : Call C S) (r : Reply C S) →
       Run.MayReply s (World.event_in s sets w c) w v c r → IsNotBefore (block_taken_by s p c r) (w.unblock p)
-  taken_free exact p sets w v (Block q t) (reply.Block true) (inr a) = go (not (History.is_own s q) && not (World.is_blocked (w.unblock q) t)) refl a
+  taken_free exact p sets w v (Block q t) (reply.Block true) (inr a) = go (not (History.is_own s q) && not (is_blocked (w.unblock q) t)) refl a
     where
-      go : (b : Bool) → (not (History.is_own s q) && not (World.is_blocked (w.unblock q) t)) ≡ b →
+      go : (b : Bool) → (not (History.is_own s q) && not (is_blocked (w.unblock q) t)) ≡ b →
           SaysTaken (if b then Blocked q t else Nothing) →
           IsNotBefore (if History.same s q p then Some t else None) (w.unblock p)
       go false e said = absurd cc
       go true e said = peer (History.same s q p) refl
         where
           peer : (b : Bool) → History.same s q p ≡ b → IsNotBefore (if b then Some t else None) (w.unblock p)
-          peer true same = free t (w.unblock p) (subst (λ x. World.is_blocked (w.unblock x) t ≡ false) (exact q p same) (not-true _ (and_parts _ _ e).1))
+          peer true same = free t (w.unblock p) (subst (λ x. is_blocked (w.unblock x) t ≡ false) (exact q p same) (not-true _ (and_parts _ _ e).1))
           peer false same = tt
   taken_free exact p sets w v (Block q t) (reply.Block true) (inl (refused, may)) = absurd (cc)
   taken_free exact p sets w v c r a = tt

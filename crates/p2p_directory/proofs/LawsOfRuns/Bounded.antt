@@ -16,6 +16,7 @@ use Rattle.std.proofs.lemmas.List.Folds.{list_any-append}
 use Rattle.std.proofs.lemmas.List.Sums.{sum_by-cons}
 use Rattle.std.proofs.lemmas.Map.Keys.{IsDistinct-from_sorted}
 use Rattle.std.proofs.lemmas.Map.Made.{length-le_from_is_member}
+use Rattle.p2p_tracker.specs.Status.{is_inert}
 use Rattle.p2p_tracker.specs.Calls.{Settings, Call, SetAt}
 use Rattle.p2p_tracker.specs.History
 use Rattle.p2p_tracker.specs.World
@@ -99,9 +100,9 @@ module _ {C S : Type 0} (s : Settings C S) (n : ℕ) where
     one_of w h qs rs persistent left_over p e =
         list_any-append (λ q. History.same s q p) (named_by w.sets h) (qs ++ rs)
         ∙ ap (λ b. History.is_in s p (named_by w.sets h) || b) (list_any-append (λ q. History.same s q p) qs rs)
-        ∙ go (History.is_persistent s p) (History.is_named s p w.sets) (not (History.is_inert (w.peer p).status))
+        ∙ go (History.is_persistent s p) (History.is_named s p w.sets) (not (is_inert (w.peer p).status))
         (λ f. persistent.members p ∙ f) (λ f. named_in p w.sets h (named_any p w.sets f))
-        (λ f g. left_over.members p ∙ and_from (not (History.is_inert (w.peer p).status))
+        (λ f g. left_over.members p ∙ and_from (not (is_inert (w.peer p).status))
         (not (History.is_named s p w.sets)) g (ap not f)) refl e
       where
         go : (a b c : Bool) → (a ≡ true → History.is_in s p qs ≡ true) →

@@ -7,8 +7,10 @@ use Rattle.std.specs.Cmp.{IsTotalOrder}
 use Rattle.std.specs.declared.cmp.Ordering.{Ordering}
 use Rattle.std.specs.Ordering.{is_eq, ordering_reverse}
 use Rattle.std.specs.declared.cmp.Ordering.TheVariants.{Less, Equal, Greater}
-use Rattle.std.proofs.lemmas.Bool.{and_parts, and_from, leb-true, le-leb}
+use Rattle.std.proofs.lemmas.Bool.{and_parts, and_from, leb-true, le-leb, or_right}
 use Rattle.p2p_discovery.specs.declared.types.ingress.Ingress.{Ingress}
+use Rattle.p2p_tracker.specs.Blocks.{is_blocked}
+use Rattle.p2p_tracker.specs.Cooldowns.{reservable_from, dialable_from}
 use Rattle.p2p_tracker.specs.Calls.{Settings, Call, Grant, Event}
 use Rattle.p2p_tracker.specs.Calls.Call.{Dial}
 use Rattle.p2p_tracker.specs.History
@@ -33,15 +35,15 @@ itself cmp total x = go (cmp x x) refl
 module _ {C S : Type 0} (s : Settings C S) where
   -- the dial moment isn't before the reservable one
   reservable_first : (kept : Option Grant) →
-      World.reservable_from (option_map (History.moments_of s) kept) ≤ World.dialable_from
+      reservable_from (option_map (History.moments_of s) kept) ≤ dialable_from
       (option_map (History.moments_of s) kept)
   reservable_first None = omega arith
   reservable_first (Some grant) = omega arith
 
-  pub cooled_first : (p : C) (h : List (Event C S)) → World.reservable_from (History.cooldown_at s p h) ≤ World.dialable_from (History.cooldown_at s p h)
+  pub cooled_first : (p : C) (h : List (Event C S)) → reservable_from (History.cooldown_at s p h) ≤ dialable_from (History.cooldown_at s p h)
   cooled_first p h = reservable_first (last_unless_ended (History.grant_by s p) (History.is_forgetting s) h)
 
-  pub granted : (p : C) (t draw : ℕ) (w : World C S) → World.reservable_from (w.cooldown p) ≤ World.dialable_from (w.cooldown p) → is_dialable s w t p ≡ true →
+  pub granted : (p : C) (t draw : ℕ) (w : World C S) → reservable_from (w.cooldown p) ≤ dialable_from (w.cooldown p) → is_dialable s w t p ≡ true →
       IsDialled s p t draw
       (World.dial_event s p t draw (World.may_dial s p t w.sets (w.peer p) (w.unblock p) (w.cooldown p))
       (World.address_with s p (w.peer p).known.info))
@@ -49,11 +51,11 @@ module _ {C S : Type 0} (s : Settings C S) where
       go (World.address_with s p (w.peer p).known.info) target.valid_is
       (World.may_dial s p t w.sets (w.peer p) (w.unblock p) (w.cooldown p))
       (and_from _ _ parts.0
-      (le-leb (World.reservable_from (w.cooldown p)) t
-      (omega (arith, leb-true (World.dialable_from (w.cooldown p)) t parts.1, first))))
+      (le-leb (reservable_from (w.cooldown p)) t
+      (omega (arith, leb-true (dialable_from (w.cooldown p)) t parts.1, first))))
     where
-      parts : ((World.is_target s p w.sets (w.peer p) && not (World.is_blocked (w.unblock p) t)) ≡ true)
-          × (nat_le (World.dialable_from (w.cooldown p)) t ≡ true)
+      parts : ((World.is_target s p w.sets (w.peer p) && not (is_blocked (w.unblock p) t)) ≡ true)
+          × (nat_le (dialable_from (w.cooldown p)) t ≡ true)
       parts = and_parts _ _ dialable
 
       target : IsTarget s p w.sets (w.peer p)
@@ -110,10 +112,6 @@ module _ {C S : Type 0} (s : Settings C S) where
   chosen_more : (p : C) (ps : List C) (xs : List (C × ℕ)) → AreChosen s ps xs → AreChosen s (p ∷ ps) xs
   chosen_more p ps [] chosen = tt
   chosen_more p ps (x ∷ xs) chosen = (or_right (History.same s p x.0) (History.is_in s x.0 ps) chosen.0, chosen.1, chosen_more p ps xs chosen.2)
-    where
-      or_right : (a b : Bool) → b ≡ true → (a || b) ≡ true
-      or_right true b e = refl
-      or_right false b e = e
 
   pub chosen_whole : IsTotalOrder s.cmp → (xs : List (C × ℕ)) → IsStrictlySortedBy s.cmp (map (λ x. x.0) xs) → AreChosen s (map (λ x. x.0) xs) xs
   unfolding IsStrictlySortedBy

@@ -4,6 +4,7 @@ use Rattle.std.specs.Prelude.{if◌then◌else◌, nat_lt, filter}
 use Rattle.std.specs.Option.{option_map}
 use Rattle.std.specs.List.{list_all, list_any}
 use Rattle.p2p_discovery.specs.declared.types.ingress.Ingress.{Ingress}
+use Rattle.p2p_tracker.specs.Blocks.{is_blocked}
 use Rattle.p2p_tracker.specs.declared.record.Status.{Status}
 use Rattle.p2p_tracker.specs.Calls.{Settings, SetAt, Call, Grant, Event}
 use Rattle.p2p_tracker.specs.Calls.Call.{Track, Dial, Listen, Connect, Release, Update, Block, UnblockExpired, ForgetCooled, Ask}
@@ -119,7 +120,7 @@ module _ {C S : Type 0} (s : Settings C S) where
       go None = record { granted = nothing (Run.was_made r); blocked = nothing (Run.was_made r) }
       go (Some grant) = record { granted = nothing (Run.was_made r); blocked = nothing (Run.was_made r) }
   told p sets w v (Update infos) r a = record { granted = nothing (Run.was_made r); blocked = nothing (Run.was_made r) }
-  told p sets w v (Block q t) r a = go (not (History.is_own s q) && not (World.is_blocked (w.unblock q) t))
+  told p sets w v (Block q t) r a = go (not (History.is_own s q) && not (is_blocked (w.unblock q) t))
       a
     where
       go : (b : Bool) →

@@ -3,6 +3,9 @@ use Rattle.std.proofs.Common.{◌≡◌, ℕ, suc, ◌+◌, ◌≤◌, Bool, tru
 use Rattle.std.specs.Prelude.{if◌then◌else◌, filter, nat_lt}
 use Rattle.std.proofs.lemmas.Bool.{not-true, not-false}
 use Rattle.p2p_discovery.specs.declared.types.ingress.Ingress.{Ingress}
+use Rattle.p2p_tracker.specs.Status.{is_inert}
+use Rattle.p2p_tracker.specs.Blocks.{is_blocked}
+use Rattle.p2p_tracker.specs.Cooldowns.{dialable_from}
 use Rattle.p2p_tracker.specs.declared.record.Status.{Status}
 use Rattle.p2p_tracker.specs.Calls.{Settings, Question, Call, SetAt, Grant, Cooldown, Event}
 use Rattle.p2p_tracker.specs.Calls.Call.{Track, Dial, Listen, Connect, Release, Update, Block, UnblockExpired, ForgetCooled, Ask}
@@ -208,7 +211,7 @@ module _ {C S : Type 0} (s : Settings C S) where
   does_alike p w v (Release q) exact alike mine =
       let a = at_key p q w v exact mine alike in λ i. World.release_event s q (a.held i)
   does_alike p w v (Block q t) exact alike mine =
-      let a = at_key p q w v exact mine alike in λ i. if not (History.is_own s q) && not (World.is_blocked (a.unblock i) t) then Blocked q t else Nothing
+      let a = at_key p q w v exact mine alike in λ i. if not (History.is_own s q) && not (is_blocked (a.unblock i) t) then Blocked q t else Nothing
   does_alike p w v (Update infos) exact alike mine = refl
   does_alike p w v (UnblockExpired t) exact alike mine = refl
   does_alike p w v (ForgetCooled t) exact alike mine = refl
@@ -290,17 +293,17 @@ module _ {C S : Type 0} (s : Settings C S) where
     status = λ i. if History.is_present_with s p (a.sets i) (a.peer i).status then Some (a.peer i).status else None;
     info = λ i. Answers.sharable_of s p (a.peer i);
     wanted = λ i. Answers.wants s p (a.peer i);
-    blocked = λ t i. World.is_blocked (a.unblock i) t;
+    blocked = λ t i. is_blocked (a.unblock i) t;
     cooled = λ t i. Answers.is_cooled_by t (a.cooldown i);
-    eligible = λ t i. History.is_entitled s p (a.sets i) && not (World.is_blocked (a.unblock i) t);
-    acceptable = λ t i. History.is_entitled s p (a.sets i) && not (World.is_blocked (a.unblock i) t) && History.is_inert (a.peer i).status;
+    eligible = λ t i. History.is_entitled s p (a.sets i) && not (is_blocked (a.unblock i) t);
+    acceptable = λ t i. History.is_entitled s p (a.sets i) && not (is_blocked (a.unblock i) t) && is_inert (a.peer i).status;
     dialable = λ t i. Answers.is_dialable_with s p t (a.sets i) (a.peer i) (a.unblock i) (a.cooldown i);
-    query = λ t i. if World.is_blocked (a.unblock i) t then (if History.is_present_with s p (a.sets i) (a.peer i).status then a.unblock i else None)
-        else if World.is_target s p (a.sets i) (a.peer i) && nat_lt t (World.dialable_from (a.cooldown i)) then Some (World.dialable_from (a.cooldown i))
+    query = λ t i. if is_blocked (a.unblock i) t then (if History.is_present_with s p (a.sets i) (a.peer i).status then a.unblock i else None)
+        else if World.is_target s p (a.sets i) (a.peer i) && nat_lt t (dialable_from (a.cooldown i)) then Some (dialable_from (a.cooldown i))
         else None;
     does = λ c mine. does_alike p w v c exact a mine;
   }
 
   pub torn_down_alike : (p : C) (w v w2 v2 : World C S) → SameFor p w w2 → SameFor p v v2 → Answers.is_torn_down s w v p ≡ Answers.is_torn_down s w2 v2 p
-  torn_down_alike p w v w2 v2 a b = λ i. not (History.is_inert (a.peer i).status) && History.is_entitled s p
+  torn_down_alike p w v w2 v2 a b = λ i. not (is_inert (a.peer i).status) && History.is_entitled s p
       (a.sets i) && not (History.is_entitled s p (b.sets i))

@@ -3,6 +3,7 @@ use Rattle.std.proofs.Common.{◌≡◌, ℕ, ◌≤◌, true, false, not, List,
 use Rattle.std.specs.Prelude.{if◌then◌else◌}
 use Rattle.std.specs.Option.{option_map, option_map_or, IsSomeAnd}
 use Rattle.p2p_discovery.specs.Ingress.{takes_none}
+use Rattle.p2p_tracker.specs.Status.{is_inert, is_reserved}
 use Rattle.p2p_tracker.specs.Calls.{Settings, Question, Call, Event}
 use Rattle.p2p_tracker.specs.Calls.Question.{StatusOf, NumberTracked, NextUnblock, BlockedAt}
 use Rattle.p2p_tracker.specs.Calls.Question.{PeerSet, LatestIndex, AllPeers, LatestUpdate, InfoOf}
@@ -68,11 +69,11 @@ module _ {C S : Type 0} (s : Settings C S) where
   on_alike e f p w v w2 v2 (Connect q dialer) r alike mine exact same a =
       let b = subst (λ x. SameFor x w v) (sym (exact q p mine)) alike in
       moved e f w w2 v v2 (Connect q dialer) r (λ x. x)
-      (λ x. x ∙ ap (λ peer. if History.is_reserved peer.status then reply.Connect else reply.NotReserved)
+      (λ x. x ∙ ap (λ peer. if is_reserved peer.status then reply.Connect else reply.NotReserved)
       b.peer) a
   on_alike e f p w v w2 v2 (Release q) r alike mine exact same a =
       let b = subst (λ x. SameFor x w v) (sym (exact q p mine)) alike in
-      moved e f w w2 v v2 (Release q) r (λ x. x) (λ x. x ∙ ap (λ peer. if not (History.is_inert peer.status) then reply.Release else reply.NotHeld) b.peer) a
+      moved e f w w2 v v2 (Release q) r (λ x. x) (λ x. x ∙ ap (λ peer. if not (is_inert peer.status) then reply.Release else reply.NotHeld) b.peer) a
   on_alike e f p w v w2 v2 (Block q t) r alike mine exact same a =
       moved e f w w2 v v2 (Block q t) r (λ x. ap was_blocked (sym same) ∙ x) (λ x. x ∙ ap (λ y. reply.Block (was_blocked y)) same) a
   on_alike e f p w v w2 v2 (Ask question) r alike mine exact same a =

@@ -6,7 +6,7 @@ use Rattle.p2p_discovery.specs.declared.discovery.Info.{Info}
 use Rattle.p2p_tracker.specs.Calls.{Settings, Call}
 use Rattle.p2p_tracker.specs.Calls.Call.{Update}
 use Rattle.p2p_tracker.specs.History
-use Rattle.p2p_tracker.specs.History.{first_greatest, earlier_best}
+use Rattle.p2p_tracker.specs.Lists.{first_greatest, earlier_best}
 use Rattle.p2p_tracker.specs.World
 use Rattle.p2p_tracker.specs.Step
 use Rattle.p2p_tracker.specs.World.{World, Known}

@@ -4,6 +4,9 @@ use Rattle.std.specs.Prelude.{if◌then◌else◌, nat_lt, nat_le, option_to_lis
 use Rattle.std.specs.List.{list_all, list_any}
 use Rattle.std.proofs.lemmas.Bool.{leb-true, ltb-false, not-true, and_parts}
 use Rattle.p2p_discovery.specs.declared.types.ingress.Ingress.{Ingress}
+use Rattle.p2p_tracker.specs.Status.{is_inert}
+use Rattle.p2p_tracker.specs.Blocks.{is_blocked}
+use Rattle.p2p_tracker.specs.Cooldowns.{reservable_from}
 use Rattle.p2p_tracker.specs.declared.record.Status.{Status}
 use Rattle.p2p_tracker.specs.Calls.{Settings, Call, SetAt, Grant, Event}
 use Rattle.p2p_tracker.specs.Calls.Call.{Track, Dial, Listen, Connect, Release, Update, Block, UnblockExpired, ForgetCooled, Ask}
@@ -26,24 +29,24 @@ module _ {C S : Type 0} (s : Settings C S) where
 
   -- p's cooldown is over at t, and it isn't blocked
   pub record IsFree (p : C) (w : World C S) (t : ℕ) : Type 0 where
-    pub cool : World.reservable_from (w.cooldown p) ≤ t
-    pub unblocked : World.is_blocked (w.unblock p) t ≡ false
+    pub cool : reservable_from (w.cooldown p) ≤ t
+    pub unblocked : is_blocked (w.unblock p) t ≡ false
 
   -- an event of a call at t
   abbrev Fits : World C S → ℕ → Event C S → Type 0
   Fits w t (Granted q grant) = (grant.t ≡ t) × IsFree q w t
-  Fits w t (Blocked q u) = (u ≡ t) × (World.is_blocked (w.unblock q) t ≡ false)
+  Fits w t (Blocked q u) = (u ≡ t) × (is_blocked (w.unblock q) t ≡ false)
   Fits w t (Expired u) = u ≡ t
   Fits w t (Forgot u) = u ≡ t
   Fits w t _ = Unit {0}
 
   is_free : (p : C) (w : World C S) (t : ℕ) (may : Bool) →
-      (may && not (World.is_blocked (w.unblock p) t) && nat_le (World.reservable_from (w.cooldown p)) t) ≡ true →
+      (may && not (is_blocked (w.unblock p) t) && nat_le (reservable_from (w.cooldown p)) t) ≡ true →
       IsFree p w t
   is_free p w t may e =
       let one = and_parts _ _ e in
       let two = and_parts _ _ one.0 in
-      record { cool = leb-true (World.reservable_from (w.cooldown p)) t one.1; unblocked = not-true _ two.1 }
+      record { cool = leb-true (reservable_from (w.cooldown p)) t one.1; unblocked = not-true _ two.1 }
 
   fits : (sets : List (SetAt C)) (w : World C S) (c : Call C S) (now : ℕ) → Fits w (moment_or s now c) (World.event_in s sets w c)
   fits sets w (Track index primary secondary) now = go (list_all (λ x. nat_lt x.index index) sets)
@@ -70,7 +73,7 @@ module _ {C S : Type 0} (s : Settings C S) where
   fits sets w (Listen q t draw) now = go (World.may_listen s q t w.sets (w.peer q) (w.unblock q) (w.cooldown q)) refl
     where
       go : (granted : Bool) → World.may_listen s q t w.sets (w.peer q) (w.unblock q) (w.cooldown q) ≡ granted → Fits w t (World.listen_event s q t draw granted)
-      go true e = (refl, is_free q w t (History.is_entitled s q w.sets && History.is_inert (w.peer q).status) e)
+      go true e = (refl, is_free q w t (History.is_entitled s q w.sets && is_inert (w.peer q).status) e)
       go false e = tt
   fits sets w (Connect q dialer) now = go (w.peer q).status
     where
@@ -84,9 +87,9 @@ module _ {C S : Type 0} (s : Settings C S) where
       go None = tt
       go (Some grant) = tt
   fits sets w (Update infos) now = tt
-  fits sets w (Block q t) now = go (not (History.is_own s q) && not (World.is_blocked (w.unblock q) t)) refl
+  fits sets w (Block q t) now = go (not (History.is_own s q) && not (is_blocked (w.unblock q) t)) refl
     where
-      go : (b : Bool) → (not (History.is_own s q) && not (World.is_blocked (w.unblock q) t)) ≡ b → Fits w t (if b then Blocked q t else Nothing)
+      go : (b : Bool) → (not (History.is_own s q) && not (is_blocked (w.unblock q) t)) ≡ b → Fits w t (if b then Blocked q t else Nothing)
       go true e = (refl, not-true _ (and_parts _ _ e).1)
       go false e = tt
   fits sets w (UnblockExpired t) now = refl
@@ -131,10 +134,10 @@ module _ {C S : Type 0} (s : Settings C S) where
 
   -- a grant that was found, with the events after it, and isn't forgotten by them
   cooled_where_kept : (found : Option (Grant × List (Event C S))) (t : ℕ) →
-      World.reservable_from (option_map (History.moments_of s) (unless_ended (History.is_forgetting s) found)) ≤ t → IsCooledUnlessForgotten s t found
+      reservable_from (option_map (History.moments_of s) (unless_ended (History.is_forgetting s) found)) ≤ t → IsCooledUnlessForgotten s t found
   cooled_where_kept None t le = tt
   cooled_where_kept (Some found) t le = λ kept.
-      subst (λ b. World.reservable_from (option_map (History.moments_of s) (if b then None else Some found.0)) ≤ t) kept le
+      subst (λ b. reservable_from (option_map (History.moments_of s) (if b then None else Some found.0)) ≤ t) kept le
 
   spaced_where_kept : (p : C) (h : List (Event C S)) (t : ℕ) (found : Option Grant) → GrantFits p (World.world_at s h) t found →
       IsSpacedUnlessForgotten s found (last_with (History.grant_by s p) h)
@@ -226,7 +229,7 @@ module _ {C S : Type 0} (s : Settings C S) where
   over_more [] t u le over = tt
   over_more (m ∷ ms) t u le over = (omega (arith, over.0), over_more ms t u le over.1)
 
-  limit_free : (t : ℕ) (o : Option ℕ) → World.is_blocked o t ≡ false → limit t o ≤ t
+  limit_free : (t : ℕ) (o : Option ℕ) → is_blocked o t ≡ false → limit t o ≤ t
   limit_free t None e = omega arith
   limit_free t (Some m) e = omega (arith, ltb-false t m e)
 
@@ -251,8 +254,8 @@ module _ {C S : Type 0} (s : Settings C S) where
           AreOver s (limit now (if b then Some (cap (u + s.block_duration)) else History.unblock_at s p h))
           (option_to_list (if b then Some (cap (u + s.block_duration)) else None) ++ blocks_in s p h)
       go true e =
-          let free : World.is_blocked (History.unblock_at s p h) t ≡ false =
-          subst (λ x. World.is_blocked (History.unblock_at s x h) t ≡ false) (exact q p e) f.1 in (
+          let free : is_blocked (History.unblock_at s p h) t ≡ false =
+          subst (λ x. is_blocked (History.unblock_at s x h) t ≡ false) (exact q p e) f.1 in (
             omega arith,
             over_more (blocks_in s p h) (limit t (History.unblock_at s p h)) (max now (cap (u + s.block_duration)))
                 (omega (arith, limit_free t (History.unblock_at s p h) free)) over,

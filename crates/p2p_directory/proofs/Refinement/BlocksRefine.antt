@@ -4,12 +4,15 @@ use Rattle.std.specs.Prelude.{if◌then◌else◌, nat_lt, nat_le}
 use Rattle.std.specs.Option.{option_map, option_map_or}
 use Rattle.std.specs.List.{last_or, list_any}
 use Rattle.std.specs.BTreeMap.{is_at}
+use Rattle.p2p_discovery.proofs.Truth.{nat_le-not_lt}
+use Rattle.p2p_tracker.specs.Blocks.{is_blocked}
 use Rattle.p2p_tracker.specs.declared.directory.PeerSetUpdate.{PeerSetUpdate}
 use Rattle.p2p_tracker.specs.declared.directory.TrackedPeers.{TrackedPeers}
 use Rattle.p2p_tracker.specs.Calls.{Settings}
 use Rattle.p2p_tracker.specs.Calls.Event.{Blocked, Expired}
 use Rattle.p2p_tracker.specs.Moments.{cap}
-use Rattle.p2p_tracker.specs.History.{same, is_own, is_inert, is_persistent, is_named, is_entitled}
+use Rattle.p2p_tracker.specs.History.{same, is_own, is_persistent, is_named, is_entitled}
+use Rattle.p2p_tracker.specs.Status.{is_inert}
 use Rattle.p2p_tracker.specs.World
 use Rattle.p2p_tracker.specs.World.{World, Peer}
 use Rattle.p2p_tracker.specs.Step.{unblock_after, world_with}
@@ -28,7 +31,7 @@ use Rattle.p2p_directory.specs.Run.{update_in}
 use Rattle.p2p_tracker.proofs.Definitions.Listed
 use Rattle.p2p_tracker.proofs.Definitions.Listed.{lists_alike, somebody_alike}
 use Rattle.p2p_directory.proofs.Refinement.CallsRefine.{same_cooldowns, unchanged}
-use Rattle.p2p_directory.proofs.Refinement.RecordOfPeer.{record_with, shown_entitled, eligible_is_entitled, absent_not_entitled, myself_is_own, le_not_lt}
+use Rattle.p2p_directory.proofs.Refinement.RecordOfPeer.{record_with, shown_entitled, eligible_is_entitled, absent_not_entitled, myself_is_own}
 
 swap : (a b : Bool) → (a && b) ≡ (b && a)
 swap true true = refl
@@ -46,7 +49,7 @@ module _ {C S : Type 0} (s : Settings C S) where
   -- BLOCKS
 
   blocked_alike : (w : World C S) (d : DirectoryView C S) (t : ℕ) → Refines s w d → (q : C) → is_blocked_in s.cmp d t q ≡ is_blocked_at s w t q
-  blocked_alike w d t stands q = ap (λ o. World.is_blocked o t) (stands.blocks q)
+  blocked_alike w d t stands q = ap (λ o. is_blocked o t) (stands.blocks q)
 
   pub tie_blocked : (w : World C S) (d : DirectoryView C S) (t : ℕ) (ps : List C) → Refines s w d →
       Lists s.cmp (is_blocked_in s.cmp d t) ps → AreBlocked s w t ps
@@ -69,10 +72,10 @@ module _ {C S : Type 0} (s : Settings C S) where
 
   -- whether a block of p may be taken
   pub tie_may_block : (w : World C S) (d : DirectoryView C S) (p : C) (t : ℕ) → Refines s w d →
-      may_block s.cmp d t p ≡ (not (is_own s p) && not (World.is_blocked (w.unblock p) t))
+      may_block s.cmp d t p ≡ (not (is_own s p) && not (is_blocked (w.unblock p) t))
   tie_may_block w d p t stands =
-      (λ i. not (option_map_or (λ r. is_myself r.address) (stands.records p i) false) && not (World.is_blocked (stands.blocks p i) t))
-      ∙ ap (λ b. not b && not (World.is_blocked (w.unblock p) t)) (go (is_own s p) (is_present_in s w p) refl (myself_is_own s p (w.peer p).known))
+      (λ i. not (option_map_or (λ r. is_myself r.address) (stands.records p i) false) && not (is_blocked (stands.blocks p i) t))
+      ∙ ap (λ b. not b && not (is_blocked (w.unblock p) t)) (go (is_own s p) (is_present_in s w p) refl (myself_is_own s p (w.peer p).known))
     where
       go : (own b : Bool) → is_present_in s w p ≡ b →
           is_myself (record_with s p w.sets (w.cooldown p) (w.peer p)).address ≡ own →
@@ -111,7 +114,7 @@ module _ {C S : Type 0} (s : Settings C S) where
     where
       left : (q : C) (o : Option ℕ) → if_later t o ≡ unblock_after s q (Expired t) o
       left q None = refl
-      left q (Some m) = ends (nat_lt t m) m (le_not_lt s m t)
+      left q (Some m) = ends (nat_lt t m) m (nat_le-not_lt m t)
         where
           ends : (b : Bool) (m : ℕ) → nat_le m t ≡ not b → (if b then Some m else None) ≡ (if nat_le m t then None else Some m)
           ends true m e = ap (λ b. if b then None else Some m) (sym e)
@@ -121,16 +124,16 @@ module _ {C S : Type 0} (s : Settings C S) where
 
   pub tie_eligible : (w : World C S) (d : DirectoryView C S) (p : C) (t : ℕ) → Refines s w d → is_free_and s.cmp is_eligible d t p ≡ is_eligible_at s w p t
   tie_eligible w d p t stands =
-      (λ i. not (World.is_blocked (stands.blocks p i) t) && option_map_or is_eligible (stands.records p i) false)
-      ∙ ap (λ b. not (World.is_blocked (w.unblock p) t) && b) (shown_entitled s p w.sets (w.cooldown p) (w.peer p))
-      ∙ swap (not (World.is_blocked (w.unblock p) t)) (is_entitled s p w.sets)
+      (λ i. not (is_blocked (stands.blocks p i) t) && option_map_or is_eligible (stands.records p i) false)
+      ∙ ap (λ b. not (is_blocked (w.unblock p) t) && b) (shown_entitled s p w.sets (w.cooldown p) (w.peer p))
+      ∙ swap (not (is_blocked (w.unblock p) t)) (is_entitled s p w.sets)
 
   pub tie_acceptable : (w : World C S) (d : DirectoryView C S) (p : C) (t : ℕ) → Refines s w d →
       is_free_and s.cmp is_acceptable d t p ≡ is_acceptable_at s w p t
   tie_acceptable w d p t stands =
-      (λ i. not (World.is_blocked (stands.blocks p i) t) && option_map_or is_acceptable (stands.records p i) false)
-      ∙ ap (λ b. not (World.is_blocked (w.unblock p) t) && b) (shown_acceptable (is_present_in s w p) refl)
-      ∙ swapped (not (World.is_blocked (w.unblock p) t)) (is_entitled s p w.sets) (is_inert (w.peer p).status)
+      (λ i. not (is_blocked (stands.blocks p i) t) && option_map_or is_acceptable (stands.records p i) false)
+      ∙ ap (λ b. not (is_blocked (w.unblock p) t) && b) (shown_acceptable (is_present_in s w p) refl)
+      ∙ swapped (not (is_blocked (w.unblock p) t)) (is_entitled s p w.sets) (is_inert (w.peer p).status)
     where
       shown_acceptable : (b : Bool) → is_present_in s w p ≡ b →
           option_map_or is_acceptable (if b then Some (record_with s p w.sets (w.cooldown p) (w.peer p)) else None)

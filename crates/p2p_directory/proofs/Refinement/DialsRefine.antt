@@ -6,11 +6,16 @@ use Rattle.std.specs.Option.{option_map_or, option_and_then}
 use Rattle.std.proofs.lemmas.Bool.{and_parts, and_from}
 use Rattle.p2p_discovery.specs.declared.types.ingress.Ingress.{Ingress}
 use Rattle.p2p_discovery.specs.declared.discovery.Info.{Info}
+use Rattle.p2p_discovery.proofs.Truth.{nat_le-not_lt}
+use Rattle.p2p_tracker.specs.Blocks.{is_blocked}
 use Rattle.p2p_tracker.specs.declared.record.Address.TheVariants.{Myself}
 use Rattle.p2p_tracker.specs.Calls.{Settings, SetAt, Cooldown}
-use Rattle.p2p_tracker.specs.History.{is_own, is_inert, is_persistent, is_named, is_present_with, is_entitled, primary_count, secondary_count}
+use Rattle.p2p_tracker.specs.History.{is_own, is_persistent, is_named, is_present_with, is_entitled}
+use Rattle.p2p_tracker.specs.History.{primary_count, secondary_count}
+use Rattle.p2p_tracker.specs.Status.{is_inert}
 use Rattle.p2p_tracker.specs.World
-use Rattle.p2p_tracker.specs.World.{World, Known, Peer, last_ingress, is_target, reservable_from, dialable_from}
+use Rattle.p2p_tracker.specs.World.{World, Known, Peer, last_ingress, is_target}
+use Rattle.p2p_tracker.specs.Cooldowns.{reservable_from, dialable_from}
 use Rattle.p2p_tracker.specs.Answers
 use Rattle.p2p_tracker.specs.Answers.{is_present_in, is_dialable, query_moment, IsDialable}
 use Rattle.p2p_tracker.specs.Record.{DialView, is_grant, may_come}
@@ -25,11 +30,7 @@ use Rattle.p2p_tracker.proofs.Definitions.Listed.{lists_alike, somebody_alike}
 use Rattle.p2p_tracker.proofs.SetsAndRecords.Dialables.{later_parts, later_moments, shuffle}
 use Rattle.p2p_directory.proofs.Definitions.Targets.{parts_of_target, dialled_is_target}
 use Rattle.p2p_directory.proofs.Refinement.RecordOfPeer.{record_with, shown, shown_may_come, absent_not_entitled}
-use Rattle.p2p_directory.proofs.Refinement.RecordOfPeer.{myself_is_own, is_granted, le_not_lt}
-
-neither : (b : Bool) → (b && false) ≡ false
-neither true = refl
-neither false = refl
+use Rattle.p2p_directory.proofs.Refinement.RecordOfPeer.{myself_is_own, is_granted}
 
 module _ {C S : Type 0} (s : Settings C S) where
   -- ONE PEER
@@ -133,20 +134,20 @@ module _ {C S : Type 0} (s : Settings C S) where
       let late = nat_lt t (reservable_from cooldown) in
       (λ i. is_granted s (myself_is_own s p peer.known i) (is_inert peer.status) late i)
       ∙ (λ i. other i && parts.inert_is i && not late)
-      ∙ sym (le_not_lt s (reservable_from cooldown) t)
+      ∙ sym (nat_le-not_lt (reservable_from cooldown) t)
 
   alike_where : (a b c : Bool) → (a ≡ true → b ≡ c) → (a && b) ≡ (a && c)
   alike_where true b c h = h refl
   alike_where false b c h = refl
 
   shown_may_dial : (p : C) (sets : List (SetAt C)) (cooldown : Option Cooldown) (peer : Peer C S) (unblock : Option ℕ) (t : ℕ) →
-      (not (World.is_blocked unblock t) && option_map_or (may_be_dialled t s.allow_private_ips s.allow_dns)
+      (not (is_blocked unblock t) && option_map_or (may_be_dialled t s.allow_private_ips s.allow_dns)
       (shown s p sets cooldown peer) false) ≡ World.may_dial s p t sets peer unblock cooldown
   shown_may_dial p sets cooldown peer unblock t = go (is_present_with s p sets peer.status) refl
       ∙ shuffle (is_target s p sets peer) free (nat_le (reservable_from cooldown) t)
     where
       free : Bool
-      free = not (World.is_blocked unblock t)
+      free = not (is_blocked unblock t)
 
       go : (b : Bool) → is_present_with s p sets peer.status ≡ b →
           (free && option_map_or (may_be_dialled t s.allow_private_ips s.allow_dns)
@@ -166,13 +167,13 @@ module _ {C S : Type 0} (s : Settings C S) where
   pub tie_may_listen : (w : World C S) (d : DirectoryView C S) (p : C) (t : ℕ) → Refines s w d →
       may_listen_in s.cmp d t p ≡ World.may_listen s p t w.sets (w.peer p) (w.unblock p) (w.cooldown p)
   tie_may_listen w d p t stands =
-      (λ i. not (World.is_blocked (stands.blocks p i) t) && option_map_or (may_come t) (stands.records p i) false)
+      (λ i. not (is_blocked (stands.blocks p i) t) && option_map_or (may_come t) (stands.records p i) false)
       ∙ shown_may_come s p w.sets (w.cooldown p) (w.peer p) (w.unblock p) t
 
   pub tie_may_dial : (w : World C S) (d : DirectoryView C S) (p : C) (t : ℕ) → Refines s w d →
       may_dial_in s.cmp d t p ≡ World.may_dial s p t w.sets (w.peer p) (w.unblock p) (w.cooldown p)
   tie_may_dial w d p t stands =
-      (λ i. not (World.is_blocked (stands.blocks p i) t) && option_map_or
+      (λ i. not (is_blocked (stands.blocks p i) t) && option_map_or
       (may_be_dialled t (stands.config i).allow_private_ips (stands.config i).allow_dns) (stands.records p i)
       false)
       ∙ shown_may_dial p w.sets (w.cooldown p) (w.peer p) (w.unblock p) t
@@ -212,13 +213,13 @@ module _ {C S : Type 0} (s : Settings C S) where
   -- DIALABLE
 
   shown_dialable : (p : C) (sets : List (SetAt C)) (cooldown : Option Cooldown) (peer : Peer C S) (unblock : Option ℕ) (t : ℕ) →
-      (not (World.is_blocked unblock t) && option_map_or (λ r. is_now (dial_status t s.allow_private_ips s.allow_dns r)) (shown s p sets cooldown peer) false)
+      (not (is_blocked unblock t) && option_map_or (λ r. is_now (dial_status t s.allow_private_ips s.allow_dns r)) (shown s p sets cooldown peer) false)
       ≡ Answers.is_dialable_with s p t sets peer unblock cooldown
   shown_dialable p sets cooldown peer unblock t = go (is_present_with s p sets peer.status) refl
       ∙ shuffle (is_target s p sets peer) free (nat_le (dialable_from cooldown) t)
     where
       free : Bool
-      free = not (World.is_blocked unblock t)
+      free = not (is_blocked unblock t)
 
       go : (b : Bool) → is_present_with s p sets peer.status ≡ b →
           (free && option_map_or (λ r. is_now (dial_status t s.allow_private_ips s.allow_dns r))
@@ -233,9 +234,9 @@ module _ {C S : Type 0} (s : Settings C S) where
 
   shown_query : (p : C) (sets : List (SetAt C)) (cooldown : Option Cooldown) (peer : Peer C S) (unblock : Option ℕ) (t : ℕ) →
       option_and_then
-      (λ r. if World.is_blocked unblock t then unblock else later_moment
+      (λ r. if is_blocked unblock t then unblock else later_moment
       (dial_status t s.allow_private_ips s.allow_dns r)) (shown s p sets cooldown peer)
-      ≡ (if World.is_blocked unblock t then (if is_present_with s p sets peer.status then unblock else None)
+      ≡ (if is_blocked unblock t then (if is_present_with s p sets peer.status then unblock else None)
       else if is_target s p sets peer && nat_lt t (dialable_from cooldown) then Some (dialable_from cooldown) else None)
   shown_query p sets cooldown peer unblock t = go (is_present_with s p sets peer.status) refl
     where
@@ -248,25 +249,25 @@ module _ {C S : Type 0} (s : Settings C S) where
 
       go : (b : Bool) → is_present_with s p sets peer.status ≡ b →
           option_and_then
-          (λ r. if World.is_blocked unblock t then unblock else later_moment
+          (λ r. if is_blocked unblock t then unblock else later_moment
           (dial_status t s.allow_private_ips s.allow_dns r))
           (if b then Some (record_with s p sets cooldown peer) else None)
-          ≡ (if World.is_blocked unblock t then (if b then unblock else None) else if is_target s p sets peer &&
+          ≡ (if is_blocked unblock t then (if b then unblock else None) else if is_target s p sets peer &&
           nat_lt t (dialable_from cooldown) then Some (dialable_from cooldown) else None)
       go true h =
-          (λ i. if World.is_blocked unblock t then unblock
+          (λ i. if is_blocked unblock t then unblock
           else later_moment
           (if not (shown_candidate p sets cooldown peer i) then DialView.Unavailable else if nat_lt t
           (dialable_from cooldown) then DialView.After (dialable_from cooldown) else DialView.Now))
-          ∙ ap (λ o. if World.is_blocked unblock t then unblock else o) (later_moments (is_target s p sets peer) (dialable_from cooldown) t)
+          ∙ ap (λ o. if is_blocked unblock t then unblock else o) (later_moments (is_target s p sets peer) (dialable_from cooldown) t)
       go false h =
-          none (World.is_blocked unblock t)
-          ∙ ap (λ b. if World.is_blocked unblock t then None else if b && nat_lt t (dialable_from cooldown)
+          none (is_blocked unblock t)
+          ∙ ap (λ b. if is_blocked unblock t then None else if b && nat_lt t (dialable_from cooldown)
           then Some (dialable_from cooldown) else None) (sym (absent_no_target p sets peer h))
 
   pub tie_is_dialable : (w : World C S) (d : DirectoryView C S) (t : ℕ) → Refines s w d → (p : C) → is_dialable_in s.cmp d t p ≡ is_dialable s w t p
   tie_is_dialable w d t stands p =
-      (λ i. not (World.is_blocked (stands.blocks p i) t) && option_map_or
+      (λ i. not (is_blocked (stands.blocks p i) t) && option_map_or
       (λ r. is_now (dial_status t (stands.config i).allow_private_ips (stands.config i).allow_dns r))
       (stands.records p i) false)
       ∙ shown_dialable p w.sets (w.cooldown p) (w.peer p) (w.unblock p) t
@@ -274,7 +275,7 @@ module _ {C S : Type 0} (s : Settings C S) where
   tie_query : (w : World C S) (d : DirectoryView C S) (t : ℕ) → Refines s w d → (p : C) → query_moment_in s.cmp d t p ≡ query_moment s w t p
   tie_query w d t stands p =
       (λ i. option_and_then
-      (λ r. if World.is_blocked (stands.blocks p i) t then stands.blocks p i else later_moment
+      (λ r. if is_blocked (stands.blocks p i) t then stands.blocks p i else later_moment
       (dial_status t (stands.config i).allow_private_ips (stands.config i).allow_dns r)) (stands.records p i))
       ∙ shown_query p w.sets (w.cooldown p) (w.peer p) (w.unblock p) t
 

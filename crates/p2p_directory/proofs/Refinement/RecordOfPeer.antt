@@ -4,9 +4,12 @@ use Rattle.std.specs.Prelude.{if◌then◌else◌, nat_lt, nat_le}
 use Rattle.std.specs.Option.{is_some, option_map_or}
 use Rattle.std.specs.List.{list_any}
 use Rattle.std.proofs.lemmas.Bool.Decides.{nat_tests}
+use Rattle.std.proofs.Math.Bool.{and-false}
 use Rattle.p2p_discovery.specs.declared.discovery.Info.{Info}
 use Rattle.p2p_discovery.specs.declared.types.ingress.Ingress.{Ingress}
 use Rattle.p2p_discovery.specs.Ingress.{same_ingress}
+use Rattle.p2p_discovery.proofs.Truth.{nat_le-not_lt}
+use Rattle.p2p_tracker.specs.Blocks.{is_blocked}
 use Rattle.p2p_tracker.specs.declared.record.Address.{Address}
 use Rattle.p2p_tracker.specs.declared.record.Address.TheVariants.{Unknown, Myself, Discovered}
 use Rattle.p2p_tracker.specs.declared.record.Status.{Status}
@@ -14,10 +17,14 @@ use Rattle.p2p_tracker.specs.declared.record.Status.TheVariants.{Inert, Reserved
 use Rattle.p2p_tracker.specs.declared.record.dialing.ReserveResult.TheVariants as reserve
 use Rattle.p2p_tracker.specs.Calls.{Settings, SetAt, Direction, Cooldown}
 use Rattle.p2p_tracker.specs.Calls.Direction.{Listener, Dialer}
-use Rattle.p2p_tracker.specs.History.{same, is_own, is_inert, is_persistent, is_named, is_present_with, primary_count, secondary_count, is_entitled}
+use Rattle.p2p_tracker.specs.History.{same, is_own, is_persistent, is_named, is_present_with}
+use Rattle.p2p_tracker.specs.History.{primary_count, secondary_count, is_entitled}
+use Rattle.p2p_tracker.specs.Status.{is_inert}
 use Rattle.p2p_tracker.specs.World
 use Rattle.p2p_tracker.specs.Step
-use Rattle.p2p_tracker.specs.World.{Known, Peer, last_ingress, last_ingress_by, reservable_from, dialable_from}
+use Rattle.p2p_tracker.specs.World.{Known, Peer, last_ingress}
+use Rattle.p2p_tracker.specs.Lists.{last_ingress_by}
+use Rattle.p2p_tracker.specs.Cooldowns.{reservable_from, dialable_from}
 use Rattle.p2p_tracker.specs.Step.{new_known}
 use Rattle.p2p_tracker.specs.Record.{fresh, is_myself, is_eligible, is_grant, may_come, after_failure, with_counts, unless_deletable}
 use Rattle.p2p_tracker.specs.Seen.{RecordView}
@@ -100,9 +107,6 @@ module _ {C S : Type 0} (s : Settings C S) where
           ∙ ap (λ b. not (is_inert peer.status) && b) (sym (absent_not_entitled (is_own s p) (is_named s p sets) (is_persistent s p) (is_inert peer.status) e))
 
   -- it may come
-  pub le_not_lt : (m n : ℕ) → nat_le m n ≡ not (nat_lt n m)
-  le_not_lt m n = grind (arith, nat_tests)
-
   pub is_granted : (m i late : Bool) →
       is_grant (if m || not i then reserve.Unavailable else if late then reserve.RateLimited else reserve.Reserved)
       ≡ (not m && i && not late)
@@ -112,7 +116,7 @@ module _ {C S : Type 0} (s : Settings C S) where
   is_granted false false late = refl
 
   pub shown_may_come : (p : C) (sets : List (SetAt C)) (cooldown : Option Cooldown) (peer : Peer C S) (unblock : Option ℕ) (t : ℕ) →
-      (not (World.is_blocked unblock t) && option_map_or (may_come t) (shown p sets cooldown peer) false) ≡ World.may_listen s p t sets peer unblock cooldown
+      (not (is_blocked unblock t) && option_map_or (may_come t) (shown p sets cooldown peer) false) ≡ World.may_listen s p t sets peer unblock cooldown
   shown_may_come p sets cooldown peer unblock t = go (is_present_with s p sets peer.status) refl
     where
       bools : (free own wanted inert late : Bool) →
@@ -127,23 +131,19 @@ module _ {C S : Type 0} (s : Settings C S) where
       bools false false true false late = refl
       bools false false false inert late = refl
 
-      neither : (free : Bool) → (free && false) ≡ false
-      neither true = refl
-      neither false = refl
-
       go : (b : Bool) → is_present_with s p sets peer.status ≡ b →
-          (not (World.is_blocked unblock t) && option_map_or (may_come t) (if b then Some (record_with p sets cooldown peer) else None) false)
-          ≡ (((is_entitled s p sets && is_inert peer.status) && not (World.is_blocked unblock t)) && nat_le (reservable_from cooldown) t)
+          (not (is_blocked unblock t) && option_map_or (may_come t) (if b then Some (record_with p sets cooldown peer) else None) false)
+          ≡ (((is_entitled s p sets && is_inert peer.status) && not (is_blocked unblock t)) && nat_le (reservable_from cooldown) t)
       go true e =
-          (λ i. not (World.is_blocked unblock t) &&
+          (λ i. not (is_blocked unblock t) &&
           (eligible_is_entitled p sets cooldown peer i && is_granted (myself_is_own p peer.known i)
           (is_inert peer.status) (nat_lt t (reservable_from cooldown)) i))
-          ∙ bools (not (World.is_blocked unblock t)) (is_own s p) (is_named s p sets || is_persistent s p)
+          ∙ bools (not (is_blocked unblock t)) (is_own s p) (is_named s p sets || is_persistent s p)
           (is_inert peer.status) (nat_lt t (reservable_from cooldown))
-          ∙ (λ i. ((is_entitled s p sets && is_inert peer.status) && not (World.is_blocked unblock t)) && sym (le_not_lt (reservable_from cooldown) t) i)
+          ∙ (λ i. ((is_entitled s p sets && is_inert peer.status) && not (is_blocked unblock t)) && sym (nat_le-not_lt (reservable_from cooldown) t) i)
       go false e =
-          neither (not (World.is_blocked unblock t))
-          ∙ sym (ap (λ b. ((b && is_inert peer.status) && not (World.is_blocked unblock t)) && nat_le (reservable_from cooldown) t)
+          and-false (not (is_blocked unblock t))
+          ∙ sym (ap (λ b. ((b && is_inert peer.status) && not (is_blocked unblock t)) && nat_le (reservable_from cooldown) t)
           (absent_not_entitled (is_own s p) (is_named s p sets) (is_persistent s p) (is_inert peer.status) e))
 
   -- A RELEASE

@@ -12,7 +12,7 @@ use Rattle.p2p_tracker.specs.declared.directory.Metadata.TheVariants as metadata
 use Rattle.p2p_tracker.specs.declared.record.Status.{Status}
 use Rattle.p2p_tracker.specs.declared.record.Status.TheVariants.{Inert, Reserved, Active}
 use Rattle.p2p_tracker.specs.Calls.{SetAt}
-use Rattle.p2p_tracker.specs.History.{is_inert, is_reserved}
+use Rattle.p2p_tracker.specs.Status.{is_inert, is_reserved}
 use Rattle.p2p_tracker.specs.Record.{with_cooldown}
 use Rattle.p2p_tracker.specs.Seen.{RecordView}
 use Rattle.p2p_tracker.specs.Directory.{is_busy, released_record}
@@ -127,7 +127,3 @@ module _ {C S : Type 0} (cmp : C → C → Ordering) where
 pub dialled_key : {C S : Type 0} (p : C) (o : Option Ingress) (m : Metadata C S) → option_map (metadata.Dialer p) o ≡ Some m → key_of m ≡ p
 dialled_key p None m e = absurd cc
 dialled_key p (Some a) m e = let f : m ≡ metadata.Dialer p a = cc in ap key_of f
-
-pub true_unless : (b : Bool) → (b ≡ false → ⊥) → b ≡ true
-true_unless true h = refl
-true_unless false h = absurd (h refl)

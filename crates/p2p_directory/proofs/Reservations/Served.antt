@@ -15,7 +15,7 @@ use Rattle.p2p_tracker.specs.Calls.{Settings, Call, Event}
 use Rattle.p2p_tracker.specs.Calls.Call.{Track, Dial, Listen, Connect, Release, Update, Block, UnblockExpired, ForgetCooled}
 use Rattle.p2p_tracker.specs.Calls.Direction.{Listener, Dialer}
 use Rattle.p2p_tracker.specs.Calls.Event.{Nothing, Tracked, Granted, Connected, Released, Updated, Blocked, Expired, Forgot}
-use Rattle.p2p_tracker.specs.History.{is_reserved}
+use Rattle.p2p_tracker.specs.Status.{is_reserved}
 use Rattle.p2p_tracker.specs.World.{event_in}
 use Rattle.p2p_tracker.specs.Moments.{cap}
 use Rattle.p2p_tracker.specs.Answers.{was_taken, was_granted, granted_direction, was_blocked}

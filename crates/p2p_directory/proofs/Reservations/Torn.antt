@@ -15,8 +15,8 @@ use Rattle.std.proofs.lemmas.Grind.{common_steps}
 use Rattle.std.proofs.lemmas.Map.Keys.{IsDistinct-from_sorted}
 use Rattle.std.proofs.lemmas.Map.Made.{length-le_from_is_member}
 use Rattle.p2p_discovery.specs.Ordered.{has_key}
-use Rattle.p2p_tracker.specs.History.{is_inert}
-use Rattle.p2p_tracker.specs.Record.{is_eligible, is_myself, is_wanted}
+use Rattle.p2p_tracker.specs.Status.{is_inert}
+use Rattle.p2p_tracker.specs.Record.{is_eligible, is_myself, is_named_or_persistent}
 use Rattle.p2p_tracker.specs.Seen.{DirectoryView, RecordView, record_of}
 use Rattle.p2p_tracker.specs.Directory.{AreTornDown, is_torn_down_by, other_keys}
 
@@ -48,7 +48,7 @@ module _ {C S : Type 0} {cmp : C → C → Ordering} (total : IsTotalOrder cmp) 
           is_member (eq_by_cmp cmp) (other_keys d.records) q ≡ true
       go None e f = absurd (cc)
       go (Some r) e f = found (is_at (cmp q)) (λ x. not (is_myself x.address)) d.records r e
-          (not_left (is_myself r.address) (is_wanted r) (both_left (not (is_inert r.status)) (is_eligible r) gone f))
+          (not_left (is_myself r.address) (is_named_or_persistent r) (both_left (not (is_inert r.status)) (is_eligible r) gone f))
 
   swap : (ps : List C) (q : C) → is_member (eq_by_cmp cmp) ps q ≡ true → has_key cmp ps q ≡ true
   swap [] q h = absurd (cc)

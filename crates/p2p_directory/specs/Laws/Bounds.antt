@@ -1,7 +1,8 @@
 -- How many peers a directory holds.
 use Rattle.std.specs.Prelude.{ℕ, ◌+◌, ◌*◌, ◌≤◌, Bool, not, ◌&&◌, ◌||◌, List, length}
 use Rattle.p2p_tracker.specs.Calls.{Settings, SetAt}
-use Rattle.p2p_tracker.specs.History.{is_in, is_named, is_inert, is_persistent}
+use Rattle.p2p_tracker.specs.History.{is_in, is_named, is_persistent}
+use Rattle.p2p_tracker.specs.Status.{is_inert}
 use Rattle.p2p_tracker.specs.World.{World}
 use Rattle.p2p_tracker.specs.Answers.{is_present_in}
 use Rattle.p2p_tracker.specs.Lists.{Lists}

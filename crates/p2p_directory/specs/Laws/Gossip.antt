@@ -7,7 +7,8 @@ use Rattle.p2p_discovery.specs.declared.discovery.Info.{Info}
 use Rattle.p2p_tracker.specs.Calls.{Call}
 use Rattle.p2p_tracker.specs.Calls.Call.{Update}
 use Rattle.p2p_tracker.specs.World.{World}
-use Rattle.p2p_tracker.specs.Answers.{wants, sharable_info, epoch_millis}
+use Rattle.p2p_tracker.specs.Answers.{wants, sharable_info}
+use Rattle.p2p_tracker.specs.Moments.{epoch_millis}
 use Rattle.p2p_directory.specs.Nodes.{Made}
 
 module _ {C S : Type 0} where

@@ -11,7 +11,8 @@ use Rattle.p2p_tracker.specs.Calls.{Call}
 use Rattle.p2p_tracker.specs.Calls.Call.{Update}
 use Rattle.p2p_tracker.specs.History.{is_own}
 use Rattle.p2p_tracker.specs.World.{World}
-use Rattle.p2p_tracker.specs.Answers.{is_present_in, epoch_millis}
+use Rattle.p2p_tracker.specs.Answers.{is_present_in}
+use Rattle.p2p_tracker.specs.Moments.{epoch_millis}
 use Rattle.p2p_directory.specs.Run.{world_after}
 use Rattle.p2p_directory.specs.Received.{Wire, received_at, applied_with}
 use Rattle.p2p_directory.specs.Nodes.{Made, AreValues, standing_in, calls_with}

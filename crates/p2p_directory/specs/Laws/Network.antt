@@ -25,7 +25,8 @@ use Rattle.p2p_tracker.specs.History.{is_own, is_in}
 use Rattle.p2p_directory.specs.Run.{call_of, world_after}
 use Rattle.p2p_directory.specs.Received.{Wire, applies, received_at, told_with}
 use Rattle.p2p_tracker.specs.Answers.{is_present_in, set_at_place, set_with_index, infos_for}
-use Rattle.p2p_tracker.specs.Answers.{bits_of, epoch_millis, sharable_info}
+use Rattle.p2p_tracker.specs.Answers.{bits_of, sharable_info}
+use Rattle.p2p_tracker.specs.Moments.{epoch_millis}
 use Rattle.p2p_directory.specs.Nodes.{Made, AreValues}
 use Rattle.p2p_directory.specs.Exchange.{ExchangeOutcome, IsExchangeAnswer, infos_applied}
 use Rattle.p2p_directory.specs.Exchange.{IsCarried}

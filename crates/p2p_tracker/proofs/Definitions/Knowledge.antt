@@ -6,12 +6,13 @@ use Rattle.std.specs.Prelude.{if◌then◌else◌, nat_lt, filter}
 use Rattle.std.proofs.lemmas.List.{append-nil}
 use Rattle.std.proofs.lemmas.List.Sums.{sum_by-cons}
 use Rattle.std.proofs.lemmas.Bool.{ltb-true, ltb-false, lt-ltb, le-ltb}
+use Rattle.std.proofs.Math.Bool.{or-true, or-false}
 use Rattle.p2p_discovery.specs.declared.discovery.Info.{Info}
 use Rattle.p2p_discovery.specs.declared.types.ingress.Ingress.{Ingress}
 use Rattle.p2p_tracker.specs.Calls.{Settings, Direction, Event}
 use Rattle.p2p_tracker.specs.Calls.Event.{Nothing, Tracked, Granted, Connected, Released, Updated, Blocked, Expired, Forgot}
 use Rattle.p2p_tracker.specs.History
-use Rattle.p2p_tracker.specs.History.{last_of}
+use Rattle.p2p_tracker.specs.Lists.{earlier_best, first_greatest}
 use Rattle.p2p_tracker.specs.World
 use Rattle.p2p_tracker.specs.Step
 use Rattle.p2p_tracker.specs.World.{Known, Peer, World}
@@ -22,7 +23,7 @@ module _ {C S : Type 0} where
   -- of two, the first unless the second is newer
   abbrev pub later : Option (Info C S) → Option (Info C S) → Option (Info C S)
   later None b = b
-  later (Some i) b = History.earlier_best i b
+  later (Some i) b = earlier_best i b
 
   later_none : (a : Option (Info C S)) → later a None ≡ a
   later_none None = refl
@@ -45,10 +46,10 @@ module _ {C S : Type 0} where
           let le : k.timestamp ≤ i.timestamp = omega (arith, ltb-false i.timestamp j.timestamp e, ltb-false j.timestamp k.timestamp f) in
           ap (λ b. if b then Some k else Some i) (le-ltb i.timestamp k.timestamp le) ∙ sym (ap (λ b. if b then Some j else Some i) e)
 
-  pub first_greatest-append : (xs ys : List (Info C S)) → History.first_greatest (xs ++ ys) ≡ later (History.first_greatest xs) (History.first_greatest ys)
+  pub first_greatest-append : (xs ys : List (Info C S)) → first_greatest (xs ++ ys) ≡ later (first_greatest xs) (first_greatest ys)
   first_greatest-append [] ys = refl
   first_greatest-append (i ∷ xs) ys =
-      ap (History.earlier_best i) (first_greatest-append xs ys) ∙ sym (later_assoc (Some i) (History.first_greatest xs) (History.first_greatest ys))
+      ap (earlier_best i) (first_greatest-append xs ys) ∙ sym (later_assoc (Some i) (first_greatest xs) (first_greatest ys))
 
 module _ {C S : Type 0} (s : Settings C S) where
   -- NEWER
@@ -77,14 +78,6 @@ module _ {C S : Type 0} (s : Settings C S) where
       go true e = refl
       go false e = not_newer (Some i) ∙ sym e
 
-  or_true : (x : Bool) → (x || true) ≡ true
-  or_true true = refl
-  or_true false = refl
-
-  or_false : (x : Bool) → (x || false) ≡ x
-  or_false true = refl
-  or_false false = refl
-
   newer_some : (j : Info C S) (c : Option (Info C S)) → History.is_newer None (later (Some j) c) ≡ true
   newer_some j None = refl
   newer_some j (Some k) =
@@ -92,9 +85,9 @@ module _ {C S : Type 0} (s : Settings C S) where
       [ true ↦ refl | false ↦ refl ]
 
   newer_chain : (a b c : Option (Info C S)) → History.is_newer a (later b c) ≡ (History.is_newer (later a b) c || History.is_newer a b)
-  newer_chain None None c = sym (or_false (History.is_newer None c))
-  newer_chain None (Some j) c = newer_some j c ∙ sym (or_true (History.is_newer (Some j) c))
-  newer_chain (Some i) None c = sym (or_false (History.is_newer (Some i) c))
+  newer_chain None None c = sym (or-false (History.is_newer None c))
+  newer_chain None (Some j) c = newer_some j c ∙ sym (or-true (History.is_newer (Some j) c))
+  newer_chain (Some i) None c = sym (or-false (History.is_newer (Some i) c))
   newer_chain (Some i) (Some j) None =
       elim (nat_lt i.timestamp j.timestamp) as
       (λ x. nat_lt i.timestamp j.timestamp
@@ -109,8 +102,8 @@ module _ {C S : Type 0} (s : Settings C S) where
           lt-ltb i.timestamp k.timestamp
           (omega (arith, ltb-true i.timestamp j.timestamp e, ltb-true j.timestamp k.timestamp f))
           ∙ sym (ap (λ x. x || nat_lt i.timestamp j.timestamp) f)
-      go true false e f = e ∙ sym (ap (λ x. nat_lt j.timestamp k.timestamp || x) e ∙ or_true (nat_lt j.timestamp k.timestamp))
-      go false true e f = sym (ap (λ x. nat_lt i.timestamp k.timestamp || x) e ∙ or_false (nat_lt i.timestamp k.timestamp))
+      go true false e f = e ∙ sym (ap (λ x. nat_lt j.timestamp k.timestamp || x) e ∙ or-true (nat_lt j.timestamp k.timestamp))
+      go false true e f = sym (ap (λ x. nat_lt i.timestamp k.timestamp || x) e ∙ or-false (nat_lt i.timestamp k.timestamp))
       go false false e f =
           ap (λ x. x || nat_lt i.timestamp j.timestamp)
           (sym (le-ltb i.timestamp k.timestamp
@@ -155,26 +148,26 @@ module _ {C S : Type 0} (s : Settings C S) where
           (ap (λ x. if History.is_newer x (Some i) then 0 else k.fails) e ∙ ap (λ b. if b then 0 else k.fails) f))
 
   -- updated one by one, the best of them all is what comes
-  pub updated_all_with_best : (k : Known C S) (is : List (Info C S)) → Step.known_with_infos s k is ≡ with_best k (History.first_greatest is)
+  pub updated_all_with_best : (k : Known C S) (is : List (Info C S)) → Step.known_with_infos s k is ≡ with_best k (first_greatest is)
   updated_all_with_best k [] = sym (with_best_none k)
   updated_all_with_best k (i ∷ is) =
       ap (λ x. Step.known_with_infos s x is) (updated_with_best k i k.info refl)
-      ∙ updated_all_with_best (with_best k (Some i)) is ∙ with_best_twice k (Some i) (History.first_greatest is)
+      ∙ updated_all_with_best (with_best k (Some i)) is ∙ with_best_twice k (Some i) (first_greatest is)
 
   -- INFO IN A LIFE
 
   info_own : (p : C) (l : List (Event C S)) → History.is_own s p ≡ true → History.info_in s p l ≡ Some s.own
-  info_own p l e = ap (λ b. if b then Some s.own else History.first_greatest (History.infos_offered s p l)) e
+  info_own p l e = ap (λ b. if b then Some s.own else first_greatest (History.infos_offered s p l)) e
 
-  info_other : (p : C) (l : List (Event C S)) → History.is_own s p ≡ false → History.info_in s p l ≡ History.first_greatest (History.infos_offered s p l)
-  info_other p l e = ap (λ b. if b then Some s.own else History.first_greatest (History.infos_offered s p l)) e
+  info_other : (p : C) (l : List (Event C S)) → History.is_own s p ≡ false → History.info_in s p l ≡ first_greatest (History.infos_offered s p l)
+  info_other p l e = ap (λ b. if b then Some s.own else first_greatest (History.infos_offered s p l)) e
 
   info_updated : (p : C) (infos : List (Info C S)) (l : List (Event C S)) → History.is_own s p ≡ false →
-      History.info_in s p (Updated infos ∷ l) ≡ later (History.info_in s p l) (History.first_greatest (History.infos_by s p (Updated infos)))
+      History.info_in s p (Updated infos ∷ l) ≡ later (History.info_in s p l) (first_greatest (History.infos_by s p (Updated infos)))
   info_updated p infos l e =
       info_other p (Updated infos ∷ l) e
       ∙ first_greatest-append (History.infos_offered s p l) (History.infos_by s p (Updated infos))
-      ∙ ap (λ x. later x (History.first_greatest (History.infos_by s p (Updated infos)))) (sym (info_other p l e))
+      ∙ ap (λ x. later x (first_greatest (History.infos_by s p (Updated infos)))) (sym (info_other p l e))
 
   -- FAILURES IN A LIFE
 
@@ -217,8 +210,8 @@ module _ {C S : Type 0} (s : Settings C S) where
 
   info_quiet : (p : C) (e : Event C S) (l : List (Event C S)) → History.infos_by s p e ≡ [] → History.info_in s p (e ∷ l) ≡ History.info_in s p l
   info_quiet p e l none =
-      ap (λ is. if History.is_own s p then Some s.own else History.first_greatest (History.infos_offered s p l ++ is)) none
-      ∙ ap (λ is. if History.is_own s p then Some s.own else History.first_greatest is) (append-nil (History.infos_offered s p l))
+      ap (λ is. if History.is_own s p then Some s.own else first_greatest (History.infos_offered s p l ++ is)) none
+      ∙ ap (λ is. if History.is_own s p then Some s.own else first_greatest is) (append-nil (History.infos_offered s p l))
 
   -- an event that is no release
   no_failure : (p : C) (e : Event C S) → ((a : Ingress) → History.is_failure s p a e ≡ false) → (o : Option (Info C S)) → one_failure p o e ≡ 0
@@ -263,14 +256,14 @@ module _ {C S : Type 0} (s : Settings C S) where
   fails_updated : (p : C) (infos : List (Info C S)) (l : List (Event C S)) → History.is_own s p ≡ false →
       History.fails_in s p (Updated infos ∷ l)
       ≡ (if History.is_newer (History.info_in s p l)
-      (History.first_greatest (History.infos_by s p (Updated infos))) then 0 else History.fails_in s p l)
+      (first_greatest (History.infos_by s p (Updated infos))) then 0 else History.fails_in s p l)
   fails_updated p infos l other =
       fails_step p (Updated infos) l
       ∙ ap (λ o. if History.is_newer (History.info_in s p l) o || false then 0 else one_failure p o (Updated infos)
       + History.failures_of s p o (History.since_cleared s p l)) (info_updated p infos l other)
-      ∙ fails_by_best p (Updated infos) l (History.first_greatest (History.infos_by s p (Updated infos)))
+      ∙ fails_by_best p (Updated infos) l (first_greatest (History.infos_by s p (Updated infos)))
       (λ a. refl) (History.is_newer (History.info_in s p l)
-      (History.first_greatest (History.infos_by s p (Updated infos)))) refl
+      (first_greatest (History.infos_by s p (Updated infos)))) refl
 
   known_updated : (p : C) (infos : List (Info C S)) (l : List (Event C S)) (own : Bool) → History.is_own s p ≡ own →
       World.known_in s p (Updated infos ∷ l)

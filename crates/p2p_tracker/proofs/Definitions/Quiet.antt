@@ -3,6 +3,9 @@ use Rattle.std.proofs.Common.{◌≡◌, ℕ, ◌<◌, ◌≤◌, Bool, true, fa
 use Rattle.std.specs.Prelude.{if◌then◌else◌, nat_lt, nat_le}
 use Rattle.std.specs.Cmp.{IsTotalOrder}
 use Rattle.std.proofs.lemmas.Bool.{le-leb, lt-leb, ltb-true, ltb-false, lt-ltb, le-ltb}
+use Rattle.p2p_tracker.specs.Status.{is_inert}
+use Rattle.p2p_tracker.specs.Blocks.{is_blocked}
+use Rattle.p2p_tracker.specs.Cooldowns.{dialable_from}
 use Rattle.p2p_tracker.specs.Calls.{Settings}
 use Rattle.p2p_tracker.specs.History
 use Rattle.p2p_tracker.specs.World
@@ -14,11 +17,11 @@ use Rattle.p2p_tracker.proofs.Definitions.Listed
 
 -- the tests of one peer: whether it is a target, and present, its unblock and dial moments, and a moment
 abbrev pub due : Bool → Option ℕ → ℕ → ℕ → Bool
-due target o d t = target && not (World.is_blocked o t) && nat_le d t
+due target o d t = target && not (is_blocked o t) && nat_le d t
 
 abbrev pub query : Bool → Bool → Option ℕ → ℕ → ℕ → Option ℕ
 query target present o d t =
-    if World.is_blocked o t then (if present then o else None)
+    if is_blocked o t then (if present then o else None)
     else if target && nat_lt t d then Some d
     else None
 
@@ -71,9 +74,9 @@ not_entitled false false false rest e = refl
 module _ {C S : Type 0} (s : Settings C S) where
   absent : (p : C) (w : World C S) → is_present_in s w p ≡ false → is_target s p w.sets (w.peer p) ≡ false
   absent p w e =
-      ap (λ b. b && History.is_inert (w.peer p).status && World.is_valid_address s
+      ap (λ b. b && is_inert (w.peer p).status && World.is_valid_address s
       (World.address_with s p (w.peer p).known.info) && World.is_dial_target s p w.sets)
-      (not_entitled (not (History.is_own s p)) (History.is_persistent s p) (History.is_named s p w.sets) (not (History.is_inert (w.peer p).status)) e)
+      (not_entitled (not (History.is_own s p)) (History.is_persistent s p) (History.is_named s p w.sets) (not (is_inert (w.peer p).status)) e)
 
   -- the whole answer stays
   pub stays_dialable : (w : World C S) (t u : ℕ) (ps : List C) (next : Option ℕ) → IsDialable s w t ps next → t ≤ u → IsBefore u next → IsDialable s w u ps next
@@ -84,7 +87,7 @@ module _ {C S : Type 0} (s : Settings C S) where
     where
       alike : (p : C) → (is_dialable s w u p ≡ is_dialable s w t p) × (query_moment s w u p ≡ query_moment s w t p)
       alike p =
-          stays (is_target s p w.sets (w.peer p)) (is_present_in s w p) (w.unblock p) (World.dialable_from (w.cooldown p)) t u
+          stays (is_target s p w.sets (w.peer p)) (is_present_in s w p) (w.unblock p) (dialable_from (w.cooldown p)) t u
           (absent p w) le (Listed.least_later (query_moment s w t) u next before answer.1 p)
 
   -- and there is no other

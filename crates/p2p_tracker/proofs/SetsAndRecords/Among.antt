@@ -17,17 +17,19 @@ use Rattle.std.proofs.lemmas.Map.{lookup-none}
 use Rattle.std.proofs.lemmas.Map.Entries.{none_below_head, lookup_head, lookup_tail}
 use Rattle.std.proofs.lemmas.Map.Keys.{sorted_head, sorted_tail}
 use Rattle.std.proofs.lemmas.Map.Lookups.{CmpEqualImpliesEq}
+use Rattle.std.proofs.lemmas.Bool.{or_parts, or_from}
 use Rattle.p2p_discovery.specs.Ordered.{has_key, IsPlaceOf}
+use Rattle.p2p_discovery.proofs.Truth.{Equal-from_is_eq}
 use Rattle.p2p_tracker.specs.declared.record.Address.{Address}
 use Rattle.p2p_tracker.specs.declared.record.Address.TheVariants.{Unknown, Myself, Bootstrapper, Discovered}
 use Rattle.p2p_tracker.specs.declared.record.Status.{Status}
 use Rattle.p2p_tracker.specs.declared.record.Status.TheVariants.{Inert, Reserved, Active}
-use Rattle.p2p_tracker.specs.History.{is_inert}
+use Rattle.p2p_tracker.specs.Status.{is_inert}
 use Rattle.p2p_tracker.specs.Record.{is_myself, sharable_by}
 use Rattle.p2p_tracker.specs.Seen.{RecordView, record_at}
 use Rattle.p2p_tracker.specs.Directory.{is_busy, shared_at, shared_of, shared_for, sharable_of_record}
 use Rattle.p2p_tracker.specs.Private.Among.{shared_with, with_key}
-use Rattle.p2p_tracker.proofs.SetsAndRecords.Asked.{is_equal, sorted_zip}
+use Rattle.p2p_tracker.proofs.SetsAndRecords.Asked.{sorted_zip}
 use Rattle.p2p_tracker.proofs.SetsAndRecords.Walked.{behind_equal, behind_greater}
 
 module _ {K : Type 0} {cmp : K → K → Ordering} (total : IsTotalOrder cmp) where
@@ -136,30 +138,23 @@ module _ {K : Type 0} {cmp : K → K → Ordering} (total : IsTotalOrder cmp) (o
       go Equal e rest = up
       go Greater e rest = (above_with k ks (total.antisymm k own ∙ ap ordering_reverse e) up.0, rest)
 
-  neither : (a b : Bool) → (a || b) ≡ false → (a ≡ false) × (b ≡ false)
-  neither true b e = absurd cc
-  neither false b e = (refl, e)
-
-  or_false : (a b : Bool) → a ≡ false → b ≡ false → (a || b) ≡ false
-  or_false a b e f = (λ i. e i || f i)
-
   -- whoever isn't among them is neither the key nor one of the others
   pub outside_with : (ks : List K) (q : K) → has_key cmp (with_key cmp own ks) q ≡ false →
       (is_at (cmp own) q ≡ false) × (has_key cmp ks q ≡ false)
-  outside_with [] q out = ((neither (is_at (cmp own) q) false out).0, refl)
+  outside_with [] q out = ((or_parts (is_at (cmp own) q) false out).0, refl)
   outside_with (k ∷ ks) q out = go (cmp own k) refl out (outside_with ks q)
     where
       go : (o : Ordering) → cmp own k ≡ o →
           has_key cmp (match_ordering o (own ∷ k ∷ ks) (k ∷ ks) (k ∷ with_key cmp own ks)) q ≡ false →
           (has_key cmp (with_key cmp own ks) q ≡ false → (is_at (cmp own) q ≡ false) × (has_key cmp ks q ≡ false)) →
           (is_at (cmp own) q ≡ false) × (has_key cmp (k ∷ ks) q ≡ false)
-      go Less e f later = neither (is_at (cmp own) q) (has_key cmp (k ∷ ks) q) f
+      go Less e f later = or_parts (is_at (cmp own) q) (has_key cmp (k ∷ ks) q) f
       go Equal e f later =
-          (ap is_eq (total.congr own k q e) ∙ (neither (is_at (cmp k) q) (has_key cmp ks q) f).0, f)
+          (ap is_eq (total.congr own k q e) ∙ (or_parts (is_at (cmp k) q) (has_key cmp ks q) f).0, f)
       go Greater e f later =
-          let both = neither (is_at (cmp k) q) (has_key cmp (with_key cmp own ks) q) f in
+          let both = or_parts (is_at (cmp k) q) (has_key cmp (with_key cmp own ks) q) f in
           let rest = later both.1 in
-          (rest.0, or_false (is_at (cmp k) q) (has_key cmp ks q) both.0 rest.1)
+          (rest.0, or_from (is_at (cmp k) q) (has_key cmp ks q) both.0 rest.1)
 
 -- WHAT IS SHARED
 
@@ -236,7 +231,7 @@ module _ {C : Type 0} {cmp : C → C → Ordering} (total : IsTotalOrder cmp) wh
           cond t (Some b) (lookup (is_at (cmp q)) (zip ps bits)) ≡ None
       go true e rest = absurd (absent zero (record {
         in_range = omega (arith);
-        at_place = sym (exact q p (is_equal (cmp q p) e));
+        at_place = sym (exact q p (Equal-from_is_eq (cmp q p) e));
       }))
       go false e rest = rest
 

@@ -15,11 +15,13 @@ use Rattle.std.specs.declared.cmp.Ordering.TheVariants.{Less, Equal, Greater}
 use Rattle.std.proofs.lemmas.Map.{lookup-none}
 use Rattle.std.proofs.lemmas.Map.Entries.{none_below_head, lookup_head, lookup_tail}
 use Rattle.std.proofs.lemmas.Map.Keys.{sorted_head, sorted_tail}
+use Rattle.std.proofs.lemmas.Bool.{or_parts}
 use Rattle.p2p_discovery.specs.declared.discovery.Info.{Info}
+use Rattle.p2p_discovery.proofs.Truth.{Equal-from_is_eq, suc-plus_one}
 use Rattle.p2p_tracker.specs.Seen.{RecordView}
 use Rattle.p2p_tracker.specs.Directory.{shared_at, sharable_of_record}
 use Rattle.p2p_tracker.specs.Private.Asked.{shared_of_record, asked_from}
-use Rattle.p2p_tracker.proofs.SetsAndRecords.Shared.{chosen_from, chosen_behind, next_place}
+use Rattle.p2p_tracker.proofs.SetsAndRecords.Shared.{chosen_from, chosen_behind}
 use Rattle.p2p_tracker.proofs.SetsAndRecords.Walked.{behind_equal, behind_greater}
 
 -- THE PEERS THAT ARE LEFT
@@ -72,10 +74,6 @@ zip_behind (q ∷ ps) bs zero past = absurd (omega (arith, past))
 zip_behind (q ∷ ps) [] (suc j) past = refl
 zip_behind (q ∷ ps) (c ∷ bs) (suc j) past = zip_behind ps bs j (omega (arith, past))
 
-neither : (b c : Bool) → (b || c) ≡ false → (b ≡ false) × (c ≡ false)
-neither true c e = absurd cc
-neither false c e = (refl, e)
-
 module _ {C : Type 0} (cmp : C → C → Ordering) (key : C) where
   -- the first of those from the key on has bit 0, and isn't below the key
   asked_head : (ps : List (C × Bool)) (p : C × Bool) (rest : List (C × Bool)) → asked_from cmp key ps ≡ p ∷ rest →
@@ -92,7 +90,7 @@ module _ {C : Type 0} (cmp : C → C → Ordering) (key : C) where
     passed : (q : C) → drop j (zip ps bs) ≡ (q, b) ∷ drop (suc j) (zip ps bs) → (b || is_lt (cmp q key)) ≡ true →
         asked_from cmp key (drop (j + 1) (zip ps bs)) ≡ asked_from cmp key (drop j (zip ps bs))
     passed q is passes =
-        ap (λ n. asked_from cmp key (drop n (zip ps bs))) (sym (next_place j))
+        ap (λ n. asked_from cmp key (drop n (zip ps bs))) (sym (suc-plus_one j))
         ∙ ap (λ t. cond t (asked_from cmp key (drop (suc j) (zip ps bs))) ((q, b) ∷ drop (suc j) (zip ps bs))) (sym passes)
         ∙ ap (asked_from cmp key) (sym is)
 
@@ -126,11 +124,6 @@ is_greater : (o : Ordering) → is_lt o ≡ false → is_eq o ≡ false → o �
 is_greater Less e f = absurd cc
 is_greater Equal e f = absurd cc
 is_greater Greater e f = refl
-
-pub is_equal : (o : Ordering) → is_eq o ≡ true → o ≡ Equal
-is_equal Less e = absurd cc
-is_equal Equal e = refl
-is_equal Greater e = absurd cc
 
 module _ {C S : Type 0} {cmp : C → C → Ordering} (total : IsTotalOrder cmp) (millis : ℕ) where
   -- what is shared of what was found at a peer whose bit is 0
@@ -221,7 +214,7 @@ module _ {C S : Type 0} {cmp : C → C → Ordering} (total : IsTotalOrder cmp) 
       one = head_at ps bs j q within same at
 
       kept : (one.0 ≡ false) × (is_lt (cmp q e.0) ≡ false)
-      kept = neither one.0 (is_lt (cmp q e.0)) (asked_head cmp e.0 (drop i (zip ps bs)) (q, one.0) (drop (suc j) (zip ps bs)) (sym first ∙ one.1))
+      kept = or_parts one.0 (is_lt (cmp q e.0)) (asked_head cmp e.0 (drop i (zip ps bs)) (q, one.0) (drop (suc j) (zip ps bs)) (sym first ∙ one.1))
 
       in_order : IsStrictlySortedBy cmp (keys_of ((q, one.0) ∷ drop (suc j) (zip ps bs)))
       in_order = subst (λ es. IsStrictlySortedBy cmp (keys_of es)) one.1 (sorted_drop cmp j (zip ps bs) (sorted_zip cmp ps bs up))
@@ -230,8 +223,8 @@ module _ {C S : Type 0} {cmp : C → C → Ordering} (total : IsTotalOrder cmp) 
       pub walked_met : is_eq (cmp q e.0) ≡ true → from_place left i ≡ option_to_list (shared_of_record millis e.1) ++ from_place left2 (j + 1)
       walked_met equal =
           moved ∙ ap (told (e ∷ left2)) one.1
-          ∙ met e left2 q one.0 (drop (suc j) (zip ps bs)) in_order kept.0 (is_equal (cmp q e.0) equal)
-          ∙ ap (λ n. option_to_list (shared_of_record millis e.1) ++ from_place left2 n) (next_place j)
+          ∙ met e left2 q one.0 (drop (suc j) (zip ps bs)) in_order kept.0 (Equal-from_is_eq (cmp q e.0) equal)
+          ∙ ap (λ n. option_to_list (shared_of_record millis e.1) ++ from_place left2 n) (suc-plus_one j)
 
       -- .. and where it isn't
       pub walked_missed : is_eq (cmp q e.0) ≡ false → from_place left i ≡ from_place left2 j

@@ -18,8 +18,8 @@ use Rattle.std.proofs.lemmas.List.Sums.{length-filter}
 use Rattle.std.proofs.lemmas.Map.Entries.{option_filter, lookup-filter-values}
 use Rattle.std.proofs.lemmas.Map.Keys.{IsDistinct-from_sorted}
 use Rattle.std.proofs.lemmas.Map.Lookups.{CmpEqualImpliesEq}
-use Rattle.std.proofs.lemmas.Bool.{ltb-false, le-ltb, lt-ltb}
-use Rattle.p2p_tracker.specs.World.{is_blocked}
+use Rattle.std.proofs.lemmas.Bool.{ltb-false, le-ltb, lt-ltb, not-true}
+use Rattle.p2p_tracker.specs.Blocks.{is_blocked}
 use Rattle.p2p_discovery.specs.Ordered.{has_key}
 use Rattle.p2p_tracker.specs.Directory.{if_later}
 use Rattle.p2p_tracker.specs.Lists.{Lists, Somebody}
@@ -140,11 +140,7 @@ module _ {C : Type 0} {cmp : C → C → Ordering} (total : IsTotalOrder cmp) wh
 
       moment : (o : Option ℕ) → option_map_or (λ m. not (nat_lt now m)) o false ≡ true → (m : ℕ) × (o ≡ Some m) × (m ≤ now)
       moment None e = absurd (cc)
-      moment (Some m) e = (m, refl, ltb-false now m (go (nat_lt now m) e))
-        where
-          go : (b : Bool) → not b ≡ true → b ≡ false
-          go true e = absurd (cc)
-          go false e = refl
+      moment (Some m) e = (m, refl, ltb-false now m (not-true (nat_lt now m) e))
 
       from : nat_lt 0 n ≡ true → (p : C) × (m : ℕ) × (unblock_in cmp bs p ≡ Some m) × (m ≤ now)
       from e =

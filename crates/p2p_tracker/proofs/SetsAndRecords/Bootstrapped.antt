@@ -5,7 +5,7 @@ use Rattle.std.specs.declared.cmp.Ordering.{Ordering}
 use Rattle.std.specs.Ordering.{is_eq}
 use Rattle.std.specs.Option.{option_map}
 use Rattle.p2p_discovery.specs.declared.types.ingress.Ingress.{Ingress}
-use Rattle.p2p_tracker.specs.World.{last_ingress_by}
+use Rattle.p2p_tracker.specs.Lists.{last_ingress_by}
 
 -- the last ingress, else the first one
 abbrev else_first : Option Ingress → Option Ingress → Option Ingress

@@ -3,11 +3,12 @@ use Rattle.std.proofs.Common.{◌≡◌, ℕ, Bool, true, false, ◌||◌, ◌&&
 use Rattle.std.specs.Prelude.{if◌then◌else◌, nat_lt, nat_le}
 use Rattle.std.specs.declared.cmp.Ordering.{Ordering}
 use Rattle.std.specs.Option.{option_map, option_map_or, option_and_then}
-use Rattle.std.proofs.lemmas.Bool.{and_parts, and_from}
+use Rattle.std.proofs.lemmas.Bool.{and_parts, and_from, or_right}
 use Rattle.std.specs.BTreeMap.{is_at}
 use Rattle.std.proofs.lemmas.List.{append-nil}
 use Rattle.std.proofs.lemmas.Map.Lookups.{CmpEqualImpliesEq}
 use Rattle.std.proofs.lemmas.Map.Views.{tells_apart}
+use Rattle.std.proofs.Math.Bool.{and-false}
 use Rattle.p2p_discovery.specs.declared.discovery.Info.{Info}
 use Rattle.p2p_discovery.specs.declared.types.ingress.Ingress.{Ingress}
 use Rattle.p2p_tracker.specs.declared.directory.Config.{Config}
@@ -19,12 +20,13 @@ use Rattle.p2p_tracker.specs.declared.record.Status.{Status}
 use Rattle.p2p_tracker.specs.declared.record.Status.TheVariants.{Inert, Reserved, Active}
 use Rattle.p2p_tracker.specs.declared.record.dialing.ReserveResult.TheVariants as answer
 use Rattle.p2p_tracker.specs.Calls.{SetAt, Cooldown}
-use Rattle.p2p_tracker.specs.History.{is_inert, first_greatest}
-use Rattle.p2p_tracker.specs.Record.{is_myself, is_wanted, is_outbound_target}
+use Rattle.p2p_tracker.specs.Lists.{first_greatest}
+use Rattle.p2p_tracker.specs.Record.{is_myself, is_named_or_persistent, is_outbound_target}
 use Rattle.p2p_tracker.specs.Seen.{RecordView}
 use Rattle.p2p_tracker.specs.Record.{is_dial_candidate, has_valid_ingress, ingress_of}
 use Rattle.p2p_tracker.specs.Record.{may_be_dialled, reserve_answer, is_eligible, is_grant}
-use Rattle.p2p_tracker.specs.Record.{is_active, may_come, wants_by, is_deletable, reserved_record}
+use Rattle.p2p_tracker.specs.Record.{may_come, wants_by, is_deletable, reserved_record}
+use Rattle.p2p_tracker.specs.Status.{is_active, is_inert}
 use Rattle.p2p_tracker.specs.Record.{unless_deletable, after_failure, after_success}
 use Rattle.p2p_tracker.specs.Record.{address_after_update, address_after_offer}
 use Rattle.p2p_tracker.specs.Directory.{has_status, ChangesAt, ChangesRecord}
@@ -39,10 +41,6 @@ use Rattle.p2p_tracker.proofs.SetsAndRecords.Counting
 use Rattle.p2p_tracker.proofs.SetsAndRecords.Counting.{one}
 use Rattle.p2p_tracker.proofs.SetsAndRecords.Infos.{address_after-one_more}
 use Rattle.p2p_tracker.proofs.SetsAndRecords.Windows.{plain_with_bit}
-
-and_false : (b : Bool) → (b && false) ≡ false
-and_false true = refl
-and_false false = refl
 
 -- ONE RECORD
 
@@ -63,7 +61,7 @@ module _ {C S : Type 0} where
 
   pub kept_reserved : (now draw cooldown : ℕ) (o : Option (RecordView C S)) → IsSound o → IsKept o (option_map (reserved_record now draw cooldown) o)
   kept_reserved now draw cooldown None sound = kept_same None sound
-  kept_reserved now draw cooldown (Some r) sound = record { sound = (and_false (not (is_wanted r)), sound.1); primary = refl; secondary = refl; own = refl }
+  kept_reserved now draw cooldown (Some r) sound = record { sound = (and-false (not (is_named_or_persistent r)), sound.1); primary = refl; secondary = refl; own = refl }
 
   success_own : (dialer : Bool) (a : Address C S) → is_myself (if dialer then after_success a else a) ≡ is_myself a
   success_own false a = refl
@@ -75,7 +73,7 @@ module _ {C S : Type 0} where
   pub kept_connected : (dialer : Bool) (o : Option (RecordView C S)) → IsSound o → IsKept o (option_map (connected_record dialer) o)
   kept_connected dialer None sound = kept_same None sound
   kept_connected dialer (Some r) sound = record {
-    sound = (and_false (not (is_wanted r)), λ own. sound.1 (sym (success_own dialer r.address) ∙ own));
+    sound = (and-false (not (is_named_or_persistent r)), λ own. sound.1 (sym (success_own dialer r.address) ∙ own));
     primary = refl;
     secondary = refl;
     own = success_own dialer r.address;
@@ -155,11 +153,7 @@ module _ {C S : Type 0} where
   own_unless r persists = go (is_deletable r) (is_myself r.address) refl refl
     where
       wanted : (p s : Bool) (persistent : Bool) → persistent ≡ true → ((p || s) || persistent) ≡ true
-      wanted p s persistent e = ap (λ b. (p || s) || b) e ∙ or_true (p || s)
-        where
-          or_true : (b : Bool) → (b || true) ≡ true
-          or_true true = refl
-          or_true false = refl
+      wanted p s persistent e = or_right (p || s) persistent e
 
       lasting : is_myself r.address ≡ true → is_deletable r ≡ false
       lasting own = ap (λ b. not b && is_inert r.status) (wanted (nat_lt 0 r.primary_sets) (nat_lt 0 r.secondary_sets) r.persistent (persists own))
@@ -400,7 +394,7 @@ module _ {C S : Type 0} (cmp : C → C → Ordering) where
           let candidate = and_parts (is_inert r.status && is_outbound_target r) (has_valid_ingress cfg.allow_private_ips cfg.allow_dns r.address) parts.0 in
           let target = (and_parts (is_inert r.status) (is_outbound_target r) candidate.0).1 in
           and_from (is_eligible r) (is_grant (reserve_answer now r))
-          (and_from (not (is_myself r.address)) (is_wanted r) (known r.address candidate.1)
+          (and_from (not (is_myself r.address)) (is_named_or_persistent r) (known r.address candidate.1)
           (wanted (nat_lt 0 r.primary_sets) (nat_lt 0 r.secondary_sets) r.persistent target)) parts.1
       go false h f = absurd cc
 

@@ -7,7 +7,7 @@ use Rattle.std.specs.declared.cmp.Ordering.{Ordering}
 use Rattle.std.specs.Option.{option_map, option_map_or}
 use Rattle.std.specs.List.{count_by}
 use Rattle.std.specs.BTreeMap.{is_at}
-use Rattle.std.proofs.lemmas.List.Sums.{sum_by-append, sum_by-cons}
+use Rattle.std.proofs.lemmas.List.Sums.{sum_by-append, sum_by-cons, count_by-le-length}
 use Rattle.std.proofs.lemmas.Bool.Decides.{nat_tests}
 use Rattle.p2p_discovery.specs.declared.discovery.Info.{Info}
 use Rattle.p2p_discovery.specs.declared.types.ingress.Ingress.{Ingress}
@@ -17,13 +17,14 @@ use Rattle.p2p_tracker.specs.declared.record.Status.TheVariants.{Inert, Reserved
 use Rattle.p2p_tracker.specs.declared.record.Role.{Role}
 use Rattle.p2p_tracker.specs.declared.record.Role.TheVariants.{Primary, Secondary}
 use Rattle.p2p_tracker.specs.Calls.{SetAt, Cooldown}
-use Rattle.p2p_tracker.specs.History.{last_of, is_inert}
-use Rattle.p2p_tracker.specs.World.{last_ingress_by}
-use Rattle.p2p_tracker.specs.Record.{new_record, fresh, is_myself, is_wanted, is_eligible, is_deletable, with_counts, unless_deletable}
+use Rattle.p2p_tracker.specs.Status.{is_inert}
+use Rattle.p2p_tracker.specs.Lists.{last_ingress_by, last_of}
+use Rattle.p2p_tracker.specs.Record.{new_record, fresh, is_myself, is_named_or_persistent, is_eligible, is_deletable, with_counts, unless_deletable}
 use Rattle.p2p_tracker.specs.Seen.{RecordView}
 use Rattle.p2p_tracker.specs.Private.Counts.{one_set_more, one_set_less, record_leaving}
 use Rattle.p2p_tracker.specs.PeerSets.{members, set_count, AreRolesDisjoint}
 use Rattle.p2p_discovery.specs.Ordered.{has_key}
+use Rattle.p2p_discovery.proofs.Truth.{and-and_not}
 use Rattle.p2p_tracker.specs.Private.Counts.{newest_sets, leaving_count, surplus_count}
 use Rattle.p2p_tracker.specs.Directory.{first_record, has_status, record_with_sets, is_connectable}
 use Rattle.p2p_tracker.specs.Private.Counts.{record_joining, AreCounted, IsConsistent, HasOwn, KeepsAll, DropsFirst, DropsOldest, IsRestored}
@@ -37,14 +38,6 @@ count_cons f x xs = sum_by-cons (λ y. one (f y)) x xs
 
 count_push : {X : Type 0} (f : X → Bool) (xs : List X) (x : X) → count_by f (xs ++ x ∷ []) ≡ count_by f xs + one (f x)
 count_push f xs x = sum_by-append (λ y. cond {A = ℕ} (f y) 1 0) xs (x ∷ []) ∙ ap (λ m. count_by f xs + m) (omega arith)
-
-count_few : {X : Type 0} (f : X → Bool) (xs : List X) → count_by f xs ≤ length xs
-count_few f [] = omega arith
-count_few f (x ∷ xs) = go (f x) (count_cons f x xs) (count_few f xs)
-  where
-    go : (b : Bool) → count_by f (x ∷ xs) ≡ one b + count_by f xs → count_by f xs ≤ length xs → count_by f (x ∷ xs) ≤ length (x ∷ xs)
-    go true e few = omega (arith, e, few)
-    go false e few = omega (arith, e, few)
 
 -- with room for one more at most, the newest sets are the last ones
 pub newest_last : {C : Type 0} (max : ℕ) (sets : List (SetAt C)) (set : SetAt C) → length sets ≤ max →
@@ -62,11 +55,6 @@ few_by : {X : Type 0} (max : ℕ) (sets : List X) (b : Bool) → nat_lt max (len
 few_by max [] true e h = omega arith
 few_by max (x ∷ sets) true e h = omega (arith, h)
 few_by max sets false e h = grind (arith, nat_tests)
-
-nobody : (x y : Bool) → false ≡ ((x && y) && not y)
-nobody true true = refl
-nobody true false = refl
-nobody false y = refl
 
 -- whether the peer is in the set that goes, and what counts are left
 record IsLeft (a b : Bool) (p s p2 s2 : ℕ) (c d : Bool) : Type 0 where
@@ -126,7 +114,7 @@ module _ {C : Type 0} (cmp : C → C → Ordering) where
 module _ {C S : Type 0} where
   -- what goes is inert
   pub status_unless : (test : Status → Bool) → test Inert ≡ false → (r : RecordView C S) → has_status test (unless_deletable r) ≡ test r.status
-  status_unless test idle r = go (is_wanted r) r.status refl
+  status_unless test idle r = go (is_named_or_persistent r) r.status refl
     where
       go : (wanted : Bool) (status : Status) → r.status ≡ status → has_status test (if not wanted && is_inert status then None else Some r) ≡ test r.status
       go true status e = refl
@@ -188,7 +176,7 @@ module _ {C S : Type 0} (cmp : C → C → Ordering) where
   -- each count is in range
   in_range : (max : ℕ) (sets : List (SetAt C)) (old : C → Option (RecordView C S)) →
       IsConsistent cmp max sets old → (role : Role) (q : C) → set_count cmp role q sets < 2 ^ 64 - 1
-  in_range max sets old was role q = let few = count_few (λ set. has_key cmp (members role set) q) sets in omega (arith, few, was.at_most_max, was.max_in_range)
+  in_range max sets old was role q = let few = count_by-le-length (λ set. has_key cmp (members role set) q) sets in omega (arith, few, was.at_most_max, was.max_in_range)
 
   -- so one set more and then less leaves what was kept
   pub all_restored : (max : ℕ) (sets : List (SetAt C)) (old : C → Option (RecordView C S)) →
@@ -210,7 +198,7 @@ module _ {C S : Type 0} (cmp : C → C → Ordering) where
       (set_count cmp Secondary q all) b (new q) (has_key cmp torn q)
   stays_same all mid new torn keeps q b is = record {
     left = (keeps q).0 ∙ is;
-    torn_down = (keeps q).1 ∙ nobody (not (is_inert b.status)) (is_eligible (with_counts (set_count cmp Primary q all) (set_count cmp Secondary q all) b));
+    torn_down = (keeps q).1 ∙ and-and_not (not (is_inert b.status)) (is_eligible (with_counts (set_count cmp Primary q all) (set_count cmp Secondary q all) b));
   }
 
   dropped : (all : List (SetAt C)) (over : Bool) (mid new : C → Option (RecordView C S)) (torn : List C) →

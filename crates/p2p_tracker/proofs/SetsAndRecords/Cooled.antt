@@ -12,7 +12,8 @@ use Rattle.p2p_tracker.specs.declared.record.Address.TheVariants.{Myself, Bootst
 use Rattle.p2p_tracker.specs.declared.record.Status.{Status}
 use Rattle.p2p_tracker.specs.declared.directory.Metadata.{Metadata}
 use Rattle.p2p_tracker.specs.Calls.{SetAt, Cooldown}
-use Rattle.p2p_tracker.specs.World.{last_ingress_by, reservable_from, dialable_from}
+use Rattle.p2p_tracker.specs.Lists.{last_ingress_by}
+use Rattle.p2p_tracker.specs.Cooldowns.{reservable_from, dialable_from}
 use Rattle.p2p_tracker.specs.Answers.{is_cooled_by}
 use Rattle.p2p_tracker.specs.Record.{new_record, with_cooldown, reserved_record}
 use Rattle.p2p_tracker.specs.Seen.{RecordView}

@@ -4,13 +4,15 @@ use Rattle.std.proofs.Common.{◌&&◌, not, nat_lt, Option, Some, None, IfSome,
 use Rattle.std.proofs.Common.{arith}
 use Rattle.std.specs.Prelude.{if◌then◌else◌, unwrap_or}
 use Rattle.std.specs.Option.{option_map_or}
-use Rattle.std.proofs.lemmas.Bool.{lt-ltb}
+use Rattle.std.proofs.lemmas.Bool.{lt-ltb, or_right}
 use Rattle.std.proofs.lemmas.Bool.Decides.{nat_tests}
+use Rattle.std.proofs.Math.Bool.{or-true, or-false, and-false}
+use Rattle.p2p_discovery.proofs.Truth.{and-and_not}
 use Rattle.p2p_tracker.specs.declared.record.Role.{Role}
 use Rattle.p2p_tracker.specs.declared.record.Role.TheVariants.{Primary, Secondary}
 use Rattle.p2p_tracker.specs.Calls.{Cooldown}
-use Rattle.p2p_tracker.specs.History.{is_inert}
-use Rattle.p2p_tracker.specs.Record.{fresh, is_myself, is_wanted, is_eligible, is_deletable, with_counts, unless_deletable}
+use Rattle.p2p_tracker.specs.Status.{is_inert}
+use Rattle.p2p_tracker.specs.Record.{fresh, is_myself, is_named_or_persistent, is_eligible, is_deletable, with_counts, unless_deletable}
 use Rattle.p2p_tracker.specs.Seen.{RecordView}
 use Rattle.p2p_tracker.specs.Private.Counts.{is_torn_down_without, one_set_more, one_set_less}
 
@@ -31,12 +33,9 @@ connectable i m w = not i && (not m && w)
 wanted_primary : (p s : ℕ) (persistent : Bool) → 1 ≤ p → wanted p s persistent ≡ true
 wanted_primary p s persistent h = ap (λ b. (b || nat_lt 0 s) || persistent) (lt-ltb 0 p (omega (arith, h)))
 
-or_true : (x y z : Bool) → y ≡ true → ((x || y) || z) ≡ true
-or_true true y z e = refl
-or_true false y z e = ap (λ b. b || z) e
-
 wanted_secondary : (p s : ℕ) (persistent : Bool) → 1 ≤ s → wanted p s persistent ≡ true
-wanted_secondary p s persistent h = or_true (nat_lt 0 p) (nat_lt 0 s) persistent (lt-ltb 0 s (omega (arith, h)))
+wanted_secondary p s persistent h =
+    ap (λ b. b || persistent) (or_right (nat_lt 0 p) (nat_lt 0 s) (lt-ltb 0 s (omega (arith, h))))
 
 -- with and without the sets that come, the same are torn down by one that goes
 by_counts : (a b c d persistent : Bool) (p s : ℕ) → one a ≤ p → one b ≤ s → wanted p s persistent ≡ false →
@@ -49,11 +48,7 @@ by_counts false false c d persistent p s la lb e = λ i. wanted (zero_off (p + o
     zero_off n = omega arith
 
 wanted_more : (c d persistent : Bool) (p s : ℕ) → wanted p s persistent ≡ true → wanted (p + one c) (s + one d) persistent ≡ true
-wanted_more c d true p s e = or_last (nat_lt 0 (p + one c) || nat_lt 0 (s + one d))
-  where
-    or_last : (x : Bool) → (x || true) ≡ true
-    or_last true = refl
-    or_last false = refl
+wanted_more c d true p s e = or-true (nat_lt 0 (p + one c) || nat_lt 0 (s + one d))
 wanted_more true d false p s e = wanted_primary (p + 1) (s + one d) false (omega arith)
 wanted_more false true false p s e = wanted_secondary (p + 0) (s + 1) false (omega arith)
 wanted_more false false false p s e = (λ i. wanted (sym (zero_on p) i) (sym (zero_on s) i) false) ∙ e
@@ -102,10 +97,6 @@ unwanted : (w i : Bool) → (not w && i) ≡ true → false ≡ w
 unwanted true i e = absurd (cc)
 unwanted false i e = refl
 
-and_false : (x : Bool) → false ≡ (x && false)
-and_false true = refl
-and_false false = refl
-
 counted_by : (w i : Bool) (n : ℕ) → (not w && i) ≡ true → (nat_lt 0 n ≡ true → w ≡ true) → 0 ≡ n
 counted_by w i n e h = go (nat_lt 0 n) refl
   where
@@ -118,7 +109,7 @@ module _ {C S : Type 0} where
   abbrev pub at_counts : ℕ → ℕ → RecordView C S → Option (RecordView C S)
   at_counts p s r = unless_deletable (with_counts p s r)
 
-  stays : (r : RecordView C S) → is_wanted r ≡ true → unless_deletable r ≡ Some r
+  stays : (r : RecordView C S) → is_named_or_persistent r ≡ true → unless_deletable r ≡ Some r
   stays r e = ap (λ w. if not w && is_inert r.status then None else Some r) e
 
   -- who is in a set has a record
@@ -194,14 +185,14 @@ module _ {C S : Type 0} where
           ≡ (not (is_inert r.status) && is_eligible r)
       go true e = and_last (not (is_inert r.status)) (not (is_myself r.address))
           ∙ (λ i. not (is_inert r.status) &&
-          (not (is_myself r.address) && unwanted (is_wanted r) (is_inert r.status) e i))
+          (not (is_myself r.address) && unwanted (is_named_or_persistent r) (is_inert r.status) e i))
       go false e = refl
 
   pub eligible_kept : (r : RecordView C S) → option_map_or is_eligible (unless_deletable r) false ≡ is_eligible r
   eligible_kept r = go (is_deletable r) refl
     where
       go : (b : Bool) → is_deletable r ≡ b → option_map_or is_eligible (if b then None else Some r) false ≡ is_eligible r
-      go true e = and_false (not (is_myself r.address)) ∙ (λ i. not (is_myself r.address) && unwanted (is_wanted r) (is_inert r.status) e i)
+      go true e = sym (and-false (not (is_myself r.address))) ∙ (λ i. not (is_myself r.address) && unwanted (is_named_or_persistent r) (is_inert r.status) e i)
       go false e = refl
 
   -- (a name that does not unfold by itself)
@@ -216,23 +207,14 @@ module _ {C S : Type 0} where
   unfolding is_torn_down_without
   torn_left true true disjoint p s r la lc = absurd (let x = disjoint refl in cc)
   torn_left true false disjoint p s r la lc =
-      (λ i. or_none (option_map_or (is_torn_down_without Primary) (stays_primary p s r la i) false) i)
+      (λ i. or-false (option_map_or (is_torn_down_without Primary) (stays_primary p s r la i) false) i)
       ∙ (λ i. (not (is_inert r.status) && is_eligible (with_counts p s r)) && not (is_eligible (with_counts (p - 1) (minus_none s i) r)))
-    where
-      or_none : (x : Bool) → (x || false) ≡ x
-      or_none true = refl
-      or_none false = refl
   torn_left false true disjoint p s r la lc =
       (λ i. option_map_or (is_torn_down_without Secondary) (stays_secondary p s r lc i) false)
       ∙ (λ i. (not (is_inert r.status) && is_eligible (with_counts p s r)) && not (is_eligible (with_counts (minus_none p i) (s - 1) r)))
   torn_left false false disjoint p s r la lc =
-      none (not (is_inert r.status)) (is_eligible (with_counts p s r))
+      and-and_not (not (is_inert r.status)) (is_eligible (with_counts p s r))
       ∙ (λ i. (not (is_inert r.status) && is_eligible (with_counts p s r)) && not (is_eligible (with_counts (minus_none p i) (minus_none s i) r)))
-    where
-      none : (x y : Bool) → false ≡ ((x && y) && not y)
-      none true true = refl
-      none true false = refl
-      none false y = refl
 
   -- WHAT HOLDS OF WHAT IS KEPT
 
@@ -247,7 +229,7 @@ module _ {C S : Type 0} where
   counted_secondary p s r = go (is_deletable (with_counts p s r)) refl
     where
       go : (b : Bool) → is_deletable (with_counts p s r) ≡ b → option_map_or (λ x. x.secondary_sets) (if b then None else Some (with_counts p s r)) 0 ≡ s
-      go true e = counted_by (wanted p s r.persistent) (is_inert r.status) s e (λ f. or_true (nat_lt 0 p) (nat_lt 0 s) r.persistent f)
+      go true e = counted_by (wanted p s r.persistent) (is_inert r.status) s e (λ f. ap (λ b. b || r.persistent) (or_right (nat_lt 0 p) (nat_lt 0 s) f))
       go false e = refl
 
   pub none_deletable : (r : RecordView C S) → IfSome (unless_deletable r) (λ x. is_deletable x ≡ false)

@@ -1,12 +1,13 @@
 -- Who may be dialled, by the entries of the records, and how long that stays.
-use Rattle.std.proofs.Common.{◌≡◌, ℕ, ◌<◌, ◌≤◌, Bool, true, false, not, ◌&&◌, List, Option, Some, None, sym, ap, refl, ◌∙◌, arith}
+use Rattle.std.proofs.Common.{◌≡◌, ℕ, ◌<◌, ◌≤◌, Bool, true, false, not, ◌&&◌, List, Option, Some, None, sym, ap, refl, ◌∙◌}
 use Rattle.std.specs.Prelude.{if◌then◌else◌, nat_lt, nat_le}
 use Rattle.std.specs.Option.{option_map_or, option_and_then}
 use Rattle.std.specs.declared.cmp.Ordering.{Ordering}
-use Rattle.std.proofs.lemmas.Bool.Decides.{nat_tests}
+use Rattle.std.proofs.Math.Bool.{and-false}
+use Rattle.p2p_discovery.proofs.Truth.{nat_le-not_lt}
 use Rattle.p2p_tracker.specs.declared.directory.Config.{Config}
 use Rattle.p2p_tracker.specs.Calls.{SetAt, Cooldown}
-use Rattle.p2p_tracker.specs.World.{is_blocked}
+use Rattle.p2p_tracker.specs.Blocks.{is_blocked}
 use Rattle.p2p_tracker.specs.Dials.{IsBefore}
 use Rattle.p2p_tracker.specs.Lists.{Lists, IsLeastOf}
 use Rattle.p2p_tracker.specs.Blocks.{unblock_in}
@@ -19,14 +20,11 @@ use Rattle.p2p_tracker.proofs.Definitions.Quiet
 use Rattle.p2p_tracker.proofs.Definitions.Listed
 use Rattle.p2p_tracker.proofs.Definitions.Listed.{lists_alike}
 
-le_not_lt : (m n : ℕ) → nat_le m n ≡ not (nat_lt n m)
-le_not_lt m n = grind (arith, nat_tests)
-
 pub later_parts : (target : Bool) (dial t : ℕ) →
     is_now (if not target then DialView.Unavailable else if nat_lt t dial then DialView.After dial
     else DialView.Now) ≡ (target && nat_le dial t)
 later_parts false dial t = refl
-later_parts true dial t = go (nat_lt t dial) ∙ sym (le_not_lt dial t)
+later_parts true dial t = go (nat_lt t dial) ∙ sym (nat_le-not_lt dial t)
   where
     go : (b : Bool) → is_now (if b then DialView.After dial else DialView.Now) ≡ not b
     go true = refl
@@ -48,10 +46,6 @@ shuffle true true late = refl
 shuffle true false late = refl
 shuffle false true late = refl
 shuffle false false late = refl
-
-neither : (b : Bool) → (b && false) ≡ false
-neither true = refl
-neither false = refl
 
 module _ {C S : Type 0} (cmp : C → C → Ordering) where
   module _ (config : ConfigView) (sets : List (SetAt C)) (records : List (C × RecordView C S))
@@ -75,7 +69,7 @@ module _ {C S : Type 0} (cmp : C → C → Ordering) where
             (not (is_blocked unblock now) && option_map_or
             (λ r. is_now (dial_status now config.allow_private_ips config.allow_dns r)) o false)
             ≡ option_map_or (λ r. is_now (dial_state cfg now unblock r)) o false
-        go unblock None = neither (not (is_blocked unblock now))
+        go unblock None = and-false (not (is_blocked unblock now))
         go None (Some r) = ap is_now (sym (status_same r))
         go (Some until) (Some r) = later until r (nat_lt now until)
 
@@ -127,7 +121,7 @@ module _ {C S : Type 0} (cmp : C → C → Ordering) where
       ≡ option_and_then
       (λ r. if is_blocked unblock t then unblock else later_moment
       (dial_status t d.config.allow_private_ips d.config.allow_dns r)) o)
-  peer_stays d unblock None t u le next = (neither (not (is_blocked unblock u)) ∙ sym (neither (not (is_blocked unblock t))), refl)
+  peer_stays d unblock None t u le next = (and-false (not (is_blocked unblock u)) ∙ sym (and-false (not (is_blocked unblock t))), refl)
   peer_stays d unblock (Some r) t u le next =
       let alike = Quiet.stays target true unblock r.next_dial_at t u (λ e. absurd (cc)) le (λ n e. next n (query_is t ∙ e)) in
       (due_is u ∙ alike.0 ∙ sym (due_is t), query_is u ∙ alike.1 ∙ sym (query_is t))

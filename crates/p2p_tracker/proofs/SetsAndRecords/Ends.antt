@@ -23,6 +23,7 @@ use Rattle.std.proofs.lemmas.Map.Entries.{none_past_head}
 use Rattle.std.proofs.lemmas.Map.Keys.{sorted_tail, IsDistinct-from_sorted}
 use Rattle.std.proofs.lemmas.Map.Lookups.{CmpEqualImpliesEq}
 use Rattle.std.proofs.lemmas.Map.Views.{tells_apart}
+use Rattle.std.proofs.Math.Bool.{and-false, and-true}
 use Rattle.p2p_tracker.specs.Blocks.{in_nanos, is_later, unblock_in}
 use Rattle.p2p_tracker.specs.Lists.{IsLeastOf}
 use Rattle.p2p_tracker.specs.Private.Ends.{end_cmp, IsFirstOf, AreEnds}
@@ -41,14 +42,6 @@ until_is n o e = ap (until n) e ∙ (let f : nat_eq n n ≡ true = grind (arith,
 eq_turned : (m n : ℕ) (b : Bool) → nat_eq m n ≡ b → nat_eq n m ≡ b
 eq_turned m n true e = grind (arith, nat_tests)
 eq_turned m n false e = grind (arith, nat_tests)
-
-and_no : (b : Bool) → (b && false) ≡ false
-and_no true = refl
-and_no false = refl
-
-and_yes : (b : Bool) → (b && true) ≡ b
-and_yes true = refl
-and_yes false = refl
 
 -- two moments with their keys are equal where both are
 tied : {C : Type 0} (cmp : C → C → Ordering) (m n : ℕ) (p q : C) →
@@ -88,8 +81,8 @@ module _ {C : Type 0} {cmp : C → C → Ordering} (exact : CmpEqualImpliesEq cm
     where
       go : (k : Bool) → is_at (cmp key) q ≡ k →
           cond (nat_eq m n && k) true (Has ends n q) ≡ until n (cond k (Some m) (unblock_in cmp old q))
-      go false e = ap (λ b. cond b true (Has ends n q)) (and_no (nat_eq m n)) ∙ are n q
-      go true e = ap (λ b. cond b true (Has ends n q)) (and_yes (nat_eq m n)) ∙ same (nat_eq m n) refl
+      go false e = ap (λ b. cond b true (Has ends n q)) (and-false (nat_eq m n)) ∙ are n q
+      go true e = ap (λ b. cond b true (Has ends n q)) (and-true (nat_eq m n)) ∙ same (nat_eq m n) refl
         where
           had : Has ends n q ≡ until n (unblock_in cmp old key)
           had = are n q ∙ ap (λ p. until n (unblock_in cmp old p)) (sym (tells_apart exact key q e))
@@ -119,9 +112,9 @@ module _ {C : Type 0} {cmp : C → C → Ordering} (exact : CmpEqualImpliesEq cm
       go : (k : Bool) → is_at (cmp key) q ≡ k →
           cond (nat_eq before n && k) false (cond (nat_eq m n && k) true (Has ends n q))
           ≡ until n (cond k (Some m) (unblock_in cmp old q))
-      go false e = (λ i. cond (and_no (nat_eq before n) i) false (cond (and_no (nat_eq m n) i) true (Has ends n q)))
+      go false e = (λ i. cond (and-false (nat_eq before n) i) false (cond (and-false (nat_eq m n) i) true (Has ends n q)))
           ∙ are n q
-      go true e = (λ i. cond (and_yes (nat_eq before n) i) false (cond (and_yes (nat_eq m n) i) true (Has ends n q)))
+      go true e = (λ i. cond (and-true (nat_eq before n) i) false (cond (and-true (nat_eq m n) i) true (Has ends n q)))
           ∙ same (nat_eq before n) refl (nat_eq m n) refl
         where
           had : Has ends n q ≡ nat_eq n before
@@ -146,8 +139,8 @@ module _ {C : Type 0} {cmp : C → C → Ordering} (exact : CmpEqualImpliesEq cm
     where
       go : (k : Bool) → is_at (cmp key) q ≡ k →
           cond (nat_eq m n && k) false (Has ends n q) ≡ until n (cond k None (unblock_in cmp old q))
-      go false e = ap (λ b. cond b false (Has ends n q)) (and_no (nat_eq m n)) ∙ are n q
-      go true e = ap (λ b. cond b false (Has ends n q)) (and_yes (nat_eq m n)) ∙ same (nat_eq m n) refl
+      go false e = ap (λ b. cond b false (Has ends n q)) (and-false (nat_eq m n)) ∙ are n q
+      go true e = ap (λ b. cond b false (Has ends n q)) (and-true (nat_eq m n)) ∙ same (nat_eq m n) refl
         where
           had : Has ends n q ≡ nat_eq n m
           had = are n q ∙ ap (λ p. until n (unblock_in cmp old p)) (sym (tells_apart exact key q e))

@@ -14,14 +14,16 @@ use Rattle.std.specs.Map.{keys_of}
 use Rattle.std.specs.Ordering.{nat_cmp, is_lt, ordering_reverse, ordering_index}
 use Rattle.std.specs.declared.cmp.Ordering.{Ordering}
 use Rattle.std.specs.declared.cmp.Ordering.TheVariants.{Less, Equal, Greater}
-use Rattle.std.proofs.lemmas.Bool.{cases_lt}
+use Rattle.std.proofs.lemmas.Bool.{cases_lt, or_parts}
 use Rattle.std.proofs.lemmas.List.{get_or-map, length-map, map-append}
 use Rattle.std.proofs.lemmas.List.Sorted.{searchable_from_sorted}
 use Rattle.std.proofs.lemmas.Bool.Decides.{nat_tests}
 use Rattle.std.proofs.lemmas.Cmp.{ranked}
 use Rattle.std.proofs.lemmas.Map.Entries.{none_past_head}
 use Rattle.std.proofs.lemmas.Map.Keys.{sorted_tail, Less-from_sorted, IsDistinct-from_sorted}
+use Rattle.std.proofs.Math.Bool.{or-true, or-false, or_assoc}
 use Rattle.p2p_discovery.specs.BitSets.{with_bit}
+use Rattle.p2p_discovery.proofs.Truth.{nat_eq-itself, nat_eq-greater}
 use Rattle.p2p_tracker.specs.declared.kept.places.Place.{Place}
 use Rattle.p2p_tracker.specs.PeerSets.{latest_index, is_above}
 use Rattle.p2p_tracker.specs.Private.Places.{place_of, places_from, places_in, bit_at, with_bits_at, AreOrdered, IsIndexed}
@@ -33,28 +35,10 @@ use Rattle.p2p_tracker.proofs.SetsAndRecords.Walks.{as_many, met_more, earlier_m
 use Rattle.p2p_tracker.proofs.SetsAndRecords.Windows.{keys_bits_with, bits_without, none_ascends}
 use Rattle.p2p_tracker.proofs.SetsAndRecords.Windows.{ascending_push, ascending_with_bit}
 
-same_index : (n : ℕ) → (n == n) ≡ true
-same_index n = grind (arith, nat_tests)
-
-low_differs : (m n : ℕ) → n < m → (m == n) ≡ false
-low_differs m n low = grind (arith, nat_tests, low)
-
-or_true : (a : Bool) → (a || true) ≡ true
-or_true true = refl
-or_true false = refl
-
 has_index_more : (ns : List ℕ) (n m : ℕ) → has_index (ns ++ n ∷ []) m ≡ (has_index ns m || (n == m))
-has_index_more [] n m = go (n == m)
-  where
-    go : (b : Bool) → (b || false) ≡ b
-    go true = refl
-    go false = refl
+has_index_more [] n m = or-false (n == m)
 has_index_more (k ∷ ns) n m = ap (λ b. (k == m) || b) (has_index_more ns n m)
-    ∙ or_assoc (k == m) (has_index ns m) (n == m)
-  where
-    or_assoc : (a b c : Bool) → (a || (b || c)) ≡ ((a || b) || c)
-    or_assoc true b c = refl
-    or_assoc false b c = refl
+    ∙ sym (or_assoc (k == m) (has_index ns m) (n == m))
 
 -- one of ascending numbers before the last is below it
 below_last : (ns : List ℕ) (n m : ℕ) → IsStrictlySortedBy nat_cmp (ns ++ n ∷ []) → has_index ns m ≡ true → m < n
@@ -167,14 +151,14 @@ module _ {C : Type 0} (cmp : C → C → Ordering) where
       here q (inr found) = subst (λ ps. IfSome (first_or (place_of cmp old q) ps)
           (λ p. has_index (indices (before ++ x ∷ [])) p.set ≡ true)) (sym found.1)
           (ap (λ ns. has_index ns x.index) several ∙ has_index_more (indices before) x.index x.index
-          ∙ ap (λ b. has_index (indices before) x.index || b) (same_index x.index)
-          ∙ or_true (has_index (indices before) x.index))
+          ∙ ap (λ b. has_index (indices before) x.index || b) (nat_eq-itself x.index)
+          ∙ or-true (has_index (indices before) x.index))
 
       stays : (o : Option Place) → IfSome o (λ p. p.set < x.index) →
           met_in (walk (indices before) links) x.index olds o ≡ walk (indices before) links o
       stays None e = refl
       stays (Some p) e = ap (λ b. cond b (walk (indices before) links (get_or olds p.at None) ++ p ∷ [])
-          (walk (indices before) links (Some p))) (low_differs x.index p.set e)
+          (walk (indices before) links (Some p))) (nat_eq-greater x.index p.set e)
 
       all : (q : C) → (places_from cmp x.index 0 (keys_of x.primary) q ≡ []) ⊎
           ((i : ℕ) × (places_from cmp x.index 0 (keys_of x.primary) q ≡ only x.index (0 + i)) ×
@@ -190,7 +174,7 @@ module _ {C : Type 0} (cmp : C → C → Ordering) where
           let p : Place = record { set = x.index; at = 0 + found.0 } in
           ap (λ ps. met_in (walk (indices before) links) x.index olds (first_or (place_of cmp old q) ps)) found.1
           ∙ ap (λ b. cond b (walk (indices before) links (get_or olds (0 + found.0) None) ++ p ∷ [])
-          (walk (indices before) links (Some p))) (same_index x.index)
+          (walk (indices before) links (Some p))) (nat_eq-itself x.index)
           ∙ ap (λ ps. ps ++ p ∷ []) (ap (walk (indices before) links)
           (ap (λ i. get_or olds i None) (let e : 0 + found.0 ≡ found.0 = omega arith in e) ∙ found.2) ∙ h.met_all q)
           ∙ ap (λ ps. places_in cmp before q ++ ps) (sym found.1)
@@ -270,7 +254,7 @@ module _ {C : Type 0} where
   bit_written known place [] i x up low is at = absurd (omega (arith, low))
   bit_written known place (y ∷ sets) zero x up low is at =
       let index : y.index ≡ place.set = ap (λ (z : SetWithBits C). z.index) (sym is) ∙ at in
-      let here : (y.index == place.set) ≡ true = ap (λ n. n == place.set) index ∙ same_index place.set in
+      let here : (y.index == place.set) ≡ true = ap (λ n. n == place.set) index ∙ nat_eq-itself place.set in
       let past : AllByRecursion (λ set. (set.index == place.set) ≡ false) sets =
       subst (λ n. AllByRecursion (λ set. (set.index == n) ≡ false) sets) index (later_differ y.index sets up.0) in
       (λ j. record (is j) { primary = with_bit (is j).primary place.at known } ∷ sets)
@@ -335,13 +319,9 @@ module _ {C : Type 0} where
       has_index (indices sets) place.set ≡ false → map (bit_at known place) sets ≡ sets
   bit_past known place [] none = refl
   bit_past known place (x ∷ sets) none =
-      let parts = neither (x.index == place.set) (has_index (indices sets) place.set) none in
+      let parts = or_parts (x.index == place.set) (has_index (indices sets) place.set) none in
       λ i. cond (parts.0 i) (record x { primary = with_bit x.primary place.at known }) x ∷ bit_past
       known place sets parts.1 i
-    where
-      neither : (a b : Bool) → (a || b) ≡ false → (a ≡ false) × (b ≡ false)
-      neither true b e = absurd (true≢false e)
-      neither false b e = (refl, e)
 
   -- bits at two places are written in any order
   with_bit_swap : (known : Bool) (i j : ℕ) (es : List (C × Bool)) →
@@ -454,7 +434,7 @@ module _ {C : Type 0} {cmp : C → C → Ordering} (o : IsTotalOrder cmp) (q : C
     | inr found ↦
         ap (λ ps. with_bits_at known ps (x ∷ sets)) (found.1
         ∙ ap (only x.index) (let k : 0 + found.0 ≡ found.0 = omega arith in k))
-        ∙ (λ j. cond (same_index x.index j) (record x { primary = with_bit x.primary found.0 known }) x ∷
+        ∙ (λ j. cond (nat_eq-itself x.index j) (record x { primary = with_bit x.primary found.0 known }) x ∷
         bit_elsewhere known (record { set = x.index; at = found.0 }) sets past j)
         ∙ (λ j. record x { primary = found.2 j } ∷ sets)
   ]
@@ -543,7 +523,7 @@ module _ {C : Type 0} {cmp : C → C → Ordering} (o : IsTotalOrder cmp) where
             where
               split : (b : Bool) → filter (is_outside x.index) (places_from cmp x.index (suc k) ks q) ≡ [] →
                   filter (is_outside x.index) (cond b (only x.index k) (places_from cmp x.index (suc k) ks q)) ≡ []
-              split true rest = ap (λ b. cond (not b) (only x.index k) []) (same_index x.index)
+              split true rest = ap (λ b. cond (not b) (only x.index k) []) (nat_eq-itself x.index)
               split false rest = rest
 
           kept : (ps : List Place) → AllByRecursion (λ p. (x.index == p.set) ≡ false) ps →

@@ -5,7 +5,7 @@ use Rattle.std.proofs.lemmas.Bool.{ltb-true, ltb-false, lt-ltb, le-ltb}
 use Rattle.p2p_discovery.specs.declared.discovery.Info.{Info}
 use Rattle.p2p_tracker.specs.declared.record.Address.{Address}
 use Rattle.p2p_tracker.specs.declared.record.Address.TheVariants.{Unknown, Myself, Bootstrapper, Discovered}
-use Rattle.p2p_tracker.specs.History.{first_greatest}
+use Rattle.p2p_tracker.specs.Lists.{first_greatest}
 use Rattle.p2p_tracker.specs.Record.{address_after_update, address_after_offer, address_after_infos}
 use Rattle.p2p_tracker.proofs.Definitions.Knowledge.{later, first_greatest-append}
 

@@ -16,6 +16,7 @@ use Rattle.std.proofs.lemmas.List.Folds.{list_any_none, list_any_more, list_any-
 use Rattle.std.proofs.lemmas.Map.Keys.{Less-from_sorted}
 use Rattle.std.proofs.lemmas.Map.Lookups.{CmpEqualImpliesEq}
 use Rattle.std.proofs.lemmas.Map.Views.{tells_apart, any-filter_same}
+use Rattle.std.proofs.lemmas.Bool.{or_right, or_parts}
 use Rattle.p2p_discovery.specs.Ordered.{has_key}
 
 step : {X : Type 0} (a b : Bool) → (b ≡ true → a ≡ false) → (f : X → X) (new now old : X) →
@@ -46,10 +47,6 @@ module _ {C : Type 0} {cmp : C → C → Ordering} (o : IsTotalOrder cmp) (exact
         rw more (step (has_key cmp (take i keys) q) (test key)
         (λ same. subst (λ k. has_key cmp (take i keys) k ≡ false) (tells_apart exact key q same) not_yet) f new
         now old d e)
-
-pub or_true_right : (a b : Bool) → b ≡ true → (a || b) ≡ true
-or_true_right true b e = refl
-or_true_right false b e = e
 
 -- those of some keys that pass a test
 pub names-filter : {C : Type 0} {cmp : C → C → Ordering} → CmpEqualImpliesEq cmp →
@@ -90,12 +87,8 @@ none_is : {C : Type 0} {cmp : C → C → Ordering} → IsTotalOrder cmp → (x 
     has_key cmp ys x ≡ false → AllByRecursion (λ y. eq_by_cmp cmp x y ≡ false) ys
 none_is o x [] h = tt
 none_is {cmp = cmp} o x (y ∷ ys) h =
-    let parts = neither (is_at (cmp y) x) (has_key cmp ys x) h in
+    let parts = or_parts (is_at (cmp y) x) (has_key cmp ys x) h in
     ((eq_by_cmp_equiv o).symm x y ∙ parts.0, none_is o x ys parts.1)
-  where
-    neither : (a b : Bool) → (a || b) ≡ false → (a ≡ false) × (b ≡ false)
-    neither true b e = absurd (true≢false e)
-    neither false b e = (refl, e)
 
 -- distinct keys and others that are distinct, of which none is among the first, are distinct together
 pub distinct_both : {C : Type 0} {cmp : C → C → Ordering} → IsTotalOrder cmp → (xs ys : List C) →
@@ -105,7 +98,7 @@ unfolding IsDistinct
 distinct_both o [] ys dx dy apart = dy
 distinct_both {cmp = cmp} o (x ∷ xs) ys dx dy apart = (
   all_joined (λ y. eq_by_cmp cmp x y ≡ false) xs ys dx.0 (none_is o x ys (apart x (ap (λ b. b || has_key cmp xs x) (ap is_eq (tied_itself o x))))),
-  distinct_both o xs ys dx.1 dy (λ q h. apart q (or_true_right (is_at (cmp x) q) (has_key cmp xs q) h)),
+  distinct_both o xs ys dx.1 dy (λ q h. apart q (or_right (is_at (cmp x) q) (has_key cmp xs q) h)),
 )
 
 or_true_left : (a b : Bool) → a ≡ true → (a || b) ≡ true

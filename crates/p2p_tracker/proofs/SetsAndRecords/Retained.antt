@@ -8,7 +8,7 @@ use Rattle.std.specs.Option.{option_map_or}
 use Rattle.std.specs.Ordering.{is_eq}
 use Rattle.std.specs.Cmp.{IsTotalOrder}
 use Rattle.std.specs.declared.cmp.Ordering.{Ordering}
-use Rattle.std.proofs.lemmas.Bool.{ltb-true, lt-ltb}
+use Rattle.std.proofs.lemmas.Bool.{ltb-true, lt-ltb, or_right}
 use Rattle.std.proofs.lemmas.Cmp.{tied_itself}
 use Rattle.p2p_tracker.specs.declared.record.Role.{Role}
 use Rattle.p2p_tracker.specs.declared.record.Role.TheVariants.{Primary, Secondary}
@@ -30,13 +30,9 @@ last_passes : {A : Type 0} (test : A → Bool) (o : Option A) (xs : List A) (x :
     test x ≡ true → (option_map_or test o false || nat_lt 0 (length (filter test xs))) ≡ true
 last_passes test o [] x is passes = ap (λ o. option_map_or test o false || false) is ∙ ap (λ b. b || false) passes
 last_passes test o (y ∷ ys) x is passes =
-    or_true (option_map_or test o false) (nat_lt 0 (length (filter test (y ∷ ys))))
+    or_right (option_map_or test o false) (nat_lt 0 (length (filter test (y ∷ ys))))
     (go (test y) (last_passes test (Some y) ys x is passes))
   where
-    or_true : (a b : Bool) → b ≡ true → (a || b) ≡ true
-    or_true true b e = refl
-    or_true false b e = e
-
     go : (b : Bool) → (b || nat_lt 0 (length (filter test ys))) ≡ true → nat_lt 0 (length (cond b (y ∷ filter test ys) (filter test ys))) ≡ true
     go true e = lt-ltb 0 (suc (length (filter test ys))) (omega arith)
     go false e = e
@@ -54,17 +50,13 @@ named_in_last {C} {cmp} total sets set is some = go set.primary refl set.seconda
     counted role q has = ap (nat_lt 0) (sym (length-filter (λ x. has_key cmp (members role x) q) sets))
         ∙ last_passes (λ x. has_key cmp (members role x) q) None sets set is has
 
-    or_true : (a b : Bool) → b ≡ true → (a || b) ≡ true
-    or_true true b e = refl
-    or_true false b e = e
-
     go : (ps : List C) → set.primary ≡ ps → (qs : List C) → set.secondary ≡ qs →
         nat_lt 0 (length ps + length qs) ≡ true →
         Somebody (λ q. nat_lt 0 (set_count cmp Primary q sets) || nat_lt 0 (set_count cmp Secondary q sets))
     go (p ∷ ps) e qs f h = (p, ap (λ b. b || nat_lt 0 (set_count cmp Secondary p sets)) (counted Primary p (ap (λ ps. has_key cmp ps p) e ∙ first p ps)))
     go [] e (q ∷ qs) f h = (
       q,
-      or_true (nat_lt 0 (set_count cmp Primary q sets)) (nat_lt 0 (set_count cmp Secondary q sets))
+      or_right (nat_lt 0 (set_count cmp Primary q sets)) (nat_lt 0 (set_count cmp Secondary q sets))
           (counted Secondary q (ap (λ qs. has_key cmp qs q) f ∙ first q qs)),
     )
     go [] e [] f h = absurd (omega (arith, ltb-true 0 0 h))

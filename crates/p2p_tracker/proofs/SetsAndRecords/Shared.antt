@@ -8,8 +8,9 @@ use Rattle.std.specs.List.{cons_option}
 use Rattle.std.specs.Map.{keys_of, values_of}
 use Rattle.std.specs.declared.cmp.Ordering.{Ordering}
 use Rattle.p2p_discovery.specs.declared.discovery.Info.{Info}
+use Rattle.p2p_discovery.proofs.Truth.{suc-plus_one}
 use Rattle.p2p_tracker.specs.Calls.{SetAt}
-use Rattle.p2p_tracker.specs.Answers.{epoch_millis}
+use Rattle.p2p_tracker.specs.Moments.{epoch_millis}
 use Rattle.p2p_tracker.specs.PeerSets.{set_with}
 use Rattle.p2p_tracker.specs.Seen.{RecordView}
 use Rattle.p2p_tracker.specs.Directory.{shared_at, shared_of, shared_for, infos_in}
@@ -83,9 +84,6 @@ module _ {C S : Type 0} (cmp : C → C → Ordering) where
   infos_not_found d window index bits now sets is =
       ap (answered_of d.records bits now) (ap (set_with index) sets ∙ plain_found window index ∙ ap (option_map plain_set) is)
 
-pub next_place : (i : ℕ) → suc i ≡ i + 1
-next_place i = omega (arith)
-
 -- the pair at a place, and those behind it
 pub pair_at : {A B : Type 0} (ps : List A) (bs : List B) (i : ℕ) (p : A) (b : B) → slice_get ps i ≡ Some p →
     slice_get bs i ≡ Some b → drop i (zip ps bs) ≡ (p, b) ∷ drop (suc i) (zip ps bs)
@@ -132,7 +130,7 @@ module _ {A B X : Type 0} (choose : A × B → Option X) where
       chosen_from i ps bs ≡ option_to_list (choose (p, b)) ++ chosen_from (i + 1) ps bs
   chosen_at ps bs i p b e f =
       ap (filter_map choose) (pair_at ps bs i p b e f) ∙ joined (choose (p, b)) (chosen_from (suc i) ps bs)
-      ∙ ap (λ k. option_to_list (choose (p, b)) ++ chosen_from k ps bs) (next_place i)
+      ∙ ap (λ k. option_to_list (choose (p, b)) ++ chosen_from k ps bs) (suc-plus_one i)
     where
       joined : (o : Option X) (xs : List X) → cons_option o xs ≡ option_to_list o ++ xs
       joined None xs = refl

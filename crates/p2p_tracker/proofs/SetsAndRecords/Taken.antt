@@ -10,9 +10,10 @@ use Rattle.std.specs.Option.{option_map_or}
 use Rattle.std.specs.BTreeMap.{is_at}
 use Rattle.std.proofs.lemmas.Cmp.{tied_itself}
 use Rattle.std.proofs.lemmas.List.{map-append, length-map, drop-map}
+use Rattle.std.proofs.Math.Bool.{or-true}
 use Rattle.p2p_tracker.specs.declared.record.Role.TheVariants.{Primary, Secondary}
 use Rattle.p2p_tracker.specs.Calls.{SetAt, Cooldown}
-use Rattle.p2p_tracker.specs.History.{last_of}
+use Rattle.p2p_tracker.specs.Lists.{last_of}
 use Rattle.p2p_tracker.specs.Record.{fresh, is_myself, is_eligible, with_counts}
 use Rattle.p2p_tracker.specs.Seen.{RecordView}
 use Rattle.p2p_tracker.specs.PeerSets.{set_count, AreRolesDisjoint}
@@ -33,10 +34,6 @@ newest_map f max xs = go (nat_lt max (length xs)) ∙ ap (λ n. if nat_lt max n 
     go true = sym (drop-map f 1 xs)
     go false = refl
 
-or_true : (b : Bool) → (b || true) ≡ true
-or_true true = refl
-or_true false = refl
-
 module _ {C : Type 0} {cmp : C → C → Ordering} (total : IsTotalOrder cmp) where
   -- two tests that agree on peers give them the same bits
   same_peers : (f g : C → Bool) (peers : List C) → ((q : C) → has_key cmp peers q ≡ true → f q ≡ g q) →
@@ -45,7 +42,7 @@ module _ {C : Type 0} {cmp : C → C → Ordering} (total : IsTotalOrder cmp) wh
   same_peers f g (p ∷ peers) same =
       let first : f p ≡ g p = same p (ap (λ b. b || has_key cmp peers p) (ap is_eq (tied_itself total p))) in
       ap (λ (b : Bool). (p, b) ∷ map {B = C × Bool} (λ q. (q, f q)) peers) first
-      ∙ ap (λ (es : List (C × Bool)). (p, g p) ∷ es) (same_peers f g peers (λ q h. same q (ap (λ b. is_at (cmp p) q || b) h ∙ or_true (is_at (cmp p) q))))
+      ∙ ap (λ (es : List (C × Bool)). (p, g p) ∷ es) (same_peers f g peers (λ q h. same q (ap (λ b. is_at (cmp p) q || b) h ∙ or-true (is_at (cmp p) q))))
 
   -- .. on those of sets
   same_bits : (f g : C → Bool) (sets : List (SetAt C)) → ((q : C) → 1 ≤ set_count cmp Primary q sets → f q ≡ g q) →

@@ -1,9 +1,8 @@
 -- Walks from the latest place of a key to older ones.
-use Rattle.std.proofs.Common.{◌≡◌, ℕ, zero, suc, ◌<◌, ◌≤◌, ◌||◌, Bool, true, false, cond, filter, not}
+use Rattle.std.proofs.Common.{◌≡◌, ℕ, zero, suc, ◌<◌, ◌≤◌, Bool, true, false, cond, filter, not}
 use Rattle.std.proofs.Common.{List, [], ◌∷◌, ◌++◌, length, get_or, Option, Some, None, IfSome, refl, sym}
 use Rattle.std.proofs.Common.{◌∙◌, ap, arith}
 use Rattle.std.specs.Prelude.{◌==◌}
-use mathlib.Core.Bool.{true≢false}
 use Rattle.std.specs.List.{AllByRecursion}
 use Rattle.std.specs.List.Sorted.{IsStrictlySortedBy}
 use Rattle.std.specs.Ordering.{nat_cmp}
@@ -11,26 +10,12 @@ use Rattle.std.specs.declared.cmp.Ordering.TheVariants.{Less}
 use Rattle.std.proofs.lemmas.Bool.Decides.{nat_tests}
 use Rattle.std.proofs.lemmas.Cmp.{ranked}
 use Rattle.std.proofs.lemmas.List.Elements.{filter-append}
+use Rattle.std.proofs.lemmas.Bool.{eqb-true, or_parts, or_from}
+use Rattle.p2p_discovery.proofs.Truth.{nat_eq-itself, nat_eq-greater}
 use Rattle.p2p_tracker.specs.declared.kept.places.Place.{Place}
 use Rattle.p2p_tracker.specs.Private.Places.{met, met_in, walk, unless_in, has_index, AreEarlier}
 
 -- NUMBERS
-
-equal_if : (m n : ℕ) → (m == n) ≡ true → m ≡ n
-equal_if m n e = grind (arith, nat_tests, e)
-
-equal_itself : (n : ℕ) → (n == n) ≡ true
-equal_itself n = grind (arith, nat_tests)
-
-above_differs : (m n : ℕ) → n < m → (m == n) ≡ false
-above_differs m n low = grind (arith, nat_tests, low)
-
-neither : (a b : Bool) → (a || b) ≡ false → (a ≡ false) × (b ≡ false)
-neither true b e = absurd (true≢false e)
-neither false b e = (refl, e)
-
-no_one : (a b : Bool) → a ≡ false → b ≡ false → (a || b) ≡ false
-no_one a b e f = ap (λ x. x || b) e ∙ f
 
 -- a number that is not above n is none of those above n
 none_above : (n : ℕ) (ns : List ℕ) (x : ℕ) → AllByRecursion (λ m. nat_cmp n m ≡ Less) ns → x ≤ n →
@@ -38,7 +23,7 @@ none_above : (n : ℕ) (ns : List ℕ) (x : ℕ) → AllByRecursion (λ m. nat_c
 none_above n [] x up low = refl
 none_above n (m ∷ ns) x up low =
     let less : n < m = ranked n m Less (sym up.0) in
-    no_one (m == x) (has_index ns x) (above_differs m x (omega (arith, less, low))) (none_above n ns x up.1 low)
+    or_from (m == x) (has_index ns x) (nat_eq-greater m x (omega (arith, less, low))) (none_above n ns x up.1 low)
 
 -- WHERE WALKS GO
 
@@ -53,7 +38,7 @@ passed before [] ls o h = refl
 passed before (n ∷ ns) [] o h = refl
 passed before (n ∷ ns) (l ∷ ls) None h = passed (met_in before n l) ns ls None tt
 passed before (n ∷ ns) (l ∷ ls) (Some p) h =
-    let parts = neither (n == p.set) (has_index ns p.set) h in
+    let parts = or_parts (n == p.set) (has_index ns p.set) h in
     passed (met_in before n l) ns ls (Some p) parts.1
     ∙ ap (λ b. cond b (before (get_or l p.at None) ++ p ∷ []) (before (Some p))) parts.0
 
@@ -68,7 +53,7 @@ met_at before (n ∷ ns) (l ∷ ls) zero p up e low is =
     passed (met_in before n l) ns ls (Some p)
     (none_above n ns p.set up.0 (let h : p.set ≤ n = omega (arith, is) in h))
     ∙ ap (λ b. cond b (before (get_or l p.at None) ++ p ∷ []) (before (Some p)))
-    (ap (λ k. n == k) (sym is) ∙ equal_itself n)
+    (ap (λ k. n == k) (sym is) ∙ nat_eq-itself n)
     ∙ ap (λ ps. ps ++ p ∷ []) (sym (past (get_or l p.at None) (each l p.at e.0)))
   where
     each : (l : List (Option Place)) (j : ℕ) → AllByRecursion (λ o. IfSome o (λ x. x.set < n)) l →
@@ -81,7 +66,7 @@ met_at before (n ∷ ns) (l ∷ ls) zero p up e low is =
     past None h = passed (met_in before n l) ns ls None tt
     past (Some x) h =
         passed (met_in before n l) ns ls (Some x) (none_above n ns x.set up.0 (omega (arith, h)))
-        ∙ ap (λ b. cond b (before (get_or l x.at None) ++ x ∷ []) (before (Some x))) (above_differs n x.set h)
+        ∙ ap (λ b. cond b (before (get_or l x.at None) ++ x ∷ []) (before (Some x))) (nat_eq-greater n x.set h)
 met_at before (n ∷ ns) (l ∷ ls) (suc i) p up e low is =
     met_at (met_in before n l) ns ls i p up.1 e.1 (omega (arith, low)) is
 
@@ -89,7 +74,7 @@ met_at before (n ∷ ns) (l ∷ ls) (suc i) p up e low is =
 pub only_first : (n : ℕ) (l : List (Option Place)) (ns : List ℕ) (ls : List (List (Option Place))) (p : Place) →
     has_index ns n ≡ false → (n == p.set) ≡ true → walk (n ∷ ns) (l ∷ ls) (Some p) ≡ p ∷ []
 only_first n l ns ls p none here =
-    passed (met_in (λ o. []) n l) ns ls (Some p) (ap (has_index ns) (sym (equal_if n p.set here)) ∙ none)
+    passed (met_in (λ o. []) n l) ns ls (Some p) (ap (has_index ns) (sym (eqb-true n p.set here)) ∙ none)
     ∙ ap (λ b. cond b ([] ++ p ∷ []) []) here
 
 -- as many lists as sets
@@ -148,7 +133,7 @@ outside : (n : ℕ) (ns : List ℕ) (ls : List (List (Option Place))) (f : Optio
 outside n [] ls f none h o = h o
 outside n (m ∷ ns) [] f none h o = h o
 outside n (m ∷ ns) (l ∷ ls) f none h o =
-    outside n ns ls (met_in f m l) (neither (m == n) (has_index ns n) none).1 step o
+    outside n ns ls (met_in f m l) (or_parts (m == n) (has_index ns n) none).1 step o
   where
     step : (o : Option Place) → filter (is_outside n) (met_in f m l o) ≡ met_in f m l o
     step None = h None
@@ -158,7 +143,7 @@ outside n (m ∷ ns) (l ∷ ls) f none h o =
             filter (is_outside n) (cond b (f (get_or l p.at None) ++ p ∷ []) (f (Some p)))
             ≡ cond b (f (get_or l p.at None) ++ p ∷ []) (f (Some p))
         go true e =
-            let apart = (neither (m == n) (has_index ns n) none).0 in
+            let apart = (or_parts (m == n) (has_index ns n) none).0 in
             let other : (n == p.set) ≡ false = grind (arith, nat_tests, e, apart) in
             filter-append (is_outside n) (f (get_or l p.at None)) (p ∷ [])
             ∙ ap (λ ps. ps ++ filter (is_outside n) (p ∷ [])) (h (get_or l p.at None))
@@ -194,5 +179,5 @@ met_later n l ns ls o here later none gone stay e = shorter o ∙ whole
       where
         go : (b : Bool) → (p.set == n) ≡ b → walk ns ls (cond b None (Some p)) ≡ walk ns ls (Some p)
         go true e = passed nil ns ls None tt
-            ∙ sym (passed nil ns ls (Some p) (ap (has_index ns) (equal_if p.set n e) ∙ none))
+            ∙ sym (passed nil ns ls (Some p) (ap (has_index ns) (eqb-true p.set n e) ∙ none))
         go false e = refl

@@ -16,13 +16,11 @@ use Rattle.std.proofs.lemmas.List.{map-append}
 use Rattle.std.proofs.lemmas.Option.{slice_get-map}
 use Rattle.std.proofs.lemmas.Map.{NonePasses}
 use Rattle.p2p_discovery.specs.BitSets.{with_bit, unset}
+use Rattle.p2p_discovery.proofs.Truth.{suc-plus_one}
 use Rattle.p2p_tracker.specs.PeerSets.{latest_index, is_above, set_with}
 use Rattle.p2p_tracker.proofs.SetsAndRecords.Naming.{all_joined}
 use Rattle.p2p_tracker.specs.Calls.{SetAt}
 use Rattle.p2p_tracker.specs.Private.Window.{SetWithBits, plain_set, plain_sets, set_with_bits, sets_with_bits, bits_with, with_bit_of, IsAscending, set_at}
-
-next : (i : ℕ) → suc i ≡ i + 1
-next i = omega arith
 
 -- BITS BESIDE PEERS
 
@@ -44,7 +42,7 @@ keys_with_bits known (q ∷ peers) = ap (λ ks. q ∷ ks) (keys_with_bits known 
 -- the bits of the first peers, and one more
 pub bits_more : {P : Type 0} (known : P → Bool) (es : List (P × Bool)) (i : ℕ) (x : P) → i < length es → x ≡ get_or (keys_of es) i x →
     with_bit (map (λ q. (q, known q)) (take i (keys_of es)) ++ drop i es) i (known x) ≡ map (λ q. (q, known q)) (take (i + 1) (keys_of es)) ++ drop (i + 1) es
-bits_more known es i x low is = go known es i x low is ∙ ap (λ k. map (λ q. (q, known q)) (take k (keys_of es)) ++ drop k es) (next i)
+bits_more known es i x low is = go known es i x low is ∙ ap (λ k. map (λ q. (q, known q)) (take k (keys_of es)) ++ drop k es) (suc-plus_one i)
   where
     go : {P : Type 0} (known : P → Bool) (es : List (P × Bool)) (i : ℕ) (x : P) → i < length es → x ≡ get_or (keys_of es) i x →
         with_bit (map (λ q. (q, known q)) (take i (keys_of es)) ++ drop i es) i (known x)
@@ -165,7 +163,7 @@ found_at test (y ∷ ys) (suc i) x none low is passes = go (test y) none (λ n. 
 -- .. and none so far, where one more doesn't pass it
 pub not_found_more : {A : Type 0} (test : A → Bool) (xs : List A) (i : ℕ) (x : A) → find test (take i xs) ≡ None →
     i < length xs → x ≡ get_or xs i x → test x ≡ false → find test (take (i + 1) xs) ≡ None
-not_found_more test xs i x none low is fails = ap (λ k. find test (take k xs)) (sym (next i)) ∙ go test xs i x none low is fails
+not_found_more test xs i x none low is fails = ap (λ k. find test (take k xs)) (sym (suc-plus_one i)) ∙ go test xs i x none low is fails
   where
     one_more : {A : Type 0} (b : Bool) (y : A) (before after : Option A) → cond b (Some y) before ≡ None →
         (before ≡ None → after ≡ None) → cond b (Some y) after ≡ None

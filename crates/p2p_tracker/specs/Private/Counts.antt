@@ -11,7 +11,7 @@ use Rattle.std.specs.declared.cmp.Ordering.{Ordering}
 use Rattle.p2p_tracker.specs.declared.record.Role.{Role}
 use Rattle.p2p_tracker.specs.declared.record.Role.TheVariants.{Primary, Secondary}
 use Rattle.p2p_tracker.specs.Calls.{SetAt, Cooldown}
-use Rattle.p2p_tracker.specs.History.{is_inert}
+use Rattle.p2p_tracker.specs.Status.{is_inert}
 use Rattle.p2p_tracker.specs.Record.{fresh, is_myself, is_eligible, is_deletable}
 use Rattle.p2p_tracker.specs.Seen.{RecordView}
 use Rattle.p2p_tracker.specs.Record.{with_counts, with_cooldown}

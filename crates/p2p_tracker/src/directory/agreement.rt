@@ -13,7 +13,7 @@ impl<C: PublicKey> Directory<C> {
     ghost use Rattle.p2p_tracker.specs.Directory.{is_named_of};
     ghost use Rattle.p2p_tracker.specs.Seen.{record_of, cooldown_of};
     ghost use Rattle.p2p_tracker.specs.Directory.{bit_vec_at, wants_in};
-    ghost use Rattle.p2p_tracker.specs.World.{reservable_from, dialable_from};
+    ghost use Rattle.p2p_tracker.specs.Cooldowns.{reservable_from, dialable_from};
     ghost use Rattle.p2p_tracker.specs.Record.{is_deletable, is_myself};
     ghost use Rattle.std.specs.BTreeMap.{is_at};
     ghost use Rattle.p2p_tracker.specs.declared.record.Role.TheVariants as Role;

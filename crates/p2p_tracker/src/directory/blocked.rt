@@ -6,7 +6,7 @@ ghost use Rattle.std.specs.List.{filter, list_any};
 ghost use Rattle.std.specs.Map.{keys_of};
 ghost use Rattle.std.specs.Option.{option_map, option_map_or};
 ghost use Rattle.p2p_tracker.specs.Record.{is_myself};
-ghost use Rattle.p2p_tracker.specs.World.{is_blocked};
+ghost use Rattle.p2p_tracker.specs.Blocks.{is_blocked};
 ghost use Rattle.p2p_tracker.specs.Lists.{Lists, Somebody};
 ghost use Rattle.p2p_tracker.specs.Blocks.{in_nanos, is_later, unblock_in};
 

@@ -9,7 +9,7 @@ ghost use Rattle.std.specs.Prelude.{IfOk, IfSome, IsOk, OnOk, OnErr};
 ghost use Rattle.std.specs.Option.{option_and_then, option_copied, IsSomeAnd};
 ghost use Rattle.std.specs.Duration.{as_nanos};
 ghost use Rattle.p2p_discovery.specs.Ingress.{takes_none};
-ghost use Rattle.p2p_tracker.specs.Answers.{epoch_millis};
+ghost use Rattle.p2p_tracker.specs.Moments.{epoch_millis};
 ghost use Rattle.p2p_discovery.specs.Ordered.{has_key};
 ghost use Rattle.p2p_tracker.specs.Seen.{record_at};
 ghost use Rattle.p2p_tracker.specs.Directory.{shared_at, shared_of, shared_for};

@@ -7,7 +7,7 @@ ghost use Rattle.p2p_tracker.specs.Seen.{peers_of};
 ghost use Rattle.p2p_tracker.specs.Private.Window.{plain_set};
 
 use crate::directory::{Directory, PeerSetUpdate, TrackedPeers};
-use crate::kept::PeerSet;
+use crate::kept::peer_set::PeerSet;
 use p2p_discovery::codec::PublicKey;
 use std::alloc::AllocError;
 

@@ -8,7 +8,7 @@ ghost use Rattle.std.specs.Map.{keys_of};
 ghost use Rattle.std.specs.List.Sorted.{IsStrictlySortedBy};
 ghost use Rattle.std.specs.Duration.{as_nanos};
 ghost use Rattle.std.specs.BTreeMap.{get, is_at};
-ghost use Rattle.p2p_tracker.specs.History.{is_inert, is_reserved};
+ghost use Rattle.p2p_tracker.specs.Status.{is_inert, is_reserved};
 ghost use Rattle.p2p_tracker.specs.Record.{may_come, reserved_record, with_cooldown};
 ghost use Rattle.p2p_tracker.specs.Moments.{moments_after};
 ghost use Rattle.p2p_tracker.specs.Cooldowns.{cooldown_in};
@@ -22,7 +22,8 @@ ghost use Rattle.p2p_tracker.specs.Directory.{connected_record, updated_record, 
 
 use crate::directory::{Config, Metadata};
 use crate::kept::cooldowns::Cooldowns;
-use crate::kept::{Known, forget, put};
+use crate::kept::maps::{drop_value, put};
+use crate::kept::window::BitChange;
 use crate::record::{DialStatus, Record, ReserveResult, Status, next_moments};
 use p2p_discovery::codec::PublicKey;
 use p2p_discovery::discovery::Info;
@@ -152,7 +153,7 @@ impl<C: PublicKey> Records<C> {
 
     /// Ends the reservation of its peer, and removes the record if it is deletable then. Returns
     /// whether the peer's info is known and not wanted, before and after.
-    pub fn release(&mut self, metadata: &Metadata<C>, limit: usize) -> Known
+    pub fn release(&mut self, metadata: &Metadata<C>, limit: usize) -> BitChange
         requires { is_busy (record_at C.cmp self.old (key_of metadata.now)) ≡ true }
         ensures change { ChangesAt C.cmp self.old self.new (key_of metadata.now)
             (kept_after_release metadata.now) }
@@ -162,7 +163,7 @@ impl<C: PublicKey> Records<C> {
             is_known limit (record_at C.cmp self.new (key_of metadata.now)) }
     {
         let peer = *metadata.public_key();
-        let mut known = Known {
+        let mut known = BitChange {
             before: false,
             after: false,
         };
@@ -170,7 +171,7 @@ impl<C: PublicKey> Records<C> {
             known.before = !found.want(limit);
             release_record(found, metadata);
             if found.deletable() {
-                forget(self.map.remove(&peer));
+                drop_value(self.map.remove(&peer));
             } else {
                 known.after = !found.want(limit);
             }
@@ -180,7 +181,7 @@ impl<C: PublicKey> Records<C> {
 
     /// Marks the peer as connected if it is reserved, and returns whether its info is known and not
     /// wanted, before and after. Returns `None`, and changes nothing, if it isn't reserved.
-    pub fn connect(&mut self, peer: &C, dialer: bool, limit: usize) -> Option<Known>
+    pub fn connect(&mut self, peer: &C, dialer: bool, limit: usize) -> Option<BitChange>
         ensures none { IfNone result (self.new ≡ self.old) }
         ensures unreserved { IfNone result
             (has_status is_reserved (record_at C.cmp self.old peer.now) ≡ false) }
@@ -199,7 +200,7 @@ impl<C: PublicKey> Records<C> {
         }
         let before = !found.want(limit);
         connect_record(found, dialer);
-        Some(Known {
+        Some(BitChange {
             before,
             after: !found.want(limit),
         })
@@ -207,7 +208,7 @@ impl<C: PublicKey> Records<C> {
 
     /// Offers an info to the record of its peer. If it is accepted, returns whether the peer's info
     /// is known and not wanted, before and after; if not, nothing has changed.
-    pub fn update(&mut self, info: Info<C>, limit: usize) -> Option<Known>
+    pub fn update(&mut self, info: Info<C>, limit: usize) -> Option<BitChange>
         ensures change { ChangesAt C.cmp self.old self.new info.public_key
             (option_map (updated_record (info ∷ []))) }
         ensures before { IfSome result (λ known.
@@ -221,7 +222,7 @@ impl<C: PublicKey> Records<C> {
         if let Some(found) = self.map.get_mut(&peer) {
             let before = !found.want(limit);
             if found.update(info) {
-                return Some(Known {
+                return Some(BitChange {
                     before,
                     after: !found.want(limit),
                 });

@@ -14,7 +14,9 @@ ghost use Rattle.p2p_tracker.specs.Private.Counts.{record_joining, IsRestored, D
 use crate::directory::records::Records;
 use crate::directory::records::counts::ordered;
 use crate::kept::cooldowns::Cooldowns;
-use crate::kept::{PeerSet, Window, forget};
+use crate::kept::maps::drop_value;
+use crate::kept::peer_set::PeerSet;
+use crate::kept::window::Window;
 use p2p_discovery::codec::PublicKey;
 use p2p_discovery::sets::OrderedSet;
 use std::alloc::AllocError;
@@ -46,7 +48,7 @@ pub fn add<C: PublicKey>(
         Ok(()) => Ok(()),
         Err(refused) => {
             records.undo(&refused);
-            forget(refused);
+            drop_value(refused);
             Err(AllocError)
         }
     }

@@ -8,7 +8,7 @@ ghost use Rattle.p2p_tracker.specs.Private.Window.{plain_sets};
 ghost use Rattle.p2p_tracker.specs.Private.Counts.{AreMarked};
 
 use crate::directory::records::Records;
-use crate::kept::Window;
+use crate::kept::window::Window;
 use p2p_discovery::codec::PublicKey;
 use p2p_discovery::discovery::Info;
 

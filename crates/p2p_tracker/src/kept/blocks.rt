@@ -11,10 +11,10 @@ ghost use Rattle.std.specs.BTreeSet.{contains};
 ghost use Rattle.std.specs.Option.{option_map, option_map_or};
 ghost use Rattle.std.specs.Ordering.{is_gt};
 ghost use Rattle.p2p_tracker.specs.Blocks.{in_nanos, is_later, unblock_in};
-ghost use Rattle.p2p_tracker.specs.World.{is_blocked};
+ghost use Rattle.p2p_tracker.specs.Blocks.{is_blocked};
 ghost use Rattle.p2p_tracker.specs.Private.Ends.{end_cmp, end_in_nanos, IsFirstOf, AreEnds, AreKept};
 
-use crate::kept::forget;
+use crate::kept::maps::drop_value;
 use p2p_discovery::codec::PublicKey;
 use std::alloc::{AllocError, Global};
 use std::cmp::Ordering;
@@ -235,7 +235,7 @@ fn put_end<C: PublicKey>(
             Ok(true)
         }
         Err(refused) => {
-            forget(refused);
+            drop_value(refused);
             Err(AllocError)
         }
     }
@@ -255,7 +255,7 @@ fn add_end<C: PublicKey>(
     match ends.insert((until.as_nanos(), key)) {
         Ok(_added) => Ok(()),
         Err(refused) => {
-            forget(refused);
+            drop_value(refused);
             Err(AllocError)
         }
     }

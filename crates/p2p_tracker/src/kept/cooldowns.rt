@@ -11,7 +11,7 @@ ghost use Rattle.std.specs.Option.{option_map};
 ghost use Rattle.p2p_tracker.specs.Cooldowns.{cooldown_view, cooldowns_view, cooldown_in};
 ghost use Rattle.p2p_tracker.specs.Cooldowns.{has_cooled};
 
-use crate::kept::forget;
+use crate::kept::maps::drop_value;
 use p2p_discovery::codec::PublicKey;
 use std::alloc::{AllocError, Global};
 use std::collections::{BTreeMap, btree_map};
@@ -146,7 +146,7 @@ fn put_cooldown<C: PublicKey>(
             Ok(())
         }
         Err(refused) => {
-            forget(refused);
+            drop_value(refused);
             Err(AllocError)
         }
     }

@@ -22,7 +22,8 @@ ghost use Rattle.p2p_tracker.specs.Private.Counts.{is_torn_down_leaving, IsResto
 
 use crate::directory::records::{Records, walks};
 use crate::kept::cooldowns::Cooldowns;
-use crate::kept::{PeerSet, forget};
+use crate::kept::maps::drop_value;
+use crate::kept::peer_set::PeerSet;
 use crate::record::{Record, Role};
 use p2p_discovery::codec::PublicKey;
 use p2p_discovery::sets::{OrderedSet, SetError};
@@ -61,7 +62,7 @@ impl<C: PublicKey> Records<C> {
                 Ok(false)
             }
             Err(refused) => {
-                forget(refused);
+                drop_value(refused);
                 Err(AllocError)
             }
         }
@@ -79,7 +80,7 @@ impl<C: PublicKey> Records<C> {
             torn = found.is_torn_down_without(role);
             found.count_less(role);
             if found.deletable() {
-                forget(self.map.remove(peer));
+                drop_value(self.map.remove(peer));
             }
         }
         torn

@@ -21,7 +21,7 @@ use std::collections::BTreeMap;
 /// A value that counts the sets of a peer, and may be removed when one of them is. The walk is over
 /// any such values, since the borrow checker doesn't yet support a closure over keys and values of
 /// one type parameter.
-pub trait Counted: Drop {
+pub trait Membership: Drop {
     // What is left of it after one set less of the role has its peer.
     ghost left: { Role → Self → Option Self };
 
@@ -30,7 +30,7 @@ pub trait Counted: Drop {
         ensures { (if result then Some self.new else None) ≡ Self.left role self.old };
 }
 
-impl<C: PublicKey> Counted for Record<C> {
+impl<C: PublicKey> Membership for Record<C> {
     ghost use Rattle.p2p_tracker.specs.Private.Counts.{with_one_less};
     ghost use Rattle.p2p_tracker.specs.Record.{unless_deletable};
 
@@ -66,7 +66,7 @@ pub fn list_torn<C: PublicKey>(
 }
 
 /// Counts one set less of each peer, and removes what doesn't stay.
-pub fn leave_walked<C: PublicKey, V: Counted>(
+pub fn leave_walked<C: PublicKey, V: Membership>(
     map: &mut BTreeMap<C, V>,
     peers: &OrderedSet<C>,
     role: Role,
@@ -89,7 +89,7 @@ pub fn leave_walked<C: PublicKey, V: Counted>(
 
 // Counts one set less if the key is one of the peers from a position on, and returns whether its
 // value stays. The position moves past the key.
-fn stays<C: PublicKey, V: Counted>(
+fn stays<C: PublicKey, V: Membership>(
     peers: &OrderedSet<C>,
     at: &mut usize,
     role: Role,

@@ -1,6 +1,7 @@
 use Rattle.std.proofs.Common.{◌≡◌, List, [], Option, refl, sym, ap, subst, ◌∙◌, rules}
 use Rattle.std.specs.List.Sorted.{IsStrictlySortedBy}
 use Rattle.std.specs.declared.cmp.Ordering.{Ordering}
+use Rattle.p2p_discovery.proofs.Sorting.{none_sorted}
 use Rattle.p2p_tracker.specs.declared.directory.Metadata.{Metadata}
 use Rattle.p2p_tracker.specs.Seen.{DirectoryView}
 use Rattle.p2p_directory.specs.declared.node.setup.Setup.{Setup}
@@ -12,10 +13,6 @@ use Rattle.p2p_directory.specs.Private.Slots.{held_in, contents, AreSlots}
 use Rattle.p2p_directory.proofs.Nodes.Standing.{of_server}
 use Rattle.p2p_directory.proofs.Reservations.Served.{are_held, stands_at_start}
 use Rattle.p2p_directory.proofs.node.Node.new.Goals as goal
-
-none_sorted : {C : Type 0} (cmp : C → C → Ordering) → IsStrictlySortedBy cmp []
-unfolding IsStrictlySortedBy
-none_sorted cmp = tt
 
 -- no slots are in order
 no_slots : {C S : Type 0} (cmp : C → C → Ordering) → AreSlots {C = C} {S = S} cmp []

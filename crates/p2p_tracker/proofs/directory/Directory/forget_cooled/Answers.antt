@@ -2,7 +2,7 @@ use Rattle.std.proofs.Common.{◌≡◌, Bool, not, ◌∙◌, ap, refl}
 use Rattle.std.specs.Duration.{as_nanos}
 use Rattle.std.specs.Int.NonZero.{non_zero_usize_get}
 use Rattle.p2p_tracker.specs.declared.record.Status.{Status}
-use Rattle.p2p_tracker.specs.History.{is_inert, is_reserved}
+use Rattle.p2p_tracker.specs.Status.{is_inert, is_reserved}
 use Rattle.p2p_tracker.specs.Directory.{has_status}
 use Rattle.p2p_tracker.specs.Seen.{DirectoryView, record_at, record_of}
 use Rattle.p2p_tracker.specs.Cooldowns.{cooldown_in}

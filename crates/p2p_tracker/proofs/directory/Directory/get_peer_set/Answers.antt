@@ -1,6 +1,6 @@
-use Rattle.std.proofs.Common.{◌≡◌, true, Result, Ok, Err, Option, Some, sym, subst, ◌∙◌, ap}
-use Rattle.std.specs.Result.{OnErr}
+use Rattle.std.proofs.Common.{◌≡◌, true, Option, Some, sym, subst, ◌∙◌, ap}
 use Rattle.std.specs.Option.{option_map, IsSomeAnd}
+use Rattle.p2p_discovery.proofs.Results.{OnErr-from}
 use Rattle.p2p_tracker.specs.Calls.{SetAt}
 use Rattle.p2p_tracker.specs.PeerSets.{has_peers}
 use Rattle.p2p_tracker.specs.Seen.{peers_of}
@@ -8,13 +8,9 @@ use Rattle.p2p_tracker.specs.Private.Window.{plain_set}
 use Rattle.p2p_tracker.proofs.SetsAndRecords.Windows.{set_with_plain}
 use Rattle.p2p_tracker.proofs.directory.Directory.get_peer_set.Goals as goal
 
-on_err : {A E P : Type 0} (r : Result A E) → P → OnErr r P
-on_err (Ok x) h = tt
-on_err (Err e) h = h
-
 pub returns-in_err-peers_in-in-Some-clause-err : goal.returns-in_err-peers_in-in-Some-clause-err
 returns-in_err-peers_in-in-Some-clause-err g c = rw (← c.self.view_is)
-    (on_err c.from_residual.result
+    (OnErr-from c.from_residual.result
     (subst (λ (o : Option (SetAt g.row.C.Denot)). IsSomeAnd o (λ set. has_peers set ≡ true))
     (ap (option_map plain_set) c.in-Some.ensures ∙ sym (set_with_plain c.self.inside.sets c.args.index))
     c.in_err-peers_in-in-Some.ensures.err))

@@ -1,20 +1,16 @@
-use Rattle.std.proofs.Common.{Result, Ok, Err, Some, None, sym, ◌∙◌, ap}
-use Rattle.std.specs.Result.{OnErr}
+use Rattle.std.proofs.Common.{Some, None, sym, ◌∙◌, ap}
 use Rattle.std.specs.List.{last_or}
 use Rattle.std.specs.Option.{option_map}
+use Rattle.p2p_discovery.proofs.Results.{OnErr-from}
 use Rattle.p2p_tracker.specs.Seen.{DirectoryView}
 use Rattle.p2p_tracker.specs.Private.Window.{plain_set, plain_sets}
 use Rattle.p2p_tracker.proofs.SetsAndRecords.Windows.{last_plain}
 use Rattle.p2p_tracker.proofs.SetsAndRecords.Retained.{named_in_last}
 use Rattle.p2p_tracker.proofs.directory.Directory.latest_update.Goals as goal
 
-on_err : {A E P : Type 0} (r : Result A E) → P → OnErr r P
-on_err (Ok x) h = tt
-on_err (Err e) h = h
-
 pub returns-in_err-peers_in-in-Some-clause-err : goal.returns-in_err-peers_in-in-Some-clause-err
 returns-in_err-peers_in-in-Some-clause-err g c = rw (← c.self.view_is)
-    (on_err c.from_residual.result
+    (OnErr-from c.from_residual.result
     (named_in_last g.met.C.Ord.total (plain_sets c.self.inside.sets) (plain_set c.in-Some.set.now)
     (last_plain c.self.inside.sets ∙ sym (ap (option_map plain_set) c.in-Some.ensures))
     c.in_err-peers_in-in-Some.ensures.err))

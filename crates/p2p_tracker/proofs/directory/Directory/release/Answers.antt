@@ -1,6 +1,6 @@
 use Rattle.std.proofs.Common.{◌≡◌, map, not, ◌∙◌, ap, sym, subst}
 use Rattle.std.specs.Int.NonZero.{non_zero_usize_get}
-use Rattle.p2p_tracker.specs.History.{is_inert, is_reserved}
+use Rattle.p2p_tracker.specs.Status.{is_inert, is_reserved}
 use Rattle.p2p_tracker.specs.Directory.{kept_after_release}
 use Rattle.p2p_tracker.specs.Seen.{config_view, record_at, key_of}
 use Rattle.p2p_tracker.specs.Private.Window.{with_bit_of}

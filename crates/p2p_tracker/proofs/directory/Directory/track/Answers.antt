@@ -1,12 +1,13 @@
-use Rattle.std.proofs.Common.{◌≡◌, Bool, refl, ◌++◌, ◌∷◌, [], ◌&&◌, not, false, Result, Ok, Err, sym, ◌∙◌, ap, subst, arith}
+use Rattle.std.proofs.Common.{◌≡◌, Bool, refl, ◌++◌, ◌∷◌, [], ◌&&◌, not, false, sym, ◌∙◌, ap, subst, arith}
 use Rattle.std.specs.Option.{option_map_or}
-use Rattle.std.specs.Result.{OnErr}
 use Rattle.std.specs.Int.NonZero.{non_zero_usize_get}
 use Rattle.std.proofs.lemmas.List.{map-append}
+use Rattle.p2p_discovery.proofs.Results.{OnErr-from}
 use Rattle.p2p_tracker.specs.declared.record.Status.{Status}
 use Rattle.p2p_tracker.specs.declared.record.Status.TheVariants.{Inert}
 use Rattle.p2p_tracker.specs.PeerSets.{set_of}
-use Rattle.p2p_tracker.specs.History.{last_of, is_inert, is_reserved}
+use Rattle.p2p_tracker.specs.Lists.{last_of}
+use Rattle.p2p_tracker.specs.Status.{is_inert, is_reserved}
 use Rattle.p2p_tracker.specs.Record.{is_eligible}
 use Rattle.p2p_tracker.specs.Directory.{record_with_sets, is_connectable, has_status, is_known}
 use Rattle.p2p_tracker.specs.Seen.{DirectoryView, config_view, record_at, record_of}
@@ -49,13 +50,9 @@ invariant_of-self g c =
     subst (λ rs. IsWhole cmp max limit c.self.inside.own c.add.new.sets (record_at cmp rs) cooldowns) (sym (same g c))
     (subst (λ sets. IsWhole cmp max limit c.self.inside.own sets (record_at cmp c.self.inside.records) cooldowns) (sym c.in_err-add.ensures.sets) c.self.invariant)
 
-on_err : {A E P : Type 0} (r : Result A E) → P → OnErr r P
-on_err (Ok x) h = tt
-on_err (Err e) h = h
-
 pub returns-in_err-add-clause-err : goal.returns-in_err-add-clause-err
 returns-in_err-add-clause-err g c =
-    on_err c.from_residual-in_err-add.result
+    OnErr-from c.from_residual-in_err-add.result
     ((λ i. record {
       config = config_view c.self.inside.config;
       sets = plain_sets (c.in_err-add.ensures.sets i);

@@ -1,7 +1,7 @@
 use Rattle.std.proofs.Common.{◌≡◌, Bool, Option, not, true, Some, None, refl}
 use Rattle.std.specs.Option.{option_map}
 use Rattle.std.specs.Int.NonZero.{non_zero_usize_get}
-use Rattle.p2p_tracker.specs.History.{is_inert, is_reserved}
+use Rattle.p2p_tracker.specs.Status.{is_inert, is_reserved}
 use Rattle.p2p_tracker.specs.Seen.{RecordView}
 use Rattle.p2p_tracker.specs.Directory.{is_busy, connected_record}
 use Rattle.p2p_tracker.specs.Seen.{config_view, record_at}

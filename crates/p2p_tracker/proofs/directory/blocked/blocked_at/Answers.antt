@@ -1,5 +1,4 @@
-use Rattle.std.proofs.Common.{◌∙◌, filter, subst, sym, ap, Result, Ok, Err}
-use Rattle.std.specs.Result.{OnErr}
+use Rattle.std.proofs.Common.{◌∙◌, filter, subst, sym, ap}
 use Rattle.std.specs.List.{list_any}
 use Rattle.std.specs.Duration.{as_nanos}
 use Rattle.std.specs.List.Sorted.{IsStrictlySortedBy}
@@ -7,17 +6,14 @@ use Rattle.std.specs.Map.{keys_of}
 use Rattle.std.proofs.lemmas.Map.Keys.{IsDistinct-from_sorted}
 use Rattle.p2p_tracker.specs.Blocks.{is_later}
 use Rattle.p2p_discovery.specs.Ordered.{has_key}
+use Rattle.p2p_discovery.proofs.Results.{OnErr-from}
 use Rattle.p2p_tracker.proofs.SetsAndRecords.Blocks.{blocked_listed, somebody_blocked}
 use Rattle.p2p_tracker.proofs.directory.blocked.blocked_at.Goals as goal
-
-on_err : {A E P : Type 0} (r : Result A E) → P → OnErr r P
-on_err (Ok x) h = tt
-on_err (Err e) h = h
 
 pub returns-in_err-peers-clause-err : goal.returns-in_err-peers-clause-err
 returns-in_err-peers-clause-err g c =
     let now = as_nanos c.args.now in
-    on_err c.from_residual.result
+    OnErr-from c.from_residual.result
     (somebody_blocked g.met.C.Ord.total g.met.C.PublicKey.exact c.args.blocks.now now c.iter.ensures.sorted
     (sym (ap (list_any (is_later now)) c.iter.ensures.all) ∙ c.in_err-peers.ensures.err))
 

@@ -2,18 +2,15 @@ use Rattle.std.proofs.Common.{◌≡◌, ◌<◌, ◌≤◌, ◌++◌, List, [],
 use Rattle.std.proofs.Common.{refl, ap, sym, ◌∙◌, arith, append_assoc}
 use Rattle.std.specs.List.{cons_option}
 use Rattle.std.specs.Map.{keys_of}
-use Rattle.std.specs.Prelude.{option_to_list, Result, Ok, Err, OnErr}
+use Rattle.std.specs.Prelude.{option_to_list}
 use Rattle.std.proofs.lemmas.List.{length-append}
+use Rattle.p2p_discovery.proofs.Results.{OnErr-from}
 use Rattle.p2p_tracker.specs.Private.Among.{left_keys, shared_with}
 use Rattle.p2p_tracker.proofs.directory.infos.copy_among.Goals as goal
 
 joined : {X : Type 0} (o : Option X) (xs : List X) → cons_option o xs ≡ option_to_list o ++ xs
 joined None xs = refl
 joined (Some x) xs = refl
-
-on_err : {T E : Type 0} {P : Type 0} (r : Result T E) → P → OnErr r P
-on_err (Ok x) p = tt
-on_err (Err e) p = p
 
 -- what is left has as many as all, where no fewer were listed
 some_of_all : {X : Type 0} (listed left first all : List X) → listed ++ left ≡ first ++ all →
@@ -54,7 +51,7 @@ loop-key-preserved g c =
 pub returns-in_err-own_left-clause-err : goal.returns-in_err-own_left-clause-err
 returns-in_err-own_left-clause-err g c =
     let asked = shared_with g.C.Ord.cmp c.args.records.now c.args.millis c.args.peers.now c.args.bits.now in
-    on_err c.from_residual.result
+    OnErr-from c.from_residual.result
     (some_of_all c.loop-key.infos.items
     (filter_map asked (left_keys g.C.Ord.cmp c.loop-key.own_left c.args.own.now (c.in-Some.key.now ∷ keys_of c.next.new.self)))
     c.args.infos.now.items (filter_map asked (left_keys g.C.Ord.cmp true c.args.own.now (keys_of c.args.busy)))
@@ -68,7 +65,7 @@ pub returns-in_err-copy_asked-clause-err : goal.returns-in_err-copy_asked-clause
 returns-in_err-copy_asked-clause-err g c =
     let asked = shared_with g.C.Ord.cmp c.args.records.now c.args.millis c.args.peers.now c.args.bits.now in
     let left = left_keys g.C.Ord.cmp c.in_ok-own_left.own_left c.args.own.now (keys_of c.next.new.self) in
-    on_err c.from_residual-in_err-copy_asked.result
+    OnErr-from c.from_residual-in_err-copy_asked.result
     (some_of_all c.copy_own_before.new.infos.items (filter_map asked (c.in-Some.key.now ∷ left))
     c.args.infos.now.items (filter_map asked (left_keys g.C.Ord.cmp true c.args.own.now (keys_of c.args.busy)))
     (c.in_ok-own_left.ensures.infos (keys_of c.next.new.self)
@@ -82,7 +79,7 @@ returns-in_err-copy_asked-clause-err g c =
 pub returns-in_err-copy_asked-2-clause-err : goal.returns-in_err-copy_asked-2-clause-err
 returns-in_err-copy_asked-2-clause-err g c =
     let asked = shared_with g.C.Ord.cmp c.args.records.now c.args.millis c.args.peers.now c.args.bits.now in
-    on_err c.from_residual-in_err-copy_asked-2.result
+    OnErr-from c.from_residual-in_err-copy_asked-2.result
     (some_of_all c.loop-key.infos.items (filter_map asked (c.args.own.now ∷ []))
     c.args.infos.now.items (filter_map asked (left_keys g.C.Ord.cmp true c.args.own.now (keys_of c.args.busy)))
     ((λ i. c.loop-key.infos.items

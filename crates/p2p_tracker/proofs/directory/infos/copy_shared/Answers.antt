@@ -1,14 +1,11 @@
 use Rattle.std.proofs.Common.{◌+◌, ◌++◌, length, ap, sym, ◌∙◌, arith, append_assoc}
-use Rattle.std.specs.Prelude.{option_to_list, Result, Ok, Err, OnErr}
+use Rattle.std.specs.Prelude.{option_to_list}
 use Rattle.std.proofs.lemmas.List.{length-append, append-nil}
+use Rattle.p2p_discovery.proofs.Results.{OnErr-from}
 use Rattle.p2p_tracker.specs.Directory.{shared_at}
 use Rattle.p2p_tracker.proofs.SetsAndRecords.Shared.{chosen_from, chosen_at, chosen_behind}
 use Rattle.p2p_tracker.proofs.SetsAndRecords.Shared.{chosen_within}
 use Rattle.p2p_tracker.proofs.directory.infos.copy_shared.Goals as goal
-
-on_err : {T E : Type 0} {P : Type 0} (r : Result T E) → P → OnErr r P
-on_err (Ok x) p = tt
-on_err (Err e) p = p
 
 pub returns-in_err-copy_info-clause-err : goal.returns-in_err-copy_info-clause-err
 returns-in_err-copy_info-clause-err g c =
@@ -19,7 +16,7 @@ returns-in_err-copy_info-clause-err g c =
     let here = chosen_at f c.args.peers.now c.args.bits.now place c.index.result.now
     c.get-known.result c.index.ensures c.get-known.ensures in
     let some = c.in_err-copy_info.ensures.err in
-    on_err c.from_residual.result
+    OnErr-from c.from_residual.result
     (omega (
       arith,
       some,

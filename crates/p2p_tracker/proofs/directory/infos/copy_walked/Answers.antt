@@ -2,8 +2,9 @@ use Rattle.std.proofs.Common.{◌≡◌, ◌+◌, ◌++◌, length, ap, sym, sub
 use Rattle.std.specs.List.Sorted.{IsStrictlySortedBy}
 use Rattle.std.specs.Map.{keys_of}
 use Rattle.std.specs.Ordering.{is_eq}
-use Rattle.std.specs.Prelude.{option_to_list, Result, Ok, Err, OnErr}
+use Rattle.std.specs.Prelude.{option_to_list}
 use Rattle.std.proofs.lemmas.List.{length-append, append-nil}
+use Rattle.p2p_discovery.proofs.Results.{OnErr-from}
 use Rattle.p2p_tracker.specs.Directory.{shared_at, shared_of}
 use Rattle.p2p_tracker.specs.Private.Asked.{shared_of_record}
 use Rattle.p2p_tracker.proofs.SetsAndRecords.Shared.{chosen_from}
@@ -31,10 +32,6 @@ returns-then-place-keys-clause-infos g c =
     (omega (arith, c.if-place-keys.true))))
     ∙ c.loop-key.invariant.listed
 
-on_err : {T E : Type 0} {P : Type 0} (r : Result T E) → P → OnErr r P
-on_err (Ok x) p = tt
-on_err (Err e) p = p
-
 pub returns-in_err-copy_info-clause-err : goal.returns-in_err-copy_info-clause-err
 returns-in_err-copy_info-clause-err g c =
     let infos = c.loop-key.infos.items in
@@ -53,7 +50,7 @@ returns-in_err-copy_info-clause-err g c =
     (omega (arith, c.first_from-place.ensures.within, c.if-place-keys.false)) c.index-keys-place.is
     (sym (c.is_eq.ensures ∙ ap is_eq c.cmp.ensures) ∙ c.if-is_eq.true) in
     let some = c.in_err-copy_info.ensures.err in
-    on_err c.from_residual.result
+    OnErr-from c.from_residual.result
     (omega (
       arith,
       some,

@@ -1,14 +1,10 @@
 use Rattle.std.proofs.Common.{◌<◌, ◌++◌, ◌∙◌, Some, filter_map, length, ap, sym, subst}
 use Rattle.std.specs.Map.{keys_of}
 use Rattle.std.specs.Option.{IsSomeAnd}
-use Rattle.std.specs.Prelude.{Result, Ok, Err, OnErr}
+use Rattle.p2p_discovery.proofs.Results.{OnErr-from}
 use Rattle.p2p_tracker.specs.Private.Among.{shared_with, with_key}
 use Rattle.p2p_tracker.proofs.SetsAndRecords.Among.{shared_among, shared_for_same}
 use Rattle.p2p_tracker.proofs.directory.infos.shared_among.Goals as goal
-
-on_err : {T E : Type 0} {P : Type 0} (r : Result T E) → P → OnErr r P
-on_err (Ok x) p = tt
-on_err (Err e) p = p
 
 pub returns-clause-infos : goal.returns-clause-infos
 returns-clause-infos g c =
@@ -34,7 +30,7 @@ returns-in_err-copy_among-clause-err g c =
     ∙ shared_among g.met.C.Ord.total g.met.C.PublicKey.exact c.args.records.now c.args.millis c.args.peers.now
     c.args.bits.now c.args.own.now (keys_of c.args.busy.now.entries) c.as_slice-keys.ensures.sorted c.iter.ensures.ordered
     c.requires in
-    on_err c.from_residual.result
+    OnErr-from c.from_residual.result
     (subst (λ o. IsSomeAnd o (λ infos. 0 < length infos))
     (sym (shared_for_same g.met.C.Ord.total g.met.C.PublicKey.exact c.args.records.now c.args.millis c.args.peers.now c.args.bits.now
     (sym c.len.ensures ∙ c.if-len.false ∙ c.len-2.ensures)))

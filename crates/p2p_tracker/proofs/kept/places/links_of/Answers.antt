@@ -6,11 +6,12 @@ use Rattle.std.specs.Ordering.{is_eq}
 use Rattle.std.proofs.lemmas.Cmp.{tied_itself}
 use Rattle.std.proofs.lemmas.List.{length-map, length-take, map_more, map-append}
 use Rattle.std.proofs.lemmas.Map.Keys.{sorted_head}
+use Rattle.std.proofs.lemmas.Bool.{or_right}
 use Rattle.p2p_discovery.specs.Ordered.{has_key}
 use Rattle.p2p_tracker.specs.declared.kept.places.Place.{Place}
 use Rattle.p2p_tracker.specs.Private.Places.{place_of, link_of}
 use Rattle.p2p_tracker.proofs.SetsAndRecords.Merged.{linked, place_behind, above_all}
-use Rattle.p2p_tracker.proofs.SetsAndRecords.Naming.{first_left, sorted_drop, or_true_right}
+use Rattle.p2p_tracker.proofs.SetsAndRecords.Naming.{first_left, sorted_drop}
 use Rattle.p2p_tracker.proofs.kept.places.links_of.Goals as goal
 
 pub push_reserved-requires : goal.push_reserved-requires
@@ -58,6 +59,6 @@ loop-at-preserved g c =
       left = λ q among.
           ap (λ l. place_of cmp l q) c.place_from-behind.ensures.rest
           ∙ place_behind total exact key q es (above_all exact key rest q later among)
-          ∙ c.loop-at.invariant.left q (ap (λ ks. has_key cmp ks q) here ∙ or_true_right (is_at (cmp key) q) _ among);
+          ∙ c.loop-at.invariant.left q (ap (λ ks. has_key cmp ks q) here ∙ or_right (is_at (cmp key) q) _ among);
       room = omega (arith, c.push_reserved.ensures.capacity, c.loop-at.invariant.room);
     }

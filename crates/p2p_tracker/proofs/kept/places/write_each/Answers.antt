@@ -9,11 +9,12 @@ use Rattle.std.proofs.lemmas.List.{take_all}
 use Rattle.std.proofs.lemmas.Map.{lookup-set_value, keys-set_value}
 use Rattle.std.proofs.lemmas.Map.Keys.{sorted_head}
 use Rattle.std.proofs.lemmas.Map.Views.{tells_apart}
+use Rattle.std.proofs.lemmas.Bool.{or_right}
 use Rattle.p2p_discovery.specs.Ordered.{has_key}
 use Rattle.p2p_tracker.specs.declared.kept.places.Place.{Place}
 use Rattle.p2p_tracker.specs.Private.Places.{place_of, places_from, first_or}
 use Rattle.p2p_tracker.proofs.SetsAndRecords.Merged.{above_all}
-use Rattle.p2p_tracker.proofs.SetsAndRecords.Naming.{first_left, one_changed, sorted_drop, or_true_right, names-filter}
+use Rattle.p2p_tracker.proofs.SetsAndRecords.Naming.{first_left, one_changed, sorted_drop, names-filter}
 use Rattle.p2p_tracker.proofs.SetsAndRecords.Places.{one_added, all_added}
 use Rattle.p2p_tracker.proofs.SetsAndRecords.Searches.{found_at, written_at}
 use Rattle.p2p_tracker.proofs.kept.places.write_each.Goals as goal
@@ -55,7 +56,7 @@ loop-at-preserved g c =
           ∙ ap (λ ks. has_key cmp ks q) c.find_from-found.ensures.rest
           ∙ names-filter exact (λ k. is_lt (cmp key k)) (drop c.loop-at.from (keys_of es)) q
           ∙ ap (λ o. is_lt o && has_key cmp (drop c.loop-at.from (keys_of es)) q) less
-          ∙ c.loop-at.invariant.left q (ap (λ ks. has_key cmp ks q) here ∙ or_true_right (is_at (cmp key) q) _ among);
+          ∙ c.loop-at.invariant.left q (ap (λ ks. has_key cmp ks q) here ∙ or_right (is_at (cmp key) q) _ among);
     }
 
 pub returns-clause-places : goal.returns-clause-places

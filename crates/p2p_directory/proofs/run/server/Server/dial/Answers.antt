@@ -9,23 +9,19 @@ use Rattle.p2p_tracker.specs.Record.{reserved_record}
 use Rattle.p2p_tracker.specs.Directory.{ingress_in, IsBusy}
 use Rattle.p2p_tracker.specs.Seen.{key_of}
 use Rattle.p2p_directory.specs.Private.Slots.{held_in}
-use Rattle.p2p_directory.proofs.Reservations.Holding.{held_by_grant}
+use Rattle.p2p_directory.proofs.Reservations.Holding.{held_by_grant, dialled_key}
 use Rattle.std.specs.Duration.{as_nanos}
+use Rattle.std.proofs.lemmas.Bool.{true_from_ne_false}
 use Rattle.p2p_directory.specs.Run.{settings}
 use Rattle.p2p_tracker.proofs.SetsAndRecords.Searches.{itself}
 use Rattle.p2p_directory.proofs.Reservations.Rooms.{full_at}
 use Rattle.p2p_directory.proofs.Reservations.Served
 use Rattle.p2p_directory.proofs.run.server.Server.dial.Goals as goal
 
--- whom a reservation for a dial is for
-key : {C S : Type 0} (p : C) (o : Option Ingress) (m : Metadata C S) → option_map (metadata.Dialer p) o ≡ Some m → key_of m ≡ p
-key p None m e = absurd cc
-key p (Some a) m e = let f : m ≡ metadata.Dialer p a = cc in ap key_of f
-
 of_peer : (g : _) (c : goal.After-put g) → key_of c.in-Ok-Some.reservation ≡ c.args.peer.now
 of_peer g c =
     let facts = rw c.in-Ok-Some.field-0-is at c.in-Ok-Some.ensures in
-    key c.args.peer.now (ingress_in g.C.Ord.cmp c.self.inside.directory c.args.peer.now) c.in-Ok-Some.reservation facts.reservation
+    dialled_key c.args.peer.now (ingress_in g.C.Ord.cmp c.self.inside.directory c.args.peer.now) c.in-Ok-Some.reservation facts.reservation
 
 held : (g : _) (c : goal.After-put g) (q : g.row.C.Denot) →
     held_in g.C.Ord.cmp c.put.new.self q
@@ -61,15 +57,11 @@ returns-in-Ok-None-clause-served g c = rw (← c.self.view_is) (λ bootstrappers
     g.met.C.PublicKey.exact calls _ _ at c.args.peer.now (as_nanos c.args.now) (as_nanos c.args.draw)
     (sym facts.answer) facts.refused (λ q. refl))
 
-true_unless : (b : Bool) → (b ≡ false → ⊥) → b ≡ true
-true_unless true h = refl
-true_unless false h = absurd (h refl)
-
 pub returns-in-Err-clause-served : goal.returns-in-Err-clause-served
 returns-in-Err-clause-served g c = rw (← c.self.view_is) (λ bootstrappers myself cfg calls at.
     Served.served_no_dial (settings g.C.Ord.cmp bootstrappers myself cfg) cfg.max_sets.ok g.met.C.PublicKey.exact
     calls _ _ at c.args.peer.now (as_nanos c.args.now) (as_nanos c.args.draw)
-    (true_unless _ (λ no. let f = sym c.in-Err.is ∙ c.dial.ensures.none no in cc)) c.in-Err.ensures.err (λ q. refl))
+    (true_from_ne_false _ (λ no. let f = sym c.in-Err.is ∙ c.dial.ensures.none no in cc)) c.in-Err.ensures.err (λ q. refl))
 
 pub returns-in-Ok-Some-clause-granted : goal.returns-in-Ok-Some-clause-granted
 returns-in-Ok-Some-clause-granted g c = λ is.

@@ -3,12 +3,13 @@ use Rattle.std.specs.Prelude.{if◌then◌else◌}
 use Rattle.std.specs.Option.{option_map}
 use Rattle.std.specs.BTreeMap.{is_at}
 use Rattle.std.specs.Duration.{as_nanos}
+use Rattle.std.proofs.lemmas.Bool.{true_from_ne_false}
 use Rattle.p2p_tracker.specs.Record.{reserved_record}
 use Rattle.p2p_tracker.specs.Directory.{ingress_in, IsBusy}
 use Rattle.p2p_tracker.specs.Seen.{key_of}
 use Rattle.p2p_directory.specs.Run.{settings}
 use Rattle.p2p_directory.specs.Private.Slots.{held_in}
-use Rattle.p2p_directory.proofs.Reservations.Holding.{held_by_grant, dialled_key, true_unless}
+use Rattle.p2p_directory.proofs.Reservations.Holding.{held_by_grant, dialled_key}
 use Rattle.p2p_directory.proofs.Reservations.Served
 use Rattle.p2p_directory.proofs.run.server.Server.dial_slot.Goals as goal
 use Rattle.p2p_directory.proofs.run.server.Server.dial_slot.Goals.{in-Ok-None, in-Err-dial}
@@ -63,5 +64,5 @@ returns-clause-stepped g c = rw (← c.self.view_is) (λ bootstrappers myself cf
           rw w.refusal-is
           (Served.alone s calls _ _ _ (Served.served_no_dial s cfg.max_sets.ok g.met.C.PublicKey.exact
           calls _ _ at c.args.peer.now (as_nanos c.args.now) (as_nanos c.args.draw)
-          (true_unless _ (λ no. let f = sym w.in-Err-dial.is ∙ c.dial.ensures.none no in cc)) w.in-Err-dial.ensures.err held))
+          (true_from_ne_false _ (λ no. let f = sym w.in-Err-dial.is ∙ c.dial.ensures.none no in cc)) w.in-Err-dial.ensures.err held))
     ])

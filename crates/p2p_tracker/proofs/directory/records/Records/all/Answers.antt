@@ -1,9 +1,9 @@
-use Rattle.std.proofs.Common.{◌≡◌, Bool, List, Result, Ok, Err, sym, subst, ◌∙◌, ap}
-use Rattle.std.specs.Result.{OnErr}
+use Rattle.std.proofs.Common.{◌≡◌, Bool, List, sym, subst, ◌∙◌, ap}
 use Rattle.std.specs.List.Sorted.{IsStrictlySortedBy}
 use Rattle.std.specs.declared.cmp.Ordering.{Ordering}
 use Rattle.std.proofs.lemmas.Map.Keys.{IsDistinct-from_sorted}
 use Rattle.p2p_discovery.specs.Ordered.{has_key}
+use Rattle.p2p_discovery.proofs.Results.{OnErr-from}
 use Rattle.p2p_tracker.specs.Lists.{Lists}
 use Rattle.p2p_tracker.specs.Private.Dialling.{is_primary_record, is_secondary_record, is_record_in_set}
 use Rattle.p2p_tracker.proofs.SetsAndRecords.Listing.{listed_by_value, somebody_passes}
@@ -15,10 +15,6 @@ ordered_lists : {C : Type 0} (cmp : C → C → Ordering) (test : C → Bool) (l
     ((q : C) → has_key cmp result q ≡ has_key cmp peers q) → Lists cmp test listed → Lists cmp test result
 ordered_lists cmp test listed peers is result sorted members lists =
     record { sorted = sorted; members = λ q. members q ∙ ap (λ ps. has_key cmp ps q) is ∙ lists.members q }
-
-on_err : {A E P : Type 0} (r : Result A E) → P → OnErr r P
-on_err (Ok x) h = tt
-on_err (Err e) h = h
 
 pub ordered-requires : goal.ordered-requires
 ordered-requires g c =
@@ -48,6 +44,6 @@ returns-clause-secondary g c = rw (← c.self.view_is)
 
 pub returns-in_err-primary-clause-err : goal.returns-in_err-primary-clause-err
 returns-in_err-primary-clause-err g c = rw (← c.self.view_is)
-    (on_err c.from_residual.result
+    (OnErr-from c.from_residual.result
     (somebody_passes g.met.C.Ord.total g.met.C.PublicKey.exact (λ e. is_record_in_set e.1)
     c.self.inside.map.entries c.len-count.ensures.ordered c.in_err-primary.ensures.err))

@@ -5,7 +5,7 @@ use Rattle.std.specs.Ordering.{is_eq}
 use Rattle.p2p_discovery.specs.declared.types.ingress.Ingress.{Ingress}
 use Rattle.p2p_tracker.specs.Record.{new_record}
 use Rattle.p2p_tracker.specs.Seen.{RecordView}
-use Rattle.p2p_tracker.specs.World.{last_ingress_by}
+use Rattle.p2p_tracker.specs.Lists.{last_ingress_by}
 use Rattle.p2p_tracker.specs.declared.record.Address.TheVariants.{Bootstrapper}
 use Rattle.p2p_tracker.proofs.SetsAndRecords.Bootstrapped.{last_ingress-push, mapped}
 use Rattle.p2p_tracker.proofs.directory.records.Records.first.Goals as goal

@@ -3,7 +3,7 @@ use Rattle.std.specs.BTreeMap.{get}
 use Rattle.std.specs.Option.{option_map}
 use Rattle.p2p_tracker.specs.declared.record.Address.TheVariants.{Bootstrapper}
 use Rattle.p2p_tracker.specs.Record.{new_record}
-use Rattle.p2p_tracker.specs.World.{last_ingress_by}
+use Rattle.p2p_tracker.specs.Lists.{last_ingress_by}
 use Rattle.p2p_tracker.proofs.directory.records.Records.first.Given as goal
 
 -- the records are those of the bootstrappers so far

@@ -8,20 +8,14 @@ use Rattle.std.specs.BTreeMap.{is_at}
 use Rattle.std.proofs.lemmas.List.Folds.{list_any-append}
 use Rattle.std.proofs.lemmas.List.Kept.{IsStrictlySortedBy-filter}
 use Rattle.std.proofs.lemmas.Map.Keys.{IsDistinct-from_sorted}
+use Rattle.std.proofs.lemmas.Bool.{and_right, and_parts}
+use Rattle.std.proofs.Math.Bool.{and-true, and-false}
 use Rattle.p2p_tracker.specs.declared.record.Role.TheVariants.{Primary, Secondary}
 use Rattle.p2p_tracker.specs.Private.Counts.{one_set_less, is_torn_down_without}
 use Rattle.p2p_discovery.specs.Ordered.{has_key}
 use Rattle.p2p_tracker.specs.Seen.{record_at}
 use Rattle.p2p_tracker.proofs.SetsAndRecords.Naming.{names-filter, distinct_both, excludes}
 use Rattle.p2p_tracker.proofs.directory.records.Records.leave.Goals as goal
-
-passes : (t a : Bool) → (t && a) ≡ true → a ≡ true
-passes true a e = e
-passes false a e = absurd (let f = e in cc)
-
-fails : (t b : Bool) → b ≡ false → (t && b) ≡ false
-fails true b e = e
-fails false b e = refl
 
 -- the list is made of those of both roles
 both : {A : Type 0} (test later : A → Bool) (ps ss ps2 ss2 before mid new : List A) → before ≡ [] → ps2 ≡ ps →
@@ -51,25 +45,17 @@ ordered-requires-2 g c =
     (IsDistinct-from_sorted cmp _
     (IsStrictlySortedBy-filter cmp later ss
     (subst (IsStrictlySortedBy cmp) is_s c.leave_role-2.ensures.sorted)))
-    (λ q h. names-filter exact later ss q ∙ fails (later q) (has_key cmp ss q)
+    (λ q h. names-filter exact later ss q ∙ and_right (later q) (has_key cmp ss q)
     (c.primary.ensures.disjoint q
-    (passes (test q) (has_key cmp ps q) (sym (names-filter exact test ps q) ∙ h)))))
-
-and_true : (x : Bool) → (x && true) ≡ x
-and_true true = refl
-and_true false = refl
-
-and_false : (x : Bool) → (x && false) ≡ false
-and_false true = refl
-and_false false = refl
+    (and_parts (test q) (has_key cmp ps q) (sym (names-filter exact test ps q) ∙ h)).1)))
 
 -- a test of each role, where the later one is as before for who has that role
 by_role : (t later before a b : Bool) → (b ≡ true → later ≡ before) → ((t && a) || (later && b)) ≡ ((a && t) || (b && before))
 by_role true later before true b same = refl
-by_role false later before true true same = ap (λ x. x && true) (same refl) ∙ and_true before
-by_role false later before true false same = and_false later
-by_role t later before false true same = (λ i. and_false t i || and_true later i) ∙ same refl
-by_role t later before false false same = λ i. and_false t i || and_false later i
+by_role false later before true true same = ap (λ x. x && true) (same refl) ∙ and-true before
+by_role false later before true false same = and-false later
+by_role t later before false true same = (λ i. and-false t i || and-true later i) ∙ same refl
+by_role t later before false false same = λ i. and-false t i || and-false later i
 
 pub returns-clause-members : goal.returns-clause-members
 returns-clause-members g c = λ q.

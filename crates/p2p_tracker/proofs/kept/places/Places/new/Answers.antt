@@ -2,11 +2,8 @@ use Rattle.std.proofs.Common.{[], sym, subst}
 use Rattle.std.specs.List.Sorted.{IsStrictlySortedBy}
 use Rattle.std.specs.Map.{keys_of}
 use Rattle.std.specs.declared.cmp.Ordering.{Ordering}
+use Rattle.p2p_discovery.proofs.Sorting.{none_sorted}
 use Rattle.p2p_tracker.proofs.kept.places.Places.new.Goals as goal
-
-none_sorted : {C : Type 0} (cmp : C → C → Ordering) → IsStrictlySortedBy cmp []
-unfolding IsStrictlySortedBy
-none_sorted cmp = tt
 
 pub invariant_of-result : goal.invariant_of-result
 invariant_of-result g c =
