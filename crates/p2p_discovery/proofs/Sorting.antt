@@ -15,11 +15,7 @@ use Rattle.std.proofs.lemmas.List.Sorted.{searchable_from_sorted, all_adjacent_m
 use Rattle.p2p_discovery.specs.Ordered.{IsPlaceOf}
 use Rattle.p2p_discovery.proofs.Truth.{Less-not_equal, Greater-not_equal}
 
-pub none_sorted : {C : Type 0} (cmp : C → C → Ordering) → IsStrictlySortedBy cmp []
-unfolding IsStrictlySortedBy
-none_sorted cmp = tt
-
-sorted_nil : {P : Type 0} (R : P → P → Ordering) → IsStrictlySortedBy R []
+pub sorted_nil : {P : Type 0} (R : P → P → Ordering) → IsStrictlySortedBy R []
 unfolding IsStrictlySortedBy
 sorted_nil R = tt
 

@@ -1,7 +1,6 @@
 use Rattle.std.proofs.Common.{◌≡◌, List, [], Option, refl, sym, ap, subst, ◌∙◌, rules}
-use Rattle.std.specs.List.Sorted.{IsStrictlySortedBy}
 use Rattle.std.specs.declared.cmp.Ordering.{Ordering}
-use Rattle.p2p_discovery.proofs.Sorting.{none_sorted}
+use Rattle.p2p_discovery.proofs.Sorting.{sorted_nil}
 use Rattle.p2p_tracker.specs.declared.directory.Metadata.{Metadata}
 use Rattle.p2p_tracker.specs.Seen.{DirectoryView}
 use Rattle.p2p_directory.specs.declared.node.setup.Setup.{Setup}
@@ -16,7 +15,7 @@ use Rattle.p2p_directory.proofs.node.Node.new.Goals as goal
 
 -- no slots are in order
 no_slots : {C S : Type 0} (cmp : C → C → Ordering) → AreSlots {C = C} {S = S} cmp []
-no_slots cmp = record { ordered = none_sorted cmp; keyed = λ q. tt }
+no_slots cmp = record { ordered = sorted_nil cmp; keyed = λ q. tt }
 
 pub new-server-requires : goal.new-server-requires
 new-server-requires g c =
