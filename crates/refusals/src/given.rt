@@ -65,42 +65,14 @@ pub enum Given {
 impl Given {
     /// The command.
     pub fn command(self, alloc: Global) -> Result<Command<TestKey>, AllocError> {
-        match self {
-            Given::Track(index, primary, secondary) => track(alloc, index, primary, secondary),
-            Given::Update(told) => Ok(Command::UpdatePeers(infos(alloc, told)?)),
-            other => Ok(other.without_lists()),
-        }
-    }
-
-    // The command, which has no list.
-    fn without_lists(self) -> Command<TestKey> {
-        match self {
-            Given::Dial(peer, now, draw) => Command::Dial {
-                peer: TestKey(peer),
-                now: now.moment(),
-                draw: draw.moment(),
-            },
-            Given::Listen(peer, now) => Command::Listen {
-                peer: TestKey(peer),
-                now: now.moment(),
-                draw: Duration::ZERO,
-            },
-            Given::Connect(peer) => Command::Connect {
-                peer: TestKey(peer),
-                dialer: false,
-            },
+        Ok(match self {
+            Given::Track(index, primary, secondary) => track(alloc, index, primary, secondary)?,
+            Given::Dial(peer, now, draw) => dial(peer, now, draw),
+            Given::Listen(peer, now) => listen(peer, now),
+            Given::Connect(peer) => connect(peer),
             Given::Release(peer) => Command::Release(TestKey(peer)),
-            Given::Block(peer, now) => Command::Block {
-                peer: TestKey(peer),
-                now: now.moment(),
-            },
-            other => other.question(),
-        }
-    }
-
-    // The query.
-    fn question(self) -> Command<TestKey> {
-        match self {
+            Given::Update(told) => Command::UpdatePeers(infos(alloc, told)?),
+            Given::Block(peer, now) => block(peer, now),
             Given::BlockedPeers(now) => Command::BlockedPeers(now.moment()),
             Given::Status(peer) => Command::Status(TestKey(peer)),
             Given::PeerSet(index) => Command::GetPeerSet(index),
@@ -109,8 +81,38 @@ impl Given {
             Given::Info(peer) => Command::Info(TestKey(peer)),
             Given::Bits(place) => Command::GetRandomBitVec(place),
             Given::Dialable(now) => Command::Dialable(now.moment()),
-            _ => Command::Tracked,
-        }
+            Given::Tracked => Command::Tracked,
+        })
+    }
+}
+
+fn dial(peer: u64, now: At, draw: At) -> Command<TestKey> {
+    Command::Dial {
+        peer: TestKey(peer),
+        now: now.moment(),
+        draw: draw.moment(),
+    }
+}
+
+fn listen(peer: u64, now: At) -> Command<TestKey> {
+    Command::Listen {
+        peer: TestKey(peer),
+        now: now.moment(),
+        draw: Duration::ZERO,
+    }
+}
+
+fn connect(peer: u64) -> Command<TestKey> {
+    Command::Connect {
+        peer: TestKey(peer),
+        dialer: false,
+    }
+}
+
+fn block(peer: u64, now: At) -> Command<TestKey> {
+    Command::Block {
+        peer: TestKey(peer),
+        now: now.moment(),
     }
 }
 

@@ -156,48 +156,34 @@ pub enum Step {
 impl Step {
     /// The command of the step.
     pub fn command(self, alloc: Global) -> Result<Command<TestKey>, AllocError> {
-        match self {
-            Step::Track(index, primary) => track(alloc, index, primary, &[]),
-            Step::TrackRoles(index, primary, secondary) => track(alloc, index, primary, secondary),
-            Step::Update(told) => Ok(Command::UpdatePeers(signed_infos(alloc, told)?)),
-            Step::UpdateAt(told) => Ok(Command::UpdatePeers(signed_infos_at(alloc, told)?)),
-            Step::Infos(index, bits, at) => infos(alloc, index, bits, at),
-            other => Ok(other.of_one_peer()),
-        }
-    }
-
-    // The command, which names one peer and has no list.
-    fn of_one_peer(self) -> Command<TestKey> {
-        match self {
+        Ok(match self {
+            Step::Track(index, primary) => track(alloc, index, primary, &[])?,
+            Step::TrackRoles(index, primary, secondary) => track(alloc, index, primary, secondary)?,
             Step::Dial(peer, at) => dial(peer, at, NO_DRAW),
             Step::DialDrawn(peer, at, draw) => dial(peer, at, draw),
             Step::Listen(peer, at) => listen(peer, at, NO_DRAW),
             Step::ListenDrawn(peer, at, draw) => listen(peer, at, draw),
             Step::Connect(peer, dialer) => connect(peer, dialer),
             Step::Release(peer) => Command::Release(TestKey(peer)),
+            Step::Update(told) => Command::UpdatePeers(signed_infos(alloc, told)?),
+            Step::UpdateAt(told) => Command::UpdatePeers(signed_infos_at(alloc, told)?),
             Step::Block(peer, at) => block(peer, at),
-            Step::Status(peer) => Command::Status(TestKey(peer)),
-            Step::Info(peer) => Command::Info(TestKey(peer)),
-            Step::Eligible(peer, at) => eligible(peer, at),
-            other => other.of_nobody(),
-        }
-    }
-
-    // The command, which names no peer.
-    fn of_nobody(self) -> Command<TestKey> {
-        match self {
             Step::UnblockExpired(at) => Command::UnblockExpired(at.moment()),
             Step::ForgetCooled(at) => Command::ForgetCooled(at.moment()),
             Step::NextUnblock => Command::NextUnblock,
             Step::BlockedPeers(at) => Command::BlockedPeers(at.moment()),
+            Step::Status(peer) => Command::Status(TestKey(peer)),
             Step::PeerSet(index) => Command::GetPeerSet(index),
             Step::LatestSetIndex => Command::LatestSetIndex,
             Step::LatestUpdate => Command::LatestUpdate,
             Step::All => Command::All,
+            Step::Info(peer) => Command::Info(TestKey(peer)),
+            Step::Infos(index, bits, at) => infos(alloc, index, bits, at)?,
             Step::Bits(place) => Command::GetRandomBitVec(place),
+            Step::Eligible(peer, at) => eligible(peer, at),
             Step::Dialable(at) => Command::Dialable(at.moment()),
-            _ => Command::Tracked,
-        }
+            Step::Tracked => Command::Tracked,
+        })
     }
 }
 
