@@ -1,8 +1,9 @@
 -- A track may be held against the latest retained set alone.
-use Rattle.std.proofs.Common.{◌≡◌, ℕ, suc, ◌+◌, Bool, true, false, ◌&&◌, List, [], ◌∷◌, length, drop, Option, Some, None, refl, sym, ◌∙◌, ap, arith}
+use Rattle.std.proofs.Common.{◌≡◌, ℕ, suc, ◌+◌, Bool, true, List, [], ◌∷◌, length, drop, Option, Some, None, refl, sym, ◌∙◌, ap, arith}
 use Rattle.std.specs.Prelude.{nat_lt}
 use Rattle.std.specs.List.{list_all, last_or}
 use Rattle.std.proofs.lemmas.List.{drop-drop, length-drop}
+use Rattle.std.proofs.Math.Bool.{and-true}
 use Rattle.p2p_tracker.specs.Calls.{Settings, Call, SetAt}
 use Rattle.p2p_tracker.specs.History
 use Rattle.p2p_tracker.specs.World
@@ -13,13 +14,9 @@ abbrev pub is_above : {C : Type 0} → ℕ → Option (SetAt C) → Bool
 is_above index None = true
 is_above index (Some x) = nat_lt x.index index
 
-and_true : (b : Bool) → (b && true) ≡ b
-and_true true = refl
-and_true false = refl
-
 last_alone : {C : Type 0} (index : ℕ) (x : SetAt C) (xs : List (SetAt C)) →
     list_all (below index) (drop (length xs) (x ∷ xs)) ≡ is_above index (last_or (Some x) xs)
-last_alone index x [] = and_true (nat_lt x.index index)
+last_alone index x [] = and-true (nat_lt x.index index)
 last_alone index x (y ∷ ys) =
     let size : length (y ∷ ys) ≡ suc (length ys) = omega arith in
     ap (λ k. list_all (below index) (drop k (x ∷ y ∷ ys))) size ∙ last_alone index y ys

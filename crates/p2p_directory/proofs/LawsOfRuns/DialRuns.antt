@@ -1,6 +1,7 @@
 -- Dials by the replies to a run.
 use Rattle.std.proofs.Common.{◌≡◌, ℕ, ◌≤◌, Bool, true, false, cond, not, ◌||◌, List, [], ◌∷◌, Option, inl, inr, refl, sym, ◌∙◌, ap, subst}
 use Rattle.std.specs.Cmp.{IsTotalOrder}
+use Rattle.std.proofs.lemmas.Bool.{or_right}
 use Rattle.p2p_tracker.specs.Calls.{Settings, Question, Call}
 use Rattle.p2p_tracker.specs.Calls.Question.{DialableAt}
 use Rattle.p2p_tracker.specs.Calls.Call.{Track, Dial, Listen, Connect, Release, Update, Block, UnblockExpired, ForgetCooled, Ask}
@@ -24,10 +25,6 @@ use Rattle.p2p_directory.proofs.LawsOfRuns.GrantRuns.{answered}
 
 module _ {C S : Type 0} (s : Settings C S) where
   -- DIALS
-
-  or_right : (a b : Bool) → b ≡ true → (a || b) ≡ true
-  or_right true b e = refl
-  or_right false b e = e
 
   without_in : History.IsExact s → (p q : C) (ps : List C) → History.is_in s p (without s q ps) ≡ true →
       (History.is_in s p ps ≡ true) × (History.same s q p ≡ false)

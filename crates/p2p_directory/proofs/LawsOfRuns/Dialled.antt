@@ -7,7 +7,7 @@ use Rattle.std.specs.Cmp.{IsTotalOrder}
 use Rattle.std.specs.declared.cmp.Ordering.{Ordering}
 use Rattle.std.specs.Ordering.{is_eq, ordering_reverse}
 use Rattle.std.specs.declared.cmp.Ordering.TheVariants.{Less, Equal, Greater}
-use Rattle.std.proofs.lemmas.Bool.{and_parts, and_from, leb-true, le-leb}
+use Rattle.std.proofs.lemmas.Bool.{and_parts, and_from, leb-true, le-leb, or_right}
 use Rattle.p2p_discovery.specs.declared.types.ingress.Ingress.{Ingress}
 use Rattle.p2p_tracker.specs.Blocks.{is_blocked}
 use Rattle.p2p_tracker.specs.Cooldowns.{reservable_from, dialable_from}
@@ -112,10 +112,6 @@ module _ {C S : Type 0} (s : Settings C S) where
   chosen_more : (p : C) (ps : List C) (xs : List (C × ℕ)) → AreChosen s ps xs → AreChosen s (p ∷ ps) xs
   chosen_more p ps [] chosen = tt
   chosen_more p ps (x ∷ xs) chosen = (or_right (History.same s p x.0) (History.is_in s x.0 ps) chosen.0, chosen.1, chosen_more p ps xs chosen.2)
-    where
-      or_right : (a b : Bool) → b ≡ true → (a || b) ≡ true
-      or_right true b e = refl
-      or_right false b e = e
 
   pub chosen_whole : IsTotalOrder s.cmp → (xs : List (C × ℕ)) → IsStrictlySortedBy s.cmp (map (λ x. x.0) xs) → AreChosen s (map (λ x. x.0) xs) xs
   unfolding IsStrictlySortedBy

@@ -4,6 +4,7 @@ use Rattle.std.specs.Prelude.{if◌then◌else◌, nat_lt, nat_le}
 use Rattle.std.specs.Option.{option_map, option_map_or}
 use Rattle.std.specs.List.{last_or, list_any}
 use Rattle.std.specs.BTreeMap.{is_at}
+use Rattle.p2p_discovery.proofs.Truth.{nat_le-not_lt}
 use Rattle.p2p_tracker.specs.Blocks.{is_blocked}
 use Rattle.p2p_tracker.specs.declared.directory.PeerSetUpdate.{PeerSetUpdate}
 use Rattle.p2p_tracker.specs.declared.directory.TrackedPeers.{TrackedPeers}
@@ -12,8 +13,7 @@ use Rattle.p2p_tracker.specs.Calls.Event.{Blocked, Expired}
 use Rattle.p2p_tracker.specs.Moments.{cap}
 use Rattle.p2p_tracker.specs.History.{same, is_own, is_persistent, is_named, is_entitled}
 use Rattle.p2p_tracker.specs.Status.{is_inert}
-use Rattle.p2p_tracker.specs.World
-use Rattle.p2p_tracker.specs.World.{World, Peer}
+use Rattle.p2p_tracker.specs.World.{World}
 use Rattle.p2p_tracker.specs.Step.{unblock_after, world_with}
 use Rattle.p2p_tracker.specs.Answers.{is_present_in, AreAll, IsLatestUpdate, is_blocked_at}
 use Rattle.p2p_tracker.specs.Answers.{AreBlocked, IsNextUnblock, IsAnyExpired, is_eligible_at}
@@ -30,7 +30,7 @@ use Rattle.p2p_directory.specs.Run.{update_in}
 use Rattle.p2p_tracker.proofs.Definitions.Listed
 use Rattle.p2p_tracker.proofs.Definitions.Listed.{lists_alike, somebody_alike}
 use Rattle.p2p_directory.proofs.Refinement.CallsRefine.{same_cooldowns, unchanged}
-use Rattle.p2p_directory.proofs.Refinement.RecordOfPeer.{record_with, shown_entitled, eligible_is_entitled, absent_not_entitled, myself_is_own, le_not_lt}
+use Rattle.p2p_directory.proofs.Refinement.RecordOfPeer.{record_with, shown_entitled, eligible_is_entitled, absent_not_entitled, myself_is_own}
 
 swap : (a b : Bool) → (a && b) ≡ (b && a)
 swap true true = refl
@@ -113,7 +113,7 @@ module _ {C S : Type 0} (s : Settings C S) where
     where
       left : (q : C) (o : Option ℕ) → if_later t o ≡ unblock_after s q (Expired t) o
       left q None = refl
-      left q (Some m) = ends (nat_lt t m) m (le_not_lt s m t)
+      left q (Some m) = ends (nat_lt t m) m (nat_le-not_lt m t)
         where
           ends : (b : Bool) (m : ℕ) → nat_le m t ≡ not b → (if b then Some m else None) ≡ (if nat_le m t then None else Some m)
           ends true m e = ap (λ b. if b then None else Some m) (sym e)

@@ -6,6 +6,7 @@ use Rattle.std.specs.BTreeMap.{is_at}
 use Rattle.std.specs.Option.{option_map, option_map_or}
 use Rattle.std.specs.List.{list_any, list_all, last_or}
 use Rattle.std.proofs.lemmas.Map.Views.{tells_apart}
+use Rattle.std.proofs.Math.Bool.{or-true}
 use Rattle.p2p_discovery.specs.declared.types.ingress.Ingress.{Ingress}
 use Rattle.p2p_tracker.specs.Blocks.{is_blocked}
 use Rattle.p2p_tracker.specs.declared.record.Address.TheVariants.{Myself, Bootstrapper}
@@ -154,10 +155,6 @@ module _ {C S : Type 0} (s : Settings C S) where
       (record { status = status; known = if is_present_with s p sets status then known else new_known s p })
   settles p sets cooldown status known = unchanged p sets cooldown (record { status = status; known = known })
 
-  pub or_true : (b : Bool) → (b || true) ≡ true
-  or_true true = refl
-  or_true false = refl
-
   module _ (exact : (p q : C) → s.cmp p q ≡ Equal → p ≡ q) where
     one_key : (p q : C) → is_at (s.cmp p) q ≡ true → p ≡ q
     one_key p q e = tells_apart exact p q e
@@ -222,7 +219,7 @@ module _ {C S : Type 0} (s : Settings C S) where
                 (stands.records q
                 ∙ (λ i. if here i then Some (record_with s q w.sets (w.cooldown q) (w.peer q)) else None))
                 ∙ (λ i. Some (reserved_record t draw (stands.config i).cooldown (record_with s q w.sets (w.cooldown q) (w.peer q))))
-                ∙ remains q w.sets (Some granted) Reserved k (or_true (is_persistent s q || is_named s q w.sets))
+                ∙ remains q w.sets (Some granted) Reserved k (or-true (is_persistent s q || is_named s q w.sets))
             go false e = stands.records q ∙ unchanged q w.sets (w.cooldown q) (w.peer q)
 
     pub tie_release : (w : World C S) (d d' : DirectoryView C S) (p : C) (direction : Direction) → Refines s w d →
@@ -238,7 +235,7 @@ module _ {C S : Type 0} (s : Settings C S) where
     }
       where
         present : is_present_with s p w.sets (w.peer p).status ≡ true
-        present = ap (λ b. (is_persistent s p || is_named s p w.sets) || not b) busy ∙ or_true (is_persistent s p || is_named s p w.sets)
+        present = ap (λ b. (is_persistent s p || is_named s p w.sets) || not b) busy ∙ or-true (is_persistent s p || is_named s p w.sets)
 
         ended : Option (RecordView C S) → Option (RecordView C S)
         ended o = kept_after_release (metadata_of p direction) o

@@ -6,6 +6,7 @@ use Rattle.std.specs.Option.{option_map_or, option_and_then}
 use Rattle.std.proofs.lemmas.Bool.{and_parts, and_from}
 use Rattle.p2p_discovery.specs.declared.types.ingress.Ingress.{Ingress}
 use Rattle.p2p_discovery.specs.declared.discovery.Info.{Info}
+use Rattle.p2p_discovery.proofs.Truth.{nat_le-not_lt}
 use Rattle.p2p_tracker.specs.Blocks.{is_blocked}
 use Rattle.p2p_tracker.specs.declared.record.Address.TheVariants.{Myself}
 use Rattle.p2p_tracker.specs.Calls.{Settings, SetAt, Cooldown}
@@ -29,11 +30,7 @@ use Rattle.p2p_tracker.proofs.Definitions.Listed.{lists_alike, somebody_alike}
 use Rattle.p2p_tracker.proofs.SetsAndRecords.Dialables.{later_parts, later_moments, shuffle}
 use Rattle.p2p_directory.proofs.Definitions.Targets.{parts_of_target, dialled_is_target}
 use Rattle.p2p_directory.proofs.Refinement.RecordOfPeer.{record_with, shown, shown_may_come, absent_not_entitled}
-use Rattle.p2p_directory.proofs.Refinement.RecordOfPeer.{myself_is_own, is_granted, le_not_lt}
-
-neither : (b : Bool) → (b && false) ≡ false
-neither true = refl
-neither false = refl
+use Rattle.p2p_directory.proofs.Refinement.RecordOfPeer.{myself_is_own, is_granted}
 
 module _ {C S : Type 0} (s : Settings C S) where
   -- ONE PEER
@@ -137,7 +134,7 @@ module _ {C S : Type 0} (s : Settings C S) where
       let late = nat_lt t (reservable_from cooldown) in
       (λ i. is_granted s (myself_is_own s p peer.known i) (is_inert peer.status) late i)
       ∙ (λ i. other i && parts.inert_is i && not late)
-      ∙ sym (le_not_lt s (reservable_from cooldown) t)
+      ∙ sym (nat_le-not_lt (reservable_from cooldown) t)
 
   alike_where : (a b c : Bool) → (a ≡ true → b ≡ c) → (a && b) ≡ (a && c)
   alike_where true b c h = h refl

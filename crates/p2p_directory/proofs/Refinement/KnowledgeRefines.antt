@@ -12,6 +12,7 @@ use Rattle.std.specs.Map.{keys_of}
 use Rattle.std.specs.Option.{option_map, option_map_or}
 use Rattle.std.proofs.lemmas.Bool.Decides.{nat_tests}
 use Rattle.std.proofs.lemmas.Map.Views.{tells_apart}
+use Rattle.std.proofs.Math.Bool.{or-true}
 use Rattle.p2p_discovery.specs.declared.discovery.Info.{Info}
 use Rattle.p2p_discovery.specs.declared.types.ingress.Ingress.{Ingress}
 use Rattle.p2p_tracker.specs.declared.record.Address.TheVariants.{Myself, Discovered}
@@ -45,7 +46,7 @@ use Rattle.p2p_directory.specs.Run.{bit_vec_of, bit_vec_in}
 use Rattle.p2p_tracker.proofs.SetsAndRecords.Listing.{listed_by_value}
 use Rattle.p2p_tracker.proofs.Definitions.Knowledge.{later, updated_all_with_best}
 use Rattle.p2p_directory.proofs.Refinement.RecordOfPeer.{record_with, shown, myself_is_own, absent_parts, inert_only}
-use Rattle.p2p_directory.proofs.Refinement.CallsRefine.{tie_status, same_blocks, same_cooldowns, unchanged, remains, or_true}
+use Rattle.p2p_directory.proofs.Refinement.CallsRefine.{tie_status, same_blocks, same_cooldowns, unchanged, remains}
 
 -- the cap of failures is above each limit
 capped : (limit fails : ℕ) → limit < 2 ^ 64 → nat_le limit (min fails (2 ^ 64 - 1)) ≡ nat_le limit fails
@@ -229,12 +230,12 @@ module _ {C S : Type 0} (s : Settings C S) where
             go : (same : Bool) → is_at (s.cmp p) q ≡ same → changed same ≡ left same
             go true e =
                 let is : st ≡ Reserved = ap (λ x. (w.peer x).status) (sym (tells_apart exact p q e)) ∙ reserved in
-                let here : is_present_with s q w.sets st ≡ true = ap (is_present_with s q w.sets) is ∙ or_true s (is_persistent s q || is_named s q w.sets) in
+                let here : is_present_with s q w.sets st ≡ true = ap (is_present_with s q w.sets) is ∙ or-true (is_persistent s q || is_named s q w.sets) in
                 ap (option_map (connected_record dialer))
                 (stands.records q
                 ∙ (λ i. if here i then Some (record_with s q w.sets (w.cooldown q) (w.peer q)) else None))
                 ∙ ap Some (connected_shown q w.sets (w.cooldown q) (w.peer q) dialer)
-                ∙ remains s q w.sets (w.cooldown q) Active (connected_known dialer k) (or_true s (is_persistent s q || is_named s q w.sets))
+                ∙ remains s q w.sets (w.cooldown q) Active (connected_known dialer k) (or-true (is_persistent s q || is_named s q w.sets))
                 ∙ (λ i. shown s q w.sets (w.cooldown q) (record {
                   status = status_connected s (sym is i);
                   known = if is_present_with s q w.sets (status_connected s (sym is i)) then connected_known dialer k else new_known s q;

@@ -3,10 +3,11 @@ use Rattle.std.proofs.Common.{◌≡◌, ℕ, suc, ◌+◌, ◌-◌, ◌^◌, mi
 use Rattle.std.specs.Prelude.{if◌then◌else◌, nat_lt, nat_le}
 use Rattle.std.specs.Option.{is_some, option_map_or}
 use Rattle.std.specs.List.{list_any}
-use Rattle.std.proofs.lemmas.Bool.Decides.{nat_tests}
+use Rattle.std.proofs.Math.Bool.{and-false}
 use Rattle.p2p_discovery.specs.declared.discovery.Info.{Info}
 use Rattle.p2p_discovery.specs.declared.types.ingress.Ingress.{Ingress}
 use Rattle.p2p_discovery.specs.Ingress.{same_ingress}
+use Rattle.p2p_discovery.proofs.Truth.{nat_le-not_lt}
 use Rattle.p2p_tracker.specs.Blocks.{is_blocked}
 use Rattle.p2p_tracker.specs.declared.record.Address.{Address}
 use Rattle.p2p_tracker.specs.declared.record.Address.TheVariants.{Unknown, Myself, Discovered}
@@ -105,9 +106,6 @@ module _ {C S : Type 0} (s : Settings C S) where
           ∙ ap (λ b. not (is_inert peer.status) && b) (sym (absent_not_entitled (is_own s p) (is_named s p sets) (is_persistent s p) (is_inert peer.status) e))
 
   -- it may come
-  pub le_not_lt : (m n : ℕ) → nat_le m n ≡ not (nat_lt n m)
-  le_not_lt m n = grind (arith, nat_tests)
-
   pub is_granted : (m i late : Bool) →
       is_grant (if m || not i then reserve.Unavailable else if late then reserve.RateLimited else reserve.Reserved)
       ≡ (not m && i && not late)
@@ -132,10 +130,6 @@ module _ {C S : Type 0} (s : Settings C S) where
       bools false false true false late = refl
       bools false false false inert late = refl
 
-      neither : (free : Bool) → (free && false) ≡ false
-      neither true = refl
-      neither false = refl
-
       go : (b : Bool) → is_present_with s p sets peer.status ≡ b →
           (not (is_blocked unblock t) && option_map_or (may_come t) (if b then Some (record_with p sets cooldown peer) else None) false)
           ≡ (((is_entitled s p sets && is_inert peer.status) && not (is_blocked unblock t)) && nat_le (reservable_from cooldown) t)
@@ -145,9 +139,9 @@ module _ {C S : Type 0} (s : Settings C S) where
           (is_inert peer.status) (nat_lt t (reservable_from cooldown)) i))
           ∙ bools (not (is_blocked unblock t)) (is_own s p) (is_named s p sets || is_persistent s p)
           (is_inert peer.status) (nat_lt t (reservable_from cooldown))
-          ∙ (λ i. ((is_entitled s p sets && is_inert peer.status) && not (is_blocked unblock t)) && sym (le_not_lt (reservable_from cooldown) t) i)
+          ∙ (λ i. ((is_entitled s p sets && is_inert peer.status) && not (is_blocked unblock t)) && sym (nat_le-not_lt (reservable_from cooldown) t) i)
       go false e =
-          neither (not (is_blocked unblock t))
+          and-false (not (is_blocked unblock t))
           ∙ sym (ap (λ b. ((b && is_inert peer.status) && not (is_blocked unblock t)) && nat_le (reservable_from cooldown) t)
           (absent_not_entitled (is_own s p) (is_named s p sets) (is_persistent s p) (is_inert peer.status) e))
 

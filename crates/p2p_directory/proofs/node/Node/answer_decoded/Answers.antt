@@ -1,18 +1,13 @@
-use Rattle.std.proofs.Common.{Result, Ok, Err}
-use Rattle.std.specs.Prelude.{IfOk}
 use Rattle.std.specs.Duration.{as_nanos}
+use Rattle.std.proofs.lemmas.Result.{IfOk-weaker}
 use Rattle.p2p_directory.specs.Nodes.{made_of}
 use Rattle.p2p_directory.specs.Received.{wire_of, received_of}
 use Rattle.p2p_directory.specs.Private.Endpoints.{node_of}
 use Rattle.p2p_directory.proofs.Nodes.Worlds.{received_by_in}
 use Rattle.p2p_directory.proofs.node.Node.answer_decoded.Goals as goal
 
-of_ok : {A E : Type 0} {P Q : A → Type 0} (r : Result A E) → ((x : A) → P x → Q x) → IfOk r P → IfOk r Q
-of_ok (Ok x) f h = f x h
-of_ok (Err e) f h = tt
-
 pub returns-clause-received : goal.returns-clause-received
-returns-clause-received g c = rw (← c.self.view_is) (of_ok c.answer_decoded.result (λ a seen given calls at.
+returns-clause-received g c = rw (← c.self.view_is) (IfOk-weaker c.answer_decoded.result _ _ (λ a seen given calls at.
     received_by_in (made_of g.C.Ord.cmp given)
     (wire_of g.C.FixedBytes.SIZE g.C.FixedBytes.spelled g.C.FixedBytes.value g.C.Signature.FixedBytes.SIZE
     g.C.Signature.FixedBytes.spelled g.C.Signature.FixedBytes.value g.C.PublicKey.verifies)

@@ -1,12 +1,9 @@
-use Rattle.std.proofs.Common.{◌≡◌, Bool, true, false, not, refl, sym, ◌∙◌}
+use Rattle.std.proofs.Common.{sym, ◌∙◌}
+use Rattle.std.proofs.lemmas.Bool.{not-true}
 use Rattle.p2p_directory.specs.Private.Slots.{begins_full}
 use Rattle.p2p_directory.proofs.Reservations.Listed.{slots_popped}
 use Rattle.p2p_directory.proofs.Reservations.Slots.{first_gone}
 use Rattle.p2p_directory.proofs.run.held.drop_empty_first.Goals as goal
-
-isnt : (b : Bool) → not b ≡ true → b ≡ false
-isnt true e = absurd cc
-isnt false e = refl
 
 pub loop-slots-preserved-in-Some : goal.loop-slots-preserved-in-Some
 loop-slots-preserved-in-Some g c =
@@ -18,6 +15,6 @@ loop-slots-preserved-in-Some g c =
       slots = slots_popped total exact (c.in-Some.field-0-0, c.in-Some.slot) slots left c.loop-slots.invariant.slots
           c.in-Some.ensures.first;
       same = first_gone total exact slots left (c.in-Some.field-0-0, c.in-Some.slot) c.in-Some.ensures.first
-          (isnt (begins_full slots) (sym c.begins_empty.ensures ∙ c.loop-slots-test.true))
+          (not-true (begins_full slots) (sym c.begins_empty.ensures ∙ c.loop-slots-test.true))
           ∙ c.loop-slots.invariant.same;
     }

@@ -1,5 +1,6 @@
 use Rattle.std.proofs.Common.{◌≡◌, Bool, true, false, Ok, sym, ◌∙◌, ap, refl}
 use Rattle.std.specs.Duration.{as_nanos}
+use Rattle.std.proofs.lemmas.Bool.{true_from_ne_false}
 use Rattle.p2p_directory.specs.Run.{settings}
 use Rattle.p2p_directory.proofs.Reservations.Served
 use Rattle.p2p_directory.proofs.Reservations.Holding.{held_by_records}
@@ -38,9 +39,5 @@ returns-clause-served g c = rw (← c.self.view_is) (λ bootstrappers myself cfg
           (λ h. c.block.ensures.refused (w.in-Ok.is ∙ ap Ok h)) (λ h. c.block.ensures.taken (w.in-Ok.is ∙ ap Ok h)) refl)
       | in-Err w ↦
           rw w.result-is (Served.served_no_block s cfg.max_sets.ok g.met.C.PublicKey.exact calls _ _ at c.args.peer.now (as_nanos c.args.now)
-          (true_unless _ (λ no. let f = sym w.in-Err.is ∙ c.block.ensures.untaken no in cc)) w.in-Err.ensures.err refl)
+          (true_from_ne_false _ (λ no. let f = sym w.in-Err.is ∙ c.block.ensures.untaken no in cc)) w.in-Err.ensures.err refl)
     ])
-  where
-    true_unless : (b : Bool) → (b ≡ false → ⊥) → b ≡ true
-    true_unless true h = refl
-    true_unless false h = absurd (h refl)

@@ -1,5 +1,6 @@
-use Rattle.std.proofs.Common.{◌≡◌, Bool, true, false, sym, ◌∙◌, refl}
+use Rattle.std.proofs.Common.{sym, ◌∙◌, refl}
 use Rattle.std.specs.Duration.{as_nanos}
+use Rattle.std.proofs.lemmas.Bool.{true_from_ne_false}
 use Rattle.p2p_directory.specs.Run.{settings}
 use Rattle.p2p_tracker.proofs.SetsAndRecords.Searches.{itself}
 use Rattle.p2p_directory.proofs.Reservations.Rooms.{full_at}
@@ -20,15 +21,11 @@ returns-in-Ok-None-clause-served g c = rw (← c.self.view_is) (λ bootstrappers
     calls _ _ at c.args.peer.now (as_nanos c.args.now) (as_nanos c.args.draw)
     (sym facts.answer) facts.refused refl)
 
-true_unless : (b : Bool) → (b ≡ false → ⊥) → b ≡ true
-true_unless true h = refl
-true_unless false h = absurd (h refl)
-
 pub returns-in-Err-clause-served : goal.returns-in-Err-clause-served
 returns-in-Err-clause-served g c = rw (← c.self.view_is) (λ bootstrappers myself cfg calls at.
     Served.served_no_listen (settings g.C.Ord.cmp bootstrappers myself cfg) cfg.max_sets.ok g.met.C.PublicKey.exact
     calls _ _ at c.args.peer.now (as_nanos c.args.now) (as_nanos c.args.draw)
-    (true_unless _ (λ no. let f = sym c.in-Err.is ∙ c.listen.ensures.none no in cc)) c.in-Err.ensures.err refl)
+    (true_from_ne_false _ (λ no. let f = sym c.in-Err.is ∙ c.listen.ensures.none no in cc)) c.in-Err.ensures.err refl)
 
 pub returns-in-Ok-Some-clause-granted : goal.returns-in-Ok-Some-clause-granted
 returns-in-Ok-Some-clause-granted g c = λ is.

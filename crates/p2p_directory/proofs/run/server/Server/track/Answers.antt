@@ -1,4 +1,4 @@
-use Rattle.std.proofs.Common.{◌≡◌, Bool, true, false, List, Option, Some, None, sym, subst, ◌∙◌, refl, inl, inr, ◌≤◌, length}
+use Rattle.std.proofs.Common.{◌≡◌, List, Option, Some, None, sym, subst, ◌∙◌, refl, inl, inr, ◌≤◌, length}
 use Rattle.std.specs.Prelude.{IfSome, IfNone}
 use Rattle.std.specs.declared.cmp.Ordering.{Ordering}
 use Rattle.p2p_tracker.specs.declared.directory.Metadata.{Metadata}
@@ -6,6 +6,7 @@ use Rattle.p2p_tracker.specs.Calls.{SetAt}
 use Rattle.p2p_tracker.specs.PeerSets.{set_of}
 use Rattle.p2p_tracker.specs.Directory.{TakesSet, AreTornDown, other_keys}
 use Rattle.std.specs.Cmp.{IsTotalOrder}
+use Rattle.std.proofs.lemmas.Bool.{true_from_ne_false}
 use Rattle.p2p_tracker.specs.Seen.{DirectoryView}
 use Rattle.p2p_directory.specs.Held.{AreHeld}
 use Rattle.p2p_directory.specs.Private.Slots.{held_in}
@@ -34,10 +35,6 @@ invariant_of-self g c =
       | in-Err w ↦ subst (λ d. AreHeld cmp d held) (sym w.in-Err.ensures.err) c.self.invariant
     ]
 
-true_unless : (b : Bool) → (b ≡ false → ⊥) → b ≡ true
-true_unless true h = refl
-true_unless false h = absurd (h refl)
-
 pub returns-clause-served : goal.returns-clause-served
 returns-clause-served g c = rw (← c.self.view_is) (λ bootstrappers myself cfg calls at.
     let s = settings g.C.Ord.cmp bootstrappers myself cfg in
@@ -51,7 +48,7 @@ returns-clause-served g c = rw (← c.self.view_is) (λ bootstrappers myself cfg
           rw w.result-is
           (Served.served_no_memory s cfg.max_sets.ok g.met.C.PublicKey.exact calls _ _ at c.args.index
           c.args.peers.primary c.args.peers.secondary
-          (true_unless _ (λ old. let f = sym w.in-Err.is ∙ c.track.ensures.untaken old in cc)) w.in-Err.ensures.err refl)
+          (true_from_ne_false _ (λ old. let f = sym w.in-Err.is ∙ c.track.ensures.untaken old in cc)) w.in-Err.ensures.err refl)
     ])
 
 -- those who are torn down, if a set was taken, are few
