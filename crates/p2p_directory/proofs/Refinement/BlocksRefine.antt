@@ -13,8 +13,7 @@ use Rattle.p2p_tracker.specs.Calls.Event.{Blocked, Expired}
 use Rattle.p2p_tracker.specs.Moments.{cap}
 use Rattle.p2p_tracker.specs.History.{same, is_own, is_persistent, is_named, is_entitled}
 use Rattle.p2p_tracker.specs.Status.{is_inert}
-use Rattle.p2p_tracker.specs.World
-use Rattle.p2p_tracker.specs.World.{World, Peer}
+use Rattle.p2p_tracker.specs.World.{World}
 use Rattle.p2p_tracker.specs.Step.{unblock_after, world_with}
 use Rattle.p2p_tracker.specs.Answers.{is_present_in, AreAll, IsLatestUpdate, is_blocked_at}
 use Rattle.p2p_tracker.specs.Answers.{AreBlocked, IsNextUnblock, IsAnyExpired, is_eligible_at}

@@ -1,5 +1,3 @@
-use Rattle.std.proofs.Common.{Result, Ok, Err}
-use Rattle.std.specs.Prelude.{IfOk}
 use Rattle.std.specs.Duration.{as_nanos}
 use Rattle.std.proofs.lemmas.Result.{IfOk-weaker}
 use Rattle.p2p_directory.specs.Nodes.{made_of}

@@ -1,4 +1,4 @@
-use Rattle.std.proofs.Common.{◌≡◌, Bool, true, false, not, refl, sym, ◌∙◌}
+use Rattle.std.proofs.Common.{sym, ◌∙◌}
 use Rattle.std.proofs.lemmas.Bool.{not-true}
 use Rattle.p2p_directory.specs.Private.Slots.{begins_full}
 use Rattle.p2p_directory.proofs.Reservations.Listed.{slots_popped}
