@@ -114,8 +114,8 @@ impl<C: PublicKey> Node<C> {
     ///
     /// # Cost
     ///
-    /// That of the call. For a `Dial`, a `Listen` and a `Release` also some searches among the
-    /// reservations, and for a `Connect` one among the records, as [`Node::connect`] says.
+    /// That of the call, and for a `Dial`, a `Listen` and a `Release` some searches among the
+    /// reservations.
     pub fn step(&mut self, command: Command<C>) -> Reply<C>
         ensures stepped { IsStepped C.cmp command result self.old self.new }
         ensures unchanged { was_made result ≡ false → self.new ≡ self.old }

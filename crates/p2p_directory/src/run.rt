@@ -99,7 +99,7 @@ pub(crate) mod slots;
 /// # Cost
 ///
 /// That of the calls, and one sort of the peers of all `Dial` and `Listen` commands. Each grant and
-/// each `Release` takes a binary search among them, and a `Connect` one more of the records.
+/// each `Release` takes a binary search among them.
 pub fn run<C: PublicKey>(
     alloc: Global,
     bootstrappers: Vec<(C, Ingress)>,

@@ -36,8 +36,8 @@ impl<C: PublicKey> Node<C> {
     ///
     /// # Cost
     ///
-    /// That of [`Directory::dial`], and three searches among the reservations if it is granted;
-    /// otherwise two if one of the peer is held already, and four if none is.
+    /// That of [`Directory::dial`], and two searches among the reservations; three if it isn't
+    /// granted and none of the peer is held.
     pub fn dial(&mut self, peer: &C, now: Duration, draw: Duration) -> Reply<C>
         ensures stepped { IsStepped C.cmp (Command.Dial peer.now now draw) result
             self.old self.new }
@@ -54,8 +54,8 @@ impl<C: PublicKey> Node<C> {
     ///
     /// # Cost
     ///
-    /// That of [`Directory::listen`], and three searches among the reservations if it is granted;
-    /// otherwise two if one of the peer is held already, and four if none is.
+    /// That of [`Directory::listen`], and two searches among the reservations; three if it isn't
+    /// granted and none of the peer is held.
     pub fn listen(&mut self, peer: &C, now: Duration, draw: Duration) -> Reply<C>
         ensures stepped { IsStepped C.cmp (Command.Listen peer.now now draw) result
             self.old self.new }
@@ -71,7 +71,7 @@ impl<C: PublicKey> Node<C> {
     ///
     /// # Cost
     ///
-    /// That of two calls of the directory, its `status` and its `connect`.
+    /// That of [`Directory::try_connect`].
     pub fn connect(&mut self, peer: &C, dialer: bool) -> Reply<C>
         ensures stepped { IsStepped C.cmp (Command.Connect peer.now dialer) result
             self.old self.new }
