@@ -14,6 +14,7 @@ use Rattle.std.proofs.lemmas.Cmp.{tied_itself}
 use Rattle.p2p_discovery.specs.Ordered.{has_key}
 use Rattle.p2p_discovery.specs.declared.types.ingress.Ingress.{Ingress}
 use Rattle.p2p_discovery.proofs.Unions.{In, insert, sorted_insert, insert_has_new, insert_has_old, insert_has_only}
+use Rattle.p2p_tracker.specs.Status.{is_inert}
 use Rattle.p2p_tracker.specs.Calls.{Settings, Call, SetAt, Grant, Event}
 use Rattle.p2p_tracker.specs.Calls.Event.{Nothing, Tracked, Granted, Connected, Released, Updated}
 use Rattle.p2p_tracker.specs.Calls.Event.{Blocked, Expired, Forgot}
@@ -228,11 +229,11 @@ module _ {C S : Type 0} (s : Settings C S) (exact : History.IsExact s) where
   granted_in (Expired t ∷ h) p e = granted_in h p (found_before (Expired t) (History.last_with (History.grant_by s p) h) e)
   granted_in (Forgot t ∷ h) p e = granted_in h p (found_before (Forgot t) (History.last_with (History.grant_by s p) h) e)
 
-  was_found : (p : C) (o : Found) → not (History.is_inert (History.status_since s p o)) ≡ true → is_some o ≡ true
+  was_found : (p : C) (o : Found) → not (is_inert (History.status_since s p o)) ≡ true → is_some o ≡ true
   was_found p None e = absurd (cc)
   was_found p (Some found) e = refl
 
-  busy_in : (h : List (Event C S)) (p : C) → not (History.is_inert (History.status_at s p h)) ≡ true →
+  busy_in : (h : List (Event C S)) (p : C) → not (is_inert (History.status_at s p h)) ≡ true →
       In (granted_keys h) p
   busy_in h p e = granted_in h p (was_found p (History.last_with (History.grant_by s p) h) e)
 
@@ -249,7 +250,7 @@ module _ {C S : Type 0} (s : Settings C S) (exact : History.IsExact s) where
     named p = History.is_named s p sets
 
     abbrev busy : C → Bool
-    busy p = not (History.is_inert (History.status_at s p h))
+    busy p = not (is_inert (History.status_at s p h))
 
     present_in : (p : C) → is_present_in s (world_at s h) p ≡ true → In (persistent_keys ++ others) p
     present_in p e = go (or_cases (History.is_persistent s p || named p) (busy p) e)
@@ -271,7 +272,7 @@ module _ {C S : Type 0} (s : Settings C S) (exact : History.IsExact s) where
         present = listed s.cmp (is_present_in s (world_at s h)) total exact (persistent_keys ++ others) present_in;
         persistent = listed s.cmp (History.is_persistent s) total exact persistent_keys persistent_in;
         left_over = listed s.cmp (is_left_over s (world_at s h)) total exact (granted_keys h)
-            (λ p e. busy_in h p (and_parts (not (History.is_inert (History.status_at s p h)))
+            (λ p e. busy_in h p (and_parts (not (is_inert (History.status_at s p h)))
             (not (History.is_named s p (History.retained_sets s h))) e).0);
       }
 
