@@ -1,6 +1,0 @@
-use Rattle.p2p_directory.proofs.LawsOfRuns.Spacing
-use Rattle.p2p_directory.proofs.Definitions.Keys.{exact_from}
-use Rattle.p2p_directory.proofs.laws.cooldown_lasts.Goals as goal
-
-pub returns : goal.returns
-returns g c = λ s order p cs now on. Spacing.keeps_cooldown_forward s (exact_from s g.C.Ord.cmp order g.met.C.PublicKey.exact) p cs now on
