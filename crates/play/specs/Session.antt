@@ -6,7 +6,7 @@ use Rattle.std.specs.declared.cmp.Ordering.{Ordering}
 use Rattle.p2p_directory.specs.declared.node.setup.Setup.{Setup}
 use Rattle.p2p_directory.specs.Network.{IsAdded, ReplacesAt}
 use Rattle.p2p_directory.specs.Nodes.{NodeView}
-use Rattle.play.specs.declared.session.label.Label.{Label}
+use Rattle.play.specs.declared.label.Label.{Label}
 
 -- what contracts see of a session: what the nodes are called, and the nodes
 pub record SessionView (C S : Type 0) : Type 0 where

@@ -2,6 +2,7 @@
 #![tactic(auto)]
 
 mod fault;
+mod label;
 mod parse;
 mod play;
 mod request;

@@ -8,13 +8,11 @@ ghost use Rattle.p2p_directory.specs.Network.{IsServedAmong};
 ghost use Rattle.p2p_directory.specs.Received.{wire_of};
 ghost use Rattle.play.specs.Session.{IsPut, IsCalled};
 
-pub use label::Label;
+use crate::label::Label;
 use p2p_directory::node::{Network, NetworkCommand, NetworkReply, Setup};
 use p2p_discovery::codec::PublicKey;
 use std::alloc::{AllocError, Global};
 use std::marker::Model;
-
-mod label;
 
 /// Nodes with names, which are all different. A contract sees the names and the nodes. It must be
 /// consumed by [`Session::finish`].

@@ -3,7 +3,7 @@ use Rattle.std.proofs.lemmas.List.{length-set}
 use Rattle.std.specs.List.{All}
 use Rattle.std.specs.Prelude.{slice_index_or, string_bytes}
 use Rattle.p2p_directory.proofs.Nodes.Among.{was_there}
-use Rattle.play.specs.declared.session.label.Label.{Label}
+use Rattle.play.specs.declared.label.Label.{Label}
 use Rattle.play.specs.Session.{SessionView}
 use Rattle.play.proofs.session.Session.put.Goals as goal
 

@@ -5,13 +5,13 @@ use Rattle.p2p_directory.specs.declared.run.commands.Reply.TheVariants as reply
 use Rattle.p2p_session.specs.Given.{and_then}
 use Rattle.p2p_session.specs.Sessions.{Serves}
 use Rattle.p2p_session.proofs.Direct.{changed}
-use Rattle.p2p_session.proofs.single.unblock_expired.Goals as goal
+use Rattle.p2p_session.proofs.session.Session.unblock_expired.Goals as goal
 
 pub returns-in-Ok : goal.returns-in-Ok
 returns-in-Ok c =
-    let v = c.args.node.now in
+    let v = c.in-Some.node in
     let v2 = c.unblock_expired.new.self in
     let n = c.truth_of.result in
-    subst (λ now. Serves (and_then now (λ t. Ok (UnblockExpired t))) [] [] (Some v) (Some v2) n)
+    rw c.in-Some.is (subst (λ now. Serves (and_then now (λ t. Ok (UnblockExpired t))) [] [] (Some v) (Some v2) n)
     c.in-Ok.ensures
-    (changed (UnblockExpired (as_nanos c.in-Ok.now)) (reply.UnblockExpired c.unblock_expired.result) v v2 n c.unblock_expired.ensures.stepped refl c.truth_of.ensures)
+    (changed (UnblockExpired (as_nanos c.in-Ok.now)) (reply.UnblockExpired c.unblock_expired.result) v v2 n c.unblock_expired.ensures.stepped refl c.truth_of.ensures))

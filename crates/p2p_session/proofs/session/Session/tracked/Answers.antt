@@ -3,8 +3,8 @@ use Rattle.p2p_tracker.specs.Calls.Call.{Ask}
 use Rattle.p2p_tracker.specs.Calls.Question.{NumberTracked}
 use Rattle.p2p_directory.specs.declared.run.commands.Reply.TheVariants as reply
 use Rattle.p2p_session.proofs.Direct.{asked}
-use Rattle.p2p_session.proofs.single.tracked.Goals as goal
+use Rattle.p2p_session.proofs.session.Session.tracked.Goals as goal
 
 pub returns : goal.returns
 returns c =
-    asked (Ask NumberTracked) (reply.Tracked c.tracked.result) c.args.node.now c.tracked.result c.tracked.ensures refl
+    rw c.in-Some.is (asked (Ask NumberTracked) (reply.Tracked c.tracked.result) c.in-Some.node c.tracked.result c.tracked.ensures refl)

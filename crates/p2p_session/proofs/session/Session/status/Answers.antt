@@ -5,11 +5,11 @@ use Rattle.p2p_directory.specs.declared.run.commands.Reply.TheVariants as reply
 use Rattle.p2p_session.specs.Given.{and_then}
 use Rattle.p2p_session.specs.Sessions.{Serves}
 use Rattle.p2p_session.proofs.Direct.{asked}
-use Rattle.p2p_session.proofs.single.status.Goals as goal
+use Rattle.p2p_session.proofs.session.Session.status.Goals as goal
 
 pub returns-in-Ok : goal.returns-in-Ok
 returns-in-Ok c =
-    let v = c.args.node.now in
+    let v = c.in-Some.node in
     let n = c.status_of.result in
-    subst (λ k. Serves (and_then k (λ p. Ok (Ask (StatusOf p)))) [] [] (Some v) (Some v) n) c.in-Ok.ensures
-    (asked (Ask (StatusOf c.in-Ok.peer)) (reply.Status c.status.result) v n c.status.ensures c.status_of.ensures)
+    rw c.in-Some.is (subst (λ k. Serves (and_then k (λ p. Ok (Ask (StatusOf p)))) [] [] (Some v) (Some v) n) c.in-Ok.ensures
+    (asked (Ask (StatusOf c.in-Ok.peer)) (reply.Status c.status.result) v n c.status.ensures c.status_of.ensures))
