@@ -1,18 +1,13 @@
 -- Blocks by the replies to a run: of any moments, and where these never go back.
 use Rattle.std.proofs.Common.{◌≡◌, ℕ, ◌+◌, ◌≤◌, max, Bool, true, false, not, ◌&&◌, List, [], ◌∷◌}
 use Rattle.std.proofs.Common.{◌++◌, Option, Some, None, inl, inr, refl, sym, ◌∙◌, ap, subst, arith}
-use Rattle.std.specs.Prelude.{if◌then◌else◌, nat_le, nat_lt, option_to_list, filter, IfSome}
-use Rattle.std.specs.List.{list_all}
-use Rattle.std.specs.Option.{option_map}
+use Rattle.std.specs.Prelude.{if◌then◌else◌, nat_le, option_to_list, IfSome}
 use Rattle.std.specs.Option.{option_map}
 use Rattle.std.proofs.lemmas.Bool.{leb-true, ltb-false, not-true, and_parts}
-use Rattle.p2p_discovery.specs.declared.types.ingress.Ingress.{Ingress}
 use Rattle.p2p_tracker.specs.Blocks.{is_blocked}
-use Rattle.p2p_tracker.specs.declared.record.Status.{Status}
-use Rattle.p2p_tracker.specs.declared.record.Status.TheVariants.{Inert, Reserved, Active}
 use Rattle.p2p_tracker.specs.Calls.{Settings, Call, SetAt, Grant, Event}
-use Rattle.p2p_tracker.specs.Calls.Call.{Track, Dial, Listen, Connect, Release, Update, Block, UnblockExpired, ForgetCooled, Ask}
-use Rattle.p2p_tracker.specs.Calls.Event.{Nothing, Tracked, Granted, Connected, Released, Updated, Blocked, Expired, Forgot}
+use Rattle.p2p_tracker.specs.Calls.Call.{Dial, Listen, Block, UnblockExpired}
+use Rattle.p2p_tracker.specs.Calls.Event.{Nothing, Blocked, Expired}
 use Rattle.p2p_tracker.specs.Moments.{cap}
 use Rattle.p2p_tracker.specs.History
 use Rattle.p2p_tracker.specs.World
@@ -26,6 +21,7 @@ use Rattle.p2p_directory.specs.Laws.Grants.{moment_or, AreOver}
 use Rattle.p2p_directory.specs.Laws.GrantRuns.{granted_by, blocked_by, IsAfter, RunKeepsBlocks}
 use Rattle.p2p_directory.specs.Laws.BlockRuns.{expires_until, expired_by, unless_expired, IsNotBefore, block_taken_by, block_left, KeepLastBlock}
 use Rattle.p2p_directory.proofs.Definitions.Steps
+use Rattle.p2p_directory.proofs.Definitions.Makes.{Makes, makes}
 use Rattle.p2p_directory.proofs.LawsOfRuns.Spacing
 use Rattle.p2p_directory.proofs.LawsOfRuns.Spacing.{GrantFits, IsFree}
 use Rattle.p2p_directory.proofs.LawsOfRuns.GrantRuns.{told_after, made, if_accepted, moment_by}
@@ -40,50 +36,12 @@ module _ {C S : Type 0} (s : Settings C S) where
 
   -- that of a call's event is that of the call
   expiry_in : (sets : List (SetAt C)) (w : World C S) (c : Call C S) → expiry_of (World.event_in s sets w c) ≡ expires_until c
-  expiry_in sets w (Track index primary secondary) = go (list_all (λ x. nat_lt x.index index) sets)
-    where
-      go : (b : Bool) →
-          expiry_of (if b
-          then Tracked
-          (record {
-            index = index;
-            primary = primary;
-            secondary =
-                filter (λ q. not (History.is_in s q primary)) secondary;
-          }) else Nothing) ≡ None
-      go true = refl
-      go false = refl
-  expiry_in sets w (Dial q t draw) = go (World.may_dial s q t w.sets (w.peer q) (w.unblock q) (w.cooldown q)) (World.address_with s q (w.peer q).known.info)
-    where
-      go : (b : Bool) (address : Option Ingress) → expiry_of (World.dial_event s q t draw b address) ≡ None
-      go b None = refl
-      go true (Some a) = refl
-      go false (Some a) = refl
-  expiry_in sets w (Listen q t draw) = go (World.may_listen s q t w.sets (w.peer q) (w.unblock q) (w.cooldown q))
-    where
-      go : (b : Bool) → expiry_of (World.listen_event s q t draw b) ≡ None
-      go true = refl
-      go false = refl
-  expiry_in sets w (Connect q dialer) = go (w.peer q).status
-    where
-      go : (status : Status) → expiry_of (World.connect_event s q dialer status) ≡ None
-      go Inert = refl
-      go Reserved = refl
-      go Active = refl
-  expiry_in sets w (Release q) = go (w.held q)
-    where
-      go : (held : Option Grant) → expiry_of (World.release_event s q held) ≡ None
-      go None = refl
-      go (Some grant) = refl
-  expiry_in sets w (Update infos) = refl
-  expiry_in sets w (Block q t) = go (not (History.is_own s q) && not (is_blocked (w.unblock q) t))
-    where
-      go : (b : Bool) → expiry_of (if b then Blocked q t else Nothing) ≡ None
-      go true = refl
-      go false = refl
   expiry_in sets w (UnblockExpired t) = refl
-  expiry_in sets w (ForgetCooled t) = refl
-  expiry_in sets w (Ask question) = refl
+  expiry_in sets w c = go (World.event_in s sets w c) (makes s sets w c)
+    where
+      go : (e : Event C S) → Makes c e → expiry_of e ≡ None
+      go (Expired t) m = absurd (cc)
+      go e m = refl
 
   -- the end of a block by the moment at which it was taken
   abbrev end_of : Option ℕ → Option ℕ
@@ -115,13 +73,7 @@ module _ {C S : Type 0} (s : Settings C S) where
       go false = refl
   after_is p (Expired t) None = refl
   after_is p (Expired t) (Some end) = refl
-  after_is p Nothing end = refl
-  after_is p (Tracked taken) end = refl
-  after_is p (Granted q grant) end = refl
-  after_is p (Connected q dialer) end = refl
-  after_is p (Released q direction) end = refl
-  after_is p (Updated infos) end = refl
-  after_is p (Forgot t) end = refl
+  after_is p e end = refl
 
   -- what is kept after one more reply is the unblock moment at the next point
   kept_next : (p : C) (before : List (Call C S)) (c : Call C S) (r : Reply C S) → Run.IsAnswer s before c r →
