@@ -68,29 +68,26 @@ module _ {C S : Type 0} (s : Settings C S) where
       (λ b. (if b then Some (made grant) else None) ≡ option_map made (if b then Some grant else None))
       [ true ↦ refl | false ↦ refl ]
 
-  -- the reply to a dial, a listen or a block that was accepted
-  dial_told : (p q : C) (grant : Grant) (w v : World C S) (r : Reply C S) → Run.MayReply s (Granted q grant) w v (Dial q grant.t grant.draw) r →
-      IsTold p (Dial q grant.t grant.draw) r (Granted q grant)
-  dial_told p q grant w v r (inl (e, may)) = subst (λ x. IsTold p (Dial q grant.t grant.draw) x (Granted q grant)) (sym e) (record { granted = refl; blocked = refl })
-  dial_told p q grant w v r (inr e) = subst (λ x. IsTold p (Dial q grant.t grant.draw) x (Granted q grant)) (sym e) (record { granted = granted_alike p q grant; blocked = refl })
-
-  listen_told : (p q : C) (grant : Grant) (w v : World C S) (r : Reply C S) → Run.MayReply s (Granted q grant) w v (Listen q grant.t grant.draw) r →
-      IsTold p (Listen q grant.t grant.draw) r (Granted q grant)
-  listen_told p q grant w v r (inl (e, may)) = subst (λ x. IsTold p (Listen q grant.t grant.draw) x (Granted q grant)) (sym e) (record { granted = refl; blocked = refl })
-  listen_told p q grant w v r (inr e) = subst (λ x. IsTold p (Listen q grant.t grant.draw) x (Granted q grant)) (sym e) (record { granted = granted_alike p q grant; blocked = refl })
-
-  block_told : (p q : C) (t : ℕ) (w v : World C S) (r : Reply C S) → Run.MayReply s (Blocked q t) w v (Block q t) r →
-      IsTold p (Block q t) r (Blocked q t)
-  block_told p q t w v r (inl (e, may)) = subst (λ x. IsTold p (Block q t) x (Blocked q t)) (sym e) (record { granted = refl; blocked = refl })
-  block_told p q t w v r (inr e) = subst (λ x. IsTold p (Block q t) x (Blocked q t)) (sym e) (record { granted = refl; blocked = refl })
+  -- by both replies that a call may get
+  either_told : (p : C) (e : Event C S) (w v : World C S) {c d : Call C S} {r : Reply C S} (said : Reply C S) → c ≡ d → Run.MayReply s e w v c r →
+      (Run.Replies s e w v d r → r ≡ said) → IsTold p d reply.OutOfMemory e → IsTold p d said e → IsTold p c r e
+  either_told p e w v {c = c} {d = d} {r = r} said same a is refused accepted =
+      subst (λ x. IsTold p x r e) (sym same) (go (subst (λ x. Run.MayReply s e w v x r) same a))
+    where
+      go : Run.MayReply s e w v d r → IsTold p d r e
+      go (inl out) = subst (λ x. IsTold p d x e) (sym out.0) refused
+      go (inr x) = subst (λ x. IsTold p d x e) (sym (is x)) accepted
 
   told : (p : C) (w v : World C S) (c : Call C S) (r : Reply C S) (e : Event C S) → Makes c e → Run.MayReply s e w v c r → IsTold p c r e
   told p w v c r (Granted q grant) (inl m) a =
-      subst (λ d. IsTold p d r (Granted q grant)) (sym m) (dial_told p q grant w v r (subst (λ d. Run.MayReply s (Granted q grant) w v d r) m a))
+      either_told p (Granted q grant) w v (reply.Dial true) m a (λ x. x)
+      (record { granted = refl; blocked = refl }) (record { granted = granted_alike p q grant; blocked = refl })
   told p w v c r (Granted q grant) (inr m) a =
-      subst (λ d. IsTold p d r (Granted q grant)) (sym m) (listen_told p q grant w v r (subst (λ d. Run.MayReply s (Granted q grant) w v d r) m a))
+      either_told p (Granted q grant) w v (reply.Listen true) m a (λ x. x)
+      (record { granted = refl; blocked = refl }) (record { granted = granted_alike p q grant; blocked = refl })
   told p w v c r (Blocked q t) m a =
-      subst (λ d. IsTold p d r (Blocked q t)) (sym m) (block_told p q t w v r (subst (λ d. Run.MayReply s (Blocked q t) w v d r) m a))
+      either_told p (Blocked q t) w v (reply.Block true) m a (λ x. x)
+      (record { granted = refl; blocked = refl }) (record { granted = refl; blocked = refl })
   told p w v c r e m a =
       let n = nothing_told p e w v c r refl refl a in
       record { granted = n.0 ∙ nothing (Run.was_made r); blocked = n.1 ∙ nothing (Run.was_made r) }
