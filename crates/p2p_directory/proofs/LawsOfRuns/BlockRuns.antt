@@ -23,7 +23,7 @@ use Rattle.p2p_directory.specs.Laws.BlockRuns.{expires_until, expired_by, unless
 use Rattle.p2p_directory.proofs.Definitions.Steps
 use Rattle.p2p_directory.proofs.Definitions.Makes.{Makes, makes}
 use Rattle.p2p_directory.proofs.LawsOfRuns.Spacing
-use Rattle.p2p_directory.proofs.LawsOfRuns.Spacing.{GrantFits, IsFree}
+use Rattle.p2p_directory.proofs.LawsOfRuns.Spacing.{GrantFits, limit, over_more}
 use Rattle.p2p_directory.proofs.LawsOfRuns.GrantRuns.{told_after, made, if_accepted, moment_by}
 
 module _ {C S : Type 0} (s : Settings C S) where
@@ -153,15 +153,6 @@ module _ {C S : Type 0} (s : Settings C S) where
 
   -- MOMENTS THAT NEVER GO BACK
 
-  -- now, or the end of a block that holds then
-  abbrev limit : ℕ → Option ℕ → ℕ
-  limit now None = now
-  limit now (Some end) = max now end
-
-  over_later : (ms : List ℕ) (t u : ℕ) → t ≤ u → AreOver s t ms → AreOver s u ms
-  over_later [] t u le over = tt
-  over_later (m ∷ ms) t u le over = (omega (arith, over.0), over_later ms t u le over.1)
-
   -- a grant comes at the moment of its command
   granted_then : (p : C) (now : ℕ) (c : Call C S) (r : Reply C S) → IfSome (granted_by s p c r) (λ grant. grant.0 ≡ moment_or s now c)
   granted_then p now (Dial q t draw) (reply.Dial true) =
@@ -190,28 +181,28 @@ module _ {C S : Type 0} (s : Settings C S) where
 
   over_at : (now u : ℕ) (granted : Option (ℕ × ℕ)) (end : Option ℕ) (ms : List ℕ) → now ≤ u → IfSome granted (λ grant. grant.0 ≡ u) →
       IsNotBefore (option_map (λ grant. grant.0) granted) end →
-      AreOver s (limit now end) ms → IsAfter s granted ms
+      AreOver s (limit s now end) ms → IsAfter s granted ms
   over_at now u None end ms le on_time free over = tt
-  over_at now u (Some grant) None ms le on_time free over = over_later ms now grant.0 (omega (arith, on_time)) over
-  over_at now u (Some grant) (Some end) ms le on_time free over = over_later ms (max now end) grant.0 (omega (arith, on_time, free)) over
+  over_at now u (Some grant) None ms le on_time free over = over_more s ms now grant.0 (omega (arith, on_time)) over
+  over_at now u (Some grant) (Some end) ms le on_time free over = over_more s ms (max now end) grant.0 (omega (arith, on_time, free)) over
 
   over_next : (now u : ℕ) (taken expiry end : Option ℕ) (ms : List ℕ) → now ≤ u → IfSome taken (λ t. t ≡ u) →
       IfSome expiry (λ t. t ≡ u) → IsNotBefore taken end →
-      AreOver s (limit now end) ms → AreOver s (limit u (kept_by (end_of taken) expiry end)) (option_to_list (end_of taken) ++ ms)
-  over_next now u (Some t) expiry None ms le on_time until free over = (omega arith, over_later ms now (max u (cap (t + s.block_duration))) (omega arith) over)
+      AreOver s (limit s now end) ms → AreOver s (limit s u (kept_by (end_of taken) expiry end)) (option_to_list (end_of taken) ++ ms)
+  over_next now u (Some t) expiry None ms le on_time until free over = (omega arith, over_more s ms now (max u (cap (t + s.block_duration))) (omega arith) over)
   over_next now u (Some t) expiry (Some end) ms le on_time until free over =
-      (omega arith, over_later ms (max now end) (max u (cap (t + s.block_duration))) (omega (arith, on_time, free)) over)
-  over_next now u None None None ms le on_time until free over = over_later ms now u le over
-  over_next now u None None (Some end) ms le on_time until free over = over_later ms (max now end) (max u end) (omega arith) over
-  over_next now u None (Some t) None ms le on_time until free over = over_later ms now u le over
+      (omega arith, over_more s ms (max now end) (max u (cap (t + s.block_duration))) (omega (arith, on_time, free)) over)
+  over_next now u None None None ms le on_time until free over = over_more s ms now u le over
+  over_next now u None None (Some end) ms le on_time until free over = over_more s ms (max now end) (max u end) (omega arith) over
+  over_next now u None (Some t) None ms le on_time until free over = over_more s ms now u le over
   over_next now u None (Some t) (Some end) ms le on_time until free over = go (nat_le end t) refl
     where
-      go : (b : Bool) → nat_le end t ≡ b → AreOver s (limit u (if b then None else Some end)) ms
-      go true e = over_later ms (max now end) u (omega (arith, until, leb-true end t e)) over
-      go false e = over_later ms (max now end) (max u end) (omega arith) over
+      go : (b : Bool) → nat_le end t ≡ b → AreOver s (limit s u (if b then None else Some end)) ms
+      go true e = over_more s ms (max now end) u (omega (arith, until, leb-true end t e)) over
+      go false e = over_more s ms (max now end) (max u end) (omega arith) over
 
   forward_from : (p : C) (now : ℕ) (end : Option ℕ) (ms : List ℕ) (cs : List (Call C S)) (rs : List (Reply C S)) →
-      AreOver s (limit now end) ms → KeepLastBlock s p end cs rs → RunKeepsBlocks s p now ms cs rs
+      AreOver s (limit s now end) ms → KeepLastBlock s p end cs rs → RunKeepsBlocks s p now ms cs rs
   forward_from p now end ms [] [] over kept = tt
   forward_from p now end ms [] (r ∷ rs) over kept = tt
   forward_from p now end ms (c ∷ cs) [] over kept = tt
@@ -219,8 +210,8 @@ module _ {C S : Type 0} (s : Settings C S) where
       let u = moment_or s now c in (
         over_at now u (granted_by s p c r) end ms forward (granted_then p now c r) kept.0 over,
         forward_from p u (block_left s p c r end) (option_to_list (blocked_by s p c r) ++ ms) cs rs
-            (subst (λ o. AreOver s (limit u (block_left s p c r end)) (option_to_list o ++ ms)) (end_is p c r)
-            (subst (λ o. AreOver s (limit u o) (option_to_list (end_of (block_taken_by s p c r)) ++ ms))
+            (subst (λ o. AreOver s (limit s u (block_left s p c r end)) (option_to_list o ++ ms)) (end_is p c r)
+            (subst (λ o. AreOver s (limit s u o) (option_to_list (end_of (block_taken_by s p c r)) ++ ms))
             (sym (left_is (block_taken_by s p c r) (expired_by c r) end))
             (over_next now u (block_taken_by s p c r) (expired_by c r) end ms forward (taken_then p now c r) (expired_then now c r) kept.1 over)))
             kept.2,

@@ -193,11 +193,11 @@ module _ {C S : Type 0} (s : Settings C S) where
   -- BLOCKS
 
   -- now, or the end of a block that holds then
-  abbrev limit : ℕ → Option ℕ → ℕ
+  abbrev pub limit : ℕ → Option ℕ → ℕ
   limit now None = now
   limit now (Some m) = max now m
 
-  over_more : (ms : List ℕ) (t u : ℕ) → t ≤ u → AreOver s t ms → AreOver s u ms
+  pub over_more : (ms : List ℕ) (t u : ℕ) → t ≤ u → AreOver s t ms → AreOver s u ms
   over_more [] t u le over = tt
   over_more (m ∷ ms) t u le over = (omega (arith, over.0), over_more ms t u le over.1)
 
