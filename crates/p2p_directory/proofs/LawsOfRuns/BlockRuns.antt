@@ -130,9 +130,6 @@ module _ {C S : Type 0} (s : Settings C S) where
 
   keep_from : History.IsExact s → (p : C) (end : Option ℕ) (before cs : List (Call C S)) (rs : List (Reply C S)) →
       end ≡ History.unblock_at s p (World.past s before) → Run.AreAnswers s before cs rs → KeepLastBlock s p end cs rs
-  keep_from exact p end before [] [] kept answers = tt
-  keep_from exact p end before [] (r ∷ rs) kept answers = tt
-  keep_from exact p end before (c ∷ cs) [] kept answers = tt
   keep_from exact p end before (c ∷ cs) (r ∷ rs) kept answers =
       let sets = History.taken_sets s (World.past s before) in
       let w = Run.world_after s before in (
@@ -146,6 +143,7 @@ module _ {C S : Type 0} (s : Settings C S) where
         keep_from exact p (block_left s p c r end) (Run.next s before c r) cs rs
             (ap (block_left s p c r) kept ∙ kept_next p before c r answers.0) answers.1,
       )
+  keep_from exact p end before cs rs kept answers = tt
 
   -- by the replies to a whole run, each grant comes when the last block that wasn't ended is over
   pub keep_last_block : History.IsExact s → (p : C) (cs : List (Call C S)) (rs : List (Reply C S)) → Run.AreAnswers s [] cs rs → KeepLastBlock s p None cs rs
@@ -203,9 +201,6 @@ module _ {C S : Type 0} (s : Settings C S) where
 
   forward_from : (p : C) (now : ℕ) (end : Option ℕ) (ms : List ℕ) (cs : List (Call C S)) (rs : List (Reply C S)) →
       AreOver s (limit s now end) ms → KeepLastBlock s p end cs rs → RunKeepsBlocks s p now ms cs rs
-  forward_from p now end ms [] [] over kept = tt
-  forward_from p now end ms [] (r ∷ rs) over kept = tt
-  forward_from p now end ms (c ∷ cs) [] over kept = tt
   forward_from p now end ms (c ∷ cs) (r ∷ rs) over kept = λ forward.
       let u = moment_or s now c in (
         over_at now u (granted_by s p c r) end ms forward (granted_then p now c r) kept.0 over,
@@ -216,6 +211,7 @@ module _ {C S : Type 0} (s : Settings C S) where
             (over_next now u (block_taken_by s p c r) (expired_by c r) end ms forward (taken_then p now c r) (expired_then now c r) kept.1 over)))
             kept.2,
       )
+  forward_from p now end ms cs rs over kept = tt
 
   -- as long as moments never go back, each grant comes when all blocks before it are over
   pub keep_blocks : (p : C) (cs : List (Call C S)) (rs : List (Reply C S)) → KeepLastBlock s p None cs rs → RunKeepsBlocks s p 0 [] cs rs

@@ -48,11 +48,9 @@ module _ {C S : Type 0} (s : Settings C S) (n : ℕ) (total : IsTotalOrder s.cmp
       (answered s before c (reply.Tracked count) refl (subst (Run.IsAnswer s before c) is a))
 
   keep_bound_from : (before cs : List (Call C S)) (rs : List (Reply C S)) → Run.AreAnswers s before cs rs → KeepBound s n before cs rs
-  keep_bound_from before [] [] answers = λ h. Bounded.bounded s n total before h
-  keep_bound_from before [] (r ∷ rs) answers = λ h. Bounded.bounded s n total before h
-  keep_bound_from before (c ∷ cs) [] answers = λ h. Bounded.bounded s n total before h
   keep_bound_from before (c ∷ cs) (r ∷ rs) answers =
       ((λ h. (Bounded.bounded s n total before h, few before c r h answers.0)), keep_bound_from (Run.next s before c r) cs rs answers.1)
+  keep_bound_from before cs rs answers = λ h. Bounded.bounded s n total before h
 
   -- by the replies to a whole run, the present keys and what is told of their number are within the bound
   pub keep_bound : (cs : List (Call C S)) (rs : List (Reply C S)) → Run.AreAnswers s [] cs rs → KeepBound s n [] cs rs

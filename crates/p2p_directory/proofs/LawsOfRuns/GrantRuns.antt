@@ -218,9 +218,6 @@ module _ {C S : Type 0} (s : Settings C S) where
 
   keep_unless_forgotten_from : History.IsExact s → (p : C) (kept : Option (ℕ × ℕ)) (before cs : List (Call C S)) (rs : List (Reply C S)) →
       kept ≡ kept_in p (World.past s before) → Run.AreAnswers s before cs rs → RunKeepsCooldownUnlessForgotten s p kept cs rs
-  keep_unless_forgotten_from exact p kept before [] [] e answers = tt
-  keep_unless_forgotten_from exact p kept before [] (r ∷ rs) e answers = tt
-  keep_unless_forgotten_from exact p kept before (c ∷ cs) [] e answers = tt
   keep_unless_forgotten_from exact p kept before (c ∷ cs) (r ∷ rs) e answers =
       let t = told_after p before c r answers.0 in
       let f = forgets_after (History.taken_sets s (World.past s before)) (Run.world_after s before) (Run.world_after s (c ∷ before)) c r answers.0 in (
@@ -232,6 +229,7 @@ module _ {C S : Type 0} (s : Settings C S) where
             ((λ i. kept_after s c (t.granted i) (e i)) ∙ kept_more p before c (Run.was_made r) f)
             answers.1,
       )
+  keep_unless_forgotten_from exact p kept before cs rs e answers = tt
 
   -- by the replies to a whole run, the grants of p keep the cooldown, unless forgotten
   pub keep_unless_forgotten : History.IsExact s → (p : C) (cs : List (Call C S)) (rs : List (Reply C S)) →
@@ -240,9 +238,6 @@ module _ {C S : Type 0} (s : Settings C S) where
 
   keep_cooldown_from : History.IsExact s → (p : C) (last : Option (ℕ × ℕ)) (now : ℕ) (before cs : List (Call C S)) (rs : List (Reply C S)) →
       last ≡ last_in p (World.past s before) → NeverGoBack s now before → Run.AreAnswers s before cs rs → RunKeepsCooldown s p now last cs rs
-  keep_cooldown_from exact p last now before [] [] e on answers = tt
-  keep_cooldown_from exact p last now before [] (r ∷ rs) e on answers = tt
-  keep_cooldown_from exact p last now before (c ∷ cs) [] e on answers = tt
   keep_cooldown_from exact p last now before (c ∷ cs) (r ∷ rs) e on answers =
       λ forward. let t = told_after p before c r answers.0 in (
         subst (λ o. IsGrantCooledAfter s o last) (sym t.granted)
@@ -253,6 +248,7 @@ module _ {C S : Type 0} (s : Settings C S) where
             ((λ i. last_after s (t.granted i) (e i)) ∙ last_more p before c (Run.was_made r))
             (next_forward c before now (Run.was_made r) forward on) answers.1,
       )
+  keep_cooldown_from exact p last now before cs rs e on answers = tt
 
   -- by the replies to a whole run whose moments never go back, the grants of p keep the cooldown
   pub keep_cooldown : History.IsExact s → (p : C) (cs : List (Call C S)) (rs : List (Reply C S)) → Run.AreAnswers s [] cs rs → RunKeepsCooldown s p 0 None cs rs

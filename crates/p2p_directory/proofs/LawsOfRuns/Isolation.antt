@@ -14,7 +14,7 @@ use Rattle.p2p_tracker.specs.Moments.{cap}
 use Rattle.p2p_tracker.specs.History
 use Rattle.p2p_tracker.specs.World
 use Rattle.p2p_tracker.specs.Step
-use Rattle.p2p_tracker.specs.World.{Known, Peer, World}
+use Rattle.p2p_tracker.specs.World.{Known, World}
 use Rattle.p2p_tracker.specs.Answers
 use Rattle.p2p_directory.specs.Laws.Isolation.{SameFor, AnswersAlike, is_on_another, narrowed, left_for}
 use Rattle.p2p_tracker.proofs.Definitions.Knowledge
@@ -51,14 +51,11 @@ module _ {C S : Type 0} (s : Settings C S) where
   -- an event on another peer
   abbrev is_quiet : C → Event C S → Bool
   is_quiet p Nothing = true
-  is_quiet p (Tracked taken) = false
   is_quiet p (Granted q grant) = not (History.same s q p)
   is_quiet p (Connected q dialer) = not (History.same s q p)
   is_quiet p (Released q direction) = not (History.same s q p)
-  is_quiet p (Updated infos) = false
   is_quiet p (Blocked q t) = not (History.same s q p)
-  is_quiet p (Expired t) = false
-  is_quiet p (Forgot t) = false
+  is_quiet p _ = false
 
   -- it leaves p as it was
   sets_quiet : (p : C) (e : Event C S) (sets : List (SetAt C)) → is_quiet p e ≡ true → Step.sets_after s e sets ≡ sets

@@ -142,9 +142,6 @@ module _ {C S : Type 0} (s : Settings C S) where
     }
 
     keep_alone_from : (p : C) (before cs : List (Call C S)) (rs : List (Reply C S)) → Run.AreAnswers s before cs rs → KeepAlone s p before cs rs
-    keep_alone_from p before [] [] answers = Isolation.isolated s least exact p before
-    keep_alone_from p before [] (r ∷ rs) answers = Isolation.isolated s least exact p before
-    keep_alone_from p before (c ∷ cs) [] answers = Isolation.isolated s least exact p before
     keep_alone_from p before (c ∷ cs) (r ∷ rs) answers = (
       record {
         stands = Isolation.isolated s least exact p before;
@@ -153,6 +150,7 @@ module _ {C S : Type 0} (s : Settings C S) where
       },
       keep_alone_from p (Run.next s before c r) cs rs answers.1,
     )
+    keep_alone_from p before cs rs answers = Isolation.isolated s least exact p before
 
     -- by the replies to a whole run, p stands alone, and is answered and listed so
     pub keep_alone : (p : C) (cs : List (Call C S)) (rs : List (Reply C S)) → Run.AreAnswers s [] cs rs → KeepAlone s p [] cs rs

@@ -41,15 +41,13 @@ module _ {C S : Type 0} (s : Settings C S) (least : 1 ≤ s.max_sets) where
 
   same_after : (before other cs : List (Call C S)) (rs : List (Reply C S)) → Alike before other →
       Run.AreAnswers s before cs rs → IsSameAfter s before other cs rs
-  same_after before other [] [] alike answers = alike
-  same_after before other [] (r ∷ rs) alike answers = alike
-  same_after before other (c ∷ cs) [] alike answers = alike
   same_after before other (c ∷ cs) (r ∷ rs) alike answers = (
     alike,
     answer_alike before other c r alike answers.0,
     same_after (Run.next s before c r) (Run.next s other c r) cs rs (next_alike before other c r alike)
         answers.1,
   )
+  same_after before other cs rs alike answers = alike
 
   -- updates one after the other are one
   one_update : (first before : List (Call C S)) (infos given : List (Info C S)) →
