@@ -15,7 +15,7 @@ use Rattle.p2p_tracker.specs.History
 use Rattle.p2p_tracker.specs.Lists.{last_of}
 use Rattle.p2p_tracker.specs.World
 use Rattle.p2p_tracker.specs.Step
-use Rattle.p2p_tracker.specs.World.{Known, Peer, World}
+use Rattle.p2p_tracker.specs.World.{World}
 use Rattle.p2p_directory.proofs.Definitions.Steps
 use Rattle.p2p_directory.proofs.Definitions.Makes.{Makes, makes, at_call}
 use Rattle.p2p_tracker.proofs.Definitions.Knowledge

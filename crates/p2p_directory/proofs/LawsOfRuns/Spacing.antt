@@ -15,7 +15,7 @@ use Rattle.p2p_tracker.specs.History
 use Rattle.p2p_tracker.specs.History.{last_with, found_with, unless_ended}
 use Rattle.p2p_tracker.specs.World
 use Rattle.p2p_tracker.specs.Step
-use Rattle.p2p_tracker.specs.World.{Known, Peer, World}
+use Rattle.p2p_tracker.specs.World.{World}
 use Rattle.p2p_directory.specs.Laws.Grants.{IsCooledAfter, IsCooledUnlessForgotten, IsSpaced}
 use Rattle.p2p_directory.specs.Laws.Grants.{IsSpacedUnlessForgotten, KeepsCooldown}
 use Rattle.p2p_directory.specs.Laws.Grants.{KeepsCooldownUnlessForgotten, moment_or, NeverGoBack}
