@@ -1,24 +1,23 @@
 -- The kept state is what the past says.
-use Rattle.std.proofs.Common.{◌≡◌, ℕ, zero, suc, ◌-◌, ◌<◌, ◌≤◌, Bool, true, false, not, ◌&&◌, List}
-use Rattle.std.proofs.Common.{[], ◌∷◌, ◌++◌, length, drop, Option, Some, None, refl, sym, ◌∙◌, ap}
+use Rattle.std.proofs.Common.{◌≡◌, ℕ, zero, suc, ◌-◌, ◌<◌, ◌≤◌, Bool, true, false, ◌&&◌, List}
+use Rattle.std.proofs.Common.{[], ◌∷◌, ◌++◌, length, drop, refl, sym, ◌∙◌, ap}
 use Rattle.std.proofs.Common.{subst, arith}
-use Rattle.std.specs.Prelude.{if◌then◌else◌, nat_lt, filter}
+use Rattle.std.specs.Prelude.{if◌then◌else◌, nat_lt}
 use Rattle.std.specs.List.{list_all}
 use Rattle.std.proofs.lemmas.List.{append-nil, drop-append-le, length_push}
 use Rattle.std.proofs.lemmas.List.Folds.{list_all-append}
 use Rattle.std.proofs.lemmas.Bool.{ltb-true, lt-ltb, and_parts, and_from}
-use Rattle.p2p_discovery.specs.declared.types.ingress.Ingress.{Ingress}
-use Rattle.p2p_tracker.specs.declared.record.Status.{Status}
-use Rattle.p2p_tracker.specs.Calls.{Settings, Call, SetAt, Grant, Event}
-use Rattle.p2p_tracker.specs.Calls.Call.{Track, Dial, Listen, Connect, Release, Update, Block, UnblockExpired, ForgetCooled, Ask}
-use Rattle.p2p_tracker.specs.declared.record.Status.TheVariants.{Inert, Reserved, Active}
-use Rattle.p2p_tracker.specs.Calls.Event.{Nothing, Tracked, Blocked}
+use Rattle.p2p_tracker.specs.Calls.{Settings, Call, SetAt, Event}
+use Rattle.p2p_tracker.specs.Calls.Call.{Track}
+use Rattle.p2p_tracker.specs.Calls.Event.{Nothing, Tracked}
+use Rattle.p2p_tracker.specs.PeerSets.{set_of}
 use Rattle.p2p_tracker.specs.History
 use Rattle.p2p_tracker.specs.Lists.{last_of}
 use Rattle.p2p_tracker.specs.World
 use Rattle.p2p_tracker.specs.Step
-use Rattle.p2p_tracker.specs.World.{Known, Peer, World}
+use Rattle.p2p_tracker.specs.World.{World}
 use Rattle.p2p_directory.proofs.Definitions.Steps
+use Rattle.p2p_directory.proofs.Definitions.Makes.{Makes, makes, at_call}
 use Rattle.p2p_tracker.proofs.Definitions.Knowledge
 
 -- INDEXES: what lies above each retained set lies above each set that was ever taken
@@ -61,50 +60,24 @@ module _ {C S : Type 0} (s : Settings C S) where
   decided_same : (xs : List (SetAt C)) → Decided xs → Decided (xs ++ [])
   decided_same xs d = subst Decided (sym (append-nil xs)) d
 
-  -- what only a track can do
-  no_set : (xs : List (SetAt C)) (e : Event C S) → History.set_by s e ≡ [] → Decided xs → Decided (xs ++ History.set_by s e)
-  no_set xs e none d = subst (λ ys. Decided (xs ++ ys)) (sym none) (decided_same xs d)
-
-  decided_step : (xs : List (SetAt C)) (w : World C S) (c : Call C S) → Decided xs → Decided (xs ++ History.set_by s (World.event_in s xs w c))
-  decided_step xs w (Track index primary secondary) d = go (list_all (below index) xs) refl
+  track_decided : (xs : List (SetAt C)) (w : World C S) (index : ℕ) (primary secondary : List C) → Decided xs →
+      Decided (xs ++ History.set_by s (World.event_in s xs w (Track index primary secondary)))
+  track_decided xs w index primary secondary d = go (list_all (below index) xs) refl
     where
       taken : SetAt C
-      taken = record { index = index; primary = primary; secondary = filter (λ q. not (History.is_in s q primary)) secondary }
+      taken = set_of s.cmp index primary secondary
 
       go : (b : Bool) → list_all (below index) xs ≡ b → Decided (xs ++ History.set_by s (if b then Tracked taken else Nothing))
       go true e = decided_push xs taken e
       go false e = decided_same xs d
-  decided_step xs w (Dial p t draw) d = no_set xs _ (go _ _) d
+
+  -- only a track takes a set
+  decided_step : (xs : List (SetAt C)) (w : World C S) (c : Call C S) → Decided xs → Decided (xs ++ History.set_by s (World.event_in s xs w c))
+  decided_step xs w c d = go (World.event_in s xs w c) refl (makes s xs w c)
     where
-      go : (granted : Bool) (address : Option Ingress) → History.set_by s (World.dial_event s p t draw granted address) ≡ []
-      go granted None = refl
-      go true (Some a) = refl
-      go false (Some a) = refl
-  decided_step xs w (Listen p t draw) d = no_set xs _ (go _) d
-    where
-      go : (granted : Bool) → History.set_by s (World.listen_event s p t draw granted) ≡ []
-      go true = refl
-      go false = refl
-  decided_step xs w (Connect p dialer) d = no_set xs _ (go (w.peer p).status) d
-    where
-      go : (status : Status) → History.set_by s (World.connect_event s p dialer status) ≡ []
-      go Inert = refl
-      go Reserved = refl
-      go Active = refl
-  decided_step xs w (Release p) d = no_set xs _ (go (w.held p)) d
-    where
-      go : (held : Option Grant) → History.set_by s (World.release_event s p held) ≡ []
-      go None = refl
-      go (Some grant) = refl
-  decided_step xs w (Update infos) d = decided_same xs d
-  decided_step xs w (Block p t) d = no_set xs _ (go _) d
-    where
-      go : (b : Bool) → History.set_by s (if b then Blocked p t else Nothing) ≡ []
-      go true = refl
-      go false = refl
-  decided_step xs w (UnblockExpired t) d = decided_same xs d
-  decided_step xs w (ForgetCooled t) d = decided_same xs d
-  decided_step xs w (Ask question) d = decided_same xs d
+      go : (e : Event C S) → World.event_in s xs w c ≡ e → Makes c e → Decided (xs ++ History.set_by s e)
+      go (Tracked taken) is m = at_call s xs w (λ c e. Decided (xs ++ History.set_by s e)) m.3 is (track_decided xs w m.0 m.1 m.2 d)
+      go e is m = decided_same xs d
 
   pub decided_past : (cs : List (Call C S)) → Decided (History.taken_sets s (World.past s cs))
   decided_past [] = λ index k lt. absurd (omega arith)
@@ -119,24 +92,9 @@ module _ {C S : Type 0} (s : Settings C S) where
       World.event_in s (History.taken_sets s (World.past s cs)) (World.world_at s (World.past s cs)) c
       ≡ World.event_in s (History.retained_sets s (World.past s cs)) (World.world_at s (World.past s cs)) c
   does_same cs (Track index primary secondary) some =
-      ap (λ b. if b
-      then Tracked
-      (record {
-        index = index;
-        primary = primary;
-        secondary =
-            filter (λ q. not (History.is_in s q primary)) secondary;
-      }) else Nothing)
+      ap (λ b. if b then Tracked (set_of s.cmp index primary secondary) else Nothing)
       (last_decides (History.taken_sets s (World.past s cs)) s.max_sets index some (decided_past cs))
-  does_same cs (Dial p t draw) some = refl
-  does_same cs (Listen p t draw) some = refl
-  does_same cs (Connect p dialer) some = refl
-  does_same cs (Release p) some = refl
-  does_same cs (Update infos) some = refl
-  does_same cs (Block p t) some = refl
-  does_same cs (UnblockExpired t) some = refl
-  does_same cs (ForgetCooled t) some = refl
-  does_same cs (Ask question) some = refl
+  does_same cs c some = refl
 
   -- ONE EVENT, ANY PAST
 

@@ -1,6 +1,6 @@
 -- Which events a call may make, in whatever world. A law of events needs no look inside the calls,
 -- and a question makes none.
-use Rattle.std.proofs.Common.{◌≡◌, ℕ, Bool, true, false, List, Option, Some, None, inl, inr, refl}
+use Rattle.std.proofs.Common.{◌≡◌, ℕ, Bool, true, false, List, Option, Some, None, inl, inr, refl, sym, subst}
 use Rattle.std.specs.Prelude.{if◌then◌else◌, ◌⊎◌}
 use Rattle.p2p_discovery.specs.declared.types.ingress.Ingress.{Ingress}
 use Rattle.p2p_tracker.specs.declared.record.Status.{Status}
@@ -64,3 +64,8 @@ makes {C} {S} s sets w (Block p t) = go _
 makes {C} {S} s sets w (UnblockExpired t) = refl
 makes {C} {S} s sets w (ForgetCooled t) = refl
 makes {C} {S} s sets w (Ask question) = tt
+
+-- what holds of a call and what it does holds of an equal call and its event
+pub at_call : {C S : Type 0} (s : Settings C S) (sets : List (SetAt C)) (w : World C S) {c d : Call C S} {e : Event C S} (F : Call C S → Event C S → Type 0) →
+    c ≡ d → World.event_in s sets w c ≡ e → F d (World.event_in s sets w d) → F c e
+at_call s sets w {c = c} F same is f = subst (F c) is (subst (λ x. F x (World.event_in s sets w x)) (sym same) f)

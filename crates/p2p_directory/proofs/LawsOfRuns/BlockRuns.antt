@@ -1,18 +1,13 @@
 -- Blocks by the replies to a run: of any moments, and where these never go back.
 use Rattle.std.proofs.Common.{◌≡◌, ℕ, ◌+◌, ◌≤◌, max, Bool, true, false, not, ◌&&◌, List, [], ◌∷◌}
 use Rattle.std.proofs.Common.{◌++◌, Option, Some, None, inl, inr, refl, sym, ◌∙◌, ap, subst, arith}
-use Rattle.std.specs.Prelude.{if◌then◌else◌, nat_le, nat_lt, option_to_list, filter, IfSome}
-use Rattle.std.specs.List.{list_all}
-use Rattle.std.specs.Option.{option_map}
+use Rattle.std.specs.Prelude.{if◌then◌else◌, nat_le, option_to_list, IfSome}
 use Rattle.std.specs.Option.{option_map}
 use Rattle.std.proofs.lemmas.Bool.{leb-true, ltb-false, not-true, and_parts}
-use Rattle.p2p_discovery.specs.declared.types.ingress.Ingress.{Ingress}
 use Rattle.p2p_tracker.specs.Blocks.{is_blocked}
-use Rattle.p2p_tracker.specs.declared.record.Status.{Status}
-use Rattle.p2p_tracker.specs.declared.record.Status.TheVariants.{Inert, Reserved, Active}
 use Rattle.p2p_tracker.specs.Calls.{Settings, Call, SetAt, Grant, Event}
-use Rattle.p2p_tracker.specs.Calls.Call.{Track, Dial, Listen, Connect, Release, Update, Block, UnblockExpired, ForgetCooled, Ask}
-use Rattle.p2p_tracker.specs.Calls.Event.{Nothing, Tracked, Granted, Connected, Released, Updated, Blocked, Expired, Forgot}
+use Rattle.p2p_tracker.specs.Calls.Call.{Dial, Listen, Block, UnblockExpired}
+use Rattle.p2p_tracker.specs.Calls.Event.{Nothing, Blocked, Expired}
 use Rattle.p2p_tracker.specs.Moments.{cap}
 use Rattle.p2p_tracker.specs.History
 use Rattle.p2p_tracker.specs.World
@@ -26,8 +21,9 @@ use Rattle.p2p_directory.specs.Laws.Grants.{moment_or, AreOver}
 use Rattle.p2p_directory.specs.Laws.GrantRuns.{granted_by, blocked_by, IsAfter, RunKeepsBlocks}
 use Rattle.p2p_directory.specs.Laws.BlockRuns.{expires_until, expired_by, unless_expired, IsNotBefore, block_taken_by, block_left, KeepLastBlock}
 use Rattle.p2p_directory.proofs.Definitions.Steps
+use Rattle.p2p_directory.proofs.Definitions.Makes.{Makes, makes}
 use Rattle.p2p_directory.proofs.LawsOfRuns.Spacing
-use Rattle.p2p_directory.proofs.LawsOfRuns.Spacing.{GrantFits, IsFree}
+use Rattle.p2p_directory.proofs.LawsOfRuns.Spacing.{GrantFits, limit, over_more}
 use Rattle.p2p_directory.proofs.LawsOfRuns.GrantRuns.{told_after, made, if_accepted, moment_by}
 
 module _ {C S : Type 0} (s : Settings C S) where
@@ -40,50 +36,12 @@ module _ {C S : Type 0} (s : Settings C S) where
 
   -- that of a call's event is that of the call
   expiry_in : (sets : List (SetAt C)) (w : World C S) (c : Call C S) → expiry_of (World.event_in s sets w c) ≡ expires_until c
-  expiry_in sets w (Track index primary secondary) = go (list_all (λ x. nat_lt x.index index) sets)
-    where
-      go : (b : Bool) →
-          expiry_of (if b
-          then Tracked
-          (record {
-            index = index;
-            primary = primary;
-            secondary =
-                filter (λ q. not (History.is_in s q primary)) secondary;
-          }) else Nothing) ≡ None
-      go true = refl
-      go false = refl
-  expiry_in sets w (Dial q t draw) = go (World.may_dial s q t w.sets (w.peer q) (w.unblock q) (w.cooldown q)) (World.address_with s q (w.peer q).known.info)
-    where
-      go : (b : Bool) (address : Option Ingress) → expiry_of (World.dial_event s q t draw b address) ≡ None
-      go b None = refl
-      go true (Some a) = refl
-      go false (Some a) = refl
-  expiry_in sets w (Listen q t draw) = go (World.may_listen s q t w.sets (w.peer q) (w.unblock q) (w.cooldown q))
-    where
-      go : (b : Bool) → expiry_of (World.listen_event s q t draw b) ≡ None
-      go true = refl
-      go false = refl
-  expiry_in sets w (Connect q dialer) = go (w.peer q).status
-    where
-      go : (status : Status) → expiry_of (World.connect_event s q dialer status) ≡ None
-      go Inert = refl
-      go Reserved = refl
-      go Active = refl
-  expiry_in sets w (Release q) = go (w.held q)
-    where
-      go : (held : Option Grant) → expiry_of (World.release_event s q held) ≡ None
-      go None = refl
-      go (Some grant) = refl
-  expiry_in sets w (Update infos) = refl
-  expiry_in sets w (Block q t) = go (not (History.is_own s q) && not (is_blocked (w.unblock q) t))
-    where
-      go : (b : Bool) → expiry_of (if b then Blocked q t else Nothing) ≡ None
-      go true = refl
-      go false = refl
   expiry_in sets w (UnblockExpired t) = refl
-  expiry_in sets w (ForgetCooled t) = refl
-  expiry_in sets w (Ask question) = refl
+  expiry_in sets w c = go (World.event_in s sets w c) (makes s sets w c)
+    where
+      go : (e : Event C S) → Makes c e → expiry_of e ≡ None
+      go (Expired t) m = absurd (cc)
+      go e m = refl
 
   -- the end of a block by the moment at which it was taken
   abbrev end_of : Option ℕ → Option ℕ
@@ -115,13 +73,7 @@ module _ {C S : Type 0} (s : Settings C S) where
       go false = refl
   after_is p (Expired t) None = refl
   after_is p (Expired t) (Some end) = refl
-  after_is p Nothing end = refl
-  after_is p (Tracked taken) end = refl
-  after_is p (Granted q grant) end = refl
-  after_is p (Connected q dialer) end = refl
-  after_is p (Released q direction) end = refl
-  after_is p (Updated infos) end = refl
-  after_is p (Forgot t) end = refl
+  after_is p e end = refl
 
   -- what is kept after one more reply is the unblock moment at the next point
   kept_next : (p : C) (before : List (Call C S)) (c : Call C S) (r : Reply C S) → Run.IsAnswer s before c r →
@@ -178,9 +130,6 @@ module _ {C S : Type 0} (s : Settings C S) where
 
   keep_from : History.IsExact s → (p : C) (end : Option ℕ) (before cs : List (Call C S)) (rs : List (Reply C S)) →
       end ≡ History.unblock_at s p (World.past s before) → Run.AreAnswers s before cs rs → KeepLastBlock s p end cs rs
-  keep_from exact p end before [] [] kept answers = tt
-  keep_from exact p end before [] (r ∷ rs) kept answers = tt
-  keep_from exact p end before (c ∷ cs) [] kept answers = tt
   keep_from exact p end before (c ∷ cs) (r ∷ rs) kept answers =
       let sets = History.taken_sets s (World.past s before) in
       let w = Run.world_after s before in (
@@ -194,21 +143,13 @@ module _ {C S : Type 0} (s : Settings C S) where
         keep_from exact p (block_left s p c r end) (Run.next s before c r) cs rs
             (ap (block_left s p c r) kept ∙ kept_next p before c r answers.0) answers.1,
       )
+  keep_from exact p end before cs rs kept answers = tt
 
   -- by the replies to a whole run, each grant comes when the last block that wasn't ended is over
   pub keep_last_block : History.IsExact s → (p : C) (cs : List (Call C S)) (rs : List (Reply C S)) → Run.AreAnswers s [] cs rs → KeepLastBlock s p None cs rs
   keep_last_block exact p cs rs answers = keep_from exact p None [] cs rs refl answers
 
   -- MOMENTS THAT NEVER GO BACK
-
-  -- now, or the end of a block that holds then
-  abbrev limit : ℕ → Option ℕ → ℕ
-  limit now None = now
-  limit now (Some end) = max now end
-
-  over_later : (ms : List ℕ) (t u : ℕ) → t ≤ u → AreOver s t ms → AreOver s u ms
-  over_later [] t u le over = tt
-  over_later (m ∷ ms) t u le over = (omega (arith, over.0), over_later ms t u le over.1)
 
   -- a grant comes at the moment of its command
   granted_then : (p : C) (now : ℕ) (c : Call C S) (r : Reply C S) → IfSome (granted_by s p c r) (λ grant. grant.0 ≡ moment_or s now c)
@@ -238,41 +179,39 @@ module _ {C S : Type 0} (s : Settings C S) where
 
   over_at : (now u : ℕ) (granted : Option (ℕ × ℕ)) (end : Option ℕ) (ms : List ℕ) → now ≤ u → IfSome granted (λ grant. grant.0 ≡ u) →
       IsNotBefore (option_map (λ grant. grant.0) granted) end →
-      AreOver s (limit now end) ms → IsAfter s granted ms
+      AreOver s (limit s now end) ms → IsAfter s granted ms
   over_at now u None end ms le on_time free over = tt
-  over_at now u (Some grant) None ms le on_time free over = over_later ms now grant.0 (omega (arith, on_time)) over
-  over_at now u (Some grant) (Some end) ms le on_time free over = over_later ms (max now end) grant.0 (omega (arith, on_time, free)) over
+  over_at now u (Some grant) None ms le on_time free over = over_more s ms now grant.0 (omega (arith, on_time)) over
+  over_at now u (Some grant) (Some end) ms le on_time free over = over_more s ms (max now end) grant.0 (omega (arith, on_time, free)) over
 
   over_next : (now u : ℕ) (taken expiry end : Option ℕ) (ms : List ℕ) → now ≤ u → IfSome taken (λ t. t ≡ u) →
       IfSome expiry (λ t. t ≡ u) → IsNotBefore taken end →
-      AreOver s (limit now end) ms → AreOver s (limit u (kept_by (end_of taken) expiry end)) (option_to_list (end_of taken) ++ ms)
-  over_next now u (Some t) expiry None ms le on_time until free over = (omega arith, over_later ms now (max u (cap (t + s.block_duration))) (omega arith) over)
+      AreOver s (limit s now end) ms → AreOver s (limit s u (kept_by (end_of taken) expiry end)) (option_to_list (end_of taken) ++ ms)
+  over_next now u (Some t) expiry None ms le on_time until free over = (omega arith, over_more s ms now (max u (cap (t + s.block_duration))) (omega arith) over)
   over_next now u (Some t) expiry (Some end) ms le on_time until free over =
-      (omega arith, over_later ms (max now end) (max u (cap (t + s.block_duration))) (omega (arith, on_time, free)) over)
-  over_next now u None None None ms le on_time until free over = over_later ms now u le over
-  over_next now u None None (Some end) ms le on_time until free over = over_later ms (max now end) (max u end) (omega arith) over
-  over_next now u None (Some t) None ms le on_time until free over = over_later ms now u le over
+      (omega arith, over_more s ms (max now end) (max u (cap (t + s.block_duration))) (omega (arith, on_time, free)) over)
+  over_next now u None None None ms le on_time until free over = over_more s ms now u le over
+  over_next now u None None (Some end) ms le on_time until free over = over_more s ms (max now end) (max u end) (omega arith) over
+  over_next now u None (Some t) None ms le on_time until free over = over_more s ms now u le over
   over_next now u None (Some t) (Some end) ms le on_time until free over = go (nat_le end t) refl
     where
-      go : (b : Bool) → nat_le end t ≡ b → AreOver s (limit u (if b then None else Some end)) ms
-      go true e = over_later ms (max now end) u (omega (arith, until, leb-true end t e)) over
-      go false e = over_later ms (max now end) (max u end) (omega arith) over
+      go : (b : Bool) → nat_le end t ≡ b → AreOver s (limit s u (if b then None else Some end)) ms
+      go true e = over_more s ms (max now end) u (omega (arith, until, leb-true end t e)) over
+      go false e = over_more s ms (max now end) (max u end) (omega arith) over
 
   forward_from : (p : C) (now : ℕ) (end : Option ℕ) (ms : List ℕ) (cs : List (Call C S)) (rs : List (Reply C S)) →
-      AreOver s (limit now end) ms → KeepLastBlock s p end cs rs → RunKeepsBlocks s p now ms cs rs
-  forward_from p now end ms [] [] over kept = tt
-  forward_from p now end ms [] (r ∷ rs) over kept = tt
-  forward_from p now end ms (c ∷ cs) [] over kept = tt
+      AreOver s (limit s now end) ms → KeepLastBlock s p end cs rs → RunKeepsBlocks s p now ms cs rs
   forward_from p now end ms (c ∷ cs) (r ∷ rs) over kept = λ forward.
       let u = moment_or s now c in (
         over_at now u (granted_by s p c r) end ms forward (granted_then p now c r) kept.0 over,
         forward_from p u (block_left s p c r end) (option_to_list (blocked_by s p c r) ++ ms) cs rs
-            (subst (λ o. AreOver s (limit u (block_left s p c r end)) (option_to_list o ++ ms)) (end_is p c r)
-            (subst (λ o. AreOver s (limit u o) (option_to_list (end_of (block_taken_by s p c r)) ++ ms))
+            (subst (λ o. AreOver s (limit s u (block_left s p c r end)) (option_to_list o ++ ms)) (end_is p c r)
+            (subst (λ o. AreOver s (limit s u o) (option_to_list (end_of (block_taken_by s p c r)) ++ ms))
             (sym (left_is (block_taken_by s p c r) (expired_by c r) end))
             (over_next now u (block_taken_by s p c r) (expired_by c r) end ms forward (taken_then p now c r) (expired_then now c r) kept.1 over)))
             kept.2,
       )
+  forward_from p now end ms cs rs over kept = tt
 
   -- as long as moments never go back, each grant comes when all blocks before it are over
   pub keep_blocks : (p : C) (cs : List (Call C S)) (rs : List (Reply C S)) → KeepLastBlock s p None cs rs → RunKeepsBlocks s p 0 [] cs rs

@@ -4,10 +4,8 @@ use Rattle.std.specs.Prelude.{if◌then◌else◌}
 use Rattle.std.specs.Cmp.{IsTotalOrder}
 use Rattle.std.proofs.lemmas.Bool.{and_parts}
 use Rattle.p2p_tracker.specs.Calls.{Settings, Call}
-use Rattle.p2p_tracker.specs.Calls.Question.{StatusOf, NumberTracked, NextUnblock, BlockedAt}
-use Rattle.p2p_tracker.specs.Calls.Question.{PeerSet, LatestIndex, AllPeers, LatestUpdate, InfoOf}
-use Rattle.p2p_tracker.specs.Calls.Question.{InfosFor, BitsAt, IsEligible, IsAcceptable, DialableAt}
-use Rattle.p2p_tracker.specs.Calls.Call.{Track, Dial, Listen, Connect, Release, Update, Block, UnblockExpired, ForgetCooled, Ask}
+use Rattle.p2p_tracker.specs.Calls.Question.{NumberTracked}
+use Rattle.p2p_tracker.specs.Calls.Call.{Connect, Release, Ask}
 use Rattle.p2p_tracker.specs.Answers.{IsNumberTracked, is_present_in, may_connect, may_release}
 use Rattle.p2p_directory.specs.Run
 use Rattle.p2p_directory.specs.declared.run.commands.Reply.{Reply}
@@ -32,26 +30,6 @@ module _ {C S : Type 0} (s : Settings C S) (n : ℕ) (total : IsTotalOrder s.cmp
       Run.Replies s (Run.event_of s before c) (Run.world_after s before)
       (Run.world_after s (c ∷ before)) c (reply.Tracked count) → IsFew s n before count
   count_few before (Ask NumberTracked) count h a = tracked_few before count h a
-  count_few before (Dial q t draw) count h a = absurd (cc)
-  count_few before (Listen q t draw) count h a = absurd (cc)
-  count_few before (Update infos) count h a = absurd (cc)
-  count_few before (Block q t) count h a = absurd (cc)
-  count_few before (Ask (StatusOf q)) count h a = absurd (cc)
-  count_few before (Ask (PeerSet index)) count h a = absurd (cc)
-  count_few before (Ask LatestIndex) count h a = absurd (cc)
-  count_few before (Ask (InfoOf q)) count h a = absurd (cc)
-  count_few before (Ask (BitsAt place)) count h a = absurd (cc)
-  count_few before (Ask (IsEligible q t)) count h a = absurd (cc)
-  count_few before (Ask (IsAcceptable q t)) count h a = absurd (cc)
-  count_few before (Track index primary secondary) count h a = absurd a
-  count_few before (UnblockExpired t) count h a = absurd a
-  count_few before (ForgetCooled t) count h a = absurd a
-  count_few before (Ask NextUnblock) count h a = absurd a
-  count_few before (Ask (BlockedAt t)) count h a = absurd a
-  count_few before (Ask AllPeers) count h a = absurd a
-  count_few before (Ask LatestUpdate) count h a = absurd a
-  count_few before (Ask (InfosFor index bits t)) count h a = absurd a
-  count_few before (Ask (DialableAt t)) count h a = absurd a
   count_few before (Connect q dialer) count h a = go (may_connect s (Run.world_after s before) q) a
     where
       go : (b : Bool) → ◌≡◌ {A = Reply C S} (reply.Tracked count) (if b then reply.Connect else reply.NotReserved) → IsFew s n before count
@@ -62,6 +40,7 @@ module _ {C S : Type 0} (s : Settings C S) (n : ℕ) (total : IsTotalOrder s.cmp
       go : (b : Bool) → ◌≡◌ {A = Reply C S} (reply.Tracked count) (if b then reply.Release else reply.NotHeld) → IsFew s n before count
       go true e = absurd (cc)
       go false e = absurd (cc)
+  count_few before c count h a = absurd (first_of (cc, search))
 
   few : (before : List (Call C S)) (c : Call C S) (r : Reply C S) → NameAtMost s n before →
       Run.IsAnswer s before c r → TellsFew s n before r
@@ -69,11 +48,9 @@ module _ {C S : Type 0} (s : Settings C S) (n : ℕ) (total : IsTotalOrder s.cmp
       (answered s before c (reply.Tracked count) refl (subst (Run.IsAnswer s before c) is a))
 
   keep_bound_from : (before cs : List (Call C S)) (rs : List (Reply C S)) → Run.AreAnswers s before cs rs → KeepBound s n before cs rs
-  keep_bound_from before [] [] answers = λ h. Bounded.bounded s n total before h
-  keep_bound_from before [] (r ∷ rs) answers = λ h. Bounded.bounded s n total before h
-  keep_bound_from before (c ∷ cs) [] answers = λ h. Bounded.bounded s n total before h
   keep_bound_from before (c ∷ cs) (r ∷ rs) answers =
       ((λ h. (Bounded.bounded s n total before h, few before c r h answers.0)), keep_bound_from (Run.next s before c r) cs rs answers.1)
+  keep_bound_from before cs rs answers = λ h. Bounded.bounded s n total before h
 
   -- by the replies to a whole run, the present keys and what is told of their number are within the bound
   pub keep_bound : (cs : List (Call C S)) (rs : List (Reply C S)) → Run.AreAnswers s [] cs rs → KeepBound s n [] cs rs

@@ -4,10 +4,9 @@ use Rattle.std.specs.Cmp.{IsTotalOrder}
 use Rattle.std.proofs.lemmas.Bool.{or_right}
 use Rattle.p2p_tracker.specs.Calls.{Settings, Question, Call}
 use Rattle.p2p_tracker.specs.Calls.Question.{DialableAt}
-use Rattle.p2p_tracker.specs.Calls.Call.{Track, Dial, Listen, Connect, Release, Update, Block, UnblockExpired, ForgetCooled, Ask}
+use Rattle.p2p_tracker.specs.Calls.Call.{Dial, Ask}
 use Rattle.p2p_tracker.specs.declared.record.dialing.Dialable.{Dialable}
 use Rattle.p2p_tracker.specs.History
-use Rattle.p2p_tracker.specs.History.{last_with}
 use Rattle.p2p_tracker.specs.World
 use Rattle.p2p_tracker.specs.World.{World}
 use Rattle.p2p_tracker.specs.Answers.{IsDialable, is_dialable, query_moment, was_granted}
@@ -67,17 +66,7 @@ module _ {C S : Type 0} (s : Settings C S) where
       (Isolation.another_alike s some p (Dial q u draw) before (ap not (without_in exact p q ps other).1))
       ∙ ready p (without_in exact p q ps other).0) a)
       answers.1
-  all_granted some exact t ps before (Dial q u draw ∷ cs) [] ready answers = tt
-  all_granted some exact t ps before [] rs ready answers = tt
-  all_granted some exact t ps before (Track index primary secondary ∷ cs) rs ready answers = tt
-  all_granted some exact t ps before (Listen q u draw ∷ cs) rs ready answers = tt
-  all_granted some exact t ps before (Connect q dialer ∷ cs) rs ready answers = tt
-  all_granted some exact t ps before (Release q ∷ cs) rs ready answers = tt
-  all_granted some exact t ps before (Update infos ∷ cs) rs ready answers = tt
-  all_granted some exact t ps before (Block q u ∷ cs) rs ready answers = tt
-  all_granted some exact t ps before (UnblockExpired u ∷ cs) rs ready answers = tt
-  all_granted some exact t ps before (ForgetCooled u ∷ cs) rs ready answers = tt
-  all_granted some exact t ps before (Ask question ∷ cs) rs ready answers = tt
+  all_granted some exact t ps before cs rs ready answers = tt
 
   -- QUIET
 
@@ -125,17 +114,7 @@ module _ {C S : Type 0} (s : Settings C S) where
       repeated t ps next before question r first answers.0,
       all_quiet t ps next (Run.next s before (Ask question) r) cs rs (asked_answer exact question before (Run.was_made r) t ps next first) answers.1,
     )
-    all_quiet t ps next before (Ask question ∷ cs) [] first answers = tt
-    all_quiet t ps next before [] rs first answers = tt
-    all_quiet t ps next before (Track index primary secondary ∷ cs) rs first answers = tt
-    all_quiet t ps next before (Dial q u draw ∷ cs) rs first answers = tt
-    all_quiet t ps next before (Listen q u draw ∷ cs) rs first answers = tt
-    all_quiet t ps next before (Connect q dialer ∷ cs) rs first answers = tt
-    all_quiet t ps next before (Release q ∷ cs) rs first answers = tt
-    all_quiet t ps next before (Update infos ∷ cs) rs first answers = tt
-    all_quiet t ps next before (Block q u ∷ cs) rs first answers = tt
-    all_quiet t ps next before (UnblockExpired u ∷ cs) rs first answers = tt
-    all_quiet t ps next before (ForgetCooled u ∷ cs) rs first answers = tt
+    all_quiet t ps next before cs rs first answers = tt
 
     -- THE RUN
 

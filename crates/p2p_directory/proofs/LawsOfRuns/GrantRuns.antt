@@ -1,15 +1,12 @@
 -- Grants and blocks by the replies to a run.
-use Rattle.std.proofs.Common.{◌≡◌, ℕ, ◌≤◌, Bool, true, false, not, ◌&&◌, List, [], ◌∷◌, Option, Some, None, inl, inr, refl, sym, ◌∙◌, ap, subst, arith}
-use Rattle.std.specs.Prelude.{if◌then◌else◌, nat_lt, filter}
+use Rattle.std.proofs.Common.{◌≡◌, ℕ, ◌≤◌, Bool, true, false, List, [], ◌∷◌, Option, Some, None, inl, inr, refl, sym, ◌∙◌, ap, subst, arith}
+use Rattle.std.specs.Prelude.{if◌then◌else◌}
 use Rattle.std.specs.Option.{option_map}
-use Rattle.std.specs.List.{list_all, list_any}
-use Rattle.p2p_discovery.specs.declared.types.ingress.Ingress.{Ingress}
-use Rattle.p2p_tracker.specs.Blocks.{is_blocked}
-use Rattle.p2p_tracker.specs.declared.record.Status.{Status}
+use Rattle.std.specs.List.{list_any}
 use Rattle.p2p_tracker.specs.Calls.{Settings, SetAt, Call, Grant, Event}
-use Rattle.p2p_tracker.specs.Calls.Call.{Track, Dial, Listen, Connect, Release, Update, Block, UnblockExpired, ForgetCooled, Ask}
-use Rattle.p2p_tracker.specs.Calls.Direction.{Listener, Dialer}
-use Rattle.p2p_tracker.specs.Calls.Event.{Nothing, Tracked, Updated, Blocked, Expired, Forgot}
+use Rattle.p2p_tracker.specs.Calls.Call.{Dial, Listen, Block, ForgetCooled}
+use Rattle.p2p_tracker.specs.Calls.Event.{Granted, Blocked, Forgot}
+use Rattle.p2p_tracker.specs.Answers.{was_granted, was_blocked}
 use Rattle.p2p_tracker.specs.History
 use Rattle.p2p_tracker.specs.History.{last_with, found_with, unless_ended, last_unless_ended}
 use Rattle.p2p_tracker.specs.World
@@ -22,6 +19,7 @@ use Rattle.p2p_directory.specs.Laws.GrantRuns.{granted_by, forgets_by, blocked_b
 use Rattle.p2p_directory.specs.Laws.GrantRuns.{last_after, kept_after, RunKeepsCooldownUnlessForgotten}
 use Rattle.p2p_directory.specs.Laws.GrantRuns.{RunKeepsCooldown}
 use Rattle.p2p_directory.proofs.Definitions.Steps
+use Rattle.p2p_directory.proofs.Definitions.Makes.{Makes, makes}
 use Rattle.p2p_directory.proofs.LawsOfRuns.Spacing
 
 module _ {C S : Type 0} (s : Settings C S) where
@@ -54,87 +52,50 @@ module _ {C S : Type 0} (s : Settings C S) where
     pub granted : granted_by s p c r ≡ if_accepted (Run.was_made r) (moment_by p e)
     pub blocked : blocked_by s p c r ≡ if_accepted (Run.was_made r) (History.block_by s p e)
 
-  told : (p : C) (sets : List (SetAt C)) (w v : World C S) (c : Call C S) (r : Reply C S) →
-      Run.MayReply s (World.event_in s sets w c) w v c r → IsTold p c r (World.event_in s sets w c)
-  told p sets w v (Track index primary secondary) r a = go (list_all (λ x. nat_lt x.index index) sets)
+  -- a reply to a call that neither grants nor blocks
+  nothing_told : (p : C) (e : Event C S) (w v : World C S) (c : Call C S) (r : Reply C S) → was_granted e ≡ false → was_blocked e ≡ false →
+      Run.MayReply s e w v c r → (granted_by s p c r ≡ None) × (blocked_by s p c r ≡ None)
+  nothing_told p e w v (Dial q t draw) (reply.Dial true) not_granted not_blocked (inl (refused, may)) = absurd (cc)
+  nothing_told p e w v (Dial q t draw) (reply.Dial true) not_granted not_blocked (inr is) = absurd (let said = is ∙ ap reply.Dial not_granted in cc)
+  nothing_told p e w v (Listen q t draw) (reply.Listen true) not_granted not_blocked (inl (refused, may)) = absurd (cc)
+  nothing_told p e w v (Listen q t draw) (reply.Listen true) not_granted not_blocked (inr is) = absurd (let said = is ∙ ap reply.Listen not_granted in cc)
+  nothing_told p e w v (Block q t) (reply.Block true) not_granted not_blocked (inl (refused, may)) = absurd (cc)
+  nothing_told p e w v (Block q t) (reply.Block true) not_granted not_blocked (inr is) = absurd (let said = is ∙ ap reply.Block not_blocked in cc)
+  nothing_told p e w v c r not_granted not_blocked a = (refl, refl)
+
+  granted_alike : (p q : C) (grant : Grant) → (if History.same s q p then Some (made grant) else None) ≡ moment_by p (Granted q grant)
+  granted_alike p q grant = elim (History.same s q p) as
+      (λ b. (if b then Some (made grant) else None) ≡ option_map made (if b then Some grant else None))
+      [ true ↦ refl | false ↦ refl ]
+
+  -- by both replies that a call may get
+  either_told : (p : C) (e : Event C S) (w v : World C S) {c d : Call C S} {r : Reply C S} (said : Reply C S) → c ≡ d → Run.MayReply s e w v c r →
+      (Run.Replies s e w v d r → r ≡ said) → IsTold p d reply.OutOfMemory e → IsTold p d said e → IsTold p c r e
+  either_told p e w v {c = c} {d = d} {r = r} said same a is refused accepted =
+      subst (λ x. IsTold p x r e) (sym same) (go (subst (λ x. Run.MayReply s e w v x r) same a))
     where
-      go : (b : Bool) →
-          IsTold p (Track index primary secondary) r
-          (if b then Tracked
-          (record {
-            index = index;
-            primary = primary;
-            secondary =
-                filter (λ q. not (History.is_in s q primary)) secondary;
-          }) else Nothing)
-      go true = record { granted = nothing (Run.was_made r); blocked = nothing (Run.was_made r) }
-      go false = record { granted = nothing (Run.was_made r); blocked = nothing (Run.was_made r) }
-  told p sets w v (Dial q t draw) r a = go (World.may_dial s q t w.sets (w.peer q) (w.unblock q) (w.cooldown q))
-      (World.address_with s q (w.peer q).known.info)
-      a
-    where
-      go : (b : Bool) (address : Option Ingress) →
-          Run.MayReply s (World.dial_event s q t draw b address) w v (Dial q t draw) r →
-          IsTold p (Dial q t draw) r (World.dial_event s q t draw b address)
-      go b address (inl (e, may)) = subst (λ x. IsTold p (Dial q t draw) x (World.dial_event s q t draw b address)) (sym e) (record { granted = refl; blocked = refl })
-      go b None (inr e) = subst (λ x. IsTold p (Dial q t draw) x Nothing) (sym e) (record { granted = refl; blocked = refl })
-      go false (Some x) (inr e) = subst (λ y. IsTold p (Dial q t draw) y Nothing) (sym e) (record { granted = refl; blocked = refl })
-      go true (Some x) (inr e) =
-          subst (λ y. IsTold p (Dial q t draw) y (World.dial_event s q t draw true (Some x))) (sym e)
-          (record {
-            granted =
-                elim (History.same s q p) as
-                (λ b. (if b then Some (t, draw) else None)
-                ≡ option_map made (if b then Some (record { t = t; draw = draw; direction = Dialer x }) else None))
-                [ true ↦ refl | false ↦ refl ];
-            blocked = refl;
-          })
-  told p sets w v (Listen q t draw) r a =
-      go (World.may_listen s q t w.sets (w.peer q) (w.unblock q) (w.cooldown q))
-      a
-    where
-      go : (b : Bool) →
-          Run.MayReply s (World.listen_event s q t draw b) w v (Listen q t draw) r →
-          IsTold p (Listen q t draw) r (World.listen_event s q t draw b)
-      go b (inl (e, may)) = subst (λ x. IsTold p (Listen q t draw) x (World.listen_event s q t draw b)) (sym e) (record { granted = refl; blocked = refl })
-      go false (inr e) = subst (λ y. IsTold p (Listen q t draw) y Nothing) (sym e) (record { granted = refl; blocked = refl })
-      go true (inr e) =
-          subst (λ y. IsTold p (Listen q t draw) y (World.listen_event s q t draw true)) (sym e)
-          (record {
-            granted =
-                elim (History.same s q p) as
-                (λ b. (if b then Some (t, draw) else None)
-                ≡ option_map made (if b then Some (record { t = t; draw = draw; direction = Listener }) else None))
-                [ true ↦ refl | false ↦ refl ];
-            blocked = refl;
-          })
-  told p sets w v (Connect q dialer) r a = go (w.peer q).status
-    where
-      go : (status : Status) → IsTold p (Connect q dialer) r (World.connect_event s q dialer status)
-      go Status.Inert = record { granted = nothing (Run.was_made r); blocked = nothing (Run.was_made r) }
-      go Status.Reserved = record { granted = nothing (Run.was_made r); blocked = nothing (Run.was_made r) }
-      go Status.Active = record { granted = nothing (Run.was_made r); blocked = nothing (Run.was_made r) }
-  told p sets w v (Release q) r a = go (w.held q)
-    where
-      go : (held : Option Grant) → IsTold p (Release q) r (World.release_event s q held)
-      go None = record { granted = nothing (Run.was_made r); blocked = nothing (Run.was_made r) }
-      go (Some grant) = record { granted = nothing (Run.was_made r); blocked = nothing (Run.was_made r) }
-  told p sets w v (Update infos) r a = record { granted = nothing (Run.was_made r); blocked = nothing (Run.was_made r) }
-  told p sets w v (Block q t) r a = go (not (History.is_own s q) && not (is_blocked (w.unblock q) t))
-      a
-    where
-      go : (b : Bool) →
-          Run.MayReply s (if b then Blocked q t else Nothing) w v (Block q t) r →
-          IsTold p (Block q t) r (if b then Blocked q t else Nothing)
-      go b (inl (e, may)) = subst (λ x. IsTold p (Block q t) x (if b then Blocked q t else Nothing)) (sym e) (record { granted = refl; blocked = refl })
-      go false (inr e) = subst (λ y. IsTold p (Block q t) y Nothing) (sym e) (record { granted = refl; blocked = refl })
-      go true (inr e) = subst (λ y. IsTold p (Block q t) y (Blocked q t)) (sym e) (record { granted = refl; blocked = refl })
-  told p sets w v (UnblockExpired t) r a = record { granted = nothing (Run.was_made r); blocked = nothing (Run.was_made r) }
-  told p sets w v (ForgetCooled t) r a = record { granted = nothing (Run.was_made r); blocked = nothing (Run.was_made r) }
-  told p sets w v (Ask question) r a = record { granted = nothing (Run.was_made r); blocked = nothing (Run.was_made r) }
+      go : Run.MayReply s e w v d r → IsTold p d r e
+      go (inl out) = subst (λ x. IsTold p d x e) (sym out.0) refused
+      go (inr x) = subst (λ x. IsTold p d x e) (sym (is x)) accepted
+
+  told : (p : C) (w v : World C S) (c : Call C S) (r : Reply C S) (e : Event C S) → Makes c e → Run.MayReply s e w v c r → IsTold p c r e
+  told p w v c r (Granted q grant) (inl m) a =
+      either_told p (Granted q grant) w v (reply.Dial true) m a (λ x. x)
+      (record { granted = refl; blocked = refl }) (record { granted = granted_alike p q grant; blocked = refl })
+  told p w v c r (Granted q grant) (inr m) a =
+      either_told p (Granted q grant) w v (reply.Listen true) m a (λ x. x)
+      (record { granted = refl; blocked = refl }) (record { granted = granted_alike p q grant; blocked = refl })
+  told p w v c r (Blocked q t) m a =
+      either_told p (Blocked q t) w v (reply.Block true) m a (λ x. x)
+      (record { granted = refl; blocked = refl }) (record { granted = refl; blocked = refl })
+  told p w v c r e m a =
+      let n = nothing_told p e w v c r refl refl a in
+      record { granted = n.0 ∙ nothing (Run.was_made r); blocked = n.1 ∙ nothing (Run.was_made r) }
 
   pub told_after : (p : C) (before : List (Call C S)) (c : Call C S) (r : Reply C S) → Run.IsAnswer s before c r → IsTold p c r (Run.event_of s before c)
-  told_after p before c r a = told p (History.taken_sets s (World.past s before)) (Run.world_after s before) (Run.world_after s (c ∷ before)) c r a
+  told_after p before c r a =
+      told p (Run.world_after s before) (Run.world_after s (c ∷ before)) c r (Run.event_of s before c)
+      (makes s (History.taken_sets s (World.past s before)) (Run.world_after s before) c) a
 
   -- BLOCKS
 
@@ -185,49 +146,11 @@ module _ {C S : Type 0} (s : Settings C S) where
       Run.MayReply s (World.event_in s sets w c) w v c r →
       ForgetsAlike (Run.was_made r) c (World.event_in s sets w c)
   forgets_after sets w v (ForgetCooled u) r a = forgets_told u w v r a
-  forgets_after sets w v (Track index primary secondary) r a = none_forgotten (Run.was_made r) (Track index primary secondary) _ (λ grant. refl) (go _)
+  forgets_after sets w v c r a = none_forgotten (Run.was_made r) c (World.event_in s sets w c) (λ grant. refl) (go (World.event_in s sets w c) (makes s sets w c))
     where
-      go : (b : Bool) (grant : Grant) →
-          History.is_forgetting s grant
-          (if b then Tracked
-          (record {
-            index = index;
-            primary = primary;
-            secondary =
-                filter (λ q. not (History.is_in s q primary)) secondary;
-          }) else Nothing) ≡ false
-      go true grant = refl
-      go false grant = refl
-  forgets_after sets w v (Dial q t draw) r a = none_forgotten (Run.was_made r) (Dial q t draw) _ (λ grant. refl) (go _ _)
-    where
-      go : (b : Bool) (address : Option Ingress) (grant : Grant) → History.is_forgetting s grant (World.dial_event s q t draw b address) ≡ false
-      go b None grant = refl
-      go true (Some x) grant = refl
-      go false (Some x) grant = refl
-  forgets_after sets w v (Listen q t draw) r a = none_forgotten (Run.was_made r) (Listen q t draw) _ (λ grant. refl) (go _)
-    where
-      go : (b : Bool) (grant : Grant) → History.is_forgetting s grant (World.listen_event s q t draw b) ≡ false
-      go true grant = refl
-      go false grant = refl
-  forgets_after sets w v (Connect q dialer) r a = none_forgotten (Run.was_made r) (Connect q dialer) _ (λ grant. refl) (go (w.peer q).status)
-    where
-      go : (status : Status) (grant : Grant) → History.is_forgetting s grant (World.connect_event s q dialer status) ≡ false
-      go Status.Inert grant = refl
-      go Status.Reserved grant = refl
-      go Status.Active grant = refl
-  forgets_after sets w v (Release q) r a = none_forgotten (Run.was_made r) (Release q) _ (λ grant. refl) (go (w.held q))
-    where
-      go : (held : Option Grant) (grant : Grant) → History.is_forgetting s grant (World.release_event s q held) ≡ false
-      go None grant = refl
-      go (Some x) grant = refl
-  forgets_after sets w v (Update infos) r a = none_forgotten (Run.was_made r) (Update infos) (Updated infos) (λ grant. refl) (λ grant. refl)
-  forgets_after sets w v (Block q t) r a = none_forgotten (Run.was_made r) (Block q t) _ (λ grant. refl) (go _)
-    where
-      go : (b : Bool) (grant : Grant) → History.is_forgetting s grant (if b then Blocked q t else Nothing) ≡ false
-      go true grant = refl
-      go false grant = refl
-  forgets_after sets w v (UnblockExpired t) r a = none_forgotten (Run.was_made r) (UnblockExpired t) (Expired t) (λ grant. refl) (λ grant. refl)
-  forgets_after sets w v (Ask question) r a = none_forgotten (Run.was_made r) (Ask question) Nothing (λ grant. refl) (λ grant. refl)
+      go : (e : Event C S) → Makes c e → (grant : Grant) → History.is_forgetting s grant e ≡ false
+      go (Forgot u) m grant = absurd (cc)
+      go e m grant = refl
 
   -- the last grant of p in a past, and the last unless it was forgotten
   abbrev last_in : C → List (Event C S) → Option (ℕ × ℕ)
@@ -295,9 +218,6 @@ module _ {C S : Type 0} (s : Settings C S) where
 
   keep_unless_forgotten_from : History.IsExact s → (p : C) (kept : Option (ℕ × ℕ)) (before cs : List (Call C S)) (rs : List (Reply C S)) →
       kept ≡ kept_in p (World.past s before) → Run.AreAnswers s before cs rs → RunKeepsCooldownUnlessForgotten s p kept cs rs
-  keep_unless_forgotten_from exact p kept before [] [] e answers = tt
-  keep_unless_forgotten_from exact p kept before [] (r ∷ rs) e answers = tt
-  keep_unless_forgotten_from exact p kept before (c ∷ cs) [] e answers = tt
   keep_unless_forgotten_from exact p kept before (c ∷ cs) (r ∷ rs) e answers =
       let t = told_after p before c r answers.0 in
       let f = forgets_after (History.taken_sets s (World.past s before)) (Run.world_after s before) (Run.world_after s (c ∷ before)) c r answers.0 in (
@@ -309,6 +229,7 @@ module _ {C S : Type 0} (s : Settings C S) where
             ((λ i. kept_after s c (t.granted i) (e i)) ∙ kept_more p before c (Run.was_made r) f)
             answers.1,
       )
+  keep_unless_forgotten_from exact p kept before cs rs e answers = tt
 
   -- by the replies to a whole run, the grants of p keep the cooldown, unless forgotten
   pub keep_unless_forgotten : History.IsExact s → (p : C) (cs : List (Call C S)) (rs : List (Reply C S)) →
@@ -317,9 +238,6 @@ module _ {C S : Type 0} (s : Settings C S) where
 
   keep_cooldown_from : History.IsExact s → (p : C) (last : Option (ℕ × ℕ)) (now : ℕ) (before cs : List (Call C S)) (rs : List (Reply C S)) →
       last ≡ last_in p (World.past s before) → NeverGoBack s now before → Run.AreAnswers s before cs rs → RunKeepsCooldown s p now last cs rs
-  keep_cooldown_from exact p last now before [] [] e on answers = tt
-  keep_cooldown_from exact p last now before [] (r ∷ rs) e on answers = tt
-  keep_cooldown_from exact p last now before (c ∷ cs) [] e on answers = tt
   keep_cooldown_from exact p last now before (c ∷ cs) (r ∷ rs) e on answers =
       λ forward. let t = told_after p before c r answers.0 in (
         subst (λ o. IsGrantCooledAfter s o last) (sym t.granted)
@@ -330,6 +248,7 @@ module _ {C S : Type 0} (s : Settings C S) where
             ((λ i. last_after s (t.granted i) (e i)) ∙ last_more p before c (Run.was_made r))
             (next_forward c before now (Run.was_made r) forward on) answers.1,
       )
+  keep_cooldown_from exact p last now before cs rs e on answers = tt
 
   -- by the replies to a whole run whose moments never go back, the grants of p keep the cooldown
   pub keep_cooldown : History.IsExact s → (p : C) (cs : List (Call C S)) (rs : List (Reply C S)) → Run.AreAnswers s [] cs rs → RunKeepsCooldown s p 0 None cs rs

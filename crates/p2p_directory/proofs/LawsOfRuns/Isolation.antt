@@ -1,25 +1,25 @@
 -- What concerns others leaves p as it was.
-use Rattle.std.proofs.Common.{◌≡◌, ℕ, suc, ◌+◌, ◌≤◌, Bool, true, false, cond, not, ◌&&◌, List, [], ◌∷◌, Option, Some, None, refl, sym, ◌∙◌, ap, subst}
+use Rattle.std.proofs.Common.{◌≡◌, ℕ, suc, ◌+◌, ◌≤◌, Bool, true, false, cond, not, ◌&&◌, List, [], ◌∷◌, Option, Some, None, inl, inr, refl, sym, ◌∙◌, ap, subst}
 use Rattle.std.specs.Prelude.{if◌then◌else◌, filter, nat_lt}
 use Rattle.std.proofs.lemmas.Bool.{not-true, not-false}
-use Rattle.p2p_discovery.specs.declared.types.ingress.Ingress.{Ingress}
 use Rattle.p2p_tracker.specs.Status.{is_inert}
 use Rattle.p2p_tracker.specs.Blocks.{is_blocked}
 use Rattle.p2p_tracker.specs.Cooldowns.{dialable_from}
 use Rattle.p2p_tracker.specs.declared.record.Status.{Status}
 use Rattle.p2p_tracker.specs.Calls.{Settings, Question, Call, SetAt, Grant, Cooldown, Event}
-use Rattle.p2p_tracker.specs.Calls.Call.{Track, Dial, Listen, Connect, Release, Update, Block, UnblockExpired, ForgetCooled, Ask}
-use Rattle.p2p_tracker.specs.declared.record.Status.TheVariants.{Inert, Reserved, Active}
+use Rattle.p2p_tracker.specs.Calls.Call.{Track, Dial, Listen, Connect, Release, Update, Block, Ask}
+use Rattle.p2p_tracker.specs.declared.record.Status.TheVariants.{Inert, Reserved}
 use Rattle.p2p_tracker.specs.Calls.Event.{Nothing, Tracked, Granted, Connected, Released, Updated, Blocked, Expired, Forgot}
 use Rattle.p2p_tracker.specs.Moments.{cap}
 use Rattle.p2p_tracker.specs.History
 use Rattle.p2p_tracker.specs.World
 use Rattle.p2p_tracker.specs.Step
-use Rattle.p2p_tracker.specs.World.{Known, Peer, World}
+use Rattle.p2p_tracker.specs.World.{Known, World}
 use Rattle.p2p_tracker.specs.Answers
 use Rattle.p2p_directory.specs.Laws.Isolation.{SameFor, AnswersAlike, is_on_another, narrowed, left_for}
 use Rattle.p2p_tracker.proofs.Definitions.Knowledge
 use Rattle.p2p_directory.proofs.Definitions.Law
+use Rattle.p2p_directory.proofs.Definitions.Makes.{Makes, makes}
 
 filter_again : {A : Type 0} (test : A → Bool) (xs : List A) → filter test (filter test xs) ≡ filter test xs
 filter_again test [] = refl
@@ -51,83 +51,45 @@ module _ {C S : Type 0} (s : Settings C S) where
   -- an event on another peer
   abbrev is_quiet : C → Event C S → Bool
   is_quiet p Nothing = true
-  is_quiet p (Tracked taken) = false
   is_quiet p (Granted q grant) = not (History.same s q p)
   is_quiet p (Connected q dialer) = not (History.same s q p)
   is_quiet p (Released q direction) = not (History.same s q p)
-  is_quiet p (Updated infos) = false
   is_quiet p (Blocked q t) = not (History.same s q p)
-  is_quiet p (Expired t) = false
-  is_quiet p (Forgot t) = false
+  is_quiet p _ = false
 
   -- it leaves p as it was
   sets_quiet : (p : C) (e : Event C S) (sets : List (SetAt C)) → is_quiet p e ≡ true → Step.sets_after s e sets ≡ sets
   sets_quiet p (Tracked taken) sets quiet = absurd (cc)
-  sets_quiet p Nothing sets quiet = refl
-  sets_quiet p (Granted q grant) sets quiet = refl
-  sets_quiet p (Connected q dialer) sets quiet = refl
-  sets_quiet p (Released q direction) sets quiet = refl
-  sets_quiet p (Updated infos) sets quiet = refl
-  sets_quiet p (Blocked q t) sets quiet = refl
-  sets_quiet p (Expired t) sets quiet = refl
-  sets_quiet p (Forgot t) sets quiet = refl
+  sets_quiet p e sets quiet = refl
 
   status_quiet : (p : C) (e : Event C S) (status : Status) → is_quiet p e ≡ true → Step.status_after s p e status ≡ status
   status_quiet p (Granted q grant) status quiet = ap (λ b. if b then Reserved else status) (not-true (History.same s q p) quiet)
   status_quiet p (Connected q dialer) status quiet = ap (λ b. if b then Step.status_connected s status else status) (not-true (History.same s q p) quiet)
   status_quiet p (Released q direction) status quiet = ap (λ b. if b then Inert else status) (not-true (History.same s q p) quiet)
-  status_quiet p Nothing status quiet = refl
-  status_quiet p (Tracked taken) status quiet = refl
-  status_quiet p (Updated infos) status quiet = refl
-  status_quiet p (Blocked q t) status quiet = refl
-  status_quiet p (Expired t) status quiet = refl
-  status_quiet p (Forgot t) status quiet = refl
+  status_quiet p e status quiet = refl
 
   held_quiet : (p : C) (e : Event C S) (held : Option Grant) → is_quiet p e ≡ true → Step.held_after s p e held ≡ held
   held_quiet p (Granted q grant) held quiet = ap (λ b. if b then Some grant else held) (not-true (History.same s q p) quiet)
   held_quiet p (Released q direction) held quiet = ap (λ b. if b then None else held) (not-true (History.same s q p) quiet)
-  held_quiet p (Connected q dialer) held quiet = refl
-  held_quiet p Nothing held quiet = refl
-  held_quiet p (Tracked taken) held quiet = refl
-  held_quiet p (Updated infos) held quiet = refl
-  held_quiet p (Blocked q t) held quiet = refl
-  held_quiet p (Expired t) held quiet = refl
-  held_quiet p (Forgot t) held quiet = refl
+  held_quiet p e held quiet = refl
 
   known_quiet : (p : C) (e : Event C S) (k : Known C S) → is_quiet p e ≡ true → Step.known_after s p e k ≡ k
-  known_quiet p (Granted q grant) k quiet = refl
   known_quiet p (Connected q dialer) k quiet = ap (λ b. if b && dialer then record k { fails = 0 } else k) (not-true (History.same s q p) quiet)
   known_quiet p (Released q direction) k quiet =
       ap (λ b. if b && Step.is_failed_dial s k.info direction then record k { fails = suc k.fails } else k)
       (not-true (History.same s q p) quiet)
   known_quiet p (Updated infos) k quiet = absurd (cc)
-  known_quiet p Nothing k quiet = refl
-  known_quiet p (Tracked taken) k quiet = refl
-  known_quiet p (Blocked q t) k quiet = refl
-  known_quiet p (Expired t) k quiet = refl
-  known_quiet p (Forgot t) k quiet = refl
+  known_quiet p e k quiet = refl
 
   unblock_quiet : (p : C) (e : Event C S) (moment : Option ℕ) → is_quiet p e ≡ true → Step.unblock_after s p e moment ≡ moment
   unblock_quiet p (Blocked q t) moment quiet = ap (λ b. if b then Some (cap (t + s.block_duration)) else moment) (not-true (History.same s q p) quiet)
   unblock_quiet p (Expired t) moment quiet = absurd (cc)
-  unblock_quiet p Nothing moment quiet = refl
-  unblock_quiet p (Tracked taken) moment quiet = refl
-  unblock_quiet p (Granted q grant) moment quiet = refl
-  unblock_quiet p (Connected q dialer) moment quiet = refl
-  unblock_quiet p (Released q direction) moment quiet = refl
-  unblock_quiet p (Updated infos) moment quiet = refl
-  unblock_quiet p (Forgot t) moment quiet = refl
+  unblock_quiet p e moment quiet = refl
 
   cooldown_quiet : (p : C) (e : Event C S) (cooldown : Option Cooldown) → is_quiet p e ≡ true → Step.cooldown_after s p e cooldown ≡ cooldown
   cooldown_quiet p (Granted q grant) cooldown quiet = ap (λ b. if b then Some (History.moments_of s grant) else cooldown) (not-true (History.same s q p) quiet)
   cooldown_quiet p (Forgot t) cooldown quiet = absurd (cc)
-  cooldown_quiet p Nothing cooldown quiet = refl
-  cooldown_quiet p (Tracked taken) cooldown quiet = refl
-  cooldown_quiet p (Connected q dialer) cooldown quiet = refl
-  cooldown_quiet p (Released q direction) cooldown quiet = refl
-  cooldown_quiet p (Updated infos) cooldown quiet = refl
-  cooldown_quiet p (Blocked q t) cooldown quiet = refl
-  cooldown_quiet p (Expired t) cooldown quiet = refl
+  cooldown_quiet p e cooldown quiet = refl
 
   quiet_world : (p : C) (e : Event C S) (h : List (Event C S)) → is_quiet p e ≡ true → SameFor p (Step.world_with s e (World.world_at s h)) (World.world_at s h)
   quiet_world p e h quiet = record {
@@ -149,39 +111,12 @@ module _ {C S : Type 0} (s : Settings C S) where
       subst (λ u. SameFor p u (World.world_at s (World.past s cs)))
       (sym (Law.world_step s Nothing (World.past s cs))) (quiet_world p Nothing (World.past s cs) refl)
 
-  another_quiet : (p : C) (sets : List (SetAt C)) (w : World C S) (c : Call C S) → is_on_another s p c ≡ true → is_quiet p (World.event_in s sets w c) ≡ true
-  another_quiet p sets w (Dial q t draw) other = go _ _
-    where
-      go : (granted : Bool) (address : Option Ingress) → is_quiet p (World.dial_event s q t draw granted address) ≡ true
-      go granted None = refl
-      go true (Some a) = other
-      go false (Some a) = refl
-  another_quiet p sets w (Listen q t draw) other = go _
-    where
-      go : (granted : Bool) → is_quiet p (World.listen_event s q t draw granted) ≡ true
-      go true = other
-      go false = refl
-  another_quiet p sets w (Connect q dialer) other = go (w.peer q).status
-    where
-      go : (status : Status) → is_quiet p (World.connect_event s q dialer status) ≡ true
-      go Inert = refl
-      go Reserved = other
-      go Active = refl
-  another_quiet p sets w (Release q) other = go (w.held q)
-    where
-      go : (held : Option Grant) → is_quiet p (World.release_event s q held) ≡ true
-      go None = refl
-      go (Some grant) = other
-  another_quiet p sets w (Block q t) other = go _
-    where
-      go : (b : Bool) → is_quiet p (if b then Blocked q t else Nothing) ≡ true
-      go true = other
-      go false = refl
-  another_quiet p sets w (Track index primary secondary) other = absurd (cc)
-  another_quiet p sets w (Update infos) other = absurd (cc)
-  another_quiet p sets w (UnblockExpired t) other = absurd (cc)
-  another_quiet p sets w (ForgetCooled t) other = absurd (cc)
-  another_quiet p sets w (Ask question) other = refl
+  another_quiet : (p : C) (c : Call C S) (e : Event C S) → Makes c e → is_on_another s p c ≡ true → is_quiet p e ≡ true
+  another_quiet p c Nothing m other = refl
+  another_quiet p c (Tracked taken) m other = absurd (let no = sym (ap (is_on_another s p) m.3) ∙ other in cc)
+  another_quiet p c (Granted q grant) (inl m) other = sym (ap (is_on_another s p) m) ∙ other
+  another_quiet p c (Granted q grant) (inr m) other = sym (ap (is_on_another s p) m) ∙ other
+  another_quiet p c e m other = sym (ap (is_on_another s p) m) ∙ other
 
   -- WHAT CONCERNS p
 
@@ -212,10 +147,7 @@ module _ {C S : Type 0} (s : Settings C S) where
       let a = at_key p q w v exact mine alike in λ i. World.release_event s q (a.held i)
   does_alike p w v (Block q t) exact alike mine =
       let a = at_key p q w v exact mine alike in λ i. if not (History.is_own s q) && not (is_blocked (a.unblock i) t) then Blocked q t else Nothing
-  does_alike p w v (Update infos) exact alike mine = refl
-  does_alike p w v (UnblockExpired t) exact alike mine = refl
-  does_alike p w v (ForgetCooled t) exact alike mine = refl
-  does_alike p w v (Ask question) exact alike mine = refl
+  does_alike p w v c exact alike mine = refl
 
   -- an update changes p by p's infos alone
   pub narrowed_alike : (p : C) (w : World C S) (c : Call C S) → SameFor p (Step.step s w c) (Step.step s w (narrowed s p c))
@@ -231,15 +163,7 @@ module _ {C S : Type 0} (s : Settings C S) where
     cooldown = refl;
     held = refl;
   }
-  narrowed_alike p w (Track index primary secondary) = record { sets = refl; peer = refl; unblock = refl; cooldown = refl; held = refl }
-  narrowed_alike p w (Dial q t draw) = record { sets = refl; peer = refl; unblock = refl; cooldown = refl; held = refl }
-  narrowed_alike p w (Listen q t draw) = record { sets = refl; peer = refl; unblock = refl; cooldown = refl; held = refl }
-  narrowed_alike p w (Connect q dialer) = record { sets = refl; peer = refl; unblock = refl; cooldown = refl; held = refl }
-  narrowed_alike p w (Release q) = record { sets = refl; peer = refl; unblock = refl; cooldown = refl; held = refl }
-  narrowed_alike p w (Block q t) = record { sets = refl; peer = refl; unblock = refl; cooldown = refl; held = refl }
-  narrowed_alike p w (UnblockExpired t) = record { sets = refl; peer = refl; unblock = refl; cooldown = refl; held = refl }
-  narrowed_alike p w (ForgetCooled t) = record { sets = refl; peer = refl; unblock = refl; cooldown = refl; held = refl }
-  narrowed_alike p w (Ask question) = record { sets = refl; peer = refl; unblock = refl; cooldown = refl; held = refl }
+  narrowed_alike p w c = record { sets = refl; peer = refl; unblock = refl; cooldown = refl; held = refl }
 
   pub joined : (p : C) (u v w : World C S) → SameFor p u v → SameFor p v w → SameFor p u w
   joined p u v w a b =
@@ -267,7 +191,7 @@ module _ {C S : Type 0} (s : Settings C S) where
   another_alike some p c cs e =
       let w = World.world_at s (World.past s cs) in
       subst (λ u. SameFor p u w) (sym (Law.recomputed_is_one_step s some cs c))
-      (quiet_world p (World.event_in s w.sets w c) (World.past s cs) (another_quiet p w.sets w c e))
+      (quiet_world p (World.event_in s w.sets w c) (World.past s cs) (another_quiet p c (World.event_in s w.sets w c) (makes s w.sets w c) e))
 
   isolated_step : 1 ≤ s.max_sets → History.IsExact s → (p : C) (c : Call C S) (cs ds : List (Call C S)) →
       SameFor p (World.world_at s (World.past s cs)) (World.world_at s (World.past s ds)) →

@@ -5,10 +5,8 @@ use Rattle.std.specs.Option.{option_map, option_map_or, IsSomeAnd}
 use Rattle.p2p_discovery.specs.Ingress.{takes_none}
 use Rattle.p2p_tracker.specs.Status.{is_inert, is_reserved}
 use Rattle.p2p_tracker.specs.Calls.{Settings, Question, Call, Event}
-use Rattle.p2p_tracker.specs.Calls.Question.{StatusOf, NumberTracked, NextUnblock, BlockedAt}
-use Rattle.p2p_tracker.specs.Calls.Question.{PeerSet, LatestIndex, AllPeers, LatestUpdate, InfoOf}
-use Rattle.p2p_tracker.specs.Calls.Question.{InfosFor, BitsAt, IsEligible, IsAcceptable, DialableAt}
-use Rattle.p2p_tracker.specs.Calls.Call.{Track, Dial, Listen, Connect, Release, Update, Block, UnblockExpired, ForgetCooled, Ask}
+use Rattle.p2p_tracker.specs.Calls.Question.{StatusOf, InfoOf, IsEligible, IsAcceptable, DialableAt}
+use Rattle.p2p_tracker.specs.Calls.Call.{Track, Dial, Listen, Connect, Release, Block, Ask}
 use Rattle.p2p_tracker.specs.History
 use Rattle.p2p_tracker.specs.World.{World}
 use Rattle.p2p_tracker.specs.declared.record.dialing.Dialable.{Dialable}
@@ -48,16 +46,7 @@ module _ {C S : Type 0} (s : Settings C S) where
   asked_alike e q w v w2 v2 (IsAcceptable p t) r alike mine exact a =
       let b = subst (λ x. SameFor x w v) (sym (exact p q mine)) alike in
       moved e e w w2 v v2 (Ask (IsAcceptable p t)) r (λ x. x) (λ x. x ∙ ap reply.Acceptable ((Isolation.answers_alike s exact p w v b).acceptable t)) a
-  asked_alike e q w v w2 v2 NumberTracked r alike mine exact a = absurd (cc)
-  asked_alike e q w v w2 v2 NextUnblock r alike mine exact a = absurd (cc)
-  asked_alike e q w v w2 v2 (BlockedAt t) r alike mine exact a = absurd (cc)
-  asked_alike e q w v w2 v2 (PeerSet index) r alike mine exact a = absurd (cc)
-  asked_alike e q w v w2 v2 LatestIndex r alike mine exact a = absurd (cc)
-  asked_alike e q w v w2 v2 AllPeers r alike mine exact a = absurd (cc)
-  asked_alike e q w v w2 v2 LatestUpdate r alike mine exact a = absurd (cc)
-  asked_alike e q w v w2 v2 (InfosFor index bits t) r alike mine exact a = absurd (cc)
-  asked_alike e q w v w2 v2 (BitsAt place) r alike mine exact a = absurd (cc)
-  asked_alike e q w v w2 v2 (DialableAt t) r alike mine exact a = absurd (cc)
+  asked_alike e q w v w2 v2 question r alike mine exact a = absurd (cc)
 
   -- a call on a single peer that stands alike, where it does the same
   on_alike : (e f : Event C S) (p : C) (w v w2 v2 : World C S) (c : Call C S) (r : Reply C S) → SameFor p w v → is_on s p c ≡ true → History.IsExact s → e ≡ f →
@@ -78,10 +67,7 @@ module _ {C S : Type 0} (s : Settings C S) where
       moved e f w w2 v v2 (Block q t) r (λ x. ap was_blocked (sym same) ∙ x) (λ x. x ∙ ap (λ y. reply.Block (was_blocked y)) same) a
   on_alike e f p w v w2 v2 (Ask question) r alike mine exact same a =
       moved e f v v2 v v2 (Ask question) r (λ x. x) (λ x. x) (asked_alike e p w v w2 v2 question r alike mine exact a)
-  on_alike e f p w v w2 v2 (Track index primary secondary) r alike mine exact same a = absurd (cc)
-  on_alike e f p w v w2 v2 (Update infos) r alike mine exact same a = absurd (cc)
-  on_alike e f p w v w2 v2 (UnblockExpired t) r alike mine exact same a = absurd (cc)
-  on_alike e f p w v w2 v2 (ForgetCooled t) r alike mine exact same a = absurd (cc)
+  on_alike e f p w v w2 v2 c r alike mine exact same a = absurd (cc)
 
   -- such a call is on no other peer
   on_it : (p : C) (c : Call C S) → is_on s p c ≡ true → is_on_another s p c ≡ false
@@ -156,9 +142,6 @@ module _ {C S : Type 0} (s : Settings C S) where
     }
 
     keep_alone_from : (p : C) (before cs : List (Call C S)) (rs : List (Reply C S)) → Run.AreAnswers s before cs rs → KeepAlone s p before cs rs
-    keep_alone_from p before [] [] answers = Isolation.isolated s least exact p before
-    keep_alone_from p before [] (r ∷ rs) answers = Isolation.isolated s least exact p before
-    keep_alone_from p before (c ∷ cs) [] answers = Isolation.isolated s least exact p before
     keep_alone_from p before (c ∷ cs) (r ∷ rs) answers = (
       record {
         stands = Isolation.isolated s least exact p before;
@@ -167,6 +150,7 @@ module _ {C S : Type 0} (s : Settings C S) where
       },
       keep_alone_from p (Run.next s before c r) cs rs answers.1,
     )
+    keep_alone_from p before cs rs answers = Isolation.isolated s least exact p before
 
     -- by the replies to a whole run, p stands alone, and is answered and listed so
     pub keep_alone : (p : C) (cs : List (Call C S)) (rs : List (Reply C S)) → Run.AreAnswers s [] cs rs → KeepAlone s p [] cs rs

@@ -16,8 +16,7 @@ use Rattle.p2p_discovery.specs.declared.types.ingress.Ingress.{Ingress}
 use Rattle.p2p_discovery.proofs.Unions.{In, insert, sorted_insert, insert_has_new, insert_has_old, insert_has_only}
 use Rattle.p2p_tracker.specs.Status.{is_inert}
 use Rattle.p2p_tracker.specs.Calls.{Settings, Call, SetAt, Grant, Event}
-use Rattle.p2p_tracker.specs.Calls.Event.{Nothing, Tracked, Granted, Connected, Released, Updated}
-use Rattle.p2p_tracker.specs.Calls.Event.{Blocked, Expired, Forgot}
+use Rattle.p2p_tracker.specs.Calls.Event.{Granted}
 use Rattle.p2p_tracker.specs.History
 use Rattle.p2p_tracker.specs.World.{past, world_at}
 use Rattle.p2p_tracker.specs.Answers.{is_present_in}
@@ -192,14 +191,7 @@ module _ {C S : Type 0} (s : Settings C S) (exact : History.IsExact s) where
   granted_keys : List (Event C S) → List C
   granted_keys [] = []
   granted_keys (Granted q grant ∷ h) = q ∷ granted_keys h
-  granted_keys (Nothing ∷ h) = granted_keys h
-  granted_keys (Tracked taken ∷ h) = granted_keys h
-  granted_keys (Connected q dialer ∷ h) = granted_keys h
-  granted_keys (Released q direction ∷ h) = granted_keys h
-  granted_keys (Updated infos ∷ h) = granted_keys h
-  granted_keys (Blocked q t ∷ h) = granted_keys h
-  granted_keys (Expired t ∷ h) = granted_keys h
-  granted_keys (Forgot t ∷ h) = granted_keys h
+  granted_keys (e ∷ h) = granted_keys h
 
   abbrev Found : Type 0
   Found = Option (Grant × List (Event C S))
@@ -220,14 +212,7 @@ module _ {C S : Type 0} (s : Settings C S) (exact : History.IsExact s) where
           In (q ∷ granted_keys h) p
       go true is o rest f = inl (exact q p is)
       go false is o rest f = inr (rest (found_before (Granted q grant) o f))
-  granted_in (Nothing ∷ h) p e = granted_in h p (found_before Nothing (History.last_with (History.grant_by s p) h) e)
-  granted_in (Tracked taken ∷ h) p e = granted_in h p (found_before (Tracked taken) (History.last_with (History.grant_by s p) h) e)
-  granted_in (Connected q dialer ∷ h) p e = granted_in h p (found_before (Connected q dialer) (History.last_with (History.grant_by s p) h) e)
-  granted_in (Released q direction ∷ h) p e = granted_in h p (found_before (Released q direction) (History.last_with (History.grant_by s p) h) e)
-  granted_in (Updated infos ∷ h) p e = granted_in h p (found_before (Updated infos) (History.last_with (History.grant_by s p) h) e)
-  granted_in (Blocked q t ∷ h) p e = granted_in h p (found_before (Blocked q t) (History.last_with (History.grant_by s p) h) e)
-  granted_in (Expired t ∷ h) p e = granted_in h p (found_before (Expired t) (History.last_with (History.grant_by s p) h) e)
-  granted_in (Forgot t ∷ h) p e = granted_in h p (found_before (Forgot t) (History.last_with (History.grant_by s p) h) e)
+  granted_in (other ∷ h) p e = granted_in h p (found_before other (History.last_with (History.grant_by s p) h) e)
 
   was_found : (p : C) (o : Found) → not (is_inert (History.status_since s p o)) ≡ true → is_some o ≡ true
   was_found p None e = absurd (cc)

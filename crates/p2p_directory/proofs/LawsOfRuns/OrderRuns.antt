@@ -4,7 +4,7 @@ use Rattle.std.specs.Prelude.{if◌then◌else◌}
 use Rattle.std.proofs.lemmas.List.{append-nil, append_assoc}
 use Rattle.p2p_discovery.specs.declared.discovery.Info.{Info}
 use Rattle.p2p_tracker.specs.Calls.{Settings, Call}
-use Rattle.p2p_tracker.specs.Calls.Call.{Track, Dial, Listen, Connect, Release, Update, Block, UnblockExpired, ForgetCooled, Ask}
+use Rattle.p2p_tracker.specs.Calls.Call.{Update}
 use Rattle.p2p_tracker.specs.World
 use Rattle.p2p_tracker.specs.World.{World}
 use Rattle.p2p_tracker.specs.Step
@@ -41,15 +41,13 @@ module _ {C S : Type 0} (s : Settings C S) (least : 1 ≤ s.max_sets) where
 
   same_after : (before other cs : List (Call C S)) (rs : List (Reply C S)) → Alike before other →
       Run.AreAnswers s before cs rs → IsSameAfter s before other cs rs
-  same_after before other [] [] alike answers = alike
-  same_after before other [] (r ∷ rs) alike answers = alike
-  same_after before other (c ∷ cs) [] alike answers = alike
   same_after before other (c ∷ cs) (r ∷ rs) alike answers = (
     alike,
     answer_alike before other c r alike answers.0,
     same_after (Run.next s before c r) (Run.next s other c r) cs rs (next_alike before other c r alike)
         answers.1,
   )
+  same_after before other cs rs alike answers = alike
 
   -- updates one after the other are one
   one_update : (first before : List (Call C S)) (infos given : List (Info C S)) →
@@ -115,17 +113,7 @@ module _ {C S : Type 0} (s : Settings C S) (least : 1 ≤ s.max_sets) where
             (λ next. one_update first (Update given ∷ before) (infos ++ given) next (from given)) more,
       ))
       answers.1
-  free_from first infos before (Update given ∷ cs) [] from answers = tt
-  free_from first infos before [] rs from answers = tt
-  free_from first infos before (Track index primary secondary ∷ cs) rs from answers = tt
-  free_from first infos before (Dial q t draw ∷ cs) rs from answers = tt
-  free_from first infos before (Listen q t draw ∷ cs) rs from answers = tt
-  free_from first infos before (Connect q dialer ∷ cs) rs from answers = tt
-  free_from first infos before (Release q ∷ cs) rs from answers = tt
-  free_from first infos before (Block q t ∷ cs) rs from answers = tt
-  free_from first infos before (UnblockExpired t ∷ cs) rs from answers = tt
-  free_from first infos before (ForgetCooled t ∷ cs) rs from answers = tt
-  free_from first infos before (Ask question ∷ cs) rs from answers = tt
+  free_from first infos before cs rs from answers = tt
 
   keep_order_from : (before cs : List (Call C S)) (rs : List (Reply C S)) → Run.AreAnswers s before cs rs → KeepOrder s before cs rs
   keep_order_from before [] rs answers = tt

@@ -1,28 +1,27 @@
 -- Grants keep the cooldown, and blocks hold, over all lives.
-use Rattle.std.proofs.Common.{◌≡◌, ℕ, ◌+◌, ◌≤◌, max, Bool, true, false, not, ◌&&◌, ◌||◌, List, [], ◌∷◌, ◌++◌, Option, Some, None, refl, sym, subst, arith}
-use Rattle.std.specs.Prelude.{if◌then◌else◌, nat_lt, nat_le, option_to_list, option_map, filter}
-use Rattle.std.specs.List.{list_all, list_any}
+use Rattle.std.proofs.Common.{◌≡◌, ℕ, ◌+◌, ◌≤◌, max, Bool, true, false, not, ◌&&◌, ◌||◌, List, [], ◌∷◌, ◌++◌, Option, Some, None, inl, inr, refl, sym, ap, subst, arith}
+use Rattle.std.specs.Prelude.{if◌then◌else◌, nat_le, option_to_list, option_map}
+use Rattle.std.specs.List.{list_any}
 use Rattle.std.proofs.lemmas.Bool.{leb-true, ltb-false, not-true, and_parts}
 use Rattle.p2p_discovery.specs.declared.types.ingress.Ingress.{Ingress}
 use Rattle.p2p_tracker.specs.Status.{is_inert}
 use Rattle.p2p_tracker.specs.Blocks.{is_blocked}
 use Rattle.p2p_tracker.specs.Cooldowns.{reservable_from}
-use Rattle.p2p_tracker.specs.declared.record.Status.{Status}
 use Rattle.p2p_tracker.specs.Calls.{Settings, Call, SetAt, Grant, Event}
-use Rattle.p2p_tracker.specs.Calls.Call.{Track, Dial, Listen, Connect, Release, Update, Block, UnblockExpired, ForgetCooled, Ask}
-use Rattle.p2p_tracker.specs.declared.record.Status.TheVariants.{Inert, Reserved, Active}
-use Rattle.p2p_tracker.specs.Calls.Event.{Nothing, Tracked, Granted, Connected, Released, Updated, Blocked, Expired, Forgot}
+use Rattle.p2p_tracker.specs.Calls.Call.{Dial, Listen, Block}
+use Rattle.p2p_tracker.specs.Calls.Event.{Nothing, Granted, Blocked, Expired, Forgot}
 use Rattle.p2p_tracker.specs.Moments.{cap}
 use Rattle.p2p_tracker.specs.History
 use Rattle.p2p_tracker.specs.History.{last_with, found_with, unless_ended}
 use Rattle.p2p_tracker.specs.World
 use Rattle.p2p_tracker.specs.Step
-use Rattle.p2p_tracker.specs.World.{Known, Peer, World}
+use Rattle.p2p_tracker.specs.World.{World}
 use Rattle.p2p_directory.specs.Laws.Grants.{IsCooledAfter, IsCooledUnlessForgotten, IsSpaced}
 use Rattle.p2p_directory.specs.Laws.Grants.{IsSpacedUnlessForgotten, KeepsCooldown}
 use Rattle.p2p_directory.specs.Laws.Grants.{KeepsCooldownUnlessForgotten, moment_or, NeverGoBack}
 use Rattle.p2p_directory.specs.Laws.Grants.{blocks_in, AreOver, IsOverAt, KeepsBlocks}
 use Rattle.p2p_directory.proofs.Definitions.Steps
+use Rattle.p2p_directory.proofs.Definitions.Makes.{Makes, makes, at_call}
 
 module _ {C S : Type 0} (s : Settings C S) where
   -- WHAT AN EVENT TELLS OF THE WORLD BEFORE IT
@@ -48,21 +47,8 @@ module _ {C S : Type 0} (s : Settings C S) where
       let two = and_parts _ _ one.0 in
       record { cool = leb-true (reservable_from (w.cooldown p)) t one.1; unblocked = not-true _ two.1 }
 
-  fits : (sets : List (SetAt C)) (w : World C S) (c : Call C S) (now : ℕ) → Fits w (moment_or s now c) (World.event_in s sets w c)
-  fits sets w (Track index primary secondary) now = go (list_all (λ x. nat_lt x.index index) sets)
-    where
-      go : (b : Bool) →
-          Fits w now (if b
-          then Tracked
-          (record {
-            index = index;
-            primary = primary;
-            secondary =
-                filter (λ q. not (History.is_in s q primary)) secondary;
-          }) else Nothing)
-      go true = tt
-      go false = tt
-  fits sets w (Dial q t draw) now = go (World.may_dial s q t w.sets (w.peer q) (w.unblock q) (w.cooldown q)) (World.address_with s q (w.peer q).known.info) refl
+  dial_fits : (sets : List (SetAt C)) (w : World C S) (q : C) (t draw : ℕ) → Fits w t (World.event_in s sets w (Dial q t draw))
+  dial_fits sets w q t draw = go (World.may_dial s q t w.sets (w.peer q) (w.unblock q) (w.cooldown q)) (World.address_with s q (w.peer q).known.info) refl
     where
       go : (granted : Bool) (address : Option Ingress) →
           World.may_dial s q t w.sets (w.peer q) (w.unblock q) (w.cooldown q) ≡ granted →
@@ -70,31 +56,31 @@ module _ {C S : Type 0} (s : Settings C S) where
       go granted None e = tt
       go false (Some a) e = tt
       go true (Some a) e = (refl, is_free q w t (World.is_target s q w.sets (w.peer q)) e)
-  fits sets w (Listen q t draw) now = go (World.may_listen s q t w.sets (w.peer q) (w.unblock q) (w.cooldown q)) refl
+
+  listen_fits : (sets : List (SetAt C)) (w : World C S) (q : C) (t draw : ℕ) → Fits w t (World.event_in s sets w (Listen q t draw))
+  listen_fits sets w q t draw = go (World.may_listen s q t w.sets (w.peer q) (w.unblock q) (w.cooldown q)) refl
     where
       go : (granted : Bool) → World.may_listen s q t w.sets (w.peer q) (w.unblock q) (w.cooldown q) ≡ granted → Fits w t (World.listen_event s q t draw granted)
       go true e = (refl, is_free q w t (History.is_entitled s q w.sets && is_inert (w.peer q).status) e)
       go false e = tt
-  fits sets w (Connect q dialer) now = go (w.peer q).status
-    where
-      go : (status : Status) → Fits w now (World.connect_event s q dialer status)
-      go Inert = tt
-      go Reserved = tt
-      go Active = tt
-  fits sets w (Release q) now = go (w.held q)
-    where
-      go : (held : Option Grant) → Fits w now (World.release_event s q held)
-      go None = tt
-      go (Some grant) = tt
-  fits sets w (Update infos) now = tt
-  fits sets w (Block q t) now = go (not (History.is_own s q) && not (is_blocked (w.unblock q) t)) refl
+
+  block_fits : (sets : List (SetAt C)) (w : World C S) (q : C) (t : ℕ) → Fits w t (World.event_in s sets w (Block q t))
+  block_fits sets w q t = go (not (History.is_own s q) && not (is_blocked (w.unblock q) t)) refl
     where
       go : (b : Bool) → (not (History.is_own s q) && not (is_blocked (w.unblock q) t)) ≡ b → Fits w t (if b then Blocked q t else Nothing)
       go true e = (refl, not-true _ (and_parts _ _ e).1)
       go false e = tt
-  fits sets w (UnblockExpired t) now = refl
-  fits sets w (ForgetCooled t) now = refl
-  fits sets w (Ask question) now = tt
+
+  fits : (sets : List (SetAt C)) (w : World C S) (c : Call C S) (now : ℕ) → Fits w (moment_or s now c) (World.event_in s sets w c)
+  fits sets w c now = go (World.event_in s sets w c) refl (makes s sets w c)
+    where
+      go : (e : Event C S) → World.event_in s sets w c ≡ e → Makes c e → Fits w (moment_or s now c) e
+      go (Granted q grant) is (inl m) = at_call s sets w (λ c e. Fits w (moment_or s now c) e) m is (dial_fits sets w q grant.t grant.draw)
+      go (Granted q grant) is (inr m) = at_call s sets w (λ c e. Fits w (moment_or s now c) e) m is (listen_fits sets w q grant.t grant.draw)
+      go (Blocked q u) is m = at_call s sets w (λ c e. Fits w (moment_or s now c) e) m is (block_fits sets w q u)
+      go (Expired u) is m = sym (ap (moment_or s now) m)
+      go (Forgot u) is m = sym (ap (moment_or s now) m)
+      go e is m = tt
 
   -- a grant of p, at its call's moment
   abbrev pub GrantFits : C → World C S → ℕ → Option Grant → Type 0
@@ -107,14 +93,7 @@ module _ {C S : Type 0} (s : Settings C S) where
       go : (b : Bool) → History.same s q p ≡ b → GrantFits p w t (if b then Some grant else None)
       go true e = (f.0, subst (λ x. IsFree x w t) (exact q p e) f.1)
       go false e = tt
-  grant_fits exact p w t Nothing f = tt
-  grant_fits exact p w t (Tracked taken) f = tt
-  grant_fits exact p w t (Connected q dialer) f = tt
-  grant_fits exact p w t (Released q direction) f = tt
-  grant_fits exact p w t (Updated infos) f = tt
-  grant_fits exact p w t (Blocked q u) f = tt
-  grant_fits exact p w t (Expired u) f = tt
-  grant_fits exact p w t (Forgot u) f = tt
+  grant_fits exact p w t e f = tt
 
   -- the world before a further call, and what that call does
   abbrev pub world_before : List (Call C S) → World C S
@@ -162,14 +141,7 @@ module _ {C S : Type 0} (s : Settings C S) where
   -- what an event forgets has come to its dial moment, which isn't before the reservable one
   over_by : (e : Event C S) (w : World C S) (t : ℕ) → Fits w t e → (grant : Grant) → History.is_forgetting s grant e ≡ true → cap (grant.t + s.cooldown) ≤ t
   over_by (Forgot u) w t f grant e = omega (arith, f, leb-true (History.moments_of s grant).dial_at u e)
-  over_by Nothing w t f grant e = absurd (cc)
-  over_by (Tracked taken) w t f grant e = absurd (cc)
-  over_by (Granted q other) w t f grant e = absurd (cc)
-  over_by (Connected q dialer) w t f grant e = absurd (cc)
-  over_by (Released q direction) w t f grant e = absurd (cc)
-  over_by (Updated infos) w t f grant e = absurd (cc)
-  over_by (Blocked q u) w t f grant e = absurd (cc)
-  over_by (Expired u) w t f grant e = absurd (cc)
+  over_by other w t f grant e = absurd (cc)
 
   forgotten_step : (e : Event C S) (w : World C S) (t now : ℕ) → t ≤ now → Fits w t e → (given : Option Grant) (found : Option (Grant × List (Event C S))) →
       IsOverWhereForgotten t found → IsOverWhereForgotten now (found_with given e found)
@@ -221,11 +193,11 @@ module _ {C S : Type 0} (s : Settings C S) where
   -- BLOCKS
 
   -- now, or the end of a block that holds then
-  abbrev limit : ℕ → Option ℕ → ℕ
+  abbrev pub limit : ℕ → Option ℕ → ℕ
   limit now None = now
   limit now (Some m) = max now m
 
-  over_more : (ms : List ℕ) (t u : ℕ) → t ≤ u → AreOver s t ms → AreOver s u ms
+  pub over_more : (ms : List ℕ) (t u : ℕ) → t ≤ u → AreOver s t ms → AreOver s u ms
   over_more [] t u le over = tt
   over_more (m ∷ ms) t u le over = (omega (arith, over.0), over_more ms t u le over.1)
 
@@ -270,13 +242,7 @@ module _ {C S : Type 0} (s : Settings C S) where
           gone : (b : Bool) → nat_le m u ≡ b → AreOver s (limit now (if b then None else Some m)) (blocks_in s p h)
           gone true e = over_more (blocks_in s p h) (max t m) now (omega (arith, leb-true m u e, f)) over
           gone false e = over_more (blocks_in s p h) (max t m) (max now m) (omega arith) over
-  over_step exact p Nothing h t now le f over = known_later p h t now le over
-  over_step exact p (Tracked taken) h t now le f over = known_later p h t now le over
-  over_step exact p (Granted q grant) h t now le f over = known_later p h t now le over
-  over_step exact p (Connected q dialer) h t now le f over = known_later p h t now le over
-  over_step exact p (Released q direction) h t now le f over = known_later p h t now le over
-  over_step exact p (Updated infos) h t now le f over = known_later p h t now le over
-  over_step exact p (Forgot u) h t now le f over = known_later p h t now le over
+  over_step exact p e h t now le f over = known_later p h t now le over
 
   over : History.IsExact s → (p : C) (cs : List (Call C S)) (now : ℕ) → NeverGoBack s now cs → AreKnown p (World.past s cs) now
   over exact p [] now on = tt
