@@ -7,8 +7,7 @@ use Rattle.p2p_discovery.specs.declared.discovery.Info.{Info}
 use Rattle.p2p_directory.specs.declared.node.exchanged.Exchanged.{Exchanged}
 use Rattle.p2p_directory.specs.declared.node.exchanged.Exchanged.TheVariants as exchanged
 use Rattle.p2p_tracker.specs.Calls.{Settings, Call, SetAt}
-use Rattle.p2p_tracker.specs.Calls.Call.{Track, Dial, Listen, Connect, Release, Update, Block}
-use Rattle.p2p_tracker.specs.Calls.Call.{UnblockExpired, ForgetCooled, Ask}
+use Rattle.p2p_tracker.specs.Calls.Call.{Update}
 use Rattle.p2p_tracker.specs.History
 use Rattle.p2p_tracker.specs.World.{World}
 use Rattle.p2p_tracker.specs.Step
@@ -31,15 +30,7 @@ use Rattle.p2p_directory.proofs.LawsOfGossip.Repeated
 module _ {C S : Type 0} (P Q : Info C S → Type 0) (weaker : (i : Info C S) → P i → Q i) where
   pub gives_weaker : (c : Call C S) → GivesOnly P c → GivesOnly Q c
   gives_weaker (Update infos) h = all_weaker P Q weaker infos h
-  gives_weaker (Track index primary secondary) h = tt
-  gives_weaker (Dial p t draw) h = tt
-  gives_weaker (Listen p t draw) h = tt
-  gives_weaker (Connect p dialer) h = tt
-  gives_weaker (Release p) h = tt
-  gives_weaker (Block p t) h = tt
-  gives_weaker (UnblockExpired t) h = tt
-  gives_weaker (ForgetCooled t) h = tt
-  gives_weaker (Ask question) h = tt
+  gives_weaker c h = tt
 
   pub given_weaker : (s : Settings C S) (cs : List (Call C S)) → Infos.AreGiven s P cs →
       Infos.AreGiven s Q cs
@@ -63,13 +54,7 @@ module _ {C S : Type 0} where
   applied_or_memory (exchanged.Applied xs) may o infos is e =
       inl (ap Some (content xs.items infos (sym is ∙ e)))
   applied_or_memory exchanged.Memory may o infos is e = inr refl
-  applied_or_memory exchanged.NoSet may o infos is e = absurd (let f = sym is ∙ e in cc)
-  applied_or_memory (exchanged.AskRefused fault) may o infos is e =
-      absurd (let f = sym is ∙ e in cc)
-  applied_or_memory exchanged.Malformed may o infos is e = absurd (let f = sym is ∙ e in cc)
-  applied_or_memory (exchanged.ReplyRefused fault) may o infos is e =
-      absurd (let f = sym is ∙ e in cc)
-  applied_or_memory (exchanged.Invalid error) may o infos is e = absurd (let f = sym is ∙ e in cc)
+  applied_or_memory r may o infos is e = absurd (let f = sym is ∙ e in cc)
 
 -- ONE EXCHANGE
 

@@ -63,12 +63,7 @@ module _ {C S : Type 0} (P : Info C S → Type 0) where
       Exchange.IsExchangeAnswer may o r → Brings o →
       IfSome (Exchange.infos_applied r) (AllByRecursion P)
   brings_applied (exchanged.Applied infos) may o is h = subst Brings is h
-  brings_applied exchanged.NoSet may o is h = tt
-  brings_applied (exchanged.AskRefused fault) may o is h = tt
-  brings_applied exchanged.Malformed may o is h = tt
-  brings_applied (exchanged.ReplyRefused fault) may o is h = tt
-  brings_applied (exchanged.Invalid error) may o is h = tt
-  brings_applied exchanged.Memory may o is h = tt
+  brings_applied r may o is h = tt
 
   -- one more update, or none
   pub gives_with : (applied : Option (List (Info C S))) (calls : List (Call C S)) →

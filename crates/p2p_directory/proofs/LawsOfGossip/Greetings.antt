@@ -19,13 +19,7 @@ module _ {C S : Type 0} where
   pub answer_or_memory : (r : Received) (may : Bool) (o : FrameOutcome C S) (said : Received) →
       frames.IsFrameAnswer may o r → o.answer ≡ said → (r ≡ said) ⊎ (r ≡ received.Memory)
   answer_or_memory received.Memory may o said is e = inr refl
-  answer_or_memory (received.Data message) may o said is e = inl (is ∙ e)
-  answer_or_memory received.Greeted may o said is e = inl (is ∙ e)
-  answer_or_memory (received.Reply frame) may o said is e = inl (is ∙ e)
-  answer_or_memory received.Malformed may o said is e = inl (is ∙ e)
-  answer_or_memory (received.Applied count) may o said is e = inl (is ∙ e)
-  answer_or_memory (received.Invalid error) may o said is e = inl (is ∙ e)
-  answer_or_memory (received.Codec fault) may o said is e = inl (is ∙ e)
+  answer_or_memory r may o said is e = inl (is ∙ e)
 
   -- what is spelled and admitted is read whole
   pub read_back : {key_size signature_size : ℕ} {key : C → List ℕ} {signature : S → List ℕ}

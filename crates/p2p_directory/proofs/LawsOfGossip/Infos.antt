@@ -4,21 +4,18 @@ use Rattle.std.proofs.Common.{refl, subst}
 use Rattle.std.specs.Prelude.{if◌then◌else◌, nat_lt, nat_le, zip, ◌==◌}
 use Rattle.std.specs.List.{AllByRecursion}
 use Rattle.p2p_discovery.specs.declared.discovery.Info.{Info}
-use Rattle.p2p_discovery.specs.declared.types.ingress.Ingress.{Ingress}
 use Rattle.p2p_tracker.specs.Lists.{earlier_best, first_greatest}
 use Rattle.p2p_tracker.specs.Moments.{epoch_millis}
 use Rattle.p2p_tracker.specs.declared.record.Status.{Status}
 use Rattle.p2p_tracker.specs.declared.record.Status.TheVariants.{Inert, Reserved, Active}
-use Rattle.p2p_tracker.specs.Calls.{Settings, Call, SetAt, Grant, Event}
-use Rattle.p2p_tracker.specs.Calls.Call.{Track, Dial, Listen, Connect, Release, Update, Block}
-use Rattle.p2p_tracker.specs.Calls.Call.{UnblockExpired, ForgetCooled, Ask}
-use Rattle.p2p_tracker.specs.Calls.Event.{Nothing, Tracked, Granted, Connected, Released, Updated}
-use Rattle.p2p_tracker.specs.Calls.Event.{Blocked, Expired, Forgot}
+use Rattle.p2p_tracker.specs.Calls.{Settings, Call, SetAt, Event}
+use Rattle.p2p_tracker.specs.Calls.Event.{Updated}
 use Rattle.p2p_tracker.specs.History
 use Rattle.p2p_tracker.specs.World
 use Rattle.p2p_tracker.specs.World.{World}
 use Rattle.p2p_tracker.specs.Answers
 use Rattle.p2p_directory.specs.Laws.Gossip.{GivesOnly}
+use Rattle.p2p_directory.proofs.Definitions.Makes.{Makes, makes}
 use Rattle.p2p_directory.proofs.LawsOfGossip.Lists.{inside, all_append, all_filter, from_members}
 use Rattle.p2p_directory.proofs.LawsOfGossip.Lists.{member_filter_map}
 
@@ -33,52 +30,17 @@ module _ {C S : Type 0} (s : Settings C S) (P : Info C S → Type 0) where
   Brings (Updated infos) = AllByRecursion P infos
   Brings _ = Unit {0}
 
-  brings_call : (sets : List (SetAt C)) (w : World C S) (c : Call C S) → GivesOnly P c →
-      Brings (World.event_in s sets w c)
-  brings_call sets w (Update infos) h = h
-  brings_call sets w (Track index primary secondary) h = go _ _
-    where
-      go : (b : Bool) (taken : SetAt C) → Brings (if b then Tracked taken else Nothing)
-      go true taken = tt
-      go false taken = tt
-  brings_call sets w (Dial p t draw) h = go _ _
-    where
-      go : (granted : Bool) (address : Option Ingress) →
-          Brings (World.dial_event s p t draw granted address)
-      go granted None = tt
-      go true (Some a) = tt
-      go false (Some a) = tt
-  brings_call sets w (Listen p t draw) h = go _
-    where
-      go : (granted : Bool) → Brings (World.listen_event s p t draw granted)
-      go true = tt
-      go false = tt
-  brings_call sets w (Connect p dialer) h = go (w.peer p).status
-    where
-      go : (status : Status) → Brings (World.connect_event s p dialer status)
-      go Inert = tt
-      go Reserved = tt
-      go Active = tt
-  brings_call sets w (Release p) h = go (w.held p)
-    where
-      go : (held : Option Grant) → Brings (World.release_event s p held)
-      go None = tt
-      go (Some grant) = tt
-  brings_call sets w (Block p t) h = go _
-    where
-      go : (b : Bool) → Brings (if b then Blocked p t else Nothing)
-      go true = tt
-      go false = tt
-  brings_call sets w (UnblockExpired t) h = tt
-  brings_call sets w (ForgetCooled t) h = tt
-  brings_call sets w (Ask question) h = tt
+  -- .. where P holds of each that its call gave
+  brings : (c : Call C S) (e : Event C S) → Makes c e → GivesOnly P c → Brings e
+  brings c (Updated infos) made h = subst (GivesOnly P) made h
+  brings c e made h = tt
 
   pub brings_past : (cs : List (Call C S)) → AllByRecursion (GivesOnly P) cs →
       AllByRecursion Brings (World.past s cs)
   brings_past [] h = tt
   brings_past (c ∷ cs) h = (
-    brings_call (History.taken_sets s (World.past s cs)) (World.world_at s (World.past s cs)) c
-        h.0,
+    brings c _ (makes s (History.taken_sets s (World.past s cs))
+        (World.world_at s (World.past s cs)) c) h.0,
     brings_past cs h.1,
   )
 
@@ -99,14 +61,7 @@ module _ {C S : Type 0} (s : Settings C S) (P : Info C S → Type 0) where
 
   of_event : (p : C) (e : Event C S) → Brings e → AllByRecursion (IsOf p) (History.infos_by s p e)
   of_event p (Updated infos) h = all_filter P (λ i. History.same s i.public_key p) infos h
-  of_event p Nothing h = tt
-  of_event p (Tracked taken) h = tt
-  of_event p (Granted q grant) h = tt
-  of_event p (Connected q dialer) h = tt
-  of_event p (Released q direction) h = tt
-  of_event p (Blocked q t) h = tt
-  of_event p (Expired t) h = tt
-  of_event p (Forgot t) h = tt
+  of_event p e h = tt
 
   of_life : (p : C) (l : List (Event C S)) → AllByRecursion Brings l →
       AllByRecursion (IsOf p) (History.infos_offered s p l)

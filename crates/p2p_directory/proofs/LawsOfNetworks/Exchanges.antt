@@ -230,19 +230,7 @@ module _ {C S : Type 0} (wire : Wire C S) (size : ℕ) (node : ℕ → Made C S)
         (reply.Exchange r) is = λ x may.
         brings_wanted done asker replier (are_two asker replier is.0) place asker_now
         replier_now x may r is
-    wanted done answered (command.Exchange asker replier place asker_now replier_now)
-        (reply.Call r) is = tt
-    wanted done answered (command.Exchange asker replier place asker_now replier_now)
-        (reply.Ask r) is = tt
-    wanted done answered (command.Exchange asker replier place asker_now replier_now)
-        (reply.Frame r) is = tt
-    wanted done answered (command.Exchange asker replier place asker_now replier_now)
-        reply.OutOfMemory is = tt
-    wanted done answered (command.Exchange asker replier place asker_now replier_now)
-        reply.NoNode is = tt
-    wanted done answered (command.Call i x) r is = tt
-    wanted done answered (command.Ask i place) r is = tt
-    wanted done answered (command.Frame i frame now) r is = tt
+    wanted done answered c r is = tt
 
     pub keep_exchanges : (done : Done C S) → Provenance.AreAnswered wire size node done →
         (xs : List (NetworkCommand C S)) (rs : List (NetworkReply C S)) →

@@ -66,14 +66,7 @@ module _ {C S : Type 0} {key_size signature_size : ℕ} {key : C → List ℕ} {
         answer_or_memory r _ (received_at wire n frame (as_nanos now)) received.Greeted is.1
         (ap (λ (x : FrameOutcome C S). x.answer)
         (ap (λ f. received_at wire n f (as_nanos now)) same ∙ told))
-    takes_greeting done (command.Frame i frame now) (reply.Call r) is = tt
-    takes_greeting done (command.Frame i frame now) (reply.Ask r) is = tt
-    takes_greeting done (command.Frame i frame now) (reply.Exchange r) is = tt
-    takes_greeting done (command.Frame i frame now) reply.OutOfMemory is = tt
-    takes_greeting done (command.Frame i frame now) reply.NoNode is = tt
-    takes_greeting done (command.Call i x) r is = tt
-    takes_greeting done (command.Ask i place) r is = tt
-    takes_greeting done (command.Exchange asker replier place now now2) r is = tt
+    takes_greeting done c r is = tt
 
   -- LATE FRAMES
 
@@ -106,11 +99,4 @@ module _ {C S : Type 0} {key_size signature_size : ℕ} {key : C → List ℕ} {
         (calls_at wire size node done i) frame (as_nanos now) r
         (frames.frame_may_want_memory wire (standing_at wire size node done i) frame (as_nanos now))
         is.1)
-    takes_frame done (command.Frame i frame now) (reply.Call r) is = tt
-    takes_frame done (command.Frame i frame now) (reply.Ask r) is = tt
-    takes_frame done (command.Frame i frame now) (reply.Exchange r) is = tt
-    takes_frame done (command.Frame i frame now) reply.OutOfMemory is = tt
-    takes_frame done (command.Frame i frame now) reply.NoNode is = tt
-    takes_frame done (command.Call i x) r is = tt
-    takes_frame done (command.Ask i place) r is = tt
-    takes_frame done (command.Exchange asker replier place now now2) r is = tt
+    takes_frame done c r is = tt

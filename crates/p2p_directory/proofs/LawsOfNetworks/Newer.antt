@@ -11,8 +11,7 @@ use Rattle.p2p_directory.specs.declared.node.network.commands.NetworkReply.TheVa
 use Rattle.p2p_tracker.specs.Lists.{first_greatest}
 use Rattle.p2p_tracker.specs.Calls.{Settings, Call, Event}
 use Rattle.p2p_tracker.specs.Calls.Call.{Update}
-use Rattle.p2p_tracker.specs.Calls.Event.{Nothing, Tracked, Granted, Connected, Released, Updated}
-use Rattle.p2p_tracker.specs.Calls.Event.{Blocked, Expired, Forgot}
+use Rattle.p2p_tracker.specs.Calls.Event.{Connected, Released, Updated}
 use Rattle.p2p_tracker.specs.History
 use Rattle.p2p_tracker.specs.World
 use Rattle.p2p_tracker.specs.World.{World, Known}
@@ -50,7 +49,6 @@ module _ {C S : Type 0} (s : Settings C S) (n : ℕ) where
       go false = subst (λ (x : Known C S). IsSince n x.info)
           (sym (Knowledge.updated_all_with_best s k mine))
           (since_later_left k.info (first_greatest mine) h)
-  after_event p (Granted q grant) k h = h
   after_event p (Connected q dialer) k h = go (History.same s q p && dialer) _ h
     where
       go : (b : Bool) (x : Known C S) → IsSince n x.info → IsSince n (if b then x else k).info
@@ -62,11 +60,7 @@ module _ {C S : Type 0} (s : Settings C S) (n : ℕ) where
       go : (b : Bool) (x : Known C S) → IsSince n x.info → IsSince n (if b then x else k).info
       go true x f = f
       go false x f = h
-  after_event p Nothing k h = h
-  after_event p (Tracked taken) k h = h
-  after_event p (Blocked q t) k h = h
-  after_event p (Expired t) k h = h
-  after_event p (Forgot t) k h = h
+  after_event p e k h = h
 
   after_step : (w : World C S) (c : Call C S) (p : C) →
       is_present_in s (Step.step s w c) p ≡ true → IsSince n (w.peer p).known.info →
@@ -108,31 +102,11 @@ module _ {C S : Type 0} where
       (calls : List (Call C S)) → IsOneMore calls (calls_then wire m c r calls)
   one_then wire m (command.Call i x) (reply.Call r) calls =
       one_if (was_made r) (call_of x) calls
-  one_then wire m (command.Call i x) (reply.Ask r) calls = inl refl
-  one_then wire m (command.Call i x) (reply.Frame r) calls = inl refl
-  one_then wire m (command.Call i x) (reply.Exchange r) calls = inl refl
-  one_then wire m (command.Call i x) reply.OutOfMemory calls = inl refl
-  one_then wire m (command.Call i x) reply.NoNode calls = inl refl
-  one_then wire m (command.Ask i place) r calls = inl refl
   one_then wire m (command.Frame i frame now) (reply.Frame r) calls =
       one_if (applies r) (Update (infos_of_frame wire m.limits frame)) calls
-  one_then wire m (command.Frame i frame now) (reply.Call r) calls = inl refl
-  one_then wire m (command.Frame i frame now) (reply.Ask r) calls = inl refl
-  one_then wire m (command.Frame i frame now) (reply.Exchange r) calls = inl refl
-  one_then wire m (command.Frame i frame now) reply.OutOfMemory calls = inl refl
-  one_then wire m (command.Frame i frame now) reply.NoNode calls = inl refl
   one_then wire m (command.Exchange asker replier place asker_now replier_now) (reply.Exchange r)
       calls = one_with (infos_applied r) calls
-  one_then wire m (command.Exchange asker replier place asker_now replier_now) (reply.Call r)
-      calls = inl refl
-  one_then wire m (command.Exchange asker replier place asker_now replier_now) (reply.Ask r)
-      calls = inl refl
-  one_then wire m (command.Exchange asker replier place asker_now replier_now) (reply.Frame r)
-      calls = inl refl
-  one_then wire m (command.Exchange asker replier place asker_now replier_now) reply.OutOfMemory
-      calls = inl refl
-  one_then wire m (command.Exchange asker replier place asker_now replier_now) reply.NoNode
-      calls = inl refl
+  one_then wire m c r calls = inl refl
 
 module _ {C S : Type 0} (wire : Wire C S) (size : ℕ) (node : ℕ → Made C S) where
   one_at : (x : NetworkCommand C S × NetworkReply C S) (done : Done C S) (i : ℕ) →

@@ -11,8 +11,7 @@ use Rattle.p2p_directory.specs.declared.node.network.commands.NetworkCommand.The
 use Rattle.p2p_directory.specs.declared.node.network.commands.NetworkReply.{NetworkReply}
 use Rattle.p2p_directory.specs.declared.node.network.commands.NetworkReply.TheVariants as reply
 use Rattle.p2p_tracker.specs.Calls.{Call}
-use Rattle.p2p_tracker.specs.Calls.Call.{Track, Dial, Listen, Connect, Release, Update, Block}
-use Rattle.p2p_tracker.specs.Calls.Call.{UnblockExpired, ForgetCooled, Ask}
+use Rattle.p2p_tracker.specs.Calls.Call.{Update}
 use Rattle.p2p_directory.specs.Run.{call_of, was_made, world_after}
 use Rattle.p2p_directory.specs.Received.{Wire, applies}
 use Rattle.p2p_directory.specs.Exchange
@@ -41,15 +40,7 @@ module _ {C S : Type 0} (P : Info C S → Type 0) where
 
   gives_call : (c : Call C S) → ((i : Info C S) → IsAmong (given_by c) i → P i) → GivesOnly P c
   gives_call (Update infos) h = from_among infos h
-  gives_call (Track index primary secondary) h = tt
-  gives_call (Dial p t draw) h = tt
-  gives_call (Listen p t draw) h = tt
-  gives_call (Connect p dialer) h = tt
-  gives_call (Release p) h = tt
-  gives_call (Block p t) h = tt
-  gives_call (UnblockExpired t) h = tt
-  gives_call (ForgetCooled t) h = tt
-  gives_call (Ask question) h = tt
+  gives_call c h = tt
 
 module _ {C S : Type 0} (wire : Wire C S) (size : ℕ) (node : ℕ → Made C S) where
   -- each reply was the answer at its point
@@ -122,31 +113,11 @@ module _ {C S : Type 0} (wire : Wire C S) (size : ℕ) (node : ℕ → Made C S)
         GivesAll (calls_then wire (node (changed_by c)) c r calls)
     gives_then (command.Call i x) (reply.Call r) calls h before =
         gives_if P (was_made r) (call_of x) calls (λ e. h) before
-    gives_then (command.Call i x) (reply.Ask frame) calls h before = before
-    gives_then (command.Call i x) (reply.Frame r) calls h before = before
-    gives_then (command.Call i x) (reply.Exchange r) calls h before = before
-    gives_then (command.Call i x) reply.OutOfMemory calls h before = before
-    gives_then (command.Call i x) reply.NoNode calls h before = before
-    gives_then (command.Ask i place) r calls h before = before
     gives_then (command.Frame i frame now) (reply.Frame r) calls h before =
         gives_if P (applies r) (Update (infos_of_frame wire (node i).limits frame)) calls h before
-    gives_then (command.Frame i frame now) (reply.Call r) calls h before = before
-    gives_then (command.Frame i frame now) (reply.Ask r) calls h before = before
-    gives_then (command.Frame i frame now) (reply.Exchange r) calls h before = before
-    gives_then (command.Frame i frame now) reply.OutOfMemory calls h before = before
-    gives_then (command.Frame i frame now) reply.NoNode calls h before = before
     gives_then (command.Exchange asker replier place asker_now replier_now) (reply.Exchange r)
         calls h before = gives_with P (infos_applied r) calls h before
-    gives_then (command.Exchange asker replier place asker_now replier_now) (reply.Call r) calls h
-        before = before
-    gives_then (command.Exchange asker replier place asker_now replier_now) (reply.Ask r) calls h
-        before = before
-    gives_then (command.Exchange asker replier place asker_now replier_now) (reply.Frame r) calls h
-        before = before
-    gives_then (command.Exchange asker replier place asker_now replier_now) reply.OutOfMemory calls
-        h before = before
-    gives_then (command.Exchange asker replier place asker_now replier_now) reply.NoNode calls h
-        before = before
+    gives_then c r calls h before = before
 
     gives_at : (n : ℕ) (x : NetworkCommand C S × NetworkReply C S) (done : Done C S) →
         (changed_by x.0 ≡ n → GivesOrBrings wire size node P x) →
@@ -197,9 +168,6 @@ module _ {C S : Type 0} (wire : Wire C S) (size : ℕ) (node : ℕ → Made C S)
     gives_or_brings : (done : Done C S) (c : NetworkCommand C S) (r : NetworkReply C S) →
         IsNetworkAnswer wire size node done c r → GivesTo wire size node P (c, r) →
         ((n : ℕ) → GivenTo n done) → GivesOrBrings wire size node P (c, r)
-    gives_or_brings done (command.Call i x) r is h before = h
-    gives_or_brings done (command.Ask i place) r is h before = h
-    gives_or_brings done (command.Frame i frame now) r is h before = h
     gives_or_brings done (command.Exchange asker replier place asker_now replier_now)
         (reply.Exchange r) is h before =
         let a = standing_at wire size node done asker in
@@ -215,16 +183,7 @@ module _ {C S : Type 0} (wire : Wire C S) (size : ℕ) (node : ℕ → Made C S)
         (Exchange.exchanged_at a b place (as_nanos asker_now) (as_nanos replier_now)) is.1
         (exchange_gives P a b place (as_nanos asker_now) (as_nanos replier_now)
         (λ index bits infos e. told index bits (as_nanos replier_now) infos e))
-    gives_or_brings done (command.Exchange asker replier place asker_now replier_now) (reply.Call r)
-        is h before = h
-    gives_or_brings done (command.Exchange asker replier place asker_now replier_now) (reply.Ask r)
-        is h before = h
-    gives_or_brings done (command.Exchange asker replier place asker_now replier_now)
-        (reply.Frame r) is h before = h
-    gives_or_brings done (command.Exchange asker replier place asker_now replier_now)
-        reply.OutOfMemory is h before = h
-    gives_or_brings done (command.Exchange asker replier place asker_now replier_now) reply.NoNode
-        is h before = h
+    gives_or_brings done c r is h before = h
 
     given_to : (done : Done C S) → AreAnswered done →
         AllByRecursion (GivesTo wire size node P) done → (n : ℕ) → GivenTo n done
@@ -251,20 +210,9 @@ module _ {C S : Type 0} (wire : Wire C S) (size : ℕ) (node : ℕ → Made C S)
   gives_to : (P : Info C S → Type 0) (c : NetworkCommand C S) (r : NetworkReply C S) →
       ((i : Info C S) → IsGivenBy wire size node (c, r) i → P i) → GivesTo wire size node P (c, r)
   gives_to P (command.Call i x) (reply.Call r) h = gives_call P (call_of x) h
-  gives_to P (command.Call i x) (reply.Ask r) h = tt
-  gives_to P (command.Call i x) (reply.Frame r) h = tt
-  gives_to P (command.Call i x) (reply.Exchange r) h = tt
-  gives_to P (command.Call i x) reply.OutOfMemory h = tt
-  gives_to P (command.Call i x) reply.NoNode h = tt
   gives_to P (command.Frame i frame now) (reply.Frame r) h = λ e.
       from_among P (infos_of_frame wire (node i).limits frame) (λ j m. h j (e, m))
-  gives_to P (command.Frame i frame now) (reply.Call r) h = tt
-  gives_to P (command.Frame i frame now) (reply.Ask r) h = tt
-  gives_to P (command.Frame i frame now) (reply.Exchange r) h = tt
-  gives_to P (command.Frame i frame now) reply.OutOfMemory h = tt
-  gives_to P (command.Frame i frame now) reply.NoNode h = tt
-  gives_to P (command.Ask i place) r h = tt
-  gives_to P (command.Exchange asker replier place asker_now replier_now) r h = tt
+  gives_to P c r h = tt
 
   gives_all : (P : Info C S → Type 0) (done : Done C S) →
       ((i : Info C S) → IsGivenIn wire size node done i → P i) →

@@ -227,14 +227,7 @@ module _ {C S : Type 0} {key_size signature_size : ℕ} {key : C → List ℕ} {
         (subst Written before written.1))
         r (frames.frame_may_want_memory wire (standing_at wire size node done replier) frame
         (as_nanos now)) is.1 written.0 sent is_reply
-    reply_for done answered (command.Frame replier frame now) (reply.Call r) written is = tt
-    reply_for done answered (command.Frame replier frame now) (reply.Ask r) written is = tt
-    reply_for done answered (command.Frame replier frame now) (reply.Exchange r) written is = tt
-    reply_for done answered (command.Frame replier frame now) reply.OutOfMemory written is = tt
-    reply_for done answered (command.Frame replier frame now) reply.NoNode written is = tt
-    reply_for done answered (command.Call i x) r written is = tt
-    reply_for done answered (command.Ask i place) r written is = tt
-    reply_for done answered (command.Exchange asker replier place now now2) r written is = tt
+    reply_for done answered c r written is = tt
 
     pub keep_replies : (done : Done C S) → Answered done → Written done →
         (cs : List (NetworkCommand C S)) (rs : List (NetworkReply C S)) →

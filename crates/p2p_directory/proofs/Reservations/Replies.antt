@@ -3,11 +3,11 @@ use Rattle.std.proofs.Common.{◌≡◌, true, Option, List, [], ◌∷◌, ◌+
 use Rattle.std.proofs.lemmas.List.{map-append}
 use Rattle.std.proofs.lemmas.List.Elements.{Contains-append_left}
 use Rattle.std.specs.List.{All, Contains}
+use Rattle.std.specs.Option.{option_map_or}
 use Rattle.std.specs.Prelude.{Some, None, IfSome}
 use Rattle.std.specs.declared.cmp.Ordering.{Ordering}
 use Rattle.p2p_tracker.specs.declared.directory.Metadata.{Metadata}
 use Rattle.p2p_directory.specs.declared.run.commands.Command.{Command}
-use Rattle.p2p_directory.specs.declared.run.commands.Command.TheVariants as command
 use Rattle.p2p_tracker.specs.Calls.{Settings, Call}
 use Rattle.p2p_directory.specs.declared.run.commands.Reply.{Reply}
 use Rattle.p2p_directory.specs.Private.Serving.{ServerView, has_slot_for, reserved_peer, IsAmong, StandsAt, IsCallServedAt}
@@ -18,29 +18,12 @@ use Rattle.p2p_directory.specs.Run.{call_of, calls_of, next, IsAnswer, accepted,
 pub room_grows : {C S : Type 0} (cmp : C → C → Ordering) (slots slots2 : List (C × Option (Metadata C S)))
     (x : Command C S) → ((q : C) → has_slot cmp slots q ≡ true → has_slot cmp slots2 q ≡ true)
     → has_slot_for cmp slots x ≡ true → has_slot_for cmp slots2 x ≡ true
-room_grows cmp slots slots2 (command.Dial peer now draw) more h = more peer h
-room_grows cmp slots slots2 (command.Listen peer now draw) more h = more peer h
-room_grows cmp slots slots2 (command.Track index peers) more h = refl
-room_grows cmp slots slots2 (command.Release peer) more h = refl
-room_grows cmp slots slots2 (command.Connect peer dialer) more h = refl
-room_grows cmp slots slots2 (command.UpdatePeers infos) more h = refl
-room_grows cmp slots slots2 (command.Status peer) more h = refl
-room_grows cmp slots slots2 (command.Info peer) more h = refl
-room_grows cmp slots slots2 (command.Infos bit_vec now) more h = refl
-room_grows cmp slots slots2 (command.GetRandomBitVec place) more h = refl
-room_grows cmp slots slots2 command.LatestSetIndex more h = refl
-room_grows cmp slots slots2 command.Tracked more h = refl
-room_grows cmp slots slots2 (command.Block peer now) more h = refl
-room_grows cmp slots slots2 (command.UnblockExpired now) more h = refl
-room_grows cmp slots slots2 (command.ForgetCooled now) more h = refl
-room_grows cmp slots slots2 command.NextUnblock more h = refl
-room_grows cmp slots slots2 (command.BlockedPeers now) more h = refl
-room_grows cmp slots slots2 (command.GetPeerSet index) more h = refl
-room_grows cmp slots slots2 command.LatestUpdate more h = refl
-room_grows cmp slots slots2 command.All more h = refl
-room_grows cmp slots slots2 (command.Eligible peer now) more h = refl
-room_grows cmp slots slots2 (command.Acceptable peer now) more h = refl
-room_grows cmp slots slots2 (command.Dialable now) more h = refl
+room_grows {C} cmp slots slots2 x more h = go (reserved_peer x) h
+  where
+    go : (o : Option C) → option_map_or (has_slot cmp slots) o true ≡ true →
+        option_map_or (has_slot cmp slots2) o true ≡ true
+    go None h = refl
+    go (Some q) h = more q h
 
 -- the slots are for the same peers
 pub room_stays : {C S : Type 0} (cmp : C → C → Ordering) (slots slots2 : List (C × Option (Metadata C S)))
@@ -56,20 +39,14 @@ among_more {C} peers p x h = go (reserved_peer x) h
     go None h = tt
     go (Some q) h = Contains-append_left peers (p ∷ []) q h
 
--- a peer with a slot has one for its command
-has_slot_is : {C S : Type 0} (cmp : C → C → Ordering) (slots : List (C × Option (Metadata C S))) (x : Command C S) →
-    IfSome (reserved_peer x) (λ q. has_slot cmp slots q ≡ true) → has_slot_for cmp slots x ≡ true
-has_slot_is cmp slots (command.Dial peer now draw) h = h
-has_slot_is cmp slots (command.Listen peer now draw) h = h
-has_slot_is cmp slots x h = refl
-
 -- each of the peers has a slot
 pub room_for : {C S : Type 0} (cmp : C → C → Ordering) (slots : List (C × Option (Metadata C S))) (peers : List C) →
     All (λ q. has_slot cmp slots q ≡ true) peers → (x : Command C S) → IsAmong peers x → has_slot_for cmp slots x ≡ true
-room_for {C} cmp slots peers all x h = has_slot_is cmp slots x (go (reserved_peer x) h)
+room_for {C} cmp slots peers all x h = go (reserved_peer x) h
   where
-    go : (o : Option C) → IfSome o (Contains peers) → IfSome o (λ q. has_slot cmp slots q ≡ true)
-    go None h = tt
+    go : (o : Option C) → IfSome o (Contains peers) →
+        option_map_or (has_slot cmp slots) o true ≡ true
+    go None h = refl
     go (Some q) h = subst (λ q. has_slot cmp slots q ≡ true) h.2 (all h.0 q h.1)
 
 module _ {C S : Type 0} (s : Settings C S) where
