@@ -60,12 +60,12 @@ pub const STEP: usize = 16;
 /// Holds all memory except a reserve. `limit` allocates the reserve too, except a budget. Contracts
 /// see how many blocks of the reserve are allocated.
 #[derive(Drop)]
-pub struct LowMemory {
+pub struct FailingAlloc {
     blocks: Vec<Vec<u8>>,
     filler: Vec<Vec<u8>>,
 }
 
-impl Model for LowMemory {
+impl Model for FailingAlloc {
     ghost use Rattle.std.specs.Prelude.{ℕ, length};
 
     ghost Value = { ℕ };
@@ -73,7 +73,7 @@ impl Model for LowMemory {
     ghost view = { λ memory. length memory.filler.items };
 }
 
-impl LowMemory {
+impl FailingAlloc {
     /// Allocates all memory except a reserve of 4 MiB, which is free until the first `limit`.
     ///
     /// # Errors
@@ -83,7 +83,7 @@ impl LowMemory {
     /// # Cost
     ///
     /// Up to 400,000 allocations of each size. Nothing is written to them.
-    pub fn new(alloc: Global) -> Result<LowMemory, AllocError>
+    pub fn new(alloc: Global) -> Result<FailingAlloc, AllocError>
         ensures { IfOk result (λ memory. memory ≡ 0) }
     {
         let mut blocks: Vec<Vec<u8>> = Vec::with_capacity(alloc, PLACES)?;
@@ -93,7 +93,7 @@ impl LowMemory {
         }
         take_all(&mut blocks, alloc, LARGEST)?;
         filler.clear();
-        Ok(LowMemory { blocks, filler })
+        Ok(FailingAlloc { blocks, filler })
     }
 
     /// Leaves one free piece of `budget` bytes. Each block allocated from it has a header of 8

@@ -1,5 +1,5 @@
 use Rattle.std.proofs.Common.{◌≤◌, length}
-use Rattle.low_memory.proofs.take_all.Given as goal
+use Rattle.failing_alloc.proofs.take_all.Given as goal
 
 abbrev pub invariant-loop-shift : goal.invariant-loop-shift
 invariant-loop-shift l = length l.initial.blocks.items ≤ length l.blocks.items
