@@ -1,7 +1,9 @@
 #!/usr/bin/env python3
 """Says whether each wrong body of crates/*/must-fail/ and mutants/ applies to the sources as they stand: each `old:`
-text stands exactly once in its file. Nothing is proved."""
+text stands exactly once in its file, and the name begins with the first function that is changed, or with the name of the
+file of a constant. Nothing is proved."""
 
+import re
 import sys
 from pathlib import Path
 
@@ -31,12 +33,24 @@ def applied(edit, crate):
     return texts, None if texts else "it has no pair of 'old:' and 'new:'"
 
 
+def misnamed(edit, crate):
+    """Returns what the name of an edit that applies should begin with, or None if it does."""
+    lines = Path(edit).read_text(encoding="utf-8").splitlines()
+    file, old = (next(line[len(key) :] for line in lines if line.startswith(key)) for key in ("file: ", "old: "))
+    text = (crate / file.strip()).read_text(encoding="utf-8")
+    functions = re.findall(r"\bfn (\w+)", text[: text.index(old) + len(old)])
+    wanted = functions[-1] if functions else Path(file.strip()).stem
+    return None if edit.name.startswith(f"{wanted}-") else wanted
+
+
 def main():
     edits = sorted([*ROOT.glob("crates/*/must-fail/*.edit"), *ROOT.glob("mutants/*/*.edit")])
     faults = 0
     for edit in edits:
         crate = edit.parent.name if edit.parent.name != "must-fail" else edit.parent.parent.name
         _, fault = applied(edit, ROOT / "crates" / crate)
+        if not fault and (wanted := misnamed(edit, ROOT / "crates" / crate)):
+            fault = f"its name has to begin with {wanted}-"
         if fault:
             faults += 1
             print(f"{edit.relative_to(ROOT)}: {fault}")

@@ -3,7 +3,7 @@ pub mod Naming
 pub mod Entries
 pub mod Listing
 pub mod Blocks
-pub mod Ends
+pub mod Expirations
 pub mod Cooldowns
 pub mod Places
 pub mod Merged

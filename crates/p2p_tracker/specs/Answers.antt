@@ -7,7 +7,7 @@ use Rattle.p2p_discovery.specs.declared.discovery.Info.{Info}
 use Rattle.p2p_tracker.specs.declared.record.Status.{Status}
 use Rattle.p2p_tracker.specs.Calls.{Settings, SetAt, Direction, Cooldown, Event}
 use Rattle.p2p_tracker.specs.declared.record.Status.TheVariants.{Active}
-use Rattle.p2p_tracker.specs.Calls.Event.{Tracked, Granted, Blocked}
+use Rattle.p2p_tracker.specs.Calls.Event.{SetTaken, Granted, Blocked}
 use Rattle.p2p_tracker.specs.History.{is_own, is_entitled}
 use Rattle.p2p_tracker.specs.Status.{is_inert, is_reserved}
 use Rattle.p2p_tracker.specs.History.{is_present_with, primary_count, secondary_count}
@@ -33,7 +33,7 @@ granted_direction _ = None
 
 -- `track`: the set was taken
 abbrev pub was_taken : {C S : Type 0} → Event C S → Bool
-was_taken (Tracked taken) = true
+was_taken (SetTaken taken) = true
 was_taken _ = false
 
 -- `block`: the block was taken

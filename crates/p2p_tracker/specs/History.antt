@@ -15,7 +15,7 @@ use Rattle.p2p_tracker.specs.declared.record.Status.{Status}
 use Rattle.p2p_tracker.specs.Calls.{Settings, SetAt, Direction, Grant, Cooldown, Event}
 use Rattle.p2p_tracker.specs.declared.record.Status.TheVariants.{Inert, Reserved, Active}
 use Rattle.p2p_tracker.specs.Calls.Direction.{Listener, Dialer}
-use Rattle.p2p_tracker.specs.Calls.Event.{Tracked, Granted, Connected, Released, Updated, Blocked}
+use Rattle.p2p_tracker.specs.Calls.Event.{SetTaken, Granted, Connected, Released, Updated, Blocked}
 use Rattle.p2p_tracker.specs.Calls.Event.{Expired, Forgot}
 use Rattle.p2p_tracker.specs.PeerSets.{set_count}
 use Rattle.p2p_discovery.specs.Ordered.{has_key}
@@ -79,7 +79,7 @@ module _ {C S : Type 0} (s : Settings C S) where
 
   -- the set that was taken by the event
   abbrev pub set_by : Event C S → List (SetAt C)
-  set_by (Tracked taken) = taken ∷ []
+  set_by (SetTaken taken) = taken ∷ []
   set_by _ = []
 
   -- each set that was taken, the oldest first

@@ -1,6 +1,6 @@
 -- Words of private contracts. Nobody outside of the crate sees them.
 pub mod Window
-pub mod Ends
+pub mod Expirations
 pub mod Places
 pub mod Counts
 pub mod Dialling

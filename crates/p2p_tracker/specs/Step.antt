@@ -7,7 +7,7 @@ use Rattle.p2p_tracker.specs.Moments.{cap}
 use Rattle.p2p_tracker.specs.declared.record.Status.{Status}
 use Rattle.p2p_tracker.specs.Calls.{Settings, Call, SetAt, Direction, Grant, Cooldown, Event}
 use Rattle.p2p_tracker.specs.declared.record.Status.TheVariants.{Inert, Reserved, Active}
-use Rattle.p2p_tracker.specs.Calls.Event.{Tracked, Granted, Connected, Released, Updated, Blocked}
+use Rattle.p2p_tracker.specs.Calls.Event.{SetTaken, Granted, Connected, Released, Updated, Blocked}
 use Rattle.p2p_tracker.specs.Calls.Event.{Expired, Forgot}
 use Rattle.p2p_tracker.specs.History.{same, is_own, is_present_with, is_dial_at}
 use Rattle.p2p_tracker.specs.Lists.{last_of}
@@ -19,7 +19,7 @@ module _ {C S : Type 0} (s : Settings C S) where
 
   -- a set that is taken is the latest, and at most so many of the latest stay
   abbrev pub sets_after : Event C S → List (SetAt C) → List (SetAt C)
-  sets_after (Tracked taken) sets = last_of s.max_sets (sets ++ taken ∷ [])
+  sets_after (SetTaken taken) sets = last_of s.max_sets (sets ++ taken ∷ [])
   sets_after _ sets = sets
 
   -- what a connect makes of a status: nothing where there is no grant

@@ -11,7 +11,7 @@ use Rattle.p2p_tracker.specs.Calls.Call.{Track, Dial, Listen, Connect, Release, 
 use Rattle.p2p_tracker.specs.Calls.Call.{UnblockExpired, ForgetCooled, Ask}
 use Rattle.p2p_tracker.specs.declared.record.Status.TheVariants.{Inert, Reserved, Active}
 use Rattle.p2p_tracker.specs.Calls.Direction.{Listener, Dialer}
-use Rattle.p2p_tracker.specs.Calls.Event.{Nothing, Tracked, Granted, Connected, Released, Updated}
+use Rattle.p2p_tracker.specs.Calls.Event.{Nothing, SetTaken, Granted, Connected, Released, Updated}
 use Rattle.p2p_tracker.specs.Calls.Event.{Blocked, Expired, Forgot}
 use Rattle.p2p_tracker.specs.Lists.{last_ingress_by}
 use Rattle.p2p_tracker.specs.Blocks.{is_blocked}
@@ -136,7 +136,7 @@ module _ {C S : Type 0} (s : Settings C S) where
   abbrev pub track_event : List (SetAt C) → ℕ → List C → List C → Event C S
   track_event sets index primary secondary =
       if list_all (λ x. nat_lt x.index index) sets
-      then Tracked (set_of s.cmp index primary secondary)
+      then SetTaken (set_of s.cmp index primary secondary)
       else Nothing
 
   -- a block is taken where p isn't the own key and isn't blocked at t

@@ -152,7 +152,7 @@ impl<C: PublicKey> Model for Directory<C> {
     ghost use Rattle.p2p_tracker.specs.Seen.{DirectoryView, config_view, record_at};
     ghost use Rattle.p2p_tracker.specs.Private.Window.{plain_sets};
     ghost use Rattle.p2p_tracker.specs.Cooldowns.{cooldown_in};
-    ghost use Rattle.p2p_tracker.specs.Private.Counts.{IsWhole};
+    ghost use Rattle.p2p_tracker.specs.Private.Counts.{IsDirectoryInvariant};
 
     ghost Value = { DirectoryView C C.Signature };
 
@@ -164,7 +164,7 @@ impl<C: PublicKey> Model for Directory<C> {
       cooldowns = d.cooldowns;
     } };
 
-    ghost invariant = { λ d. IsWhole C.cmp (non_zero_usize_get d.config.max_sets)
+    ghost invariant = { λ d. IsDirectoryInvariant C.cmp (non_zero_usize_get d.config.max_sets)
         d.config.dial_fail_limit d.own d.sets (record_at C.cmp d.records)
         (cooldown_in C.cmp d.cooldowns) };
 }

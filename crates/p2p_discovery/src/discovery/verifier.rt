@@ -92,7 +92,12 @@ impl<C: PublicKey> InfoVerifier<C> {
     /// # Errors
     ///
     /// Those of [`InfoVerifier::validate_info`], in the same order.
-    pub fn validate_info_by(&self, now: Duration, info: &Info<C>, right: bool) -> Result<(), Error>
+    pub fn validate_info_with_verdict(
+        &self,
+        now: Duration,
+        info: &Info<C>,
+        right: bool,
+    ) -> Result<(), Error>
         ensures { result ≡ judged
             (refusal_if (judge_of C.cmp C.verifies self.now) right (as_nanos now) info.now) }
     {
@@ -148,7 +153,7 @@ impl<C: PublicKey> InfoVerifier<C> {
     /// # Errors
     ///
     /// Those of [`InfoVerifier::validate`], in the same order.
-    pub fn validate_by(
+    pub fn validate_with_verdicts(
         &self,
         now: Duration,
         infos: &[Info<C>],
@@ -161,7 +166,7 @@ impl<C: PublicKey> InfoVerifier<C> {
             return Err(Error::TooManyPeers(infos.len()));
         }
         for place in 0..infos.len() {
-            self.validate_info_by(now, &infos[place], is_right(verdicts, place))?;
+            self.validate_info_with_verdict(now, &infos[place], is_right(verdicts, place))?;
         }
         Ok(())
     }

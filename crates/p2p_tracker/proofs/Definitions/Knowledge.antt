@@ -10,7 +10,7 @@ use Rattle.std.proofs.Math.Bool.{or-true, or-false}
 use Rattle.p2p_discovery.specs.declared.discovery.Info.{Info}
 use Rattle.p2p_discovery.specs.declared.types.ingress.Ingress.{Ingress}
 use Rattle.p2p_tracker.specs.Calls.{Settings, Direction, Event}
-use Rattle.p2p_tracker.specs.Calls.Event.{Nothing, Tracked, Granted, Connected, Released, Updated, Blocked, Expired, Forgot}
+use Rattle.p2p_tracker.specs.Calls.Event.{Nothing, SetTaken, Granted, Connected, Released, Updated, Blocked, Expired, Forgot}
 use Rattle.p2p_tracker.specs.History
 use Rattle.p2p_tracker.specs.Lists.{earlier_best, first_greatest}
 use Rattle.p2p_tracker.specs.World
@@ -323,7 +323,7 @@ module _ {C S : Type 0} (s : Settings C S) where
   known_step p (Connected q dialer) l = known_connected p q dialer l
   known_step p (Released q direction) l = known_released p q direction l
   known_step p Nothing l = nothing_known p Nothing l refl (λ a. refl) refl
-  known_step p (Tracked taken) l = nothing_known p (Tracked taken) l refl (λ a. refl) refl
+  known_step p (SetTaken taken) l = nothing_known p (SetTaken taken) l refl (λ a. refl) refl
   known_step p (Blocked q t) l = nothing_known p (Blocked q t) l refl (λ a. refl) refl
   known_step p (Expired t) l = nothing_known p (Expired t) l refl (λ a. refl) refl
   known_step p (Forgot t) l = nothing_known p (Forgot t) l refl (λ a. refl) refl

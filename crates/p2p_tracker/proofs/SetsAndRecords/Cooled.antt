@@ -26,7 +26,7 @@ use Rattle.p2p_tracker.specs.Directory.{connected_record, updated_record, record
 use Rattle.p2p_discovery.specs.Ordered.{has_key}
 use Rattle.p2p_tracker.specs.Cooldowns.{has_cooled, unless_cooled}
 use Rattle.p2p_tracker.specs.Private.Window.{SetWithBits}
-use Rattle.p2p_tracker.specs.Private.Counts.{AreCooled, IsWhole, changed_if, cleared_at}
+use Rattle.p2p_tracker.specs.Private.Counts.{AreCooled, IsDirectoryInvariant, changed_if, cleared_at}
 use Rattle.p2p_tracker.proofs.SetsAndRecords.Changes.{IsSound, IsKept, kept_same, each_sound, bits_same}
 use Rattle.p2p_tracker.proofs.SetsAndRecords.Changes.{changed_with_bits}
 
@@ -195,9 +195,9 @@ module _ {C S : Type 0} (cmp : C → C → Ordering) where
   -- each record is given the moments that are kept
   pub cooled_anew : {me : C} (max limit : ℕ) (window : List (SetWithBits C)) (old new : C →
       Option (RecordView C S)) (cooldowns cooldowns2 : C → Option Cooldown) →
-      IsWhole cmp max limit me window old cooldowns →
+      IsDirectoryInvariant cmp max limit me window old cooldowns →
       ((q : C) → new q ≡ option_map (with_cooldown (cooldowns2 q)) (old q)) →
-      IsWhole cmp max limit me window new cooldowns2
+      IsDirectoryInvariant cmp max limit me window new cooldowns2
   cooled_anew max limit window old new cooldowns cooldowns2 was change = record {
     whole =
         changed_with_bits cmp max limit window window old new was.whole

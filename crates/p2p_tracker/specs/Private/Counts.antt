@@ -188,7 +188,7 @@ module _ {C S : Type 0} (cmp : C → C → Ordering) where
       (option_map (with_cooldown None)) o
 
   -- what holds of a directory between calls
-  pub record IsWhole (max limit : ℕ) (me : C) (window : List (SetWithBits C))
+  pub record IsDirectoryInvariant (max limit : ℕ) (me : C) (window : List (SetWithBits C))
       (record_at : C → Option (RecordView C S)) (cooldown_at : C → Option Cooldown) : Type 0 where
     pub whole : IsInvariant max limit me window record_at
     pub cooled : AreCooled record_at cooldown_at

@@ -12,7 +12,7 @@ ghost use Rattle.std.specs.Option.{option_map, option_map_or};
 ghost use Rattle.std.specs.Ordering.{is_gt};
 ghost use Rattle.p2p_tracker.specs.Blocks.{in_nanos, is_later, unblock_in};
 ghost use Rattle.p2p_tracker.specs.Blocks.{is_blocked};
-ghost use Rattle.p2p_tracker.specs.Private.Ends.{end_cmp, end_in_nanos, IsFirstOf, AreEnds, AreKept};
+ghost use Rattle.p2p_tracker.specs.Private.Expirations.{end_cmp, end_in_nanos, IsFirstOf, AreExpirations, AreKept};
 
 use crate::kept::maps::drop_value;
 use p2p_discovery::codec::PublicKey;
@@ -30,7 +30,7 @@ pub struct Blocks<C: PublicKey> {
     moments: BTreeMap<C, Duration>,
     // Exactly the same pairs in order of their ends, in nanoseconds, and of keys if these are
     // equal.
-    ends: BTreeSet<(u128, C)>,
+    expirations: BTreeSet<(u128, C)>,
     // The first of them.
     first: Option<(Duration, C)>,
 }
@@ -38,14 +38,14 @@ pub struct Blocks<C: PublicKey> {
 impl<C: PublicKey> Model for Blocks<C> {
     ghost use Rattle.std.specs.Prelude.{ℕ, List};
     ghost use Rattle.p2p_tracker.specs.Blocks.{in_nanos};
-    ghost use Rattle.p2p_tracker.specs.Private.Ends.{AreKept, end_in_nanos};
+    ghost use Rattle.p2p_tracker.specs.Private.Expirations.{AreKept, end_in_nanos};
 
     ghost Value = { List (C × ℕ) };
 
     ghost view = { λ b. in_nanos b.moments.entries };
 
     ghost invariant = { λ b.
-        AreKept C.cmp b.ends.keys (in_nanos b.moments.entries) (end_in_nanos b.first) };
+        AreKept C.cmp b.expirations.keys (in_nanos b.moments.entries) (end_in_nanos b.first) };
 }
 
 impl<C: PublicKey> Blocks<C> {
@@ -55,7 +55,7 @@ impl<C: PublicKey> Blocks<C> {
     {
         Blocks {
             moments: BTreeMap::new(alloc),
-            ends: BTreeSet::new(alloc),
+            expirations: BTreeSet::new(alloc),
             first: None,
         }
     }
@@ -85,7 +85,7 @@ impl<C: PublicKey> Blocks<C> {
     {
         put_block(
             &mut self.moments,
-            &mut self.ends,
+            &mut self.expirations,
             &mut self.first,
             key,
             now,
@@ -129,7 +129,12 @@ impl<C: PublicKey> Blocks<C> {
         ensures count { result ≡ count_by (λ e. not (is_later (as_nanos now) e)) self.old }
     {
         let _moments = self.moments.len();
-        drop_ended(&mut self.moments, &mut self.ends, &mut self.first, now)
+        drop_ended(
+            &mut self.moments,
+            &mut self.expirations,
+            &mut self.first,
+            now,
+        )
     }
 
     /// The peers in ascending order of their keys, each with the end of its block. It doesn't
@@ -146,14 +151,14 @@ impl<C: PublicKey> Blocks<C> {
 // it may have changed.
 fn put_block<C: PublicKey>(
     moments: &mut BTreeMap<C, Duration>,
-    ends: &mut BTreeSet<(u128, C)>,
+    expirations: &mut BTreeSet<(u128, C)>,
     first: &mut Option<(Duration, C)>,
     key: C,
     now: Duration,
     until: Duration,
 ) -> Result<bool, AllocError>
-    requires { AreKept C.cmp ends.old.keys (in_nanos moments.old.entries) (end_in_nanos first.old) }
-    ensures kept { AreKept C.cmp ends.new.keys (in_nanos moments.new.entries)
+    requires { AreKept C.cmp expirations.old.keys (in_nanos moments.old.entries) (end_in_nanos first.old) }
+    ensures kept { AreKept C.cmp expirations.new.keys (in_nanos moments.new.entries)
         (end_in_nanos first.new) }
     ensures err { OnErr result (moments.new.entries ≡ moments.old.entries) }
     ensures untaken { is_blocked (unblock_in C.cmp (in_nanos moments.old.entries) key)
@@ -165,11 +170,11 @@ fn put_block<C: PublicKey>(
         (if is_at (C.cmp key) q then Some (as_nanos until)
         else unblock_in C.cmp (in_nanos moments.old.entries) q) }
 {
-    if !put_end(moments, ends, key, now, until)? {
+    if !put_end(moments, expirations, key, now, until)? {
         return Ok(false);
     }
     if !stays_first(first, &key, until) {
-        *first = first_to_end(moments, ends);
+        *first = first_to_end(moments, expirations);
     }
     Ok(true)
 }
@@ -196,25 +201,25 @@ fn stays_first<C: PublicKey>(first: &Option<(Duration, C)>, key: &C, moment: Dur
 // both have the same pairs as before.
 fn put_end<C: PublicKey>(
     moments: &mut BTreeMap<C, Duration>,
-    ends: &mut BTreeSet<(u128, C)>,
+    expirations: &mut BTreeSet<(u128, C)>,
     key: C,
     now: Duration,
     until: Duration,
 ) -> Result<bool, AllocError>
-    requires { AreEnds C.cmp ends.old.keys (in_nanos moments.old.entries) }
+    requires { AreExpirations C.cmp expirations.old.keys (in_nanos moments.old.entries) }
     ensures err { OnErr result ((moments.new.entries ≡ moments.old.entries)
-        × (ends.new.keys ≡ ends.old.keys)) }
+        × (expirations.new.keys ≡ expirations.old.keys)) }
     ensures untaken { is_blocked (option_map as_nanos (get C.cmp moments.old key))
         (as_nanos now) ≡ true → result ≡ Ok false }
     ensures answer { IfOk result (λ taken. taken ≡
         not (is_blocked (option_map as_nanos (get C.cmp moments.old key)) (as_nanos now))) }
     ensures refused { result ≡ Ok false → (moments.new.entries ≡ moments.old.entries)
-        × (ends.new.keys ≡ ends.old.keys) }
+        × (expirations.new.keys ≡ expirations.old.keys) }
     ensures taken { result ≡ Ok true → (q : C) → get C.cmp moments.new q ≡
         (if is_at (C.cmp key) q then Some until else get C.cmp moments.old q) }
-    ensures ends { result ≡ Ok true → (new : List (C × ℕ)) → ((q : C) → unblock_in C.cmp new q ≡
+    ensures expirations { result ≡ Ok true → (new : List (C × ℕ)) → ((q : C) → unblock_in C.cmp new q ≡
         (if is_at (C.cmp key) q then Some (as_nanos until)
-        else unblock_in C.cmp (in_nanos moments.old.entries) q)) → AreEnds C.cmp ends.new.keys new }
+        else unblock_in C.cmp (in_nanos moments.old.entries) q)) → AreExpirations C.cmp expirations.new.keys new }
 {
     match moments.entry(key) {
         Ok(Entry::Occupied(mut entry)) => {
@@ -222,13 +227,13 @@ fn put_end<C: PublicKey>(
             if now.as_nanos() < before.as_nanos() {
                 return Ok(false);
             }
-            move_end(ends, key, before, until)?;
+            move_end(expirations, key, before, until)?;
             entry.insert(until);
             Ok(true)
         }
         Ok(Entry::Vacant(entry)) => {
             entry.insert(until);
-            if let Err(AllocError) = add_end(ends, key, until) {
+            if let Err(AllocError) = add_end(expirations, key, until) {
                 moments.remove(&key);
                 return Err(AllocError);
             }
@@ -243,16 +248,16 @@ fn put_end<C: PublicKey>(
 
 // Adds this end of the key.
 fn add_end<C: PublicKey>(
-    ends: &mut BTreeSet<(u128, C)>,
+    expirations: &mut BTreeSet<(u128, C)>,
     key: C,
     until: Duration,
 ) -> Result<(), AllocError>
-    ensures err { OnErr result (ends.new.keys ≡ ends.old.keys) }
-    ensures ok { OnOk result ((e : ℕ × C) → contains (end_cmp C.cmp) ends.new e ≡
+    ensures err { OnErr result (expirations.new.keys ≡ expirations.old.keys) }
+    ensures ok { OnOk result ((e : ℕ × C) → contains (end_cmp C.cmp) expirations.new e ≡
         (if is_at (end_cmp C.cmp (as_nanos until, key)) e then true
-        else contains (end_cmp C.cmp) ends.old e)) }
+        else contains (end_cmp C.cmp) expirations.old e)) }
 {
-    match ends.insert((until.as_nanos(), key)) {
+    match expirations.insert((until.as_nanos(), key)) {
         Ok(_added) => Ok(()),
         Err(refused) => {
             drop_value(refused);
@@ -263,53 +268,56 @@ fn add_end<C: PublicKey>(
 
 // Puts an end of the key in the place of the one that it has: `before`.
 fn move_end<C: PublicKey>(
-    ends: &mut BTreeSet<(u128, C)>,
+    expirations: &mut BTreeSet<(u128, C)>,
     key: C,
     before: Duration,
     until: Duration,
 ) -> Result<(), AllocError>
-    ensures err { OnErr result (ends.new.keys ≡ ends.old.keys) }
-    ensures ok { OnOk result ((old new : List (C × ℕ)) → AreEnds C.cmp ends.old.keys old →
+    ensures err { OnErr result (expirations.new.keys ≡ expirations.old.keys) }
+    ensures ok { OnOk result ((old new : List (C × ℕ)) → AreExpirations C.cmp expirations.old.keys old →
         unblock_in C.cmp old key ≡ Some (as_nanos before) →
         ((q : C) → unblock_in C.cmp new q ≡
         (if is_at (C.cmp key) q then Some (as_nanos until) else unblock_in C.cmp old q)) →
-        AreEnds C.cmp ends.new.keys new) }
+        AreExpirations C.cmp expirations.new.keys new) }
 {
     if before.as_nanos() == until.as_nanos() {
         return Ok(());
     }
-    add_end(ends, key, until)?;
-    ends.remove(&(before.as_nanos(), key));
+    add_end(expirations, key, until)?;
+    expirations.remove(&(before.as_nanos(), key));
     Ok(())
 }
 
 // The first of the ends, with its time as it was passed in.
 fn first_to_end<C: PublicKey>(
     moments: &BTreeMap<C, Duration>,
-    ends: &BTreeSet<(u128, C)>,
+    expirations: &BTreeSet<(u128, C)>,
 ) -> Option<(Duration, C)>
-    requires { AreEnds C.cmp ends.now.keys (in_nanos moments.now.entries) }
+    requires { AreExpirations C.cmp expirations.now.keys (in_nanos moments.now.entries) }
     ensures { IsFirstOf C.cmp (unblock_in C.cmp (in_nanos moments.now.entries))
         (end_in_nanos result) }
 {
-    let (_, key) = ends.first()?;
+    let (_, key) = expirations.first()?;
     let moment = moments.get(key)?;
     Some((*moment, *key))
 }
 
 // Removes the first of the ends if it is at or before `now`.
-fn take_ended<C: PublicKey>(ends: &mut BTreeSet<(u128, C)>, now: Duration) -> Option<(u128, C)>
+fn take_ended<C: PublicKey>(
+    expirations: &mut BTreeSet<(u128, C)>,
+    now: Duration,
+) -> Option<(u128, C)>
     ensures some { IfSome result (λ end. (end.0 ≤ as_nanos now)
-        × (contains (end_cmp C.cmp) ends.old end ≡ true)
-        × ((e : ℕ × C) → contains (end_cmp C.cmp) ends.new e ≡
-        (if is_at (end_cmp C.cmp end) e then false else contains (end_cmp C.cmp) ends.old e))
-        × (length ends.new.keys < length ends.old.keys)) }
+        × (contains (end_cmp C.cmp) expirations.old end ≡ true)
+        × ((e : ℕ × C) → contains (end_cmp C.cmp) expirations.new e ≡
+        (if is_at (end_cmp C.cmp end) e then false else contains (end_cmp C.cmp) expirations.old e))
+        × (length expirations.new.keys < length expirations.old.keys)) }
     ensures none { IfNone result ((e : ℕ × C)
-        → contains (end_cmp C.cmp) ends.old e ≡ true → as_nanos now < e.0) }
-    ensures stay { IfNone result (ends.new.keys ≡ ends.old.keys) }
+        → contains (end_cmp C.cmp) expirations.old e ≡ true → as_nanos now < e.0) }
+    ensures stay { IfNone result (expirations.new.keys ≡ expirations.old.keys) }
 {
-    match ends.first() {
-        Some((end, _)) if *end <= now.as_nanos() => ends.pop_first(),
+    match expirations.first() {
+        Some((end, _)) if *end <= now.as_nanos() => expirations.pop_first(),
         _ => None,
     }
 }
@@ -317,12 +325,12 @@ fn take_ended<C: PublicKey>(ends: &mut BTreeSet<(u128, C)>, now: Duration) -> Op
 // Removes each block that ends at or before `now`, and returns how many there were.
 fn drop_ended<C: PublicKey>(
     moments: &mut BTreeMap<C, Duration>,
-    ends: &mut BTreeSet<(u128, C)>,
+    expirations: &mut BTreeSet<(u128, C)>,
     first: &mut Option<(Duration, C)>,
     now: Duration,
 ) -> usize
-    requires { AreKept C.cmp ends.old.keys (in_nanos moments.old.entries) (end_in_nanos first.old) }
-    ensures kept { AreKept C.cmp ends.new.keys (in_nanos moments.new.entries)
+    requires { AreKept C.cmp expirations.old.keys (in_nanos moments.old.entries) (end_in_nanos first.old) }
+    ensures kept { AreKept C.cmp expirations.new.keys (in_nanos moments.new.entries)
         (end_in_nanos first.new) }
     ensures left { in_nanos moments.new.entries ≡
         filter (is_later (as_nanos now)) (in_nanos moments.old.entries) }
@@ -334,8 +342,8 @@ fn drop_ended<C: PublicKey>(
     if !has_ended(first, now) {
         return 0;
     }
-    let count = take_each(moments, ends, now);
-    *first = first_to_end(moments, ends);
+    let count = take_each(moments, expirations, now);
+    *first = first_to_end(moments, expirations);
     count
 }
 
@@ -353,11 +361,11 @@ fn has_ended<C: PublicKey>(first: &Option<(Duration, C)>, now: Duration) -> bool
 // Removes each pair whose end is at or before `now`, and returns how many there were.
 fn take_each<C: PublicKey>(
     moments: &mut BTreeMap<C, Duration>,
-    ends: &mut BTreeSet<(u128, C)>,
+    expirations: &mut BTreeSet<(u128, C)>,
     now: Duration,
 ) -> usize
-    requires { AreEnds C.cmp ends.old.keys (in_nanos moments.old.entries) }
-    ensures ends { AreEnds C.cmp ends.new.keys (in_nanos moments.new.entries) }
+    requires { AreExpirations C.cmp expirations.old.keys (in_nanos moments.old.entries) }
+    ensures expirations { AreExpirations C.cmp expirations.new.keys (in_nanos moments.new.entries) }
     ensures left { in_nanos moments.new.entries ≡
         filter (is_later (as_nanos now)) (in_nanos moments.old.entries) }
     ensures count { result ≡
@@ -365,7 +373,7 @@ fn take_each<C: PublicKey>(
 {
     let mut count = 0;
     let _most = moments.len();
-    while let Some(end) = take_ended(ends, now) {
+    while let Some(end) = take_ended(expirations, now) {
         moments.remove(&end.1);
         count += 1;
     }

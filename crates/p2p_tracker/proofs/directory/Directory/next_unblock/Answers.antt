@@ -1,6 +1,6 @@
 use Rattle.std.proofs.Common.{Some}
 use Rattle.std.specs.Duration.{as_nanos}
-use Rattle.p2p_tracker.proofs.SetsAndRecords.Ends.{first_is_least}
+use Rattle.p2p_tracker.proofs.SetsAndRecords.Expirations.{first_is_least}
 use Rattle.p2p_tracker.proofs.directory.Directory.next_unblock.Goals as goal
 
 pub returns-in-Some : goal.returns-in-Some

@@ -13,7 +13,7 @@ use Rattle.p2p_tracker.specs.Directory.{record_with_sets, is_connectable, has_st
 use Rattle.p2p_tracker.specs.Seen.{DirectoryView, config_view, record_at, record_of}
 use Rattle.p2p_tracker.specs.Private.Window.{plain_set, plain_sets, set_with_bits}
 use Rattle.p2p_tracker.specs.Cooldowns.{cooldown_in}
-use Rattle.p2p_tracker.specs.Private.Counts.{IsWhole}
+use Rattle.p2p_tracker.specs.Private.Counts.{IsDirectoryInvariant}
 use Rattle.p2p_tracker.proofs.SetsAndRecords.Cooled.{cooled_each, cooled_with_sets}
 use Rattle.p2p_tracker.proofs.SetsAndRecords.Consistent.{room_left, all_restored, status_with_sets}
 use Rattle.p2p_tracker.proofs.SetsAndRecords.Taken.{IsTaken, taken_window}
@@ -47,8 +47,8 @@ invariant_of-self g c =
     let max = non_zero_usize_get c.self.inside.config.max_sets in
     let limit = c.self.inside.config.dial_fail_limit in
     let cooldowns = cooldown_in cmp c.self.inside.cooldowns in
-    subst (λ rs. IsWhole cmp max limit c.self.inside.own c.add.new.sets (record_at cmp rs) cooldowns) (sym (same g c))
-    (subst (λ sets. IsWhole cmp max limit c.self.inside.own sets (record_at cmp c.self.inside.records) cooldowns) (sym c.in_err-add.ensures.sets) c.self.invariant)
+    subst (λ rs. IsDirectoryInvariant cmp max limit c.self.inside.own c.add.new.sets (record_at cmp rs) cooldowns) (sym (same g c))
+    (subst (λ sets. IsDirectoryInvariant cmp max limit c.self.inside.own sets (record_at cmp c.self.inside.records) cooldowns) (sym c.in_err-add.ensures.sets) c.self.invariant)
 
 pub returns-in_err-add-clause-err : goal.returns-in_err-add-clause-err
 returns-in_err-add-clause-err g c =

@@ -1,9 +1,9 @@
 use Rattle.std.proofs.Common.{◌≡◌, ◌<◌, ℕ, Some, refl, sym, ◌∙◌}
 use Rattle.std.specs.Duration.{as_nanos}
 use Rattle.p2p_tracker.specs.Blocks.{in_nanos, unblock_in}
-use Rattle.p2p_tracker.specs.Private.Ends.{end_in_nanos}
+use Rattle.p2p_tracker.specs.Private.Expirations.{end_in_nanos}
 use Rattle.p2p_tracker.proofs.SetsAndRecords.Blocks.{sorted-in_nanos}
-use Rattle.p2p_tracker.proofs.SetsAndRecords.Ends.{none_ended, all_left, none_left}
+use Rattle.p2p_tracker.proofs.SetsAndRecords.Expirations.{none_ended, all_left, none_left}
 use Rattle.p2p_tracker.proofs.kept.blocks.drop_ended.Goals as goal
 
 -- where none ends, each is later

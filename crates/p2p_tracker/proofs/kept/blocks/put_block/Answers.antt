@@ -1,9 +1,9 @@
 use Rattle.std.proofs.Common.{rules, refl, sym, ◌∙◌, ap, not}
 use Rattle.std.specs.Duration.{as_nanos}
 use Rattle.p2p_tracker.specs.Blocks.{in_nanos}
-use Rattle.p2p_tracker.specs.Private.Ends.{end_in_nanos}
+use Rattle.p2p_tracker.specs.Private.Expirations.{end_in_nanos}
 use Rattle.p2p_tracker.proofs.SetsAndRecords.Blocks.{blocked_as, unblock_after}
-use Rattle.p2p_tracker.proofs.SetsAndRecords.Ends.{first_stays}
+use Rattle.p2p_tracker.proofs.SetsAndRecords.Expirations.{first_stays}
 use Rattle.p2p_tracker.proofs.kept.blocks.put_block.Goals as goal
 
 pub returns-in_err-put_end-clause-untaken : goal.returns-in_err-put_end-clause-untaken
@@ -21,13 +21,13 @@ returns-then-not-branch-clause-answer g c =
 
 pub first_to_end-requires : goal.first_to_end-requires
 first_to_end-requires g c =
-    c.in_ok-put_end.ensures.ends (search rules) (in_nanos c.put_end.new.moments.entries)
+    c.in_ok-put_end.ensures.expirations (search rules) (in_nanos c.put_end.new.moments.entries)
     (unblock_after g.C.Ord.cmp c.args.moments.now.entries c.put_end.new.moments.entries
     (in_nanos c.args.moments.now.entries) c.args.key c.args.until refl (c.in_ok-put_end.ensures.taken (search rules)))
 
 pub returns-then-not-stays_first-clause-kept : goal.returns-then-not-stays_first-clause-kept
 returns-then-not-stays_first-clause-kept g c = record {
-  both = c.in_ok-put_end.ensures.ends (search rules) (in_nanos c.put_end.new.moments.entries)
+  both = c.in_ok-put_end.ensures.expirations (search rules) (in_nanos c.put_end.new.moments.entries)
       (unblock_after g.C.Ord.cmp c.args.moments.now.entries c.put_end.new.moments.entries
       (in_nanos c.args.moments.now.entries) c.args.key c.args.until refl (c.in_ok-put_end.ensures.taken (search rules)));
   front = c.first_to_end.ensures;
@@ -43,7 +43,7 @@ returns-else-not-stays_first-clause-kept g c =
     let put = unblock_after g.C.Ord.cmp c.args.moments.now.entries c.put_end.new.moments.entries
     (in_nanos c.args.moments.now.entries) c.args.key c.args.until refl (c.in_ok-put_end.ensures.taken (search rules)) in
     record {
-      both = c.in_ok-put_end.ensures.ends (search rules) (in_nanos c.put_end.new.moments.entries) put;
+      both = c.in_ok-put_end.ensures.expirations (search rules) (in_nanos c.put_end.new.moments.entries) put;
       front = first_stays g.met.C.PublicKey.exact (in_nanos c.args.moments.now.entries) (in_nanos c.put_end.new.moments.entries) c.args.key
           (as_nanos c.args.until) (end_in_nanos c.args.first.now) put c.requires.front
           (c.if-not-stays_first.ensures.some refl) (c.if-not-stays_first.ensures.behind refl);

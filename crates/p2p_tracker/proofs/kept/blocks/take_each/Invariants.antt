@@ -4,13 +4,13 @@ use Rattle.std.specs.List.{count_by}
 use Rattle.std.specs.List.Sorted.{IsStrictlySortedBy}
 use Rattle.std.specs.Map.{keys_of}
 use Rattle.p2p_tracker.specs.Blocks.{in_nanos, is_later}
-use Rattle.p2p_tracker.specs.Private.Ends.{AreEnds}
+use Rattle.p2p_tracker.specs.Private.Expirations.{AreExpirations}
 use Rattle.p2p_tracker.proofs.kept.blocks.take_each.Given as goal
 
 -- what is left of both are the same pairs, and those that went are counted
 abbrev pub invariant-loop-end : goal.invariant-loop-end
 invariant-loop-end g l = record {
-  ends : AreEnds g.C.Ord.cmp l.ends.keys (in_nanos l.moments.entries);
+  expirations : AreExpirations g.C.Ord.cmp l.expirations.keys (in_nanos l.moments.entries);
   sorted : IsStrictlySortedBy g.C.Ord.cmp (keys_of l.moments.entries);
   left : filter (is_later (as_nanos l.now)) (in_nanos l.moments.entries)
       ≡ filter (is_later (as_nanos l.now)) (in_nanos l.initial.moments.entries);
@@ -19,4 +19,4 @@ invariant-loop-end g l = record {
 }
 
 abbrev pub decreases-loop-end : goal.decreases-loop-end
-decreases-loop-end g l = length l.ends.keys
+decreases-loop-end g l = length l.expirations.keys

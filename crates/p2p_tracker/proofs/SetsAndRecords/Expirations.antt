@@ -26,7 +26,7 @@ use Rattle.std.proofs.lemmas.Map.Views.{tells_apart}
 use Rattle.std.proofs.Math.Bool.{and-false, and-true}
 use Rattle.p2p_tracker.specs.Blocks.{in_nanos, is_later, unblock_in}
 use Rattle.p2p_tracker.specs.Lists.{IsLeastOf}
-use Rattle.p2p_tracker.specs.Private.Ends.{end_cmp, IsFirstOf, AreEnds}
+use Rattle.p2p_tracker.specs.Private.Expirations.{end_cmp, IsFirstOf, AreExpirations}
 use Rattle.p2p_tracker.proofs.SetsAndRecords.Blocks.{lookup-in_nanos}
 
 abbrev until : ℕ → Option ℕ → Bool
@@ -67,109 +67,109 @@ not_before cmp e f low = go (nat_lt e.0 f.0) refl (nat_eq e.0 f.0) refl low
 
 module _ {C : Type 0} {cmp : C → C → Ordering} (exact : CmpEqualImpliesEq cmp) where
   abbrev Has : List (ℕ × C) → ℕ → C → Bool
-  Has ends n q = list_any (is_at (end_cmp cmp (n, q))) ends
+  Has expirations n q = list_any (is_at (end_cmp cmp (n, q))) expirations
 
   -- a key is given a moment, and had this one or none
-  pub ends_more : (ends new_ends : List (ℕ × C)) (old new : List (C × ℕ)) (key : C) (m : ℕ) → AreEnds cmp ends old →
+  pub ends_more : (expirations new_ends : List (ℕ × C)) (old new : List (C × ℕ)) (key : C) (m : ℕ) → AreExpirations cmp expirations old →
       ((e : ℕ × C) → list_any (is_at (end_cmp cmp e)) new_ends
-      ≡ cond (is_at (end_cmp cmp (m, key)) e) true (list_any (is_at (end_cmp cmp e)) ends)) →
+      ≡ cond (is_at (end_cmp cmp (m, key)) e) true (list_any (is_at (end_cmp cmp e)) expirations)) →
       ((q : C) → unblock_in cmp new q ≡ cond (is_at (cmp key) q) (Some m) (unblock_in cmp old q)) →
-      ((n : ℕ) → until n (unblock_in cmp old key) ≡ true → n ≡ m) → AreEnds cmp new_ends new
-  ends_more ends new_ends old new key m are more put one n q =
-      more (n, q) ∙ ap (λ b. cond b true (Has ends n q)) (tied cmp m n key q) ∙ go (is_at (cmp key) q) refl
+      ((n : ℕ) → until n (unblock_in cmp old key) ≡ true → n ≡ m) → AreExpirations cmp new_ends new
+  ends_more expirations new_ends old new key m are more put one n q =
+      more (n, q) ∙ ap (λ b. cond b true (Has expirations n q)) (tied cmp m n key q) ∙ go (is_at (cmp key) q) refl
       ∙ ap (until n) (sym (put q))
     where
       go : (k : Bool) → is_at (cmp key) q ≡ k →
-          cond (nat_eq m n && k) true (Has ends n q) ≡ until n (cond k (Some m) (unblock_in cmp old q))
-      go false e = ap (λ b. cond b true (Has ends n q)) (and-false (nat_eq m n)) ∙ are n q
-      go true e = ap (λ b. cond b true (Has ends n q)) (and-true (nat_eq m n)) ∙ same (nat_eq m n) refl
+          cond (nat_eq m n && k) true (Has expirations n q) ≡ until n (cond k (Some m) (unblock_in cmp old q))
+      go false e = ap (λ b. cond b true (Has expirations n q)) (and-false (nat_eq m n)) ∙ are n q
+      go true e = ap (λ b. cond b true (Has expirations n q)) (and-true (nat_eq m n)) ∙ same (nat_eq m n) refl
         where
-          had : Has ends n q ≡ until n (unblock_in cmp old key)
+          had : Has expirations n q ≡ until n (unblock_in cmp old key)
           had = are n q ∙ ap (λ p. until n (unblock_in cmp old p)) (sym (tells_apart exact key q e))
 
-          same : (b : Bool) → nat_eq m n ≡ b → cond b true (Has ends n q) ≡ nat_eq n m
+          same : (b : Bool) → nat_eq m n ≡ b → cond b true (Has expirations n q) ≡ nat_eq n m
           same true f = sym (eq_turned m n true f)
           same false f = by (until n (unblock_in cmp old key)) refl
             where
-              by : (b : Bool) → until n (unblock_in cmp old key) ≡ b → Has ends n q ≡ nat_eq n m
+              by : (b : Bool) → until n (unblock_in cmp old key) ≡ b → Has expirations n q ≡ nat_eq n m
               by true g = absurd (let h = one n g in let i : nat_eq m n ≡ true = grind (arith, nat_tests) in let j =
                   sym f ∙ i in cc)
               by false g = had ∙ g ∙ sym (eq_turned m n false f)
 
   -- .. and had another
-  pub ends_instead : (ends new_ends : List (ℕ × C)) (old new : List (C × ℕ)) (key : C) (m before : ℕ) →
-      AreEnds cmp ends old →
+  pub ends_instead : (expirations new_ends : List (ℕ × C)) (old new : List (C × ℕ)) (key : C) (m before : ℕ) →
+      AreExpirations cmp expirations old →
       ((e : ℕ × C) → list_any (is_at (end_cmp cmp e)) new_ends ≡
       cond (is_at (end_cmp cmp (before, key)) e) false
-      (cond (is_at (end_cmp cmp (m, key)) e) true (list_any (is_at (end_cmp cmp e)) ends))) →
+      (cond (is_at (end_cmp cmp (m, key)) e) true (list_any (is_at (end_cmp cmp e)) expirations))) →
       ((q : C) → unblock_in cmp new q ≡ cond (is_at (cmp key) q) (Some m) (unblock_in cmp old q)) →
-      unblock_in cmp old key ≡ Some before → nat_eq before m ≡ false → AreEnds cmp new_ends new
-  ends_instead ends new_ends old new key m before are instead put found other n q =
+      unblock_in cmp old key ≡ Some before → nat_eq before m ≡ false → AreExpirations cmp new_ends new
+  ends_instead expirations new_ends old new key m before are instead put found other n q =
       instead (n, q)
-      ∙ (λ i. cond (tied cmp before n key q i) false (cond (tied cmp m n key q i) true (Has ends n q)))
+      ∙ (λ i. cond (tied cmp before n key q i) false (cond (tied cmp m n key q i) true (Has expirations n q)))
       ∙ go (is_at (cmp key) q) refl ∙ ap (until n) (sym (put q))
     where
       go : (k : Bool) → is_at (cmp key) q ≡ k →
-          cond (nat_eq before n && k) false (cond (nat_eq m n && k) true (Has ends n q))
+          cond (nat_eq before n && k) false (cond (nat_eq m n && k) true (Has expirations n q))
           ≡ until n (cond k (Some m) (unblock_in cmp old q))
-      go false e = (λ i. cond (and-false (nat_eq before n) i) false (cond (and-false (nat_eq m n) i) true (Has ends n q)))
+      go false e = (λ i. cond (and-false (nat_eq before n) i) false (cond (and-false (nat_eq m n) i) true (Has expirations n q)))
           ∙ are n q
-      go true e = (λ i. cond (and-true (nat_eq before n) i) false (cond (and-true (nat_eq m n) i) true (Has ends n q)))
+      go true e = (λ i. cond (and-true (nat_eq before n) i) false (cond (and-true (nat_eq m n) i) true (Has expirations n q)))
           ∙ same (nat_eq before n) refl (nat_eq m n) refl
         where
-          had : Has ends n q ≡ nat_eq n before
+          had : Has expirations n q ≡ nat_eq n before
           had = are n q ∙ ap (λ p. until n (unblock_in cmp old p)) (sym (tells_apart exact key q e))
               ∙ ap (until n) found
 
           same : (b : Bool) → nat_eq before n ≡ b → (d : Bool) → nat_eq m n ≡ d →
-              cond b false (cond d true (Has ends n q)) ≡ nat_eq n m
+              cond b false (cond d true (Has expirations n q)) ≡ nat_eq n m
           same true f d g = (let h : nat_eq n m ≡ false = grind (arith, nat_tests) in sym h)
           same false f true g = sym (eq_turned m n true g)
           same false f false g = had ∙ eq_turned before n false f ∙ sym (eq_turned m n false g)
 
   -- a block goes with its end
-  pub ends_taken : (ends new_ends : List (ℕ × C)) (old new : List (C × ℕ)) (key : C) (m : ℕ) → AreEnds cmp ends old →
+  pub ends_taken : (expirations new_ends : List (ℕ × C)) (old new : List (C × ℕ)) (key : C) (m : ℕ) → AreExpirations cmp expirations old →
       ((e : ℕ × C) → list_any (is_at (end_cmp cmp e)) new_ends
-      ≡ cond (is_at (end_cmp cmp (m, key)) e) false (list_any (is_at (end_cmp cmp e)) ends)) →
+      ≡ cond (is_at (end_cmp cmp (m, key)) e) false (list_any (is_at (end_cmp cmp e)) expirations)) →
       ((q : C) → unblock_in cmp new q ≡ cond (is_at (cmp key) q) None (unblock_in cmp old q)) →
-      Has ends m key ≡ true → AreEnds cmp new_ends new
-  ends_taken ends new_ends old new key m are taken gone has n q =
-      taken (n, q) ∙ ap (λ b. cond b false (Has ends n q)) (tied cmp m n key q) ∙ go (is_at (cmp key) q) refl
+      Has expirations m key ≡ true → AreExpirations cmp new_ends new
+  ends_taken expirations new_ends old new key m are taken gone has n q =
+      taken (n, q) ∙ ap (λ b. cond b false (Has expirations n q)) (tied cmp m n key q) ∙ go (is_at (cmp key) q) refl
       ∙ ap (until n) (sym (gone q))
     where
       go : (k : Bool) → is_at (cmp key) q ≡ k →
-          cond (nat_eq m n && k) false (Has ends n q) ≡ until n (cond k None (unblock_in cmp old q))
-      go false e = ap (λ b. cond b false (Has ends n q)) (and-false (nat_eq m n)) ∙ are n q
-      go true e = ap (λ b. cond b false (Has ends n q)) (and-true (nat_eq m n)) ∙ same (nat_eq m n) refl
+          cond (nat_eq m n && k) false (Has expirations n q) ≡ until n (cond k None (unblock_in cmp old q))
+      go false e = ap (λ b. cond b false (Has expirations n q)) (and-false (nat_eq m n)) ∙ are n q
+      go true e = ap (λ b. cond b false (Has expirations n q)) (and-true (nat_eq m n)) ∙ same (nat_eq m n) refl
         where
-          had : Has ends n q ≡ nat_eq n m
+          had : Has expirations n q ≡ nat_eq n m
           had = are n q ∙ ap (λ p. until n (unblock_in cmp old p)) (sym (tells_apart exact key q e))
               ∙ ap (until n) (is_until m (unblock_in cmp old key) (sym (are m key) ∙ has))
 
-          same : (b : Bool) → nat_eq m n ≡ b → cond b false (Has ends n q) ≡ false
+          same : (b : Bool) → nat_eq m n ≡ b → cond b false (Has expirations n q) ≡ false
           same true f = refl
           same false f = had ∙ eq_turned m n false f
 
   -- the moment of a key that is among the ends
-  pub end_is : (ends : List (ℕ × C)) (blocks : List (C × ℕ)) (e : ℕ × C) → AreEnds cmp ends blocks →
-      list_any (is_at (end_cmp cmp e)) ends ≡ true → unblock_in cmp blocks e.1 ≡ Some e.0
-  end_is ends blocks e are has = is_until e.0 (unblock_in cmp blocks e.1) (sym (are e.0 e.1) ∙ has)
+  pub end_is : (expirations : List (ℕ × C)) (blocks : List (C × ℕ)) (e : ℕ × C) → AreExpirations cmp expirations blocks →
+      list_any (is_at (end_cmp cmp e)) expirations ≡ true → unblock_in cmp blocks e.1 ≡ Some e.0
+  end_is expirations blocks e are has = is_until e.0 (unblock_in cmp blocks e.1) (sym (are e.0 e.1) ∙ has)
 
   -- the end of a key that has a moment
-  pub end_of : (ends : List (ℕ × C)) (blocks : List (C × ℕ)) (q : C) (n : ℕ) → AreEnds cmp ends blocks →
-      unblock_in cmp blocks q ≡ Some n → list_any (is_at (end_cmp cmp (n, q))) ends ≡ true
-  end_of ends blocks q n are found = are n q ∙ until_is n (unblock_in cmp blocks q) found
+  pub end_of : (expirations : List (ℕ × C)) (blocks : List (C × ℕ)) (q : C) (n : ℕ) → AreExpirations cmp expirations blocks →
+      unblock_in cmp blocks q ≡ Some n → list_any (is_at (end_cmp cmp (n, q))) expirations ≡ true
+  end_of expirations blocks q n are found = are n q ∙ until_is n (unblock_in cmp blocks q) found
 
   -- THE FIRST OF THEM
 
   -- no end is before the first, so no block is
-  pub first_is_first : (ends : List (ℕ × C)) (blocks : List (C × ℕ)) (e : ℕ × C) → AreEnds cmp ends blocks →
-      list_any (is_at (end_cmp cmp e)) ends ≡ true →
-      ((f : ℕ × C) → list_any (is_at (end_cmp cmp f)) ends ≡ true → is_gt (end_cmp cmp e f) ≡ false) →
+  pub first_is_first : (expirations : List (ℕ × C)) (blocks : List (C × ℕ)) (e : ℕ × C) → AreExpirations cmp expirations blocks →
+      list_any (is_at (end_cmp cmp e)) expirations ≡ true →
+      ((f : ℕ × C) → list_any (is_at (end_cmp cmp f)) expirations ≡ true → is_gt (end_cmp cmp e f) ≡ false) →
       IsFirstOf cmp (unblock_in cmp blocks) (Some e)
-  first_is_first ends blocks e are has least = (
-    end_is ends blocks e are has,
-    λ q n found. least (n, q) (end_of ends blocks q n are found),
+  first_is_first expirations blocks e are has least = (
+    end_is expirations blocks e are has,
+    λ q n found. least (n, q) (end_of expirations blocks q n are found),
   )
 
   -- .. and it stays so where another key is given a moment behind it
@@ -198,9 +198,9 @@ first_is_least cmp moment (Some e) is = ((e.1, is.0), λ q n found. not_before c
 
 -- with no end there is no block
 pub no_ends : {C : Type 0} {cmp : C → C → Ordering} → IsTotalOrder cmp →
-    (ends : List (ℕ × C)) (blocks : List (C × ℕ)) → AreEnds cmp ends blocks → ends ≡ [] → blocks ≡ []
-no_ends total ends [] are none = refl
-no_ends {C} {cmp} total ends (b ∷ bs) are none =
+    (expirations : List (ℕ × C)) (blocks : List (C × ℕ)) → AreExpirations cmp expirations blocks → expirations ≡ [] → blocks ≡ []
+no_ends total expirations [] are none = refl
+no_ends {C} {cmp} total expirations (b ∷ bs) are none =
     absurd (
     let here : unblock_in cmp (b ∷ bs) b.0 ≡ Some b.1 =
     ap (λ o. cond (is_eq o) (Some b.1) (unblock_in cmp bs b.0)) (tied_itself total b.0) in

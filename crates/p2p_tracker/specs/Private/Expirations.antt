@@ -25,11 +25,11 @@ module _ {C : Type 0} (cmp : C → C → Ordering) where
       × ((q : C) (m : ℕ) → unblock q ≡ Some m → is_gt (end_cmp e (m, q)) ≡ false)
 
   -- these are the moments of the blocks with their keys, and no others
-  abbrev pub AreEnds : List (ℕ × C) → List (C × ℕ) → Type 0
-  AreEnds ends blocks = (m : ℕ) (q : C) →
-      list_any (is_at (end_cmp (m, q))) ends ≡ option_map_or (nat_eq m) (unblock_in cmp blocks q) false
+  abbrev pub AreExpirations : List (ℕ × C) → List (C × ℕ) → Type 0
+  AreExpirations expirations blocks = (m : ℕ) (q : C) →
+      list_any (is_at (end_cmp (m, q))) expirations ≡ option_map_or (nat_eq m) (unblock_in cmp blocks q) false
 
   -- .. and this is the first of them
-  pub record AreKept (ends : List (ℕ × C)) (blocks : List (C × ℕ)) (first : Option (ℕ × C)) : Type 0 where
-    pub both : AreEnds ends blocks
+  pub record AreKept (expirations : List (ℕ × C)) (blocks : List (C × ℕ)) (first : Option (ℕ × C)) : Type 0 where
+    pub both : AreExpirations expirations blocks
     pub front : IsFirstOf (unblock_in cmp blocks) first

@@ -1,7 +1,7 @@
 use Rattle.std.proofs.Common.{◌≡◌, drop}
 use Rattle.std.specs.Duration.{as_nanos}
 use Rattle.p2p_discovery.specs.Judgement.{judge_of, first_refusal_by}
-use Rattle.p2p_discovery.proofs.discovery.verifier.InfoVerifier.validate_by.Given as goal
+use Rattle.p2p_discovery.proofs.discovery.verifier.InfoVerifier.validate_with_verdicts.Given as goal
 
 abbrev pub invariant-loop-place : goal.invariant-loop-place
 invariant-loop-place g l =
