@@ -5,3 +5,6 @@ pub mod Exchanges
 pub mod Reach
 pub mod Frames
 pub mod Replied
+pub mod Laws
+-- .. of which two nodes are a case.
+pub mod TwoNodes

@@ -11,6 +11,7 @@ pub mod DialRuns
 pub mod IsolationRuns
 pub mod OrderRuns
 pub mod BoundRuns
+pub mod Laws
 pub mod Forgotten
 mod GrantExamples
 mod RunExamples

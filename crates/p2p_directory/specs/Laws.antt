@@ -1,5 +1,4 @@
--- Words of the laws of whole runs. Those in GrantRuns, BlockRuns, DialRuns, IsolationRuns, OrderRuns and
--- BoundRuns, and what they rest on, are in the promises of `run`.
+-- Words of the laws of whole runs. `run` promises those in Run, and what they rest on.
 pub mod Isolation
 pub mod Order
 pub mod Bounds
@@ -10,6 +9,7 @@ pub mod DialRuns
 pub mod IsolationRuns
 pub mod OrderRuns
 pub mod BoundRuns
+pub mod Run
 -- What is kept answers as a world does.
 pub mod Refined
 -- .. and what each call does to it leads to the next world.

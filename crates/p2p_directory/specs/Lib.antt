@@ -27,8 +27,7 @@ pub mod Held
 pub use Rattle.p2p_tracker.specs.Step
 -- When an answer of `dialable` stands: what `run` says of dials rests on it.
 pub use Rattle.p2p_tracker.specs.Dials
--- Laws of whole runs. What `run` says of its replies together rests on those whose names end in
--- `Runs`, and on `Bounds`, `Grants`, `Isolation` and `Order`; what networks promise, on `Network`,
--- `Gossip`, `LateFrames`, `Isolation`, `Order` and `OrderRuns`, and for two nodes on `TwoNodes`.
+-- Laws of whole runs. What `run` says of its replies together is in `Run`, what networks promise in
+-- `Network`, and what is promised of two nodes in `TwoNodes`.
 pub mod Laws
 pub mod Private

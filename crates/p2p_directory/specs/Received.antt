@@ -23,13 +23,22 @@ pub record Wire (C S : Type 0) : Type 0 where
   pub reading : PayloadConfig → List ℕ → Reading (Payload C S)
   pub verifies : C → List ℕ → List ℕ → S → Bool
 
--- .. by the sizes of keys and of signatures, their bytes and what bytes spell, and the right
--- signatures
-abbrev pub wire_of : {C S : Type 0} → ℕ → (C → List ℕ) → (List ℕ → Option C) →
-    ℕ → (S → List ℕ) → (List ℕ → Option S) → (C → List ℕ → List ℕ → S → Bool) → Wire C S
-wire_of key_size key key_of size signature signature_of verifies = record {
-  spelling = payload_spelling key signature;
-  reading = payload_at key_size key_of size signature_of;
+-- how a type implements `FixedBytes`
+abbrev pub Fixed : Type 0 → Type 1
+Fixed A = record {
+  eq : A → A → Bool;
+  SIZE : ℕ;
+  IsValue : A → Type 0;
+  spelled : A → List ℕ;
+  value : List ℕ → Option A;
+}
+
+-- .. by the right signatures, and how keys and signatures are encoded
+abbrev pub wire_of : {C S : Type 0} → (C → List ℕ → List ℕ → S → Bool) → Fixed C → Fixed S →
+    Wire C S
+wire_of verifies key signature = record {
+  spelling = payload_spelling key.spelled signature.spelled;
+  reading = payload_at key.SIZE key.value signature.SIZE signature.value;
   verifies = verifies;
 }
 

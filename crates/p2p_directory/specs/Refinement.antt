@@ -13,9 +13,8 @@ use Rattle.p2p_tracker.specs.History.{is_own, is_persistent, primary_count, seco
 use Rattle.p2p_tracker.specs.World.{World, Known, last_ingress}
 use Rattle.p2p_tracker.specs.Cooldowns.{reservable_from, dialable_from}
 use Rattle.p2p_tracker.specs.Answers.{is_present_in}
-use Rattle.p2p_tracker.specs.Seen.{RecordView}
-use Rattle.p2p_tracker.specs.Seen.{ConfigView, DirectoryView, record_of}
-use Rattle.p2p_tracker.specs.Seen.{unblock_of, cooldown_of}
+use Rattle.p2p_tracker.specs.Seen.{RecordView, ConfigView, DirectoryView, record_of, unblock_of}
+use Rattle.p2p_tracker.specs.Seen.{cooldown_of}
 
 -- the metadata of a reservation of p
 abbrev pub metadata_of : {C S : Type 0} → C → Direction → Metadata C S

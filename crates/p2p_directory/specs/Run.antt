@@ -18,9 +18,8 @@ use Rattle.p2p_tracker.specs.declared.directory.Metadata.{Metadata}
 use Rattle.p2p_discovery.specs.Ingress.{takes_none}
 use Rattle.p2p_tracker.specs.Calls.{Settings, SetAt, Question, Call, Event}
 use Rattle.p2p_tracker.specs.Calls.Question.{StatusOf, NumberTracked, NextUnblock, BlockedAt}
-use Rattle.p2p_tracker.specs.Calls.Question.{PeerSet, LatestIndex, AllPeers, LatestUpdate}
-use Rattle.p2p_tracker.specs.Calls.Question.{InfoOf, InfosFor, BitsAt, IsEligible, IsAcceptable}
-use Rattle.p2p_tracker.specs.Calls.Question.{DialableAt}
+use Rattle.p2p_tracker.specs.Calls.Question.{PeerSet, LatestIndex, AllPeers, LatestUpdate, InfoOf}
+use Rattle.p2p_tracker.specs.Calls.Question.{InfosFor, BitsAt, IsEligible, IsAcceptable, DialableAt}
 use Rattle.p2p_tracker.specs.Calls.Call.{Track, Dial, Listen, Connect, Release, Update, Block}
 use Rattle.p2p_tracker.specs.Calls.Call.{UnblockExpired, ForgetCooled, Ask}
 use Rattle.p2p_tracker.specs.PeerSets.{has_peers}
@@ -32,10 +31,9 @@ use Rattle.p2p_tracker.specs.Answers.{IsTrackAnswer, was_granted, was_taken, was
 use Rattle.p2p_tracker.specs.Answers.{may_connect, may_release, status_in, IsNumberTracked}
 use Rattle.p2p_tracker.specs.Answers.{set_with_index, set_at_place, latest_index_in, bits_at}
 use Rattle.p2p_tracker.specs.Answers.{AreAll, IsLatestUpdate, sharable_info, infos_for}
-use Rattle.p2p_tracker.specs.Answers.{is_blocked_at}
-use Rattle.p2p_tracker.specs.Answers.{AreBlocked, IsNextUnblock, IsAnyExpired, IsNumberCooled}
-use Rattle.p2p_tracker.specs.Answers.{is_eligible_at}
-use Rattle.p2p_tracker.specs.Answers.{is_acceptable_at, is_dialable, IsDialable}
+use Rattle.p2p_tracker.specs.Answers.{is_blocked_at, AreBlocked, IsNextUnblock, IsAnyExpired}
+use Rattle.p2p_tracker.specs.Answers.{IsNumberCooled, is_eligible_at, is_acceptable_at, is_dialable}
+use Rattle.p2p_tracker.specs.Answers.{IsDialable}
 use Rattle.p2p_tracker.specs.Seen.{peers_of, set_in}
 use Rattle.p2p_directory.specs.Refinement.{metadata_of}
 

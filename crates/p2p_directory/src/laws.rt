@@ -7,7 +7,7 @@ pub use crate::laws::directories::{
     recomputed_is_one_step, refined_answers,
 };
 pub use crate::laws::gossip::{exchanges_are_carried, gossip_of_a_network, infos_may_come_late};
-pub use crate::laws::runs::{dials_of_a_run, grants_of_a_run, isolation_of_a_run};
+pub use crate::laws::runs::laws_of_a_run;
 
 mod directories;
 mod gossip;

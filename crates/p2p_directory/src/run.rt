@@ -12,14 +12,7 @@ ghost use Rattle.p2p_directory.specs.Nodes.{may_reserve};
 ghost use Rattle.p2p_directory.specs.Refinement.{Refines};
 ghost use Rattle.p2p_directory.specs.Run.{settings, call_of, calls_of, world_left, AreAnswers};
 ghost use Rattle.p2p_directory.specs.Run.{bit_vec_in, Holds};
-ghost use Rattle.p2p_directory.specs.Laws.GrantRuns.{RunKeepsCooldownUnlessForgotten};
-ghost use Rattle.p2p_directory.specs.Laws.GrantRuns.{RunKeepsCooldown};
-ghost use Rattle.p2p_directory.specs.Laws.GrantRuns.{RunKeepsBlocks};
-ghost use Rattle.p2p_directory.specs.Laws.BlockRuns.{KeepLastBlock};
-ghost use Rattle.p2p_directory.specs.Laws.DialRuns.{KeepDialable};
-ghost use Rattle.p2p_directory.specs.Laws.IsolationRuns.{KeepAlone};
-ghost use Rattle.p2p_directory.specs.Laws.OrderRuns.{KeepOrder};
-ghost use Rattle.p2p_directory.specs.Laws.BoundRuns.{KeepBound};
+ghost use Rattle.p2p_directory.specs.Laws.Run.{LawsOfRun};
 
 pub use crate::run::commands::{Command, Reply};
 pub use crate::run::held::Held;
@@ -52,39 +45,9 @@ pub(crate) mod slots;
 /// - `LatestUpdate` and `All` if some retained set has a peer;
 /// - `BlockedPeers` and `Dialable` if they list a peer.
 ///
-/// The replies keep these rules. Times are durations since the epoch, exact to the nanosecond; the
-/// sum of a time and a duration is capped at `Duration::MAX`.
-///
-/// - Cooldown: each grant of a peer, for a `Dial` or a `Listen`, comes no earlier than
-///   `peer_connection_cooldown` after the grant of it before, even if there was no record of the
-///   peer in between. This holds if no `ForgetCooled` between the two comes at or after the dial
-///   time of the first. It also holds, whatever was forgotten, as long as the times of all `Dial`,
-///   `Listen`, `Block`, `UnblockExpired` and `ForgetCooled` never go backwards.
-/// - Blocks: as long as these times never go backwards, whatever the replies are, a peer whose
-///   block was accepted is granted by no later command before the block's end. The end is
-///   `block_duration` after the block's time. This also holds if there was no record of the peer in
-///   between. Even if times go backwards, each grant of a peer, and each further block, comes no
-///   earlier than the end of its last block, unless an `UnblockExpired` at that end or later came
-///   in between.
-/// - Dials: let only `Dial` commands follow a reply to `Dialable`, at the same time and of the
-///   peers that it lists, each once and in any order. They are all granted, unless the reply is
-///   `OutOfMemory`.
-/// - Quiet time: consider the commands after a reply to `Dialable` as long as they are queries.
-///   `Dialable` at the same time or later, but before `next_query_at` if there is one, gets the
-///   same peers and the same `next_query_at`, unless the reply is `OutOfMemory`. A query is a
-///   command that changes nothing: `NextUnblock`, `BlockedPeers`, `Status`, `GetPeerSet`,
-///   `LatestUpdate`, `LatestSetIndex`, `All`, `Info`, `Infos`, `GetRandomBitVec`, `Eligible`,
-///   `Acceptable`, `Dialable` and `Tracked`.
-/// - Isolation: leave out of the commands accepted so far each `Dial`, `Listen`, `Connect`,
-///   `Release` and `Block` of a peer other than one, and out of each `UpdatePeers` the infos of
-///   others. All that is known of the one peer is the same. So are the replies to the commands that
-///   name it alone, and whether `Track` and `Dialable` list it.
-/// - Order: infos of one `UpdatePeers`, or of several that follow each other directly, may be
-///   passed in any order, and by other `UpdatePeers` instead. No two may be of one peer with the
-///   same timestamp. The state is the same after them, and so are all later replies.
-/// - Bounds: if each registered set names at most n distinct peers, the number of peers with a
-///   record is bounded. The bound is `n * max_sets`, plus the local node, the bootstrappers, and
-///   the peers that are not `Inert` and in no retained set. The reply to `Tracked` is no greater.
+/// The replies keep the laws of cooldowns, blocks, dials and quiet time, isolation, order and
+/// bounds, which docs/PROOFS.md has under these headings. Times are durations since the epoch,
+/// exact to the nanosecond; the sum of a time and a duration is capped at `Duration::MAX`.
 ///
 /// The result is consumed by [`Run::finish`].
 ///
@@ -118,24 +81,8 @@ pub fn run<C: PublicKey>(
     ensures held { IfOk result (λ run. let s = settings C.cmp bootstrappers.items myself cfg in
         Holds s (world_left s (calls_of commands.items) run.replies.items)
         (held_of C.cmp run.held)) }
-    ensures spaced { IfOk result (λ run. let s = settings C.cmp bootstrappers.items myself cfg in
-        (p : C) →
-        RunKeepsCooldownUnlessForgotten s p None (calls_of commands.items) run.replies.items) }
-    ensures lasting { IfOk result (λ run. let s = settings C.cmp bootstrappers.items myself cfg in
-        (p : C) → RunKeepsCooldown s p 0 None (calls_of commands.items) run.replies.items) }
-    ensures blocks { IfOk result (λ run. let s = settings C.cmp bootstrappers.items myself cfg in
-        (p : C) → RunKeepsBlocks s p 0 [] (calls_of commands.items) run.replies.items) }
-    ensures last_block { IfOk result (λ run.
-        let s = settings C.cmp bootstrappers.items myself cfg in (p : C) →
-        KeepLastBlock s p None (calls_of commands.items) run.replies.items) }
-    ensures dials { IfOk result (λ run. let s = settings C.cmp bootstrappers.items myself cfg in
-        KeepDialable s (calls_of commands.items) run.replies.items) }
-    ensures isolation { IfOk result (λ run. let s = settings C.cmp bootstrappers.items myself cfg in
-        (p : C) → KeepAlone s p [] (calls_of commands.items) run.replies.items) }
-    ensures order { IfOk result (λ run. let s = settings C.cmp bootstrappers.items myself cfg in
-        KeepOrder s [] (calls_of commands.items) run.replies.items) }
-    ensures bounds { IfOk result (λ run. let s = settings C.cmp bootstrappers.items myself cfg in
-        (n : ℕ) → KeepBound s n [] (calls_of commands.items) run.replies.items) }
+    ensures laws { IfOk result (λ run. let s = settings C.cmp bootstrappers.items myself cfg in
+        LawsOfRun s (calls_of commands.items) run.replies.items) }
 {
     let mut replies = Vec::with_capacity(alloc, commands.len())?;
     let slots = slots_for(alloc, &commands)?;

@@ -42,7 +42,7 @@ use Rattle.p2p_directory.specs.Network.{Done, calls_at, world_at_node, standing_
 use Rattle.p2p_directory.specs.Network.{IsNetworkAnswer, AreNetworkAnswers, done_after}
 use Rattle.p2p_directory.specs.Laws.Gossip.{wanted_infos}
 use Rattle.p2p_directory.specs.Laws.Network.{Brings, IsSigned, AreAllGiven, IsGivenOnly, HaveOneList}
-use Rattle.p2p_directory.specs.Laws.Network.{Fits, MayBring, KeepExchanges, infos_to_bring}
+use Rattle.p2p_directory.specs.Laws.Network.{Fits, MayBring, BringsWanted, OfEachReply, infos_to_bring}
 use Rattle.p2p_directory.specs.Laws.Network.{RepliesInfos, IsReplyFor}
 use Rattle.p2p_directory.proofs.LawsOfGossip.Lists.{inside}
 use Rattle.p2p_directory.proofs.Definitions.Setting.{sec, track, listen}
@@ -306,7 +306,8 @@ module _ (any : Command ℕ ℕ) (told : Exchanged ℕ ℕ) (is : infos_applied 
   brings last with_it = (refl, applied_is last _ _ (signed 1 100000 ∷ []) with_it applied)
 
   -- and any other reply than `Applied` with it, or `Memory`, is refused
-  malformed_is_refused : KeepExchanges wire 4 four done (asked ∷ []) (answer.Exchange bad ∷ []) → ⊥
+  malformed_is_refused :
+      OfEachReply wire 4 four (BringsWanted wire 4 four) done (asked ∷ []) (answer.Exchange bad ∷ []) → ⊥
   malformed_is_refused kept =
       let infos : List (Info ℕ ℕ) = infos_to_bring wire 4 four done 0 1 (sec 100) x in
       let b : Brings wire 4 four done 0 1 (sec 100) x asked bad infos = kept.0 x may_bring in

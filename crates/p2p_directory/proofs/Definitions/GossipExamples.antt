@@ -18,13 +18,14 @@ use Rattle.p2p_tracker.specs.World.{World, world_at, event_in}
 use Rattle.p2p_tracker.specs.Answers.{was_granted, bits_at, is_dialable, query_moment}
 use Rattle.p2p_tracker.specs.Answers.{sharable_info, latest_index_in, is_tracked}
 use Rattle.p2p_tracker.specs.Moments.{epoch_millis}
-use Rattle.p2p_directory.specs.Received.{Wire, Standing, wire_of}
+use Rattle.p2p_directory.specs.Received.{Wire, Standing}
 use Rattle.p2p_directory.specs.Nodes.{Made, standing_in}
 use Rattle.p2p_directory.specs.Exchange as exchange
 use Rattle.p2p_directory.specs.Exchange.{exchanged_at}
 use Rattle.p2p_directory.specs.Exchange.ExchangeOutcome.{NoSet, AskRefused, Malformed, ReplyRefused, Invalid, Applied}
 use Rattle.p2p_directory.specs.Laws.Gossip.{wanted_infos}
 use Rattle.p2p_directory.specs.Laws.Isolation.{left_for}
+use Rattle.p2p_directory.proofs.Nodes.ReadBack.{wire_by}
 use Rattle.p2p_directory.proofs.Definitions.Setting.{sec, info_at, info, own, setup, after_calls, track, listen, dial}
 
 -- ---- the setting
@@ -34,7 +35,7 @@ one (b ∷ []) = Some b
 one _ = None
 
 abbrev pub wire : Wire ℕ ℕ
-wire = wire_of 1 (λ p. p ∷ []) one 1 (λ s. s ∷ []) one (λ p ns m s. s == p + 10 * length ns)
+wire = wire_by 1 (λ p. p ∷ []) one 1 (λ s. s ∷ []) one (λ p ns m s. s == p + 10 * length ns)
 
 abbrev pub namespace_rows : List ℕ
 namespace_rows = 114 ∷ 111 ∷ 119 ∷ 115 ∷ []

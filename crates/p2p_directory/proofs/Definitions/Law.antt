@@ -1,7 +1,6 @@
 -- The kept state is what the past says.
-use Rattle.std.proofs.Common.{◌≡◌, ℕ, zero, suc, ◌-◌, ◌<◌, ◌≤◌, Bool, true, false, ◌&&◌, List}
-use Rattle.std.proofs.Common.{[], ◌∷◌, ◌++◌, length, drop, refl, sym, ◌∙◌, ap}
-use Rattle.std.proofs.Common.{subst, arith}
+use Rattle.std.proofs.Common.{◌≡◌, ℕ, zero, suc, ◌-◌, ◌<◌, ◌≤◌, Bool, true, false, ◌&&◌, List, []}
+use Rattle.std.proofs.Common.{◌∷◌, ◌++◌, length, drop, refl, sym, ◌∙◌, ap, subst, arith}
 use Rattle.std.specs.Prelude.{if◌then◌else◌, nat_lt}
 use Rattle.std.specs.List.{list_all}
 use Rattle.std.proofs.lemmas.List.{append-nil, drop-append-le, length_push}
@@ -9,7 +8,7 @@ use Rattle.std.proofs.lemmas.List.Folds.{list_all-append}
 use Rattle.std.proofs.lemmas.Bool.{ltb-true, lt-ltb, and_parts, and_from}
 use Rattle.p2p_tracker.specs.Calls.{Settings, Call, SetAt, Event}
 use Rattle.p2p_tracker.specs.Calls.Call.{Track}
-use Rattle.p2p_tracker.specs.Calls.Event.{Nothing, Tracked}
+use Rattle.p2p_tracker.specs.Calls.Event.{Nothing, SetTaken}
 use Rattle.p2p_tracker.specs.PeerSets.{set_of}
 use Rattle.p2p_tracker.specs.History
 use Rattle.p2p_tracker.specs.Lists.{last_of}
@@ -67,7 +66,7 @@ module _ {C S : Type 0} (s : Settings C S) where
       taken : SetAt C
       taken = set_of s.cmp index primary secondary
 
-      go : (b : Bool) → list_all (below index) xs ≡ b → Decided (xs ++ History.set_by s (if b then Tracked taken else Nothing))
+      go : (b : Bool) → list_all (below index) xs ≡ b → Decided (xs ++ History.set_by s (if b then SetTaken taken else Nothing))
       go true e = decided_push xs taken e
       go false e = decided_same xs d
 
@@ -76,7 +75,7 @@ module _ {C S : Type 0} (s : Settings C S) where
   decided_step xs w c d = go (World.event_in s xs w c) refl (makes s xs w c)
     where
       go : (e : Event C S) → World.event_in s xs w c ≡ e → Makes c e → Decided (xs ++ History.set_by s e)
-      go (Tracked taken) is m = at_call s xs w (λ c e. Decided (xs ++ History.set_by s e)) m.3 is (track_decided xs w m.0 m.1 m.2 d)
+      go (SetTaken taken) is m = at_call s xs w (λ c e. Decided (xs ++ History.set_by s e)) m.3 is (track_decided xs w m.0 m.1 m.2 d)
       go e is m = decided_same xs d
 
   pub decided_past : (cs : List (Call C S)) → Decided (History.taken_sets s (World.past s cs))
@@ -92,7 +91,7 @@ module _ {C S : Type 0} (s : Settings C S) where
       World.event_in s (History.taken_sets s (World.past s cs)) (World.world_at s (World.past s cs)) c
       ≡ World.event_in s (History.retained_sets s (World.past s cs)) (World.world_at s (World.past s cs)) c
   does_same cs (Track index primary secondary) some =
-      ap (λ b. if b then Tracked (set_of s.cmp index primary secondary) else Nothing)
+      ap (λ b. if b then SetTaken (set_of s.cmp index primary secondary) else Nothing)
       (last_decides (History.taken_sets s (World.past s cs)) s.max_sets index some (decided_past cs))
   does_same cs c some = refl
 

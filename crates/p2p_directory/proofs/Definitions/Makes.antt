@@ -8,7 +8,7 @@ use Rattle.p2p_tracker.specs.declared.record.Status.TheVariants.{Inert, Reserved
 use Rattle.p2p_tracker.specs.Calls.{Settings, Call, SetAt, Grant, Event}
 use Rattle.p2p_tracker.specs.Calls.Call.{Track, Dial, Listen, Connect, Release, Update, Block}
 use Rattle.p2p_tracker.specs.Calls.Call.{UnblockExpired, ForgetCooled, Ask}
-use Rattle.p2p_tracker.specs.Calls.Event.{Nothing, Tracked, Granted, Connected, Released, Updated}
+use Rattle.p2p_tracker.specs.Calls.Event.{Nothing, SetTaken, Granted, Connected, Released, Updated}
 use Rattle.p2p_tracker.specs.Calls.Event.{Blocked, Expired, Forgot}
 use Rattle.p2p_tracker.specs.World
 use Rattle.p2p_tracker.specs.World.{World}
@@ -17,7 +17,7 @@ module _ {C S : Type 0} where
   -- the call may make this event
   abbrev pub Makes : Call C S → Event C S → Type 0
   Makes c Nothing = Unit {0}
-  Makes c (Tracked taken) = (index : ℕ) × (primary : List C) × (secondary : List C) × (c ≡ Track index primary secondary)
+  Makes c (SetTaken taken) = (index : ℕ) × (primary : List C) × (secondary : List C) × (c ≡ Track index primary secondary)
   Makes c (Granted p grant) = (c ≡ Dial p grant.t grant.draw) ⊎ (c ≡ Listen p grant.t grant.draw)
   Makes c (Connected p dialer) = c ≡ Connect p dialer
   Makes c (Released p direction) = c ≡ Release p
@@ -30,7 +30,7 @@ module _ {C S : Type 0} where
 pub makes : {C S : Type 0} (s : Settings C S) (sets : List (SetAt C)) (w : World C S) (c : Call C S) → Makes c (World.event_in s sets w c)
 makes {C} {S} s sets w (Track index primary secondary) = go _ _
   where
-    go : (b : Bool) (taken : SetAt C) → Makes {S = S} (Track index primary secondary) (if b then Tracked taken else Nothing)
+    go : (b : Bool) (taken : SetAt C) → Makes {S = S} (Track index primary secondary) (if b then SetTaken taken else Nothing)
     go true taken = (index, primary, secondary, refl)
     go false taken = tt
 makes {C} {S} s sets w (Dial p t draw) = go _ _

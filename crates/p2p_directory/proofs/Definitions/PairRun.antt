@@ -1,5 +1,5 @@
 -- A run of two nodes, as commands of a pair: its replies are answers. Where the reply of its exchange
--- has an info that isn't signed, `KeepSigned` refuses it.
+-- has an info that isn't signed, `LawsOfPair` refuses it.
 use Rattle.std.proofs.Common.{◌≡◌, ℕ, zero, suc, true, false, List, [], ◌∷◌, Some, inr, refl, sym, subst, ap}
 use Rattle.std.specs.List.{AllByRecursion}
 use Rattle.std.specs.List.Sorted.{IsStrictlySortedBy}
@@ -29,7 +29,8 @@ use Rattle.p2p_directory.specs.Nodes.{Made}
 use Rattle.p2p_directory.specs.Network.{Done, is_node, done_after}
 use Rattle.p2p_directory.specs.Pairs.{two, commands_in, replies_in, ArePairAnswers}
 use Rattle.p2p_directory.specs.Laws.Network.{AreAllGiven, IsGivenOnly, IsSigned}
-use Rattle.p2p_directory.specs.Laws.TwoNodes.{KeepSigned}
+use Rattle.p2p_directory.specs.Laws.TwoNodes.{LawsOfPair}
+use Rattle.p2p_directory.proofs.Definitions.ByteKeys.{IsByte}
 use Rattle.p2p_directory.proofs.Definitions.GossipExamples.{wire, signed, signed_elsewhere, asker, replier}
 use Rattle.p2p_directory.proofs.Definitions.ExchangePremises.{seconds, peers12, greeting_1}
 use Rattle.p2p_directory.proofs.Definitions.ShownRun.{Infos}
@@ -92,10 +93,10 @@ all_given brought = record {
 
 -- an exchange that brings an info of another namespace is refused
 forged_is_refused : (forged : Infos) → forged.items ≡ signed_elsewhere 1 5 ∷ [] →
-    KeepSigned wire asker replier [] commands (replies forged) → ⊥
-forged_is_refused forged is kept =
+    LawsOfPair wire IsByte IsByte asker replier commands (replies forged) → ⊥
+forged_is_refused forged is laws =
     let only : IsGivenOnly wire 2 nodes 0 IsHonest (done forged) =
-    (kept.0.1.1.1.1.1.1 0 1).1 (all_given forged) 0 in
+    (laws.given.1.1.1.1.1.1 0 1).1 (all_given forged) 0 in
     let each : AllByRecursion IsHonest forged.items = only.given.0 refl in
     let one : AllByRecursion IsHonest (signed_elsewhere 1 5 ∷ []) = subst (AllByRecursion IsHonest) is each in
     absurd (let e : false ≡ true = one.0.at_asker in cc)

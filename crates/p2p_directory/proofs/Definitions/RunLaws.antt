@@ -1,22 +1,18 @@
--- Each clause of `laws::gossip_of_a_network` that has premises, for the run of ShownRun: it meets all of
+-- Each law of `laws::gossip_of_a_network` that has premises, for the run of ShownRun: it meets all of
 -- them together.
 use Rattle.std.proofs.Common.{◌≡◌, ℕ, List, [], ◌∷◌}
 use Rattle.std.specs.Ordering.{nat_cmp}
 use Rattle.std.proofs.lemmas.Cmp.{nat_cmp_total}
 use Rattle.p2p_directory.specs.declared.node.network.commands.NetworkCommand.{NetworkCommand}
 use Rattle.p2p_directory.specs.declared.node.network.commands.NetworkReply.{NetworkReply}
-use Rattle.p2p_directory.specs.Network.{calls_at, AreNetworkAnswers}
+use Rattle.p2p_directory.specs.Network.{AreNetworkAnswers}
 use Rattle.p2p_directory.specs.Laws.Network as law
-use Rattle.p2p_directory.specs.Laws.Network.{KeepExchanges, AtEachPoint, OfEachReply}
+use Rattle.p2p_directory.specs.Laws.Network.{AtEachPoint, OfEachReply}
 use Rattle.p2p_directory.proofs.LawsOfNetworks.Provenance
 use Rattle.p2p_directory.proofs.LawsOfNetworks.Exchanges
-use Rattle.p2p_directory.proofs.LawsOfNetworks.Newer
-use Rattle.p2p_directory.proofs.LawsOfNetworks.Reach
 use Rattle.p2p_directory.proofs.LawsOfNetworks.Frames
 use Rattle.p2p_directory.proofs.LawsOfNetworks.Replied
-use Rattle.p2p_directory.proofs.LawsOfRuns.Isolation
-use Rattle.p2p_directory.proofs.LawsOfRuns.OrderRuns
-use Rattle.p2p_directory.proofs.Definitions.Keys.{exact_from}
+use Rattle.p2p_directory.proofs.LawsOfNetworks.Laws
 use Rattle.p2p_directory.proofs.Definitions.GossipExamples.{wire, signed}
 use Rattle.p2p_directory.proofs.Definitions.ByteKeys.{IsByte, is_fixed}
 use Rattle.p2p_directory.proofs.Definitions.ExchangePremises.{three}
@@ -36,28 +32,11 @@ module _ (brought none passed : Infos) (is_brought : brought.items ≡ signed 1 
   abbrev answers : AreNetworkAnswers wire 3 three [] cs rs
   answers = are_answers brought none passed is_brought is_none is_passed
 
-  exchanges : KeepExchanges wire 3 three [] cs rs
+  exchanges : OfEachReply wire 3 three (law.BringsWanted wire 3 three) [] cs rs
   exchanges = Exchanges.keep_exchanges wire 3 three nat_cmp nat_cmp_total exact are_made [] tt cs rs answers
 
-  provenance : AtEachPoint wire 3 three (law.Provenance wire 3 three) [] cs rs
-  provenance = Provenance.at_each_point wire 3 three (law.Provenance wire 3 three)
-      (Provenance.provenance wire 3 three) [] tt cs rs answers
-
-  given : AtEachPoint wire 3 three (law.GivesSigned wire 3 three) [] cs rs
-  given = Provenance.at_each_point wire 3 three (law.GivesSigned wire 3 three)
-      (Provenance.gives_signed wire 3 three) [] tt cs rs answers
-
-  newer : AtEachPoint wire 3 three (law.OnlyGetNewer wire 3 three) [] cs rs
-  newer = Provenance.at_any_point wire 3 three (law.OnlyGetNewer wire 3 three)
-      (Newer.only_get_newer wire 3 three nat_cmp are_made) [] cs rs
-
-  reach : AtEachPoint wire 3 three (law.Reach wire 3 three) [] cs rs
-  reach = Provenance.at_each_point wire 3 three (law.Reach wire 3 three)
-      (Reach.reach wire 3 three nat_cmp nat_cmp_total exact are_made) [] tt cs rs answers
-
-  acquaintance : AtEachPoint wire 3 three (law.Acquaint wire 3 three) [] cs rs
-  acquaintance = Provenance.at_each_point wire 3 three (law.Acquaint wire 3 three)
-      (Reach.acquaint wire 3 three nat_cmp nat_cmp_total exact are_made) [] tt cs rs answers
+  at_each_point : AtEachPoint wire 3 three (law.PointLaws wire 3 three) [] cs rs
+  at_each_point = Laws.at_each_point wire 3 three nat_cmp are_made exact nat_cmp_total cs rs answers
 
   greetings : OfEachReply wire 3 three (law.TakesGreeting wire 3 three) [] cs rs
   greetings = Provenance.of_each_reply wire 3 three (law.TakesGreeting wire 3 three)
@@ -72,15 +51,3 @@ module _ (brought none passed : Infos) (is_brought : brought.items ≡ signed 1 
   infos_replied : OfEachReply wire 3 three (law.RepliesInfos wire 3 three IsByte IsByte) [] cs rs
   infos_replied = Replied.keep_replies is_fixed is_fixed wire.verifies 3 three nat_cmp exact are_made bits_are_few
       [] tt tt cs rs answers (are_written brought none passed)
-
-  isolation : AtEachPoint wire 3 three (law.Isolate wire 3 three) [] cs rs
-  isolation = Provenance.at_any_point wire 3 three (law.Isolate wire 3 three)
-      (λ done n there p. Isolation.isolated (three n).directory (are_made n there).sets
-      (exact_from (three n).directory nat_cmp (are_made n there).order exact) p
-      (calls_at wire 3 three done n)) [] cs rs
-
-  order : AtEachPoint wire 3 three (law.Reorder wire 3 three) [] cs rs
-  order = Provenance.at_any_point wire 3 three (law.Reorder wire 3 three)
-      (λ done n there later before first some more others is one have.
-      OrderRuns.reordered (three n).directory (are_made n there).sets (calls_at wire 3 three done n)
-      later before first some more others is one have) [] cs rs

@@ -36,7 +36,7 @@ use Rattle.p2p_directory.specs.Run.{world_after}
 use Rattle.p2p_directory.specs.Network.{Done, is_node, calls_at, world_at_node}
 use Rattle.p2p_directory.specs.Laws.Gossip.{IsSince, unless_above}
 use Rattle.p2p_directory.specs.Laws.Network.{AreMade, GivesTo, AreAllGiven, IsGivenOnly, HoldsOnly, IsSignedFor, HaveOneList, Fits}
-use Rattle.p2p_directory.specs.Laws.Network.{MayBring, Brings, KeepExchanges, AreSame, info_to_bring, infos_to_bring, StaysPresent, HoldsSince}
+use Rattle.p2p_directory.specs.Laws.Network.{MayBring, Brings, BringsWanted, OfEachReply, AreSame, info_to_bring, infos_to_bring, StaysPresent, HoldsSince}
 use Rattle.p2p_directory.proofs.LawsOfNetworks.Provenance.{AreAnswered, gives_signed, hold_signed}
 use Rattle.p2p_directory.proofs.LawsOfNetworks.Exchanges.{keep_exchanges}
 use Rattle.p2p_directory.proofs.LawsOfNetworks.Reach.{reach, acquaint}
@@ -178,7 +178,7 @@ may_bring = record {
 
 -- the law then leaves an exchange no other replies
 exchange_is_applied : (r : Exchanged ℕ ℕ) →
-    KeepExchanges wire 3 three after_refused (asked ∷ []) (answer.Exchange r ∷ []) →
+    OfEachReply wire 3 three (BringsWanted wire 3 three) after_refused (asked ∷ []) (answer.Exchange r ∷ []) →
     (infos_applied r ≡ Some (infos_to_bring wire 3 three after_refused 0 1 (sec 100) x))
     ⊎ (r ≡ exchanged.Memory)
 exchange_is_applied r kept =

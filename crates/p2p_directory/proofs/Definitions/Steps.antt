@@ -5,7 +5,7 @@ use Rattle.std.specs.List.{list_any}
 use Rattle.std.proofs.lemmas.List.{append-nil, drop-append-le, drop-drop, length-append, length-drop}
 use Rattle.p2p_tracker.specs.Calls.{Settings, Grant, Event}
 use Rattle.p2p_tracker.specs.declared.record.Status.TheVariants.{Inert, Reserved, Active}
-use Rattle.p2p_tracker.specs.Calls.Event.{Nothing, Tracked, Granted, Connected, Released, Updated, Blocked, Expired, Forgot}
+use Rattle.p2p_tracker.specs.Calls.Event.{Nothing, SetTaken, Granted, Connected, Released, Updated, Blocked, Expired, Forgot}
 use Rattle.p2p_tracker.specs.Moments.{cap}
 use Rattle.p2p_tracker.specs.History
 use Rattle.p2p_tracker.specs.History.{last_with, found_with, last_unless_ended, unless_ended}
@@ -50,7 +50,7 @@ lasting_step {E} {A} gives ends e h = go (gives e) (last_with gives h)
 
 module _ {C S : Type 0} (s : Settings C S) where
   pub retained_step : (e : Event C S) (h : List (Event C S)) → History.retained_sets s (e ∷ h) ≡ Step.sets_after s e (History.retained_sets s h)
-  retained_step (Tracked taken) h = last_of-push s.max_sets (History.taken_sets s h) taken
+  retained_step (SetTaken taken) h = last_of-push s.max_sets (History.taken_sets s h) taken
   retained_step Nothing h = ap (last_of s.max_sets) (append-nil (History.taken_sets s h))
   retained_step (Granted q grant) h = ap (last_of s.max_sets) (append-nil (History.taken_sets s h))
   retained_step (Connected q dialer) h = ap (last_of s.max_sets) (append-nil (History.taken_sets s h))
@@ -97,7 +97,7 @@ module _ {C S : Type 0} (s : Settings C S) where
       go true = refl
       go false = other_status p (Granted q grant) (last_with (History.grant_by s p) h)
   status_step p Nothing h = other_status p Nothing (last_with (History.grant_by s p) h)
-  status_step p (Tracked taken) h = other_status p (Tracked taken) (last_with (History.grant_by s p) h)
+  status_step p (SetTaken taken) h = other_status p (SetTaken taken) (last_with (History.grant_by s p) h)
   status_step p (Connected q dialer) h = other_status p (Connected q dialer) (last_with (History.grant_by s p) h)
   status_step p (Released q direction) h = other_status p (Released q direction) (last_with (History.grant_by s p) h)
   status_step p (Updated infos) h = other_status p (Updated infos) (last_with (History.grant_by s p) h)
@@ -125,7 +125,7 @@ module _ {C S : Type 0} (s : Settings C S) where
       go false held = lasted_none held
   held_step p (Connected q dialer) h = held_step_of p (Connected q dialer) h ∙ lasted_none (History.held_at s p h)
   held_step p Nothing h = held_step_of p Nothing h ∙ lasted_none (History.held_at s p h)
-  held_step p (Tracked taken) h = held_step_of p (Tracked taken) h ∙ lasted_none (History.held_at s p h)
+  held_step p (SetTaken taken) h = held_step_of p (SetTaken taken) h ∙ lasted_none (History.held_at s p h)
   held_step p (Updated infos) h = held_step_of p (Updated infos) h ∙ lasted_none (History.held_at s p h)
   held_step p (Blocked q t) h = held_step_of p (Blocked q t) h ∙ lasted_none (History.held_at s p h)
   held_step p (Expired t) h = held_step_of p (Expired t) h ∙ lasted_none (History.held_at s p h)
@@ -149,7 +149,7 @@ module _ {C S : Type 0} (s : Settings C S) where
       go None = refl
       go (Some m) = refl
   unblock_step p Nothing h = unblock_step_of p Nothing h ∙ lasted_none (History.unblock_at s p h)
-  unblock_step p (Tracked taken) h = unblock_step_of p (Tracked taken) h ∙ lasted_none (History.unblock_at s p h)
+  unblock_step p (SetTaken taken) h = unblock_step_of p (SetTaken taken) h ∙ lasted_none (History.unblock_at s p h)
   unblock_step p (Granted q grant) h = unblock_step_of p (Granted q grant) h ∙ lasted_none (History.unblock_at s p h)
   unblock_step p (Connected q dialer) h = unblock_step_of p (Connected q dialer) h ∙ lasted_none (History.unblock_at s p h)
   unblock_step p (Released q direction) h = unblock_step_of p (Released q direction) h ∙ lasted_none (History.unblock_at s p h)
@@ -186,7 +186,7 @@ module _ {C S : Type 0} (s : Settings C S) where
           (λ b. option_map (History.moments_of s) (if b then None else Some g)
           ≡ (if b then None else Some (History.moments_of s g))) [ true ↦ refl | false ↦ refl ]
   cooldown_step p Nothing h = kept_step p Nothing h ∙ kept_same (last_unless_ended (History.grant_by s p) (History.is_forgetting s) h)
-  cooldown_step p (Tracked taken) h = kept_step p (Tracked taken) h ∙ kept_same (last_unless_ended (History.grant_by s p) (History.is_forgetting s) h)
+  cooldown_step p (SetTaken taken) h = kept_step p (SetTaken taken) h ∙ kept_same (last_unless_ended (History.grant_by s p) (History.is_forgetting s) h)
   cooldown_step p (Connected q dialer) h = kept_step p (Connected q dialer) h ∙ kept_same (last_unless_ended (History.grant_by s p) (History.is_forgetting s) h)
   cooldown_step p (Released q direction) h =
       kept_step p (Released q direction) h

@@ -1,6 +1,5 @@
 -- Each greeting of two nodes in a run.
-use Rattle.std.proofs.Common.{◌≡◌, ℕ, Bool, List, [], Option}
-use Rattle.std.proofs.Common.{Ok, inl, inr, refl, ◌∙◌, ap, subst}
+use Rattle.std.proofs.Common.{◌≡◌, ℕ, Bool, List, [], Option, Ok, inl, inr, refl, ◌∙◌, ap, subst}
 use Rattle.std.specs.Prelude.{◌⊎◌}
 use Rattle.std.proofs.lemmas.List.{append-nil}
 use Rattle.p2p_discovery.specs.declared.discovery.Payload.{Payload}

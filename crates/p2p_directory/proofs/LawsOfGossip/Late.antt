@@ -23,7 +23,7 @@ use Rattle.p2p_tracker.specs.Step
 use Rattle.p2p_tracker.specs.Answers.{is_present_in}
 use Rattle.p2p_directory.specs.Run.{world_after}
 use Rattle.p2p_directory.specs.Received as frames
-use Rattle.p2p_directory.specs.Received.{Wire, FrameOutcome, wire_of, applying, taken, read_at}
+use Rattle.p2p_directory.specs.Received.{Wire, FrameOutcome, applying, taken, read_at}
 use Rattle.p2p_directory.specs.Received.{received_at, applied_with}
 use Rattle.p2p_directory.specs.Nodes.{Made, standing_in, calls_with}
 use Rattle.p2p_directory.specs.Laws.Gossip.{IsMade, IsUpToDate}
@@ -31,7 +31,7 @@ use Rattle.p2p_directory.specs.Laws.LateFrames.{AreKnown, IsTaken, FitsAt, IsFor
 use Rattle.p2p_directory.specs.Laws.LateFrames.{TakesLate}
 use Rattle.p2p_directory.proofs.Definitions.Keys.{exact_from}
 use Rattle.p2p_directory.proofs.Definitions.Law
-use Rattle.p2p_directory.proofs.Nodes.ReadBack.{is_admitted}
+use Rattle.p2p_directory.proofs.Nodes.ReadBack.{wire_by, is_admitted}
 use Rattle.p2p_directory.proofs.LawsOfGossip.Lists.{all_weaker, from_members, at_member}
 use Rattle.p2p_directory.proofs.LawsOfGossip.Updates
 use Rattle.p2p_directory.proofs.LawsOfGossip.Judged
@@ -45,7 +45,7 @@ module _ {C S : Type 0} {key_size signature_size : ℕ} {key : C → List ℕ} {
     (cmp : C → C → Ordering) (total : IsTotalOrder cmp)
     (exact_keys : (q p : C) → cmp q p ≡ Equal → q ≡ p) where
   abbrev wire : Wire C S
-  wire = wire_of key_size key key_of signature_size signature signature_of verifies
+  wire = wire_by key_size key key_of signature_size signature signature_of verifies
 
   module _ (m : Made C S) (made : IsMade cmp m) where
     itself : (p : C) → History.same m.directory p p ≡ true

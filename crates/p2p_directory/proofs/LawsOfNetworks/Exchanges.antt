@@ -31,7 +31,7 @@ use Rattle.p2p_directory.specs.Network.{Done, is_node, calls_at, world_at_node}
 use Rattle.p2p_directory.specs.Network.{IsNetworkAnswer, AreNetworkAnswers}
 use Rattle.p2p_directory.specs.Laws.Gossip.{wanted_infos}
 use Rattle.p2p_directory.specs.Laws.Network.{AreMade, IsSigned, MayBring, infos_to_bring, Brings}
-use Rattle.p2p_directory.specs.Laws.Network.{AreSame, BringsWanted, KeepExchanges}
+use Rattle.p2p_directory.specs.Laws.Network.{AreSame, BringsWanted, OfEachReply}
 use Rattle.p2p_directory.proofs.Definitions.Keys.{exact_from}
 use Rattle.p2p_directory.proofs.Definitions.Law
 use Rattle.p2p_directory.proofs.LawsOfGossip.Infos
@@ -223,7 +223,7 @@ module _ {C S : Type 0} (wire : Wire C S) (size : ℕ) (node : ℕ → Made C S)
 
     -- AT EACH POINT OF A RUN
 
-    wanted : (done : Done C S) → Provenance.AreAnswered wire size node done →
+    pub wanted : (done : Done C S) → Provenance.AreAnswered wire size node done →
         (c : NetworkCommand C S) (r : NetworkReply C S) → IsNetworkAnswer wire size node done c r →
         BringsWanted wire size node done c r
     wanted done answered (command.Exchange asker replier place asker_now replier_now)
@@ -234,7 +234,8 @@ module _ {C S : Type 0} (wire : Wire C S) (size : ℕ) (node : ℕ → Made C S)
 
     pub keep_exchanges : (done : Done C S) → Provenance.AreAnswered wire size node done →
         (xs : List (NetworkCommand C S)) (rs : List (NetworkReply C S)) →
-        AreNetworkAnswers wire size node done xs rs → KeepExchanges wire size node done xs rs
+        AreNetworkAnswers wire size node done xs rs →
+        OfEachReply wire size node (BringsWanted wire size node) done xs rs
     keep_exchanges done answered xs rs h =
         Provenance.of_each_reply wire size node (BringsWanted wire size node) wanted done answered
         xs rs h

@@ -19,13 +19,14 @@ use Rattle.p2p_directory.specs.declared.node.network.commands.NetworkCommand.The
 use Rattle.p2p_directory.specs.declared.node.network.commands.NetworkReply.{NetworkReply}
 use Rattle.p2p_directory.specs.declared.node.network.commands.NetworkReply.TheVariants as reply
 use Rattle.p2p_directory.specs.Received as frames
-use Rattle.p2p_directory.specs.Received.{Wire, Standing, FrameOutcome, wire_of, applying, greeted}
+use Rattle.p2p_directory.specs.Received.{Wire, Standing, FrameOutcome, applying, greeted}
 use Rattle.p2p_directory.specs.Received.{read_at, received_at, applied_with}
 use Rattle.p2p_directory.specs.Nodes.{Made, calls_with}
 use Rattle.p2p_directory.specs.Network.{Done, is_node, calls_at, calls_then, standing_at}
 use Rattle.p2p_directory.specs.Network.{IsNetworkAnswer}
 use Rattle.p2p_directory.specs.Laws.LateFrames.{TakesLate}
 use Rattle.p2p_directory.specs.Laws.Network.{AreMade, TakesGreeting, TakesFrame}
+use Rattle.p2p_directory.proofs.Nodes.ReadBack.{wire_by}
 use Rattle.p2p_directory.proofs.LawsOfGossip.Greetings.{answer_or_memory, read_back}
 use Rattle.p2p_directory.proofs.LawsOfGossip.Judged
 use Rattle.p2p_directory.proofs.LawsOfGossip.Late
@@ -38,7 +39,7 @@ module _ {C S : Type 0} {key_size signature_size : ℕ} {key : C → List ℕ} {
     (s : IsFixed signature_size signature signature_of IsSignature)
     (verifies : C → List ℕ → List ℕ → S → Bool) (size : ℕ) (node : ℕ → Made C S) where
   abbrev wire : Wire C S
-  wire = wire_of key_size key key_of signature_size signature signature_of verifies
+  wire = wire_by key_size key key_of signature_size signature signature_of verifies
 
   abbrev own : ℕ → Info C S
   own i = (node i).directory.own

@@ -1,7 +1,6 @@
 -- Infos of a peer that stays present only get newer.
 use Rattle.std.proofs.Common.{◌≡◌, ℕ, Bool, true, false, ◌&&◌, List, [], ◌∷◌, ◌++◌, Option, Some}
-use Rattle.std.proofs.Common.{None}
-use Rattle.std.proofs.Common.{refl, sym, subst, ◌≤◌, inl, inr}
+use Rattle.std.proofs.Common.{None, refl, sym, subst, ◌≤◌, inl, inr}
 use Rattle.std.specs.Prelude.{if◌then◌else◌, filter, ◌==◌, ◌⊎◌}
 use Rattle.p2p_discovery.specs.declared.discovery.Info.{Info}
 use Rattle.p2p_directory.specs.declared.node.network.commands.NetworkCommand.{NetworkCommand}
@@ -21,8 +20,7 @@ use Rattle.p2p_directory.specs.Run.{call_of, was_made, world_after}
 use Rattle.p2p_directory.specs.Received.{Wire, applies}
 use Rattle.p2p_directory.specs.Nodes.{Made, calls_with}
 use Rattle.p2p_directory.specs.Exchange.{infos_applied}
-use Rattle.p2p_directory.specs.Network.{infos_of_frame}
-use Rattle.p2p_directory.specs.Network.{Done, changed_by, calls_then, calls_at}
+use Rattle.p2p_directory.specs.Network.{infos_of_frame, Done, changed_by, calls_then, calls_at}
 use Rattle.p2p_directory.specs.Laws.Gossip.{IsSince}
 use Rattle.std.specs.declared.cmp.Ordering.{Ordering}
 use Rattle.p2p_directory.specs.Laws.Network.{AreMade, StaysPresent, HoldsSince, OnlyGetNewer}

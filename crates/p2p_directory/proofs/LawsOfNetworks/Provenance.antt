@@ -17,16 +17,13 @@ use Rattle.p2p_directory.specs.Received.{Wire, applies}
 use Rattle.p2p_directory.specs.Exchange
 use Rattle.p2p_directory.specs.Exchange.{infos_applied}
 use Rattle.p2p_directory.specs.Nodes.{Made}
-use Rattle.p2p_directory.specs.Network.{infos_of_frame}
-use Rattle.p2p_directory.specs.Network.{Done, changed_by, calls_then, is_node, calls_at}
-use Rattle.p2p_directory.specs.Network.{standing_at}
-use Rattle.p2p_directory.specs.Network.{IsNetworkAnswer, AreNetworkAnswers}
+use Rattle.p2p_directory.specs.Network.{infos_of_frame, Done, changed_by, calls_then, is_node}
+use Rattle.p2p_directory.specs.Network.{calls_at, standing_at, IsNetworkAnswer, AreNetworkAnswers}
 use Rattle.p2p_directory.specs.Laws.Gossip.{GivesOnly}
-use Rattle.p2p_directory.specs.Laws.Network.{IsAmong, given_by, GivesTo, GivesOrBrings}
-use Rattle.p2p_directory.specs.Laws.Network.{IsGivenOnly, GivesEach, HoldsOnly, IsSigned, GivesSigned}
-use Rattle.p2p_directory.specs.Laws.Network.{IsGivenBy, IsGivenIn, HasOrigin, Provenance}
-use Rattle.p2p_directory.specs.Laws.Network.{IsSignedFor, HoldSigned, AtEachPoint, OfEachReply}
-use Rattle.p2p_directory.specs.Laws.Network.{LeavesOtherNodes}
+use Rattle.p2p_directory.specs.Laws.Network.{IsAmong, given_by, GivesTo, GivesOrBrings, IsGivenOnly}
+use Rattle.p2p_directory.specs.Laws.Network.{GivesEach, HoldsOnly, IsSigned, GivesSigned, IsGivenBy}
+use Rattle.p2p_directory.specs.Laws.Network.{IsGivenIn, HasOrigin, Provenance, IsSignedFor}
+use Rattle.p2p_directory.specs.Laws.Network.{HoldSigned, AtEachPoint, OfEachReply, LeavesOtherNodes}
 use Rattle.p2p_directory.proofs.LawsOfGossip.Infos
 use Rattle.p2p_directory.proofs.LawsOfGossip.Given.{exchange_gives, brings_applied, gives_with}
 use Rattle.p2p_directory.proofs.LawsOfGossip.Given.{gives_if}

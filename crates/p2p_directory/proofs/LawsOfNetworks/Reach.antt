@@ -1,7 +1,6 @@
 -- What exchanges brought is held as long as its peers stay present.
 use Rattle.std.proofs.Common.{◌≡◌, ℕ, Bool, true, false, List, [], ◌∷◌, ◌++◌, Option, Some, None}
-use Rattle.std.proofs.Common.{inl}
-use Rattle.std.proofs.Common.{inr, refl, sym, ◌∙◌, ap, subst, is_some, arith, ◌&&◌, ◌||◌}
+use Rattle.std.proofs.Common.{inl, inr, refl, sym, ◌∙◌, ap, subst, is_some, arith, ◌&&◌, ◌||◌}
 use Rattle.std.specs.Prelude.{◌⊎◌, IfSome, filter_map, not, if◌then◌else◌}
 use Rattle.std.specs.List.{AllByRecursion, cons_option, list_any}
 use Rattle.std.specs.Cmp.{IsTotalOrder}
@@ -28,9 +27,8 @@ use Rattle.p2p_directory.specs.Exchange.{infos_applied}
 use Rattle.p2p_directory.specs.Nodes.{Made}
 use Rattle.p2p_directory.specs.Network.{Done, world_at_node, calls_at}
 use Rattle.p2p_directory.specs.Laws.Gossip.{IsSince, IsUpToDate, unless_above}
-use Rattle.p2p_directory.specs.Laws.Network.{AreMade, MayBring, info_to_bring}
-use Rattle.p2p_directory.specs.Laws.Network.{infos_to_bring, StaysPresent, HoldsSince, Reach}
-use Rattle.p2p_directory.specs.Laws.Network.{Acquaint}
+use Rattle.p2p_directory.specs.Laws.Network.{AreMade, MayBring, info_to_bring, infos_to_bring}
+use Rattle.p2p_directory.specs.Laws.Network.{StaysPresent, HoldsSince, Reach, Acquaint}
 use Rattle.p2p_directory.proofs.Definitions.Law
 use Rattle.p2p_directory.proofs.LawsOfGossip.Wanted
 use Rattle.p2p_directory.proofs.LawsOfGossip.Lists.{all_weaker, Member, at_member}

@@ -25,7 +25,7 @@ use Rattle.p2p_tracker.specs.Answers.{bits_of, wants}
 use Rattle.p2p_tracker.specs.Moments.{epoch_millis}
 use Rattle.p2p_directory.specs.Run.{bit_vec_of}
 use Rattle.p2p_directory.specs.Received as frames
-use Rattle.p2p_directory.specs.Received.{Wire, Standing, FrameOutcome, wire_of, only, replied, read_at}
+use Rattle.p2p_directory.specs.Received.{Wire, Standing, FrameOutcome, only, replied, read_at}
 use Rattle.p2p_directory.specs.Received.{received_at, told_with}
 use Rattle.p2p_directory.specs.Nodes.{Made, AreValues}
 use Rattle.p2p_directory.specs.Network.{Done, is_node, calls_at, world_at_node, standing_at}
@@ -35,7 +35,7 @@ use Rattle.p2p_directory.specs.Laws.Network.{AreMade, IsGivenOnly, IsSigned, Hav
 use Rattle.p2p_directory.specs.Laws.Network.{IsReplyFor, RepliesInfos, AreWritten, OfEachReply}
 use Rattle.p2p_directory.specs.Laws.LateFrames.{IsFor}
 use Rattle.p2p_directory.proofs.Definitions.Keys.{exact_from}
-use Rattle.p2p_directory.proofs.Nodes.ReadBack.{is_above, too_many_bits}
+use Rattle.p2p_directory.proofs.Nodes.ReadBack.{wire_by, is_above, too_many_bits}
 use Rattle.p2p_directory.proofs.LawsOfGossip.Lists.{inside, Member, from_members, member_filter_map}
 use Rattle.p2p_directory.proofs.LawsOfGossip.Lists.{length_some}
 use Rattle.p2p_directory.proofs.LawsOfGossip.Infos
@@ -55,7 +55,7 @@ module _ {C S : Type 0} {key_size signature_size : ℕ} {key : C → List ℕ} {
     (s : IsFixed signature_size signature signature_of IsSignature)
     (verifies : C → List ℕ → List ℕ → S → Bool) (size : ℕ) (node : ℕ → Made C S) where
   abbrev wire : Wire C S
-  wire = wire_of key_size key key_of signature_size signature signature_of verifies
+  wire = wire_by key_size key key_of signature_size signature signature_of verifies
 
   abbrev world : Done C S → ℕ → World C S
   world done i = world_at_node wire size node done i

@@ -9,7 +9,7 @@ use Rattle.p2p_tracker.specs.declared.record.Status.{Status}
 use Rattle.p2p_tracker.specs.Calls.{Settings, Question, Call, SetAt, Grant, Cooldown, Event}
 use Rattle.p2p_tracker.specs.Calls.Call.{Track, Dial, Listen, Connect, Release, Update, Block, Ask}
 use Rattle.p2p_tracker.specs.declared.record.Status.TheVariants.{Inert, Reserved}
-use Rattle.p2p_tracker.specs.Calls.Event.{Nothing, Tracked, Granted, Connected, Released, Updated, Blocked, Expired, Forgot}
+use Rattle.p2p_tracker.specs.Calls.Event.{Nothing, SetTaken, Granted, Connected, Released, Updated, Blocked, Expired, Forgot}
 use Rattle.p2p_tracker.specs.Moments.{cap}
 use Rattle.p2p_tracker.specs.History
 use Rattle.p2p_tracker.specs.World
@@ -59,7 +59,7 @@ module _ {C S : Type 0} (s : Settings C S) where
 
   -- it leaves p as it was
   sets_quiet : (p : C) (e : Event C S) (sets : List (SetAt C)) → is_quiet p e ≡ true → Step.sets_after s e sets ≡ sets
-  sets_quiet p (Tracked taken) sets quiet = absurd (cc)
+  sets_quiet p (SetTaken taken) sets quiet = absurd (cc)
   sets_quiet p e sets quiet = refl
 
   status_quiet : (p : C) (e : Event C S) (status : Status) → is_quiet p e ≡ true → Step.status_after s p e status ≡ status
@@ -113,7 +113,7 @@ module _ {C S : Type 0} (s : Settings C S) where
 
   another_quiet : (p : C) (c : Call C S) (e : Event C S) → Makes c e → is_on_another s p c ≡ true → is_quiet p e ≡ true
   another_quiet p c Nothing m other = refl
-  another_quiet p c (Tracked taken) m other = absurd (let no = sym (ap (is_on_another s p) m.3) ∙ other in cc)
+  another_quiet p c (SetTaken taken) m other = absurd (let no = sym (ap (is_on_another s p) m.3) ∙ other in cc)
   another_quiet p c (Granted q grant) (inl m) other = sym (ap (is_on_another s p) m) ∙ other
   another_quiet p c (Granted q grant) (inr m) other = sym (ap (is_on_another s p) m) ∙ other
   another_quiet p c e m other = sym (ap (is_on_another s p) m) ∙ other

@@ -17,7 +17,7 @@ use Rattle.p2p_directory.specs.declared.node.exchanged.Exchanged.{Exchanged}
 use Rattle.p2p_directory.specs.declared.node.exchanged.Exchanged.TheVariants as exchanged
 use Rattle.p2p_directory.specs.declared.node.received.Received.{Received}
 use Rattle.p2p_directory.specs.declared.node.received.Received.TheVariants as received
-use Rattle.p2p_directory.specs.Received.{Wire, Standing, FrameOutcome, wire_of, read_at, received_at}
+use Rattle.p2p_directory.specs.Received.{Wire, Standing, FrameOutcome, read_at, received_at}
 use Rattle.p2p_directory.specs.Received.{ask_frame_at, only, applying, replied, taken, frame_may_want_memory}
 use Rattle.p2p_directory.specs.Exchange.{ExchangeOutcome, judged_at, replied_at, asked_at, exchanged_at}
 use Rattle.p2p_directory.specs.Exchange.{IsCarried, HasSpelling, HaveSpelling, CanBeReplied, CanBeSpelled}
@@ -27,7 +27,7 @@ use Rattle.p2p_directory.specs.Nodes.{NodeView, standing_of, Answers, AnswersFra
 use Rattle.p2p_directory.specs.Private.Exchanging.{UnlessRefused}
 use Rattle.p2p_directory.specs.Exchange.ExchangeOutcome.{NoSet, AskRefused, Malformed, ReplyRefused, Invalid, Applied}
 use Rattle.p2p_directory.proofs.LawsOfGossip.Greetings.{read_back}
-use Rattle.p2p_directory.proofs.Nodes.ReadBack.{too_many_bits, too_many_infos, is_admitted, is_above}
+use Rattle.p2p_directory.proofs.Nodes.ReadBack.{wire_by, too_many_bits, too_many_infos, is_admitted, is_above}
 
 -- WHAT THE FRAMES COME TO is one outcome
 
@@ -139,7 +139,7 @@ module _ {C S : Type 0} {key_size signature_size : ℕ} {key : C → List ℕ} {
     (f : IsFixed signature_size signature signature_of IsSignature)
     (verifies : C → List ℕ → List ℕ → S → Bool) where
   abbrev wire : Wire C S
-  wire = wire_of key_size key key_of signature_size signature signature_of verifies
+  wire = wire_by key_size key key_of signature_size signature signature_of verifies
 
   -- as it is
   bits_read : (limits : PayloadConfig) (v : BitVec) → HasSpelling v → nat_lt limits.max_bit_vec (length v.bits) ≡ false →

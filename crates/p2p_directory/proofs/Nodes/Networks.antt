@@ -4,8 +4,7 @@ use Rattle.std.proofs.Common.{◌≡◌, ◌<◌, ◌≤◌, ◌^◌, ℕ, lengt
 use Rattle.std.proofs.Common.{inl, inr, ◌++◌, ◌-◌, Result, Ok, Err, refl, sym, ◌∙◌, ap, subst}
 use Rattle.std.proofs.Common.{arith}
 use Rattle.std.specs.Prelude.{if◌then◌else◌, IfOk, IfSome, ◌==◌, not, ◌&&◌, slice_index_or}
-use Rattle.std.specs.Prelude.{slice_set, nat_lt}
-use Rattle.std.specs.Prelude.{OnOk, ◌⊎◌}
+use Rattle.std.specs.Prelude.{slice_set, nat_lt, OnOk, ◌⊎◌}
 use Rattle.std.specs.Duration.{as_nanos}
 use Rattle.std.specs.declared.cmp.Ordering.{Ordering}
 use Rattle.std.specs.declared.time.Duration.{Duration}

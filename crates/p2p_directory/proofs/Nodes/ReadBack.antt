@@ -7,6 +7,7 @@ use Rattle.std.specs.Prelude.{nat_lt, nat_le}
 use Rattle.p2p_discovery.specs.declared.codec.error.CodecError.{CodecError}
 use Rattle.p2p_discovery.specs.declared.codec.error.CodecError.TheVariants.{EndOfBuffer, ExtraData, InvalidLength, InvalidVarint, InvalidEnum, Invalid, Memory}
 use Rattle.p2p_discovery.specs.declared.codec.error.RangeCfg.{RangeCfg}
+use Rattle.p2p_discovery.specs.declared.codec.fixed.FixedBytes as fixed
 use Rattle.p2p_discovery.specs.declared.discovery.BitVec.{BitVec}
 use Rattle.p2p_discovery.specs.declared.discovery.Info.{Info}
 use Rattle.p2p_discovery.specs.declared.discovery.Payload.TheVariants as said
@@ -21,6 +22,23 @@ use Rattle.p2p_discovery.specs.Lists.{spellings, items_at, list_at}
 use Rattle.p2p_discovery.specs.Info.{info_spelling, info_at}
 use Rattle.p2p_discovery.specs.Payload.{payload_spelling, payload_at, body_at, up_to}
 use Rattle.p2p_directory.specs.Private.Frames.{IsReadBack}
+use Rattle.p2p_directory.specs.Received.{Wire}
+
+-- what all nodes have in common, by the sizes of keys and of signatures, their bytes and what bytes
+-- spell, and the right signatures
+abbrev pub wire_by : {C S : Type 0} → ℕ → (C → List ℕ) → (List ℕ → Option C) →
+    ℕ → (S → List ℕ) → (List ℕ → Option S) → (C → List ℕ → List ℕ → S → Bool) → Wire C S
+wire_by key_size key key_of size signature signature_of verifies = record {
+  spelling = payload_spelling key signature;
+  reading = payload_at key_size key_of size signature_of;
+  verifies = verifies;
+}
+
+-- .. by what goals know of their traits
+abbrev pub wire_in : {C S : Type 0} → (C → List ℕ → List ℕ → S → Bool) → fixed.Ghosts C →
+    fixed.Ghosts S → Wire C S
+wire_in verifies key signature = wire_by key.SIZE key.spelled key.value
+    signature.SIZE signature.spelled signature.value verifies
 
 -- an error is want of memory or not
 memory_or_not : (e : CodecError) → (e ≡ Memory) ⊎ (e ≢ Memory)

@@ -27,7 +27,7 @@ use Rattle.p2p_directory.specs.Nodes.{Made, NodeView, NodeStandsAt, IsAnsweredAt
 use Rattle.p2p_directory.specs.Nodes.{standing_of, standing_in, calls_with, IsLeft, Answers}
 use Rattle.p2p_directory.specs.Nodes.{AsksWith, AreValues, StandsSomewhere, made_of}
 use Rattle.p2p_directory.specs.Exchange.{HasSpelling, ExchangeOutcome, IsCarried}
-use Rattle.p2p_directory.specs.Private.Slots.{contents, held_in, AreSlots}
+use Rattle.p2p_directory.specs.Private.Slots.{contents, AreSlots}
 use Rattle.p2p_directory.proofs.Definitions.Law
 use Rattle.p2p_directory.proofs.LawsOfRuns.Forgotten
 use Rattle.p2p_directory.proofs.Refinement.KnowledgeRefines

@@ -13,7 +13,7 @@ use Rattle.p2p_tracker.specs.declared.record.Address.TheVariants.{Myself, Bootst
 use Rattle.p2p_tracker.specs.declared.record.Status.{Status}
 use Rattle.p2p_tracker.specs.declared.record.Status.TheVariants.{Inert, Reserved}
 use Rattle.p2p_tracker.specs.Calls.{Settings, Call, SetAt, Direction, Grant, Cooldown}
-use Rattle.p2p_tracker.specs.Calls.Event.{Tracked, Granted, Released, Forgot}
+use Rattle.p2p_tracker.specs.Calls.Event.{SetTaken, Granted, Released, Forgot}
 use Rattle.p2p_tracker.specs.History.{same, is_own, is_persistent, is_named, is_present_with}
 use Rattle.p2p_tracker.specs.Status.{is_inert}
 use Rattle.p2p_tracker.specs.World
@@ -274,7 +274,7 @@ module _ {C S : Type 0} (s : Settings C S) where
   -- a set that is taken
   pub tie_track : (w : World C S) (d d' : DirectoryView C S) (set : SetAt C) → Refines s w d →
       ((p : C) → is_present_in s w p ≡ false → (w.peer p).known ≡ new_known s p) → TakesSet s.cmp d d' set →
-      Refines s (world_with s (Tracked set) w) d'
+      Refines s (world_with s (SetTaken set) w) d'
   tie_track w d d' set stands forgotten change = record {
     config = change.config ∙ stands.config;
     sets = sets;

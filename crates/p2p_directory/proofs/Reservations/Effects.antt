@@ -14,7 +14,7 @@ use Rattle.p2p_tracker.specs.declared.record.Status.TheVariants.{Inert, Reserved
 use Rattle.p2p_tracker.specs.Calls.{Settings, Call, Event, Direction, Grant}
 use Rattle.p2p_tracker.specs.Calls.Call.{Track, Dial, Listen, Connect, Release, Update, Block, UnblockExpired, ForgetCooled}
 use Rattle.p2p_tracker.specs.Calls.Direction.{Listener, Dialer}
-use Rattle.p2p_tracker.specs.Calls.Event.{Nothing, Tracked, Granted, Connected, Released, Updated, Blocked, Expired, Forgot}
+use Rattle.p2p_tracker.specs.Calls.Event.{Nothing, SetTaken, Granted, Connected, Released, Updated, Blocked, Expired, Forgot}
 use Rattle.p2p_tracker.specs.History
 use Rattle.p2p_tracker.specs.Status.{is_inert, is_reserved}
 use Rattle.p2p_tracker.specs.World
@@ -170,9 +170,9 @@ module _ {C S : Type 0} (s : Settings C S) where
       -- TRACK
 
       pub track_is : (index : ℕ) (primary secondary : List C) (b : Bool) → is_above index (latest_index d.sets) ≡ b →
-          event_in s w.sets w (Track index primary secondary) ≡ (if b then Tracked (set_of s.cmp index primary secondary) else Nothing)
+          event_in s w.sets w (Track index primary secondary) ≡ (if b then SetTaken (set_of s.cmp index primary secondary) else Nothing)
       track_is index primary secondary b e =
-          ap (λ b. if b then Tracked (set_of s.cmp index primary secondary) else Nothing)
+          ap (λ b. if b then SetTaken (set_of s.cmp index primary secondary) else Nothing)
           (sym (CallsRefine.tie_above s cs d index at.refines) ∙ e)
 
       untaken : (index : ℕ) (primary secondary : List C) → is_above index (latest_index d.sets) ≡ false → d2 ≡ d →
@@ -191,11 +191,11 @@ module _ {C S : Type 0} (s : Settings C S) where
           let c : Call C S = Track index primary secondary in
           let set = set_of s.cmp index primary secondary in
           let is = track_is index primary secondary true next in
-          let left : DirectoryStandsAt s (c ∷ cs) d2 h = stands_with cs c (Tracked set) d2 h is
+          let left : DirectoryStandsAt s (c ∷ cs) d2 h = stands_with cs c (SetTaken set) d2 h is
           (CallsRefine.tie_track s w d d2 set at.refines (Forgotten.absent s cs) change)
           (record { peers = at.holds.peers; metadata = at.holds.metadata })
           in
-          (left, (ap was_taken (event cs c (Tracked set) is), CallsRefine.tie_torn s w (world_after s (c ∷ cs)) d d2 torn at.refines left.refines down))
+          (left, (ap was_taken (event cs c (SetTaken set) is), CallsRefine.tie_torn s w (world_after s (c ∷ cs)) d d2 torn at.refines left.refines down))
 
       -- whether the set was taken or not
       pub tracks : (index : ℕ) (primary secondary : List C) (torn : Option (List C)) →

@@ -9,12 +9,11 @@ use Rattle.std.proofs.lemmas.Map.Views.{tells_apart}
 use Rattle.p2p_discovery.specs.declared.discovery.Info.{Info}
 use Rattle.p2p_tracker.specs.declared.directory.Metadata.{Metadata}
 use Rattle.p2p_tracker.specs.declared.directory.Metadata.TheVariants as metadata
-use Rattle.p2p_tracker.specs.declared.record.Status.{Status}
 use Rattle.p2p_directory.specs.declared.run.commands.Reply.TheVariants as reply
 use Rattle.p2p_tracker.specs.Calls.{Settings, Call, Event}
 use Rattle.p2p_tracker.specs.Calls.Call.{Track, Dial, Listen, Connect, Release, Update, Block, UnblockExpired, ForgetCooled}
 use Rattle.p2p_tracker.specs.Calls.Direction.{Listener, Dialer}
-use Rattle.p2p_tracker.specs.Calls.Event.{Nothing, Tracked, Granted, Connected, Released, Updated, Blocked, Expired, Forgot}
+use Rattle.p2p_tracker.specs.Calls.Event.{Nothing, SetTaken, Granted, Connected, Released, Updated, Blocked, Expired, Forgot}
 use Rattle.p2p_tracker.specs.Status.{is_reserved}
 use Rattle.p2p_tracker.specs.World.{event_in}
 use Rattle.p2p_tracker.specs.Moments.{cap}
@@ -46,7 +45,7 @@ pub use Rattle.p2p_directory.proofs.Reservations.Effects.{are_held}
 -- what is granted is some reservation
 granted_is : {C S : Type 0} (p : C) (e : Event C S) → is_some (option_map (metadata_of {C = C} {S = S} p) (granted_direction e)) ≡ was_granted e
 granted_is p Nothing = refl
-granted_is p (Tracked taken) = refl
+granted_is p (SetTaken taken) = refl
 granted_is p (Granted q grant) = refl
 granted_is p (Connected q dialer) = refl
 granted_is p (Released q direction) = refl
@@ -112,7 +111,7 @@ module _ {C S : Type 0} (s : Settings C S) where
       served_no_memory index primary secondary next directory slots =
           let is = Effects.track_is s some exact cs v.directory v2.directory (held_in s.cmp v.slots) before index primary secondary true next in
           refused_memory (Track index primary secondary)
-          (ap was_taken (event (Track index primary secondary) (Tracked (set_of s.cmp index primary secondary)) is)) directory (same_slots slots)
+          (ap was_taken (event (Track index primary secondary) (SetTaken (set_of s.cmp index primary secondary)) is)) directory (same_slots slots)
 
       -- whether the set was taken or not
       pub served_track : (index : ℕ) (primary secondary : List C) (torn : Option (List C)) →

@@ -1,9 +1,7 @@
 -- What gossip brings any number of nodes, by what was done to them and what was replied: commands
 -- with their replies, the newest first.
 use Rattle.std.specs.Prelude.{ℕ, ◌≡◌, ◌≤◌, ◌<◌, ◌+◌, ◌*◌, ◌^◌, min, ◌==◌, true, false, List, []}
-use Rattle.std.specs.Prelude.{◌∷◌}
-use Rattle.std.specs.Prelude.{◌++◌, length, ◌⊎◌}
-use Rattle.std.specs.Prelude.{Option, Some, is_some, IfSome}
+use Rattle.std.specs.Prelude.{◌∷◌, ◌++◌, length, ◌⊎◌, Option, Some, is_some, IfSome}
 use Rattle.std.specs.List.{AllByRecursion}
 use Rattle.std.specs.Duration.{as_nanos, max_nanos}
 use Rattle.std.specs.declared.cmp.Ordering.{Ordering}
@@ -32,7 +30,7 @@ use Rattle.p2p_directory.specs.Exchange.{ExchangeOutcome, IsExchangeAnswer, info
 use Rattle.p2p_directory.specs.Exchange.{IsCarried}
 use Rattle.p2p_directory.specs.Network.{infos_of_frame}
 use Rattle.p2p_directory.specs.Network.{Done, changed_by, is_node, calls_at, world_at_node}
-use Rattle.p2p_directory.specs.Network.{standing_at, IsNetworkAnswer}
+use Rattle.p2p_directory.specs.Network.{standing_at, IsNetworkAnswer, AreNetworkAnswers}
 use Rattle.p2p_directory.specs.Laws.Gossip.{IsSince, IsUpToDate, GivesOnly, IsMade, wanted_info}
 use Rattle.p2p_directory.specs.Laws.Gossip.{wanted_infos, unless_above}
 use Rattle.p2p_directory.specs.Laws.LateFrames.{TakesLate, SpellsFor}
@@ -340,11 +338,6 @@ module _ {C S : Type 0} (wire : Wire C S) (size : ℕ) (node : ℕ → Made C S)
   OfEachReply P done (c ∷ cs) (r ∷ rs) = P done c r × OfEachReply P ((c, r) ∷ done) cs rs
   OfEachReply P done _ _ = Unit {0}
 
-  -- each exchange of a run
-  abbrev pub KeepExchanges : Done C S → List (NetworkCommand C S) → List (NetworkReply C S) →
-      Type 0
-  KeepExchanges = OfEachReply BringsWanted
-
   -- a law of what was done holds at each point of a run, the last one too
   abbrev pub AtEachPoint : (Done C S → Type 0) → Done C S → List (NetworkCommand C S) →
       List (NetworkReply C S) → Type 0
@@ -385,3 +378,50 @@ module _ {C S : Type 0} (wire : Wire C S) (size : ℕ) (node : ℕ → Made C S)
   abbrev pub AreWritten : (C → Type 0) → (S → Type 0) → Done C S → List (NetworkCommand C S) →
       List (NetworkReply C S) → Type 0
   AreWritten IsKey IsSignature = OfEachReply (IsWritten IsKey IsSignature)
+
+  -- ALL LAWS
+
+  -- of what was done
+  pub record PointLaws (done : Done C S) : Type 0 where
+    -- gossip invents nothing
+    pub provenance : Provenance done
+    -- all that is given is signed where all that comes from outside is
+    pub given : GivesSigned done
+    -- .. and so is all that is held
+    pub infos : HoldSigned done
+    -- infos of a present peer only get newer
+    pub newer : OnlyGetNewer done
+    -- what an exchange brought is held as long as the peer stays present
+    pub reach : Reach done
+    -- .. and some info of each other peer that was shared, wanted or not
+    pub acquaintance : Acquaint done
+    -- what is done with other single peers may be left out
+    pub isolation : Isolate done
+    -- infos that are given together may be given in any order
+    pub order : Reorder done
+
+  -- of one reply, by these keys and signatures
+  pub record ReplyLaws (IsKey : C → Type 0) (IsSignature : S → Type 0) (done : Done C S)
+      (c : NetworkCommand C S) (r : NetworkReply C S) : Type 0 where
+    -- an exchange brings the wanted infos that may be shared
+    pub exchanges : BringsWanted done c r
+    -- .. and is what its frames come to
+    pub carried : CarriesExchange done c r
+    -- a greeting is taken
+    pub greetings : TakesGreeting done c r
+    -- bits that were asked for are replied with infos for the asker
+    pub infos_replied : RepliesInfos IsKey IsSignature done c r
+    -- such infos are taken, however late
+    pub late : TakesFrame IsKey IsSignature done c r
+    -- other nodes are left as they were
+    pub others : LeavesOtherNodes done c r
+
+  -- P holds of all commands and replies
+  abbrev pub OfAll : (Done C S → List (NetworkCommand C S) → List (NetworkReply C S) → Type 0) →
+      Type 0
+  OfAll P = (cs : List (NetworkCommand C S)) (rs : List (NetworkReply C S)) → P [] cs rs
+
+  -- .. where each reply is the answer at its point
+  abbrev pub OfAnswers : (Done C S → List (NetworkCommand C S) → List (NetworkReply C S) →
+      Type 0) → Type 0
+  OfAnswers P = OfAll (λ done cs rs. AreNetworkAnswers wire size node done cs rs → P done cs rs)

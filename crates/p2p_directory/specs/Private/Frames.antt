@@ -1,7 +1,6 @@
 -- Frames: what has a spelling, what is answered where one cannot be read, and what is read of one
 -- that was spelled.
-use Rattle.std.specs.Prelude.{ℕ, ◌≡◌, Bool, true, false, ◌⊎◌, List}
-use Rattle.std.specs.Prelude.{Result, Ok, Err}
+use Rattle.std.specs.Prelude.{ℕ, ◌≡◌, Bool, true, false, ◌⊎◌, List, Result, Ok, Err}
 use Rattle.p2p_discovery.specs.declared.codec.error.CodecError.{CodecError}
 use Rattle.p2p_discovery.specs.declared.codec.error.CodecError.TheVariants.{InvalidLength, Memory}
 use Rattle.p2p_discovery.specs.declared.discovery.BitVec.{BitVec}

@@ -16,8 +16,7 @@ use Rattle.p2p_tracker.specs.Seen.{DirectoryView}
 use Rattle.p2p_directory.specs.Nodes.{may_reserve}
 use Rattle.p2p_directory.specs.Refinement.{Refines}
 use Rattle.p2p_directory.specs.Private.Slots.{has_slot, held_in}
-use Rattle.p2p_directory.specs.Run.{settings, call_of, world_after}
-use Rattle.p2p_directory.specs.Run.{IsAnswer, next, Holds}
+use Rattle.p2p_directory.specs.Run.{settings, call_of, world_after, IsAnswer, next, Holds}
 
 -- a directory, and slots for the reservations that it granted
 pub record ServerView (C S : Type 0) : Type 0 where

@@ -169,8 +169,7 @@ impl<C: PublicKey> Endpoint<C> {
 
     /// The frame of the bits of the set at a position, or `None` if there is no such position.
     pub fn ask(&self, place: usize) -> Result<Option<Bytes>, AllocError>
-        ensures seen { AsksWith C.cmp (wire_of C.SIZE C.spelled C.value
-            C.Signature.SIZE C.Signature.spelled C.Signature.value C.verifies)
+        ensures seen { AsksWith C.cmp (wire_of C.verifies C.FixedBytes C.Signature.FixedBytes)
             place result (node_of self.now) }
         ensures spelled { IfOk result (λ _.
             IfSome (bit_vec_at C.cmp self.now.directory place) HasSpelling) }

@@ -81,19 +81,13 @@ pub fn exchange<C: PublicKey>(
     asker_now: Duration,
     replier_now: Duration,
 ) -> Exchanged<C>
-    ensures seen { Exchanges C.cmp (wire_of C.SIZE C.spelled C.value
-        C.Signature.SIZE C.Signature.spelled C.Signature.value C.verifies)
-        place (as_nanos asker_now) (as_nanos replier_now) result
-        asker.old replier.now asker.new }
+    ensures seen { Exchanges C.cmp (wire_of C.verifies C.FixedBytes C.Signature.FixedBytes) place
+        (as_nanos asker_now) (as_nanos replier_now) result asker.old replier.now asker.new }
     ensures unchanged { infos_applied result ≡ None → asker.new ≡ asker.old }
-    ensures exchanged { IsExchanged C.cmp (wire_of C.SIZE C.spelled C.value
-        C.Signature.SIZE C.Signature.spelled C.Signature.value C.verifies)
-        place (as_nanos asker_now) (as_nanos replier_now) result
-        asker.old replier.now asker.new }
-    ensures carried { Carries C.cmp (wire_of C.SIZE C.spelled C.value
-        C.Signature.SIZE C.Signature.spelled C.Signature.value C.verifies)
-        place (as_nanos asker_now) (as_nanos replier_now) result
-        asker.old replier.now asker.new }
+    ensures exchanged { IsExchanged C.cmp (wire_of C.verifies C.FixedBytes C.Signature.FixedBytes)
+        place (as_nanos asker_now) (as_nanos replier_now) result asker.old replier.now asker.new }
+    ensures carried { Carries C.cmp (wire_of C.verifies C.FixedBytes C.Signature.FixedBytes) place
+        (as_nanos asker_now) (as_nanos replier_now) result asker.old replier.now asker.new }
 {
     asker
         .endpoint

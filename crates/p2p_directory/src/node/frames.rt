@@ -31,11 +31,9 @@ impl<C: PublicKey> Node<C> {
     ///
     /// Proportional to the bytes of the frame.
     pub fn ask(&self, place: usize) -> Result<Option<Bytes>, AllocError>
-        ensures seen { AsksWith C.cmp (wire_of C.SIZE C.spelled C.value
-            C.Signature.SIZE C.Signature.spelled C.Signature.value C.verifies)
+        ensures seen { AsksWith C.cmp (wire_of C.verifies C.FixedBytes C.Signature.FixedBytes)
             place result self.now }
-        ensures asked { IsAsked C.cmp (wire_of C.SIZE C.spelled C.value
-            C.Signature.SIZE C.Signature.spelled C.Signature.value C.verifies)
+        ensures asked { IsAsked C.cmp (wire_of C.verifies C.FixedBytes C.Signature.FixedBytes)
             place result self.now }
     {
         self.endpoint.ask(place)
@@ -69,19 +67,15 @@ impl<C: PublicKey> Node<C> {
     ///
     /// One pass over the frame, one signature verified for each info, and the cost of the call.
     pub fn receive(&mut self, frame: Bytes, now: Duration) -> Received
-        ensures seen { AnswersFrame C.cmp (wire_of C.SIZE C.spelled C.value
-            C.Signature.SIZE C.Signature.spelled C.Signature.value C.verifies)
+        ensures seen { AnswersFrame C.cmp (wire_of C.verifies C.FixedBytes C.Signature.FixedBytes)
             frame (as_nanos now) result self.old self.new }
         ensures unchanged { applies result ≡ false → self.new ≡ self.old }
-        ensures values { TellsValues C.cmp (wire_of C.SIZE C.spelled C.value
-            C.Signature.SIZE C.Signature.spelled C.Signature.value C.verifies)
+        ensures values { TellsValues C.cmp (wire_of C.verifies C.FixedBytes C.Signature.FixedBytes)
             C.IsValue C.Signature.IsValue frame (as_nanos now) result self.old }
-        ensures received { IsReceived C.cmp (wire_of C.SIZE C.spelled C.value
-            C.Signature.SIZE C.Signature.spelled C.Signature.value C.verifies)
+        ensures received { IsReceived C.cmp (wire_of C.verifies C.FixedBytes C.Signature.FixedBytes)
             frame (as_nanos now) result self.old self.new }
         ensures late { AtEach C.cmp self.old (λ m calls. TakesLateAt
-            (wire_of C.SIZE C.spelled C.value
-            C.Signature.SIZE C.Signature.spelled C.Signature.value C.verifies)
+            (wire_of C.verifies C.FixedBytes C.Signature.FixedBytes)
             C.IsValue C.Signature.IsValue m calls frame (as_nanos now) result) }
     {
         self.endpoint.answer(frame, now)
@@ -100,75 +94,63 @@ impl<C: PublicKey> Node<C> {
     /// # Cost
     ///
     /// One pass over the frame, and the cost of the call.
-    pub fn receive_by(
+    pub fn receive_with_verdicts(
         &mut self,
         frame: Bytes,
         now: Duration,
         verdicts: &[bool],
     ) -> Result<Received, Miscounted>
-        ensures seen { IfOk result (λ r. AnswersFrameBy C.cmp (wire_of C.SIZE C.spelled C.value
-            C.Signature.SIZE C.Signature.spelled C.Signature.value C.verifies)
-            verdicts.now frame (as_nanos now) r self.old self.new) }
+        ensures seen { let wire = wire_of C.verifies C.FixedBytes C.Signature.FixedBytes in
+            IfOk result (λ r. AnswersFrameBy C.cmp wire verdicts.now frame (as_nanos now) r
+            self.old self.new) }
         ensures unchanged { IfOk result (λ r. applies r ≡ false → self.new ≡ self.old) }
-        ensures received { IfOk result (λ r. IsReceivedBy C.cmp (wire_of C.SIZE C.spelled C.value
-            C.Signature.SIZE C.Signature.spelled C.Signature.value C.verifies)
-            verdicts.now frame (as_nanos now) r self.old self.new) }
-        ensures counted { let node = standing_of C.cmp (wire_of C.SIZE C.spelled C.value
-            C.Signature.SIZE C.Signature.spelled C.Signature.value C.verifies) self.old in
-            IfOk result (λ r. are_miscounted (wire_of C.SIZE C.spelled C.value
-            C.Signature.SIZE C.Signature.spelled C.Signature.value C.verifies)
-            node frame verdicts.now ≡ true → IsWantOfMemory r) }
-        ensures err { let node = standing_of C.cmp (wire_of C.SIZE C.spelled C.value
-            C.Signature.SIZE C.Signature.spelled C.Signature.value C.verifies) self.old in
-            OnErr result (are_miscounted (wire_of C.SIZE C.spelled C.value
-            C.Signature.SIZE C.Signature.spelled C.Signature.value C.verifies)
-            node frame verdicts.now ≡ true) }
+        ensures received { let wire = wire_of C.verifies C.FixedBytes C.Signature.FixedBytes in
+            IfOk result (λ r. IsReceivedBy C.cmp wire verdicts.now frame (as_nanos now) r
+            self.old self.new) }
+        ensures counted { let wire = wire_of C.verifies C.FixedBytes C.Signature.FixedBytes in
+            let node = standing_of C.cmp wire self.old in
+            IfOk result (λ r. are_miscounted wire node frame verdicts.now ≡ true →
+            IsWantOfMemory r) }
+        ensures err { let wire = wire_of C.verifies C.FixedBytes C.Signature.FixedBytes in
+            let node = standing_of C.cmp wire self.old in
+            OnErr result (are_miscounted wire node frame verdicts.now ≡ true) }
         ensures err_same { OnErr result (self.new ≡ self.old) }
     {
-        self.endpoint.answer_by(frame, now, verdicts)
+        self.endpoint.answer_with_verdicts(frame, now, verdicts)
     }
 
-    /// Processes a frame that was received at the time `now` as [`Node::receive_by`] does, but the
+    /// Processes a frame that was received at the time `now` as [`Node::receive_with_verdicts`] does, but the
     /// infos of a reply aren't encoded.
     ///
     /// # Errors
     ///
-    /// Those of [`Node::receive_by`].
+    /// Those of [`Node::receive_with_verdicts`].
     ///
     /// # Cost
     ///
     /// One pass over the frame, and the cost of the call.
-    pub fn answer_by(
+    pub fn answer_with_verdicts(
         &mut self,
         frame: Bytes,
         now: Duration,
         verdicts: &[bool],
     ) -> Result<Answer<C>, Miscounted>
-        ensures seen { IfOk result (λ a. AnswersFrameBy C.cmp (wire_of C.SIZE C.spelled C.value
-            C.Signature.SIZE C.Signature.spelled C.Signature.value C.verifies)
-            verdicts.now frame (as_nanos now) (received_of (wire_of C.SIZE C.spelled C.value
-            C.Signature.SIZE C.Signature.spelled C.Signature.value C.verifies) a)
-            self.old self.new) }
-        ensures received { IfOk result (λ a. IsReceivedBy C.cmp (wire_of C.SIZE C.spelled C.value
-            C.Signature.SIZE C.Signature.spelled C.Signature.value C.verifies)
-            verdicts.now frame (as_nanos now) (received_of (wire_of C.SIZE C.spelled C.value
-            C.Signature.SIZE C.Signature.spelled C.Signature.value C.verifies) a)
-            self.old self.new) }
-        ensures unchanged { IfOk result (λ a. applies (received_of (wire_of C.SIZE C.spelled C.value
-            C.Signature.SIZE C.Signature.spelled C.Signature.value C.verifies) a) ≡ false
-            → self.new ≡ self.old) }
-        ensures counted { let node = standing_of C.cmp (wire_of C.SIZE C.spelled C.value
-            C.Signature.SIZE C.Signature.spelled C.Signature.value C.verifies) self.old in
-            IfOk result (λ a. are_miscounted (wire_of C.SIZE C.spelled C.value
-            C.Signature.SIZE C.Signature.spelled C.Signature.value C.verifies)
-            node frame verdicts.now ≡ true → IsWantOfMemory (received_of (wire_of C.SIZE C.spelled C.value
-            C.Signature.SIZE C.Signature.spelled C.Signature.value C.verifies) a)) }
+        ensures seen { let wire = wire_of C.verifies C.FixedBytes C.Signature.FixedBytes in
+            IfOk result (λ a. AnswersFrameBy C.cmp wire verdicts.now frame (as_nanos now)
+            (received_of wire a) self.old self.new) }
+        ensures received { let wire = wire_of C.verifies C.FixedBytes C.Signature.FixedBytes in
+            IfOk result (λ a. IsReceivedBy C.cmp wire verdicts.now frame (as_nanos now)
+            (received_of wire a) self.old self.new) }
+        ensures unchanged { let wire = wire_of C.verifies C.FixedBytes C.Signature.FixedBytes in
+            IfOk result (λ a. applies (received_of wire a) ≡ false → self.new ≡ self.old) }
+        ensures counted { let wire = wire_of C.verifies C.FixedBytes C.Signature.FixedBytes in
+            let node = standing_of C.cmp wire self.old in
+            IfOk result (λ a. are_miscounted wire node frame verdicts.now ≡ true →
+            IsWantOfMemory (received_of wire a)) }
         ensures few { IfOk result AreFew }
-        ensures err { let node = standing_of C.cmp (wire_of C.SIZE C.spelled C.value
-            C.Signature.SIZE C.Signature.spelled C.Signature.value C.verifies) self.old in
-            OnErr result (are_miscounted (wire_of C.SIZE C.spelled C.value
-            C.Signature.SIZE C.Signature.spelled C.Signature.value C.verifies)
-            node frame verdicts.now ≡ true) }
+        ensures err { let wire = wire_of C.verifies C.FixedBytes C.Signature.FixedBytes in
+            let node = standing_of C.cmp wire self.old in
+            OnErr result (are_miscounted wire node frame verdicts.now ≡ true) }
         ensures err_same { OnErr result (self.new ≡ self.old) }
     {
         self.endpoint.answer_frame(frame, now, verdicts)
@@ -198,12 +180,12 @@ impl<C: PublicKey> Node<C> {
         )
     }
 
-    /// Processes a frame that was decoded, at the time `now`, as [`Node::answer_by`] does. It is
+    /// Processes a frame that was decoded, at the time `now`, as [`Node::answer_with_verdicts`] does. It is
     /// decoded anew only if that was done under other limits.
     ///
     /// # Errors
     ///
-    /// Those of [`Node::receive_by`].
+    /// Those of [`Node::receive_with_verdicts`].
     ///
     /// # Cost
     ///
@@ -214,31 +196,22 @@ impl<C: PublicKey> Node<C> {
         now: Duration,
         verdicts: &[bool],
     ) -> Result<Answer<C>, Miscounted>
-        ensures seen { IfOk result (λ a. AnswersFrameBy C.cmp (wire_of C.SIZE C.spelled C.value
-            C.Signature.SIZE C.Signature.spelled C.Signature.value C.verifies)
-            verdicts.now decoded.frame (as_nanos now) (received_of (wire_of C.SIZE C.spelled C.value
-            C.Signature.SIZE C.Signature.spelled C.Signature.value C.verifies) a)
-            self.old self.new) }
-        ensures received { IfOk result (λ a. IsReceivedBy C.cmp (wire_of C.SIZE C.spelled C.value
-            C.Signature.SIZE C.Signature.spelled C.Signature.value C.verifies)
-            verdicts.now decoded.frame (as_nanos now) (received_of (wire_of C.SIZE C.spelled C.value
-            C.Signature.SIZE C.Signature.spelled C.Signature.value C.verifies) a)
-            self.old self.new) }
-        ensures unchanged { IfOk result (λ a. applies (received_of (wire_of C.SIZE C.spelled C.value
-            C.Signature.SIZE C.Signature.spelled C.Signature.value C.verifies) a) ≡ false
-            → self.new ≡ self.old) }
-        ensures counted { let node = standing_of C.cmp (wire_of C.SIZE C.spelled C.value
-            C.Signature.SIZE C.Signature.spelled C.Signature.value C.verifies) self.old in
-            IfOk result (λ a. are_miscounted (wire_of C.SIZE C.spelled C.value
-            C.Signature.SIZE C.Signature.spelled C.Signature.value C.verifies)
-            node decoded.frame verdicts.now ≡ true → IsWantOfMemory (received_of (wire_of C.SIZE C.spelled C.value
-            C.Signature.SIZE C.Signature.spelled C.Signature.value C.verifies) a)) }
+        ensures seen { let wire = wire_of C.verifies C.FixedBytes C.Signature.FixedBytes in
+            IfOk result (λ a. AnswersFrameBy C.cmp wire verdicts.now decoded.frame (as_nanos now)
+            (received_of wire a) self.old self.new) }
+        ensures received { let wire = wire_of C.verifies C.FixedBytes C.Signature.FixedBytes in
+            IfOk result (λ a. IsReceivedBy C.cmp wire verdicts.now decoded.frame (as_nanos now)
+            (received_of wire a) self.old self.new) }
+        ensures unchanged { let wire = wire_of C.verifies C.FixedBytes C.Signature.FixedBytes in
+            IfOk result (λ a. applies (received_of wire a) ≡ false → self.new ≡ self.old) }
+        ensures counted { let wire = wire_of C.verifies C.FixedBytes C.Signature.FixedBytes in
+            let node = standing_of C.cmp wire self.old in
+            IfOk result (λ a. are_miscounted wire node decoded.frame verdicts.now ≡ true →
+            IsWantOfMemory (received_of wire a)) }
         ensures few { IfOk result AreFew }
-        ensures err { let node = standing_of C.cmp (wire_of C.SIZE C.spelled C.value
-            C.Signature.SIZE C.Signature.spelled C.Signature.value C.verifies) self.old in
-            OnErr result (are_miscounted (wire_of C.SIZE C.spelled C.value
-            C.Signature.SIZE C.Signature.spelled C.Signature.value C.verifies)
-            node decoded.frame verdicts.now ≡ true) }
+        ensures err { let wire = wire_of C.verifies C.FixedBytes C.Signature.FixedBytes in
+            let node = standing_of C.cmp wire self.old in
+            OnErr result (are_miscounted wire node decoded.frame verdicts.now ≡ true) }
         ensures err_same { OnErr result (self.new ≡ self.old) }
     {
         self.endpoint.answer_decoded(decoded, now, verdicts)

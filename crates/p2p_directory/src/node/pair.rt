@@ -10,8 +10,7 @@ ghost use Rattle.p2p_directory.specs.Nodes.{NodeStandsAt, made_of};
 ghost use Rattle.p2p_directory.specs.Pairs.{ArePairAnswers, calls_left, commands_in, command_in};
 ghost use Rattle.p2p_directory.specs.Pairs.{replies_in, reply_in};
 ghost use Rattle.p2p_directory.specs.Pairs as pairs;
-ghost use Rattle.p2p_directory.specs.Laws.TwoNodes.{KeepPairExchanges, KeepSigned, KeepGreetings};
-ghost use Rattle.p2p_directory.specs.Laws.TwoNodes.{KeepReplies, KeepLate, KeepCarried};
+ghost use Rattle.p2p_directory.specs.Laws.TwoNodes.{LawsOfPair};
 ghost use Rattle.p2p_directory.specs.Private.Networks.{is_of_node};
 
 use crate::node::Node;
@@ -105,30 +104,8 @@ pub struct PairRun<C: PublicKey> {
 /// a set at the position. A `Frame` and an `Exchange` get `Memory` only if [`Node::receive`] and
 /// [`exchange`](crate::node::exchange) may return it.
 ///
-/// The replies keep these rules, if both local infos, and the infos of each command and of each
-/// frame that was accepted before, are signed in the namespaces of both nodes:
-///
-/// - Exchanges: an exchange is `Applied` with exactly the wanted infos that may be shared, unless
-///   an allocation fails, under these premises. The replier retains a set of the index of the
-///   asker's with the same primary peers. The bits and the infos are within the limits of both. The
-///   replier's time is at most the asker's bound after the asker's. Afterwards the asker's info of
-///   each of their peers is at least as new. The same exchange directly repeated is `Applied` and
-///   changes nothing, unless an allocation fails.
-/// - Frames: each result of an exchange, of any infos, is what its three frames come to, as for
-///   [`exchange`](crate::node::exchange), unless an allocation fails.
-/// - Infos: each info that either node holds is signed in the namespaces of both.
-/// - Greetings: a frame with the greeting of the other node's local info is `Greeted`, unless an
-///   allocation fails, if the local keys differ and its timestamp is within the bound.
-/// - Replies: let a `Frame` pass to a node the bits that the other was earlier asked for. Let it
-///   retain a set of their index with the primary peers that the set at the position then had. Its
-///   reply encodes infos that are signed in the namespaces of both, none with the other's key, none
-///   with a timestamp above the present milliseconds.
-/// - Late frames: a `Frame` of such infos to that other node, however late and however often it
-///   arrives, is `Applied` with their number, unless an allocation fails. Their number must be
-///   within its limit and its count, and the time of the reply at most its bound ahead. Afterwards
-///   its info of each of their peers that has a record is at least as new. Nothing changes if all
-///   were so before, or by a copy that follows at once. What else was passed to either node doesn't
-///   matter here.
+/// The replies keep the laws of exchanges, frames, infos, greetings and late frames, which
+/// docs/PROOFS.md has, with their premises, below "Nodes and gossip".
 ///
 /// Both resulting nodes must be consumed by [`Node::finish`] or [`Node::parts`].
 ///
@@ -154,39 +131,18 @@ pub fn run_pair<C: PublicKey>(
     requires left_bits { left.payload.max_bit_vec < 2 ^ 32 }
     requires right_sets { non_zero_usize_get right.cfg.max_sets < 2 ^ 64 - 1 }
     requires right_bits { right.payload.max_bit_vec < 2 ^ 32 }
-    ensures answers { IfOk result (λ run. ArePairAnswers (wire_of C.SIZE C.spelled C.value
-        C.Signature.SIZE C.Signature.spelled C.Signature.value C.verifies)
-        (made_of C.cmp left) (made_of C.cmp right) [] commands.items run.replies.items) }
-    ensures left { IfOk result (λ run. NodeStandsAt (made_of C.cmp left)
-        (calls_left (wire_of C.SIZE C.spelled C.value
-        C.Signature.SIZE C.Signature.spelled C.Signature.value C.verifies)
-        (made_of C.cmp left) (made_of C.cmp right) commands.items run.replies.items side.Left)
-        run.left) }
-    ensures right { IfOk result (λ run. NodeStandsAt (made_of C.cmp right)
-        (calls_left (wire_of C.SIZE C.spelled C.value
-        C.Signature.SIZE C.Signature.spelled C.Signature.value C.verifies)
-        (made_of C.cmp left) (made_of C.cmp right) commands.items run.replies.items side.Right)
-        run.right) }
-    ensures exchanges { IfOk result (λ run. KeepPairExchanges (wire_of C.SIZE C.spelled C.value
-        C.Signature.SIZE C.Signature.spelled C.Signature.value C.verifies)
-        (made_of C.cmp left) (made_of C.cmp right) [] commands.items run.replies.items) }
-    ensures carried { IfOk result (λ run. KeepCarried (wire_of C.SIZE C.spelled C.value
-        C.Signature.SIZE C.Signature.spelled C.Signature.value C.verifies)
-        (made_of C.cmp left) (made_of C.cmp right) [] commands.items run.replies.items) }
-    ensures infos { IfOk result (λ run. KeepSigned (wire_of C.SIZE C.spelled C.value
-        C.Signature.SIZE C.Signature.spelled C.Signature.value C.verifies)
-        (made_of C.cmp left) (made_of C.cmp right) [] commands.items run.replies.items) }
-    ensures greetings { IfOk result (λ run. KeepGreetings (wire_of C.SIZE C.spelled C.value
-        C.Signature.SIZE C.Signature.spelled C.Signature.value C.verifies)
-        (made_of C.cmp left) (made_of C.cmp right) [] commands.items run.replies.items) }
-    ensures infos_replied { IfOk result (λ run. KeepReplies (wire_of C.SIZE C.spelled C.value
-        C.Signature.SIZE C.Signature.spelled C.Signature.value C.verifies)
-        C.IsValue C.Signature.IsValue (made_of C.cmp left) (made_of C.cmp right)
-        [] commands.items run.replies.items) }
-    ensures late { IfOk result (λ run. KeepLate (wire_of C.SIZE C.spelled C.value
-        C.Signature.SIZE C.Signature.spelled C.Signature.value C.verifies)
-        C.IsValue C.Signature.IsValue (made_of C.cmp left) (made_of C.cmp right)
-        [] commands.items run.replies.items) }
+    ensures answers { let wire = wire_of C.verifies C.FixedBytes C.Signature.FixedBytes in
+        IfOk result (λ run. ArePairAnswers wire (made_of C.cmp left) (made_of C.cmp right) []
+        commands.items run.replies.items) }
+    ensures left { let wire = wire_of C.verifies C.FixedBytes C.Signature.FixedBytes in
+        IfOk result (λ run. NodeStandsAt (made_of C.cmp left) (calls_left wire (made_of C.cmp left)
+        (made_of C.cmp right) commands.items run.replies.items side.Left) run.left) }
+    ensures right { let wire = wire_of C.verifies C.FixedBytes C.Signature.FixedBytes in
+        IfOk result (λ run. NodeStandsAt (made_of C.cmp right) (calls_left wire (made_of C.cmp left)
+        (made_of C.cmp right) commands.items run.replies.items side.Right) run.right) }
+    ensures laws { let wire = wire_of C.verifies C.FixedBytes C.Signature.FixedBytes in
+        IfOk result (λ run. LawsOfPair wire C.IsValue C.Signature.IsValue (made_of C.cmp left)
+        (made_of C.cmp right) commands.items run.replies.items) }
 {
     let replies = Vec::with_capacity(alloc, commands.len())?;
     let setups = both(alloc, left, right)?;

@@ -8,12 +8,7 @@ use Rattle.p2p_directory.specs.Private.Serving.{has_slot_for}
 use Rattle.p2p_directory.specs.Private.Slots.{held_in}
 use Rattle.p2p_directory.proofs.Definitions.Keys.{exact_from}
 use Rattle.p2p_directory.proofs.LawsOfRuns.Forgotten
-use Rattle.p2p_directory.proofs.LawsOfRuns.GrantRuns.{keep_unless_forgotten, keep_cooldown}
-use Rattle.p2p_directory.proofs.LawsOfRuns.BlockRuns.{keep_last_block, keep_blocks}
-use Rattle.p2p_directory.proofs.LawsOfRuns.DialRuns.{keep_dialable}
-use Rattle.p2p_directory.proofs.LawsOfRuns.IsolationRuns.{keep_alone}
-use Rattle.p2p_directory.proofs.LawsOfRuns.OrderRuns.{keep_order}
-use Rattle.p2p_directory.proofs.LawsOfRuns.BoundRuns.{keep_bound}
+use Rattle.p2p_directory.proofs.LawsOfRuns.Laws.{laws_of_run}
 use Rattle.p2p_directory.proofs.Refinement.KnowledgeRefines.{tie_bits}
 use Rattle.p2p_directory.proofs.Reservations.Served.{are_held, stands_at_start}
 use Rattle.p2p_tracker.proofs.SetsAndRecords.Moved.{item_left, item_moved, item_has, all_moved}
@@ -86,91 +81,49 @@ loop-command-preserved g c =
       slots = λ k d lt. room_stays g.C.Ord.cmp c.loop-command.server.slots c.serve.new.self.slots _ c.serve.ensures.slots (kept.slots k d lt);
     }
 
+all_taken : (g : _) (c : goal.After-into_run g) →
+    c.loop-command.yielded ≡ c.args.commands.items
+all_taken g c =
+    let rest = c.loop-command.command-iterator.rest in
+    all_moved c.loop-command.yielded rest.items c.args.commands.items
+    c.loop-command.invariant.rest (sym rest.ok.0 ∙ c.in-None.ensures.steps.0)
+
 pub returns-clause-answers : goal.returns-clause-answers
 returns-clause-answers g c =
     let s = settings g.C.Ord.cmp c.args.bootstrappers.items c.args.myself c.args.cfg in
-    let kept = c.loop-command.invariant in
-    let rest = c.loop-command.command-iterator.rest in
-    let all = all_moved c.loop-command.yielded rest.items c.args.commands.items kept.rest (sym rest.ok.0 ∙ c.in-None.ensures.steps.0) in
-    rw c.into_run.ensures.replies (subst (λ xs. AreAnswers s [] (calls_of xs) c.loop-command.replies.items) all kept.answers)
+    rw c.into_run.ensures.replies (subst (λ xs. AreAnswers s [] (calls_of xs) c.loop-command.replies.items)
+    (all_taken g c) c.loop-command.invariant.answers)
 
 pub returns-clause-directory : goal.returns-clause-directory
 returns-clause-directory g c =
     let s = settings g.C.Ord.cmp c.args.bootstrappers.items c.args.myself c.args.cfg in
     let kept = c.loop-command.invariant in
-    let rest = c.loop-command.command-iterator.rest in
-    let all = all_moved c.loop-command.yielded rest.items c.args.commands.items kept.rest (sym rest.ok.0 ∙ c.in-None.ensures.steps.0) in
     rw (c.into_run.ensures.replies, c.into_run.ensures.directory)
-    (subst (λ xs. Refines s (world_after s (accepted s [] (calls_of xs) c.loop-command.replies.items)) c.loop-command.server.directory) all kept.left.refines)
+    (subst (λ xs. Refines s (world_after s (accepted s [] (calls_of xs) c.loop-command.replies.items)) c.loop-command.server.directory) (all_taken g c) kept.left.refines)
 
 pub returns-clause-bits : goal.returns-clause-bits
 returns-clause-bits g c = λ place.
     let s = settings g.C.Ord.cmp c.args.bootstrappers.items c.args.myself c.args.cfg in
     let kept = c.loop-command.invariant in
-    let rest = c.loop-command.command-iterator.rest in
-    let all = all_moved c.loop-command.yielded rest.items c.args.commands.items kept.rest (sym rest.ok.0 ∙ c.in-None.ensures.steps.0) in
     let at = accepted s [] (calls_of c.loop-command.yielded) c.loop-command.replies.items in
     let same = tie_bits s kept.left.limit_fits (world_after s at) c.loop-command.server.directory place (Forgotten.absent s at) kept.left.refines in
     rw (c.into_run.ensures.replies, c.into_run.ensures.directory)
     (subst (λ xs. bit_vec_at s.cmp c.loop-command.server.directory place
-    ≡ bit_vec_in s (world_after s (accepted s [] (calls_of xs) c.loop-command.replies.items)) place) all same)
+    ≡ bit_vec_in s (world_after s (accepted s [] (calls_of xs) c.loop-command.replies.items)) place) (all_taken g c) same)
 
 pub returns-clause-held : goal.returns-clause-held
 returns-clause-held g c =
     let s = settings g.C.Ord.cmp c.args.bootstrappers.items c.args.myself c.args.cfg in
     let kept = c.loop-command.invariant in
-    let rest = c.loop-command.command-iterator.rest in
-    let all = all_moved c.loop-command.yielded rest.items c.args.commands.items kept.rest (sym rest.ok.0 ∙ c.in-None.ensures.steps.0) in
     let holds = subst
     (λ xs. Holds s (world_after s (accepted s [] (calls_of xs) c.loop-command.replies.items))
-    (held_in g.C.Ord.cmp c.loop-command.server.slots)) all kept.left.holds in
+    (held_in g.C.Ord.cmp c.loop-command.server.slots)) (all_taken g c) kept.left.holds in
     let held = c.into_run.ensures.held in
     rw c.into_run.ensures.replies (record { peers = λ q. ap is_some (held q) ∙ holds.peers q; metadata = λ q. held q ∙ holds.metadata q })
 
--- WHAT THE REPLIES SAY OF EACH OTHER
-
-pub returns-clause-spaced : goal.returns-clause-spaced
-returns-clause-spaced g c = λ p.
+pub returns-clause-laws : goal.returns-clause-laws
+returns-clause-laws g c =
     let s = settings g.C.Ord.cmp c.args.bootstrappers.items c.args.myself c.args.cfg in
-    keep_unless_forgotten s (exact_from s g.C.Ord.cmp refl g.met.C.PublicKey.exact) p
+    laws_of_run s (exact_from s g.C.Ord.cmp refl g.met.C.PublicKey.exact)
     (calls_of c.args.commands.items) c.into_run.result.replies.items (returns-clause-answers g c)
-
-pub returns-clause-lasting : goal.returns-clause-lasting
-returns-clause-lasting g c = λ p.
-    let s = settings g.C.Ord.cmp c.args.bootstrappers.items c.args.myself c.args.cfg in
-    keep_cooldown s (exact_from s g.C.Ord.cmp refl g.met.C.PublicKey.exact) p (calls_of c.args.commands.items)
-    c.into_run.result.replies.items (returns-clause-answers g c)
-
-pub returns-clause-last_block : goal.returns-clause-last_block
-returns-clause-last_block g c = λ p.
-    let s = settings g.C.Ord.cmp c.args.bootstrappers.items c.args.myself c.args.cfg in
-    keep_last_block s (exact_from s g.C.Ord.cmp refl g.met.C.PublicKey.exact) p (calls_of c.args.commands.items)
-    c.into_run.result.replies.items (returns-clause-answers g c)
-
-pub returns-clause-blocks : goal.returns-clause-blocks
-returns-clause-blocks g c = λ p.
-    let s = settings g.C.Ord.cmp c.args.bootstrappers.items c.args.myself c.args.cfg in
-    keep_blocks s p (calls_of c.args.commands.items) c.into_run.result.replies.items (returns-clause-last_block g c p)
-
-pub returns-clause-dials : goal.returns-clause-dials
-returns-clause-dials g c =
-    let s = settings g.C.Ord.cmp c.args.bootstrappers.items c.args.myself c.args.cfg in
-    keep_dialable s g.met.C.Ord.total (exact_from s g.C.Ord.cmp refl g.met.C.PublicKey.exact)
-    c.args.cfg.max_sets.ok [] (calls_of c.args.commands.items) c.into_run.result.replies.items
-    (returns-clause-answers g c)
-
-pub returns-clause-isolation : goal.returns-clause-isolation
-returns-clause-isolation g c = λ p.
-    let s = settings g.C.Ord.cmp c.args.bootstrappers.items c.args.myself c.args.cfg in
-    keep_alone s c.args.cfg.max_sets.ok (exact_from s g.C.Ord.cmp refl g.met.C.PublicKey.exact) p
-    (calls_of c.args.commands.items) c.into_run.result.replies.items (returns-clause-answers g c)
-
-pub returns-clause-order : goal.returns-clause-order
-returns-clause-order g c =
-    let s = settings g.C.Ord.cmp c.args.bootstrappers.items c.args.myself c.args.cfg in
-    keep_order s c.args.cfg.max_sets.ok (calls_of c.args.commands.items) c.into_run.result.replies.items (returns-clause-answers g c)
-
-pub returns-clause-bounds : goal.returns-clause-bounds
-returns-clause-bounds g c = λ n.
-    let s = settings g.C.Ord.cmp c.args.bootstrappers.items c.args.myself c.args.cfg in
-    keep_bound s n g.met.C.Ord.total (calls_of c.args.commands.items) c.into_run.result.replies.items (returns-clause-answers g c)
+    g.met.C.Ord.total c.args.cfg.max_sets.ok

@@ -37,14 +37,12 @@ impl<C: PublicKey> Endpoint<C> {
         asker_now: Duration,
         replier_now: Duration,
     ) -> Exchanged<C>
-        ensures seen { Exchanges C.cmp (wire_of C.SIZE C.spelled C.value
-            C.Signature.SIZE C.Signature.spelled C.Signature.value C.verifies)
+        ensures seen { Exchanges C.cmp (wire_of C.verifies C.FixedBytes C.Signature.FixedBytes)
             place (as_nanos asker_now) (as_nanos replier_now) result
             (node_of self.old) (node_of replier.now) (node_of self.new) }
         ensures unchanged { infos_applied result ≡ None → self.new ≡ self.old }
         ensures slots { self.new.slots ≡ self.old.slots }
-        ensures spelled { let wire = wire_of C.SIZE C.spelled C.value
-            C.Signature.SIZE C.Signature.spelled C.Signature.value C.verifies in
+        ensures spelled { let wire = wire_of C.verifies C.FixedBytes C.Signature.FixedBytes in
             UnlessRefused (CanBeSpelled C.IsValue C.Signature.IsValue
             (standing_of C.cmp wire (node_of self.old))
             (standing_of C.cmp wire (node_of replier.now)) place (as_nanos replier_now)) result }
@@ -67,8 +65,7 @@ impl<C: PublicKey> Endpoint<C> {
         requires { SpellsBits (payload_spelling C.spelled C.Signature.spelled) frame }
         ensures answer { (v : BitVec) → HasSpelling v →
             frame ≡ payload_spelling C.spelled C.Signature.spelled (said.BitVec v) →
-            let wire = wire_of C.SIZE C.spelled C.value
-            C.Signature.SIZE C.Signature.spelled C.Signature.value C.verifies in
+            let wire = wire_of C.verifies C.FixedBytes C.Signature.FixedBytes in
             IsExchangeAnswer true (asked_at (standing_of C.cmp wire (node_of self.old))
             (standing_of C.cmp wire (node_of replier.now))
             (as_nanos asker_now) (as_nanos replier_now) (Some v)) result }
@@ -76,12 +73,10 @@ impl<C: PublicKey> Endpoint<C> {
             (node_of self.old) (infos_applied result) (node_of self.new) }
         ensures unchanged { infos_applied result ≡ None → self.new ≡ self.old }
         ensures slots { self.new.slots ≡ self.old.slots }
-        ensures spelled { (v : BitVec) → HasSpelling v →
-            frame ≡ payload_spelling C.spelled C.Signature.spelled (said.BitVec v) →
-            UnlessRefused (CanBeReplied C.IsValue C.Signature.IsValue
-            (standing_of C.cmp (wire_of C.SIZE C.spelled C.value
-            C.Signature.SIZE C.Signature.spelled C.Signature.value C.verifies)
-            (node_of replier.now)) (as_nanos replier_now) v) result }
+        ensures spelled { let wire = wire_of C.verifies C.FixedBytes C.Signature.FixedBytes in
+            (v : BitVec) → HasSpelling v → frame ≡ payload_spelling C.spelled C.Signature.spelled
+            (said.BitVec v) → UnlessRefused (CanBeReplied C.IsValue C.Signature.IsValue
+            (standing_of C.cmp wire (node_of replier.now)) (as_nanos replier_now) v) result }
     {
         match replier.reply_to(frame, replier_now) {
             Ok(reply) => self.take_reply(reply, asker_now),
@@ -92,19 +87,15 @@ impl<C: PublicKey> Endpoint<C> {
     // The replier's part: reads a frame of bits, and replies.
     fn reply_to(&self, frame: Bytes, now: Duration) -> Result<Bytes, Exchanged<C>>
         requires { SpellsBits (payload_spelling C.spelled C.Signature.spelled) frame }
-        ensures replies { (v : BitVec) → HasSpelling v →
-            frame ≡ payload_spelling C.spelled C.Signature.spelled (said.BitVec v) →
-            RepliesToBits C.IsValue C.Signature.IsValue
-            (payload_spelling C.spelled C.Signature.spelled)
-            (λ asker asker_now. asked_at asker (standing_of C.cmp (wire_of C.SIZE C.spelled C.value
-            C.Signature.SIZE C.Signature.spelled C.Signature.value C.verifies)
-            (node_of self.now)) asker_now (as_nanos now) (Some v)) result }
-        ensures spelled { (v : BitVec) → HasSpelling v →
-            frame ≡ payload_spelling C.spelled C.Signature.spelled (said.BitVec v) →
-            UnlessReplyRefused (CanBeReplied C.IsValue C.Signature.IsValue
-            (standing_of C.cmp (wire_of C.SIZE C.spelled C.value
-            C.Signature.SIZE C.Signature.spelled C.Signature.value C.verifies)
-            (node_of self.now)) (as_nanos now) v) result }
+        ensures replies { let wire = wire_of C.verifies C.FixedBytes C.Signature.FixedBytes in
+            (v : BitVec) → HasSpelling v → frame ≡ payload_spelling C.spelled C.Signature.spelled
+            (said.BitVec v) → RepliesToBits C.IsValue C.Signature.IsValue
+            (payload_spelling C.spelled C.Signature.spelled) (λ asker asker_now. asked_at asker
+            (standing_of C.cmp wire (node_of self.now)) asker_now (as_nanos now) (Some v)) result }
+        ensures spelled { let wire = wire_of C.verifies C.FixedBytes C.Signature.FixedBytes in
+            (v : BitVec) → HasSpelling v → frame ≡ payload_spelling C.spelled C.Signature.spelled
+            (said.BitVec v) → UnlessReplyRefused (CanBeReplied C.IsValue C.Signature.IsValue
+            (standing_of C.cmp wire (node_of self.now)) (as_nanos now) v) result }
     {
         match self.read(frame) {
             Ok(Payload::BitVec(bits)) => self.reply_with(&bits, now),
@@ -136,12 +127,11 @@ impl<C: PublicKey> Endpoint<C> {
     fn take_reply(&mut self, reply: Bytes, now: Duration) -> Exchanged<C>
         requires { SpellsInfos C.IsValue C.Signature.IsValue
             (payload_spelling C.spelled C.Signature.spelled) reply }
-        ensures answer { (infos : List (Info C C.Signature)) →
-            HaveSpelling C.IsValue C.Signature.IsValue infos →
+        ensures answer { let wire = wire_of C.verifies C.FixedBytes C.Signature.FixedBytes in
+            (infos : List (Info C C.Signature)) → HaveSpelling C.IsValue C.Signature.IsValue infos →
             reply ≡ payload_spelling C.spelled C.Signature.spelled (said.Peers infos) →
-            IsExchangeAnswer true (replied_at (standing_of C.cmp (wire_of C.SIZE C.spelled C.value
-            C.Signature.SIZE C.Signature.spelled C.Signature.value C.verifies)
-            (node_of self.old)) (as_nanos now) (Some infos)) result }
+            IsExchangeAnswer true (replied_at (standing_of C.cmp wire (node_of self.old))
+            (as_nanos now) (Some infos)) result }
         ensures left { IsLeft C.cmp
             (node_of self.old) (infos_applied result) (node_of self.new) }
         ensures unchanged { infos_applied result ≡ None → self.new ≡ self.old }

@@ -40,12 +40,10 @@ use std::time::Duration;
 impl<C: PublicKey> Endpoint<C> {
     /// Processes a frame that was received at this time.
     pub fn answer(&mut self, frame: Bytes, now: Duration) -> Received
-        ensures seen { AnswersFrame C.cmp (wire_of C.SIZE C.spelled C.value
-            C.Signature.SIZE C.Signature.spelled C.Signature.value C.verifies)
+        ensures seen { AnswersFrame C.cmp (wire_of C.verifies C.FixedBytes C.Signature.FixedBytes)
             frame (as_nanos now) result (node_of self.old) (node_of self.new) }
         ensures unchanged { applies result ≡ false → self.new ≡ self.old }
-        ensures values { TellsValues C.cmp (wire_of C.SIZE C.spelled C.value
-            C.Signature.SIZE C.Signature.spelled C.Signature.value C.verifies)
+        ensures values { TellsValues C.cmp (wire_of C.verifies C.FixedBytes C.Signature.FixedBytes)
             C.IsValue C.Signature.IsValue frame (as_nanos now) result (node_of self.old) }
         ensures slots { self.new.slots ≡ self.old.slots }
     {
@@ -62,26 +60,23 @@ impl<C: PublicKey> Endpoint<C> {
     /// Processes a frame that was received at this time, given whether the signatures of its infos
     /// are valid. There must be as many verification results as infos in the frame, if it encodes a
     /// payload.
-    pub fn answer_by(
+    pub fn answer_with_verdicts(
         &mut self,
         frame: Bytes,
         now: Duration,
         verdicts: &[bool],
     ) -> Result<Received, Miscounted>
-        ensures seen { IfOk result (λ r. AnswersFrameBy C.cmp (wire_of C.SIZE C.spelled C.value
-            C.Signature.SIZE C.Signature.spelled C.Signature.value C.verifies)
-            verdicts.now frame (as_nanos now) r (node_of self.old) (node_of self.new)) }
+        ensures seen { let wire = wire_of C.verifies C.FixedBytes C.Signature.FixedBytes in
+            IfOk result (λ r. AnswersFrameBy C.cmp wire verdicts.now frame (as_nanos now) r
+            (node_of self.old) (node_of self.new)) }
         ensures unchanged { IfOk result (λ r. applies r ≡ false → self.new ≡ self.old) }
-        ensures counted { let node = standing_of C.cmp (wire_of C.SIZE C.spelled C.value
-            C.Signature.SIZE C.Signature.spelled C.Signature.value C.verifies) (node_of self.old) in
-            IfOk result (λ r. are_miscounted (wire_of C.SIZE C.spelled C.value
-            C.Signature.SIZE C.Signature.spelled C.Signature.value C.verifies)
-            node frame verdicts.now ≡ true → IsWantOfMemory r) }
-        ensures err { let node = standing_of C.cmp (wire_of C.SIZE C.spelled C.value
-            C.Signature.SIZE C.Signature.spelled C.Signature.value C.verifies) (node_of self.old) in
-            OnErr result (are_miscounted (wire_of C.SIZE C.spelled C.value
-            C.Signature.SIZE C.Signature.spelled C.Signature.value C.verifies)
-            node frame verdicts.now ≡ true) }
+        ensures counted { let wire = wire_of C.verifies C.FixedBytes C.Signature.FixedBytes in
+            let node = standing_of C.cmp wire (node_of self.old) in
+            IfOk result (λ r. are_miscounted wire node frame verdicts.now ≡ true →
+            IsWantOfMemory r) }
+        ensures err { let wire = wire_of C.verifies C.FixedBytes C.Signature.FixedBytes in
+            let node = standing_of C.cmp wire (node_of self.old) in
+            OnErr result (are_miscounted wire node frame verdicts.now ≡ true) }
         ensures err_same { OnErr result (self.new ≡ self.old) }
         ensures slots { self.new.slots ≡ self.old.slots }
     {
@@ -92,33 +87,26 @@ impl<C: PublicKey> Endpoint<C> {
         }
     }
 
-    /// Processes a frame as [`Endpoint::answer_by`] does, but the infos of a reply aren't encoded.
+    /// Processes a frame as [`Endpoint::answer_with_verdicts`] does, but the infos of a reply aren't encoded.
     pub fn answer_frame(
         &mut self,
         frame: Bytes,
         now: Duration,
         verdicts: &[bool],
     ) -> Result<Answer<C>, Miscounted>
-        ensures seen { IfOk result (λ a. AnswersFrameBy C.cmp (wire_of C.SIZE C.spelled C.value
-            C.Signature.SIZE C.Signature.spelled C.Signature.value C.verifies)
-            verdicts.now frame (as_nanos now) (received_of (wire_of C.SIZE C.spelled C.value
-            C.Signature.SIZE C.Signature.spelled C.Signature.value C.verifies) a)
-            (node_of self.old) (node_of self.new)) }
-        ensures unchanged { IfOk result (λ a. applies (received_of (wire_of C.SIZE C.spelled C.value
-            C.Signature.SIZE C.Signature.spelled C.Signature.value C.verifies) a) ≡ false
-            → self.new ≡ self.old) }
-        ensures counted { let node = standing_of C.cmp (wire_of C.SIZE C.spelled C.value
-            C.Signature.SIZE C.Signature.spelled C.Signature.value C.verifies) (node_of self.old) in
-            IfOk result (λ a. are_miscounted (wire_of C.SIZE C.spelled C.value
-            C.Signature.SIZE C.Signature.spelled C.Signature.value C.verifies)
-            node frame verdicts.now ≡ true → IsWantOfMemory (received_of (wire_of C.SIZE C.spelled C.value
-            C.Signature.SIZE C.Signature.spelled C.Signature.value C.verifies) a)) }
+        ensures seen { let wire = wire_of C.verifies C.FixedBytes C.Signature.FixedBytes in
+            IfOk result (λ a. AnswersFrameBy C.cmp wire verdicts.now frame (as_nanos now)
+            (received_of wire a) (node_of self.old) (node_of self.new)) }
+        ensures unchanged { let wire = wire_of C.verifies C.FixedBytes C.Signature.FixedBytes in
+            IfOk result (λ a. applies (received_of wire a) ≡ false → self.new ≡ self.old) }
+        ensures counted { let wire = wire_of C.verifies C.FixedBytes C.Signature.FixedBytes in
+            let node = standing_of C.cmp wire (node_of self.old) in
+            IfOk result (λ a. are_miscounted wire node frame verdicts.now ≡ true →
+            IsWantOfMemory (received_of wire a)) }
         ensures few { IfOk result AreFew }
-        ensures err { let node = standing_of C.cmp (wire_of C.SIZE C.spelled C.value
-            C.Signature.SIZE C.Signature.spelled C.Signature.value C.verifies) (node_of self.old) in
-            OnErr result (are_miscounted (wire_of C.SIZE C.spelled C.value
-            C.Signature.SIZE C.Signature.spelled C.Signature.value C.verifies)
-            node frame verdicts.now ≡ true) }
+        ensures err { let wire = wire_of C.verifies C.FixedBytes C.Signature.FixedBytes in
+            let node = standing_of C.cmp wire (node_of self.old) in
+            OnErr result (are_miscounted wire node frame verdicts.now ≡ true) }
         ensures err_same { OnErr result (self.new ≡ self.old) }
         ensures slots { self.new.slots ≡ self.old.slots }
     {
@@ -137,26 +125,19 @@ impl<C: PublicKey> Endpoint<C> {
         now: Duration,
         verdicts: &[bool],
     ) -> Result<Answer<C>, Miscounted>
-        ensures seen { IfOk result (λ a. AnswersFrameBy C.cmp (wire_of C.SIZE C.spelled C.value
-            C.Signature.SIZE C.Signature.spelled C.Signature.value C.verifies)
-            verdicts.now decoded.frame (as_nanos now) (received_of (wire_of C.SIZE C.spelled C.value
-            C.Signature.SIZE C.Signature.spelled C.Signature.value C.verifies) a)
-            (node_of self.old) (node_of self.new)) }
-        ensures unchanged { IfOk result (λ a. applies (received_of (wire_of C.SIZE C.spelled C.value
-            C.Signature.SIZE C.Signature.spelled C.Signature.value C.verifies) a) ≡ false
-            → self.new ≡ self.old) }
-        ensures counted { let node = standing_of C.cmp (wire_of C.SIZE C.spelled C.value
-            C.Signature.SIZE C.Signature.spelled C.Signature.value C.verifies) (node_of self.old) in
-            IfOk result (λ a. are_miscounted (wire_of C.SIZE C.spelled C.value
-            C.Signature.SIZE C.Signature.spelled C.Signature.value C.verifies)
-            node decoded.frame verdicts.now ≡ true → IsWantOfMemory (received_of (wire_of C.SIZE C.spelled C.value
-            C.Signature.SIZE C.Signature.spelled C.Signature.value C.verifies) a)) }
+        ensures seen { let wire = wire_of C.verifies C.FixedBytes C.Signature.FixedBytes in
+            IfOk result (λ a. AnswersFrameBy C.cmp wire verdicts.now decoded.frame (as_nanos now)
+            (received_of wire a) (node_of self.old) (node_of self.new)) }
+        ensures unchanged { let wire = wire_of C.verifies C.FixedBytes C.Signature.FixedBytes in
+            IfOk result (λ a. applies (received_of wire a) ≡ false → self.new ≡ self.old) }
+        ensures counted { let wire = wire_of C.verifies C.FixedBytes C.Signature.FixedBytes in
+            let node = standing_of C.cmp wire (node_of self.old) in
+            IfOk result (λ a. are_miscounted wire node decoded.frame verdicts.now ≡ true →
+            IsWantOfMemory (received_of wire a)) }
         ensures few { IfOk result AreFew }
-        ensures err { let node = standing_of C.cmp (wire_of C.SIZE C.spelled C.value
-            C.Signature.SIZE C.Signature.spelled C.Signature.value C.verifies) (node_of self.old) in
-            OnErr result (are_miscounted (wire_of C.SIZE C.spelled C.value
-            C.Signature.SIZE C.Signature.spelled C.Signature.value C.verifies)
-            node decoded.frame verdicts.now ≡ true) }
+        ensures err { let wire = wire_of C.verifies C.FixedBytes C.Signature.FixedBytes in
+            let node = standing_of C.cmp wire (node_of self.old) in
+            OnErr result (are_miscounted wire node decoded.frame verdicts.now ≡ true) }
         ensures err_same { OnErr result (self.new ≡ self.old) }
         ensures slots { self.new.slots ≡ self.old.slots }
     {
@@ -177,13 +158,11 @@ impl<C: PublicKey> Endpoint<C> {
     ) -> Result<Received, Miscounted>
         requires admitted { IsAdmitted C.IsValue C.Signature.IsValue self.old.limits payload }
         requires limit { self.old.limits.max_bit_vec < 2 ^ 32 }
-        ensures seen { let o = answered_by (wire_of C.SIZE C.spelled C.value
-            C.Signature.SIZE C.Signature.spelled C.Signature.value C.verifies) verdicts.now
-            (standing_of C.cmp (wire_of C.SIZE C.spelled C.value
-            C.Signature.SIZE C.Signature.spelled C.Signature.value C.verifies) (node_of self.old))
+        ensures seen { let wire = wire_of C.verifies C.FixedBytes C.Signature.FixedBytes in
+            let o = answered_by wire verdicts.now (standing_of C.cmp wire (node_of self.old))
             (as_nanos now) payload in
-            IfOk result (λ r.
-            Answers C.cmp (takes_room o.answer) o r (node_of self.old) (node_of self.new)) }
+            IfOk result (λ r. Answers C.cmp (takes_room o.answer) o r (node_of self.old)
+            (node_of self.new)) }
         ensures unchanged { IfOk result (λ r. applies r ≡ false → self.new ≡ self.old) }
         ensures counted { IfOk result (λ _.
             length (infos_of_payload payload) ≡ length verdicts.now) }
@@ -212,18 +191,13 @@ impl<C: PublicKey> Endpoint<C> {
     ) -> Result<Answer<C>, Miscounted>
         requires admitted { IsAdmitted C.IsValue C.Signature.IsValue self.old.limits payload }
         requires limit { self.old.limits.max_bit_vec < 2 ^ 32 }
-        ensures seen { let o = answered_by (wire_of C.SIZE C.spelled C.value
-            C.Signature.SIZE C.Signature.spelled C.Signature.value C.verifies) verdicts.now
-            (standing_of C.cmp (wire_of C.SIZE C.spelled C.value
-            C.Signature.SIZE C.Signature.spelled C.Signature.value C.verifies) (node_of self.old))
+        ensures seen { let wire = wire_of C.verifies C.FixedBytes C.Signature.FixedBytes in
+            let o = answered_by wire verdicts.now (standing_of C.cmp wire (node_of self.old))
             (as_nanos now) payload in
-            IfOk result (λ a. Answers C.cmp (takes_room o.answer) o
-            (received_of (wire_of C.SIZE C.spelled C.value
-            C.Signature.SIZE C.Signature.spelled C.Signature.value C.verifies) a)
+            IfOk result (λ a. Answers C.cmp (takes_room o.answer) o (received_of wire a)
             (node_of self.old) (node_of self.new)) }
-        ensures unchanged { IfOk result (λ a. applies (received_of (wire_of C.SIZE C.spelled C.value
-            C.Signature.SIZE C.Signature.spelled C.Signature.value C.verifies) a) ≡ false
-            → self.new ≡ self.old) }
+        ensures unchanged { let wire = wire_of C.verifies C.FixedBytes C.Signature.FixedBytes in
+            IfOk result (λ a. applies (received_of wire a) ≡ false → self.new ≡ self.old) }
         ensures counted { IfOk result (λ _.
             length (infos_of_payload payload) ≡ length verdicts.now) }
         ensures few { IfOk result AreFew }
@@ -241,12 +215,11 @@ impl<C: PublicKey> Endpoint<C> {
     // The infos with which bits are answered.
     fn infos_for(&self, bits: &BitVec, now: Duration) -> Answer<C>
         requires { length bits.now.bits < 2 ^ 32 }
-        ensures seen { let o = replied (wire_of C.SIZE C.spelled C.value
-            C.Signature.SIZE C.Signature.spelled C.Signature.value C.verifies)
-            (infos_in C.cmp self.now.directory bits.now.index bits.now.bits (as_nanos now)) in
-            Answers C.cmp (takes_room o.answer) o (received_of (wire_of C.SIZE C.spelled C.value
-            C.Signature.SIZE C.Signature.spelled C.Signature.value C.verifies) result)
-            (node_of self.now) (node_of self.now) }
+        ensures seen { let wire = wire_of C.verifies C.FixedBytes C.Signature.FixedBytes in
+            let o = replied wire (infos_in C.cmp self.now.directory bits.now.index bits.now.bits
+            (as_nanos now)) in
+            Answers C.cmp (takes_room o.answer) o (received_of wire result) (node_of self.now)
+            (node_of self.now) }
         ensures few { AreFew result }
     {
         match self.server.infos_for(bits, now) {
@@ -259,8 +232,7 @@ impl<C: PublicKey> Endpoint<C> {
     // Verifies the info of a greeting, and applies it.
     fn greet(&mut self, info: Info<C>, now: Duration) -> Received
         ensures unchanged { applies result ≡ false → self.new ≡ self.old }
-        ensures seen { let o = greeted (wire_of C.SIZE C.spelled C.value
-            C.Signature.SIZE C.Signature.spelled C.Signature.value C.verifies) info
+        ensures seen { let o = greeted (wire_of C.verifies C.FixedBytes C.Signature.FixedBytes) info
             (refusal (judge_of C.cmp C.verifies self.old.verifier) (as_nanos now) info) in
             Answers C.cmp (takes_room o.answer) o result (node_of self.old) (node_of self.new) }
         ensures slots { self.new.slots ≡ self.old.slots }
@@ -274,13 +246,12 @@ impl<C: PublicKey> Endpoint<C> {
     // Verifies the info of a greeting, given whether its signature is valid, and applies it.
     fn greet_by(&mut self, info: Info<C>, now: Duration, right: bool) -> Received
         ensures unchanged { applies result ≡ false → self.new ≡ self.old }
-        ensures seen { let o = greeted (wire_of C.SIZE C.spelled C.value
-            C.Signature.SIZE C.Signature.spelled C.Signature.value C.verifies) info
+        ensures seen { let o = greeted (wire_of C.verifies C.FixedBytes C.Signature.FixedBytes) info
             (refusal_if (judge_of C.cmp C.verifies self.old.verifier) right (as_nanos now) info) in
             Answers C.cmp (takes_room o.answer) o result (node_of self.old) (node_of self.new) }
         ensures slots { self.new.slots ≡ self.old.slots }
     {
-        if let Err(error) = self.verifier.validate_info_by(now, &info, right) {
+        if let Err(error) = self.verifier.validate_info_with_verdict(now, &info, right) {
             return Received::Invalid(error);
         }
         self.apply_greeting(info)
@@ -289,9 +260,9 @@ impl<C: PublicKey> Endpoint<C> {
     // Applies the info of a greeting.
     fn apply_greeting(&mut self, info: Info<C>) -> Received
         ensures unchanged { applies result ≡ false → self.new ≡ self.old }
-        ensures seen { Answers C.cmp true (greeted (wire_of C.SIZE C.spelled C.value
-            C.Signature.SIZE C.Signature.spelled C.Signature.value C.verifies) info None)
-            result (node_of self.old) (node_of self.new) }
+        ensures seen { let wire = wire_of C.verifies C.FixedBytes C.Signature.FixedBytes in
+            Answers C.cmp true (greeted wire info None) result
+            (node_of self.old) (node_of self.new) }
         ensures slots { self.new.slots ≡ self.old.slots }
     {
         match Vec::with_capacity(self.server.directory().allocator(), 1) {
@@ -307,15 +278,12 @@ impl<C: PublicKey> Endpoint<C> {
     // Replies to bits with the infos for them.
     fn reply(&self, bits: &BitVec, now: Duration) -> Received
         requires { length bits.now.bits < 2 ^ 32 }
-        ensures seen { let o = replied (wire_of C.SIZE C.spelled C.value
-            C.Signature.SIZE C.Signature.spelled C.Signature.value C.verifies)
+        ensures seen { let o = replied (wire_of C.verifies C.FixedBytes C.Signature.FixedBytes)
             (infos_in C.cmp self.now.directory bits.now.index bits.now.bits (as_nanos now)) in
             Answers C.cmp (takes_room o.answer) o result (node_of self.now) (node_of self.now) }
-        ensures values { AreValues C.IsValue C.Signature.IsValue (told_with
-            (replied (wire_of C.SIZE C.spelled C.value
-            C.Signature.SIZE C.Signature.spelled C.Signature.value C.verifies)
-            (infos_in C.cmp self.now.directory bits.now.index bits.now.bits (as_nanos now)))
-            result) }
+        ensures values { let wire = wire_of C.verifies C.FixedBytes C.Signature.FixedBytes in
+            AreValues C.IsValue C.Signature.IsValue (told_with (replied wire (infos_in C.cmp
+            self.now.directory bits.now.index bits.now.bits (as_nanos now))) result) }
     {
         match self.reply_frame(bits, now) {
             Ok(Some(frame)) => Received::Reply(frame),
@@ -355,10 +323,10 @@ impl<C: PublicKey> Endpoint<C> {
     // Verifies infos, all of them, and applies them.
     fn take(&mut self, infos: Infos<C>, now: Duration) -> Received
         ensures unchanged { applies result ≡ false → self.new ≡ self.old }
-        ensures seen { Answers C.cmp false (taken (wire_of C.SIZE C.spelled C.value
-            C.Signature.SIZE C.Signature.spelled C.Signature.value C.verifies) infos
-            (list_refusal (judge_of C.cmp C.verifies self.old.verifier) (as_nanos now) infos))
-            result (node_of self.old) (node_of self.new) }
+        ensures seen { let wire = wire_of C.verifies C.FixedBytes C.Signature.FixedBytes in
+            Answers C.cmp false (taken wire infos (list_refusal
+            (judge_of C.cmp C.verifies self.old.verifier) (as_nanos now) infos)) result
+            (node_of self.old) (node_of self.new) }
         ensures slots { self.new.slots ≡ self.old.slots }
     {
         if let Err(error) = self.verifier.validate(now, infos.as_slice()) {
@@ -370,13 +338,16 @@ impl<C: PublicKey> Endpoint<C> {
     // Verifies infos, all of them, given whether their signatures are valid, and applies them.
     fn take_by(&mut self, infos: Infos<C>, now: Duration, verdicts: &[bool]) -> Received
         ensures unchanged { applies result ≡ false → self.new ≡ self.old }
-        ensures seen { Answers C.cmp false (taken (wire_of C.SIZE C.spelled C.value
-            C.Signature.SIZE C.Signature.spelled C.Signature.value C.verifies) infos
-            (list_refusal_by (judge_of C.cmp C.verifies self.old.verifier) verdicts.now
-            (as_nanos now) infos)) result (node_of self.old) (node_of self.new) }
+        ensures seen { let wire = wire_of C.verifies C.FixedBytes C.Signature.FixedBytes in
+            Answers C.cmp false (taken wire infos (list_refusal_by
+            (judge_of C.cmp C.verifies self.old.verifier) verdicts.now (as_nanos now) infos)) result
+            (node_of self.old) (node_of self.new) }
         ensures slots { self.new.slots ≡ self.old.slots }
     {
-        if let Err(error) = self.verifier.validate_by(now, infos.as_slice(), verdicts) {
+        if let Err(error) = self
+            .verifier
+            .validate_with_verdicts(now, infos.as_slice(), verdicts)
+        {
             return Received::Invalid(error);
         }
         self.apply(infos)
@@ -385,9 +356,9 @@ impl<C: PublicKey> Endpoint<C> {
     // Applies infos.
     fn apply(&mut self, infos: Infos<C>) -> Received
         ensures unchanged { applies result ≡ false → self.new ≡ self.old }
-        ensures seen { Answers C.cmp false (taken (wire_of C.SIZE C.spelled C.value
-            C.Signature.SIZE C.Signature.spelled C.Signature.value C.verifies) infos None)
-            result (node_of self.old) (node_of self.new) }
+        ensures seen { let wire = wire_of C.verifies C.FixedBytes C.Signature.FixedBytes in
+            Answers C.cmp false (taken wire infos None) result
+            (node_of self.old) (node_of self.new) }
         ensures slots { self.new.slots ≡ self.old.slots }
     {
         let infos = infos.into_vec();

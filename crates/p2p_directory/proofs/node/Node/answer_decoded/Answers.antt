@@ -1,16 +1,15 @@
 use Rattle.std.specs.Duration.{as_nanos}
 use Rattle.std.proofs.lemmas.Result.{IfOk-weaker}
 use Rattle.p2p_directory.specs.Nodes.{made_of}
-use Rattle.p2p_directory.specs.Received.{wire_of, received_of}
+use Rattle.p2p_directory.specs.Received.{received_of}
 use Rattle.p2p_directory.specs.Private.Endpoints.{node_of}
 use Rattle.p2p_directory.proofs.Nodes.Worlds.{received_by_in}
+use Rattle.p2p_directory.proofs.Nodes.ReadBack.{wire_in}
 use Rattle.p2p_directory.proofs.node.Node.answer_decoded.Goals as goal
 
 pub returns-clause-received : goal.returns-clause-received
 returns-clause-received g c = rw (← c.self.view_is) (IfOk-weaker c.answer_decoded.result _ _ (λ a seen given calls at.
     received_by_in (made_of g.C.Ord.cmp given)
-    (wire_of g.C.FixedBytes.SIZE g.C.FixedBytes.spelled g.C.FixedBytes.value g.C.Signature.FixedBytes.SIZE
-    g.C.Signature.FixedBytes.spelled g.C.Signature.FixedBytes.value g.C.PublicKey.verifies)
+    (wire_in g.C.PublicKey.verifies g.C.FixedBytes g.C.Signature.FixedBytes)
     calls (node_of c.self.inside.endpoint) at given.cfg.max_sets.ok c.args.verdicts.now c.args.decoded.frame (as_nanos c.args.now)
-    (received_of (wire_of g.C.FixedBytes.SIZE g.C.FixedBytes.spelled g.C.FixedBytes.value g.C.Signature.FixedBytes.SIZE
-    g.C.Signature.FixedBytes.spelled g.C.Signature.FixedBytes.value g.C.PublicKey.verifies) a) (node_of c.answer_decoded.new.self) seen) c.answer_decoded.ensures.seen)
+    (received_of (wire_in g.C.PublicKey.verifies g.C.FixedBytes g.C.Signature.FixedBytes) a) (node_of c.answer_decoded.new.self) seen) c.answer_decoded.ensures.seen)

@@ -1,18 +1,16 @@
 use Rattle.std.proofs.Common.{◌≡◌, ◌++◌, [], length, vec_capacity}
 use Rattle.std.specs.List.{All}
 use Rattle.p2p_directory.specs.Network.{OfNetwork, AreNetworkAnswers, StandAfter, done_after}
-use Rattle.p2p_directory.specs.Received.{wire_of}
 use Rattle.p2p_directory.specs.Private.Networks.{nodes_of, HasRoomFor}
 use Rattle.p2p_directory.specs.Laws.Network.{AreWritten, OfEachReply, CarriesExchange}
+use Rattle.p2p_directory.proofs.Nodes.ReadBack.{wire_in}
 use Rattle.p2p_directory.proofs.node.network.run_network.Given as goal
 
 -- the replies so far answer the commands so far, what is told has a spelling, exchanges are
 -- carried, all nodes stand where these lead, and there is room for all
 abbrev pub invariant-loop-command : goal.invariant-loop-command
 invariant-loop-command g l =
-    let wire = wire_of g.C.FixedBytes.SIZE g.C.FixedBytes.spelled g.C.FixedBytes.value
-    g.C.Signature.FixedBytes.SIZE g.C.Signature.FixedBytes.spelled g.C.Signature.FixedBytes.value
-    g.C.PublicKey.verifies in
+    let wire = wire_in g.C.PublicKey.verifies g.C.FixedBytes g.C.Signature.FixedBytes in
     record {
       rest : l.yielded ++ l.command-iterator.rest.items ≡ l.fn.commands.items;
       answers : OfNetwork g.C.Ord.cmp l.fn.setups.items (λ size node.
@@ -24,9 +22,9 @@ invariant-loop-command g l =
           OfEachReply wire size node (CarriesExchange wire size node) [] l.yielded l.replies.items);
       stand : OfNetwork g.C.Ord.cmp l.fn.setups.items (λ size node.
           StandAfter wire size node (done_after wire size node [] l.yielded l.replies.items)
-          (nodes_of l.ends.items));
+          (nodes_of l.endpoints.items));
       replies : length l.replies.items ≡ length l.yielded;
       room_for_replies : vec_capacity l.replies ≡ length l.fn.commands.items;
-      slots : All (HasRoomFor g.C.Ord.cmp l.ends.items) l.fn.commands.items;
-      count : length l.ends.items ≡ length l.initial.ends.items;
+      slots : All (HasRoomFor g.C.Ord.cmp l.endpoints.items) l.fn.commands.items;
+      count : length l.endpoints.items ≡ length l.initial.endpoints.items;
     }

@@ -8,9 +8,10 @@ use Rattle.p2p_directory.specs.declared.node.network.commands.NetworkReply.{Netw
 use Rattle.p2p_directory.specs.Nodes.{Made, made_of}
 use Rattle.p2p_directory.specs.Network.{OfNetwork, AreNetworkAnswers, StandAfter, done_after}
 use Rattle.p2p_directory.specs.Pairs.{two, command_in, commands_in, replies_in}
-use Rattle.p2p_directory.specs.Received.{wire_of}
-use Rattle.p2p_directory.specs.Laws.Network as networks
+use Rattle.p2p_directory.specs.Laws.Network.{AtEachPoint, PointLaws, OfEachReply, ReplyLaws}
+use Rattle.p2p_directory.proofs.LawsOfNetworks.TwoNodes.{laws_of_pair}
 use Rattle.p2p_directory.proofs.Nodes.TwoNodes.{of_both, as_two, answers_count, are_of_nodes}
+use Rattle.p2p_directory.proofs.Nodes.ReadBack.{wire_in}
 use Rattle.p2p_directory.proofs.node.pair.run_pair.Goals as goal
 
 pub run_network-requires-clause-sets : goal.run_network-requires-clause-sets
@@ -27,15 +28,11 @@ run_network-requires-clause-bits g c =
 
 -- the replies answer the commands to both
 answers : (g : _) (c : goal.In_ok-nodes g) →
-    AreNetworkAnswers
-    (wire_of g.C.FixedBytes.SIZE g.C.FixedBytes.spelled g.C.FixedBytes.value g.C.Signature.FixedBytes.SIZE
-    g.C.Signature.FixedBytes.spelled g.C.Signature.FixedBytes.value g.C.PublicKey.verifies) 2
+    AreNetworkAnswers (wire_in g.C.PublicKey.verifies g.C.FixedBytes g.C.Signature.FixedBytes) 2
     (two (made_of g.C.Ord.cmp c.args.left) (made_of g.C.Ord.cmp c.args.right)) []
     (commands_in c.args.commands.items) c.in_ok-nodes.field-0.replies.items
 answers g c =
-    let wire = wire_of g.C.FixedBytes.SIZE g.C.FixedBytes.spelled g.C.FixedBytes.value
-    g.C.Signature.FixedBytes.SIZE g.C.Signature.FixedBytes.spelled g.C.Signature.FixedBytes.value
-    g.C.PublicKey.verifies in
+    let wire = wire_in g.C.PublicKey.verifies g.C.FixedBytes g.C.Signature.FixedBytes in
     let told = c.in_ok-nodes.field-0.replies.items in
     as_two g.C.Ord.cmp c.args.left c.args.right c.in_ok-setups.setups.items
     c.in_ok-commands.commands.items (commands_in c.args.commands.items) told told
@@ -44,17 +41,14 @@ answers g c =
 
 pub pair_replies-replies-requires-clause-nodes : goal.pair_replies-replies-requires-clause-nodes
 pair_replies-replies-requires-clause-nodes g c =
-    are_of_nodes
-    (wire_of g.C.FixedBytes.SIZE g.C.FixedBytes.spelled g.C.FixedBytes.value g.C.Signature.FixedBytes.SIZE
-    g.C.Signature.FixedBytes.spelled g.C.Signature.FixedBytes.value g.C.PublicKey.verifies)
+    are_of_nodes (wire_in g.C.PublicKey.verifies g.C.FixedBytes g.C.Signature.FixedBytes)
     (made_of g.C.Ord.cmp c.args.left) (made_of g.C.Ord.cmp c.args.right) []
     c.args.commands.items c.in_ok-nodes.field-0.replies.items (answers g c)
 
 pub pair_replies-replies-requires-clause-room : goal.pair_replies-replies-requires-clause-room
 pair_replies-replies-requires-clause-room g c =
     let same = answers_count
-    (wire_of g.C.FixedBytes.SIZE g.C.FixedBytes.spelled g.C.FixedBytes.value g.C.Signature.FixedBytes.SIZE
-    g.C.Signature.FixedBytes.spelled g.C.Signature.FixedBytes.value g.C.PublicKey.verifies) 2
+    (wire_in g.C.PublicKey.verifies g.C.FixedBytes g.C.Signature.FixedBytes) 2
     (two (made_of g.C.Ord.cmp c.args.left) (made_of g.C.Ord.cmp c.args.right)) []
     (commands_in c.args.commands.items) c.in_ok-nodes.field-0.replies.items (answers g c) in
     omega (
@@ -85,24 +79,18 @@ told_of_two g c P h = as_two g.C.Ord.cmp c.args.left c.args.right c.in_ok-setups
 
 pub returns-clause-answers : goal.returns-clause-answers
 returns-clause-answers g c =
-    let wire = wire_of g.C.FixedBytes.SIZE g.C.FixedBytes.spelled g.C.FixedBytes.value
-    g.C.Signature.FixedBytes.SIZE g.C.Signature.FixedBytes.spelled g.C.Signature.FixedBytes.value
-    g.C.PublicKey.verifies in
+    let wire = wire_in g.C.PublicKey.verifies g.C.FixedBytes g.C.Signature.FixedBytes in
     told_of_two g c (λ size node cs rs. AreNetworkAnswers wire size node [] cs rs)
     c.in_ok-nodes.ensures.answers
 
 stand : (g : _) (c : goal.After-into_both-left g) →
-    let wire = wire_of g.C.FixedBytes.SIZE g.C.FixedBytes.spelled g.C.FixedBytes.value
-    g.C.Signature.FixedBytes.SIZE g.C.Signature.FixedBytes.spelled g.C.Signature.FixedBytes.value
-    g.C.PublicKey.verifies in
+    let wire = wire_in g.C.PublicKey.verifies g.C.FixedBytes g.C.Signature.FixedBytes in
     let node = two (made_of g.C.Ord.cmp c.args.left) (made_of g.C.Ord.cmp c.args.right) in
     StandAfter wire 2 node (done_after wire 2 node [] (commands_in c.args.commands.items)
     (replies_in c.pair_replies-replies.result.items))
     (c.into_both-left.result.0 ∷ c.into_both-left.result.1 ∷ [])
 stand g c =
-    let wire = wire_of g.C.FixedBytes.SIZE g.C.FixedBytes.spelled g.C.FixedBytes.value
-    g.C.Signature.FixedBytes.SIZE g.C.Signature.FixedBytes.spelled g.C.Signature.FixedBytes.value
-    g.C.PublicKey.verifies in
+    let wire = wire_in g.C.PublicKey.verifies g.C.FixedBytes g.C.Signature.FixedBytes in
     let node = two (made_of g.C.Ord.cmp c.args.left) (made_of g.C.Ord.cmp c.args.right) in
     subst (StandAfter wire 2 node (done_after wire 2 node [] (commands_in c.args.commands.items)
     (replies_in c.pair_replies-replies.result.items))) c.into_both-left.ensures
@@ -115,55 +103,14 @@ returns-clause-left g c = (stand g c).each 0 c.into_both-left.result.0 (omega ar
 pub returns-clause-right : goal.returns-clause-right
 returns-clause-right g c = (stand g c).each 1 c.into_both-left.result.0 (omega arith)
 
-pub returns-clause-exchanges : goal.returns-clause-exchanges
-returns-clause-exchanges g c =
-    let wire = wire_of g.C.FixedBytes.SIZE g.C.FixedBytes.spelled g.C.FixedBytes.value
-    g.C.Signature.FixedBytes.SIZE g.C.Signature.FixedBytes.spelled g.C.Signature.FixedBytes.value
-    g.C.PublicKey.verifies in
-    told_of_two g c (λ size node cs rs. networks.KeepExchanges wire size node [] cs rs)
-    c.in_ok-nodes.ensures.exchanges
-
-pub returns-clause-carried : goal.returns-clause-carried
-returns-clause-carried g c =
-    let wire = wire_of g.C.FixedBytes.SIZE g.C.FixedBytes.spelled g.C.FixedBytes.value
-    g.C.Signature.FixedBytes.SIZE g.C.Signature.FixedBytes.spelled g.C.Signature.FixedBytes.value
-    g.C.PublicKey.verifies in
-    told_of_two g c (λ size node cs rs. networks.OfEachReply wire size node
-    (networks.CarriesExchange wire size node) [] cs rs) c.in_ok-nodes.ensures.carried
-
-pub returns-clause-infos : goal.returns-clause-infos
-returns-clause-infos g c =
-    let wire = wire_of g.C.FixedBytes.SIZE g.C.FixedBytes.spelled g.C.FixedBytes.value
-    g.C.Signature.FixedBytes.SIZE g.C.Signature.FixedBytes.spelled g.C.Signature.FixedBytes.value
-    g.C.PublicKey.verifies in (
-      told_of_two g c (λ size node cs rs. networks.AtEachPoint wire size node
-          (networks.GivesSigned wire size node) [] cs rs) c.in_ok-nodes.ensures.given,
-      told_of_two g c (λ size node cs rs. networks.AtEachPoint wire size node
-          (networks.HoldSigned wire size node) [] cs rs) c.in_ok-nodes.ensures.infos,
-    )
-
-pub returns-clause-greetings : goal.returns-clause-greetings
-returns-clause-greetings g c =
-    let wire = wire_of g.C.FixedBytes.SIZE g.C.FixedBytes.spelled g.C.FixedBytes.value
-    g.C.Signature.FixedBytes.SIZE g.C.Signature.FixedBytes.spelled g.C.Signature.FixedBytes.value
-    g.C.PublicKey.verifies in
-    told_of_two g c (λ size node cs rs. networks.OfEachReply wire size node
-    (networks.TakesGreeting wire size node) [] cs rs) c.in_ok-nodes.ensures.greetings
-
-pub returns-clause-infos_replied : goal.returns-clause-infos_replied
-returns-clause-infos_replied g c =
-    let wire = wire_of g.C.FixedBytes.SIZE g.C.FixedBytes.spelled g.C.FixedBytes.value
-    g.C.Signature.FixedBytes.SIZE g.C.Signature.FixedBytes.spelled g.C.Signature.FixedBytes.value
-    g.C.PublicKey.verifies in
-    told_of_two g c (λ size node cs rs. networks.OfEachReply wire size node
-    (networks.RepliesInfos wire size node g.C.FixedBytes.IsValue g.C.Signature.FixedBytes.IsValue)
-    [] cs rs) c.in_ok-nodes.ensures.infos_replied
-
-pub returns-clause-late : goal.returns-clause-late
-returns-clause-late g c =
-    let wire = wire_of g.C.FixedBytes.SIZE g.C.FixedBytes.spelled g.C.FixedBytes.value
-    g.C.Signature.FixedBytes.SIZE g.C.Signature.FixedBytes.spelled g.C.Signature.FixedBytes.value
-    g.C.PublicKey.verifies in
-    told_of_two g c (λ size node cs rs. networks.OfEachReply wire size node
-    (networks.TakesFrame wire size node g.C.FixedBytes.IsValue g.C.Signature.FixedBytes.IsValue)
-    [] cs rs) c.in_ok-nodes.ensures.late
+pub returns-clause-laws : goal.returns-clause-laws
+returns-clause-laws g c =
+    let wire = wire_in g.C.PublicKey.verifies g.C.FixedBytes g.C.Signature.FixedBytes in
+    laws_of_pair wire g.C.FixedBytes.IsValue g.C.Signature.FixedBytes.IsValue
+    (made_of g.C.Ord.cmp c.args.left) (made_of g.C.Ord.cmp c.args.right)
+    c.args.commands.items c.pair_replies-replies.result.items
+    (told_of_two g c (λ size node cs rs. AtEachPoint wire size node (PointLaws wire size node)
+    [] cs rs) c.in_ok-nodes.ensures.at_each_point)
+    (told_of_two g c (λ size node cs rs. OfEachReply wire size node (ReplyLaws wire size node
+    g.C.FixedBytes.IsValue g.C.Signature.FixedBytes.IsValue) [] cs rs)
+    c.in_ok-nodes.ensures.of_each_reply)

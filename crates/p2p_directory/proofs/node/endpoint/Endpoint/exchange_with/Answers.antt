@@ -1,17 +1,15 @@
 use Rattle.std.proofs.Common.{refl, sym, ◌∙◌}
 use Rattle.std.specs.Duration.{as_nanos}
 use Rattle.p2p_discovery.specs.Payload.{payload_spelling}
-use Rattle.p2p_directory.specs.Received.{wire_of}
 use Rattle.p2p_directory.specs.Nodes.{standing_of}
 use Rattle.p2p_directory.specs.Private.Endpoints.{node_of}
 use Rattle.p2p_directory.proofs.Nodes.Exchanging.{handed, all_spelled}
+use Rattle.p2p_directory.proofs.Nodes.ReadBack.{wire_in}
 use Rattle.p2p_directory.proofs.node.endpoint.Endpoint.exchange_with.Goals as goal
 
 pub returns-in-Ok-Some-clause-seen : goal.returns-in-Ok-Some-clause-seen
 returns-in-Ok-Some-clause-seen g c =
-    let wire = wire_of g.C.FixedBytes.SIZE g.C.FixedBytes.spelled g.C.FixedBytes.value
-    g.C.Signature.FixedBytes.SIZE g.C.Signature.FixedBytes.spelled g.C.Signature.FixedBytes.value
-    g.C.PublicKey.verifies in
+    let wire = wire_in g.C.PublicKey.verifies g.C.FixedBytes g.C.Signature.FixedBytes in
     record {
       answer = handed (payload_spelling g.C.FixedBytes.spelled g.C.Signature.FixedBytes.spelled)
           (standing_of g.C.Ord.cmp wire (node_of c.args.self.now))
@@ -24,9 +22,7 @@ returns-in-Ok-Some-clause-seen g c =
 
 pub returns-in-Ok-Some-clause-spelled : goal.returns-in-Ok-Some-clause-spelled
 returns-in-Ok-Some-clause-spelled g c =
-    let wire = wire_of g.C.FixedBytes.SIZE g.C.FixedBytes.spelled g.C.FixedBytes.value
-    g.C.Signature.FixedBytes.SIZE g.C.Signature.FixedBytes.spelled g.C.Signature.FixedBytes.value
-    g.C.PublicKey.verifies in
+    let wire = wire_in g.C.PublicKey.verifies g.C.FixedBytes g.C.Signature.FixedBytes in
     all_spelled g.C.FixedBytes.IsValue g.C.Signature.FixedBytes.IsValue
     (payload_spelling g.C.FixedBytes.spelled g.C.Signature.FixedBytes.spelled)
     (standing_of g.C.Ord.cmp wire (node_of c.args.self.now))

@@ -4,11 +4,11 @@ use Rattle.std.specs.Duration.{as_nanos}
 use Rattle.p2p_discovery.specs.declared.discovery.BitVec.{BitVec}
 use Rattle.p2p_discovery.specs.Payload.{IsAdmitted, payload_spelling}
 use Rattle.p2p_tracker.specs.Directory.{infos_in}
-use Rattle.p2p_directory.specs.Received.{wire_of}
 use Rattle.p2p_directory.specs.Nodes.{standing_of}
 use Rattle.p2p_directory.specs.Exchange.{replied_at, HaveSpelling}
 use Rattle.p2p_directory.specs.Private.Endpoints.{node_of}
 use Rattle.p2p_directory.proofs.Nodes.Exchanging.{replies_alike, spelled_alike, asked_read, bits_are}
+use Rattle.p2p_directory.proofs.Nodes.ReadBack.{wire_in}
 use Rattle.p2p_directory.proofs.node.endpoint.Endpoint.reply_to.Goals as goal
 
 pub reply_with-requires : goal.reply_with-requires
@@ -23,8 +23,7 @@ returns-in-Ok-BitVec-clause-replies g c = λ v fits spelled.
     let node = node_of c.args.self.now in
     let replier =
     standing_of g.C.Ord.cmp
-    (wire_of g.C.FixedBytes.SIZE g.C.FixedBytes.spelled g.C.FixedBytes.value g.C.Signature.FixedBytes.SIZE
-    g.C.Signature.FixedBytes.spelled g.C.Signature.FixedBytes.value g.C.PublicKey.verifies) node in
+    (wire_in g.C.PublicKey.verifies g.C.FixedBytes g.C.Signature.FixedBytes) node in
     let read = c.in-Ok-BitVec.ensures.bits v fits spelled in
     replies_alike g.C.FixedBytes.IsValue g.C.Signature.FixedBytes.IsValue (payload_spelling g.C.FixedBytes.spelled g.C.Signature.FixedBytes.spelled)
     (λ asker asker_now. replied_at asker asker_now (infos_in g.C.Ord.cmp c.args.self.now.directory bits.index bits.bits (as_nanos c.args.now))) _

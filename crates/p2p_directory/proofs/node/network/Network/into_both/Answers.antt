@@ -20,6 +20,6 @@ two f es e1 (z ∷ e2) seen r1 r2 x y p is1 q is2 view pair =
     absurd (omega (arith, a, b, d, pair))
 
 pub returns : goal.returns
-returns g c = two node_of c.self.inside.ends.items c.pop.new.self.items c.pop-in-Some.new.self.items c.args.self
+returns g c = two node_of c.self.inside.endpoints.items c.pop.new.self.items c.pop-in-Some.new.self.items c.args.self
     c.pop.result c.pop-in-Some.result c.in-Some.right c.in-Some-pop.left
     c.pop.ensures.items c.in-Some.is c.pop-in-Some.ensures.items c.in-Some-pop.is c.self.view_is c.requires

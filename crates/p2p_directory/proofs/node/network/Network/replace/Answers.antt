@@ -10,12 +10,12 @@ returns-clause-ok g c = rw (← c.self.view_is) (
     let end = c.in_ok-end.end in
     let old = c.swap_at-old.result in
     let same = c.deref_mut.ensures.value in
-    let there : i < length c.self.inside.ends.items =
-    omega (arith, c.if-node-len.false, c.len.ensures, c.self.inside.ends.ok) in
-    replaced_at g.C.Ord.cmp c.args.setup c.self.inside.ends.items _ end
+    let there : i < length c.self.inside.endpoints.items =
+    omega (arith, c.if-node-len.false, c.len.ensures, c.self.inside.endpoints.ok) in
+    replaced_at g.C.Ord.cmp c.args.setup c.self.inside.endpoints.items _ end
     c.in_ok-end.ensures.stands i old c.finish.result there
-    (with_items_is c.self.inside.ends c.swap_at-old.new.ends
-    (omega (arith, c.swap_at-old.auto.ends, c.deref_mut.ensures.len))
+    (with_items_is c.self.inside.endpoints c.swap_at-old.new.endpoints
+    (omega (arith, c.swap_at-old.auto.endpoints, c.deref_mut.ensures.len))
     ∙ c.swap_at-old.ensures.rest ∙ ap (λ es. slice_set es i end) same)
     (c.swap_at-old.ensures.old ∙ ap (λ es. slice_index_or es i old) same) c.finish.ensures)
 
@@ -27,6 +27,6 @@ room_left len cap new old is room = omega (arith, length-take len (new ++ drop (
 pub invariant_of-self : goal.invariant_of-self
 invariant_of-self g c = (
   c.self.invariant.0,
-  room_left c.self.inside.ends.len _ c.swap_at-old.new.ends
-      c.self.inside.ends.items c.self.inside.ends.ok.0 c.self.invariant.1,
+  room_left c.self.inside.endpoints.len _ c.swap_at-old.new.endpoints
+      c.self.inside.endpoints.items c.self.inside.endpoints.ok.0 c.self.invariant.1,
 )

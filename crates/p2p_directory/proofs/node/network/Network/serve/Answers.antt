@@ -1,35 +1,46 @@
 use Rattle.std.proofs.Common.{ap, sym, subst, arith, ◌∙◌}
 use Rattle.std.proofs.lemmas.List.{with_items_is}
-use Rattle.std.specs.Prelude.{length}
+use Rattle.std.specs.Prelude.{length, ◌≡◌}
+use Rattle.std.specs.Vec.{with_items}
 use Rattle.p2p_directory.specs.declared.node.network.commands.NetworkCommand.{NetworkCommand}
 use Rattle.p2p_directory.specs.declared.node.network.commands.NetworkCommand.TheVariants as command
 use Rattle.p2p_directory.specs.Network.{node_made, StandAfter, IsNetworkServedAt, IsServedAmong}
-use Rattle.p2p_directory.specs.Received.{wire_of}
 use Rattle.p2p_directory.specs.Private.Networks.{nodes_of}
 use Rattle.p2p_directory.proofs.Nodes.Among.{among, so_many}
 use Rattle.p2p_directory.proofs.Nodes.Networks.{answered_served}
+use Rattle.p2p_directory.proofs.Nodes.ReadBack.{wire_in}
 use Rattle.p2p_directory.proofs.node.network.Network.serve.Goals as goal
+
+-- what is written back over all of a list is the list
+same-step : (g : _) (c : goal.After-self-1 g) →
+    (with_items c.self.inside.endpoints c.step.new.endpoints).items ≡ c.step.new.endpoints
+same-step g c = with_items_is c.self.inside.endpoints c.step.new.endpoints
+    (omega (arith, c.step.auto.endpoints, c.deref_mut.ensures.len))
+
+same-receive : (g : _) (c : goal.After-self-in-Frame-1 g) →
+    (with_items c.self.inside.endpoints c.receive.new.endpoints).items ≡ c.receive.new.endpoints
+same-receive g c = with_items_is c.self.inside.endpoints c.receive.new.endpoints
+    (omega (arith, c.receive.auto.endpoints, c.deref_mut-in-Frame.ensures.len))
+
+same-exchange : (g : _) (c : goal.After-self-in-Exchange-1 g) →
+    (with_items c.self.inside.endpoints c.exchange.new.endpoints).items ≡ c.exchange.new.endpoints
+same-exchange g c = with_items_is c.self.inside.endpoints c.exchange.new.endpoints
+    (omega (arith, c.exchange.auto.endpoints, c.deref_mut-in-Exchange.ensures.len))
 
 pub returns-in-Call-clause-served : goal.returns-in-Call-clause-served
 returns-in-Call-clause-served g c = rw (← c.self.view_is, c.in-Call.is) (λ setups done other at.
-    let wire = wire_of g.C.FixedBytes.SIZE g.C.FixedBytes.spelled g.C.FixedBytes.value
-    g.C.Signature.FixedBytes.SIZE g.C.Signature.FixedBytes.spelled g.C.Signature.FixedBytes.value
-    g.C.PublicKey.verifies in
+    let wire = wire_in g.C.PublicKey.verifies g.C.FixedBytes g.C.Signature.FixedBytes in
     let size = length setups in
     let node = node_made g.C.Ord.cmp other setups in
     let x : NetworkCommand g.row.C.Denot g.row.C-Signature.Denot =
     command.Call c.in-Call.node c.in-Call.command in
-    let same = with_items_is c.self.inside.ends c.step.new.ends
-    (omega (arith, c.step.auto.ends, c.deref_mut.ensures.len)) in
-    subst (λ es. IsNetworkServedAt wire size node done x c.step.result (nodes_of es)) (sym same)
+    subst (λ es. IsNetworkServedAt wire size node done x c.step.result (nodes_of es)) (sym (same-step g c))
     (c.step.ensures.served setups done other (subst (λ es. StandAfter wire size node done (nodes_of es))
     (sym c.deref_mut.ensures.value) at)))
 
 pub returns-in-Ask-clause-served : goal.returns-in-Ask-clause-served
 returns-in-Ask-clause-served g c = rw (← c.self.view_is, c.in-Ask.is) (λ setups done other at.
-    let wire = wire_of g.C.FixedBytes.SIZE g.C.FixedBytes.spelled g.C.FixedBytes.value
-    g.C.Signature.FixedBytes.SIZE g.C.Signature.FixedBytes.spelled g.C.Signature.FixedBytes.value
-    g.C.PublicKey.verifies in
+    let wire = wire_in g.C.PublicKey.verifies g.C.FixedBytes g.C.Signature.FixedBytes in
     let size = length setups in
     let node = node_made g.C.Ord.cmp other setups in
     let x : NetworkCommand g.row.C.Denot g.row.C-Signature.Denot =
@@ -40,140 +51,100 @@ returns-in-Ask-clause-served g c = rw (← c.self.view_is, c.in-Ask.is) (λ setu
 
 pub returns-in-Frame-clause-served : goal.returns-in-Frame-clause-served
 returns-in-Frame-clause-served g c = rw (← c.self.view_is, c.in-Frame.is) (λ setups done other at.
-    let wire = wire_of g.C.FixedBytes.SIZE g.C.FixedBytes.spelled g.C.FixedBytes.value
-    g.C.Signature.FixedBytes.SIZE g.C.Signature.FixedBytes.spelled g.C.Signature.FixedBytes.value
-    g.C.PublicKey.verifies in
+    let wire = wire_in g.C.PublicKey.verifies g.C.FixedBytes g.C.Signature.FixedBytes in
     let size = length setups in
     let node = node_made g.C.Ord.cmp other setups in
     let x : NetworkCommand g.row.C.Denot g.row.C-Signature.Denot =
     command.Frame c.in-Frame.node c.in-Frame.frame c.in-Frame.now in
-    let same = with_items_is c.self.inside.ends c.receive.new.ends
-    (omega (arith, c.receive.auto.ends, c.deref_mut-in-Frame.ensures.len)) in
-    subst (λ es. IsNetworkServedAt wire size node done x c.receive.result (nodes_of es)) (sym same)
+    subst (λ es. IsNetworkServedAt wire size node done x c.receive.result (nodes_of es)) (sym (same-receive g c))
     (answered_served wire size node done x _ _
     (c.receive.ensures.answered setups done other
     (subst (λ es. StandAfter wire size node done (nodes_of es)) (sym c.deref_mut-in-Frame.ensures.value) at))))
 
 pub returns-in-Exchange-clause-served : goal.returns-in-Exchange-clause-served
 returns-in-Exchange-clause-served g c = rw (← c.self.view_is, c.in-Exchange.is) (λ setups done other at.
-    let wire = wire_of g.C.FixedBytes.SIZE g.C.FixedBytes.spelled g.C.FixedBytes.value
-    g.C.Signature.FixedBytes.SIZE g.C.Signature.FixedBytes.spelled g.C.Signature.FixedBytes.value
-    g.C.PublicKey.verifies in
+    let wire = wire_in g.C.PublicKey.verifies g.C.FixedBytes g.C.Signature.FixedBytes in
     let size = length setups in
     let node = node_made g.C.Ord.cmp other setups in
     let x : NetworkCommand g.row.C.Denot g.row.C-Signature.Denot =
     command.Exchange c.in-Exchange.asker c.in-Exchange.replier c.in-Exchange.place
     c.in-Exchange.asker_now c.in-Exchange.replier_now in
-    let same = with_items_is c.self.inside.ends c.exchange.new.ends
-    (omega (arith, c.exchange.auto.ends, c.deref_mut-in-Exchange.ensures.len)) in
-    subst (λ es. IsNetworkServedAt wire size node done x c.exchange.result (nodes_of es)) (sym same)
+    subst (λ es. IsNetworkServedAt wire size node done x c.exchange.result (nodes_of es)) (sym (same-exchange g c))
     (answered_served wire size node done x _ _
     (c.exchange.ensures.answered setups done other
     (subst (λ es. StandAfter wire size node done (nodes_of es)) (sym c.deref_mut-in-Exchange.ensures.value) at))))
 
 pub returns-in-Call-clause-seen : goal.returns-in-Call-clause-seen
 returns-in-Call-clause-seen g c = rw (← c.self.view_is, c.in-Call.is) (
-    let wire = wire_of g.C.FixedBytes.SIZE g.C.FixedBytes.spelled g.C.FixedBytes.value
-    g.C.Signature.FixedBytes.SIZE g.C.Signature.FixedBytes.spelled g.C.Signature.FixedBytes.value
-    g.C.PublicKey.verifies in
+    let wire = wire_in g.C.PublicKey.verifies g.C.FixedBytes g.C.Signature.FixedBytes in
     let x : NetworkCommand g.row.C.Denot g.row.C-Signature.Denot =
     command.Call c.in-Call.node c.in-Call.command in
-    let same = with_items_is c.self.inside.ends c.step.new.ends
-    (omega (arith, c.step.auto.ends, c.deref_mut.ensures.len)) in
-    among g.C.Ord.cmp wire x c.step.result c.deref_mut.ensures.value same c.step.ensures.seen)
+    among g.C.Ord.cmp wire x c.step.result c.deref_mut.ensures.value (same-step g c) c.step.ensures.seen)
 
 pub returns-in-Call-clause-count : goal.returns-in-Call-clause-count
 returns-in-Call-clause-count g c = rw (← c.self.view_is) (
-    let same = with_items_is c.self.inside.ends c.step.new.ends
-    (omega (arith, c.step.auto.ends, c.deref_mut.ensures.len)) in
-    so_many _ _ (ap length same
-    ∙ omega (arith, c.step.auto.ends, c.deref_mut.ensures.len)))
+    so_many _ _ (ap length (same-step g c)
+    ∙ omega (arith, c.step.auto.endpoints, c.deref_mut.ensures.len)))
 
 pub returns-in-Frame-clause-seen : goal.returns-in-Frame-clause-seen
 returns-in-Frame-clause-seen g c = rw (← c.self.view_is, c.in-Frame.is) (
-    let wire = wire_of g.C.FixedBytes.SIZE g.C.FixedBytes.spelled g.C.FixedBytes.value
-    g.C.Signature.FixedBytes.SIZE g.C.Signature.FixedBytes.spelled g.C.Signature.FixedBytes.value
-    g.C.PublicKey.verifies in
+    let wire = wire_in g.C.PublicKey.verifies g.C.FixedBytes g.C.Signature.FixedBytes in
     let x : NetworkCommand g.row.C.Denot g.row.C-Signature.Denot =
     command.Frame c.in-Frame.node c.in-Frame.frame c.in-Frame.now in
-    let same = with_items_is c.self.inside.ends c.receive.new.ends
-    (omega (arith, c.receive.auto.ends, c.deref_mut-in-Frame.ensures.len)) in
-    among g.C.Ord.cmp wire x c.receive.result c.deref_mut-in-Frame.ensures.value same c.receive.ensures.seen)
+    among g.C.Ord.cmp wire x c.receive.result c.deref_mut-in-Frame.ensures.value (same-receive g c) c.receive.ensures.seen)
 
 pub returns-in-Frame-clause-count : goal.returns-in-Frame-clause-count
 returns-in-Frame-clause-count g c = rw (← c.self.view_is) (
-    let same = with_items_is c.self.inside.ends c.receive.new.ends
-    (omega (arith, c.receive.auto.ends, c.deref_mut-in-Frame.ensures.len)) in
-    so_many _ _ (ap length same
-    ∙ omega (arith, c.receive.auto.ends, c.deref_mut-in-Frame.ensures.len)))
+    so_many _ _ (ap length (same-receive g c)
+    ∙ omega (arith, c.receive.auto.endpoints, c.deref_mut-in-Frame.ensures.len)))
 
 pub returns-in-Exchange-clause-seen : goal.returns-in-Exchange-clause-seen
 returns-in-Exchange-clause-seen g c = rw (← c.self.view_is, c.in-Exchange.is) (
-    let wire = wire_of g.C.FixedBytes.SIZE g.C.FixedBytes.spelled g.C.FixedBytes.value
-    g.C.Signature.FixedBytes.SIZE g.C.Signature.FixedBytes.spelled g.C.Signature.FixedBytes.value
-    g.C.PublicKey.verifies in
+    let wire = wire_in g.C.PublicKey.verifies g.C.FixedBytes g.C.Signature.FixedBytes in
     let x : NetworkCommand g.row.C.Denot g.row.C-Signature.Denot =
     command.Exchange c.in-Exchange.asker c.in-Exchange.replier c.in-Exchange.place
     c.in-Exchange.asker_now c.in-Exchange.replier_now in
-    let same = with_items_is c.self.inside.ends c.exchange.new.ends
-    (omega (arith, c.exchange.auto.ends, c.deref_mut-in-Exchange.ensures.len)) in
-    among g.C.Ord.cmp wire x c.exchange.result c.deref_mut-in-Exchange.ensures.value same c.exchange.ensures.seen)
+    among g.C.Ord.cmp wire x c.exchange.result c.deref_mut-in-Exchange.ensures.value (same-exchange g c) c.exchange.ensures.seen)
 
 pub returns-in-Exchange-clause-count : goal.returns-in-Exchange-clause-count
 returns-in-Exchange-clause-count g c = rw (← c.self.view_is) (
-    let same = with_items_is c.self.inside.ends c.exchange.new.ends
-    (omega (arith, c.exchange.auto.ends, c.deref_mut-in-Exchange.ensures.len)) in
-    so_many _ _ (ap length same
-    ∙ omega (arith, c.exchange.auto.ends, c.deref_mut-in-Exchange.ensures.len)))
+    so_many _ _ (ap length (same-exchange g c)
+    ∙ omega (arith, c.exchange.auto.endpoints, c.deref_mut-in-Exchange.ensures.len)))
 
 pub returns-in-Ask-clause-seen : goal.returns-in-Ask-clause-seen
 returns-in-Ask-clause-seen g c = rw (← c.self.view_is, c.in-Ask.is) (
-    let wire = wire_of g.C.FixedBytes.SIZE g.C.FixedBytes.spelled g.C.FixedBytes.value
-    g.C.Signature.FixedBytes.SIZE g.C.Signature.FixedBytes.spelled g.C.Signature.FixedBytes.value
-    g.C.PublicKey.verifies in
+    let wire = wire_in g.C.PublicKey.verifies g.C.FixedBytes g.C.Signature.FixedBytes in
     let x : NetworkCommand g.row.C.Denot g.row.C-Signature.Denot =
     command.Ask c.in-Ask.node c.in-Ask.place in
     subst (λ es. IsServedAmong g.C.Ord.cmp wire x c.ask.result (nodes_of es) (nodes_of es))
     c.deref.ensures.value c.ask.ensures.seen)
 
 pub invariant_of-self : goal.invariant_of-self
-invariant_of-self g c =
-    let same = with_items_is c.self.inside.ends c.step.new.ends
-    (omega (arith, c.step.auto.ends, c.deref_mut.ensures.len)) in (
-      c.self.invariant.0,
-      omega (arith, ap length same, c.step.auto.ends, c.deref_mut.ensures.len, c.self.invariant.1),
-    )
+invariant_of-self g c = (
+  c.self.invariant.0,
+  omega (arith, ap length (same-step g c), c.step.auto.endpoints, c.deref_mut.ensures.len, c.self.invariant.1),
+)
 
 pub invariant_of-self-in-Frame : goal.invariant_of-self-in-Frame
-invariant_of-self-in-Frame g c =
-    let same = with_items_is c.self.inside.ends c.receive.new.ends
-    (omega (arith, c.receive.auto.ends, c.deref_mut-in-Frame.ensures.len)) in (
-      c.self.invariant.0,
-      omega (arith, ap length same, c.receive.auto.ends, c.deref_mut-in-Frame.ensures.len, c.self.invariant.1),
-    )
+invariant_of-self-in-Frame g c = (
+  c.self.invariant.0,
+  omega (arith, ap length (same-receive g c), c.receive.auto.endpoints, c.deref_mut-in-Frame.ensures.len, c.self.invariant.1),
+)
 
 pub invariant_of-self-in-Exchange : goal.invariant_of-self-in-Exchange
-invariant_of-self-in-Exchange g c =
-    let same = with_items_is c.self.inside.ends c.exchange.new.ends
-    (omega (arith, c.exchange.auto.ends, c.deref_mut-in-Exchange.ensures.len)) in (
-      c.self.invariant.0,
-      omega (arith, ap length same, c.exchange.auto.ends, c.deref_mut-in-Exchange.ensures.len, c.self.invariant.1),
-    )
+invariant_of-self-in-Exchange g c = (
+  c.self.invariant.0,
+  omega (arith, ap length (same-exchange g c), c.exchange.auto.endpoints, c.deref_mut-in-Exchange.ensures.len, c.self.invariant.1),
+)
 
 pub returns-in-Call-clause-unchanged : goal.returns-in-Call-clause-unchanged
 returns-in-Call-clause-unchanged g c = rw (← c.self.view_is) (λ no.
-    let same = with_items_is c.self.inside.ends c.step.new.ends
-    (omega (arith, c.step.auto.ends, c.deref_mut.ensures.len)) in
-    ap (λ es. nodes_of es) same ∙ c.step.ensures.unchanged no ∙ ap (λ es. nodes_of es) c.deref_mut.ensures.value)
+    ap (λ es. nodes_of es) (same-step g c) ∙ c.step.ensures.unchanged no ∙ ap (λ es. nodes_of es) c.deref_mut.ensures.value)
 
 pub returns-in-Frame-clause-unchanged : goal.returns-in-Frame-clause-unchanged
 returns-in-Frame-clause-unchanged g c = rw (← c.self.view_is) (λ no.
-    let same = with_items_is c.self.inside.ends c.receive.new.ends
-    (omega (arith, c.receive.auto.ends, c.deref_mut-in-Frame.ensures.len)) in
-    ap (λ es. nodes_of es) same ∙ c.receive.ensures.unchanged no ∙ ap (λ es. nodes_of es) c.deref_mut-in-Frame.ensures.value)
+    ap (λ es. nodes_of es) (same-receive g c) ∙ c.receive.ensures.unchanged no ∙ ap (λ es. nodes_of es) c.deref_mut-in-Frame.ensures.value)
 
 pub returns-in-Exchange-clause-unchanged : goal.returns-in-Exchange-clause-unchanged
 returns-in-Exchange-clause-unchanged g c = rw (← c.self.view_is) (λ no.
-    let same = with_items_is c.self.inside.ends c.exchange.new.ends
-    (omega (arith, c.exchange.auto.ends, c.deref_mut-in-Exchange.ensures.len)) in
-    ap (λ es. nodes_of es) same ∙ c.exchange.ensures.unchanged no ∙ ap (λ es. nodes_of es) c.deref_mut-in-Exchange.ensures.value)
+    ap (λ es. nodes_of es) (same-exchange g c) ∙ c.exchange.ensures.unchanged no ∙ ap (λ es. nodes_of es) c.deref_mut-in-Exchange.ensures.value)

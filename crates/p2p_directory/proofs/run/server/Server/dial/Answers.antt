@@ -1,10 +1,7 @@
-use Rattle.std.proofs.Common.{◌≡◌, Option, Some, None, sym, subst, ap, ◌∙◌, refl}
+use Rattle.std.proofs.Common.{◌≡◌, Some, sym, subst, ap, ◌∙◌, refl}
 use Rattle.std.specs.Prelude.{if◌then◌else◌}
 use Rattle.std.specs.Option.{option_map}
 use Rattle.std.specs.BTreeMap.{is_at}
-use Rattle.p2p_discovery.specs.declared.types.ingress.Ingress.{Ingress}
-use Rattle.p2p_tracker.specs.declared.directory.Metadata.{Metadata}
-use Rattle.p2p_tracker.specs.declared.directory.Metadata.TheVariants as metadata
 use Rattle.p2p_tracker.specs.Record.{reserved_record}
 use Rattle.p2p_tracker.specs.Directory.{ingress_in, IsBusy}
 use Rattle.p2p_tracker.specs.Seen.{key_of}
