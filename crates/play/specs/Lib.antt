@@ -1,2 +1,2 @@
 pub mod Session
-pub mod Requests
+pub mod Answers

@@ -1,22 +1,18 @@
 //! Serves typed lines to nodes: `echo 'track 0 1,2' | play`.
 #![tactic(auto)]
 
-mod fault;
+mod answer;
 mod label;
-mod parse;
 mod play;
-mod request;
 mod session;
-mod usage;
-mod value;
 
+use lines::Help;
 use play::{Mode, Stop, play};
 use std::fmt::Display;
 use std::fs::File;
 use std::io::{BufReader, BufWriter, Write};
 use std::process::ExitCode;
 use std::{env, io};
-use usage::Help;
 
 // Whether everything was as expected, and each line could be read.
 type Ended = Result<bool, Stop>;

@@ -2,13 +2,11 @@
 
 ghost use Rattle.std.specs.Prelude.{◌≡◌, IfOk, OnErr};
 ghost use Rattle.p2p_directory.specs.Received.{wire_of};
-ghost use Rattle.play.specs.Requests.{AnswersSome};
+ghost use Rattle.play.specs.Answers.{AnswersSome};
 
-use crate::fault::Fault;
-use crate::parse;
-use crate::request::{Answer, serve};
+use crate::answer::{Answer, serve};
 use crate::session::Session;
-use lines::is_printed_as;
+use lines::{Fault, default_setup, is_printed_as, request};
 use p2p_discovery::codec::{FixedBytes, PublicKey, TestKey, TestSignature};
 use std::alloc::{AllocError, Global};
 use std::fmt::{self, Display};
@@ -125,7 +123,7 @@ pub fn play<R: Read + Drop, W: Write>(
 
 // Makes the first node.
 fn begin(alloc: Global, session: &mut Session<TestKey>) -> Result<(), Stop> {
-    let made = match parse::default_setup(alloc) {
+    let made = match default_setup(alloc) {
         Ok(setup) => session.put(alloc, "", setup),
         Err(AllocError) => Err(AllocError),
     };
@@ -287,11 +285,9 @@ fn answer(
 ) -> Result<Answer<TestKey>, Fault>
     ensures err { OnErr result (session.new ≡ session.old) }
     ensures ok { IfOk result (λ answer. AnswersSome ⟦<TestKey as Ord>⟧.cmp
-        (wire_of ⟦<TestKey as FixedBytes>⟧.SIZE ⟦<TestKey as FixedBytes>⟧.spelled
-        ⟦<TestKey as FixedBytes>⟧.value ⟦<TestSignature as FixedBytes>⟧.SIZE
-        ⟦<TestSignature as FixedBytes>⟧.spelled ⟦<TestSignature as FixedBytes>⟧.value
-        ⟦<TestKey as PublicKey>⟧.verifies) answer session.old session.new) }
+        (wire_of ⟦<TestKey as PublicKey>⟧.verifies ⟦<TestKey as FixedBytes>⟧
+        ⟦<TestSignature as FixedBytes>⟧) answer session.old session.new) }
 {
-    let request = parse::request(alloc, line, session)?;
+    let request = request(alloc, line, session)?;
     Ok(serve(alloc, session, request))
 }

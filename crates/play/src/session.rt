@@ -9,6 +9,7 @@ ghost use Rattle.p2p_directory.specs.Received.{wire_of};
 ghost use Rattle.play.specs.Session.{IsPut, IsCalled};
 
 use crate::label::Label;
+use lines::Nodes;
 use p2p_directory::node::{Network, NetworkCommand, NetworkReply, Setup};
 use p2p_discovery::codec::PublicKey;
 use std::alloc::{AllocError, Global};
@@ -57,16 +58,6 @@ impl<C: PublicKey> Session<C> {
         place_in(&self.labels, name)
     }
 
-    /// The number of the node that was last made or named; 0 if there is none.
-    pub fn latest(&self) -> usize {
-        self.latest
-    }
-
-    /// The name of a node, or `None` if there is no such node.
-    pub fn label(&self, node: usize) -> Option<&Label> {
-        self.labels.get(node)
-    }
-
     /// Adds a new node of this name and setup. If there is one of that name, it is replaced, and
     /// all its reservations are released.
     ///
@@ -93,7 +84,7 @@ impl<C: PublicKey> Session<C> {
             }
             None => {
                 self.labels.reserve(1)?;
-                let place = self.nodes.nodes();
+                let place = self.nodes.len();
                 self.nodes.add(alloc, setup)?;
                 self.labels.push_reserved(label);
                 self.latest = place;
@@ -106,9 +97,8 @@ impl<C: PublicKey> Session<C> {
     /// command to a node that doesn't exist, or to an exchange of a node with itself, is `NoNode`.
     pub fn serve(&mut self, command: NetworkCommand<C>) -> NetworkReply<C>
         ensures labels { self.new.labels ≡ self.old.labels }
-        ensures served { IsServedAmong C.cmp (wire_of C.SIZE C.spelled C.value
-            C.Signature.SIZE C.Signature.spelled C.Signature.value C.verifies)
-            command result self.old.nodes self.new.nodes }
+        ensures served { let wire = wire_of C.verifies C.FixedBytes C.Signature.FixedBytes in
+            IsServedAmong C.cmp wire command result self.old.nodes self.new.nodes }
     {
         self.latest = named_by(&command);
         self.nodes.serve(command)
@@ -122,6 +112,23 @@ impl<C: PublicKey> Session<C> {
             latest: _,
         } = self;
         nodes.finish();
+    }
+}
+
+impl<C: PublicKey> Nodes for Session<C> {
+    fn node_of(&self, name: &str) -> Option<usize> {
+        self.place_of(name)
+    }
+
+    fn latest_node(&self) -> usize {
+        self.latest
+    }
+
+    fn namespace_of(&self, node: usize) -> &[u8] {
+        match self.labels.get(node) {
+            Some(label) => label.namespace.as_slice(),
+            None => b"",
+        }
     }
 }
 

@@ -8,14 +8,14 @@
 #![tactic(auto)]
 
 mod frames;
-mod given;
 mod networks;
 mod pairs;
 mod runs;
 mod starts;
 mod told;
 
-use std::alloc::{AllocError, Global};
+use lines::{Fault, Unreadable};
+use std::alloc::Global;
 use std::env;
 use std::io::Write;
 use std::process::ExitCode;
@@ -30,11 +30,11 @@ fn word(rt: &HostRuntime) -> Option<String> {
 
 // Performs the operation of this name, and says in the text what comes of it. Returns whether
 // everything is as it should be.
-fn is_as_before(alloc: Global, name: &str, text: &mut String) -> Result<bool, AllocError> {
+fn is_as_before(alloc: Global, name: &str, text: &mut String) -> Result<bool, Unreadable> {
     match name {
         "init" => starts::directory(alloc, text),
         "node" => starts::node(alloc, text),
-        "encoded" => frames::encoded(alloc, text),
+        "encoded" => Ok(frames::encoded(alloc, text)?),
         "exchange" => pairs::exchanged(alloc, text),
         "pair16a" => pairs::run_of_two(alloc, text),
         "network" => networks::three(alloc, text),
@@ -53,7 +53,11 @@ fn main(rt: HostRuntime) -> ExitCode {
     let status = match is_good {
         Ok(is_good) if is_good && is_written => 0,
         Ok(_) => 1,
-        Err(AllocError) => 3,
+        Err(error) if error.fault == Fault::Memory => 3,
+        Err(error) => {
+            let _printed = println!(rt; "{error}");
+            1
+        }
     };
     ExitCode::from(status)
 }

@@ -1,38 +1,56 @@
 //! A network: nodes are added, one asks another, and one is replaced. What fails is done again.
 
-use crate::given::{At, Given, setup};
+ghost use Rattle.std.specs.Prelude.{IfOk};
+ghost use Rattle.lines.specs.Requests.{CanServe};
+
 use crate::told::{compares, mark, tells};
-use p2p_directory::node::{Exchanged, Network, NetworkCommand, NetworkReply};
+use lines::{NAMESPACE, Nodes, Request, Unreadable, request};
+use p2p_directory::node::{Exchanged, Network, NetworkReply};
 use p2p_directory::run::Reply;
 use p2p_discovery::codec::TestKey;
 use std::alloc::{AllocError, Global};
 use std::fmt::Write;
 
+static LINES: [&'static str; 11] = [
+    "node a",
+    "node b own=8",
+    "a: track 0 1,2",
+    "b: track 0 1,2",
+    "b: update 1@100000",
+    "b: listen 1 50",
+    "b: connect 1 false",
+    "node c own=7",
+    "a: exchange b 0 100 100",
+    "node c own=6",
+    "c: track 0 1",
+];
+
+// Three nodes.
 #[derive(Clone, Copy)]
-enum Deed {
-    // A node of this key is added.
-    Add(u64),
-    // The node serves this.
-    Call(usize, Given),
-    // The first node asks the second for the set at position 0, at time 100 for both.
-    Exchange(usize, usize),
-    // A node of this key replaces another.
-    Replace(usize, u64),
+struct Names;
+
+impl Nodes for Names {
+    fn node_of(&self, name: &str) -> Option<usize> {
+        ["a", "b", "c"].iter().position(|given| *given == name)
+    }
+
+    fn latest_node(&self) -> usize {
+        0
+    }
+
+    fn namespace_of(&self, _node: usize) -> &[u8] {
+        NAMESPACE
+    }
 }
 
-static DEEDS: [Deed; 11] = [
-    Deed::Add(9),
-    Deed::Add(8),
-    Deed::Call(0, Given::Track(0, &[1, 2], &[])),
-    Deed::Call(1, Given::Track(0, &[1, 2], &[])),
-    Deed::Call(1, Given::Update(&[(1, 100_000, 8_001)])),
-    Deed::Call(1, Given::Listen(1, At(50, 0))),
-    Deed::Call(1, Given::Connect(1)),
-    Deed::Add(7),
-    Deed::Exchange(0, 1),
-    Deed::Replace(2, 6),
-    Deed::Call(2, Given::Track(0, &[1], &[])),
-];
+fn read(alloc: Global, line: &'static str) -> Result<Request<TestKey>, Unreadable>
+    ensures { IfOk result CanServe }
+{
+    match request(alloc, line, &Names) {
+        Ok(request) => Ok(request),
+        Err(fault) => Err(Unreadable { line, fault }),
+    }
+}
 
 fn unless_refused(reply: &NetworkReply<TestKey>) -> Result<(), AllocError> {
     match reply {
@@ -43,47 +61,58 @@ fn unless_refused(reply: &NetworkReply<TestKey>) -> Result<(), AllocError> {
     }
 }
 
-// Does it, or leaves the nodes as they were.
-fn does(alloc: Global, nodes: &mut Network<TestKey>, deed: Deed) -> Result<(), AllocError> {
-    match deed {
-        Deed::Add(key) => nodes.add(alloc, setup(alloc, key, Vec::new(alloc))?),
-        Deed::Call(node, given) => {
-            let command = given.command(alloc)?;
-            unless_refused(&nodes.serve(NetworkCommand::Call(node, command)))
-        }
-        Deed::Exchange(asker, replier) => {
-            unless_refused(&nodes.serve(NetworkCommand::Exchange {
-                asker,
-                replier,
-                place: 0,
-                asker_now: At(100, 0).moment(),
-                replier_now: At(100, 0).moment(),
-            }))
-        }
-        Deed::Replace(node, key) => {
-            let setup = setup(alloc, key, Vec::new(alloc))?;
-            nodes.replace(alloc, node, setup)?;
-            Ok(())
-        }
+// Does what the line requests, or leaves the nodes as they were.
+fn does(
+    alloc: Global,
+    nodes: &mut Network<TestKey>,
+    request: Request<TestKey>,
+) -> Result<(), AllocError>
+    requires { CanServe request }
+{
+    match request {
+        Request::Node(name, setup) => match Names.node_of(name.as_str()) {
+            Some(node) if node < nodes.len() => {
+                nodes.replace(alloc, node, setup)?;
+                Ok(())
+            }
+            _ => nodes.add(alloc, setup),
+        },
+        Request::Command(command) => unless_refused(&nodes.serve(command)),
+        Request::Decode(..) | Request::Recode(..) | Request::Encode(_) => Ok(()),
     }
 }
 
-// Does all in turn, and returns whether an allocation failed.
-fn does_all(alloc: Global, nodes: &mut Network<TestKey>) -> Result<bool, AllocError> {
+// Does all in turn, each between two marks or none, and returns whether an allocation failed. What
+// fails is done again.
+fn does_all(
+    alloc: Global,
+    nodes: &mut Network<TestKey>,
+    is_marked: bool,
+) -> Result<bool, Unreadable> {
     let mut is_refused = false;
-    for deed in &DEEDS {
-        if does(alloc, nodes, *deed).is_err() {
+    for line in &LINES {
+        let request = read(alloc, *line)?;
+        mark_if(alloc, is_marked);
+        let done = does(alloc, nodes, request);
+        mark_if(alloc, is_marked);
+        if done.is_err() {
             is_refused = true;
-            does(alloc, nodes, *deed)?;
+            does(alloc, nodes, read(alloc, *line)?)?;
         }
     }
     Ok(is_refused)
 }
 
+fn mark_if(alloc: Global, is_marked: bool) {
+    if is_marked {
+        mark(alloc);
+    }
+}
+
 // The results of all queries of the directories.
 fn questions_of(alloc: Global, nodes: &Network<TestKey>) -> Result<String, AllocError> {
     let mut words = String::new(alloc);
-    for node in 0..nodes.nodes() {
+    for node in 0..nodes.len() {
         if let Some(directory) = nodes.directory(node) {
             tells(&mut words, alloc, directory)?;
         }
@@ -98,15 +127,9 @@ struct Left {
     questions: String,
 }
 
-fn left_of(alloc: Global, is_marked: bool) -> Result<Left, AllocError> {
+fn left_of(alloc: Global, is_marked: bool) -> Result<Left, Unreadable> {
     let mut nodes = Network::empty(alloc);
-    if is_marked {
-        mark(alloc);
-    }
-    let done = does_all(alloc, &mut nodes);
-    if is_marked {
-        mark(alloc);
-    }
+    let done = does_all(alloc, &mut nodes, is_marked);
     let questions = questions_of(alloc, &nodes);
     nodes.finish();
     Ok(Left {
@@ -116,11 +139,11 @@ fn left_of(alloc: Global, is_marked: bool) -> Result<Left, AllocError> {
 }
 
 /// A network of three nodes, compared with one in which no allocation failed.
-pub fn three(alloc: Global, text: &mut String) -> Result<bool, AllocError> {
+pub fn three(alloc: Global, text: &mut String) -> Result<bool, Unreadable> {
     let ample = left_of(alloc, false)?;
     let left = left_of(alloc, true)?;
     if left.is_refused {
         write!(text, "out of memory\n")?;
     }
-    compares(text, "questions", &left.questions, &ample.questions)
+    Ok(compares(text, "questions", &left.questions, &ample.questions)?)
 }

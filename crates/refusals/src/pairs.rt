@@ -1,67 +1,18 @@
 //! Two nodes: a run of both, and one exchange.
 
-use crate::given::{At, Given, setup};
 use crate::told::{compares, mark, tells, words_of};
-use lines::Line;
+use lines::examples::all_lines;
+use lines::examples::exchanges::PARTS;
+use lines::{Line, Unreadable, commands, pair_commands, setup};
 use p2p_directory::directory::Directory;
 use p2p_directory::node::{
-    Exchanged, Node, PairCommand, PairReply, PairRun, Received, Side, exchange, run_pair,
+    Exchanged, Node, PairCommand, PairReply, PairRun, Received, exchange, run_pair,
 };
-use p2p_directory::run::{Command, Reply};
+use p2p_directory::run::Reply;
 use p2p_discovery::codec::TestKey;
 use std::alloc::{AllocError, Global};
 use std::fmt::Write;
 use std::time::Duration;
-
-// What is done to two nodes: the asker is the left one, and it asks for position 0.
-#[derive(Clone, Copy)]
-enum Deed {
-    Asker(Given),
-    Replier(Given),
-    Ask,
-    // The times of the asker and of the replier.
-    Exchange(At, At),
-}
-
-// The first part of worked example 16.
-static DEEDS: [Deed; 12] = [
-    Deed::Asker(Given::Track(0, &[1, 2], &[])),
-    Deed::Replier(Given::Track(0, &[1, 2], &[])),
-    Deed::Replier(Given::Update(&[(1, 100_000, 8_001)])),
-    Deed::Replier(Given::Listen(1, At(50, 0))),
-    Deed::Replier(Given::Connect(1)),
-    Deed::Ask,
-    Deed::Exchange(At(69, 999_000_000), At(100, 0)),
-    Deed::Exchange(At(69, 999_999_999), At(100, 0)),
-    Deed::Asker(Given::Bits(0)),
-    Deed::Exchange(At(70, 0), At(100, 0)),
-    Deed::Asker(Given::Bits(0)),
-    Deed::Exchange(At(70, 0), At(100, 0)),
-];
-
-impl Deed {
-    fn command(self, alloc: Global) -> Result<PairCommand<TestKey>, AllocError> {
-        match self {
-            Deed::Asker(given) => Ok(PairCommand::Call(Side::Left, given.command(alloc)?)),
-            Deed::Replier(given) => Ok(PairCommand::Call(Side::Right, given.command(alloc)?)),
-            Deed::Ask => Ok(PairCommand::Ask(Side::Left, 0)),
-            Deed::Exchange(asker_now, replier_now) => Ok(PairCommand::Exchange {
-                asker: Side::Left,
-                place: 0,
-                asker_now: asker_now.moment(),
-                replier_now: replier_now.moment(),
-            }),
-        }
-    }
-}
-
-fn commands_of(alloc: Global, deeds: &[Deed]) -> Result<Vec<PairCommand<TestKey>>, AllocError> {
-    let mut commands = Vec::new(alloc);
-    for deed in deeds {
-        commands.push(deed.command(alloc)?)?;
-    }
-    Ok(commands)
-}
 
 fn is_out_of_memory(reply: &PairReply<TestKey>) -> bool {
     match reply {
@@ -71,12 +22,12 @@ fn is_out_of_memory(reply: &PairReply<TestKey>) -> bool {
     }
 }
 
-// A run of these steps, with ample memory.
-fn run_over(alloc: Global, deeds: &[Deed]) -> Result<PairRun<TestKey>, AllocError> {
-    let commands = commands_of(alloc, deeds)?;
-    let left = setup(alloc, 9, Vec::new(alloc))?;
-    let right = setup(alloc, 8, Vec::new(alloc))?;
-    run_pair(alloc, left, right, commands)
+// A run of these lines, with ample memory.
+fn run_over(alloc: Global, lines: &[&'static str]) -> Result<PairRun<TestKey>, Unreadable> {
+    let commands = pair_commands(alloc, lines)?;
+    let left = setup(alloc, PARTS[0].asker)?;
+    let right = setup(alloc, PARTS[0].replier)?;
+    Ok(run_pair(alloc, left, right, commands)?)
 }
 
 fn finish(ended: PairRun<TestKey>) {
@@ -125,19 +76,23 @@ fn read_words(alloc: Global, ended: &PairRun<TestKey>) -> Result<Words, AllocErr
     })
 }
 
-fn words_over(alloc: Global, deeds: &[Deed]) -> Result<Words, AllocError> {
-    let ended = run_over(alloc, deeds)?;
+fn words_over(alloc: Global, lines: &[&'static str]) -> Result<Words, Unreadable> {
+    let ended = run_over(alloc, lines)?;
     let words = read_words(alloc, &ended);
     finish(ended);
-    words
+    Ok(words?)
 }
 
-// The steps that didn't run out of memory.
-fn accepted(alloc: Global, replies: &[PairReply<TestKey>]) -> Result<Vec<Deed>, AllocError> {
+// The lines that didn't run out of memory.
+fn accepted(
+    alloc: Global,
+    lines: &[&'static str],
+    replies: &[PairReply<TestKey>],
+) -> Result<Vec<&'static str>, AllocError> {
     let mut accepted = Vec::new(alloc);
-    for (deed, reply) in DEEDS.iter().zip(replies) {
+    for (line, reply) in lines.iter().zip(replies) {
         if !is_out_of_memory(reply) {
-            accepted.push(*deed)?;
+            accepted.push(*line)?;
         }
     }
     Ok(accepted)
@@ -146,12 +101,13 @@ fn accepted(alloc: Global, replies: &[PairReply<TestKey>]) -> Result<Vec<Deed>, 
 fn tells_of_two(
     alloc: Global,
     text: &mut String,
+    lines: &[&'static str],
     ended: &PairRun<TestKey>,
-) -> Result<bool, AllocError> {
+) -> Result<bool, Unreadable> {
     for reply in &ended.replies {
         write!(text, "{}\n", Line(reply))?;
     }
-    let accepted = accepted(alloc, ended.replies.as_slice())?;
+    let accepted = accepted(alloc, lines, ended.replies.as_slice())?;
     let words = read_words(alloc, ended)?;
     let others = words_over(alloc, accepted.as_slice())?;
     let is_same = compares(
@@ -165,16 +121,17 @@ fn tells_of_two(
 }
 
 /// `run_pair` of the first part of worked example 16.
-pub fn run_of_two(alloc: Global, text: &mut String) -> Result<bool, AllocError> {
-    let commands = commands_of(alloc, &DEEDS)?;
-    let left = setup(alloc, 9, Vec::new(alloc))?;
-    let right = setup(alloc, 8, Vec::new(alloc))?;
+pub fn run_of_two(alloc: Global, text: &mut String) -> Result<bool, Unreadable> {
+    let lines = all_lines(alloc, PARTS[0].prepared, PARTS[0].steps)?;
+    let commands = pair_commands(alloc, lines.as_slice())?;
+    let left = setup(alloc, PARTS[0].asker)?;
+    let right = setup(alloc, PARTS[0].replier)?;
     mark(alloc);
     let ended = run_pair(alloc, left, right, commands);
     mark(alloc);
     match ended {
         Ok(ended) => {
-            let told = tells_of_two(alloc, text, &ended);
+            let told = tells_of_two(alloc, text, lines.as_slice(), &ended);
             finish(ended);
             told
         }
@@ -185,22 +142,15 @@ pub fn run_of_two(alloc: Global, text: &mut String) -> Result<bool, AllocError> 
     }
 }
 
-static ASKER: [Given; 1] = [Given::Track(0, &[1, 2], &[])];
-
-static REPLIER: [Given; 4] = [
-    Given::Track(0, &[1, 2], &[]),
-    Given::Update(&[(1, 100_000, 8_001)]),
-    Given::Listen(1, At(50, 0)),
-    Given::Connect(1),
-];
-
-// A node of this key to which this was done.
-fn prepared(alloc: Global, key: u64, given: &[Given]) -> Result<Node<TestKey>, AllocError> {
-    let mut commands: Vec<Command<TestKey>> = Vec::new(alloc);
-    for one in given {
-        commands.push(one.command(alloc)?)?;
-    }
-    let mut node = Node::new(alloc, setup(alloc, key, Vec::new(alloc))?)?;
+// A node with these settings that served the lines.
+fn prepared(
+    alloc: Global,
+    settings: &'static str,
+    lines: &[&'static str],
+) -> Result<Node<TestKey>, Unreadable> {
+    let setup = setup(alloc, settings)?;
+    let commands = commands(alloc, lines)?;
+    let mut node = Node::new(alloc, setup)?;
     for command in commands {
         let _reply = node.step(command);
     }
@@ -236,17 +186,23 @@ fn tells_of_exchange(
 }
 
 /// `exchange` of an asker with a replier that knows of one peer.
-pub fn exchanged(alloc: Global, text: &mut String) -> Result<bool, AllocError> {
-    let mut asker = prepared(alloc, 9, &ASKER)?;
-    let replier = match prepared(alloc, 8, &REPLIER) {
+pub fn exchanged(alloc: Global, text: &mut String) -> Result<bool, Unreadable> {
+    let mut asker = prepared(alloc, "", &["track 0 1,2"])?;
+    let lines = [
+        "track 0 1,2",
+        "update 1@100000",
+        "listen 1 50",
+        "connect 1 false",
+    ];
+    let replier = match prepared(alloc, "own=8", &lines) {
         Ok(replier) => replier,
-        Err(AllocError) => {
+        Err(error) => {
             asker.finish();
-            return Err(AllocError);
+            return Err(error);
         }
     };
     let told = tells_of_exchange(alloc, text, &mut asker, &replier);
     asker.finish();
     replier.finish();
-    told
+    Ok(told?)
 }

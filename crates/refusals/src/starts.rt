@@ -1,24 +1,22 @@
 //! Directories and nodes that are made.
 
-use crate::given::{config, ingress, own_info, setup};
+ghost use Rattle.std.specs.Prelude.{◌<◌, ◌-◌, ◌^◌};
+ghost use Rattle.std.specs.Int.NonZero.{non_zero_usize_get};
+
 use crate::told::{compares, mark, words_of};
+use lines::{Unreadable, setup};
 use p2p_directory::directory::Directory;
-use p2p_directory::node::Node;
+use p2p_directory::node::{Node, Setup};
 use p2p_discovery::codec::TestKey;
-use p2p_discovery::types::Ingress;
 use std::alloc::{AllocError, Global};
 use std::fmt::Write;
 
 // More bootstrappers than one node of a tree holds; one key occurs twice, and the local key is
 // among them.
-fn bootstrappers(alloc: Global) -> Result<Vec<(TestKey, Ingress)>, AllocError> {
-    let mut bootstrappers = Vec::new(alloc);
-    for key in 1..18u16 {
-        bootstrappers.push((TestKey(u64::from(key)), ingress(8_000 + key)))?;
-    }
-    bootstrappers.push((TestKey(1), ingress(8_018)))?;
-    Ok(bootstrappers)
-}
+const SETTINGS: &str = "boot=1@1.2.3.4:8001,2@1.2.3.4:8002,3@1.2.3.4:8003,4@1.2.3.4:8004,\
+    5@1.2.3.4:8005,6@1.2.3.4:8006,7@1.2.3.4:8007,8@1.2.3.4:8008,9@1.2.3.4:8009,\
+    10@1.2.3.4:8010,11@1.2.3.4:8011,12@1.2.3.4:8012,13@1.2.3.4:8013,14@1.2.3.4:8014,\
+    15@1.2.3.4:8015,16@1.2.3.4:8016,17@1.2.3.4:8017,1@1.2.3.4:8018";
 
 // Says what was made, or that an allocation failed; then it is made again.
 fn compares_with(
@@ -48,14 +46,27 @@ fn compares_with(
     }
 }
 
+// The directory of a node with this setup.
+fn init(alloc: Global, setup: Setup<TestKey>) -> Result<Directory<TestKey>, AllocError>
+    requires { non_zero_usize_get setup.cfg.max_sets < 2 ^ 64 - 1 }
+{
+    let Setup {
+        bootstrappers,
+        myself,
+        cfg,
+        ..
+    } = setup;
+    Directory::init(alloc, bootstrappers, myself, cfg)
+}
+
 /// `Directory::init`.
-pub fn directory(alloc: Global, text: &mut String) -> Result<bool, AllocError> {
-    let given = bootstrappers(alloc)?;
+pub fn directory(alloc: Global, text: &mut String) -> Result<bool, Unreadable> {
+    let given = setup(alloc, SETTINGS)?;
     mark(alloc);
-    let made = Directory::init(alloc, given, own_info(9), config(0));
+    let made = init(alloc, given);
     mark(alloc);
-    let again = Directory::init(alloc, bootstrappers(alloc)?, own_info(9), config(0))?;
-    compares_with(alloc, text, made, again)
+    let again = init(alloc, setup(alloc, SETTINGS)?)?;
+    Ok(compares_with(alloc, text, made, again)?)
 }
 
 // The directory that remains of a node that was made.
@@ -67,12 +78,12 @@ fn finished(made: Result<Node<TestKey>, AllocError>) -> Result<Directory<TestKey
 }
 
 /// `Node::new`.
-pub fn node(alloc: Global, text: &mut String) -> Result<bool, AllocError> {
-    let given = setup(alloc, 9, bootstrappers(alloc)?)?;
+pub fn node(alloc: Global, text: &mut String) -> Result<bool, Unreadable> {
+    let given = setup(alloc, SETTINGS)?;
     mark(alloc);
     let made = Node::new(alloc, given);
     mark(alloc);
     let made = finished(made);
-    let again = Node::new(alloc, setup(alloc, 9, bootstrappers(alloc)?)?)?;
-    compares_with(alloc, text, made, again.finish())
+    let again = Node::new(alloc, setup(alloc, SETTINGS)?)?;
+    Ok(compares_with(alloc, text, made, again.finish())?)
 }

@@ -4,6 +4,7 @@ ghost use Rattle.std.specs.Prelude.{◌≤◌, ◌≡◌, Ok, Err, codes, map, s
 ghost use Rattle.std.specs.Io.KnownBytes.{Appends};
 ghost use Rattle.rows.specs.Words.{IsRow};
 
+use lines::{Fault, Unreadable, examples};
 use std::alloc::{AllocError, AllocFailed, Global};
 use std::fmt::Display;
 use std::io::{self, Write};
@@ -13,7 +14,6 @@ mod directory;
 mod frames;
 mod judged;
 mod pair;
-mod setting;
 mod sizes;
 
 /// Why an example ends early.
@@ -23,6 +23,8 @@ enum Stop {
     Memory,
     /// A line could not be written.
     Write,
+    /// A line of the example can't be read.
+    Unreadable(Unreadable),
 }
 
 impl From<AllocError> for Stop {
@@ -38,6 +40,15 @@ impl<T: Drop> From<AllocFailed<T>> for Stop {
         ensures { result ≡ Stop.Memory }
     {
         Stop::Memory
+    }
+}
+
+impl From<Unreadable> for Stop {
+    fn from(error: Unreadable) -> Stop {
+        match error.fault {
+            Fault::Memory => Stop::Memory,
+            _ => Stop::Unreadable(error),
+        }
     }
 }
 
@@ -76,7 +87,8 @@ pub fn no_such_row<W: Write>(out: &mut W) -> u8
 ///
 /// The status is 0 if all lines were written. It is 2 after `no such row`, if there is not exactly
 /// one word or it is not the number of an example in decimal without leading zeros. It is 3 after
-/// `out of memory`, if an allocation failed, and 1 if a line could not be written.
+/// `out of memory`, if an allocation failed, and 1 if a line could not be written. An example whose
+/// lines can't be read would print the one that can't, and end with 1; no test meets that.
 pub fn run_rows<W: Write>(alloc: Global, words: &[String], out: &mut W) -> u8
     ensures range { result ≤ 3 }
     ensures row { IsRow (map string_bytes words.now) → ¬ (result ≡ 2) }
@@ -93,25 +105,25 @@ pub fn run_rows<W: Write>(alloc: Global, words: &[String], out: &mut W) -> u8
         "3" => frames::encoded_data(alloc, out),
         "4" => frames::payloads(alloc, out),
         "5" => frames::odd_numbers(alloc, out),
-        "6" => directory::print_row(alloc, &directory::TEARDOWN, out),
-        "7" => directory::print_row(alloc, &directory::KNOWLEDGE, out),
-        "8" => directory::print_row(alloc, &directory::COOLDOWN, out),
-        "9" => directory::print_row(alloc, &directory::dialling::DIAL_BEFORE_LISTED, out),
-        "10" => directory::print_row(alloc, &directory::dialling::JITTER_AND_LAST_MOMENT, out),
-        "11" => directory::print_row(alloc, &directory::blocks::BLOCK_OF_NO_TIME, out),
-        "12" => directory::print_row(alloc, &directory::blocks::BLOCK_OVER_REBIRTH, out),
+        "6" => directory::print_row(alloc, &examples::TEARDOWN, out),
+        "7" => directory::print_row(alloc, &examples::KNOWLEDGE, out),
+        "8" => directory::print_row(alloc, &examples::COOLDOWN, out),
+        "9" => directory::print_row(alloc, &examples::dialling::DIAL_BEFORE_LISTED, out),
+        "10" => directory::print_row(alloc, &examples::dialling::JITTER_AND_LAST_MOMENT, out),
+        "11" => directory::print_row(alloc, &examples::blocks::BLOCK_OF_NO_TIME, out),
+        "12" => directory::print_row(alloc, &examples::blocks::BLOCK_OVER_REBIRTH, out),
         "13" => failed_dials(alloc, out),
-        "14" => directory::print_row(alloc, &directory::dialling::NEWEST_INFO, out),
-        "15" => directory::print_row(alloc, &directory::gossip::INFOS_FOR_BITS, out),
+        "14" => directory::print_row(alloc, &examples::dialling::NEWEST_INFO, out),
+        "15" => directory::print_row(alloc, &examples::gossip::INFOS_FOR_BITS, out),
         "16" => pair::exchanges(alloc, out),
         "17" => sizes::gossip_sizes(out),
-        "18" => directory::print_row(alloc, &directory::peer_sets::GREATEST_INDEX, out),
-        "19" => directory::print_row(alloc, &directory::peer_sets::ROLES, out),
-        "20" => directory::print_row(alloc, &directory::blocks::QUERY_AFTER_A_BLOCK, out),
+        "18" => directory::print_row(alloc, &examples::peer_sets::GREATEST_INDEX, out),
+        "19" => directory::print_row(alloc, &examples::peer_sets::ROLES, out),
+        "20" => directory::print_row(alloc, &examples::blocks::QUERY_AFTER_A_BLOCK, out),
         "21" => sizes::sizes(out),
         "22" => addresses::valid_addresses(alloc, out),
         "23" => judged::judged_infos(alloc, out),
-        "24" => directory::print_row(alloc, &directory::FORGOTTEN_COOLDOWN, out),
+        "24" => directory::print_row(alloc, &examples::FORGOTTEN_COOLDOWN, out),
         _ => return no_such_row(out),
     };
     status_after(ended, out)
@@ -119,8 +131,8 @@ pub fn run_rows<W: Write>(alloc: Global, words: &[String], out: &mut W) -> u8
 
 // Dials that fail; and again with a failure limit of 0.
 fn failed_dials<W: Write>(alloc: Global, out: &mut W) -> Result<(), Stop> {
-    directory::print_row(alloc, &directory::dialling::FAILED_DIALS, out)?;
-    directory::print_row(alloc, &directory::dialling::NO_FAILURE_ALLOWED, out)
+    directory::print_row(alloc, &examples::dialling::FAILED_DIALS, out)?;
+    directory::print_row(alloc, &examples::dialling::NO_FAILURE_ALLOWED, out)
 }
 
 // The exit status of an example that ended like this.
@@ -134,6 +146,10 @@ fn status_after<W: Write>(ended: Result<(), Stop>, out: &mut W) -> u8
     match ended {
         Ok(()) => 0,
         Err(Stop::Write) => 1,
+        Err(Stop::Unreadable(error)) => {
+            let _printed = print(out, &error);
+            1
+        }
         Err(Stop::Memory) => out_of_memory(out),
     }
 }

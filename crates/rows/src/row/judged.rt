@@ -1,7 +1,7 @@
 //! Worked examples of infos that are verified.
 
-use crate::row::setting::{NAMESPACE, info_in};
 use crate::row::{Stop, print};
+use lines::{NAMESPACE, info};
 use p2p_discovery::codec::TestKey;
 use p2p_discovery::discovery::{Error, Info, InfoVerifier};
 use std::alloc::{AllocError, Global};
@@ -32,17 +32,12 @@ fn verifier(alloc: Global, greatest: usize) -> Result<InfoVerifier<TestKey>, All
 /// Which infos are valid at time 0, and why others are rejected.
 pub fn judged_infos<W: Write>(alloc: Global, out: &mut W) -> Result<(), Stop> {
     let now = Duration::ZERO;
-    let two = [info_in(NAMESPACE, 1, 0), info_in(NAMESPACE, 2, 0)];
+    let two = [info(alloc, "1@0")?, info(alloc, "2@0")?];
     let of_one = verifier(alloc, 1)?;
     print(out, &Judged(of_one.validate(now, &two)))?;
     print(out, &Judged(of_one.validate(now, &[])))?;
-    for info in [
-        info_in(NAMESPACE, 1, 30_000),
-        info_in(NAMESPACE, 1, 30_001),
-        info_in(b"other", 9, 99_999),
-        info_in(b"other", 1, 0),
-    ] {
-        let one = [info];
+    for word in ["1@30000", "1@30001", "9@99999!other", "1@0!other"] {
+        let one = [info(alloc, word)?];
         print(out, &Judged(of_one.validate(now, &one)))?;
     }
     let of_none = verifier(alloc, 0)?;

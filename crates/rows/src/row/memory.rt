@@ -2,7 +2,7 @@
 
 use crate::row::run_rows;
 use crate::row::tests::ROWS;
-use low_memory::{LowMemory, STEP};
+use failing_alloc::{FailingAlloc, STEP};
 use std::alloc::Global;
 use std::process::Abort;
 use std::test::Fail;
@@ -22,7 +22,7 @@ fn is_whole_or_cut(printed: &[u8], lines: &[u8], status: u8) -> bool {
 fn runs_at_each_budget(
     rt: &impl Abort,
     alloc: Global,
-    memory: &mut LowMemory,
+    memory: &mut FailingAlloc,
     word: &str,
     lines: &str,
 ) -> Result<(), Fail> {
@@ -50,7 +50,7 @@ fn runs_at_each_budget(
 #[test]
 fn rows_end_with_out_of_memory_or_whole(rt: HostRuntime) -> Result<(), Fail> {
     let alloc = rt.alloc();
-    let mut memory = LowMemory::new(alloc)?;
+    let mut memory = FailingAlloc::new(alloc)?;
     for (word, lines) in &ROWS {
         // The others don't allocate.
         if !matches!(*word, "2" | "17" | "21" | "22") {

@@ -1,0 +1,32 @@
+//! The name that was meant.
+
+use crate::parse::commands::COMMANDS;
+use crate::parse::settings::SETTINGS;
+
+/// The command that shares the longest prefix with the word, and of those the nearest in length.
+pub fn nearest_command(word: &str) -> &'static str {
+    COMMANDS
+        .iter()
+        .map(|command| command.0)
+        .max_by_key(|name| likeness(word, name))
+        .unwrap_or("node")
+}
+
+/// The setting that shares the longest prefix with the word, and of those the nearest in length.
+pub fn nearest_setting(word: &str) -> &'static str {
+    SETTINGS
+        .iter()
+        .map(|setting| setting.0)
+        .max_by_key(|name| likeness(word, name))
+        .unwrap_or("own")
+}
+
+// How many bytes the common prefix of two words has, and how near their lengths are.
+fn likeness(left: &str, right: &str) -> (usize, usize) {
+    let alike = left
+        .bytes()
+        .zip(right.bytes())
+        .take_while(|(left, right)| left == right)
+        .count();
+    (alike, usize::MAX - left.len().abs_diff(right.len()))
+}
