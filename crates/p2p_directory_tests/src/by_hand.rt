@@ -8,12 +8,14 @@ ghost use Rattle.p2p_directory.specs.Calls.Call.{Track, Listen, Connect, Release
 ghost use Rattle.p2p_directory.specs.Answers.{status_in};
 ghost use Rattle.p2p_directory.specs.Run.{settings, world_after};
 
-use crate::fixtures::{config, info, tracked};
+use lines::setup;
 use p2p_directory::directory::{Config, Directory, TrackedPeers};
 use p2p_directory::laws::{effects_refine, refined_answers};
+use p2p_directory::node::Setup;
 use p2p_directory::record::Status;
 use p2p_discovery::codec::{PublicKey, TestKey};
 use p2p_discovery::discovery::Info;
+use p2p_discovery::sets::OrderedSet;
 use std::alloc::{AllocError, Global};
 use std::test::Fail;
 use std::time::Duration;
@@ -78,35 +80,32 @@ fn visit<C: PublicKey>(
     })
 }
 
+// Lets the peer visit a node that tracks 1 and 2, at 100 s.
+fn visited_by(alloc: Global, peer: u64) -> Result<Statuses, Refused> {
+    let Ok(setup) = setup(alloc, "") else {
+        return Err(Refused::OutOfMemory);
+    };
+    let Setup { myself, cfg, .. } = setup;
+    let primary = OrderedSet::from_iter_dedup(alloc, [1, 2].into_iter().map(TestKey))?;
+    let secondary = OrderedSet::from_iter_dedup(alloc, [].into_iter().map(TestKey))?;
+    visit(
+        alloc,
+        myself,
+        cfg,
+        TrackedPeers::new(primary, secondary),
+        TestKey(peer),
+        Duration::from_secs(100),
+        Duration::ZERO,
+    )
+}
+
 #[test]
 fn a_visitor_is_inert_afterwards(rt: HostRuntime) -> Result<(), Fail> {
-    let alloc = rt.alloc();
-    let now = Duration::from_secs(100);
-    let peers = tracked(alloc, &[1, 2])?;
-    let inside = visit(
-        alloc,
-        info(9, 0),
-        config(),
-        peers,
-        TestKey(1),
-        now,
-        Duration::ZERO,
-    );
-    let peers = tracked(alloc, &[1, 2])?;
-    let outside = visit(
-        alloc,
-        info(9, 0),
-        config(),
-        peers,
-        TestKey(3),
-        now,
-        Duration::ZERO,
-    );
     let expected = Statuses {
         connected: Some(Status::Active),
         afterwards: Some(Status::Inert),
     };
-    assert_eq!(rt; inside, Ok(expected));
-    assert_eq!(rt; outside, Err(Refused::NotGranted));
+    assert_eq!(rt; visited_by(rt.alloc(), 1), Ok(expected));
+    assert_eq!(rt; visited_by(rt.alloc(), 3), Err(Refused::NotGranted));
     Ok(())
 }

@@ -1,7 +1,8 @@
 //! The examples that the documentation of the most used calls of a node links to.
 
-use crate::fixtures::{info, node, track};
+use crate::fixtures::node;
 use bytes::Bytes;
+use lines::{command, info};
 use p2p_directory::node::{Node, Received};
 use p2p_directory::record::Status;
 use p2p_directory::run::{Command, Reply};
@@ -34,17 +35,17 @@ fn admit(node: &mut Node<TestKey>, peer: TestKey, now: Duration, draw: Duration)
 // A greeting frame of peer 1.
 fn greeting(alloc: Global) -> Result<Bytes, Fail> {
     let mut bytes = [1].as_slice().to_vec(alloc)?;
-    bytes.extend_from_slice(info(1, 5).encode(alloc)?.as_slice())?;
+    bytes.extend_from_slice(info(alloc, "1@5")?.encode(alloc)?.as_slice())?;
     Ok(Bytes::from_vec(bytes)?)
 }
 
 #[test]
 fn a_peer_is_admitted_and_answered(rt: HostRuntime) -> Result<(), Fail> {
     let alloc = rt.alloc();
-    let set = track(alloc, &[1, 2])?;
+    let set = command(alloc, "track 0 1,2")?;
     let greets = greeting(alloc)?;
     let now = Duration::from_secs(100);
-    let mut node = node(alloc, 9, 32)?;
+    let mut node = node(alloc, "")?;
     let is_taken = matches!(node.step(set), Reply::Track(Some(_)));
     let is_in = admit(&mut node, TestKey(1), now, Duration::ZERO);
     let is_out = !admit(&mut node, TestKey(3), now, Duration::ZERO);

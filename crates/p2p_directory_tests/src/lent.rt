@@ -5,7 +5,7 @@ ghost use Rattle.p2p_tracker.specs.Answers.{status_in};
 ghost use Rattle.p2p_directory.specs.Nodes.{StandsSomewhere, made_of};
 ghost use Rattle.p2p_directory.specs.Run.{call_of, next, world_after};
 
-use crate::fixtures::{info, node, track};
+use crate::fixtures::node_after;
 use p2p_directory::node::Node;
 use p2p_directory::record::Status;
 use p2p_directory::run::{Command, Reply};
@@ -36,13 +36,8 @@ fn dial_and_look<C: PublicKey>(
 #[test]
 fn a_lent_node_says_whom_it_reserves(rt: HostRuntime) -> Result<(), Fail> {
     let alloc = rt.alloc();
-    let set = track(alloc, &[1, 2])?;
-    let mut infos = Vec::new(alloc);
-    infos.push(info(1, 5))?;
     let now = Duration::from_secs(100);
-    let mut node = node(alloc, 9, 32)?;
-    node.step(set);
-    node.step(Command::UpdatePeers(infos));
+    let mut node = node_after(alloc, "", &["track 0 1,2", "update 1@5"])?;
     let (granted, reserved) = dial_and_look(&mut node, &TestKey(1), now, Duration::ZERO);
     let (again, still) = dial_and_look(&mut node, &TestKey(1), now, Duration::ZERO);
     let (refused, inert) = dial_and_look(&mut node, &TestKey(2), now, Duration::ZERO);

@@ -1,14 +1,18 @@
 //! Messages that share memory with their frames, and an exchange of two nodes.
 
-use crate::fixtures::{connect, info, listen, node, track};
+use crate::fixtures::{node, node_after};
 use bytes::Bytes;
+use lines::command;
 use p2p_directory::node::{Exchanged, Node, Received, exchange};
 use p2p_directory::run::Command;
 use p2p_discovery::codec::TestKey;
-use std::alloc::{AllocError, Global};
+use std::alloc::Global;
 use std::process::Abort;
 use std::test::Fail;
 use std::time::Duration;
+
+mod decoded;
+mod network;
 
 const MEBIBYTE: usize = 1 << 20;
 
@@ -40,24 +44,20 @@ fn a_message_is_a_cut_of_its_frame(rt: HostRuntime) -> Result<(), Fail> {
     let alloc = rt.alloc();
     let frame = long_frame(alloc)?;
     let kept = frame.clone()?;
-    let mut node = node(alloc, 9, MEBIBYTE)?;
+    let mut node = node(alloc, "max_data_length=1048576")?;
     let received = node.receive(frame, hundred());
     node.finish();
     assert!(rt; is_cut(received, &kept));
     Ok(())
 }
 
-/// Commands after which the replier is connected to peer 1 and knows its info.
-pub fn commands_to_the_replier(alloc: Global) -> Result<Vec<Command<TestKey>>, AllocError> {
-    let mut infos = Vec::new(alloc);
-    infos.push(info(1, 1_000))?;
-    let mut commands = Vec::new(alloc);
-    commands.push(track(alloc, &[1, 2])?)?;
-    commands.push(listen(1))?;
-    commands.push(connect(1))?;
-    commands.push(Command::UpdatePeers(infos))?;
-    Ok(commands)
-}
+/// Lines after which the replier is connected to peer 1 and knows its info.
+pub const REPLIER: [&str; 4] = [
+    "track 0 1,2",
+    "listen 1 100",
+    "connect 1 false",
+    "update 1@1000",
+];
 
 // Whether an exchange returns exactly one info, that of peer 1.
 fn brings_one(asker: &mut Node<TestKey>, replier: &Node<TestKey>) -> bool {
@@ -80,15 +80,11 @@ fn finds_no_set(asker: &mut Node<TestKey>, replier: &Node<TestKey>) -> bool {
 fn exchanges(
     rt: &impl Abort,
     set: Command<TestKey>,
-    commands: Vec<Command<TestKey>>,
     mut asker: Node<TestKey>,
-    mut replier: Node<TestKey>,
+    replier: Node<TestKey>,
 ) {
     let first = finds_no_set(&mut asker, &replier);
     asker.step(set);
-    for command in commands {
-        replier.step(command);
-    }
     let second = brings_one(&mut asker, &replier);
     asker.finish();
     replier.finish();
@@ -98,14 +94,13 @@ fn exchanges(
 #[test]
 fn an_exchange_brings_what_is_wanted(rt: HostRuntime) -> Result<(), Fail> {
     let alloc = rt.alloc();
-    let set = track(alloc, &[1, 2])?;
-    let commands = commands_to_the_replier(alloc)?;
-    let asker = node(alloc, 9, 32)?;
-    match node(alloc, 8, 32) {
-        Ok(replier) => exchanges(&rt, set, commands, asker, replier),
-        Err(AllocError) => {
+    let set = command(alloc, "track 0 1,2")?;
+    let asker = node(alloc, "")?;
+    match node_after(alloc, "own=8", &REPLIER) {
+        Ok(replier) => exchanges(&rt, set, asker, replier),
+        Err(error) => {
             asker.finish();
-            panic!(rt; "memory is ample")
+            return Err(error);
         }
     }
     Ok(())

@@ -1,22 +1,25 @@
 //! A run of ten thousand commands.
 
-use crate::fixtures::{config, info, listen, track};
-use p2p_directory::run::{Command, Reply, run};
+use crate::fixtures::run_from;
+use lines::{Unreadable, command};
+use p2p_directory::run::{Command, Reply};
 use p2p_discovery::codec::TestKey;
-use std::alloc::{AllocError, Global};
+use std::alloc::Global;
 use std::test::Fail;
+
+mod held;
+mod slots;
 
 const ROUNDS: u64 = 2_500;
 
 // A set, then four commands in each round.
-fn commands(alloc: Global) -> Result<Vec<Command<TestKey>>, AllocError> {
+fn commands(alloc: Global) -> Result<Vec<Command<TestKey>>, Unreadable> {
     let mut commands = Vec::new(alloc);
-    commands.push(track(alloc, &[1])?)?;
+    commands.push(command(alloc, "track 0 1")?)?;
     for _ in 0..ROUNDS {
-        commands.push(listen(1))?;
-        commands.push(Command::Release(TestKey(1)))?;
-        commands.push(Command::ForgetCooled(std::time::Duration::from_secs(110)))?;
-        commands.push(Command::Tracked)?;
+        for line in ["listen 1 100", "release 1", "forget_cooled 110", "tracked"] {
+            commands.push(command(alloc, line)?)?;
+        }
     }
     Ok(commands)
 }
@@ -36,7 +39,7 @@ fn is_told(place: usize, reply: &Reply<TestKey>) -> bool {
 fn replies_to_ten_thousand_commands(rt: HostRuntime) -> Result<(), Fail> {
     let alloc = rt.alloc();
     let commands = commands(alloc)?;
-    let left = run(alloc, Vec::new(alloc), info(9, 0), config(), commands)?;
+    let left = run_from(alloc, "", commands)?;
     let mut told = 0usize;
     for (place, reply) in left.replies.iter().enumerate() {
         told = told.saturating_add(usize::from(is_told(place, reply)));

@@ -3,7 +3,7 @@
 ghost use Rattle.p2p_discovery.specs.Payload.{CanSpell};
 
 use bytes::Bytes;
-use low_memory::LowMemory;
+use failing_alloc::FailingAlloc;
 use p2p_discovery::codec::{CodecError, Read, TestKey, What, Write};
 use p2p_discovery::discovery::{Payload, PayloadConfig};
 use std::alloc::{AllocError, Global};
@@ -216,7 +216,7 @@ static HOSTILE: [(&'static [u8], PayloadConfig, CodecError); 9] = [
 #[test]
 fn hostile_counts_ask_for_no_memory(rt: HostRuntime) -> Result<(), Fail> {
     let alloc = rt.alloc();
-    let mut memory = LowMemory::new(alloc)?;
+    let mut memory = FailingAlloc::new(alloc)?;
     for (bytes, limits, fault) in HOSTILE {
         let ample = Payload::<TestKey>::decode_cfg(alloc, Bytes::from_static(bytes), &limits);
         memory.limit(alloc, 0)?;

@@ -1,5 +1,5 @@
 //! Tests of codecs, addresses, sets, infos and sizes through the public calls of `p2p_discovery`.
-//! They may use `bytes` and `low_memory`, too; no crate uses them.
+//! They may use `bytes` and `failing_alloc`, too; no crate uses them.
 //!
 //! They are in a crate of their own, so that the library is proved once, and its mutants wait for
 //! no test.

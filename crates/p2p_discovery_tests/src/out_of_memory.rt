@@ -1,7 +1,7 @@
 //! What each call leaves if an allocation fails.
 
 use bytes::Bytes;
-use low_memory::{LowMemory, STEP};
+use failing_alloc::{FailingAlloc, STEP};
 use p2p_discovery::codec::{CodecError, RangeCfg, Read, TestKey, Write};
 use p2p_discovery::data::Data;
 use p2p_discovery::discovery::{Info, Infos};
@@ -108,7 +108,7 @@ fn is_unencoded(
 fn reads_within<T: Read<Cfg = ()> + Write + PartialEq>(
     rt: &impl Abort,
     alloc: Global,
-    memory: &mut LowMemory,
+    memory: &mut FailingAlloc,
     value: &T,
     frame: &[u8],
     step: usize,
@@ -133,7 +133,7 @@ fn reads_within<T: Read<Cfg = ()> + Write + PartialEq>(
 fn reads_at_each_budget<T: Read<Cfg = ()> + Write + PartialEq>(
     rt: &impl Abort,
     alloc: Global,
-    memory: &mut LowMemory,
+    memory: &mut FailingAlloc,
     value: &T,
 ) -> Result<(), Fail>
     requires { T.CanSpell value.now }
@@ -169,7 +169,7 @@ fn named_address(host: &Hostname) -> Result<Address, AllocError> {
 #[test]
 fn codecs_of_addresses_are_refused(rt: HostRuntime) -> Result<(), Fail> {
     let alloc = rt.alloc();
-    let mut memory = LowMemory::new(alloc)?;
+    let mut memory = FailingAlloc::new(alloc)?;
     let host = Hostname::new(alloc, NAME)?;
     reads_at_each_budget(&rt, alloc, &mut memory, &host)?;
     reads_at_each_budget(&rt, alloc, &mut memory, &named_ingress(&host)?)?;
@@ -217,7 +217,7 @@ fn assert_copies(
 fn names_within(
     rt: &impl Abort,
     alloc: Global,
-    memory: &mut LowMemory,
+    memory: &mut FailingAlloc,
     host: &Hostname,
     address: &Address,
     step: usize,
@@ -239,7 +239,7 @@ fn names_and_copies_are_refused(rt: HostRuntime) -> Result<(), Fail> {
     let alloc = rt.alloc();
     let host = Hostname::new(alloc, NAME)?;
     let address = named_address(&host)?;
-    let mut memory = LowMemory::new(alloc)?;
+    let mut memory = FailingAlloc::new(alloc)?;
     let mut tally = Tally::EMPTY;
     for step in 0..STEPS {
         tally.count(names_within(&rt, alloc, &mut memory, &host, &address, step)?);
@@ -252,7 +252,7 @@ fn names_and_copies_are_refused(rt: HostRuntime) -> Result<(), Fail> {
 #[test]
 fn reads_sockets_with_no_memory(rt: HostRuntime) -> Result<(), Fail> {
     let alloc = rt.alloc();
-    let mut memory = LowMemory::new(alloc)?;
+    let mut memory = FailingAlloc::new(alloc)?;
     memory.limit(alloc, 0)?;
     let read = Ingress::decode(alloc, Bytes::from_static(b"\0\x04\x7f\0\0\x01\x1f\x90"));
     let faulty = Ingress::decode(alloc, Bytes::from_static(b"\x01\x01-\0P"));
@@ -289,7 +289,7 @@ fn assert_message(
 fn messages_within(
     rt: &impl Abort,
     alloc: Global,
-    memory: &mut LowMemory,
+    memory: &mut FailingAlloc,
     step: usize,
 ) -> Result<bool, Fail> {
     let limit = RangeCfg {
@@ -316,7 +316,7 @@ fn messages_within(
 #[test]
 fn messages_are_refused(rt: HostRuntime) -> Result<(), Fail> {
     let alloc = rt.alloc();
-    let mut memory = LowMemory::new(alloc)?;
+    let mut memory = FailingAlloc::new(alloc)?;
     let mut tally = Tally::EMPTY;
     for step in 0..STEPS {
         tally.count(messages_within(&rt, alloc, &mut memory, step)?);
@@ -341,7 +341,7 @@ fn judges_with_no_memory(rt: HostRuntime) -> Result<(), Fail> {
         least: 0,
         greatest: usize::MAX,
     };
-    let mut memory = LowMemory::new(alloc)?;
+    let mut memory = FailingAlloc::new(alloc)?;
     memory.limit(alloc, 0)?;
     let ingress = Ingress::Socket(SocketAddr::new(IpAddr::V4([1, 2, 3, 4]), 5));
     let info = Info::sign(key, b"rows", ingress, 0, |namespace, message| {

@@ -1,7 +1,7 @@
 //! Ordered sets of peers.
 
 use crate::out_of_memory::{STEPS, Tally};
-use low_memory::{LowMemory, STEP};
+use failing_alloc::{FailingAlloc, STEP};
 use p2p_discovery::codec::TestKey;
 use p2p_discovery::sets::{OrderedSet, SetError};
 use std::alloc::{AllocError, Global};
@@ -83,7 +83,7 @@ fn the_difference_leaves_out_the_peers_of_another_set(rt: HostRuntime) -> Result
 fn a_copy_is_whole_or_refused_for_memory(rt: HostRuntime) -> Result<(), Fail> {
     let alloc = rt.alloc();
     let whole = OrderedSet::from_iter_dedup(alloc, (0..150).map(TestKey))?;
-    let mut memory = LowMemory::new(alloc)?;
+    let mut memory = FailingAlloc::new(alloc)?;
     let mut tally = Tally::EMPTY;
     for step in 0..STEPS {
         memory.limit(alloc, step.saturating_mul(STEP))?;

@@ -1,7 +1,7 @@
 //! No size alone makes a call run out of memory, and no more is allocated than the bytes can hold.
 
 use bytes::Bytes;
-use low_memory::LowMemory;
+use failing_alloc::FailingAlloc;
 use p2p_discovery::codec::{CodecError, RangeCfg, TestKey};
 use p2p_discovery::discovery::PayloadConfig;
 use p2p_discovery::discovery::laws::{bounded_infos, bounded_payload};
@@ -53,7 +53,7 @@ fn asks_for_no_more_room_than_bytes_can_hold(rt: HostRuntime) -> Result<(), Fail
 #[test]
 fn a_set_of_nobody_takes_no_memory(rt: HostRuntime) -> Result<(), Fail> {
     let alloc = rt.alloc();
-    let mut memory = LowMemory::new(alloc)?;
+    let mut memory = FailingAlloc::new(alloc)?;
     memory.limit(alloc, 0)?;
     let nobody = OrderedSet::from_iter_dedup(alloc, [].into_iter().map(TestKey));
     let somebody = OrderedSet::from_iter_dedup(alloc, [1].into_iter().map(TestKey));

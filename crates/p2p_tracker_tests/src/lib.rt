@@ -6,10 +6,10 @@
 #![tactic(auto)]
 
 #[cfg(test)]
+mod directory;
+#[cfg(test)]
 mod examples;
 #[cfg(test)]
 mod fixtures;
 #[cfg(test)]
 mod record;
-#[cfg(test)]
-mod reservation;

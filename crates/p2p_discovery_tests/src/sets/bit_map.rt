@@ -1,7 +1,7 @@
 //! Lists of bits.
 
 use crate::out_of_memory::{STEPS, Tally};
-use low_memory::{LowMemory, STEP};
+use failing_alloc::{FailingAlloc, STEP};
 use p2p_discovery::sets::BitMap;
 use std::test::Fail;
 
@@ -30,7 +30,7 @@ fn maps_places_to_values(rt: HostRuntime) -> Result<(), Fail> {
 fn a_copy_of_bits_is_whole_or_refused_for_memory(rt: HostRuntime) -> Result<(), Fail> {
     let alloc = rt.alloc();
     let whole = BitMap::ones(alloc, 100)?;
-    let mut memory = LowMemory::new(alloc)?;
+    let mut memory = FailingAlloc::new(alloc)?;
     let mut tally = Tally::EMPTY;
     for step in 0..STEPS {
         memory.limit(alloc, step.saturating_mul(STEP))?;

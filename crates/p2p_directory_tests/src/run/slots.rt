@@ -2,7 +2,7 @@
 
 use crate::fixtures::node;
 use crate::node::hundred;
-use low_memory::LowMemory;
+use failing_alloc::FailingAlloc;
 use p2p_directory::node::Node;
 use p2p_directory::run::{Command, Reply};
 use p2p_discovery::codec::TestKey;
@@ -54,7 +54,7 @@ fn refuses(node: &mut Node<TestKey>) -> u64 {
 }
 
 fn refuses_within_few(alloc: Global, node: &mut Node<TestKey>) -> Result<u64, Fail> {
-    let mut memory = LowMemory::new(alloc)?;
+    let mut memory = FailingAlloc::new(alloc)?;
     memory.limit(alloc, FEW)?;
     let done = refuses(node);
     memory.lift();
@@ -64,7 +64,7 @@ fn refuses_within_few(alloc: Global, node: &mut Node<TestKey>) -> Result<u64, Fa
 #[test]
 fn a_node_keeps_no_slot_of_whom_it_refused(rt: HostRuntime) -> Result<(), Fail> {
     let alloc = rt.alloc();
-    let mut node = node(alloc, 9, 32)?;
+    let mut node = node(alloc, "")?;
     let done = refuses_within_few(alloc, &mut node);
     node.finish();
     assert_eq!(rt; done?, ROUNDS);

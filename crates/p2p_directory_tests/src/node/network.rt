@@ -4,14 +4,14 @@ ghost use Rattle.std.specs.Prelude.{◌<◌, ◌-◌, ◌^◌, IfOk};
 ghost use Rattle.std.specs.Int.NonZero.{non_zero_usize_get};
 ghost use Rattle.std.specs.List.{All};
 
-use crate::fixtures::{listen, setup, track};
+use lines::{Unreadable, command, setup};
 use p2p_directory::node::{
     Exchanged, Network, NetworkCommand, NetworkReply, NetworkRun, Setup, run_network,
 };
 use p2p_directory::record::Status;
 use p2p_directory::run::Reply;
 use p2p_discovery::codec::TestKey;
-use std::alloc::{AllocError, Global};
+use std::alloc::Global;
 use std::process::Abort;
 use std::test::Fail;
 use std::time::Duration;
@@ -26,32 +26,32 @@ fn exchange(asker: usize, replier: usize) -> NetworkCommand<TestKey> {
     }
 }
 
-// The setups of nodes with these keys.
-fn setups(alloc: Global, keys: &[u16]) -> Result<Vec<Setup<TestKey>>, AllocError>
+// The setups of nodes with these settings.
+fn setups(alloc: Global, lines: &[&'static str]) -> Result<Vec<Setup<TestKey>>, Unreadable>
     ensures sets { IfOk result (λ setups.
         All (λ s. non_zero_usize_get s.cfg.max_sets < 2 ^ 64 - 1) setups.items) }
     ensures bits { IfOk result (λ setups.
         All (λ s. s.payload.max_bit_vec < 2 ^ 32) setups.items) }
 {
     let mut setups = Vec::new(alloc);
-    for key in keys {
-        let made = setup(alloc, *key, 32)?;
+    for line in lines {
+        let made = setup(alloc, *line)?;
         setups.push(made)?;
     }
     Ok(setups)
 }
 
 // Commands for nodes that do not exist, for a node with itself, and for both nodes.
-fn commands(alloc: Global) -> Result<Vec<NetworkCommand<TestKey>>, AllocError> {
+fn commands(alloc: Global) -> Result<Vec<NetworkCommand<TestKey>>, Unreadable> {
     let mut commands = Vec::new(alloc);
     commands.push(exchange(0, 1))?;
     commands.push(exchange(0, 0))?;
     commands.push(NetworkCommand::Ask(2, 0))?;
-    commands.push(NetworkCommand::Call(2, track(alloc, &[6])?))?;
+    commands.push(NetworkCommand::Call(2, command(alloc, "track 0 6")?))?;
     commands.push(exchange(2, 0))?;
     commands.push(exchange(0, usize::MAX))?;
-    commands.push(NetworkCommand::Call(0, track(alloc, &[8, 9])?))?;
-    commands.push(NetworkCommand::Call(1, track(alloc, &[8, 9])?))?;
+    commands.push(NetworkCommand::Call(0, command(alloc, "track 0 8,9")?))?;
+    commands.push(NetworkCommand::Call(1, command(alloc, "track 0 8,9")?))?;
     commands.push(exchange(1, 0))?;
     Ok(commands)
 }
@@ -70,7 +70,11 @@ fn is_told(place: usize, reply: &NetworkReply<TestKey>) -> bool {
 fn a_run_of_a_network_replies_to_each_command(rt: HostRuntime) -> Result<(), Fail> {
     let alloc = rt.alloc();
     let commands = commands(alloc)?;
-    let NetworkRun { nodes, replies } = run_network(alloc, setups(alloc, &[9, 8])?, commands)?;
+    let NetworkRun { nodes, replies } = run_network(
+        alloc,
+        setups(alloc, &["own=9", "own=8"])?,
+        commands,
+    )?;
     nodes.finish();
     let mut told = 0usize;
     for (place, reply) in replies.iter().enumerate() {
@@ -86,18 +90,18 @@ fn is_replaced(
     rt: &impl Abort,
     alloc: Global,
     nodes: &mut Network<TestKey>,
-) -> Result<(), AllocError> {
-    let set = track(alloc, &[7, 8])?;
-    nodes.add(alloc, setup(alloc, 9, 32)?)?;
-    let absent = nodes.replace(alloc, 1, setup(alloc, 6, 32)?)?;
+) -> Result<(), Unreadable> {
+    nodes.add(alloc, setup(alloc, "own=9")?)?;
+    let absent = nodes.replace(alloc, 1, setup(alloc, "own=6")?)?;
     assert!(rt; absent.is_none());
-    nodes.serve(NetworkCommand::Call(0, set));
-    nodes.serve(NetworkCommand::Call(0, listen(8)));
+    for line in ["track 0 7,8", "listen 8 100"] {
+        nodes.serve(NetworkCommand::Call(0, command(alloc, line)?));
+    }
     let held = nodes
         .directory(0)
         .and_then(|directory| directory.status(&TestKey(8)));
     assert_eq!(rt; held, Some(Status::Reserved));
-    let old = nodes.replace(alloc, 0, setup(alloc, 7, 32)?)?;
+    let old = nodes.replace(alloc, 0, setup(alloc, "own=7")?)?;
     let left = old.and_then(|directory| directory.status(&TestKey(8)));
     assert_eq!(rt; left, Some(Status::Inert));
     Ok(())
@@ -108,7 +112,7 @@ fn a_node_is_replaced(rt: HostRuntime) -> Result<(), Fail> {
     let alloc = rt.alloc();
     let mut nodes = Network::empty(alloc);
     let done = is_replaced(&rt, alloc, &mut nodes);
-    let count = nodes.nodes();
+    let count = nodes.len();
     nodes.finish();
     done?;
     assert_eq!(rt; count, 1);

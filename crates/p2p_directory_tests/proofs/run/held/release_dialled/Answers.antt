@@ -1,6 +1,6 @@
 use Rattle.std.proofs.Common.{sym, ap, ◌∙◌}
 use Rattle.std.specs.Prelude.{is_some}
-use Rattle.p2p_directory_tests.proofs.held.release_dialled.Goals as goal
+use Rattle.p2p_directory_tests.proofs.run.held.release_dialled.Goals as goal
 
 pub release-requires : goal.release-requires
 release-requires g c =

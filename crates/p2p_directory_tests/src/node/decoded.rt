@@ -1,7 +1,7 @@
 //! Frames that are decoded before they are processed.
 
-use crate::fixtures::node;
-use crate::node::{commands_to_the_replier, hundred};
+use crate::fixtures::{node, node_after};
+use crate::node::{REPLIER, hundred};
 use bytes::Bytes;
 use p2p_directory::node::{Answer, Miscounted, Node, Received};
 use p2p_discovery::codec::{CodecError, TestKey};
@@ -52,16 +52,12 @@ fn copies(alloc: Global) -> Result<(Bytes, Bytes, Bytes), AllocError> {
 #[test]
 fn a_question_is_answered_with_infos_before_they_are_encoded(rt: HostRuntime) -> Result<(), Fail> {
     let alloc = rt.alloc();
-    let commands = commands_to_the_replier(alloc)?;
     let (one, two, three) = copies(alloc)?;
-    let mut replier = node(alloc, 8, 32)?;
-    for command in commands {
-        replier.step(command);
-    }
+    let mut replier = node_after(alloc, "own=8", &REPLIER)?;
     let decoded = decodes_and_answers(&mut replier, one);
-    let by_bytes = is_of_peer_one(replier.answer_by(two, hundred(), &[]));
+    let by_bytes = is_of_peer_one(replier.answer_with_verdicts(two, hundred(), &[]));
     let counted = matches!(
-        replier.answer_by(three, hundred(), &[true]),
+        replier.answer_with_verdicts(three, hundred(), &[true]),
         Err(Miscounted)
     );
     replier.finish();
@@ -86,17 +82,17 @@ fn a_frame_that_was_decoded_under_other_limits_is_decoded_anew(
 ) -> Result<(), Fail> {
     let alloc = rt.alloc();
     let message = Bytes::copy_from_slice(alloc, &MESSAGE)?;
-    let decoder = node(alloc, 8, 2)?;
-    match node(alloc, 9, 1) {
+    let decoder = node(alloc, "own=8 max_data_length=2")?;
+    match node(alloc, "max_data_length=1") {
         Ok(mut receiver) => {
             let refused = is_too_long(&decoder, &mut receiver, message);
             receiver.finish();
             decoder.finish();
             assert!(rt; refused);
         }
-        Err(AllocError) => {
+        Err(error) => {
             decoder.finish();
-            panic!(rt; "memory is ample")
+            return Err(error);
         }
     }
     Ok(())
