@@ -7,3 +7,4 @@ pub mod Direct
 pub mod Compared
 pub mod Bootstrappers
 pub mod Setups
+pub mod Keys

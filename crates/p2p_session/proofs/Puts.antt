@@ -1,21 +1,19 @@
 -- What stands in a room once parts were put into it one after the other.
-use Rattle.std.proofs.Common.{replicate, min, ◌*◌, ◌≡◌, ℕ, ◌+◌, ◌≤◌, ◌<◌, List, [], ◌∷◌, ◌++◌, length, take, drop, refl, sym, ap, ◌∙◌, subst, arith, add_assoc, get_or, zero, suc}
+use Rattle.std.proofs.Common.{min, ◌*◌, ◌≡◌, ℕ, ◌+◌, ◌≤◌, ◌<◌, List, [], ◌∷◌, ◌++◌, length, take, drop, refl, sym, ap, ◌∙◌, subst, arith, add_assoc, get_or, zero, suc}
 use Rattle.std.specs.Prelude.{flat_map, map}
-use Rattle.std.proofs.lemmas.List.{length-take-le, length-take, length-append, length-replicate, append-nil, drop-drop, length-drop, take-append-drop}
+use Rattle.std.proofs.lemmas.List.{length-take-le, length-append, append-nil, drop-drop}
 use Rattle.std.proofs.lemmas.List.Folds.{length-flat_map-take}
-use Rattle.std.proofs.lemmas.Grind.{common_steps, flat_map-append}
-use Rattle.std.proofs.Math.Seq.{take-add, take-append-add, drop-append-add, take-append_seam}
-use Rattle.p2p_discovery.specs.Laws.Arrays.{array_is}
-use Rattle.p2p_session.specs.declared.key.Key.{Key}
-use Rattle.p2p_session.specs.declared.key.Signature.{Signature}
-use Rattle.p2p_session.specs.declared.key.TheConstants.{KEY_SIZE, SIGNATURE_SIZE}
+use Rattle.std.proofs.lemmas.Grind.{common_steps}
+use Rattle.std.proofs.Math.Seq.{take-append-add, drop-append-add, take-append_seam}
 use Rattle.p2p_discovery.specs.declared.discovery.Info.{Info}
 use Rattle.p2p_discovery.specs.Ingress.{ingress_spelling}
 use Rattle.p2p_discovery.specs.Judgement.{signed_bytes}
 use Rattle.p2p_discovery.specs.Lists.{spellings}
 use Rattle.p2p_discovery.specs.Info.{infos_spelling}
 use Rattle.p2p_discovery.specs.Varint.{varint32, varint64}
-use Rattle.p2p_session.specs.Answers.{key_bytes, keys_bytes, signature_bytes, number, asked_bytes, info_bytes, put_at}
+use Rattle.p2p_session.specs.Answers.{keys_bytes, number, asked_bytes, info_bytes, put_at}
+use Rattle.p2p_discovery.specs.Fixed.{IsFixed}
+use Rattle.p2p_session.specs.Schemes.{Scheme}
 
 append_assoc : (xs ys zs : List ℕ) → (xs ++ ys) ++ zs ≡ xs ++ (ys ++ zs)
 append_assoc xs ys zs = grind (arith, common_steps)
@@ -139,133 +137,16 @@ put_four at a b c ws xs ys zs out out1 out2 out3 out4 fits one is two is2 three 
     (omega (arith, is, is2, is3, of_three)) four
     ∙ ap (λ l. put_at at l out) (append_assoc (ws ++ xs) ys zs ∙ append_assoc ws xs (ys ++ zs))
 
--- what is asked of an info, in its four parts
-pub put_asked : (i : Info Key Signature) (at a b c : ℕ) (count signed out out1 out2 out3 out4 : List ℕ) →
-    count ≡ number (length signed) → signed ≡ signed_bytes i.ingress i.timestamp →
-    at + length (asked_bytes i) ≤ length out →
-    out1 ≡ put_at at count out → a ≡ at + length count →
-    out2 ≡ put_at a (key_bytes i.public_key) out1 → b ≡ a + length (key_bytes i.public_key) →
-    out3 ≡ put_at b signed out2 → c ≡ b + length signed →
-    out4 ≡ put_at c (signature_bytes i.signature) out3 → out4 ≡ put_at at (asked_bytes i) out
-put_asked i at a b c count signed out out1 out2 out3 out4 counted same fits one is two is2 three is3 four =
-    let key = key_bytes i.public_key in
-    let signature = signature_bytes i.signature in
-    let all : List ℕ → List ℕ = λ s. number (length s) ++ (key ++ (s ++ signature)) in
-    put_four at a b c (number (length signed)) key signed signature out out1 out2 out3 out4
-    (subst (λ s. at + length (all s) ≤ length out) (sym same) fits)
-    (one ∙ ap (λ l. put_at at l out) counted) (is ∙ ap (λ (l : List ℕ). at + length l) counted) two is2 three is3 four
-    ∙ ap (λ s. put_at at (all s) out) same
-
--- an info, in its four parts
-pub put_info : (i : Info Key Signature) (at a b c : ℕ) (ingress out out1 out2 out3 out4 : List ℕ) →
-    ingress ≡ ingress_spelling i.ingress → at + length (info_bytes i) ≤ length out →
-    out1 ≡ put_at at ingress out → a ≡ at + length ingress →
-    out2 ≡ put_at a (varint64 i.timestamp) out1 → b ≡ a + length (varint64 i.timestamp) →
-    out3 ≡ put_at b (key_bytes i.public_key) out2 → c ≡ b + length (key_bytes i.public_key) →
-    out4 ≡ put_at c (signature_bytes i.signature) out3 → out4 ≡ put_at at (info_bytes i) out
-put_info i at a b c ingress out out1 out2 out3 out4 same fits one is two is2 three is3 four =
-    let number = varint64 i.timestamp in
-    let key = key_bytes i.public_key in
-    let signature = signature_bytes i.signature in
-    let all : List ℕ → List ℕ = λ s. s ++ (number ++ (key ++ signature)) in
-    put_four at a b c ingress number key signature out out1 out2 out3 out4
-    (subst (λ s. at + length (all s) ≤ length out) (sym same) fits) one is two is2 three is3 four
-    ∙ ap (λ s. put_at at (all s) out) same
-
 -- infos, one after the other, are spelled as a list spells them behind its number
 pub spellings_are : {A : Type 0} (f : A → List ℕ) (xs : List A) → spellings f xs ≡ flat_map f xs
 unfolding spellings
 spellings_are f [] = refl
 spellings_are f (x ∷ xs) = ap (λ l. f x ++ l) (spellings_are f xs)
 
--- .. the number, and the infos behind it
-pub list_is : (infos : List (Info Key Signature)) (n : ℕ) → n ≡ length infos →
-    varint32 n ++ (flat_map info_bytes infos ++ []) ≡ infos_spelling key_bytes signature_bytes infos
-list_is infos n is =
-    ap (λ l. varint32 n ++ l) (append-nil (flat_map info_bytes infos) ∙ sym (spellings_are info_bytes infos))
-    ∙ ap (λ k. varint32 k ++ spellings info_bytes infos) is
-
--- ---- sizes
-
-pub length_key : (key : Key) → length (key_bytes key) ≡ KEY_SIZE
-length_key key =
-    let bytes = key.0 in
-    omega (
-      arith,
-      length-take KEY_SIZE (bytes ++ replicate KEY_SIZE 0),
-      length-append bytes (replicate KEY_SIZE 0),
-      length-replicate {A = ℕ} KEY_SIZE 0,
-    )
-
-pub length_signature : (signature : Signature) → length (signature_bytes signature) ≡ SIGNATURE_SIZE
-length_signature signature =
-    let bytes = signature.0 in
-    omega (
-      arith,
-      length-take SIGNATURE_SIZE (bytes ++ replicate SIGNATURE_SIZE 0),
-      length-append bytes (replicate SIGNATURE_SIZE 0),
-      length-replicate {A = ℕ} SIGNATURE_SIZE 0,
-    )
-
-pub length_keys : (keys : List Key) → length (keys_bytes keys) ≡ length keys * KEY_SIZE
-length_keys [] = refl
-length_keys (key ∷ keys) =
-    omega (
-      arith,
-      length-append (key_bytes key) (keys_bytes keys),
-      length_key key,
-      length_keys keys,
-    )
-
--- how much is asked of an info
-pub length_asked : (i : Info Key Signature) →
-    length (asked_bytes i) ≡ 8 + (KEY_SIZE + (length (ingress_spelling i.ingress) + 8 + SIGNATURE_SIZE))
-unfolding signed_bytes
-length_asked i =
-    let signed = signed_bytes i.ingress i.timestamp in
-    let key = key_bytes i.public_key in
-    let signature = signature_bytes i.signature in
-    omega (
-      arith,
-      length-append key (signed ++ signature),
-      length-append signed signature,
-      length-append (ingress_spelling i.ingress) (number i.timestamp),
-      length_key i.public_key,
-      length_signature i.signature,
-    )
-
 -- the size of one part more, at most the greatest
 pub size_next : (greatest top n m a b whole : ℕ) → greatest ≤ top → n ≡ min a greatest → m ≡ min b greatest →
     whole ≡ a + b → min (min (n + m) top) greatest ≡ min whole greatest
 size_next greatest top n m a b whole h is also sum = omega (arith, h, is, also, sum)
-
--- a key of its number of bytes is spelled by them
-pub key_is : (bytes : List ℕ) → length bytes ≡ KEY_SIZE → key_bytes (record { 0 = bytes }) ≡ bytes
-key_is bytes h = array_is KEY_SIZE bytes h
-
--- the bytes of the key in front, and those behind it
-pub front_is : (bytes key rest : List ℕ) → KEY_SIZE ≤ length bytes → key ≡ take KEY_SIZE bytes →
-    rest ≡ drop KEY_SIZE bytes → bytes ≡ key_bytes (record { 0 = key }) ++ rest
-front_is bytes key rest h is behind =
-    let sized : length key ≡ KEY_SIZE = ap (λ (l : List ℕ). length l) is ∙ length-take-le KEY_SIZE bytes h in
-    rw (key_is key sized) (rw is (rw behind (sym (take-append-drop KEY_SIZE bytes))))
-
--- keys that are the front of the bytes, and the next
-pub keys_next : (keys : List Key) (bytes key : List ℕ) (place : ℕ) →
-    place * KEY_SIZE + KEY_SIZE ≤ length bytes → keys_bytes keys ≡ take (place * KEY_SIZE) bytes →
-    key ≡ take KEY_SIZE (drop (place * KEY_SIZE) bytes) →
-    keys_bytes (keys ++ record { 0 = key } ∷ []) ≡ take ((place + 1) * KEY_SIZE) bytes
-keys_next keys bytes key place h before is =
-    let left : KEY_SIZE ≤ length (drop (place * KEY_SIZE) bytes) =
-    omega (arith, h, length-drop (place * KEY_SIZE) bytes) in
-    let sized : length key ≡ KEY_SIZE =
-    ap (λ (l : List ℕ). length l) is ∙ length-take-le KEY_SIZE (drop (place * KEY_SIZE) bytes) left in
-    let more : (place + 1) * KEY_SIZE ≡ place * KEY_SIZE + KEY_SIZE = omega arith in
-    flat_map-append key_bytes keys (record { 0 = key } ∷ [])
-    ∙ ap (λ l. keys_bytes keys ++ (l ++ [])) (key_is key sized)
-    ∙ ap (λ l. keys_bytes keys ++ l) (append-nil key)
-    ∙ ap (λ l. l ++ key) before ∙ ap (λ l. take (place * KEY_SIZE) bytes ++ l) is
-    ∙ sym (take-add (place * KEY_SIZE) KEY_SIZE bytes) ∙ ap (λ n. take n bytes) (sym more)
 
 pub map_next : {X Y : Type 0} (f : X → Y) (xs : List X) (i : ℕ) (d : X) → i < length xs →
     map f (take (i + 1) xs) ≡ map f (take i xs) ++ f (get_or xs i d) ∷ []
@@ -277,3 +158,75 @@ map_next f xs i d h =
     one f [] i d h = absurd (omega (arith, h))
     one f (x ∷ xs) zero d h = refl
     one f (x ∷ xs) (suc i) d h = ap (λ l. f x ∷ l) (one f xs i d (omega (arith, h)))
+
+module _ {C S : Type 0} (k : Scheme C S) where
+  -- what is asked of an info, in its four parts
+  pub put_asked : (i : Info C S) (at a b c : ℕ) (count signed out out1 out2 out3 out4 : List ℕ) →
+      count ≡ number (length signed) → signed ≡ signed_bytes i.ingress i.timestamp →
+      at + length (asked_bytes k i) ≤ length out →
+      out1 ≡ put_at at count out → a ≡ at + length count →
+      out2 ≡ put_at a (k.key.spelled i.public_key) out1 → b ≡ a + length (k.key.spelled i.public_key) →
+      out3 ≡ put_at b signed out2 → c ≡ b + length signed →
+      out4 ≡ put_at c (k.signature.spelled i.signature) out3 → out4 ≡ put_at at (asked_bytes k i) out
+  put_asked i at a b c count signed out out1 out2 out3 out4 counted same fits one is two is2 three is3 four =
+      let key = k.key.spelled i.public_key in
+      let signature = k.signature.spelled i.signature in
+      let all : List ℕ → List ℕ = λ s. number (length s) ++ (key ++ (s ++ signature)) in
+      put_four at a b c (number (length signed)) key signed signature out out1 out2 out3 out4
+      (subst (λ s. at + length (all s) ≤ length out) (sym same) fits)
+      (one ∙ ap (λ l. put_at at l out) counted) (is ∙ ap (λ (l : List ℕ). at + length l) counted) two is2 three is3 four
+      ∙ ap (λ s. put_at at (all s) out) same
+
+  -- an info, in its four parts
+  pub put_info : (i : Info C S) (at a b c : ℕ) (ingress out out1 out2 out3 out4 : List ℕ) →
+      ingress ≡ ingress_spelling i.ingress → at + length (info_bytes k i) ≤ length out →
+      out1 ≡ put_at at ingress out → a ≡ at + length ingress →
+      out2 ≡ put_at a (varint64 i.timestamp) out1 → b ≡ a + length (varint64 i.timestamp) →
+      out3 ≡ put_at b (k.key.spelled i.public_key) out2 → c ≡ b + length (k.key.spelled i.public_key) →
+      out4 ≡ put_at c (k.signature.spelled i.signature) out3 → out4 ≡ put_at at (info_bytes k i) out
+  put_info i at a b c ingress out out1 out2 out3 out4 same fits one is two is2 three is3 four =
+      let number = varint64 i.timestamp in
+      let key = k.key.spelled i.public_key in
+      let signature = k.signature.spelled i.signature in
+      let all : List ℕ → List ℕ = λ s. s ++ (number ++ (key ++ signature)) in
+      put_four at a b c ingress number key signature out out1 out2 out3 out4
+      (subst (λ s. at + length (all s) ≤ length out) (sym same) fits) one is two is2 three is3 four
+      ∙ ap (λ s. put_at at (all s) out) same
+
+  -- .. the number, and the infos behind it
+  pub list_is : (infos : List (Info C S)) (n : ℕ) → n ≡ length infos →
+      varint32 n ++ (flat_map (info_bytes k) infos ++ []) ≡ infos_spelling k.key.spelled k.signature.spelled infos
+  list_is infos n is =
+      ap (λ l. varint32 n ++ l) (append-nil (flat_map (info_bytes k) infos) ∙ sym (spellings_are (info_bytes k) infos))
+      ∙ ap (λ m. varint32 m ++ spellings (info_bytes k) infos) is
+
+  -- ---- sizes
+
+  module _ (key_laws : IsFixed k.key.SIZE k.key.spelled k.key.value k.key.IsValue) where
+    pub length_keys : (keys : List C) → length (keys_bytes k keys) ≡ length keys * k.key.SIZE
+    length_keys [] = omega arith
+    length_keys (key ∷ keys) =
+        omega (
+          arith,
+          length-append (k.key.spelled key) (keys_bytes k keys),
+          key_laws.len key,
+          length_keys keys,
+        )
+
+    module _ (signature_laws : IsFixed k.signature.SIZE k.signature.spelled k.signature.value k.signature.IsValue) where
+      -- how much is asked of an info
+      pub length_asked : (i : Info C S) →
+          length (asked_bytes k i) ≡ 8 + (k.key.SIZE + (length (ingress_spelling i.ingress) + 8 + k.signature.SIZE))
+      unfolding signed_bytes
+      length_asked i =
+          let signed = signed_bytes i.ingress i.timestamp in
+          let key = k.key.spelled i.public_key in
+          let signature = k.signature.spelled i.signature in
+          omega (
+            arith,
+            length-append key (signed ++ signature),
+            length-append signed signature,
+            length-append (ingress_spelling i.ingress) (number i.timestamp),
+            key_laws.len i.public_key,
+            signature_laws.len i.signature,
+          )

@@ -16,38 +16,26 @@ use Rattle.p2p_discovery.specs.Reading.{whole}
 use Rattle.p2p_tracker.specs.declared.directory.Metadata.{Metadata}
 use Rattle.p2p_tracker.specs.declared.directory.Metadata.TheVariants.{Dialer, Listener}
 use Rattle.p2p_directory.specs.Held.{held_of}
-use Rattle.p2p_directory.specs.Nodes.{standing_of, AnswersFrameBy, IsReceivedBy}
+use Rattle.p2p_directory.specs.Nodes.{NodeView, standing_of, AnswersFrameBy, IsReceivedBy}
 use Rattle.p2p_directory.specs.Received.{are_miscounted, IsWantOfMemory}
 use Rattle.p2p_directory.specs.declared.node.received.Received.{Received}
 use Rattle.p2p_directory.specs.declared.node.received.Received.TheVariants as received
-use Rattle.p2p_session.specs.declared.key.Key.{Key}
-use Rattle.p2p_session.specs.declared.key.Signature.{Signature}
-use Rattle.p2p_session.specs.declared.key.TheConstants.{KEY_SIZE, SIGNATURE_SIZE}
 use Rattle.p2p_session.specs.declared.refusal.Refusal.{Refusal}
 use Rattle.p2p_session.specs.declared.refusal.Refusal.TheVariants as refusal
-use Rattle.p2p_session.specs.contracts.key.KeyOrd.TheImpl.{ghosts as order}
-use Rattle.p2p_session.specs.Answers.{Answer, refused, number, key_bytes, asked_bytes, Tells, Refuses}
+use Rattle.p2p_session.specs.Schemes.{Scheme, wire}
+use Rattle.p2p_session.specs.Answers.{Answer, refused, number, asked_bytes, Tells, Refuses}
 use Rattle.p2p_session.specs.Answers.Answer.{Bytes}
 use Rattle.p2p_session.specs.Given.{moment_at}
-use Rattle.p2p_session.specs.Views.{View, wire, HasNone}
-
--- ---- reservations
+use Rattle.p2p_session.specs.Views.{HasNone}
 
 -- whom a reservation is for: an inbound peer, or an ingress that is dialled
-abbrev pub held_bytes : Metadata Key Signature → List ℕ
+abbrev pub held_bytes : {C S : Type 0} → Metadata C S → List ℕ
 held_bytes (Listener p) = 0 ∷ []
 held_bytes (Dialer p ingress) = 1 ∷ ingress_spelling ingress
 
-abbrev pub held_answer : Option (Metadata Key Signature) → Answer
-held_answer None = refused refusal.None
+abbrev pub held_answer : {C S : Type 0} → Option (Metadata C S) → Answer
+held_answer None = refused refusal.Absent
 held_answer (Some metadata) = Bytes (held_bytes metadata)
-
--- what is held of the peer
-abbrev pub TellsHeldOf : View → Result Key Refusal → List ℕ → List ℕ → ℕ → Type 0
-TellsHeldOf v (Ok p) out out2 n = Tells (held_answer (held_of order.cmp v.held p)) out out2 n
-TellsHeldOf v (Err why) out out2 n = Refuses why out out2 n
-
--- ---- answers to frames
 
 abbrev pub fault_bytes : CodecError → List ℕ
 fault_bytes fault.EndOfBuffer = 0 ∷ []
@@ -67,15 +55,9 @@ error_bytes error.ReceivedSelf = 1 ∷ []
 error_bytes error.InvalidSignature = 2 ∷ []
 error_bytes error.SynchronyBound = 3 ∷ []
 
--- whose greeting a payload is, by the bytes of the key; of any other payload nobody's
-abbrev pub greeter_of : Payload Key Signature → List ℕ
-greeter_of (said.Greeting i) = key_bytes i.public_key
-greeter_of _ = []
-
--- .. a frame is, by what comes of reading it
-abbrev pub greeter_in : Result (Payload Key Signature × List ℕ) CodecError → List ℕ
-greeter_in (Ok x) = greeter_of x.0
-greeter_in (Err fault) = []
+-- a byte of 0 says that a signature is not right, each other byte that it is
+abbrev pub verdicts_in : List ℕ → List Bool
+verdicts_in bytes = map (λ b. not (b == 0)) bytes
 
 -- the answer to a frame that is the greeting of this key, if it is one. A message is at the end of
 -- its frame: its channel and its length are answered.
@@ -92,88 +74,106 @@ received_answer key received.Memory = refused refusal.Memory
 abbrev pub TellsReceived : List ℕ → Received → List ℕ → List ℕ → ℕ → Type 0
 TellsReceived key r = Tells (received_answer key r)
 
--- a byte of 0 says that a signature is not right, each other byte that it is
-abbrev pub verdicts_in : List ℕ → List Bool
-verdicts_in bytes = map (λ b. not (b == 0)) bytes
-
--- the node took the frame by these verdicts, wherever the calls accepted before led
-pub record Hears (verdicts : List Bool) (frame : List ℕ) (now : ℕ) (v v2 : View) (r : Received)
-    : Type 0 where
-  pub seen : AnswersFrameBy order.cmp wire verdicts frame now r v v2
-  pub received : IsReceivedBy order.cmp wire verdicts frame now r v v2
-
--- .. at a moment that was read
-abbrev pub HearsAt : List Bool → List ℕ → Result ℕ Refusal → View → View → Received → Type 0
-HearsAt verdicts frame (Ok t) v v2 r = Hears verdicts frame t v v2 r
-HearsAt verdicts frame (Err why) v v2 r = ⊥
-
--- why a frame isn't taken: what is wrong with the moment; else that the room is shorter than the
--- longest answer; else that memory was refused, or that verdicts and infos differ in number
-abbrev pub MayRefuse : View → List Bool → List ℕ → Result ℕ Refusal → ℕ → Refusal → Type 0
-MayRefuse v verdicts frame (Err wrong) room why = why ≡ wrong
-MayRefuse v verdicts frame (Ok t) room refusal.NoRoom = room < 1 + KEY_SIZE
-MayRefuse v verdicts frame (Ok t) room refusal.Memory = 1 + KEY_SIZE ≤ room
-MayRefuse v verdicts frame (Ok t) room refusal.BadVerdicts = (1 + KEY_SIZE ≤ room)
-    × (are_miscounted wire (standing_of order.cmp wire v) frame verdicts ≡ true)
-MayRefuse v verdicts frame (Ok t) room _ = ⊥
-
--- what holds where a frame was taken: the room has the longest answer, and there are as many
--- verdicts as infos, unless memory was refused
-pub record IsTaken (v : View) (verdicts : List Bool) (frame : List ℕ) (room : ℕ) (r : Received)
-    : Type 0 where
-  pub fits : 1 + KEY_SIZE ≤ room
-  pub counted : are_miscounted wire (standing_of order.cmp wire v) frame verdicts ≡ true →
-      IsWantOfMemory r
-
--- a frame is refused and nothing changes, or it is taken and the answer told
-abbrev pub ReceivesAt : List Bool → List ℕ → Result ℕ Refusal → List ℕ → List ℕ → View → View → ℕ →
-    Type 0
-ReceivesAt verdicts frame now out out2 v v2 n =
-    ((why : Refusal) × MayRefuse v verdicts frame now (length out) why × (v2 ≡ v) × Refuses why out out2 n)
-    ⊎ ((r : Received) × HearsAt verdicts frame now v v2 r
-    × IsTaken v verdicts frame (length out) r
-    × TellsReceived (greeter_in (whole (wire.reading v.limits) frame).outcome) r out out2 n)
-
-abbrev pub ReceivesOf : List ℕ → ℕ → ℕ → List ℕ → List ℕ → List ℕ → Option View → Option View → ℕ →
-    Type 0
-ReceivesOf frame seconds nanos verdicts out out2 None o n = HasNone o out out2 n
-ReceivesOf frame seconds nanos verdicts out out2 (Some v) None n = ⊥
-ReceivesOf frame seconds nanos verdicts out out2 (Some v) (Some v2) n =
-    ReceivesAt (verdicts_in verdicts) frame (moment_at seconds nanos) out out2 v v2 n
-
--- ---- what has to be verified
-
 -- the infos of a payload whose signatures decide
-abbrev pub to_ask : Judge Key Signature → ℕ → Payload Key Signature → List (Info Key Signature)
+abbrev pub to_ask : {C S : Type 0} → Judge C S → ℕ → Payload C S → List (Info C S)
 to_ask judge now (said.Greeting i) = judged_before judge now (i ∷ [])
 to_ask judge now (said.Peers is) = to_verify judge now is
 to_ask judge now _ = []
 
--- how many infos there are, and those whose signatures decide
-abbrev pub check_bytes : Judge Key Signature → ℕ → Result (Payload Key Signature × List ℕ) CodecError →
-    List ℕ
-check_bytes judge now (Ok x) =
-    number (length (infos_of_payload x.0)) ++ flat_map asked_bytes (to_ask judge now x.0)
-check_bytes judge now (Err fault) = number 0
+module _ {C S : Type 0} (k : Scheme C S) where
+  -- ---- reservations
 
-abbrev pub ChecksAt : View → List ℕ → Result ℕ Refusal → List ℕ → List ℕ → ℕ → Type 0
-ChecksAt v frame (Ok now) out out2 n = Refuses refusal.Memory out out2 n
-    ⊎ Tells (Bytes (check_bytes (judge_of order.cmp wire.verifies v.verifier) now
-    (whole (wire.reading v.limits) frame).outcome)) out out2 n
-ChecksAt v frame (Err why) out out2 n = Refuses why out out2 n
+  -- what is held of the peer
+  abbrev pub TellsHeldOf : NodeView C S → Result C Refusal → List ℕ → List ℕ → ℕ → Type 0
+  TellsHeldOf v (Ok p) out out2 n = Tells (held_answer (held_of k.key.cmp v.held p)) out out2 n
+  TellsHeldOf v (Err why) out out2 n = Refuses why out out2 n
 
--- ---- where the key of a greeting is
+  -- ---- answers to frames
 
--- the bytes of a key, behind which a signature ends the frame
-abbrev pub key_at_end : List ℕ → List ℕ
-key_at_end frame = take KEY_SIZE (drop (length frame - (KEY_SIZE + SIGNATURE_SIZE)) frame)
+  -- whose greeting a payload is, by the bytes of the key; of any other payload nobody's
+  abbrev pub greeter_of : Payload C S → List ℕ
+  greeter_of (said.Greeting i) = k.key.spelled i.public_key
+  greeter_of _ = []
 
--- a frame that was accepted as a greeting has room for both
-abbrev pub HasKey : Received → List ℕ → Type 0
-HasKey received.Greeted frame = KEY_SIZE + SIGNATURE_SIZE ≤ length frame
-HasKey _ frame = Unit {0}
+  -- .. a frame is, by what comes of reading it
+  abbrev pub greeter_in : Result (Payload C S × List ℕ) CodecError → List ℕ
+  greeter_in (Ok x) = greeter_of x.0
+  greeter_in (Err fault) = []
 
--- .. and the key is there
-abbrev pub IsNamedAtEnd : Received → List ℕ → List ℕ → Type 0
-IsNamedAtEnd received.Greeted frame key = key ≡ key_at_end frame
-IsNamedAtEnd _ frame key = Unit {0}
+  -- the node took the frame by these verdicts, wherever the calls accepted before led
+  pub record Hears (verdicts : List Bool) (frame : List ℕ) (now : ℕ) (v v2 : NodeView C S)
+      (r : Received) : Type 0 where
+    pub seen : AnswersFrameBy k.key.cmp (wire k) verdicts frame now r v v2
+    pub received : IsReceivedBy k.key.cmp (wire k) verdicts frame now r v v2
+
+  -- .. at a moment that was read
+  abbrev pub HearsAt : List Bool → List ℕ → Result ℕ Refusal → NodeView C S → NodeView C S →
+      Received → Type 0
+  HearsAt verdicts frame (Ok t) v v2 r = Hears verdicts frame t v v2 r
+  HearsAt verdicts frame (Err why) v v2 r = ⊥
+
+  -- why a frame isn't taken: what is wrong with the moment; else that the room is shorter than the
+  -- longest answer; else that memory was refused, or that verdicts and infos differ in number
+  abbrev pub MayRefuse : NodeView C S → List Bool → List ℕ → Result ℕ Refusal → ℕ → Refusal → Type 0
+  MayRefuse v verdicts frame (Err wrong) room why = why ≡ wrong
+  MayRefuse v verdicts frame (Ok t) room refusal.NoRoom = room < 1 + k.key.SIZE
+  MayRefuse v verdicts frame (Ok t) room refusal.Memory = 1 + k.key.SIZE ≤ room
+  MayRefuse v verdicts frame (Ok t) room refusal.BadVerdicts = (1 + k.key.SIZE ≤ room)
+      × (are_miscounted (wire k) (standing_of k.key.cmp (wire k) v) frame verdicts ≡ true)
+  MayRefuse v verdicts frame (Ok t) room _ = ⊥
+
+  -- what holds where a frame was taken: the room has the longest answer, and there are as many
+  -- verdicts as infos, unless memory was refused
+  pub record IsTaken (v : NodeView C S) (verdicts : List Bool) (frame : List ℕ) (room : ℕ)
+      (r : Received) : Type 0 where
+    pub fits : 1 + k.key.SIZE ≤ room
+    pub counted : are_miscounted (wire k) (standing_of k.key.cmp (wire k) v) frame verdicts ≡ true →
+        IsWantOfMemory r
+
+  -- a frame is refused and nothing changes, or it is taken and the answer told
+  abbrev pub ReceivesAt : List Bool → List ℕ → Result ℕ Refusal → List ℕ → List ℕ →
+      NodeView C S → NodeView C S → ℕ → Type 0
+  ReceivesAt verdicts frame now out out2 v v2 n =
+      ((why : Refusal) × MayRefuse v verdicts frame now (length out) why × (v2 ≡ v)
+      × Refuses why out out2 n)
+      ⊎ ((r : Received) × HearsAt verdicts frame now v v2 r
+      × IsTaken v verdicts frame (length out) r
+      × TellsReceived (greeter_in (whole ((wire k).reading v.limits) frame).outcome) r out out2 n)
+
+  abbrev pub ReceivesOf : List ℕ → ℕ → ℕ → List ℕ → List ℕ → List ℕ → Option (NodeView C S) →
+      Option (NodeView C S) → ℕ → Type 0
+  ReceivesOf frame seconds nanos verdicts out out2 None o n = HasNone o out out2 n
+  ReceivesOf frame seconds nanos verdicts out out2 (Some v) None n = ⊥
+  ReceivesOf frame seconds nanos verdicts out out2 (Some v) (Some v2) n =
+      ReceivesAt (verdicts_in verdicts) frame (moment_at seconds nanos) out out2 v v2 n
+
+  -- ---- what has to be verified
+
+  -- how many infos there are, and those whose signatures decide
+  abbrev pub check_bytes : Judge C S → ℕ → Result (Payload C S × List ℕ) CodecError →
+      List ℕ
+  check_bytes judge now (Ok x) =
+      number (length (infos_of_payload x.0)) ++ flat_map (asked_bytes k) (to_ask judge now x.0)
+  check_bytes judge now (Err fault) = number 0
+
+  abbrev pub ChecksAt : NodeView C S → List ℕ → Result ℕ Refusal → List ℕ → List ℕ → ℕ → Type 0
+  ChecksAt v frame (Ok now) out out2 n = Refuses refusal.Memory out out2 n
+      ⊎ Tells (Bytes (check_bytes (judge_of k.key.cmp (wire k).verifies v.verifier) now
+      (whole ((wire k).reading v.limits) frame).outcome)) out out2 n
+  ChecksAt v frame (Err why) out out2 n = Refuses why out out2 n
+
+  -- ---- where the key of a greeting is
+
+  -- the bytes of a key, behind which a signature ends the frame
+  abbrev pub key_at_end : List ℕ → List ℕ
+  key_at_end frame = take k.key.SIZE (drop (length frame - (k.key.SIZE + k.signature.SIZE)) frame)
+
+  -- a frame that was accepted as a greeting has room for both
+  abbrev pub HasKey : Received → List ℕ → Type 0
+  HasKey received.Greeted frame = k.key.SIZE + k.signature.SIZE ≤ length frame
+  HasKey _ frame = Unit {0}
+
+  -- .. and the key is there
+  abbrev pub IsNamedAtEnd : Received → List ℕ → List ℕ → Type 0
+  IsNamedAtEnd received.Greeted frame key = key ≡ key_at_end frame
+  IsNamedAtEnd _ frame key = Unit {0}

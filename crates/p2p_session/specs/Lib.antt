@@ -1,7 +1,10 @@
 -- What a session is given, what it answers, and what its calls do: read them in this order.
 pub mod Refusals
-pub mod Given
+pub mod Schemes
+pub mod Firsts
+pub mod Keys
 pub mod Answers
+pub mod Given
 pub mod Views
 pub mod Frames
 pub mod Sessions

@@ -1,7 +1,7 @@
 -- The numbers that calls answer where they are refused: they stand at the top of u64.
 use Rattle.std.specs.Prelude.{ℕ, ◌-◌, ◌^◌}
 use Rattle.p2p_session.specs.declared.refusal.Refusal.{Refusal}
-use Rattle.p2p_session.specs.declared.refusal.Refusal.TheVariants.{Memory, NoNode, None, NoRoom}
+use Rattle.p2p_session.specs.declared.refusal.Refusal.TheVariants.{Memory, NoNode, Absent, NoRoom}
 use Rattle.p2p_session.specs.declared.refusal.Refusal.TheVariants.{NotReserved, NotHeld, BadKey}
 use Rattle.p2p_session.specs.declared.refusal.Refusal.TheVariants.{BadKeys, BadInfo, BadBits}
 use Rattle.p2p_session.specs.declared.refusal.Refusal.TheVariants.{BadMoment, BadSetting}
@@ -10,7 +10,7 @@ use Rattle.p2p_session.specs.declared.refusal.Refusal.TheVariants.{BadVerdicts}
 abbrev pub number_of : Refusal → ℕ
 number_of Memory = 2 ^ 64 - 1
 number_of NoNode = 2 ^ 64 - 2
-number_of None = 2 ^ 64 - 3
+number_of Absent = 2 ^ 64 - 3
 number_of NoRoom = 2 ^ 64 - 4
 number_of NotReserved = 2 ^ 64 - 5
 number_of NotHeld = 2 ^ 64 - 6

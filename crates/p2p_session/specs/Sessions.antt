@@ -12,18 +12,15 @@ use Rattle.p2p_tracker.specs.Directory.{other_keys, dial_moment_in}
 use Rattle.p2p_tracker.specs.Lists.{IsLeastOf}
 use Rattle.p2p_directory.specs.Run.{was_made}
 use Rattle.p2p_directory.specs.Nodes.{AtEach, IsSteppedAt, standing_of}
-use Rattle.p2p_directory.specs.Nodes.{NodeStandsAt, made_of}
+use Rattle.p2p_directory.specs.Nodes.{NodeView, NodeStandsAt, made_of}
 use Rattle.p2p_directory.specs.declared.node.setup.Setup.{Setup}
 use Rattle.p2p_session.specs.declared.setup.Numbers.{Numbers}
 use Rattle.p2p_directory.specs.declared.run.commands.Reply.{Reply}
-use Rattle.p2p_session.specs.declared.key.Key.{Key}
-use Rattle.p2p_session.specs.declared.key.Signature.{Signature}
-use Rattle.p2p_session.specs.declared.key.TheConstants.{KEY_SIZE}
 use Rattle.p2p_session.specs.declared.refusal.Refusal.{Refusal}
 use Rattle.p2p_session.specs.declared.refusal.Refusal.TheVariants as refusal
 use Rattle.p2p_session.specs.declared.session.Session.{Session}
-use Rattle.p2p_session.specs.contracts.key.KeyOrd.TheImpl.{ghosts as order}
-use Rattle.p2p_session.specs.Views.{View, wire, HasNone}
+use Rattle.p2p_session.specs.Schemes.{Scheme, wire}
+use Rattle.p2p_session.specs.Views.{HasNone}
 use Rattle.p2p_session.specs.Frames.{TellsHeldOf, ReceivesOf, ChecksAt}
 use Rattle.p2p_session.specs.Answers.{Tells, TellsReply, Refuses, optional, moment_bytes}
 use Rattle.p2p_session.specs.Refusals.{number_of}
@@ -32,253 +29,258 @@ use Rattle.p2p_session.specs.Given.{infos_spelled, bits_spelled, IsSetup, IsSetu
 use Rattle.p2p_directory.specs.Received.{ask_frame_at}
 
 -- no node has been made
-abbrev pub IsFresh : Session → Type 0
+abbrev pub IsFresh : {C S : Type 0} → Session C S → Type 0
 IsFresh it = it.node ≡ None
 
--- ---- one call
-
--- the node made this call, wherever the calls accepted before led: the reply is that of a run, the
--- node stands at the next point, and the reply is answered
-pub record Steps (call : Call Key Signature) (r : Reply Key Signature) (v v2 : View)
-    (out out2 : List ℕ) (n : ℕ) : Type 0 where
-  pub stepped : AtEach order.cmp v (λ m calls. IsSteppedAt m calls call r v2)
-  pub unchanged : was_made r ≡ false → v2 ≡ v
-  pub told : TellsReply r out out2 n
-
--- the call that was asked for is made, or why it can't be read is answered
-abbrev pub Serves : Asked → List ℕ → List ℕ → Option View → Option View → ℕ → Type 0
-Serves given out out2 None o n = HasNone o out out2 n
-Serves (Err why) out out2 (Some v) o n = (o ≡ Some v) × Refuses why out out2 n
-Serves (Ok call) out out2 (Some v) None n = ⊥
-Serves (Ok call) out out2 (Some v) (Some v2) n =
-    (r : Reply Key Signature) × Steps call r v v2 out out2 n
-
--- .. with nothing to write
-abbrev pub Answers : Asked → Session → Session → ℕ → Type 0
-Answers given before after n = Serves given [] [] before.node after.node n
-
-abbrev pub Writes : Asked → List ℕ → List ℕ → Session → Session → ℕ → Type 0
-Writes given out out2 before after n = Serves given out out2 before.node after.node n
-
--- ---- each call
-
-abbrev pub of_peer : List ℕ → (Key → Call Key Signature) → Asked
-of_peer peer f = and_then (key_at peer) (λ p. Ok (f p))
-
-abbrev pub at_moment : ℕ → ℕ → (ℕ → Call Key Signature) → Asked
-at_moment seconds nanos f = and_then (moment_at seconds nanos) (λ now. Ok (f now))
-
-abbrev pub of_peer_at : List ℕ → ℕ → ℕ → (Key → ℕ → Call Key Signature) → Asked
-of_peer_at peer seconds nanos f = and_then (key_at peer) (λ p. at_moment seconds nanos (f p))
-
-abbrev pub with_draw : List ℕ → ℕ → ℕ → ℕ → ℕ → (Key → ℕ → ℕ → Call Key Signature) → Asked
-with_draw peer seconds nanos draw_seconds draw_nanos f =
-    and_then (key_at peer) (λ p. and_then (moment_at seconds nanos) (λ now.
-    at_moment draw_seconds draw_nanos (f p now)))
-
-abbrev pub Dials : List ℕ → ℕ → ℕ → ℕ → ℕ → Session → Session → ℕ → Type 0
-Dials peer seconds nanos draw_seconds draw_nanos =
-    Answers (with_draw peer seconds nanos draw_seconds draw_nanos (λ p now draw. Dial p now draw))
-
-abbrev pub Listens : List ℕ → ℕ → ℕ → ℕ → ℕ → Session → Session → ℕ → Type 0
-Listens peer seconds nanos draw_seconds draw_nanos =
-    Answers (with_draw peer seconds nanos draw_seconds draw_nanos (λ p now draw. Listen p now draw))
-
-abbrev pub Connects : List ℕ → Bool → Session → Session → ℕ → Type 0
-Connects peer dialer = Answers (of_peer peer (λ p. Connect p dialer))
-
-abbrev pub Releases : List ℕ → Session → Session → ℕ → Type 0
-Releases peer = Answers (of_peer peer (λ p. Release p))
-
-abbrev pub Blocks : List ℕ → ℕ → ℕ → Session → Session → ℕ → Type 0
-Blocks peer seconds nanos = Answers (of_peer_at peer seconds nanos (λ p now. Block p now))
-
-abbrev pub Unblocks : ℕ → ℕ → Session → Session → ℕ → Type 0
-Unblocks seconds nanos = Answers (at_moment seconds nanos (λ now. UnblockExpired now))
-
-abbrev pub Forgets : ℕ → ℕ → Session → Session → ℕ → Type 0
-Forgets seconds nanos = Answers (at_moment seconds nanos (λ now. ForgetCooled now))
-
-abbrev pub TellsUnblock : List ℕ → List ℕ → Session → Session → ℕ → Type 0
-TellsUnblock = Writes (Ok (Ask NextUnblock))
-
-abbrev pub TellsBlocked : ℕ → ℕ → List ℕ → List ℕ → Session → Session → ℕ → Type 0
-TellsBlocked seconds nanos = Writes (at_moment seconds nanos (λ now. Ask (BlockedAt now)))
-
-abbrev pub TellsStatus : List ℕ → Session → Session → ℕ → Type 0
-TellsStatus peer = Answers (of_peer peer (λ p. Ask (StatusOf p)))
-
-abbrev pub TellsPeerSet : ℕ → List ℕ → List ℕ → Session → Session → ℕ → Type 0
-TellsPeerSet index = Writes (Ok (Ask (PeerSet index)))
-
-abbrev pub TellsLatestIndex : List ℕ → List ℕ → Session → Session → ℕ → Type 0
-TellsLatestIndex = Writes (Ok (Ask LatestIndex))
-
-abbrev pub TellsUpdate : List ℕ → List ℕ → Session → Session → ℕ → Type 0
-TellsUpdate = Writes (Ok (Ask LatestUpdate))
-
-abbrev pub TellsAll : List ℕ → List ℕ → Session → Session → ℕ → Type 0
-TellsAll = Writes (Ok (Ask AllPeers))
-
-abbrev pub TellsInfo : List ℕ → List ℕ → List ℕ → Session → Session → ℕ → Type 0
-TellsInfo peer = Writes (of_peer peer (λ p. Ask (InfoOf p)))
-
-abbrev pub TellsBits : ℕ → List ℕ → List ℕ → Session → Session → ℕ → Type 0
-TellsBits place = Writes (Ok (Ask (BitsAt place)))
-
-abbrev pub TellsEligible : List ℕ → ℕ → ℕ → Session → Session → ℕ → Type 0
-TellsEligible peer seconds nanos =
-    Answers (of_peer_at peer seconds nanos (λ p now. Ask (IsEligible p now)))
-
-abbrev pub TellsAcceptable : List ℕ → ℕ → ℕ → Session → Session → ℕ → Type 0
-TellsAcceptable peer seconds nanos =
-    Answers (of_peer_at peer seconds nanos (λ p now. Ask (IsAcceptable p now)))
-
-abbrev pub TellsDialable : ℕ → ℕ → List ℕ → List ℕ → Session → Session → ℕ → Type 0
-TellsDialable seconds nanos = Writes (at_moment seconds nanos (λ now. Ask (DialableAt now)))
-
-abbrev pub TellsTracked : Session → Session → ℕ → Type 0
-TellsTracked = Answers (Ok (Ask NumberTracked))
-
--- how many sets are retained; nothing changes
-abbrev pub TellsRetained : Session → Session → ℕ → Type 0
-TellsRetained before after n = (after ≡ before) × RetainedOf before.node
-  where
-    RetainedOf : Option View → Type 0
-    RetainedOf None = n ≡ number_of refusal.NoNode
-    RetainedOf (Some v) = n ≡ length v.directory.sets
-
--- the least of the dial moments that are kept, if any is
-abbrev pub TellsNextOf : View → List ℕ → List ℕ → ℕ → Type 0
-TellsNextOf v out out2 n = (next : Option ℕ) × IsLeastOf (dial_moment_in order.cmp v.directory) next
-    × Tells (optional moment_bytes next) out out2 n
-
--- .. and nothing changes
-abbrev pub TellsNextCooled : List ℕ → List ℕ → Session → Session → ℕ → Type 0
-TellsNextCooled out out2 before after n = (after ≡ before) × NextOf before.node
-  where
-    NextOf : Option View → Type 0
-    NextOf None = Refuses refusal.NoNode out out2 n
-    NextOf (Some v) = TellsNextOf v out out2 n
-
--- how many bytes the keys of all peers with a record have
-abbrev pub room_for : View → ℕ
-room_for v = min (length (other_keys v.directory.records) * KEY_SIZE) (2 ^ 63)
-
-abbrev pub TellsRoom : Session → Session → ℕ → Type 0
-TellsRoom before after n = (after ≡ before) × IsRoom before.node n
-  where
-    IsRoom : Option View → ℕ → Type 0
-    IsRoom None n = n ≡ number_of refusal.NoNode
-    IsRoom (Some v) n = n ≡ room_for v
-
 -- why a call without room is refused
-abbrev pub room_refusal : Option View → ℕ
+abbrev pub room_refusal : {C S : Type 0} → Option (NodeView C S) → ℕ
 room_refusal None = number_of refusal.NoNode
 room_refusal (Some v) = number_of refusal.NoRoom
 
--- the call, as it was read, is made
-abbrev pub ServesRead : (Asked → Type 0) → List ℕ → List ℕ → Session → Session → ℕ → Type 0
-ServesRead IsGiven out out2 before after n =
-    (given : Asked) × IsGiven given × Writes given out out2 before after n
-
 -- what is answered fits the room, or is no length: nothing of it is lost
-abbrev pub IsWhole : List ℕ → ℕ → Type 0
-IsWhole out n = (n ≤ length out) ⊎ (2 ^ 63 < n)
+abbrev pub Fits : List ℕ → ℕ → Type 0
+Fits out n = (n ≤ length out) ⊎ (2 ^ 63 < n)
 
--- the room has the keys of all peers with a record
-abbrev pub HasRoom : Option View → List ℕ → Type 0
-HasRoom None out = Unit {0}
-HasRoom (Some v) out = room_for v ≤ length out
+-- a call at a moment
+abbrev pub at_moment : {C S : Type 0} → ℕ → ℕ → (ℕ → Call C S) → Asked C S
+at_moment seconds nanos f = and_then (moment_at seconds nanos) (λ now. Ok (f now))
 
--- a set is taken, and its answer is whole; where the room is shorter than the keys of all peers with
--- a record it isn't
-abbrev pub Tracks : ℕ → List ℕ → List ℕ → List ℕ → List ℕ → Session → Session → ℕ → Type 0
-Tracks index primary secondary out out2 before after n =
-    ((n ≡ room_refusal before.node) × (after ≡ before) × (out2 ≡ out) × LacksRoom before.node)
-    ⊎ (ServesRead (IsTrackRead index primary secondary) out out2 before after n × IsWhole out n)
-  where
-    LacksRoom : Option View → Type 0
-    LacksRoom None = Unit {0}
-    LacksRoom (Some v) = length out < room_for v
+module _ {C S : Type 0} (k : Scheme C S) where
+  -- ---- one call
 
-abbrev pub UpdatesPeers : List ℕ → Session → Session → ℕ → Type 0
-UpdatesPeers infos = ServesRead
-    (λ given. IsRead given (and_then (infos_spelled infos) (λ is. Ok (Update is)))) [] []
+  -- the node made this call, wherever the calls accepted before led: the reply is that of a run, the
+  -- node stands at the next point, and the reply is answered
+  pub record Steps (call : Call C S) (r : Reply C S) (v v2 : NodeView C S)
+      (out out2 : List ℕ) (n : ℕ) : Type 0 where
+    pub stepped : AtEach k.key.cmp v (λ m calls. IsSteppedAt m calls call r v2)
+    pub unchanged : was_made r ≡ false → v2 ≡ v
+    pub told : TellsReply k r out out2 n
 
-abbrev pub TellsInfos : List ℕ → ℕ → ℕ → List ℕ → List ℕ → Session → Session → ℕ → Type 0
-TellsInfos bits seconds nanos out out2 before after n = ServesRead (λ given. IsRead given
-    (and_then (bits_spelled bits) (λ v.
-    at_moment seconds nanos (λ now. Ask (InfosFor v.index v.bits now)))))
-    out out2 before after n
+  -- the call that was asked for is made, or why it can't be read is answered
+  abbrev pub Serves : Asked C S → List ℕ → List ℕ → Option (NodeView C S) → Option (NodeView C S) →
+      ℕ → Type 0
+  Serves given out out2 None o n = HasNone o out out2 n
+  Serves (Err why) out out2 (Some v) o n = (o ≡ Some v) × Refuses why out out2 n
+  Serves (Ok call) out out2 (Some v) None n = ⊥
+  Serves (Ok call) out out2 (Some v) (Some v2) n =
+      (r : Reply C S) × Steps call r v v2 out out2 n
 
--- the frame of the bits of the set at a place, or want of memory; nothing changes
-abbrev pub Asks : ℕ → List ℕ → List ℕ → Session → Session → ℕ → Type 0
-Asks place out out2 before after n = (after ≡ before) × AskedOf before.node
-  where
-    AskedOf : Option View → Type 0
-    AskedOf None = Refuses refusal.NoNode out out2 n
-    AskedOf (Some v) = let frame = ask_frame_at wire (standing_of order.cmp wire v) place in
-        Tells (optional (λ bytes. bytes) frame) out out2 n
-        ⊎ (Refuses refusal.Memory out out2 n × (is_some frame ≡ true))
+  -- .. with nothing to write
+  abbrev pub Answers : Asked C S → Session C S → Session C S → ℕ → Type 0
+  Answers given before after n = Serves given [] [] before.node after.node n
 
--- ---- a node is made
+  abbrev pub Writes : Asked C S → List ℕ → List ℕ → Session C S → Session C S → ℕ → Type 0
+  Writes given out out2 before after n = Serves given out out2 before.node after.node n
 
--- this node is new, and made from the setup
-abbrev pub IsMade : Option View → Setup Key Signature → Type 0
-IsMade None given = ⊥
-IsMade (Some v) given = NodeStandsAt (made_of order.cmp given) [] v
+  -- ---- each call
 
--- why none is made: there is one already, or the setup is refused
-abbrev pub IsInitRefusal : Numbers → List ℕ → List ℕ → Option View → Refusal → Type 0
-IsInitRefusal numbers bootstrappers myself (Some v) why = why ≡ refusal.BadSetting
-IsInitRefusal numbers bootstrappers myself None why =
-    IsSetupRefusal (numbers_at numbers) bootstrappers myself why
+  abbrev pub of_peer : List ℕ → (C → Call C S) → Asked C S
+  of_peer peer f = and_then (key_at k peer) (λ p. Ok (f p))
 
--- 1 where there was none and it is made from these; else why not, and nothing changes
-pub record InitsBy (numbers : Numbers) (namespace bootstrappers myself : List ℕ)
-    (before after : Session) (n : ℕ) : Type 0 where
-  pub made : n ≡ 1 → (before.node ≡ None) × ((given : Setup Key Signature)
-      × IsSetup numbers namespace bootstrappers myself given × IsMade after.node given)
-  pub refused : ¬ (n ≡ 1) → (after.node ≡ before.node) × ((why : Refusal)
-      × IsInitRefusal numbers bootstrappers myself before.node why × (n ≡ number_of why))
+  abbrev pub of_peer_at : List ℕ → ℕ → ℕ → (C → ℕ → Call C S) → Asked C S
+  of_peer_at peer seconds nanos f = and_then (key_at k peer) (λ p. at_moment seconds nanos (f p))
 
-abbrev pub Inits : Bool → Bool → ℕ → ℕ → ℕ → ℕ → ℕ → ℕ → ℕ → ℕ → ℕ → ℕ → ℕ → ℕ →
-    List ℕ → List ℕ → List ℕ → Session → Session → ℕ → Type 0
-Inits private_ips dns sets fails cooldown_seconds cooldown_nanos block_seconds block_nanos
-    bits peers data_length count bound_seconds bound_nanos = InitsBy (record {
-      allow_private_ips = private_ips;
-      allow_dns = dns;
-      max_sets = sets;
-      dial_fail_limit = fails;
-      cooldown = (cooldown_seconds, cooldown_nanos);
-      block = (block_seconds, block_nanos);
-      max_bit_vec = bits;
-      max_peers = peers;
-      max_data_length = data_length;
-      peer_gossip_max_count = count;
-      bound = (bound_seconds, bound_nanos);
-    })
+  abbrev pub with_draw : List ℕ → ℕ → ℕ → ℕ → ℕ → (C → ℕ → ℕ → Call C S) → Asked C S
+  with_draw peer seconds nanos draw_seconds draw_nanos f =
+      and_then (key_at k peer) (λ p. and_then (moment_at seconds nanos) (λ now.
+      at_moment draw_seconds draw_nanos (f p now)))
 
--- ---- reservations and frames
+  abbrev pub Dials : List ℕ → ℕ → ℕ → ℕ → ℕ → Session C S → Session C S → ℕ → Type 0
+  Dials peer seconds nanos draw_seconds draw_nanos =
+      Answers (with_draw peer seconds nanos draw_seconds draw_nanos (λ p now draw. Dial p now draw))
 
--- what is held of the peer; nothing changes
-abbrev pub TellsReservation : List ℕ → List ℕ → List ℕ → Session → Session → ℕ → Type 0
-TellsReservation peer out out2 before after n = (after ≡ before) × HeldOf before.node
-  where
-    HeldOf : Option View → Type 0
-    HeldOf None = Refuses refusal.NoNode out out2 n
-    HeldOf (Some v) = TellsHeldOf v (key_at peer) out out2 n
+  abbrev pub Listens : List ℕ → ℕ → ℕ → ℕ → ℕ → Session C S → Session C S → ℕ → Type 0
+  Listens peer seconds nanos draw_seconds draw_nanos =
+      Answers (with_draw peer seconds nanos draw_seconds draw_nanos (λ p now draw. Listen p now draw))
 
--- what has to be verified of a frame; nothing changes
-abbrev pub Checks : List ℕ → ℕ → ℕ → List ℕ → List ℕ → Session → Session → ℕ → Type 0
-Checks frame seconds nanos out out2 before after n = (after ≡ before) × ChecksOf before.node
-  where
-    ChecksOf : Option View → Type 0
-    ChecksOf None = Refuses refusal.NoNode out out2 n
-    ChecksOf (Some v) = ChecksAt v frame (moment_at seconds nanos) out out2 n
+  abbrev pub TellsConnect : List ℕ → Bool → Session C S → Session C S → ℕ → Type 0
+  TellsConnect peer dialer = Answers (of_peer peer (λ p. Connect p dialer))
 
--- a frame is taken by what was said of the signatures of its infos
-abbrev pub Receives : List ℕ → ℕ → ℕ → List ℕ → List ℕ → List ℕ → Session → Session → ℕ → Type 0
-Receives frame seconds nanos verdicts out out2 before after n =
-    ReceivesOf frame seconds nanos verdicts out out2 before.node after.node n
+  abbrev pub TellsRelease : List ℕ → Session C S → Session C S → ℕ → Type 0
+  TellsRelease peer = Answers (of_peer peer (λ p. Release p))
+
+  abbrev pub Blocks : List ℕ → ℕ → ℕ → Session C S → Session C S → ℕ → Type 0
+  Blocks peer seconds nanos = Answers (of_peer_at peer seconds nanos (λ p now. Block p now))
+
+  abbrev pub Unblocks : ℕ → ℕ → Session C S → Session C S → ℕ → Type 0
+  Unblocks seconds nanos = Answers (at_moment seconds nanos (λ now. UnblockExpired now))
+
+  abbrev pub Forgets : ℕ → ℕ → Session C S → Session C S → ℕ → Type 0
+  Forgets seconds nanos = Answers (at_moment seconds nanos (λ now. ForgetCooled now))
+
+  abbrev pub TellsUnblock : List ℕ → List ℕ → Session C S → Session C S → ℕ → Type 0
+  TellsUnblock = Writes (Ok (Ask NextUnblock))
+
+  abbrev pub TellsBlocked : ℕ → ℕ → List ℕ → List ℕ → Session C S → Session C S → ℕ → Type 0
+  TellsBlocked seconds nanos = Writes (at_moment seconds nanos (λ now. Ask (BlockedAt now)))
+
+  abbrev pub TellsStatus : List ℕ → Session C S → Session C S → ℕ → Type 0
+  TellsStatus peer = Answers (of_peer peer (λ p. Ask (StatusOf p)))
+
+  abbrev pub TellsPeerSet : ℕ → List ℕ → List ℕ → Session C S → Session C S → ℕ → Type 0
+  TellsPeerSet index = Writes (Ok (Ask (PeerSet index)))
+
+  abbrev pub TellsLatestIndex : List ℕ → List ℕ → Session C S → Session C S → ℕ → Type 0
+  TellsLatestIndex = Writes (Ok (Ask LatestIndex))
+
+  abbrev pub TellsUpdate : List ℕ → List ℕ → Session C S → Session C S → ℕ → Type 0
+  TellsUpdate = Writes (Ok (Ask LatestUpdate))
+
+  abbrev pub TellsAll : List ℕ → List ℕ → Session C S → Session C S → ℕ → Type 0
+  TellsAll = Writes (Ok (Ask AllPeers))
+
+  abbrev pub TellsInfo : List ℕ → List ℕ → List ℕ → Session C S → Session C S → ℕ → Type 0
+  TellsInfo peer = Writes (of_peer peer (λ p. Ask (InfoOf p)))
+
+  abbrev pub TellsBits : ℕ → List ℕ → List ℕ → Session C S → Session C S → ℕ → Type 0
+  TellsBits place = Writes (Ok (Ask (BitsAt place)))
+
+  abbrev pub TellsEligible : List ℕ → ℕ → ℕ → Session C S → Session C S → ℕ → Type 0
+  TellsEligible peer seconds nanos =
+      Answers (of_peer_at peer seconds nanos (λ p now. Ask (IsEligible p now)))
+
+  abbrev pub TellsAcceptable : List ℕ → ℕ → ℕ → Session C S → Session C S → ℕ → Type 0
+  TellsAcceptable peer seconds nanos =
+      Answers (of_peer_at peer seconds nanos (λ p now. Ask (IsAcceptable p now)))
+
+  abbrev pub TellsDialable : ℕ → ℕ → List ℕ → List ℕ → Session C S → Session C S → ℕ → Type 0
+  TellsDialable seconds nanos = Writes (at_moment seconds nanos (λ now. Ask (DialableAt now)))
+
+  abbrev pub TellsTracked : Session C S → Session C S → ℕ → Type 0
+  TellsTracked = Answers (Ok (Ask NumberTracked))
+
+  -- how many sets are retained; nothing changes
+  abbrev pub TellsRetained : Session C S → Session C S → ℕ → Type 0
+  TellsRetained before after n = (after ≡ before) × RetainedOf before.node
+    where
+      RetainedOf : Option (NodeView C S) → Type 0
+      RetainedOf None = n ≡ number_of refusal.NoNode
+      RetainedOf (Some v) = n ≡ length v.directory.sets
+
+  -- the least of the dial moments that are kept, if any is
+  abbrev pub TellsNextOf : NodeView C S → List ℕ → List ℕ → ℕ → Type 0
+  TellsNextOf v out out2 n = (next : Option ℕ) × IsLeastOf (dial_moment_in k.key.cmp v.directory) next
+      × Tells (optional moment_bytes next) out out2 n
+
+  -- .. and nothing changes
+  abbrev pub TellsNextCooled : List ℕ → List ℕ → Session C S → Session C S → ℕ → Type 0
+  TellsNextCooled out out2 before after n = (after ≡ before) × NextOf before.node
+    where
+      NextOf : Option (NodeView C S) → Type 0
+      NextOf None = Refuses refusal.NoNode out out2 n
+      NextOf (Some v) = TellsNextOf v out out2 n
+
+  -- how many bytes the keys of all peers with a record have
+  abbrev pub room_for : NodeView C S → ℕ
+  room_for v = min (length (other_keys v.directory.records) * k.key.SIZE) (2 ^ 63)
+
+  abbrev pub TellsRoom : Session C S → Session C S → ℕ → Type 0
+  TellsRoom before after n = (after ≡ before) × IsRoom before.node n
+    where
+      IsRoom : Option (NodeView C S) → ℕ → Type 0
+      IsRoom None n = n ≡ number_of refusal.NoNode
+      IsRoom (Some v) n = n ≡ room_for v
+
+  -- the call, as it was read, is made
+  abbrev pub ServesRead : (Asked C S → Type 0) → List ℕ → List ℕ → Session C S → Session C S → ℕ →
+      Type 0
+  ServesRead IsGiven out out2 before after n =
+      (given : Asked C S) × IsGiven given × Writes given out out2 before after n
+
+  -- the room has the keys of all peers with a record
+  abbrev pub HasRoom : Option (NodeView C S) → List ℕ → Type 0
+  HasRoom None out = Unit {0}
+  HasRoom (Some v) out = room_for v ≤ length out
+
+  -- a set is taken, and its answer is whole; where the room is shorter than the keys of all peers with
+  -- a record it isn't
+  abbrev pub Tracks : ℕ → List ℕ → List ℕ → List ℕ → List ℕ → Session C S → Session C S → ℕ → Type 0
+  Tracks index primary secondary out out2 before after n =
+      ((n ≡ room_refusal before.node) × (after ≡ before) × (out2 ≡ out) × LacksRoom before.node)
+      ⊎ (ServesRead (IsTrackRead k index primary secondary) out out2 before after n × Fits out n)
+    where
+      LacksRoom : Option (NodeView C S) → Type 0
+      LacksRoom None = Unit {0}
+      LacksRoom (Some v) = length out < room_for v
+
+  abbrev pub UpdatesPeers : List ℕ → Session C S → Session C S → ℕ → Type 0
+  UpdatesPeers infos = ServesRead
+      (λ given. IsRead given (and_then (infos_spelled k infos) (λ is. Ok (Update is)))) [] []
+
+  abbrev pub TellsInfos : List ℕ → ℕ → ℕ → List ℕ → List ℕ → Session C S → Session C S → ℕ → Type 0
+  TellsInfos bits seconds nanos out out2 before after n = ServesRead (λ given. IsRead given
+      (and_then (bits_spelled bits) (λ v.
+      at_moment seconds nanos (λ now. Ask (InfosFor v.index v.bits now)))))
+      out out2 before after n
+
+  -- the frame of the bits of the set at a place, or want of memory; nothing changes
+  abbrev pub Asks : ℕ → List ℕ → List ℕ → Session C S → Session C S → ℕ → Type 0
+  Asks place out out2 before after n = (after ≡ before) × AskedOf before.node
+    where
+      AskedOf : Option (NodeView C S) → Type 0
+      AskedOf None = Refuses refusal.NoNode out out2 n
+      AskedOf (Some v) = let frame = ask_frame_at (wire k) (standing_of k.key.cmp (wire k) v) place in
+          Tells (optional (λ bytes. bytes) frame) out out2 n
+          ⊎ (Refuses refusal.Memory out out2 n × (is_some frame ≡ true))
+
+  -- ---- a node is made
+
+  -- this node is new, and made from the setup
+  abbrev pub IsMade : Option (NodeView C S) → Setup C S → Type 0
+  IsMade None given = ⊥
+  IsMade (Some v) given = NodeStandsAt (made_of k.key.cmp given) [] v
+
+  -- why none is made: there is one already, or the setup is refused
+  abbrev pub IsInitRefusal : Numbers → List ℕ → List ℕ → Option (NodeView C S) → Refusal → Type 0
+  IsInitRefusal numbers bootstrappers myself (Some v) why = why ≡ refusal.BadSetting
+  IsInitRefusal numbers bootstrappers myself None why =
+      IsSetupRefusal k (numbers_at numbers) bootstrappers myself why
+
+  -- 1 where there was none and it is made from these; else why not, and nothing changes
+  pub record InitsBy (numbers : Numbers) (namespace bootstrappers myself : List ℕ)
+      (before after : Session C S) (n : ℕ) : Type 0 where
+    pub made : n ≡ 1 → (before.node ≡ None) × ((given : Setup C S)
+        × IsSetup k numbers namespace bootstrappers myself given × IsMade after.node given)
+    pub refused : ¬ (n ≡ 1) → (after.node ≡ before.node) × ((why : Refusal)
+        × IsInitRefusal numbers bootstrappers myself before.node why × (n ≡ number_of why))
+
+  abbrev pub Inits : Bool → Bool → ℕ → ℕ → ℕ → ℕ → ℕ → ℕ → ℕ → ℕ → ℕ → ℕ → ℕ → ℕ →
+      List ℕ → List ℕ → List ℕ → Session C S → Session C S → ℕ → Type 0
+  Inits private_ips dns sets fails cooldown_seconds cooldown_nanos block_seconds block_nanos
+      bits peers data_length count bound_seconds bound_nanos = InitsBy (record {
+        allow_private_ips = private_ips;
+        allow_dns = dns;
+        max_sets = sets;
+        dial_fail_limit = fails;
+        cooldown = (cooldown_seconds, cooldown_nanos);
+        block = (block_seconds, block_nanos);
+        max_bit_vec = bits;
+        max_peers = peers;
+        max_data_length = data_length;
+        peer_gossip_max_count = count;
+        bound = (bound_seconds, bound_nanos);
+      })
+
+  -- ---- reservations and frames
+
+  -- what is held of the peer; nothing changes
+  abbrev pub TellsReservation : List ℕ → List ℕ → List ℕ → Session C S → Session C S → ℕ → Type 0
+  TellsReservation peer out out2 before after n = (after ≡ before) × HeldOf before.node
+    where
+      HeldOf : Option (NodeView C S) → Type 0
+      HeldOf None = Refuses refusal.NoNode out out2 n
+      HeldOf (Some v) = TellsHeldOf k v (key_at k peer) out out2 n
+
+  -- what has to be verified of a frame; nothing changes
+  abbrev pub Checks : List ℕ → ℕ → ℕ → List ℕ → List ℕ → Session C S → Session C S → ℕ → Type 0
+  Checks frame seconds nanos out out2 before after n = (after ≡ before) × ChecksOf before.node
+    where
+      ChecksOf : Option (NodeView C S) → Type 0
+      ChecksOf None = Refuses refusal.NoNode out out2 n
+      ChecksOf (Some v) = ChecksAt k v frame (moment_at seconds nanos) out out2 n
+
+  -- a frame is taken by what was said of the signatures of its infos
+  abbrev pub Receives : List ℕ → ℕ → ℕ → List ℕ → List ℕ → List ℕ → Session C S → Session C S → ℕ →
+      Type 0
+  Receives frame seconds nanos verdicts out out2 before after n =
+      ReceivesOf k frame seconds nanos verdicts out out2 before.node after.node n

@@ -2,36 +2,36 @@
 
 ghost use Rattle.std.specs.Prelude.{◌≡◌, IfSome};
 
-use crate::key::Key;
 use p2p_directory::node::Decoded;
+use p2p_discovery::codec::PublicKey;
 use std::marker::Model;
 
 /// The frame that was checked last, decoded, if it wasn't received since. Contracts see nothing of
 /// it: with it and without it, each call returns the same.
 #[derive(Drop)]
-pub struct Checked {
-    last: Option<Decoded<Key>>,
+pub struct Checked<C: PublicKey> {
+    last: Option<Decoded<C>>,
 }
 
-impl Model for Checked {
+impl<C: PublicKey> Model for Checked<C> {
     ghost Value = { Unit {0} };
 
     ghost view = { λ _. tt };
 }
 
-impl Checked {
+impl<C: PublicKey> Checked<C> {
     /// No frame.
-    pub fn new() -> Checked {
+    pub fn new() -> Checked<C> {
         Checked { last: None }
     }
 
     /// Keeps this frame in place of the one before.
-    pub fn keep(&mut self, decoded: Decoded<Key>) {
+    pub fn keep(&mut self, decoded: Decoded<C>) {
         self.last = Some(decoded);
     }
 
     /// The frame, if it is this one. It isn't kept any longer.
-    pub fn take(&mut self, frame: &[u8]) -> Option<Decoded<Key>>
+    pub fn take(&mut self, frame: &[u8]) -> Option<Decoded<C>>
         ensures { IfSome result (λ d. d.frame ≡ frame.now) }
     {
         match &self.last {

@@ -1,6 +1,7 @@
 //! Commands, decoded from what a session is given for them.
 
 ghost use Rattle.std.specs.Prelude.{◌≡◌, Ok};
+ghost use Rattle.p2p_session.specs.Schemes.{scheme};
 ghost use Rattle.p2p_session.specs.Given.{asked, and_then, IsRead, ArePeersRead, infos_spelled};
 ghost use Rattle.p2p_session.specs.Given.{bits_spelled};
 ghost use Rattle.p2p_session.specs.Sessions.{of_peer, at_moment};
@@ -8,16 +9,21 @@ ghost use Rattle.p2p_tracker.specs.Calls.Call.{Ask, Update};
 ghost use Rattle.p2p_tracker.specs.Calls.Question.{BlockedAt, InfoOf, DialableAt, InfosFor};
 
 use crate::given::{are_keys, bits, infos, key, moment, set};
-use crate::key::Key;
 use crate::refusal::Refusal;
 use p2p_directory::directory::TrackedPeers;
 use p2p_directory::run::Command;
+use p2p_discovery::codec::PublicKey;
 use std::alloc::Global;
 
-pub fn peers(alloc: Global, primary: &[u8], secondary: &[u8]) -> Result<TrackedPeers<Key>, Refusal>
-    ensures { ArePeersRead primary.now secondary.now result }
+pub fn peers<C: PublicKey>(
+    alloc: Global,
+    primary: &[u8],
+    secondary: &[u8],
+) -> Result<TrackedPeers<C>, Refusal>
+    ensures { ArePeersRead (scheme C.PublicKey C.Signature.FixedBytes) primary.now secondary.now
+        result }
 {
-    if !are_keys(primary) || !are_keys(secondary) {
+    if !are_keys::<C>(primary) || !are_keys::<C>(secondary) {
         return Err(Refusal::BadKeys);
     }
     let primary = set(alloc, primary)?;
@@ -25,18 +31,19 @@ pub fn peers(alloc: Global, primary: &[u8], secondary: &[u8]) -> Result<TrackedP
     Ok(TrackedPeers::new(primary, secondary))
 }
 
-pub fn update_peers(alloc: Global, bytes: &[u8]) -> Result<Command<Key>, Refusal>
-    ensures { IsRead (asked result) (and_then (infos_spelled bytes.now) (λ is. Ok (Update is))) }
+pub fn update_peers<C: PublicKey>(alloc: Global, bytes: &[u8]) -> Result<Command<C>, Refusal>
+    ensures { IsRead (asked result) (and_then (infos_spelled (scheme C.PublicKey
+        C.Signature.FixedBytes) bytes.now) (λ is. Ok (Update is))) }
 {
     Ok(Command::UpdatePeers(infos(alloc, bytes)?))
 }
 
-pub fn infos_for(
+pub fn infos_for<C: PublicKey>(
     alloc: Global,
     bytes: &[u8],
     seconds: u64,
     nanos: u32,
-) -> Result<Command<Key>, Refusal>
+) -> Result<Command<C>, Refusal>
     ensures { IsRead (asked result) (and_then (bits_spelled bytes.now) (λ v.
         at_moment seconds nanos (λ now. Ask (InfosFor v.index v.bits now)))) }
 {
@@ -45,19 +52,20 @@ pub fn infos_for(
     Ok(Command::Infos { bit_vec, now })
 }
 
-pub fn blocked_peers(seconds: u64, nanos: u32) -> Result<Command<Key>, Refusal>
+pub fn blocked_peers<C: PublicKey>(seconds: u64, nanos: u32) -> Result<Command<C>, Refusal>
     ensures { asked result ≡ at_moment seconds nanos (λ now. Ask (BlockedAt now)) }
 {
     Ok(Command::BlockedPeers(moment(seconds, nanos)?))
 }
 
-pub fn info(peer: &[u8]) -> Result<Command<Key>, Refusal>
-    ensures { asked result ≡ of_peer peer.now (λ p. Ask (InfoOf p)) }
+pub fn info<C: PublicKey>(peer: &[u8]) -> Result<Command<C>, Refusal>
+    ensures { asked result ≡ of_peer (scheme C.PublicKey C.Signature.FixedBytes) peer.now (λ p. Ask
+        (InfoOf p)) }
 {
     Ok(Command::Info(key(peer)?))
 }
 
-pub fn dialable(seconds: u64, nanos: u32) -> Result<Command<Key>, Refusal>
+pub fn dialable<C: PublicKey>(seconds: u64, nanos: u32) -> Result<Command<C>, Refusal>
     ensures { asked result ≡ at_moment seconds nanos (λ now. Ask (DialableAt now)) }
 {
     Ok(Command::Dialable(moment(seconds, nanos)?))

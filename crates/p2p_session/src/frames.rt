@@ -1,18 +1,41 @@
 //! Frames: what of them has to be verified, and what a node returns for them.
 
-ghost use Rattle.std.specs.Prelude.{◌≡◌, ℕ, ◌+◌, ◌≤◌, ◌<◌, ◌^◌, ◌∷◌, ◌++◌, IfOk, IfErr, OnErr, length};
+ghost use Rattle.std.specs.Prelude.{
+  ◌≡◌,
+  ℕ,
+  ◌+◌,
+  ◌≤◌,
+  ◌<◌,
+  ◌^◌,
+  ◌∷◌,
+  ◌++◌,
+  IfOk,
+  IfErr,
+  OnErr,
+  length,
+};
 ghost use Rattle.std.specs.Prelude.{take, flat_map, Ok, true};
 ghost use Rattle.p2p_discovery.specs.Reading.{IsBytes, whole};
 ghost use Rattle.std.specs.Duration.{as_nanos};
+ghost use Rattle.p2p_session.specs.Schemes.{scheme, wire};
 ghost use Rattle.p2p_session.specs.Answers.{IsAnswered, number, asked_bytes};
 ghost use Rattle.p2p_session.specs.Given.{moment_at};
-ghost use Rattle.p2p_session.specs.Frames.{received_answer, TellsReceived, fault_bytes, error_bytes};
+ghost use Rattle.p2p_session.specs.Frames.{
+  received_answer,
+  TellsReceived,
+  fault_bytes,
+  error_bytes,
+};
 ghost use Rattle.p2p_session.specs.Frames.{greeter_in, key_at_end, HasKey, IsNamedAtEnd};
-ghost use Rattle.p2p_session.specs.Frames.{verdicts_in, MayRefuse, ReceivesAt, Hears, HearsAt, IsTaken};
+ghost use Rattle.p2p_session.specs.Frames.{
+  verdicts_in,
+  MayRefuse,
+  ReceivesAt,
+  Hears,
+  HearsAt,
+  IsTaken,
+};
 ghost use Rattle.p2p_session.specs.Frames.{to_ask, ChecksAt};
-ghost use Rattle.p2p_session.specs.contracts.key.KeyOrd.TheImpl.{ghosts as order};
-ghost use Rattle.p2p_session.specs.Views.{wire};
-ghost use Rattle.p2p_session.specs.Answers.{part_bytes};
 ghost use Rattle.p2p_discovery.specs.Judgement.{judge_of};
 ghost use Rattle.p2p_discovery.specs.Payload.{infos_of_payload};
 ghost use Rattle.p2p_discovery.specs.declared.discovery.Payload.TheVariants.{Peers};
@@ -20,39 +43,34 @@ ghost use Rattle.p2p_directory.specs.Nodes.{standing_of};
 ghost use Rattle.p2p_directory.specs.Received.{received_of, AreFew, are_miscounted};
 ghost use Rattle.p2p_directory.specs.Received.{IsWantOfMemory};
 
-use crate::answer::{Part, answer};
+use crate::answer::{Plain, Values, answer, answer_bytes};
 use crate::checked::Checked;
 use crate::given::moment;
-use crate::key::{KEY_SIZE, Key, SIGNATURE_SIZE};
 use crate::refusal::Refusal;
-use crate::reply::answer_one;
 use bytes::Bytes;
 use p2p_directory::node::{Answer, Node, Received};
-use p2p_discovery::codec::{CodecError, What};
+use p2p_discovery::codec::{CodecError, FixedBytes, PublicKey, What};
 use p2p_discovery::data::Data;
 use p2p_discovery::discovery::{Error, Info, InfoVerifier, Payload};
 use std::alloc::{AllocError, Global};
-use std::slice;
 use std::time::Duration;
-
-/// The maximum length of the answers to frames that are applied or refused.
-const LONGEST_RECEIVED: usize = 1 + KEY_SIZE;
 
 // The first byte of a frame with infos.
 const INFOS_PREFIX: u8 = 3;
 
 /// Processes a frame by verification results for the signatures of its infos, and writes the
 /// answer.
-pub fn receive(
+pub fn receive<C: PublicKey>(
     alloc: Global,
-    node: &mut Node<Key>,
-    checked: &mut Checked,
+    node: &mut Node<C>,
+    checked: &mut Checked<C>,
     frame: &[u8],
     time: (u64, u32),
     verdicts: &[u8],
     out: &mut [u8],
 ) -> u64
-    ensures { ReceivesAt (verdicts_in verdicts.now) frame.now (moment_at time.0 time.1)
+    ensures { ReceivesAt (scheme C.PublicKey C.Signature.FixedBytes) (verdicts_in verdicts.now)
+        frame.now (moment_at time.0 time.1)
         out.old out.new node.old node.new result }
 {
     match hear(alloc, node, checked, frame, time, verdicts, out.len()) {
@@ -62,30 +80,37 @@ pub fn receive(
 }
 
 // Processes a frame by verification results, if the buffer is long enough.
-fn hear(
+fn hear<C: PublicKey>(
     alloc: Global,
-    node: &mut Node<Key>,
-    checked: &mut Checked,
+    node: &mut Node<C>,
+    checked: &mut Checked<C>,
     frame: &[u8],
     time: (u64, u32),
     verdicts: &[u8],
     room: usize,
-) -> Result<Answer<Key>, Refusal>
-    ensures heard { IfOk result (λ a. HearsAt (verdicts_in verdicts.now) frame.now
-        (moment_at time.0 time.1) node.old node.new (received_of wire a)) }
-    ensures refused { IfErr result (MayRefuse node.old (verdicts_in verdicts.now) frame.now
+) -> Result<Answer<C>, Refusal>
+    ensures heard { IfOk result (λ a. HearsAt (scheme C.PublicKey C.Signature.FixedBytes)
+        (verdicts_in verdicts.now) frame.now
+        (moment_at time.0 time.1) node.old node.new (received_of (wire (scheme C.PublicKey
+        C.Signature.FixedBytes)) a)) }
+    ensures refused { IfErr result (MayRefuse (scheme C.PublicKey C.Signature.FixedBytes) node.old
+        (verdicts_in verdicts.now) frame.now
         (moment_at time.0 time.1) room) }
     ensures same { OnErr result (node.new ≡ node.old) }
     ensures few { IfOk result AreFew }
-    ensures taken { IfOk result (λ a. IsTaken node.old (verdicts_in verdicts.now) frame.now room
-        (received_of wire a)) }
-    ensures has_key { IfOk result (λ a. HasKey (received_of wire a) frame.now) }
-    ensures named { IfOk result (λ a. IsNamedAtEnd (received_of wire a) frame.now
-        (greeter_in (whole (wire.reading node.old.limits) frame.now).outcome)) }
+    ensures taken { IfOk result (λ a. IsTaken (scheme C.PublicKey C.Signature.FixedBytes) node.old
+        (verdicts_in verdicts.now) frame.now room
+        (received_of (wire (scheme C.PublicKey C.Signature.FixedBytes)) a)) }
+    ensures has_key { IfOk result (λ a. HasKey (scheme C.PublicKey C.Signature.FixedBytes)
+        (received_of (wire (scheme C.PublicKey C.Signature.FixedBytes)) a) frame.now) }
+    ensures named { IfOk result (λ a. IsNamedAtEnd (scheme C.PublicKey C.Signature.FixedBytes)
+        (received_of (wire (scheme C.PublicKey C.Signature.FixedBytes)) a) frame.now
+        (greeter_in (scheme C.PublicKey C.Signature.FixedBytes) (whole ((wire (scheme C.PublicKey
+        C.Signature.FixedBytes)).reading node.old.limits) frame.now).outcome)) }
 {
     are_bytes(frame);
     let now = moment(time.0, time.1)?;
-    if room < LONGEST_RECEIVED {
+    if room < 1 + C::SIZE {
         return Err(Refusal::NoRoom);
     }
     let verdicts = verdicts_of(alloc, verdicts)?;
@@ -93,44 +118,49 @@ fn hear(
 }
 
 // Processes a frame, which is decoded already if it was checked last.
-fn process(
+fn process<C: PublicKey>(
     alloc: Global,
-    node: &mut Node<Key>,
-    checked: &mut Checked,
+    node: &mut Node<C>,
+    checked: &mut Checked<C>,
     frame: &[u8],
     now: Duration,
     verdicts: &[bool],
-) -> Result<Answer<Key>, Refusal>
-    ensures heard { IfOk result (λ a. Hears verdicts.now frame.now (as_nanos now)
-        node.old node.new (received_of wire a)) }
-    ensures refused { IfErr result (λ why. (t room : ℕ) → 1 + KEY_SIZE ≤ room
-        → MayRefuse node.old verdicts.now frame.now (Ok t) room why) }
+) -> Result<Answer<C>, Refusal>
+    ensures heard { IfOk result (λ a. Hears (scheme C.PublicKey C.Signature.FixedBytes) verdicts.now
+        frame.now (as_nanos now)
+        node.old node.new (received_of (wire (scheme C.PublicKey C.Signature.FixedBytes)) a)) }
+    ensures refused { IfErr result (λ why. (t room : ℕ) → 1 + C.SIZE ≤ room
+        → MayRefuse (scheme C.PublicKey C.Signature.FixedBytes) node.old verdicts.now frame.now (Ok
+        t) room why) }
     ensures same { OnErr result (node.new ≡ node.old) }
     ensures few { IfOk result AreFew }
-    ensures counted { IfOk result (λ a. are_miscounted wire
-        (standing_of order.cmp wire node.old) frame.now verdicts.now ≡ true
-        → IsWantOfMemory (received_of wire a)) }
+    ensures counted { IfOk result (λ a. are_miscounted (wire (scheme C.PublicKey
+        C.Signature.FixedBytes))
+        (standing_of C.cmp (wire (scheme C.PublicKey C.Signature.FixedBytes)) node.old) frame.now
+        verdicts.now ≡ true
+        → IsWantOfMemory (received_of (wire (scheme C.PublicKey C.Signature.FixedBytes)) a)) }
 {
     match checked.take(frame) {
         Some(decoded) => Ok(node.answer_decoded(decoded, now, verdicts)?),
         None => {
             let frame = Bytes::copy_from_slice(alloc, frame)?;
-            Ok(node.answer_by(frame, now, verdicts)?)
+            Ok(node.answer_with_verdicts(frame, now, verdicts)?)
         }
     }
 }
 
 /// Writes what has to be verified before a node processes a frame: how many infos it has, and those
 /// whose signatures decide. Keeps the frame decoded.
-pub fn check(
+pub fn check<C: PublicKey>(
     alloc: Global,
-    node: &Node<Key>,
-    checked: &mut Checked,
+    node: &Node<C>,
+    checked: &mut Checked<C>,
     frame: &[u8],
     time: (u64, u32),
     out: &mut [u8],
 ) -> u64
-    ensures { ChecksAt node.now frame.now (moment_at time.0 time.1) out.old out.new result }
+    ensures { ChecksAt (scheme C.PublicKey C.Signature.FixedBytes) node.now frame.now (moment_at
+        time.0 time.1) out.old out.new result }
 {
     let now = match moment(time.0, time.1) {
         Ok(now) => now,
@@ -146,26 +176,27 @@ pub fn check(
             answer
         }
         Err(CodecError::Memory) => Refusal::Memory.number(),
-        Err(_) => answer_one(Part::Number(0), out),
+        Err(_) => answer_bytes(&0u64.to_be_bytes(), out),
     }
 }
 
 // Writes what of a payload has to be verified.
-fn tell_asked(
-    verifier: &InfoVerifier<Key>,
-    payload: &Payload<Key>,
+fn tell_asked<C: PublicKey>(
+    verifier: &InfoVerifier<C>,
+    payload: &Payload<C>,
     now: Duration,
     out: &mut [u8],
 ) -> u64
     ensures { IsAnswered (number (length (infos_of_payload payload.now))
-        ++ flat_map asked_bytes (to_ask (judge_of order.cmp wire.verifies verifier.now)
+        ++ flat_map (asked_bytes (scheme C.PublicKey C.Signature.FixedBytes)) (to_ask (judge_of
+        C.cmp (wire (scheme C.PublicKey C.Signature.FixedBytes)).verifies verifier.now)
         (as_nanos now) payload.now)) out.old out.new result }
 {
     match payload {
-        Payload::Data(_) | Payload::BitVec(_) => answer_one(Part::Number(0), out),
-        Payload::Greeting(info) => match verifier.validate_info_by(now, info, true) {
-            Ok(()) => tell_first(slice::from_ref(info), 1, out),
-            Err(_) => answer_one(Part::Number(1), out),
+        Payload::Data(_) | Payload::BitVec(_) => answer_bytes(&0u64.to_be_bytes(), out),
+        Payload::Greeting(info) => match verifier.validate_info_with_verdict(now, info, true) {
+            Ok(()) => tell_question(info, out),
+            Err(_) => answer_bytes(&1u64.to_be_bytes(), out),
         },
         Payload::Peers(infos) => {
             let infos = infos.as_slice();
@@ -175,16 +206,26 @@ fn tell_asked(
     }
 }
 
+// Writes that there is one info, and what is to be verified of it.
+fn tell_question<C: PublicKey>(info: &Info<C>, out: &mut [u8]) -> u64
+    ensures { IsAnswered (number 1 ++ asked_bytes (scheme C.PublicKey C.Signature.FixedBytes)
+        info.now) out.old out.new result }
+{
+    let count = 1u64.to_be_bytes();
+    answer(&[Values::Bytes(&count), Values::Question(info)], out)
+}
+
 // Writes how many infos there are, and what is to be verified of the first `count` of them.
-fn tell_first(infos: &[Info<Key>], count: usize, out: &mut [u8]) -> u64
+fn tell_first<C: PublicKey>(infos: &[Info<C>], count: usize, out: &mut [u8]) -> u64
     requires { count ≤ length infos.now }
-    ensures { IsAnswered (number (length infos.now) ++ flat_map asked_bytes (take count infos.now))
+    ensures { IsAnswered (number (length infos.now) ++ flat_map (asked_bytes (scheme C.PublicKey
+        C.Signature.FixedBytes)) (take count infos.now))
         out.old out.new result }
 {
     answer(
         &[
-            Part::Number(infos.len() as u64),
-            Part::Asked(&infos[..count]),
+            Values::Bytes(&(infos.len() as u64).to_be_bytes()),
+            Values::Questions(&infos[..count]),
         ],
         out,
     )
@@ -208,56 +249,56 @@ fn verdicts_of(alloc: Global, bytes: &[u8]) -> Result<Vec<bool>, AllocError>
 }
 
 // Writes what a node returned for a frame. The infos of a reply are encoded where they are written.
-fn tell_answer(answer: Answer<Key>, frame: &[u8], out: &mut [u8]) -> u64
+fn tell_answer<C: PublicKey>(answer: Answer<C>, frame: &[u8], out: &mut [u8]) -> u64
     requires few { AreFew answer }
-    requires has_key { HasKey (received_of wire answer) frame.now }
-    ensures { TellsReceived (key_at_end frame.now) (received_of wire answer) out.old out.new result }
+    requires has_key { HasKey (scheme C.PublicKey C.Signature.FixedBytes) (received_of (wire (scheme
+        C.PublicKey C.Signature.FixedBytes)) answer) frame.now }
+    ensures { TellsReceived (key_at_end (scheme C.PublicKey C.Signature.FixedBytes) frame.now)
+        (received_of (wire (scheme C.PublicKey C.Signature.FixedBytes)) answer) out.old out.new
+        result }
 {
     match answer {
         Answer::Infos(infos) => tell_reply(infos.as_slice(), out),
-        Answer::Received(received) => tell_received(received, frame, out),
+        Answer::Received(received) => tell_received::<C>(received, frame, out),
     }
 }
 
 // Writes a reply with these infos.
-fn tell_reply(infos: &[Info<Key>], out: &mut [u8]) -> u64
+fn tell_reply<C: PublicKey>(infos: &[Info<C>], out: &mut [u8]) -> u64
     requires { length infos.now < 2 ^ 32 }
-    ensures { IsAnswered (2 ∷ wire.spelling (Peers infos.now)) out.old out.new result }
+    ensures { IsAnswered (2 ∷ (wire (scheme C.PublicKey C.Signature.FixedBytes)).spelling (Peers
+        infos.now)) out.old out.new result }
 {
     let count = infos.len() as u32;
     answer(
         &[
-            Part::Byte(2),
-            Part::Byte(INFOS_PREFIX),
-            Part::Count(count),
-            Part::Infos(infos),
+            Values::Bytes(&[2, INFOS_PREFIX]),
+            Values::Count(count),
+            Values::Infos(infos),
         ],
         out,
     )
 }
 
 // Writes what else a node returned for a frame.
-fn tell_received(received: Received, frame: &[u8], out: &mut [u8]) -> u64
-    requires { HasKey received frame.now }
-    ensures { TellsReceived (key_at_end frame.now) received out.old out.new result }
+fn tell_received<C: PublicKey>(received: Received, frame: &[u8], out: &mut [u8]) -> u64
+    requires { HasKey (scheme C.PublicKey C.Signature.FixedBytes) received frame.now }
+    ensures { TellsReceived (key_at_end (scheme C.PublicKey C.Signature.FixedBytes) frame.now)
+        received out.old out.new result }
 {
     match received {
         Received::Data(sent) => tell_data(&sent, out),
-        Received::Greeted => tell_greeter(frame, out),
-        Received::Reply(frame) => answer_two(2, Part::Bytes(frame.as_slice()), out),
-        Received::Applied(count) => answer_two(3, Part::Number(count as u64), out),
+        Received::Greeted => tell_greeter::<C>(frame, out),
+        Received::Reply(frame) => answer(&[Plain(&[2]), Plain(frame.as_slice())], out),
+        Received::Applied(count) => answer(
+            &[Plain(&[3]), Plain(&(count as u64).to_be_bytes())],
+            out,
+        ),
         Received::Codec(fault) => tell_fault(fault, out),
-        Received::Malformed => answer_one(Part::Byte(5), out),
+        Received::Malformed => answer_bytes(&[5], out),
         Received::Invalid(error) => tell_error(error, out),
         Received::Memory => Refusal::Memory.number(),
     }
-}
-
-// Writes a byte and a part.
-fn answer_two(byte: u8, part: Part<'_>, out: &mut [u8]) -> u64
-    ensures { IsAnswered (byte ∷ part_bytes part.entry) out.old out.new result }
-{
-    answer(&[Part::Byte(byte), part], out)
 }
 
 // Writes the channel of a message, and its length.
@@ -267,21 +308,22 @@ fn tell_data(sent: &Data, out: &mut [u8]) -> u64
 {
     answer(
         &[
-            Part::Byte(0),
-            Part::Number(sent.channel),
-            Part::Number(sent.message.len() as u64),
+            Plain(&[0]),
+            Plain(&sent.channel.to_be_bytes()),
+            Plain(&(sent.message.len() as u64).to_be_bytes()),
         ],
         out,
     )
 }
 
 // Writes the key of a greeting, which is before the signature at the end of its frame.
-fn tell_greeter(frame: &[u8], out: &mut [u8]) -> u64
-    requires { KEY_SIZE + SIGNATURE_SIZE ≤ length frame.now }
-    ensures { IsAnswered (1 ∷ key_at_end frame.now) out.old out.new result }
+fn tell_greeter<C: PublicKey>(frame: &[u8], out: &mut [u8]) -> u64
+    requires { C.SIZE + C.Signature.SIZE ≤ length frame.now }
+    ensures { IsAnswered (1 ∷ key_at_end (scheme C.PublicKey C.Signature.FixedBytes) frame.now)
+        out.old out.new result }
 {
-    let start = frame.len() - (KEY_SIZE + SIGNATURE_SIZE);
-    answer_two(1, Part::Bytes(&frame[start..start + KEY_SIZE]), out)
+    let start = frame.len() - (C::SIZE + C::Signature::SIZE);
+    answer(&[Plain(&[1]), Plain(&frame[start..start + C::SIZE])], out)
 }
 
 // Writes the error of a frame.
@@ -289,16 +331,16 @@ fn tell_fault(fault: CodecError, out: &mut [u8]) -> u64
     ensures { IsAnswered (4 ∷ fault_bytes fault) out.old out.new result }
 {
     match fault {
-        CodecError::EndOfBuffer => answer_two(4, Part::Byte(0), out),
+        CodecError::EndOfBuffer => answer_bytes(&[4, 0], out),
         CodecError::ExtraData(n) => answer_three(4, 1, n as u64, out),
         CodecError::InvalidLength(n) => answer_three(4, 2, n as u64, out),
         CodecError::InvalidVarint(n) => answer_three(4, 3, n as u64, out),
         CodecError::InvalidEnum(n) => answer_three(4, 4, u64::from(n), out),
-        CodecError::Invalid(What::Hostname) => answer_two(4, Part::Byte(5), out),
-        CodecError::Invalid(What::Padding) => answer_two(4, Part::Byte(6), out),
-        CodecError::Invalid(What::Key) => answer_two(4, Part::Byte(7), out),
-        CodecError::Invalid(What::Signature) => answer_two(4, Part::Byte(8), out),
-        CodecError::Memory => answer_two(4, Part::Byte(9), out),
+        CodecError::Invalid(What::Hostname) => answer_bytes(&[4, 5], out),
+        CodecError::Invalid(What::Padding) => answer_bytes(&[4, 6], out),
+        CodecError::Invalid(What::Key) => answer_bytes(&[4, 7], out),
+        CodecError::Invalid(What::Signature) => answer_bytes(&[4, 8], out),
+        CodecError::Memory => answer_bytes(&[4, 9], out),
     }
 }
 
@@ -308,9 +350,9 @@ fn tell_error(error: Error, out: &mut [u8]) -> u64
 {
     match error {
         Error::TooManyPeers(n) => answer_three(6, 0, n as u64, out),
-        Error::ReceivedSelf => answer_two(6, Part::Byte(1), out),
-        Error::InvalidSignature => answer_two(6, Part::Byte(2), out),
-        Error::SynchronyBound => answer_two(6, Part::Byte(3), out),
+        Error::ReceivedSelf => answer_bytes(&[6, 1], out),
+        Error::InvalidSignature => answer_bytes(&[6, 2], out),
+        Error::SynchronyBound => answer_bytes(&[6, 3], out),
     }
 }
 
@@ -318,8 +360,5 @@ fn tell_error(error: Error, out: &mut [u8]) -> u64
 fn answer_three(byte: u8, kind: u8, count: u64, out: &mut [u8]) -> u64
     ensures { IsAnswered (byte ∷ (kind ∷ number count)) out.old out.new result }
 {
-    answer(
-        &[Part::Byte(byte), Part::Byte(kind), Part::Number(count)],
-        out,
-    )
+    answer(&[Plain(&[byte, kind]), Plain(&count.to_be_bytes())], out)
 }

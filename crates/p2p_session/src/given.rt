@@ -1,15 +1,15 @@
 //! What a session is given, as values: keys, times, sets, infos and bits.
 
-ghost use Rattle.std.specs.Prelude.{◌≡◌, ◌+◌, ◌%◌, ◌==◌, ◌≤◌, ◌<◌, take, drop, length, IfOk, OnErr};
-ghost use Rattle.std.specs.List.{AllByRecursion};
-ghost use Rattle.p2p_session.specs.Answers.{keys_bytes};
-ghost use Rattle.p2p_session.specs.Given.{key_at, moment_at, nanos_of, IsKey, AreKeys, IsSetOf};
+ghost use Rattle.std.specs.Prelude.{◌≡◌, ℕ, ◌+◌, ◌≤◌, ◌<◌, List, ◌++◌, drop, length, true, false};
+ghost use Rattle.std.specs.Prelude.{None, IfSome, IfOk, OnErr};
+ghost use Rattle.p2p_discovery.specs.Reading.{IsBytes};
+ghost use Rattle.p2p_session.specs.Schemes.{scheme};
+ghost use Rattle.p2p_session.specs.Given.{key_at, moment_at, nanos_of, AreKeys, AreKeysOf, IsSetOf};
 ghost use Rattle.p2p_session.specs.Given.{infos_spelled, bits_spelled, infos_of, IsRead};
 
-use crate::key::{KEY_SIZE, Key};
 use crate::refusal::Refusal;
 use bytes::Bytes;
-use p2p_discovery::codec::{CodecError, RangeCfg, Read, read_array};
+use p2p_discovery::codec::{CodecError, PublicKey, RangeCfg, Read};
 use p2p_discovery::discovery::{BitVec, Info, Infos};
 use p2p_discovery::sets::OrderedSet;
 use std::alloc::{AllocError, Global};
@@ -18,13 +18,13 @@ use std::time::Duration;
 const NANOS_PER_SECOND: u32 = 1_000_000_000;
 
 /// The key that these bytes are.
-pub fn key(bytes: &[u8]) -> Result<Key, Refusal>
-    ensures { result ≡ key_at bytes.now }
+pub fn key<C: PublicKey>(bytes: &[u8]) -> Result<C, Refusal>
+    ensures { result ≡ key_at (scheme C.PublicKey C.Signature.FixedBytes) bytes.now }
 {
-    if bytes.len() != KEY_SIZE {
+    if bytes.len() != C::SIZE {
         return Err(Refusal::BadKey);
     }
-    Ok(Key(read_array(bytes)))
+    C::read_fixed(bytes).ok_or(Refusal::BadKey)
 }
 
 /// The time, or the duration, of so many seconds and nanoseconds.
@@ -38,10 +38,21 @@ pub fn moment(seconds: u64, nanos: u32) -> Result<Duration, Refusal>
 }
 
 /// Whether these bytes are keys, one after the other.
-pub fn are_keys(bytes: &[u8]) -> bool
-    ensures { result ≡ (length bytes.now % KEY_SIZE == 0) }
+pub fn are_keys<C: PublicKey>(bytes: &[u8]) -> bool
+    ensures yes { result ≡ true → AreKeys (scheme C.PublicKey C.Signature.FixedBytes) bytes.now }
+    ensures no { result ≡ false → ¬ AreKeys (scheme C.PublicKey C.Signature.FixedBytes) bytes.now }
 {
-    bytes.len() % KEY_SIZE == 0
+    if C::SIZE == 0 {
+        return bytes.is_empty();
+    }
+    let mut at = 0;
+    while at < bytes.len() {
+        let Some(_key) = key_in::<C>(bytes, at) else {
+            return false;
+        };
+        at += C::SIZE;
+    }
+    true
 }
 
 /// The set of the keys in these bytes, which follow each other in any order and may repeat.
@@ -49,43 +60,60 @@ pub fn are_keys(bytes: &[u8]) -> bool
 /// # Conditions
 ///
 /// They are keys, as [`are_keys`] says.
-pub fn set(alloc: Global, bytes: &[u8]) -> Result<OrderedSet<Key>, AllocError>
-    requires { AreKeys bytes.now }
-    ensures set { IfOk result (IsSetOf bytes.now) }
+pub fn set<C: PublicKey>(alloc: Global, bytes: &[u8]) -> Result<OrderedSet<C>, AllocError>
+    requires { AreKeys (scheme C.PublicKey C.Signature.FixedBytes) bytes.now }
+    ensures set { IfOk result (IsSetOf (scheme C.PublicKey C.Signature.FixedBytes) bytes.now) }
     ensures err { OnErr result (0 < length bytes.now) }
 {
     Ok(OrderedSet::from_vec_dedup(keys(alloc, bytes)?))
 }
 
 // The keys in these bytes, one after the other.
-#[tactic(auto, using(crate::proofs::Puts::keys_next))]
-fn keys(alloc: Global, bytes: &[u8]) -> Result<Vec<Key>, AllocError>
-    requires { AreKeys bytes.now }
-    ensures are { IfOk result (λ keys. AllByRecursion IsKey keys.items) }
-    ensures spelled { IfOk result (λ keys. keys_bytes keys.items ≡ bytes.now) }
+fn keys<C: PublicKey>(alloc: Global, bytes: &[u8]) -> Result<Vec<C>, AllocError>
+    requires { AreKeys (scheme C.PublicKey C.Signature.FixedBytes) bytes.now }
+    ensures are { IfOk result (λ keys.
+        AreKeysOf (scheme C.PublicKey C.Signature.FixedBytes) bytes.now keys.items) }
     ensures err { OnErr result (0 < length bytes.now) }
 {
-    let count = bytes.len() / KEY_SIZE;
+    let count = bytes.len().checked_div(C::SIZE).unwrap_or(0);
     let mut keys = Vec::with_capacity(alloc, count)?;
-    for place in 0..count {
-        keys.push_reserved(key_in(bytes, place * KEY_SIZE));
+    let mut at = 0;
+    while at < bytes.len() {
+        let Some(key) = key_in(bytes, at) else {
+            unreachable!();
+        };
+        keys.push(key)?;
+        at += C::SIZE;
     }
     Ok(keys)
 }
 
-/// The key in these bytes from a position on.
-pub fn key_in(bytes: &[u8], at: usize) -> Key
-    requires { at + KEY_SIZE ≤ length bytes.now }
-    ensures { result ≡ record { 0 = take KEY_SIZE (drop at bytes.now) } }
+/// The key with which the bytes from a position on begin, or `None`.
+pub fn key_in<C: PublicKey>(bytes: &[u8], at: usize) -> Option<C>
+    requires { at ≤ length bytes.now }
+    ensures some { IfSome result (λ key. (at + C.SIZE ≤ length bytes.now) × C.IsValue key
+        × (drop at bytes.now ≡ C.spelled key ++ drop (at + C.SIZE) bytes.now)) }
+    ensures none { result ≡ None → (key : C) (rest : List ℕ) → C.IsValue key →
+        ¬ (drop at bytes.now ≡ C.spelled key ++ rest) }
 {
-    let end = at + KEY_SIZE;
-    Key(read_array(&bytes[at..end]))
+    if bytes.len() - at < C::SIZE {
+        return None;
+    }
+    let front = &bytes[at..at + C::SIZE];
+    are_bytes(front);
+    C::read_fixed(front)
 }
+
+/// What a slice holds are bytes.
+pub fn are_bytes(bytes: &[u8])
+    ensures { IsBytes bytes.now }
+{}
 
 /// The infos that these bytes encode.
 #[tactic(auto, using(crate::proofs::Unread::refused_as))]
-pub fn infos(alloc: Global, bytes: &[u8]) -> Result<Vec<Info<Key>>, Refusal>
-    ensures { IsRead (infos_of result) (infos_spelled bytes.now) }
+pub fn infos<C: PublicKey>(alloc: Global, bytes: &[u8]) -> Result<Vec<Info<C>>, Refusal>
+    ensures { IsRead (infos_of result) (infos_spelled (scheme C.PublicKey C.Signature.FixedBytes)
+        bytes.now) }
 {
     let limit = RangeCfg {
         least: 0,

@@ -10,6 +10,7 @@ ghost use Rattle.p2p_discovery.specs.Laws.Arrays.{fixed_array, one_array, exact_
 ghost use Rattle.p2p_discovery.specs.Fields.{IsSized};
 ghost use Rattle.p2p_discovery.specs.Reading.{IsBytes};
 
+use crate::given::are_bytes;
 use p2p_discovery::codec::{FixedBytes, PublicKey, read_array, write_array};
 use std::cmp::Ordering;
 
@@ -46,9 +47,14 @@ impl Ord for Key {
 
 /// The order of two keys by their bytes: that of the first bytes that differ. The first four bytes
 /// of each are compared as one number, since random keys rarely share them.
+///
+/// # Conditions
+///
+/// A key has at least four bytes.
 // Always inlined, since the first four bytes mostly decide.
 #[inline(always)]
-pub fn compare(a: &[u8; KEY_SIZE], b: &[u8; KEY_SIZE]) -> Ordering
+pub fn compare<const N: usize>(a: &[u8; N], b: &[u8; N]) -> Ordering
+    requires { 4 ≤ N }
     ensures { result ≡ slice_cmp nat_cmp a.now b.now }
 {
     let (x, y) = (front(a), front(b));
@@ -60,11 +66,13 @@ pub fn compare(a: &[u8; KEY_SIZE], b: &[u8; KEY_SIZE]) -> Ordering
 
 // The first four bytes as a number, big-endian.
 #[inline(always)]
-fn front(bytes: &[u8; KEY_SIZE]) -> u32
+fn front<const N: usize>(bytes: &[u8; N]) -> u32
+    requires { 4 ≤ N }
     ensures number { result ≡ from_be_bytes w32 bytes.now }
     ensures bytes { IsBytes bytes.now }
     ensures length { 4 ≤ length bytes.now }
 {
+    are_bytes(bytes);
     u32::from_be_bytes([bytes[0], bytes[1], bytes[2], bytes[3]])
 }
 

@@ -1,6 +1,6 @@
 //! A node behind calls that pass only bytes and numbers, for hosts in C and Rust.
 //!
-//! A [`Session`] holds one node with keys of 32 bytes. Each call decodes its arguments, makes one
+//! A [`Session`] holds one node with keys of one type. Each call decodes its arguments, makes one
 //! call of the node and returns a number. It is a count, a bool as 0 or 1, the length in bytes of
 //! an answer that it wrote at the start of the host's buffer, or the number of a [`Refusal`].
 //! docs/C.md has all of these forms.

@@ -15,7 +15,7 @@ pub enum Refusal {
     /// No node was created yet.
     NoNode,
     /// The answer is that there is none.
-    None,
+    Absent,
     /// The buffer is shorter than the longest answer that the call may have, so it was not made.
     NoRoom,
     /// The peer to connect isn't reserved.
@@ -46,7 +46,7 @@ impl Refusal {
         match self {
             Refusal::Memory => u64::MAX,
             Refusal::NoNode => u64::MAX - 1,
-            Refusal::None => u64::MAX - 2,
+            Refusal::Absent => u64::MAX - 2,
             Refusal::NoRoom => u64::MAX - 3,
             Refusal::NotReserved => u64::MAX - 4,
             Refusal::NotHeld => u64::MAX - 5,

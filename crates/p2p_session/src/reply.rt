@@ -2,35 +2,35 @@
 
 ghost use Rattle.std.specs.Prelude.{◌≡◌, ◌⊎◌, ◌∷◌, IfOk, OnErr, option_map};
 ghost use Rattle.p2p_discovery.specs.Ingress.{ingress_spelling};
+ghost use Rattle.std.specs.Duration.{as_nanos};
+ghost use Rattle.p2p_session.specs.Schemes.{scheme};
 ghost use Rattle.p2p_session.specs.Frames.{held_answer};
-ghost use Rattle.p2p_session.specs.Answers.{TellsReply, Tells, Refuses, IsAnswered, part_bytes};
+ghost use Rattle.p2p_session.specs.Answers.{TellsReply, Tells, Refuses, IsAnswered};
 ghost use Rattle.p2p_session.specs.Answers.{truth, status_number, peers_bytes, update_bytes};
 ghost use Rattle.p2p_session.specs.Answers.{optional, keys_bytes, dialable_bytes, moment_bytes};
-ghost use Rattle.p2p_session.specs.Answers.{answer_to, number, key_bytes, signature_bytes};
+ghost use Rattle.p2p_session.specs.Answers.{answer_to, number};
 ghost use Rattle.p2p_session.specs.Answers.Answer.{Is, Bytes as Spelled};
 ghost use Rattle.p2p_discovery.specs.Info.{infos_spelling};
 
-use crate::answer::{Part, answer};
-use crate::key::Key;
+use crate::answer::{Plain, Values, answer, answer_bytes, answer_one};
 use crate::refusal::Refusal;
 use bytes::Bytes;
 use p2p_directory::directory::{Metadata, PeerSetUpdate, TrackedPeers};
 use p2p_directory::record::{Dialable, Status};
 use p2p_directory::run::Reply;
-use p2p_discovery::codec::Write;
+use p2p_discovery::codec::{PublicKey, Write};
 use p2p_discovery::discovery::Info;
 use p2p_discovery::sets::OrderedSet;
 use p2p_discovery::types::{Ingress, IpAddr};
 use std::alloc::{AllocError, Global};
-use std::slice;
 use std::time::Duration;
 
 /// Writes a reply: returns a number, or how many bytes it has. They are at the start of the buffer,
 /// if they fit.
 // Always inlined, so that a reply, which is large, is matched where it lies and not moved first.
 #[inline(always)]
-pub fn tell(alloc: Global, reply: Reply<Key>, out: &mut [u8]) -> u64
-    ensures { TellsReply reply out.old out.new result }
+pub fn tell<C: PublicKey>(alloc: Global, reply: Reply<C>, out: &mut [u8]) -> u64
+    ensures { TellsReply (scheme C.PublicKey C.Signature.FixedBytes) reply out.old out.new result }
 {
     match reply {
         Reply::Track(torn) => tell_set(torn, out),
@@ -39,17 +39,17 @@ pub fn tell(alloc: Global, reply: Reply<Key>, out: &mut [u8]) -> u64
         Reply::Connect | Reply::Release | Reply::UpdatePeers => 1,
         Reply::ForgetCooled(count) | Reply::Tracked(count) => count as u64,
         Reply::NextUnblock(moment) => tell_moment(moment, out),
-        Reply::BlockedPeers(peers) => answer_one(Part::Keys(peers.as_slice()), out),
+        Reply::BlockedPeers(peers) => answer_one(Values::Keys(peers.as_slice()), out),
         Reply::Status(status) => status_of(status),
         Reply::GetPeerSet(peers) => tell_peers(peers, out),
         Reply::LatestSetIndex(index) => tell_index(index, out),
         Reply::LatestUpdate(update) => tell_update(update, out),
         Reply::All(peers) => answer_peers(&peers, out),
-        Reply::Info(Some(info)) => answer_one(Part::Infos(slice::from_ref(&info)), out),
+        Reply::Info(Some(info)) => answer_one(Values::Info(&info), out),
         Reply::Infos(Some(infos)) => tell_infos(&infos, out),
         Reply::GetRandomBitVec(Some(bits)) => tell_spelled(alloc, &bits, out),
         Reply::Info(None) | Reply::Infos(None) | Reply::GetRandomBitVec(None) => {
-            Refusal::None.number()
+            Refusal::Absent.number()
         }
         Reply::Dialable(dialable) => tell_dialable(&dialable, out),
         Reply::NotReserved => Refusal::NotReserved.number(),
@@ -65,20 +65,20 @@ pub fn tell_frame(frame: Result<Option<Bytes>, AllocError>, out: &mut [u8]) -> u
     ensures err { OnErr frame (Refuses Refusal.Memory out.old out.new result) }
 {
     match frame {
-        Ok(Some(frame)) => answer_one(Part::Bytes(frame.as_slice()), out),
-        Ok(None) => Refusal::None.number(),
+        Ok(Some(frame)) => answer_bytes(frame.as_slice(), out),
+        Ok(None) => Refusal::Absent.number(),
         Err(AllocError) => Refusal::Memory.number(),
     }
 }
 
 /// Writes whom a reservation is for.
-pub fn tell_held(held: Option<&Metadata<Key>>, out: &mut [u8]) -> u64
+pub fn tell_held<C: PublicKey>(held: Option<&Metadata<C>>, out: &mut [u8]) -> u64
     ensures { Tells (held_answer (option_map (λ m. m.now) held.entry)) out.old out.new result }
 {
     match held {
         Some(Metadata::Dialer(_, ingress)) => tell_dialler(ingress, out),
-        Some(Metadata::Listener(_)) => answer_one(Part::Byte(0), out),
-        None => Refusal::None.number(),
+        Some(Metadata::Listener(_)) => answer_bytes(&[0], out),
+        None => Refusal::Absent.number(),
     }
 }
 
@@ -89,38 +89,35 @@ fn tell_dialler(ingress: &Ingress, out: &mut [u8]) -> u64
     if let Some(IpAddr::V4(ip)) = ingress.ip() {
         let port = ingress.port().to_be_bytes();
         let told = [1, 0, 4, ip[0], ip[1], ip[2], ip[3], port[0], port[1]];
-        return answer_one(Part::Bytes(&told), out);
+        return answer_bytes(&told, out);
     }
     let bytes = ingress.encoded();
-    answer(&[Part::Byte(1), Part::Bytes(bytes.as_slice())], out)
+    answer(&[Plain(&[1]), Plain(bytes.as_slice())], out)
 }
 
-/// Writes one part.
-pub fn answer_one(part: Part<'_>, out: &mut [u8]) -> u64
-    ensures { IsAnswered (part_bytes part.entry) out.old out.new result }
-{
-    answer(&[part], out)
-}
-
-fn tell_set(set: Option<OrderedSet<Key>>, out: &mut [u8]) -> u64
-    ensures { Tells (optional keys_bytes set) out.old out.new result }
+fn tell_set<C: PublicKey>(set: Option<OrderedSet<C>>, out: &mut [u8]) -> u64
+    ensures { Tells (optional (keys_bytes (scheme C.PublicKey C.Signature.FixedBytes)) set) out.old
+        out.new result }
 {
     match set {
-        Some(set) => answer_one(Part::Keys(set.as_slice()), out),
-        None => Refusal::None.number(),
+        Some(set) => answer_one(Values::Keys(set.as_slice()), out),
+        None => Refusal::Absent.number(),
     }
 }
 
 /// Writes a time, if there is one.
 pub fn tell_moment(moment: Option<Duration>, out: &mut [u8]) -> u64
-    ensures { Tells (answer_to (Reply.NextUnblock moment)) out.old out.new result }
+    ensures { Tells (optional (λ t. moment_bytes (as_nanos t)) moment) out.old out.new result }
 {
     match moment {
         Some(t) => answer(
-            &[Part::Number(t.as_secs()), Part::Nanos(t.subsec_nanos())],
+            &[
+                Plain(&t.as_secs().to_be_bytes()),
+                Plain(&t.subsec_nanos().to_be_bytes()),
+            ],
             out,
         ),
-        None => Refusal::None.number(),
+        None => Refusal::Absent.number(),
     }
 }
 
@@ -129,7 +126,7 @@ pub fn status_of(status: Option<Status>) -> u64
     ensures { Is result ≡ status_number status }
 {
     match status {
-        None => Refusal::None.number(),
+        None => Refusal::Absent.number(),
         Some(Status::Inert) => 0,
         Some(Status::Reserved) => 1,
         Some(Status::Active) => 2,
@@ -148,85 +145,90 @@ pub fn tell_index(index: Option<u64>, out: &mut [u8]) -> u64
     ensures { Tells (optional number index) out.old out.new result }
 {
     match index {
-        Some(index) => answer_one(Part::Number(index), out),
-        None => Refusal::None.number(),
+        Some(index) => answer_bytes(&index.to_be_bytes(), out),
+        None => Refusal::Absent.number(),
     }
 }
 
-fn tell_peers(peers: Option<TrackedPeers<Key>>, out: &mut [u8]) -> u64
-    ensures { Tells (optional peers_bytes peers) out.old out.new result }
+fn tell_peers<C: PublicKey>(peers: Option<TrackedPeers<C>>, out: &mut [u8]) -> u64
+    ensures { Tells (optional (peers_bytes (scheme C.PublicKey C.Signature.FixedBytes)) peers)
+        out.old out.new result }
 {
     match peers {
         Some(peers) => answer_peers(&peers, out),
-        None => Refusal::None.number(),
+        None => Refusal::Absent.number(),
     }
 }
 
-fn answer_peers(peers: &TrackedPeers<Key>, out: &mut [u8]) -> u64
-    ensures { IsAnswered (peers_bytes peers.now) out.old out.new result }
+fn answer_peers<C: PublicKey>(peers: &TrackedPeers<C>, out: &mut [u8]) -> u64
+    ensures { IsAnswered ((peers_bytes (scheme C.PublicKey C.Signature.FixedBytes)) peers.now)
+        out.old out.new result }
 {
     let parts = [
-        Part::Number(peers.primary.len() as u64),
-        Part::Keys(peers.primary.as_slice()),
-        Part::Keys(peers.secondary.as_slice()),
+        Values::Bytes(&(peers.primary.len() as u64).to_be_bytes()),
+        Values::Keys(peers.primary.as_slice()),
+        Values::Keys(peers.secondary.as_slice()),
     ];
     answer(&parts, out)
 }
 
-fn tell_update(update: Option<PeerSetUpdate<Key>>, out: &mut [u8]) -> u64
-    ensures { Tells (optional update_bytes update) out.old out.new result }
+fn tell_update<C: PublicKey>(update: Option<PeerSetUpdate<C>>, out: &mut [u8]) -> u64
+    ensures { Tells (optional (update_bytes (scheme C.PublicKey C.Signature.FixedBytes)) update)
+        out.old out.new result }
 {
     match update {
         Some(update) => answer_update(&update, out),
-        None => Refusal::None.number(),
+        None => Refusal::Absent.number(),
     }
 }
 
-fn answer_update(update: &PeerSetUpdate<Key>, out: &mut [u8]) -> u64
-    ensures { IsAnswered (update_bytes update.now) out.old out.new result }
+fn answer_update<C: PublicKey>(update: &PeerSetUpdate<C>, out: &mut [u8]) -> u64
+    ensures { IsAnswered ((update_bytes (scheme C.PublicKey C.Signature.FixedBytes)) update.now)
+        out.old out.new result }
 {
     let latest = &update.latest;
     let all = &update.all;
     let parts = [
-        Part::Number(update.index),
-        Part::Number(latest.primary.len() as u64),
-        Part::Number(latest.secondary.len() as u64),
-        Part::Number(all.primary.len() as u64),
-        Part::Keys(latest.primary.as_slice()),
-        Part::Keys(latest.secondary.as_slice()),
-        Part::Keys(all.primary.as_slice()),
-        Part::Keys(all.secondary.as_slice()),
+        Values::Bytes(&update.index.to_be_bytes()),
+        Values::Bytes(&(latest.primary.len() as u64).to_be_bytes()),
+        Values::Bytes(&(latest.secondary.len() as u64).to_be_bytes()),
+        Values::Bytes(&(all.primary.len() as u64).to_be_bytes()),
+        Values::Keys(latest.primary.as_slice()),
+        Values::Keys(latest.secondary.as_slice()),
+        Values::Keys(all.primary.as_slice()),
+        Values::Keys(all.secondary.as_slice()),
     ];
     answer(&parts, out)
 }
 
-fn tell_dialable(dialable: &Dialable<Key>, out: &mut [u8]) -> u64
-    ensures { Tells (answer_to (Reply.Dialable dialable.now)) out.old out.new result }
+fn tell_dialable<C: PublicKey>(dialable: &Dialable<C>, out: &mut [u8]) -> u64
+    ensures { Tells (answer_to (scheme C.PublicKey C.Signature.FixedBytes) (Reply.Dialable
+        dialable.now)) out.old out.new result }
 {
-    let peers = Part::Keys(&dialable.peers);
+    let peers = Values::Keys(&dialable.peers);
     match dialable.next_query_at {
         Some(t) => answer(
             &[
-                Part::Byte(1),
-                Part::Number(t.as_secs()),
-                Part::Nanos(t.subsec_nanos()),
+                Values::Bytes(&[1]),
+                Values::Bytes(&t.as_secs().to_be_bytes()),
+                Values::Bytes(&t.subsec_nanos().to_be_bytes()),
                 peers,
             ],
             out,
         ),
-        None => answer(&[Part::Byte(0), peers], out),
+        None => answer(&[Values::Bytes(&[0]), peers], out),
     }
 }
 
 // Writes the encoded infos. They are no more than the bits that were given, so a number that can't
 // be encoded doesn't occur.
-fn tell_infos(infos: &[Info<Key>], out: &mut [u8]) -> u64
+fn tell_infos<C: PublicKey>(infos: &[Info<C>], out: &mut [u8]) -> u64
     ensures { Refuses Refusal.Memory out.old out.new result
-        ⊎ Tells (Spelled (infos_spelling key_bytes signature_bytes infos.now))
+        ⊎ Tells (Spelled (infos_spelling C.spelled C.Signature.spelled infos.now))
         out.old out.new result }
 {
     match u32::try_from(infos.len()) {
-        Ok(count) => answer(&[Part::Count(count), Part::Infos(infos)], out),
+        Ok(count) => answer(&[Values::Count(count), Values::Infos(infos)], out),
         Err(_) => Refusal::Memory.number(),
     }
 }
@@ -238,7 +240,7 @@ fn tell_spelled<T: Write>(alloc: Global, value: &T, out: &mut [u8]) -> u64
         ⊎ Tells (Spelled (T.spelling value.now)) out.old out.new result }
 {
     match value.encode(alloc) {
-        Ok(bytes) => answer_one(Part::Bytes(bytes.as_slice()), out),
+        Ok(bytes) => answer_bytes(bytes.as_slice(), out),
         Err(AllocError) => Refusal::Memory.number(),
     }
 }

@@ -2,6 +2,7 @@
 
 ghost use Rattle.std.specs.Prelude.{◌≡◌, ◌<◌, ◌-◌, ◌^◌, None};
 ghost use Rattle.std.specs.Int.NonZero.{non_zero_usize_get};
+ghost use Rattle.p2p_session.specs.Schemes.{scheme};
 ghost use Rattle.p2p_session.specs.Refusals.{number_of};
 ghost use Rattle.p2p_session.specs.declared.refusal.Refusal.TheVariants.{Memory};
 ghost use Rattle.p2p_session.specs.Given.{asked};
@@ -10,12 +11,12 @@ ghost use Rattle.p2p_session.specs.Sessions.{Checks, Receives};
 
 use crate::checked::Checked;
 use crate::frames;
-use crate::key::Key;
 use crate::refusal::Refusal;
 use crate::reply::{tell, tell_frame};
 use crate::setup::{Numbers, setup};
 use p2p_directory::node::{Node, Setup};
 use p2p_directory::run::Command;
+use p2p_discovery::codec::PublicKey;
 use std::alloc::Global;
 
 mod calls;
@@ -23,14 +24,14 @@ mod questions;
 
 /// A node, once [`Session::init`] created one, and the frame that [`Session::check`] decoded last. It
 /// must be consumed by [`Session::end`].
-pub struct Session {
-    node: Option<Node<Key>>,
-    checked: Checked,
+pub struct Session<C: PublicKey> {
+    node: Option<Node<C>>,
+    checked: Checked<C>,
 }
 
-impl Session {
+impl<C: PublicKey> Session<C> {
     /// A session with no node. It allocates nothing.
-    pub fn new(_alloc: Global) -> Session
+    pub fn new(_alloc: Global) -> Session<C>
         ensures { IsFresh result }
     {
         Session {
@@ -71,7 +72,8 @@ impl Session {
         bootstrappers: &[u8],
         myself: &[u8],
     ) -> u64
-        ensures { Inits allow_private_ips allow_dns max_sets dial_fail_limit
+        ensures { Inits (scheme C.PublicKey C.Signature.FixedBytes) allow_private_ips allow_dns
+            max_sets dial_fail_limit
             cooldown_seconds cooldown_nanos block_seconds block_nanos
             max_bit_vec max_peers max_data_length peer_gossip_max_count bound_seconds bound_nanos
             namespace.now bootstrappers.now myself.now self.old self.new result }
@@ -99,11 +101,12 @@ impl Session {
     }
 
     // Creates the node.
-    fn make(&mut self, alloc: Global, setup: Setup<Key>) -> u64
+    fn make(&mut self, alloc: Global, setup: Setup<C>) -> u64
         requires none { self.old.node ≡ None }
         requires sets { non_zero_usize_get setup.cfg.max_sets < 2 ^ 64 - 1 }
         requires bits { setup.payload.max_bit_vec < 2 ^ 32 }
-        ensures made { result ≡ 1 → IsMade self.new.node setup }
+        ensures made { result ≡ 1 → IsMade (scheme C.PublicKey C.Signature.FixedBytes) self.new.node
+            setup }
         ensures refused { ¬ (result ≡ 1) → (self.new.node ≡ None) × (result ≡ number_of Memory) }
     {
         let Ok(node) = Node::new(alloc, setup) else {
@@ -117,7 +120,8 @@ impl Session {
 
     /// The frame that asks for the wanted infos of the set at a position, or `None`.
     pub fn ask(&mut self, place: u64, out: &mut [u8]) -> u64
-        ensures { Asks place out.old out.new self.old self.new result }
+        ensures { Asks (scheme C.PublicKey C.Signature.FixedBytes) place out.old out.new self.old
+            self.new result }
     {
         match &self.node {
             Some(node) => tell_frame(node.ask(place as usize), out),
@@ -140,7 +144,8 @@ impl Session {
         nanos: u32,
         out: &mut [u8],
     ) -> u64
-        ensures { Checks frame.now seconds nanos out.old out.new self.old self.new result }
+        ensures { Checks (scheme C.PublicKey C.Signature.FixedBytes) frame.now seconds nanos out.old
+            out.new self.old self.new result }
     {
         match &self.node {
             Some(node) => {
@@ -151,7 +156,7 @@ impl Session {
         }
     }
 
-    /// `Node::receive_by`: processes a frame, and writes the answer. `verdicts` has a byte for each
+    /// `Node::receive_with_verdicts`: processes a frame, and writes the answer. `verdicts` has a byte for each
     /// of its infos, which says whether its signature is valid. A frame that was checked last is
     /// decoded already.
     pub fn receive(
@@ -163,7 +168,8 @@ impl Session {
         verdicts: &[u8],
         out: &mut [u8],
     ) -> u64
-        ensures { Receives frame.now seconds nanos verdicts.now out.old out.new
+        ensures { Receives (scheme C.PublicKey C.Signature.FixedBytes) frame.now seconds nanos
+            verdicts.now out.old out.new
             self.old self.new result }
     {
         match &mut self.node {
@@ -177,16 +183,18 @@ impl Session {
     }
 
     // Serves the command, if there is a node and the command was decoded. Writes its reply.
-    fn serve(&mut self, command: Result<Command<Key>, Refusal>, out: &mut [u8]) -> u64
-        ensures { Serves (asked command) out.old out.new self.old.node self.new.node result }
+    fn serve(&mut self, command: Result<Command<C>, Refusal>, out: &mut [u8]) -> u64
+        ensures { Serves (scheme C.PublicKey C.Signature.FixedBytes) (asked command) out.old out.new
+            self.old.node self.new.node result }
     {
         let Some(node) = &mut self.node else {
             return Refusal::NoNode.number();
         };
         match command {
             Ok(command) => {
+                let alloc = node.directory().allocator();
                 let reply = node.step(command);
-                tell(node.directory().allocator(), reply, out)
+                tell(alloc, reply, out)
             }
             Err(refusal) => refusal.number(),
         }

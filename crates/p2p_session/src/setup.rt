@@ -8,22 +8,20 @@ ghost use Rattle.p2p_discovery.specs.Info.{info_spelling};
 ghost use Rattle.p2p_discovery.specs.declared.types.ingress.Ingress.{Ingress};
 ghost use Rattle.std.specs.Duration.{as_nanos};
 ghost use Rattle.std.specs.Int.NonZero.{non_zero_usize_get};
-ghost use Rattle.p2p_session.specs.Answers.{key_bytes, signature_bytes};
+ghost use Rattle.p2p_session.specs.Schemes.{scheme};
+ghost use Rattle.p2p_session.specs.Answers.{};
 ghost use Rattle.p2p_session.specs.Given.{bootstrapper_spelling, bootstrappers_spelling};
-ghost use Rattle.p2p_session.specs.Given.{IsKey, IsBootstrapper, SpellBootstrappers, IsInfoOfKeys};
+ghost use Rattle.p2p_session.specs.Given.{IsBootstrapper, SpellBootstrappers, IsInfoOfKeys};
 ghost use Rattle.p2p_session.specs.Given.{SpellInfo, are_settings, numbers_at, moment_at};
 ghost use Rattle.p2p_session.specs.Given.{IsSetup, IsSetupRead};
-ghost use Rattle.p2p_session.specs.declared.key.Key.{Key};
-ghost use Rattle.p2p_session.specs.declared.key.TheConstants.{KEY_SIZE};
 ghost use Rattle.p2p_session.specs.declared.refusal.Refusal.TheVariants.{Memory, BadInfo};
 
 use crate::given::{key_in, moment};
-use crate::key::{KEY_SIZE, Key};
 use crate::refusal::Refusal;
 use bytes::Bytes;
 use p2p_directory::directory::Config;
 use p2p_directory::node::Setup;
-use p2p_discovery::codec::{CodecError, Read};
+use p2p_discovery::codec::{CodecError, PublicKey, Read};
 use p2p_discovery::discovery::{Info, PayloadConfig};
 use p2p_discovery::types::Ingress;
 use std::alloc::Global;
@@ -47,14 +45,15 @@ pub struct Numbers {
 
 /// What a node is created from. Refused are, first, settings that no node may have, then durations,
 /// then bytes that encode no bootstrappers or no info.
-pub fn setup(
+pub fn setup<C: PublicKey>(
     alloc: Global,
     numbers: &Numbers,
     namespace: &[u8],
     bootstrappers: &[u8],
     myself: &[u8],
-) -> Result<Setup<Key>, Refusal>
-    ensures read { IsSetupRead numbers.now namespace.now bootstrappers.now myself.now result }
+) -> Result<Setup<C>, Refusal>
+    ensures read { IsSetupRead (scheme C.PublicKey C.Signature.FixedBytes) numbers.now namespace.now
+        bootstrappers.now myself.now result }
     ensures settings { OnOk result (are_settings numbers.now ≡ true) }
 {
     let cfg = config(numbers)?;
@@ -107,11 +106,12 @@ fn config(numbers: &Numbers) -> Result<Config, Refusal>
 }
 
 // The info that the bytes encode.
-fn info(alloc: Global, bytes: &[u8]) -> Result<Info<Key>, Refusal>
-    ensures is_info { IfOk result IsInfoOfKeys }
-    ensures spelled { IfOk result (λ i. info_spelling key_bytes signature_bytes i ≡ bytes.now) }
+fn info<C: PublicKey>(alloc: Global, bytes: &[u8]) -> Result<Info<C>, Refusal>
+    ensures is_info { IfOk result (IsInfoOfKeys (scheme C.PublicKey C.Signature.FixedBytes)) }
+    ensures spelled { IfOk result (λ i. info_spelling C.spelled C.Signature.spelled i ≡ bytes.now) }
     ensures refused { IfErr result (λ why.
-        (why ≡ Memory) ⊎ ((why ≡ BadInfo) × (¬ SpellInfo bytes.now))) }
+        (why ≡ Memory) ⊎ ((why ≡ BadInfo) × (¬ SpellInfo (scheme C.PublicKey C.Signature.FixedBytes)
+        bytes.now))) }
 {
     let bytes = Bytes::copy_from_slice(alloc, bytes)?;
     match Info::decode(alloc, bytes) {
@@ -131,11 +131,13 @@ fn undecoded(error: CodecError) -> Refusal
 }
 
 // The bootstrappers that the bytes encode: a key and an ingress each, one after the other.
-fn bootstrappers_of(alloc: Global, bytes: &[u8]) -> Result<Vec<(Key, Ingress)>, Refusal>
-    ensures are { IfOk result (λ bs. AllByRecursion IsBootstrapper bs.items) }
-    ensures spelled { IfOk result (λ bs. bootstrappers_spelling bs.items ≡ bytes.now) }
-    ensures refused { IfErr result (λ why.
-        (why ≡ Memory) ⊎ ((why ≡ BadInfo) × (¬ SpellBootstrappers bytes.now))) }
+fn bootstrappers_of<C: PublicKey>(alloc: Global, bytes: &[u8]) -> Result<Vec<(C, Ingress)>, Refusal>
+    ensures are { IfOk result (λ bs. AllByRecursion
+        (IsBootstrapper (scheme C.PublicKey C.Signature.FixedBytes)) bs.items) }
+    ensures spelled { IfOk result (λ bs. bootstrappers_spelling
+        (scheme C.PublicKey C.Signature.FixedBytes) bs.items ≡ bytes.now) }
+    ensures refused { IfErr result (λ why. (why ≡ Memory) ⊎ ((why ≡ BadInfo)
+        × (¬ SpellBootstrappers (scheme C.PublicKey C.Signature.FixedBytes) bytes.now))) }
 {
     let mut left = Bytes::copy_from_slice(alloc, bytes)?;
     let mut read = Vec::new(alloc);
@@ -147,15 +149,19 @@ fn bootstrappers_of(alloc: Global, bytes: &[u8]) -> Result<Vec<(Key, Ingress)>, 
 }
 
 // A key, and an ingress.
-fn bootstrapper(alloc: Global, left: &mut Bytes) -> Result<(Key, Ingress), Refusal>
-    ensures is { IfOk result IsBootstrapper }
-    ensures spelled { IfOk result (λ b. left.old ≡ bootstrapper_spelling b ++ left.new) }
+fn bootstrapper<C: PublicKey>(alloc: Global, left: &mut Bytes) -> Result<(C, Ingress), Refusal>
+    ensures is { IfOk result (IsBootstrapper (scheme C.PublicKey C.Signature.FixedBytes)) }
+    ensures spelled { IfOk result (λ b. left.old
+        ≡ bootstrapper_spelling (scheme C.PublicKey C.Signature.FixedBytes) b ++ left.new) }
     ensures shorter { OnOk result (length left.new < length left.old) }
-    ensures rest { OnOk result ((b : Key × Ingress) (rest : List ℕ) → IsBootstrapper b →
-        left.old ≡ bootstrapper_spelling b ++ rest → left.new ≡ rest) }
+    ensures rest { OnOk result ((b : C × Ingress) (rest : List ℕ) →
+        IsBootstrapper (scheme C.PublicKey C.Signature.FixedBytes) b → left.old
+        ≡ bootstrapper_spelling (scheme C.PublicKey C.Signature.FixedBytes) b ++ rest →
+        left.new ≡ rest) }
     ensures refused { IfErr result (λ why. (why ≡ Memory) ⊎ ((why ≡ BadInfo)
-        × ((b : Key × Ingress) (rest : List ℕ) → IsBootstrapper b →
-        ¬ (left.old ≡ bootstrapper_spelling b ++ rest)))) }
+        × ((b : C × Ingress) (rest : List ℕ) →
+        IsBootstrapper (scheme C.PublicKey C.Signature.FixedBytes) b → ¬ (left.old
+        ≡ bootstrapper_spelling (scheme C.PublicKey C.Signature.FixedBytes) b ++ rest)))) }
 {
     let key = front_key(left)?;
     match Ingress::read_cfg(alloc, left, &()) {
@@ -165,16 +171,15 @@ fn bootstrapper(alloc: Global, left: &mut Bytes) -> Result<(Key, Ingress), Refus
 }
 
 // The key with which the bytes begin. They then begin after it.
-fn front_key(left: &mut Bytes) -> Result<Key, Refusal>
-    ensures is { IfOk result IsKey }
-    ensures spelled { IfOk result (λ key. left.old ≡ key_bytes key ++ left.new) }
-    ensures shorter { OnOk result (length left.new < length left.old) }
-    ensures refused { IfErr result (λ why. (why ≡ BadInfo) × (length left.old < KEY_SIZE)) }
+fn front_key<C: PublicKey>(left: &mut Bytes) -> Result<C, Refusal>
+    ensures is { IfOk result C.IsValue }
+    ensures spelled { IfOk result (λ key. left.old ≡ C.spelled key ++ left.new) }
+    ensures refused { IfErr result (λ why. (why ≡ BadInfo) × ((key : C) (rest : List ℕ) →
+        C.IsValue key → ¬ (left.old ≡ C.spelled key ++ rest))) }
 {
-    if left.len() < KEY_SIZE {
+    let Some(key) = key_in(left.as_slice(), 0) else {
         return Err(Refusal::BadInfo);
-    }
-    let key = key_in(left.as_slice(), 0);
-    left.advance(KEY_SIZE);
+    };
+    left.advance(C::SIZE);
     Ok(key)
 }

@@ -1,21 +1,23 @@
 //! The calls that may change the node.
 
 ghost use Rattle.std.specs.Prelude.{◌≡◌};
+ghost use Rattle.p2p_session.specs.Schemes.{scheme};
 ghost use Rattle.p2p_session.specs.Given.{track_of};
-ghost use Rattle.p2p_session.specs.Sessions.{Serves, Dials, Listens, Connects, Releases, Blocks};
+ghost use Rattle.p2p_session.specs.Sessions.{Serves, Dials, Listens, TellsConnect};
+ghost use Rattle.p2p_session.specs.Sessions.{TellsRelease, Blocks};
 ghost use Rattle.p2p_session.specs.Sessions.{Unblocks, Forgets, TellsRoom, room_refusal, Tracks};
-ghost use Rattle.p2p_session.specs.Sessions.{UpdatesPeers, HasRoom, IsWhole};
+ghost use Rattle.p2p_session.specs.Sessions.{UpdatesPeers, HasRoom, Fits};
 
 use crate::given::{key, moment};
-use crate::key::Key;
 use crate::refusal::Refusal;
 use crate::reply::{tell, truth_of};
 use crate::session::Session;
 use crate::{answer, commands};
 use p2p_directory::directory::TrackedPeers;
+use p2p_discovery::codec::PublicKey;
 use std::alloc::Global;
 
-impl Session {
+impl<C: PublicKey> Session<C> {
     /// `Directory::track` of the sets of these keys. Returns the keys of the peers that must be
     /// disconnected, or `None` if the set isn't accepted. The buffer must have
     /// [`Session::track_room`] bytes.
@@ -27,7 +29,8 @@ impl Session {
         secondary: &[u8],
         torn: &mut [u8],
     ) -> u64
-        ensures { Tracks index primary.now secondary.now torn.old torn.new
+        ensures { Tracks (scheme C.PublicKey C.Signature.FixedBytes) index primary.now secondary.now
+            torn.old torn.new
             self.old self.new result }
     {
         if self.track_room() > torn.len() as u64 {
@@ -47,12 +50,14 @@ impl Session {
         &mut self,
         alloc: Global,
         index: u64,
-        peers: Result<TrackedPeers<Key>, Refusal>,
+        peers: Result<TrackedPeers<C>, Refusal>,
         torn: &mut [u8],
     ) -> u64
-        ensures served { Serves (track_of index peers) torn.old torn.new
+        ensures served { Serves (scheme C.PublicKey C.Signature.FixedBytes) (track_of index peers)
+            torn.old torn.new
             self.old.node self.new.node result }
-        ensures whole { HasRoom self.old.node torn.old → IsWhole torn.old result }
+        ensures whole { HasRoom (scheme C.PublicKey C.Signature.FixedBytes) self.old.node torn.old →
+            Fits torn.old result }
     {
         let Some(node) = &mut self.node else {
             return Refusal::NoNode.number();
@@ -68,10 +73,10 @@ impl Session {
 
     /// How long the buffer of `track` must be: the size of the keys of all peers with a record.
     pub fn track_room(&mut self) -> u64
-        ensures { TellsRoom self.old self.new result }
+        ensures { TellsRoom (scheme C.PublicKey C.Signature.FixedBytes) self.old self.new result }
     {
         match &self.node {
-            Some(node) => answer::size_of_keys(node.directory().tracked()),
+            Some(node) => answer::size_of_keys::<C>(node.directory().tracked()),
             None => Refusal::NoNode.number(),
         }
     }
@@ -95,7 +100,8 @@ impl Session {
         draw_seconds: u64,
         draw_nanos: u32,
     ) -> u64
-        ensures { Dials peer.now seconds nanos draw_seconds draw_nanos self.old self.new result }
+        ensures { Dials (scheme C.PublicKey C.Signature.FixedBytes) peer.now seconds nanos
+            draw_seconds draw_nanos self.old self.new result }
     {
         let Some(node) = &mut self.node else {
             return Refusal::NoNode.number();
@@ -104,8 +110,9 @@ impl Session {
         let draw = moment(draw_seconds, draw_nanos);
         match (key(peer), now, draw) {
             (Ok(peer), Ok(now), Ok(draw)) => {
+                let alloc = node.directory().allocator();
                 let reply = node.dial(&peer, now, draw);
-                tell(node.directory().allocator(), reply, &mut [])
+                tell(alloc, reply, &mut [])
             }
             (Err(refusal), _, _) | (Ok(_), Err(refusal), _) | (Ok(_), Ok(_), Err(refusal)) => {
                 refusal.number()
@@ -122,7 +129,8 @@ impl Session {
         draw_seconds: u64,
         draw_nanos: u32,
     ) -> u64
-        ensures { Listens peer.now seconds nanos draw_seconds draw_nanos self.old self.new result }
+        ensures { Listens (scheme C.PublicKey C.Signature.FixedBytes) peer.now seconds nanos
+            draw_seconds draw_nanos self.old self.new result }
     {
         let Some(node) = &mut self.node else {
             return Refusal::NoNode.number();
@@ -131,8 +139,9 @@ impl Session {
         let draw = moment(draw_seconds, draw_nanos);
         match (key(peer), now, draw) {
             (Ok(peer), Ok(now), Ok(draw)) => {
+                let alloc = node.directory().allocator();
                 let reply = node.listen(&peer, now, draw);
-                tell(node.directory().allocator(), reply, &mut [])
+                tell(alloc, reply, &mut [])
             }
             (Err(refusal), _, _) | (Ok(_), Err(refusal), _) | (Ok(_), Ok(_), Err(refusal)) => {
                 refusal.number()
@@ -142,15 +151,17 @@ impl Session {
 
     /// `Directory::connect`. Returns 1, or `NotReserved`.
     pub fn connect(&mut self, peer: &[u8], dialer: bool) -> u64
-        ensures { Connects peer.now dialer self.old self.new result }
+        ensures { TellsConnect (scheme C.PublicKey C.Signature.FixedBytes) peer.now dialer self.old
+            self.new result }
     {
         let Some(node) = &mut self.node else {
             return Refusal::NoNode.number();
         };
         match key(peer) {
             Ok(peer) => {
+                let alloc = node.directory().allocator();
                 let reply = node.connect(&peer, dialer);
-                tell(node.directory().allocator(), reply, &mut [])
+                tell(alloc, reply, &mut [])
             },
             Err(refusal) => refusal.number(),
         }
@@ -158,15 +169,17 @@ impl Session {
 
     /// `Directory::release` of what is held of the peer. Returns 1, or `NotHeld`.
     pub fn release(&mut self, peer: &[u8]) -> u64
-        ensures { Releases peer.now self.old self.new result }
+        ensures { TellsRelease (scheme C.PublicKey C.Signature.FixedBytes) peer.now self.old
+            self.new result }
     {
         let Some(node) = &mut self.node else {
             return Refusal::NoNode.number();
         };
         match key(peer) {
             Ok(peer) => {
+                let alloc = node.directory().allocator();
                 let reply = node.release(&peer);
-                tell(node.directory().allocator(), reply, &mut [])
+                tell(alloc, reply, &mut [])
             },
             Err(refusal) => refusal.number(),
         }
@@ -175,22 +188,25 @@ impl Session {
     /// `Directory::update_peers` with the infos that these bytes encode as a list. Returns 1. The
     /// host must have made or verified the infos itself.
     pub fn update_peers(&mut self, alloc: Global, infos: &[u8]) -> u64
-        ensures { UpdatesPeers infos.now self.old self.new result }
+        ensures { UpdatesPeers (scheme C.PublicKey C.Signature.FixedBytes) infos.now self.old
+            self.new result }
     {
         self.serve(commands::update_peers(alloc, infos), &mut [])
     }
 
     /// `Directory::block`. Returns 1 if the block takes effect, else 0.
     pub fn block(&mut self, peer: &[u8], seconds: u64, nanos: u32) -> u64
-        ensures { Blocks peer.now seconds nanos self.old self.new result }
+        ensures { Blocks (scheme C.PublicKey C.Signature.FixedBytes) peer.now seconds nanos self.old
+            self.new result }
     {
         let Some(node) = &mut self.node else {
             return Refusal::NoNode.number();
         };
         match (key(peer), moment(seconds, nanos)) {
             (Ok(peer), Ok(now)) => {
+                let alloc = node.directory().allocator();
                 let reply = node.block(&peer, now);
-                tell(node.directory().allocator(), reply, &mut [])
+                tell(alloc, reply, &mut [])
             },
             (Err(refusal), _) | (Ok(_), Err(refusal)) => refusal.number(),
         }
@@ -198,7 +214,8 @@ impl Session {
 
     /// `Directory::unblock_expired`. Returns 1 if a block ended, else 0.
     pub fn unblock_expired(&mut self, seconds: u64, nanos: u32) -> u64
-        ensures { Unblocks seconds nanos self.old self.new result }
+        ensures { Unblocks (scheme C.PublicKey C.Signature.FixedBytes) seconds nanos self.old
+            self.new result }
     {
         let Some(node) = &mut self.node else {
             return Refusal::NoNode.number();
@@ -211,7 +228,8 @@ impl Session {
 
     /// `Directory::forget_cooled`. Returns how many cooldowns were forgotten.
     pub fn forget_cooled(&mut self, seconds: u64, nanos: u32) -> u64
-        ensures { Forgets seconds nanos self.old self.new result }
+        ensures { Forgets (scheme C.PublicKey C.Signature.FixedBytes) seconds nanos self.old
+            self.new result }
     {
         let Some(node) = &mut self.node else {
             return Refusal::NoNode.number();

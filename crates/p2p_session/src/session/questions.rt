@@ -1,5 +1,6 @@
 //! The calls that change nothing.
 
+ghost use Rattle.p2p_session.specs.Schemes.{scheme};
 ghost use Rattle.p2p_session.specs.Sessions.{TellsUnblock, TellsBlocked, TellsStatus, TellsPeerSet};
 ghost use Rattle.p2p_session.specs.Sessions.{TellsLatestIndex, TellsUpdate, TellsAll, TellsInfo};
 ghost use Rattle.p2p_session.specs.Sessions.{TellsBits, TellsEligible, TellsAcceptable};
@@ -12,9 +13,10 @@ use crate::refusal::Refusal;
 use crate::reply::{status_of, tell_held, tell_index, tell_moment, truth_of};
 use crate::session::Session;
 use p2p_directory::run::Command;
+use p2p_discovery::codec::PublicKey;
 use std::alloc::Global;
 
-impl Session {
+impl<C: PublicKey> Session<C> {
     /// `Directory::infos` for the encoded bits and their index. Returns the encoded list, or
     /// `None`.
     pub fn infos(
@@ -25,14 +27,16 @@ impl Session {
         nanos: u32,
         out: &mut [u8],
     ) -> u64
-        ensures { TellsInfos bits.now seconds nanos out.old out.new self.old self.new result }
+        ensures { TellsInfos (scheme C.PublicKey C.Signature.FixedBytes) bits.now seconds nanos
+            out.old out.new self.old self.new result }
     {
         self.serve(commands::infos_for(alloc, bits, seconds, nanos), out)
     }
 
     /// `Directory::next_unblock`: the time, or `None`.
     pub fn next_unblock(&mut self, out: &mut [u8]) -> u64
-        ensures { TellsUnblock out.old out.new self.old self.new result }
+        ensures { TellsUnblock (scheme C.PublicKey C.Signature.FixedBytes) out.old out.new self.old
+            self.new result }
     {
         let Some(node) = &self.node else {
             return Refusal::NoNode.number();
@@ -42,14 +46,16 @@ impl Session {
 
     /// `Directory::blocked_peers`: their keys.
     pub fn blocked_peers(&mut self, seconds: u64, nanos: u32, out: &mut [u8]) -> u64
-        ensures { TellsBlocked seconds nanos out.old out.new self.old self.new result }
+        ensures { TellsBlocked (scheme C.PublicKey C.Signature.FixedBytes) seconds nanos out.old
+            out.new self.old self.new result }
     {
         self.serve(commands::blocked_peers(seconds, nanos), out)
     }
 
     /// `Directory::status`: 0 for `Inert`, 1 for `Reserved`, 2 for `Active`, or `None`.
     pub fn status(&mut self, peer: &[u8]) -> u64
-        ensures { TellsStatus peer.now self.old self.new result }
+        ensures { TellsStatus (scheme C.PublicKey C.Signature.FixedBytes) peer.now self.old self.new
+            result }
     {
         let Some(node) = &self.node else {
             return Refusal::NoNode.number();
@@ -63,14 +69,16 @@ impl Session {
     /// `Directory::get_peer_set`: the number of primary peers, their keys, and the keys of the
     /// secondary peers, or `None`.
     pub fn get_peer_set(&mut self, index: u64, out: &mut [u8]) -> u64
-        ensures { TellsPeerSet index out.old out.new self.old self.new result }
+        ensures { TellsPeerSet (scheme C.PublicKey C.Signature.FixedBytes) index out.old out.new
+            self.old self.new result }
     {
         self.serve(Ok(Command::GetPeerSet(index)), out)
     }
 
     /// `Directory::latest_set_index`: the index, or `None`.
     pub fn latest_set_index(&mut self, out: &mut [u8]) -> u64
-        ensures { TellsLatestIndex out.old out.new self.old self.new result }
+        ensures { TellsLatestIndex (scheme C.PublicKey C.Signature.FixedBytes) out.old out.new
+            self.old self.new result }
     {
         let Some(node) = &self.node else {
             return Refusal::NoNode.number();
@@ -81,7 +89,8 @@ impl Session {
     /// `Directory::latest_update`: the index, the lengths of the first three lists, and the primary
     /// and secondary peers of the latest set and of all sets, or `None`.
     pub fn latest_update(&mut self, out: &mut [u8]) -> u64
-        ensures { TellsUpdate out.old out.new self.old self.new result }
+        ensures { TellsUpdate (scheme C.PublicKey C.Signature.FixedBytes) out.old out.new self.old
+            self.new result }
     {
         self.serve(Ok(Command::LatestUpdate), out)
     }
@@ -89,28 +98,32 @@ impl Session {
     /// `Directory::all`: the number of primary peers, their keys, and the keys of the secondary
     /// peers.
     pub fn all(&mut self, out: &mut [u8]) -> u64
-        ensures { TellsAll out.old out.new self.old self.new result }
+        ensures { TellsAll (scheme C.PublicKey C.Signature.FixedBytes) out.old out.new self.old
+            self.new result }
     {
         self.serve(Ok(Command::All), out)
     }
 
     /// `Directory::info`: the encoded info, or `None`.
     pub fn info(&mut self, _alloc: Global, peer: &[u8], out: &mut [u8]) -> u64
-        ensures { TellsInfo peer.now out.old out.new self.old self.new result }
+        ensures { TellsInfo (scheme C.PublicKey C.Signature.FixedBytes) peer.now out.old out.new
+            self.old self.new result }
     {
         self.serve(commands::info(peer), out)
     }
 
     /// `Directory::get_random_bit_vec`: the encoded bits with their index, or `None`.
     pub fn get_random_bit_vec(&mut self, _alloc: Global, place: u64, out: &mut [u8]) -> u64
-        ensures { TellsBits place out.old out.new self.old self.new result }
+        ensures { TellsBits (scheme C.PublicKey C.Signature.FixedBytes) place out.old out.new
+            self.old self.new result }
     {
         self.serve(Ok(Command::GetRandomBitVec(place as usize)), out)
     }
 
     /// `Directory::eligible`: 1 or 0.
     pub fn eligible(&mut self, peer: &[u8], seconds: u64, nanos: u32) -> u64
-        ensures { TellsEligible peer.now seconds nanos self.old self.new result }
+        ensures { TellsEligible (scheme C.PublicKey C.Signature.FixedBytes) peer.now seconds nanos
+            self.old self.new result }
     {
         let Some(node) = &self.node else {
             return Refusal::NoNode.number();
@@ -123,7 +136,8 @@ impl Session {
 
     /// `Directory::acceptable`: 1 or 0.
     pub fn acceptable(&mut self, peer: &[u8], seconds: u64, nanos: u32) -> u64
-        ensures { TellsAcceptable peer.now seconds nanos self.old self.new result }
+        ensures { TellsAcceptable (scheme C.PublicKey C.Signature.FixedBytes) peer.now seconds nanos
+            self.old self.new result }
     {
         let Some(node) = &self.node else {
             return Refusal::NoNode.number();
@@ -136,14 +150,15 @@ impl Session {
 
     /// `Directory::dialable`: whether a time to ask again follows, that time, and the keys.
     pub fn dialable(&mut self, seconds: u64, nanos: u32, out: &mut [u8]) -> u64
-        ensures { TellsDialable seconds nanos out.old out.new self.old self.new result }
+        ensures { TellsDialable (scheme C.PublicKey C.Signature.FixedBytes) seconds nanos out.old
+            out.new self.old self.new result }
     {
         self.serve(commands::dialable(seconds, nanos), out)
     }
 
     /// `Directory::tracked`: how many peers have a record, except the local node.
     pub fn tracked(&mut self) -> u64
-        ensures { TellsTracked self.old self.new result }
+        ensures { TellsTracked (scheme C.PublicKey C.Signature.FixedBytes) self.old self.new result }
     {
         let Some(node) = &self.node else {
             return Refusal::NoNode.number();
@@ -153,7 +168,8 @@ impl Session {
 
     /// `Directory::retained`. Returns the number of retained sets.
     pub fn retained(&mut self) -> u64
-        ensures { TellsRetained self.old self.new result }
+        ensures { TellsRetained (scheme C.PublicKey C.Signature.FixedBytes)
+            self.old self.new result }
     {
         let Some(node) = &self.node else {
             return Refusal::NoNode.number();
@@ -163,7 +179,8 @@ impl Session {
 
     /// `Directory::next_cooled`: the time, or `None`.
     pub fn next_cooled(&mut self, out: &mut [u8]) -> u64
-        ensures { TellsNextCooled out.old out.new self.old self.new result }
+        ensures { TellsNextCooled (scheme C.PublicKey C.Signature.FixedBytes) out.old out.new
+            self.old self.new result }
     {
         let Some(node) = &self.node else {
             return Refusal::NoNode.number();
@@ -174,7 +191,8 @@ impl Session {
     /// Whom the reservation that is held of a peer is for: byte 0 for an inbound peer, or byte 1
     /// and the encoded ingress that is dialled. `None` if none is held. It allocates nothing.
     pub fn reservation(&mut self, peer: &[u8], out: &mut [u8]) -> u64
-        ensures { TellsReservation peer.now out.old out.new self.old self.new result }
+        ensures { TellsReservation (scheme C.PublicKey C.Signature.FixedBytes) peer.now out.old
+            out.new self.old self.new result }
     {
         let Some(node) = &self.node else {
             return Refusal::NoNode.number();

@@ -2,7 +2,8 @@ use Rattle.std.proofs.Common.{◌≡◌, ◌^◌, take, length, min}
 use Rattle.std.specs.Prelude.{flat_map}
 use Rattle.p2p_session.specs.Answers.{info_bytes}
 use Rattle.p2p_session.proofs.answer.size_of_infos.Given as goal
+use Rattle.p2p_session.specs.Schemes.{scheme_by}
 
 abbrev pub invariant-loop-info : goal.invariant-loop-info
-invariant-loop-info l =
-    l.size ≡ min (length (flat_map info_bytes (take l.info-index l.infos))) (2 ^ 63)
+invariant-loop-info g l =
+    l.size ≡ min (length (flat_map (info_bytes (scheme_by g.C.PartialOrd g.C.Ord g.C.PartialEq g.C.FixedBytes g.C.PublicKey g.C.Signature.PartialEq g.C.Signature.FixedBytes)) (take l.info-index l.infos))) (2 ^ 63)

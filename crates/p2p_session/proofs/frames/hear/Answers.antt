@@ -1,48 +1,47 @@
-use Rattle.std.proofs.Common.{Ok, ◌+◌, ◌≤◌, ◌∙◌, arith, subst, sym, ℕ}
+use Rattle.std.proofs.Common.{Ok, ◌+◌, ◌≤◌, ◌∙◌, arith, subst, ℕ}
 use Rattle.std.proofs.lemmas.Result.{IfOk-weaker, IfErr-weaker}
 use Rattle.std.specs.Duration.{as_nanos}
 use Rattle.p2p_discovery.specs.Reading.{whole}
 use Rattle.p2p_directory.specs.Received.{received_of}
 use Rattle.p2p_session.specs.Frames.{greeter_in, HasKey, Hears, IsNamedAtEnd, MayRefuse, verdicts_in}
 use Rattle.p2p_session.specs.Given.{moment_at}
-use Rattle.p2p_session.specs.declared.key.TheConstants.{KEY_SIZE}
-use Rattle.p2p_session.specs.Views.{wire}
 use Rattle.p2p_session.proofs.Greeters.{named}
 use Rattle.p2p_session.proofs.frames.hear.Goals as goal
+use Rattle.p2p_session.specs.Schemes.{wire, scheme_by}
 
--- whoever greets is named at the end of the frame
+-- whoever greets is named (scheme_by g.C.PartialOrd g.C.Ord g.C.PartialEq g.C.FixedBytes g.C.PublicKey g.C.Signature.PartialEq g.C.Signature.FixedBytes) g.met.C.FixedBytes.fixed g.met.C.Signature.FixedBytes.fixed at the end of the frame
 pub returns-clause-has_key : goal.returns-clause-has_key
-returns-clause-has_key c =
+returns-clause-has_key g c =
     let now = as_nanos c.in_ok-now.now in
     IfOk-weaker c.process.result
-    (λ a. Hears c.deref.result.now c.args.frame.now now c.args.node.now c.process.new.node (received_of wire a))
-    (λ a. HasKey (received_of wire a) c.args.frame.now)
-    (λ a h. (named c.deref.result.now c.args.frame.now now c.args.node.now c.process.new.node (received_of wire a)
+    (λ a. Hears (scheme_by g.C.PartialOrd g.C.Ord g.C.PartialEq g.C.FixedBytes g.C.PublicKey g.C.Signature.PartialEq g.C.Signature.FixedBytes) c.deref.result.now c.args.frame.now now c.args.node.now c.process.new.node (received_of (wire (scheme_by g.C.PartialOrd g.C.Ord g.C.PartialEq g.C.FixedBytes g.C.PublicKey g.C.Signature.PartialEq g.C.Signature.FixedBytes)) a))
+    (λ a. HasKey (scheme_by g.C.PartialOrd g.C.Ord g.C.PartialEq g.C.FixedBytes g.C.PublicKey g.C.Signature.PartialEq g.C.Signature.FixedBytes) (received_of (wire (scheme_by g.C.PartialOrd g.C.Ord g.C.PartialEq g.C.FixedBytes g.C.PublicKey g.C.Signature.PartialEq g.C.Signature.FixedBytes)) a) c.args.frame.now)
+    (λ a h. (named (scheme_by g.C.PartialOrd g.C.Ord g.C.PartialEq g.C.FixedBytes g.C.PublicKey g.C.Signature.PartialEq g.C.Signature.FixedBytes) g.met.C.FixedBytes.fixed g.met.C.Signature.FixedBytes.fixed c.deref.result.now c.args.frame.now now c.args.node.now c.process.new.node (received_of (wire (scheme_by g.C.PartialOrd g.C.Ord g.C.PartialEq g.C.FixedBytes g.C.PublicKey g.C.Signature.PartialEq g.C.Signature.FixedBytes)) a)
     c.are_bytes.ensures h.seen).0)
     c.process.ensures.heard
 
 pub returns-clause-named : goal.returns-clause-named
-returns-clause-named c =
+returns-clause-named g c =
     let now = as_nanos c.in_ok-now.now in
     IfOk-weaker c.process.result
-    (λ a. Hears c.deref.result.now c.args.frame.now now c.args.node.now c.process.new.node (received_of wire a))
-    (λ a. IsNamedAtEnd (received_of wire a) c.args.frame.now
-    (greeter_in (whole (wire.reading c.args.node.now.limits) c.args.frame.now).outcome))
-    (λ a h. (named c.deref.result.now c.args.frame.now now c.args.node.now c.process.new.node (received_of wire a)
+    (λ a. Hears (scheme_by g.C.PartialOrd g.C.Ord g.C.PartialEq g.C.FixedBytes g.C.PublicKey g.C.Signature.PartialEq g.C.Signature.FixedBytes) c.deref.result.now c.args.frame.now now c.args.node.now c.process.new.node (received_of (wire (scheme_by g.C.PartialOrd g.C.Ord g.C.PartialEq g.C.FixedBytes g.C.PublicKey g.C.Signature.PartialEq g.C.Signature.FixedBytes)) a))
+    (λ a. IsNamedAtEnd (scheme_by g.C.PartialOrd g.C.Ord g.C.PartialEq g.C.FixedBytes g.C.PublicKey g.C.Signature.PartialEq g.C.Signature.FixedBytes) (received_of (wire (scheme_by g.C.PartialOrd g.C.Ord g.C.PartialEq g.C.FixedBytes g.C.PublicKey g.C.Signature.PartialEq g.C.Signature.FixedBytes)) a) c.args.frame.now
+    (greeter_in (scheme_by g.C.PartialOrd g.C.Ord g.C.PartialEq g.C.FixedBytes g.C.PublicKey g.C.Signature.PartialEq g.C.Signature.FixedBytes) (whole ((wire (scheme_by g.C.PartialOrd g.C.Ord g.C.PartialEq g.C.FixedBytes g.C.PublicKey g.C.Signature.PartialEq g.C.Signature.FixedBytes)).reading c.args.node.now.limits) c.args.frame.now).outcome))
+    (λ a h. (named (scheme_by g.C.PartialOrd g.C.Ord g.C.PartialEq g.C.FixedBytes g.C.PublicKey g.C.Signature.PartialEq g.C.Signature.FixedBytes) g.met.C.FixedBytes.fixed g.met.C.Signature.FixedBytes.fixed c.deref.result.now c.args.frame.now now c.args.node.now c.process.new.node (received_of (wire (scheme_by g.C.PartialOrd g.C.Ord g.C.PartialEq g.C.FixedBytes g.C.PublicKey g.C.Signature.PartialEq g.C.Signature.FixedBytes)) a)
     c.are_bytes.ensures h.seen).1)
     c.process.ensures.heard
 
 pub returns-clause-refused : goal.returns-clause-refused
-returns-clause-refused c =
+returns-clause-refused g c =
     let node = c.args.node.now in
     let frame = c.args.frame.now in
     let verdicts = verdicts_in c.args.verdicts.now in
     let now = as_nanos c.in_ok-now.now in
     let room = c.args.room in
     IfErr-weaker c.process.result
-    (λ why. (t room : ℕ) → 1 + KEY_SIZE ≤ room → MayRefuse node c.deref.result.now frame (Ok t) room why)
-    (λ why. MayRefuse node verdicts frame (moment_at c.args.time.0 c.args.time.1) room why)
-    (λ why h. subst (λ m. MayRefuse node verdicts frame m room why) c.in_ok-now.ensures
-    (subst (λ vs. MayRefuse node vs frame (Ok now) room why) (c.deref.ensures.value ∙ c.in_ok-verdicts.ensures)
-    (h now room (omega (arith, c.if-room-lt-LONGEST_RECEIVED.false)))))
+    (λ why. (t room : ℕ) → 1 + g.C.FixedBytes.SIZE ≤ room → MayRefuse (scheme_by g.C.PartialOrd g.C.Ord g.C.PartialEq g.C.FixedBytes g.C.PublicKey g.C.Signature.PartialEq g.C.Signature.FixedBytes) node c.deref.result.now frame (Ok t) room why)
+    (λ why. MayRefuse (scheme_by g.C.PartialOrd g.C.Ord g.C.PartialEq g.C.FixedBytes g.C.PublicKey g.C.Signature.PartialEq g.C.Signature.FixedBytes) node verdicts frame (moment_at c.args.time.0 c.args.time.1) room why)
+    (λ why h. subst (λ m. MayRefuse (scheme_by g.C.PartialOrd g.C.Ord g.C.PartialEq g.C.FixedBytes g.C.PublicKey g.C.Signature.PartialEq g.C.Signature.FixedBytes) node verdicts frame m room why) c.in_ok-now.ensures
+    (subst (λ vs. MayRefuse (scheme_by g.C.PartialOrd g.C.Ord g.C.PartialEq g.C.FixedBytes g.C.PublicKey g.C.Signature.PartialEq g.C.Signature.FixedBytes) node vs frame (Ok now) room why) (c.deref.ensures.value ∙ c.in_ok-verdicts.ensures)
+    (h now room (omega (arith, c.if-room-SIZE.false)))))
     c.process.ensures.refused

@@ -1,24 +1,31 @@
-use Rattle.std.proofs.Common.{arith, ap, ◌∙◌, length, List, ℕ, drop, ◌*◌, ◌≤◌, ◌+◌}
-use Rattle.std.proofs.lemmas.List.{length-take-le, length-drop}
-use Rattle.p2p_session.specs.declared.key.Key.{Key}
-use Rattle.p2p_session.specs.declared.key.TheConstants.{KEY_SIZE}
-use Rattle.p2p_session.specs.Given.{IsKey}
-use Rattle.p2p_session.proofs.Bootstrappers.{all_with}
-use Rattle.p2p_session.proofs.Puts.{keys_next}
+use Rattle.std.proofs.Common.{take, drop, arith, ◌+◌}
+use Rattle.p2p_session.proofs.Keys.{some_behind, some_size, begin_with_one, behind_one, one_more, taken}
+use Rattle.p2p_session.specs.Schemes.{scheme_by}
 use Rattle.p2p_session.proofs.given.keys.Goals as goal
 
-pub loop-place-preserved : goal.loop-place-preserved
-loop-place-preserved c =
-    let before = c.loop-place.invariant in
-    let at = c.loop-place.place * KEY_SIZE in
-    let inside : at + KEY_SIZE ≤ length c.args.bytes.now = omega (arith, c.loop-place-test.true, c.requires) in
-    let is = ap (λ (key : Key). key.0) c.key_in.ensures in
-    let left : KEY_SIZE ≤ length (drop at c.args.bytes.now) = omega (arith, inside, length-drop at c.args.bytes.now) in
-    record {
-      spelled = rw c.push_reserved.ensures.items
-          (keys_next c.loop-place.keys.items c.args.bytes.now c.key_in.result.0 c.loop-place.place inside before.spelled is);
-      are = rw c.push_reserved.ensures.items (all_with IsKey c.loop-place.keys.items c.key_in.result before.are
-          (ap (λ (l : List ℕ). length l) is ∙ length-take-le KEY_SIZE (drop at c.args.bytes.now) left));
-      len = omega (arith, c.push_reserved.ensures.len, before.len);
-      capacity = omega (arith, c.push_reserved.ensures.capacity, before.capacity);
-    }
+pub unreachable-requires : goal.unreachable-requires
+unreachable-requires g c =
+    begin_with_one (scheme_by g.C.PartialOrd g.C.Ord g.C.PartialEq g.C.FixedBytes g.C.PublicKey g.C.Signature.PartialEq g.C.Signature.FixedBytes) g.met.C.FixedBytes.fixed
+    (drop c.loop-at.at c.args.bytes.now) (some_behind c.args.bytes.now c.loop-at.at c.loop-at-test.true)
+    c.loop-at.invariant.rest (c.key_in.ensures.none c.in_default.is)
+
+pub loop-at-smaller : goal.loop-at-smaller
+loop-at-smaller g c =
+    let positive = some_size (scheme_by g.C.PartialOrd g.C.Ord g.C.PartialEq g.C.FixedBytes g.C.PublicKey g.C.Signature.PartialEq g.C.Signature.FixedBytes) g.met.C.FixedBytes.fixed
+    (drop c.loop-at.at c.args.bytes.now) (some_behind c.args.bytes.now c.loop-at.at c.loop-at-test.true) c.loop-at.invariant.rest in
+    omega (arith, c.SIZE-at.ensures, positive, c.in-Some.ensures.some.0)
+
+pub loop-at-preserved : goal.loop-at-preserved
+loop-at-preserved g c =
+    let at = c.loop-at.at in
+    let bytes = c.args.bytes.now in
+    let before = c.loop-at.invariant in
+    let key = c.in-Some.ensures in
+    rw (c.SIZE-at.ensures, c.in_ok-push.ensures.items) (record {
+      are = one_more (scheme_by g.C.PartialOrd g.C.Ord g.C.PartialEq g.C.FixedBytes g.C.PublicKey g.C.Signature.PartialEq g.C.Signature.FixedBytes) g.met.C.FixedBytes.fixed
+          (take at bytes) (take (at + g.C.FixedBytes.SIZE) bytes) c.loop-at.keys.items c.in-Some.key before.are key.some.1
+          (taken (scheme_by g.C.PartialOrd g.C.Ord g.C.PartialEq g.C.FixedBytes g.C.PublicKey g.C.Signature.PartialEq g.C.Signature.FixedBytes) g.met.C.FixedBytes.fixed bytes at c.in-Some.key key.some.2);
+      rest = behind_one (scheme_by g.C.PartialOrd g.C.Ord g.C.PartialEq g.C.FixedBytes g.C.PublicKey g.C.Signature.PartialEq g.C.Signature.FixedBytes) g.met.C.FixedBytes.fixed
+          (drop at bytes) (drop (at + g.C.FixedBytes.SIZE) bytes) c.in-Some.key (some_behind bytes at c.loop-at-test.true) key.some.2 before.rest;
+      inside = key.some.0;
+    })

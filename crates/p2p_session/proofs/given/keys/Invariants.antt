@@ -1,14 +1,15 @@
-use Rattle.std.proofs.Common.{◌≡◌, ◌≤◌, ◌*◌, take, vec_len, vec_capacity}
-use Rattle.std.specs.List.{AllByRecursion}
-use Rattle.p2p_session.specs.declared.key.TheConstants.{KEY_SIZE}
-use Rattle.p2p_session.specs.Answers.{keys_bytes}
-use Rattle.p2p_session.specs.Given.{IsKey}
+use Rattle.std.proofs.Common.{◌≤◌, ◌-◌, take, drop, length}
+use Rattle.p2p_session.specs.Given.{AreKeys, AreKeysOf}
+use Rattle.p2p_session.specs.Schemes.{scheme_by}
 use Rattle.p2p_session.proofs.given.keys.Given as goal
 
-abbrev pub invariant-loop-place : goal.invariant-loop-place
-invariant-loop-place l = record {
-  spelled : keys_bytes l.keys.items ≡ take (l.place * KEY_SIZE) l.bytes;
-  are : AllByRecursion IsKey l.keys.items;
-  len : vec_len l.keys ≡ l.place;
-  capacity : l.count ≤ vec_capacity l.keys;
-}
+abbrev pub invariant-loop-at : goal.invariant-loop-at
+invariant-loop-at g l =
+    let k = scheme_by g.C.PartialOrd g.C.Ord g.C.PartialEq g.C.FixedBytes g.C.PublicKey g.C.Signature.PartialEq g.C.Signature.FixedBytes in record {
+      are : AreKeysOf k (take l.at l.bytes) l.keys.items;
+      rest : AreKeys k (drop l.at l.bytes);
+      inside : l.at ≤ length l.bytes;
+    }
+
+abbrev pub decreases-loop-at : goal.decreases-loop-at
+decreases-loop-at g l = length l.bytes - l.at

@@ -5,7 +5,7 @@ use Rattle.p2p_session.proofs.Compared.{fronted}
 use Rattle.p2p_session.proofs.key.compare.Goals as goal
 
 pub returns-then-x-y : goal.returns-then-x-y
-returns-then-x-y c =
+returns-then-x-y g c =
     let x = c.front-x.ensures in
     let y = c.front-y.ensures in
     c.cmp.ensures

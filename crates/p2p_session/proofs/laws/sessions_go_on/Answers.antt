@@ -6,90 +6,91 @@ use Rattle.p2p_tracker.specs.Calls.Call.{Update}
 use Rattle.p2p_directory.specs.Nodes.{made_of, standing_in, calls_with, StandsSomewhere}
 use Rattle.p2p_directory.specs.Received.{applied_with, received_by}
 use Rattle.p2p_directory.specs.Run.{next, was_made, world_after}
-use Rattle.p2p_session.specs.contracts.key.KeyOrd.TheImpl.{ghosts as order}
 use Rattle.p2p_directory.specs.declared.node.received.Received.{Received}
-use Rattle.p2p_session.specs.declared.key.Key.{Key}
-use Rattle.p2p_session.specs.declared.key.Signature.{Signature}
 use Rattle.p2p_session.specs.declared.refusal.Refusal.{Refusal}
 use Rattle.p2p_session.specs.Frames.{ReceivesAt, ReceivesOf, HearsAt}
 use Rattle.p2p_session.specs.Given.{Asked, moment_at}
 use Rattle.p2p_session.specs.Laws.{Goes, GoOn, IsNext}
 use Rattle.p2p_session.specs.Sessions.{Serves, IsMade}
-use Rattle.p2p_session.specs.Views.{View, wire}
 use Rattle.p2p_directory.specs.declared.node.setup.Setup.{Setup}
 use Rattle.p2p_session.proofs.laws.sessions_go_on.Goals as goal
+use Rattle.p2p_directory.specs.Nodes.{NodeView}
+use Rattle.p2p_session.specs.Schemes.{Scheme, wire, scheme_by}
 
-stays : (o : Option View) → Goes o o
-stays None = tt
-stays (Some v) = λ given calls stands. (calls, inl refl, stands)
+module _ {C S : Type 0} (k : Scheme C S) where
+  stays : (o : Option (NodeView C S)) → Goes k o o
+  stays None = tt
+  stays (Some v) = λ given calls stands. (calls, inl refl, stands)
 
-same : (o o2 : Option View) → o2 ≡ o → Goes o o2
-same o o2 e = let P : Option View → Type 0 = λ u. Goes o u in subst P (sym e) (stays o)
+  same : (o o2 : Option (NodeView C S)) → o2 ≡ o → Goes k o o2
+  same o o2 e = let P : Option (NodeView C S) → Type 0 = λ u. Goes k o u in subst P (sym e) (stays o)
 
--- a call that was accepted or not, and an update that was made or not, is one more or none
-next_is : (calls : List (Call Key Signature)) (c : Call Key Signature) (made : Bool) →
-    IsNext calls (if made then c ∷ calls else calls)
-next_is calls c true = inr (c, refl)
-next_is calls c false = inl refl
+  -- a call that was accepted or not, and an update that was made or not, is one more or none
+  next_is : (calls : List (Call C S)) (c : Call C S) (made : Bool) →
+      IsNext calls (if made then c ∷ calls else calls)
+  next_is calls c true = inr (c, refl)
+  next_is calls c false = inl refl
 
-with_is : (infos : Option (List (Info Key Signature))) (calls : List (Call Key Signature)) →
-    IsNext calls (calls_with infos calls)
-with_is None calls = inl refl
-with_is (Some infos) calls = inr (Update infos, refl)
+  with_is : (infos : Option (List (Info C S))) (calls : List (Call C S)) →
+      IsNext calls (calls_with infos calls)
+  with_is None calls = inl refl
+  with_is (Some infos) calls = inr (Update infos, refl)
 
-serves : (given : Asked) (out out2 : List ℕ) (o o2 : Option View) (n : ℕ) → Serves given out out2 o o2 n → Goes o o2
-serves given out out2 None o2 n h = same None o2 h.0
-serves (Err why) out out2 (Some v) o2 n h = same (Some v) o2 h.0
-serves (Ok call) out out2 (Some v) None n h = h
-serves (Ok call) out out2 (Some v) (Some v2) n h = λ given calls stands. (
-  next (made_of order.cmp given).directory calls call h.0,
-  next_is calls call (was_made h.0),
-  (h.1.stepped given calls stands).left,
-)
+  serves : (given : Asked C S) (out out2 : List ℕ) (o o2 : Option (NodeView C S)) (n : ℕ) → Serves k given out out2 o o2 n → Goes k o o2
+  serves given out out2 None o2 n h = same None o2 h.0
+  serves (Err why) out out2 (Some v) o2 n h = same (Some v) o2 h.0
+  serves (Ok call) out out2 (Some v) None n h = h
+  serves (Ok call) out out2 (Some v) (Some v2) n h = λ given calls stands. (
+    next (made_of k.key.cmp given).directory calls call h.0,
+    next_is calls call (was_made h.0),
+    (h.1.stepped given calls stands).left,
+  )
 
-hears : (verdicts : List Bool) (frame : List ℕ) (now : Result ℕ Refusal) (v v2 : View) (r : Received) →
-    HearsAt verdicts frame now v v2 r → Goes (Some v) (Some v2)
-hears verdicts frame (Ok t) v v2 r h = λ given calls stands.
-    let m = made_of order.cmp given in
-    let node = standing_in m wire (world_after m.directory calls) in
-    let infos = applied_with (received_by wire (λ _. verdicts) node frame t) r in
-    (calls_with infos calls, with_is infos calls, (h.received given calls stands).left)
-hears verdicts frame (Err why) v v2 r h = absurd h
+  hears : (verdicts : List Bool) (frame : List ℕ) (now : Result ℕ Refusal) (v v2 : NodeView C S) (r : Received) →
+      HearsAt k verdicts frame now v v2 r → Goes k (Some v) (Some v2)
+  hears verdicts frame (Ok t) v v2 r h = λ given calls stands.
+      let m = made_of k.key.cmp given in
+      let node = standing_in m (wire k) (world_after m.directory calls) in
+      let infos = applied_with (received_by (wire k) (λ _. verdicts) node frame t) r in
+      (calls_with infos calls, with_is infos calls, (h.received given calls stands).left)
+  hears verdicts frame (Err why) v v2 r h = absurd h
 
-takes : (verdicts : List Bool) (frame : List ℕ) (now : Result ℕ Refusal) (out out2 : List ℕ) (v v2 : View) (n : ℕ) →
-    ReceivesAt verdicts frame now out out2 v v2 n → Goes (Some v) (Some v2)
-takes verdicts frame now out out2 v v2 n (inl h) =
-    let P : View → Type 0 = λ u. Goes (Some v) (Some u) in subst P (sym h.2) (stays (Some v))
-takes verdicts frame now out out2 v v2 n (inr h) = hears verdicts frame now v v2 h.0 h.1
+  takes : (verdicts : List Bool) (frame : List ℕ) (now : Result ℕ Refusal) (out out2 : List ℕ) (v v2 : NodeView C S) (n : ℕ) →
+      ReceivesAt k verdicts frame now out out2 v v2 n → Goes k (Some v) (Some v2)
+  takes verdicts frame now out out2 v v2 n (inl h) =
+      let P : NodeView C S → Type 0 = λ u. Goes k (Some v) (Some u) in subst P (sym h.2) (stays (Some v))
+  takes verdicts frame now out out2 v v2 n (inr h) = hears verdicts frame now v v2 h.0 h.1
 
-receives : (frame : List ℕ) (seconds nanos : ℕ) (verdicts out out2 : List ℕ) (o o2 : Option View) (n : ℕ) →
-    ReceivesOf frame seconds nanos verdicts out out2 o o2 n → Goes o o2
-receives frame seconds nanos verdicts out out2 None o2 n h = same None o2 h.0
-receives frame seconds nanos verdicts out out2 (Some v) None n h = h
-receives frame seconds nanos verdicts out out2 (Some v) (Some v2) n h = takes _ frame (moment_at seconds nanos) out out2 v v2 n h
+  receives : (frame : List ℕ) (seconds nanos : ℕ) (verdicts out out2 : List ℕ) (o o2 : Option (NodeView C S)) (n : ℕ) →
+      ReceivesOf k frame seconds nanos verdicts out out2 o o2 n → Goes k o o2
+  receives frame seconds nanos verdicts out out2 None o2 n h = same None o2 h.0
+  receives frame seconds nanos verdicts out out2 (Some v) None n h = h
+  receives frame seconds nanos verdicts out out2 (Some v) (Some v2) n h = takes _ frame (moment_at seconds nanos) out out2 v v2 n h
 
-makes : (o o2 : Option View) (given : Setup Key Signature) → o ≡ None → IsMade o2 given → Goes o o2
-makes o None given e h = absurd h
-makes o (Some v) given e h = let P : Option View → Type 0 = λ u. Goes u (Some v) in subst P (sym e) (given, h)
+  makes : (o o2 : Option (NodeView C S)) (given : Setup C S) → o ≡ None → IsMade k o2 given → Goes k o o2
+  makes o None given e h = absurd h
+  makes o (Some v) given e h = let P : Option (NodeView C S) → Type 0 = λ u. Goes k u (Some v) in subst P (sym e) (given, h)
+
+  -- by the calls before: the newest node is new, or it stands at the next calls
+  somewhere : (before : List (Option (NodeView C S))) (v : NodeView C S) → GoOn k (Some v ∷ before) → StandsSomewhere k.key.cmp v
+  somewhere [] v h = absurd cc
+  somewhere (None ∷ before) v h = record { given = h.0.0; calls = []; stands = h.0.1 }
+  somewhere (Some u ∷ before) v h =
+      let s = somewhere before u h.1 in
+      let later = h.0 s.given s.calls s.stands in
+      record { given = s.given; calls = later.0; stands = later.2 }
 
 pub returns-clause-served : goal.returns-clause-served
-returns-clause-served c = serves
+returns-clause-served g c = serves (scheme_by g.C.PartialOrd g.C.Ord g.C.PartialEq g.C.FixedBytes g.C.PublicKey g.C.Signature.PartialEq g.C.Signature.FixedBytes)
 
 pub returns-clause-received : goal.returns-clause-received
-returns-clause-received c = receives
+returns-clause-received g c = receives (scheme_by g.C.PartialOrd g.C.Ord g.C.PartialEq g.C.FixedBytes g.C.PublicKey g.C.Signature.PartialEq g.C.Signature.FixedBytes)
 
 pub returns-clause-made : goal.returns-clause-made
-returns-clause-made c = λ numbers namespace bootstrappers myself before after n h one.
-    let made = h.made one in makes before.node after.node made.1.0 made.0 made.1.2
-
--- by the calls before: the newest node is new, or it stands at the next calls
-somewhere : (before : List (Option View)) (v : View) → GoOn (Some v ∷ before) → StandsSomewhere order.cmp v
-somewhere [] v h = absurd cc
-somewhere (None ∷ before) v h = record { given = h.0.0; calls = []; stands = h.0.1 }
-somewhere (Some u ∷ before) v h =
-    let s = somewhere before u h.1 in
-    let later = h.0 s.given s.calls s.stands in
-    record { given = s.given; calls = later.0; stands = later.2 }
+returns-clause-made g c = λ numbers namespace bootstrappers myself before after n h one.
+    let made = h.made one in
+    makes (scheme_by g.C.PartialOrd g.C.Ord g.C.PartialEq g.C.FixedBytes g.C.PublicKey g.C.Signature.PartialEq g.C.Signature.FixedBytes)
+    before.node after.node made.1.0 made.0 made.1.2
 
 pub returns-clause-stands : goal.returns-clause-stands
-returns-clause-stands c = somewhere
+returns-clause-stands g c = somewhere (scheme_by g.C.PartialOrd g.C.Ord g.C.PartialEq g.C.FixedBytes g.C.PublicKey g.C.Signature.PartialEq g.C.Signature.FixedBytes)

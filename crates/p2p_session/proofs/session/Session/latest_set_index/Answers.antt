@@ -3,8 +3,9 @@ use Rattle.p2p_tracker.specs.Calls.Question.{LatestIndex}
 use Rattle.p2p_directory.specs.declared.run.commands.Reply.TheVariants as reply
 use Rattle.p2p_session.proofs.Direct.{told}
 use Rattle.p2p_session.proofs.session.Session.latest_set_index.Goals as goal
+use Rattle.p2p_session.specs.Schemes.{scheme_by}
 
 pub returns : goal.returns
-returns c =
-    rw c.in-Some.is (told (Ask LatestIndex) (reply.LatestSetIndex c.latest_set_index.result) c.in-Some.node c.args.out.now c.tell_index.new.out
+returns g c =
+    rw c.in-Some.is (told (scheme_by g.C.PartialOrd g.C.Ord g.C.PartialEq g.C.FixedBytes g.C.PublicKey g.C.Signature.PartialEq g.C.Signature.FixedBytes) (Ask LatestIndex) (reply.LatestSetIndex c.latest_set_index.result) c.in-Some.node c.args.out.now c.tell_index.new.out
     c.tell_index.result c.latest_set_index.ensures c.tell_index.ensures)

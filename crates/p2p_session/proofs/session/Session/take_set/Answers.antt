@@ -2,8 +2,9 @@ use Rattle.std.proofs.Common.{subst}
 use Rattle.p2p_session.specs.Sessions.{HasRoom}
 use Rattle.p2p_session.proofs.Rooms.{track_whole}
 use Rattle.p2p_session.proofs.session.Session.take_set.Goals as goal
+use Rattle.p2p_session.specs.Schemes.{scheme_by}
 
 pub returns-in-Ok-clause-whole : goal.returns-in-Ok-clause-whole
-returns-in-Ok-clause-whole c = λ room. track_whole c.in-Some.node.directory c.track-reply.result c.args.torn.now
+returns-in-Ok-clause-whole g c = λ room. track_whole (scheme_by g.C.PartialOrd g.C.Ord g.C.PartialEq g.C.FixedBytes g.C.PublicKey g.C.Signature.PartialEq g.C.Signature.FixedBytes) g.met.C.FixedBytes.fixed c.in-Some.node.directory c.track-reply.result c.args.torn.now
     c.tell.new.out c.tell.result c.track-reply.ensures.few c.tell.ensures
-    (subst (λ node. HasRoom node c.args.torn.now) c.in-Some.is room)
+    (subst (λ node. HasRoom (scheme_by g.C.PartialOrd g.C.Ord g.C.PartialEq g.C.FixedBytes g.C.PublicKey g.C.Signature.PartialEq g.C.Signature.FixedBytes) node c.args.torn.now) c.in-Some.is room)

@@ -1,0 +1,6 @@
+use Rattle.p2p_session.proofs.Puts.{length_keys}
+use Rattle.p2p_session.specs.Schemes.{scheme_by}
+use Rattle.p2p_session.proofs.answer.ValuesPart.size.Goals as goal
+
+pub returns-in-Keys : goal.returns-in-Keys
+returns-in-Keys g c = rw c.in-Keys.is (rw (length_keys (scheme_by g.C.PartialOrd g.C.Ord g.C.PartialEq g.C.FixedBytes g.C.PublicKey g.C.Signature.PartialEq g.C.Signature.FixedBytes) g.met.C.FixedBytes.fixed c.in-Keys.keys.now) c.size_of_keys.ensures)
