@@ -53,12 +53,20 @@ static void sign(const uint8_t *key, const uint8_t *message, uint64_t length, ui
     memset(signature, sum, SIGNATURE);
 }
 
+// The key whose bytes are all `number`, but for the first where a key begins with a given byte.
+static void fill_key(uint8_t *key, uint8_t number) {
+    memset(key, number, KEY);
+#ifdef FIRST_BYTE
+    key[0] = FIRST_BYTE;
+#endif
+}
+
 // Spells the info of the key whose bytes are all `number`, at 1.2.3.4:8000 and a timestamp below 128.
 static void spell_info(uint8_t number, uint8_t timestamp, uint8_t *info) {
     const uint8_t message[SIGNED] = {0, 4, 1, 2, 3, 4, 0x1f, 0x40, 0, 0, 0, 0, 0, 0, 0, timestamp};
     memcpy(info, message, INGRESS);
     info[INGRESS] = timestamp;
-    memset(info + INGRESS + 1, number, KEY);
+    fill_key(info + INGRESS + 1, number);
     sign(info + INGRESS + 1, message, SIGNED, info + INGRESS + 1 + KEY);
 }
 
@@ -107,8 +115,8 @@ static uint64_t track(struct p2p_session *session, uint64_t index, const uint8_t
 // Tracks the peers whose keys have bytes 1 and 2, and connects the first, which comes.
 static void track_and_connect(struct p2p_session *session) {
     uint8_t peers[2 * KEY];
-    memset(peers, 1, KEY);
-    memset(peers + KEY, 2, KEY);
+    fill_key(peers, 1);
+    fill_key(peers + KEY, 2);
     expect("track", track(session, 0, peers, sizeof peers), 0);
     expect("track of an index that is not above", track(session, 0, NULL, 0), P2P_SESSION_NONE);
     expect("track without room", p2p_session_track(session, 1, NULL, 0, NULL, 0, NULL, 0), P2P_SESSION_NO_ROOM);
@@ -117,6 +125,11 @@ static void track_and_connect(struct p2p_session *session) {
     expect("listen", p2p_session_listen(session, peers, KEY, NOW, 0, 0, 0), 1);
     expect("listen again", p2p_session_listen(session, peers, KEY, NOW, 0, 0, 0), 0);
     expect("listen without a key", p2p_session_listen(session, NULL, 0, NOW, 0, 0, 0), P2P_SESSION_BAD_KEY);
+#ifdef FIRST_BYTE
+    uint8_t other[KEY] = {0};
+    expect("listen to no key", p2p_session_listen(session, other, KEY, NOW, 0, 0, 0), P2P_SESSION_BAD_KEY);
+    expect("track of no keys", track(session, 1, other, KEY), P2P_SESSION_BAD_KEYS);
+#endif
     expect("connect", p2p_session_connect(session, peers, KEY, false), 1);
     expect("status", p2p_session_status(session, peers, KEY), 2);
 }
@@ -171,7 +184,7 @@ static void receive(struct p2p_session *session, const uint8_t *frame, size_t le
 static void greet_and_talk(struct p2p_session *session) {
     uint8_t greeting[1 + INFO] = {1}, greeted[1 + KEY] = {1};
     spell_info(1, 5, greeting + 1);
-    memset(greeted + 1, 1, KEY);
+    fill_key(greeted + 1, 1);
     receive(session, greeting, sizeof greeting, greeted, sizeof greeted);
 
     const uint8_t data[] = {0, 7, 5, 'h', 'e', 'l', 'l', 'o'};
@@ -220,7 +233,7 @@ int main(void) {
     greet_and_talk(session);
 
     uint8_t peer[KEY];
-    memset(peer, 1, KEY);
+    fill_key(peer, 1);
     expect("release", p2p_session_release(session, peer, KEY), 1);
     expect("release again", p2p_session_release(session, peer, KEY), P2P_SESSION_NOT_HELD);
     expect("status after the release", p2p_session_status(session, peer, KEY), 0);

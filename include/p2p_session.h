@@ -79,7 +79,7 @@ struct p2p_session;
 
 // Returns 1. An archive with other calls, refusals or sizes has no call of this name, so it doesn't
 // link.
-uint64_t p2p_session_interface_94783bdc9468ec13(void);
+uint64_t p2p_session_interface_c6aa43a92dc083a3(void);
 
 // How many bytes of memory a session has to have. They begin at a multiple of 16.
 size_t p2p_session_size(void);
@@ -629,11 +629,1340 @@ static inline uint64_t p2p_session_is_valid_nullable(const uint8_t *address,
 // It refers to the name that has the hash, so a host links with no archive of another interface.
 static inline void p2p_session_new_guarded(struct p2p_session *at)
 {
-    (void)p2p_session_interface_94783bdc9468ec13();
+    (void)p2p_session_interface_c6aa43a92dc083a3();
     p2p_session_new(at);
 }
 #define p2p_session_new p2p_session_new_guarded
 
+
+// ---- Keys of 33 bytes with signatures of 64: secp256k1 and secp256r1, compressed.
+//
+// Each call does what the one above does whose name has no sizes in it.
+#define P2P_SESSION_33_64_KEY_SIZE 33
+#define P2P_SESSION_33_64_SIGNATURE_SIZE 64
+#define P2P_SESSION_33_64_RECEIVE_ROOM (1 + P2P_SESSION_33_64_KEY_SIZE)
+
+struct p2p_session_33_64;
+
+size_t p2p_session_33_64_size(void);
+void p2p_session_33_64_new(struct p2p_session_33_64 *at);
+uint64_t p2p_session_33_64_init(
+    struct p2p_session_33_64 *at,
+    bool allow_private_ips,
+    bool allow_dns,
+    uint64_t max_sets,
+    uint64_t dial_fail_limit,
+    uint64_t cooldown_seconds,
+    uint32_t cooldown_nanos,
+    uint64_t block_seconds,
+    uint32_t block_nanos,
+    uint64_t max_bit_vec,
+    uint64_t max_peers,
+    uint64_t max_data_length,
+    uint64_t peer_gossip_max_count,
+    uint64_t bound_seconds,
+    uint32_t bound_nanos,
+    const uint8_t *signing_namespace,
+    size_t signing_namespace_length,
+    const uint8_t *bootstrappers,
+    size_t bootstrappers_length,
+    const uint8_t *myself,
+    size_t myself_length);
+uint64_t p2p_session_33_64_track(
+    struct p2p_session_33_64 *at,
+    uint64_t index,
+    const uint8_t *primary,
+    size_t primary_length,
+    const uint8_t *secondary,
+    size_t secondary_length,
+    uint8_t *torn,
+    size_t torn_length);
+uint64_t p2p_session_33_64_track_room(struct p2p_session_33_64 *at);
+uint64_t p2p_session_33_64_dial(
+    struct p2p_session_33_64 *at,
+    const uint8_t *peer,
+    size_t peer_length,
+    uint64_t seconds,
+    uint32_t nanos,
+    uint64_t draw_seconds,
+    uint32_t draw_nanos);
+uint64_t p2p_session_33_64_listen(
+    struct p2p_session_33_64 *at,
+    const uint8_t *peer,
+    size_t peer_length,
+    uint64_t seconds,
+    uint32_t nanos,
+    uint64_t draw_seconds,
+    uint32_t draw_nanos);
+uint64_t p2p_session_33_64_reservation(
+    struct p2p_session_33_64 *at,
+    const uint8_t *peer,
+    size_t peer_length,
+    uint8_t *out,
+    size_t out_length);
+uint64_t p2p_session_33_64_connect(
+    struct p2p_session_33_64 *at,
+    const uint8_t *peer,
+    size_t peer_length,
+    bool dialer);
+uint64_t p2p_session_33_64_release(
+    struct p2p_session_33_64 *at,
+    const uint8_t *peer,
+    size_t peer_length);
+uint64_t p2p_session_33_64_update_peers(
+    struct p2p_session_33_64 *at,
+    const uint8_t *infos,
+    size_t infos_length);
+uint64_t p2p_session_33_64_block(
+    struct p2p_session_33_64 *at,
+    const uint8_t *peer,
+    size_t peer_length,
+    uint64_t seconds,
+    uint32_t nanos);
+uint64_t p2p_session_33_64_unblock_expired(
+    struct p2p_session_33_64 *at,
+    uint64_t seconds,
+    uint32_t nanos);
+uint64_t p2p_session_33_64_forget_cooled(
+    struct p2p_session_33_64 *at,
+    uint64_t seconds,
+    uint32_t nanos);
+uint64_t p2p_session_33_64_next_unblock(
+    struct p2p_session_33_64 *at,
+    uint8_t *out,
+    size_t out_length);
+uint64_t p2p_session_33_64_blocked_peers(
+    struct p2p_session_33_64 *at,
+    uint64_t seconds,
+    uint32_t nanos,
+    uint8_t *out,
+    size_t out_length);
+uint64_t p2p_session_33_64_status(
+    struct p2p_session_33_64 *at,
+    const uint8_t *peer,
+    size_t peer_length);
+uint64_t p2p_session_33_64_get_peer_set(
+    struct p2p_session_33_64 *at,
+    uint64_t index,
+    uint8_t *out,
+    size_t out_length);
+uint64_t p2p_session_33_64_latest_set_index(
+    struct p2p_session_33_64 *at,
+    uint8_t *out,
+    size_t out_length);
+uint64_t p2p_session_33_64_latest_update(
+    struct p2p_session_33_64 *at,
+    uint8_t *out,
+    size_t out_length);
+uint64_t p2p_session_33_64_all(
+    struct p2p_session_33_64 *at,
+    uint8_t *out,
+    size_t out_length);
+uint64_t p2p_session_33_64_info(
+    struct p2p_session_33_64 *at,
+    const uint8_t *peer,
+    size_t peer_length,
+    uint8_t *out,
+    size_t out_length);
+uint64_t p2p_session_33_64_infos(
+    struct p2p_session_33_64 *at,
+    const uint8_t *bits,
+    size_t bits_length,
+    uint64_t seconds,
+    uint32_t nanos,
+    uint8_t *out,
+    size_t out_length);
+uint64_t p2p_session_33_64_get_random_bit_vec(
+    struct p2p_session_33_64 *at,
+    uint64_t place,
+    uint8_t *out,
+    size_t out_length);
+uint64_t p2p_session_33_64_eligible(
+    struct p2p_session_33_64 *at,
+    const uint8_t *peer,
+    size_t peer_length,
+    uint64_t seconds,
+    uint32_t nanos);
+uint64_t p2p_session_33_64_acceptable(
+    struct p2p_session_33_64 *at,
+    const uint8_t *peer,
+    size_t peer_length,
+    uint64_t seconds,
+    uint32_t nanos);
+uint64_t p2p_session_33_64_dialable(
+    struct p2p_session_33_64 *at,
+    uint64_t seconds,
+    uint32_t nanos,
+    uint8_t *out,
+    size_t out_length);
+uint64_t p2p_session_33_64_retained(struct p2p_session_33_64 *at);
+uint64_t p2p_session_33_64_next_cooled(
+    struct p2p_session_33_64 *at,
+    uint8_t *out,
+    size_t out_length);
+uint64_t p2p_session_33_64_tracked(struct p2p_session_33_64 *at);
+uint64_t p2p_session_33_64_ask(
+    struct p2p_session_33_64 *at,
+    uint64_t place,
+    uint8_t *out,
+    size_t out_length);
+uint64_t p2p_session_33_64_check(
+    struct p2p_session_33_64 *at,
+    const uint8_t *frame,
+    size_t frame_length,
+    uint64_t seconds,
+    uint32_t nanos,
+    uint8_t *out,
+    size_t out_length);
+uint64_t p2p_session_33_64_receive(
+    struct p2p_session_33_64 *at,
+    const uint8_t *frame,
+    size_t frame_length,
+    uint64_t seconds,
+    uint32_t nanos,
+    const uint8_t *verdicts,
+    size_t verdicts_length,
+    uint8_t *out,
+    size_t out_length);
+void p2p_session_33_64_free(struct p2p_session_33_64 *at);
+static inline uint64_t p2p_session_33_64_init_nullable(struct p2p_session_33_64 *at,
+        bool allow_private_ips, bool allow_dns, uint64_t max_sets, uint64_t dial_fail_limit,
+        uint64_t cooldown_seconds, uint32_t cooldown_nanos, uint64_t block_seconds,
+        uint32_t block_nanos, uint64_t max_bit_vec, uint64_t max_peers, uint64_t max_data_length,
+        uint64_t peer_gossip_max_count, uint64_t bound_seconds, uint32_t bound_nanos,
+        const uint8_t *signing_namespace, size_t signing_namespace_length,
+        const uint8_t *bootstrappers, size_t bootstrappers_length, const uint8_t *myself,
+        size_t myself_length)
+{
+    uint8_t none = 0;
+    return p2p_session_33_64_init(at, allow_private_ips, allow_dns, max_sets, dial_fail_limit,
+        cooldown_seconds, cooldown_nanos, block_seconds, block_nanos, max_bit_vec, max_peers,
+        max_data_length, peer_gossip_max_count, bound_seconds, bound_nanos,
+        signing_namespace_length == 0 ? &none : signing_namespace, signing_namespace_length,
+        bootstrappers_length == 0 ? &none : bootstrappers, bootstrappers_length,
+        myself_length == 0 ? &none : myself, myself_length);
+}
+#define p2p_session_33_64_init p2p_session_33_64_init_nullable
+
+static inline uint64_t p2p_session_33_64_track_nullable(struct p2p_session_33_64 *at,
+        uint64_t index, const uint8_t *primary, size_t primary_length, const uint8_t *secondary,
+        size_t secondary_length, uint8_t *torn, size_t torn_length)
+{
+    uint8_t none = 0;
+    return p2p_session_33_64_track(at, index, primary_length == 0 ? &none : primary,
+        primary_length, secondary_length == 0 ? &none : secondary, secondary_length,
+        torn_length == 0 ? &none : torn, torn_length);
+}
+#define p2p_session_33_64_track p2p_session_33_64_track_nullable
+
+static inline uint64_t p2p_session_33_64_dial_nullable(struct p2p_session_33_64 *at,
+        const uint8_t *peer, size_t peer_length, uint64_t seconds, uint32_t nanos,
+        uint64_t draw_seconds, uint32_t draw_nanos)
+{
+    uint8_t none = 0;
+    return p2p_session_33_64_dial(at, peer_length == 0 ? &none : peer, peer_length, seconds,
+        nanos, draw_seconds, draw_nanos);
+}
+#define p2p_session_33_64_dial p2p_session_33_64_dial_nullable
+
+static inline uint64_t p2p_session_33_64_listen_nullable(struct p2p_session_33_64 *at,
+        const uint8_t *peer, size_t peer_length, uint64_t seconds, uint32_t nanos,
+        uint64_t draw_seconds, uint32_t draw_nanos)
+{
+    uint8_t none = 0;
+    return p2p_session_33_64_listen(at, peer_length == 0 ? &none : peer, peer_length, seconds,
+        nanos, draw_seconds, draw_nanos);
+}
+#define p2p_session_33_64_listen p2p_session_33_64_listen_nullable
+
+static inline uint64_t p2p_session_33_64_reservation_nullable(struct p2p_session_33_64 *at,
+        const uint8_t *peer, size_t peer_length, uint8_t *out, size_t out_length)
+{
+    uint8_t none = 0;
+    return p2p_session_33_64_reservation(at, peer_length == 0 ? &none : peer, peer_length,
+        out_length == 0 ? &none : out, out_length);
+}
+#define p2p_session_33_64_reservation p2p_session_33_64_reservation_nullable
+
+static inline uint64_t p2p_session_33_64_connect_nullable(struct p2p_session_33_64 *at,
+        const uint8_t *peer, size_t peer_length, bool dialer)
+{
+    uint8_t none = 0;
+    return p2p_session_33_64_connect(at, peer_length == 0 ? &none : peer, peer_length, dialer);
+}
+#define p2p_session_33_64_connect p2p_session_33_64_connect_nullable
+
+static inline uint64_t p2p_session_33_64_release_nullable(struct p2p_session_33_64 *at,
+        const uint8_t *peer, size_t peer_length)
+{
+    uint8_t none = 0;
+    return p2p_session_33_64_release(at, peer_length == 0 ? &none : peer, peer_length);
+}
+#define p2p_session_33_64_release p2p_session_33_64_release_nullable
+
+static inline uint64_t p2p_session_33_64_update_peers_nullable(struct p2p_session_33_64 *at,
+        const uint8_t *infos, size_t infos_length)
+{
+    uint8_t none = 0;
+    return p2p_session_33_64_update_peers(at, infos_length == 0 ? &none : infos, infos_length);
+}
+#define p2p_session_33_64_update_peers p2p_session_33_64_update_peers_nullable
+
+static inline uint64_t p2p_session_33_64_block_nullable(struct p2p_session_33_64 *at,
+        const uint8_t *peer, size_t peer_length, uint64_t seconds, uint32_t nanos)
+{
+    uint8_t none = 0;
+    return p2p_session_33_64_block(at, peer_length == 0 ? &none : peer, peer_length, seconds,
+        nanos);
+}
+#define p2p_session_33_64_block p2p_session_33_64_block_nullable
+
+static inline uint64_t p2p_session_33_64_next_unblock_nullable(struct p2p_session_33_64 *at,
+        uint8_t *out, size_t out_length)
+{
+    uint8_t none = 0;
+    return p2p_session_33_64_next_unblock(at, out_length == 0 ? &none : out, out_length);
+}
+#define p2p_session_33_64_next_unblock p2p_session_33_64_next_unblock_nullable
+
+static inline uint64_t
+        p2p_session_33_64_blocked_peers_nullable(struct p2p_session_33_64 *at, uint64_t seconds,
+        uint32_t nanos, uint8_t *out, size_t out_length)
+{
+    uint8_t none = 0;
+    return p2p_session_33_64_blocked_peers(at, seconds, nanos, out_length == 0 ? &none : out,
+        out_length);
+}
+#define p2p_session_33_64_blocked_peers p2p_session_33_64_blocked_peers_nullable
+
+static inline uint64_t p2p_session_33_64_status_nullable(struct p2p_session_33_64 *at,
+        const uint8_t *peer, size_t peer_length)
+{
+    uint8_t none = 0;
+    return p2p_session_33_64_status(at, peer_length == 0 ? &none : peer, peer_length);
+}
+#define p2p_session_33_64_status p2p_session_33_64_status_nullable
+
+static inline uint64_t p2p_session_33_64_get_peer_set_nullable(struct p2p_session_33_64 *at,
+        uint64_t index, uint8_t *out, size_t out_length)
+{
+    uint8_t none = 0;
+    return p2p_session_33_64_get_peer_set(at, index, out_length == 0 ? &none : out, out_length);
+}
+#define p2p_session_33_64_get_peer_set p2p_session_33_64_get_peer_set_nullable
+
+static inline uint64_t
+        p2p_session_33_64_latest_set_index_nullable(struct p2p_session_33_64 *at, uint8_t *out,
+        size_t out_length)
+{
+    uint8_t none = 0;
+    return p2p_session_33_64_latest_set_index(at, out_length == 0 ? &none : out, out_length);
+}
+#define p2p_session_33_64_latest_set_index p2p_session_33_64_latest_set_index_nullable
+
+static inline uint64_t
+        p2p_session_33_64_latest_update_nullable(struct p2p_session_33_64 *at, uint8_t *out,
+        size_t out_length)
+{
+    uint8_t none = 0;
+    return p2p_session_33_64_latest_update(at, out_length == 0 ? &none : out, out_length);
+}
+#define p2p_session_33_64_latest_update p2p_session_33_64_latest_update_nullable
+
+static inline uint64_t p2p_session_33_64_all_nullable(struct p2p_session_33_64 *at,
+        uint8_t *out, size_t out_length)
+{
+    uint8_t none = 0;
+    return p2p_session_33_64_all(at, out_length == 0 ? &none : out, out_length);
+}
+#define p2p_session_33_64_all p2p_session_33_64_all_nullable
+
+static inline uint64_t p2p_session_33_64_info_nullable(struct p2p_session_33_64 *at,
+        const uint8_t *peer, size_t peer_length, uint8_t *out, size_t out_length)
+{
+    uint8_t none = 0;
+    return p2p_session_33_64_info(at, peer_length == 0 ? &none : peer, peer_length,
+        out_length == 0 ? &none : out, out_length);
+}
+#define p2p_session_33_64_info p2p_session_33_64_info_nullable
+
+static inline uint64_t p2p_session_33_64_infos_nullable(struct p2p_session_33_64 *at,
+        const uint8_t *bits, size_t bits_length, uint64_t seconds, uint32_t nanos, uint8_t *out,
+        size_t out_length)
+{
+    uint8_t none = 0;
+    return p2p_session_33_64_infos(at, bits_length == 0 ? &none : bits, bits_length, seconds,
+        nanos, out_length == 0 ? &none : out, out_length);
+}
+#define p2p_session_33_64_infos p2p_session_33_64_infos_nullable
+
+static inline uint64_t
+        p2p_session_33_64_get_random_bit_vec_nullable(struct p2p_session_33_64 *at, uint64_t place,
+        uint8_t *out, size_t out_length)
+{
+    uint8_t none = 0;
+    return p2p_session_33_64_get_random_bit_vec(at, place, out_length == 0 ? &none : out,
+        out_length);
+}
+#define p2p_session_33_64_get_random_bit_vec p2p_session_33_64_get_random_bit_vec_nullable
+
+static inline uint64_t p2p_session_33_64_eligible_nullable(struct p2p_session_33_64 *at,
+        const uint8_t *peer, size_t peer_length, uint64_t seconds, uint32_t nanos)
+{
+    uint8_t none = 0;
+    return p2p_session_33_64_eligible(at, peer_length == 0 ? &none : peer, peer_length, seconds,
+        nanos);
+}
+#define p2p_session_33_64_eligible p2p_session_33_64_eligible_nullable
+
+static inline uint64_t p2p_session_33_64_acceptable_nullable(struct p2p_session_33_64 *at,
+        const uint8_t *peer, size_t peer_length, uint64_t seconds, uint32_t nanos)
+{
+    uint8_t none = 0;
+    return p2p_session_33_64_acceptable(at, peer_length == 0 ? &none : peer, peer_length,
+        seconds, nanos);
+}
+#define p2p_session_33_64_acceptable p2p_session_33_64_acceptable_nullable
+
+static inline uint64_t p2p_session_33_64_dialable_nullable(struct p2p_session_33_64 *at,
+        uint64_t seconds, uint32_t nanos, uint8_t *out, size_t out_length)
+{
+    uint8_t none = 0;
+    return p2p_session_33_64_dialable(at, seconds, nanos, out_length == 0 ? &none : out,
+        out_length);
+}
+#define p2p_session_33_64_dialable p2p_session_33_64_dialable_nullable
+
+static inline uint64_t p2p_session_33_64_next_cooled_nullable(struct p2p_session_33_64 *at,
+        uint8_t *out, size_t out_length)
+{
+    uint8_t none = 0;
+    return p2p_session_33_64_next_cooled(at, out_length == 0 ? &none : out, out_length);
+}
+#define p2p_session_33_64_next_cooled p2p_session_33_64_next_cooled_nullable
+
+static inline uint64_t p2p_session_33_64_ask_nullable(struct p2p_session_33_64 *at,
+        uint64_t place, uint8_t *out, size_t out_length)
+{
+    uint8_t none = 0;
+    return p2p_session_33_64_ask(at, place, out_length == 0 ? &none : out, out_length);
+}
+#define p2p_session_33_64_ask p2p_session_33_64_ask_nullable
+
+static inline uint64_t p2p_session_33_64_check_nullable(struct p2p_session_33_64 *at,
+        const uint8_t *frame, size_t frame_length, uint64_t seconds, uint32_t nanos, uint8_t *out,
+        size_t out_length)
+{
+    uint8_t none = 0;
+    return p2p_session_33_64_check(at, frame_length == 0 ? &none : frame, frame_length, seconds,
+        nanos, out_length == 0 ? &none : out, out_length);
+}
+#define p2p_session_33_64_check p2p_session_33_64_check_nullable
+
+static inline uint64_t p2p_session_33_64_receive_nullable(struct p2p_session_33_64 *at,
+        const uint8_t *frame, size_t frame_length, uint64_t seconds, uint32_t nanos,
+        const uint8_t *verdicts, size_t verdicts_length, uint8_t *out, size_t out_length)
+{
+    uint8_t none = 0;
+    return p2p_session_33_64_receive(at, frame_length == 0 ? &none : frame, frame_length,
+        seconds, nanos, verdicts_length == 0 ? &none : verdicts, verdicts_length,
+        out_length == 0 ? &none : out, out_length);
+}
+#define p2p_session_33_64_receive p2p_session_33_64_receive_nullable
+
+// It refers to the name that has the hash, so a host links with no archive of another interface.
+static inline void p2p_session_33_64_new_guarded(struct p2p_session_33_64 *at)
+{
+    (void)p2p_session_interface_c6aa43a92dc083a3();
+    p2p_session_33_64_new(at);
+}
+#define p2p_session_33_64_new p2p_session_33_64_new_guarded
+
+// ---- Keys of 48 bytes with signatures of 96: BLS12-381, keys in G1.
+//
+// Each call does what the one above does whose name has no sizes in it.
+#define P2P_SESSION_48_96_KEY_SIZE 48
+#define P2P_SESSION_48_96_SIGNATURE_SIZE 96
+#define P2P_SESSION_48_96_RECEIVE_ROOM (1 + P2P_SESSION_48_96_KEY_SIZE)
+
+struct p2p_session_48_96;
+
+size_t p2p_session_48_96_size(void);
+void p2p_session_48_96_new(struct p2p_session_48_96 *at);
+uint64_t p2p_session_48_96_init(
+    struct p2p_session_48_96 *at,
+    bool allow_private_ips,
+    bool allow_dns,
+    uint64_t max_sets,
+    uint64_t dial_fail_limit,
+    uint64_t cooldown_seconds,
+    uint32_t cooldown_nanos,
+    uint64_t block_seconds,
+    uint32_t block_nanos,
+    uint64_t max_bit_vec,
+    uint64_t max_peers,
+    uint64_t max_data_length,
+    uint64_t peer_gossip_max_count,
+    uint64_t bound_seconds,
+    uint32_t bound_nanos,
+    const uint8_t *signing_namespace,
+    size_t signing_namespace_length,
+    const uint8_t *bootstrappers,
+    size_t bootstrappers_length,
+    const uint8_t *myself,
+    size_t myself_length);
+uint64_t p2p_session_48_96_track(
+    struct p2p_session_48_96 *at,
+    uint64_t index,
+    const uint8_t *primary,
+    size_t primary_length,
+    const uint8_t *secondary,
+    size_t secondary_length,
+    uint8_t *torn,
+    size_t torn_length);
+uint64_t p2p_session_48_96_track_room(struct p2p_session_48_96 *at);
+uint64_t p2p_session_48_96_dial(
+    struct p2p_session_48_96 *at,
+    const uint8_t *peer,
+    size_t peer_length,
+    uint64_t seconds,
+    uint32_t nanos,
+    uint64_t draw_seconds,
+    uint32_t draw_nanos);
+uint64_t p2p_session_48_96_listen(
+    struct p2p_session_48_96 *at,
+    const uint8_t *peer,
+    size_t peer_length,
+    uint64_t seconds,
+    uint32_t nanos,
+    uint64_t draw_seconds,
+    uint32_t draw_nanos);
+uint64_t p2p_session_48_96_reservation(
+    struct p2p_session_48_96 *at,
+    const uint8_t *peer,
+    size_t peer_length,
+    uint8_t *out,
+    size_t out_length);
+uint64_t p2p_session_48_96_connect(
+    struct p2p_session_48_96 *at,
+    const uint8_t *peer,
+    size_t peer_length,
+    bool dialer);
+uint64_t p2p_session_48_96_release(
+    struct p2p_session_48_96 *at,
+    const uint8_t *peer,
+    size_t peer_length);
+uint64_t p2p_session_48_96_update_peers(
+    struct p2p_session_48_96 *at,
+    const uint8_t *infos,
+    size_t infos_length);
+uint64_t p2p_session_48_96_block(
+    struct p2p_session_48_96 *at,
+    const uint8_t *peer,
+    size_t peer_length,
+    uint64_t seconds,
+    uint32_t nanos);
+uint64_t p2p_session_48_96_unblock_expired(
+    struct p2p_session_48_96 *at,
+    uint64_t seconds,
+    uint32_t nanos);
+uint64_t p2p_session_48_96_forget_cooled(
+    struct p2p_session_48_96 *at,
+    uint64_t seconds,
+    uint32_t nanos);
+uint64_t p2p_session_48_96_next_unblock(
+    struct p2p_session_48_96 *at,
+    uint8_t *out,
+    size_t out_length);
+uint64_t p2p_session_48_96_blocked_peers(
+    struct p2p_session_48_96 *at,
+    uint64_t seconds,
+    uint32_t nanos,
+    uint8_t *out,
+    size_t out_length);
+uint64_t p2p_session_48_96_status(
+    struct p2p_session_48_96 *at,
+    const uint8_t *peer,
+    size_t peer_length);
+uint64_t p2p_session_48_96_get_peer_set(
+    struct p2p_session_48_96 *at,
+    uint64_t index,
+    uint8_t *out,
+    size_t out_length);
+uint64_t p2p_session_48_96_latest_set_index(
+    struct p2p_session_48_96 *at,
+    uint8_t *out,
+    size_t out_length);
+uint64_t p2p_session_48_96_latest_update(
+    struct p2p_session_48_96 *at,
+    uint8_t *out,
+    size_t out_length);
+uint64_t p2p_session_48_96_all(
+    struct p2p_session_48_96 *at,
+    uint8_t *out,
+    size_t out_length);
+uint64_t p2p_session_48_96_info(
+    struct p2p_session_48_96 *at,
+    const uint8_t *peer,
+    size_t peer_length,
+    uint8_t *out,
+    size_t out_length);
+uint64_t p2p_session_48_96_infos(
+    struct p2p_session_48_96 *at,
+    const uint8_t *bits,
+    size_t bits_length,
+    uint64_t seconds,
+    uint32_t nanos,
+    uint8_t *out,
+    size_t out_length);
+uint64_t p2p_session_48_96_get_random_bit_vec(
+    struct p2p_session_48_96 *at,
+    uint64_t place,
+    uint8_t *out,
+    size_t out_length);
+uint64_t p2p_session_48_96_eligible(
+    struct p2p_session_48_96 *at,
+    const uint8_t *peer,
+    size_t peer_length,
+    uint64_t seconds,
+    uint32_t nanos);
+uint64_t p2p_session_48_96_acceptable(
+    struct p2p_session_48_96 *at,
+    const uint8_t *peer,
+    size_t peer_length,
+    uint64_t seconds,
+    uint32_t nanos);
+uint64_t p2p_session_48_96_dialable(
+    struct p2p_session_48_96 *at,
+    uint64_t seconds,
+    uint32_t nanos,
+    uint8_t *out,
+    size_t out_length);
+uint64_t p2p_session_48_96_retained(struct p2p_session_48_96 *at);
+uint64_t p2p_session_48_96_next_cooled(
+    struct p2p_session_48_96 *at,
+    uint8_t *out,
+    size_t out_length);
+uint64_t p2p_session_48_96_tracked(struct p2p_session_48_96 *at);
+uint64_t p2p_session_48_96_ask(
+    struct p2p_session_48_96 *at,
+    uint64_t place,
+    uint8_t *out,
+    size_t out_length);
+uint64_t p2p_session_48_96_check(
+    struct p2p_session_48_96 *at,
+    const uint8_t *frame,
+    size_t frame_length,
+    uint64_t seconds,
+    uint32_t nanos,
+    uint8_t *out,
+    size_t out_length);
+uint64_t p2p_session_48_96_receive(
+    struct p2p_session_48_96 *at,
+    const uint8_t *frame,
+    size_t frame_length,
+    uint64_t seconds,
+    uint32_t nanos,
+    const uint8_t *verdicts,
+    size_t verdicts_length,
+    uint8_t *out,
+    size_t out_length);
+void p2p_session_48_96_free(struct p2p_session_48_96 *at);
+static inline uint64_t p2p_session_48_96_init_nullable(struct p2p_session_48_96 *at,
+        bool allow_private_ips, bool allow_dns, uint64_t max_sets, uint64_t dial_fail_limit,
+        uint64_t cooldown_seconds, uint32_t cooldown_nanos, uint64_t block_seconds,
+        uint32_t block_nanos, uint64_t max_bit_vec, uint64_t max_peers, uint64_t max_data_length,
+        uint64_t peer_gossip_max_count, uint64_t bound_seconds, uint32_t bound_nanos,
+        const uint8_t *signing_namespace, size_t signing_namespace_length,
+        const uint8_t *bootstrappers, size_t bootstrappers_length, const uint8_t *myself,
+        size_t myself_length)
+{
+    uint8_t none = 0;
+    return p2p_session_48_96_init(at, allow_private_ips, allow_dns, max_sets, dial_fail_limit,
+        cooldown_seconds, cooldown_nanos, block_seconds, block_nanos, max_bit_vec, max_peers,
+        max_data_length, peer_gossip_max_count, bound_seconds, bound_nanos,
+        signing_namespace_length == 0 ? &none : signing_namespace, signing_namespace_length,
+        bootstrappers_length == 0 ? &none : bootstrappers, bootstrappers_length,
+        myself_length == 0 ? &none : myself, myself_length);
+}
+#define p2p_session_48_96_init p2p_session_48_96_init_nullable
+
+static inline uint64_t p2p_session_48_96_track_nullable(struct p2p_session_48_96 *at,
+        uint64_t index, const uint8_t *primary, size_t primary_length, const uint8_t *secondary,
+        size_t secondary_length, uint8_t *torn, size_t torn_length)
+{
+    uint8_t none = 0;
+    return p2p_session_48_96_track(at, index, primary_length == 0 ? &none : primary,
+        primary_length, secondary_length == 0 ? &none : secondary, secondary_length,
+        torn_length == 0 ? &none : torn, torn_length);
+}
+#define p2p_session_48_96_track p2p_session_48_96_track_nullable
+
+static inline uint64_t p2p_session_48_96_dial_nullable(struct p2p_session_48_96 *at,
+        const uint8_t *peer, size_t peer_length, uint64_t seconds, uint32_t nanos,
+        uint64_t draw_seconds, uint32_t draw_nanos)
+{
+    uint8_t none = 0;
+    return p2p_session_48_96_dial(at, peer_length == 0 ? &none : peer, peer_length, seconds,
+        nanos, draw_seconds, draw_nanos);
+}
+#define p2p_session_48_96_dial p2p_session_48_96_dial_nullable
+
+static inline uint64_t p2p_session_48_96_listen_nullable(struct p2p_session_48_96 *at,
+        const uint8_t *peer, size_t peer_length, uint64_t seconds, uint32_t nanos,
+        uint64_t draw_seconds, uint32_t draw_nanos)
+{
+    uint8_t none = 0;
+    return p2p_session_48_96_listen(at, peer_length == 0 ? &none : peer, peer_length, seconds,
+        nanos, draw_seconds, draw_nanos);
+}
+#define p2p_session_48_96_listen p2p_session_48_96_listen_nullable
+
+static inline uint64_t p2p_session_48_96_reservation_nullable(struct p2p_session_48_96 *at,
+        const uint8_t *peer, size_t peer_length, uint8_t *out, size_t out_length)
+{
+    uint8_t none = 0;
+    return p2p_session_48_96_reservation(at, peer_length == 0 ? &none : peer, peer_length,
+        out_length == 0 ? &none : out, out_length);
+}
+#define p2p_session_48_96_reservation p2p_session_48_96_reservation_nullable
+
+static inline uint64_t p2p_session_48_96_connect_nullable(struct p2p_session_48_96 *at,
+        const uint8_t *peer, size_t peer_length, bool dialer)
+{
+    uint8_t none = 0;
+    return p2p_session_48_96_connect(at, peer_length == 0 ? &none : peer, peer_length, dialer);
+}
+#define p2p_session_48_96_connect p2p_session_48_96_connect_nullable
+
+static inline uint64_t p2p_session_48_96_release_nullable(struct p2p_session_48_96 *at,
+        const uint8_t *peer, size_t peer_length)
+{
+    uint8_t none = 0;
+    return p2p_session_48_96_release(at, peer_length == 0 ? &none : peer, peer_length);
+}
+#define p2p_session_48_96_release p2p_session_48_96_release_nullable
+
+static inline uint64_t p2p_session_48_96_update_peers_nullable(struct p2p_session_48_96 *at,
+        const uint8_t *infos, size_t infos_length)
+{
+    uint8_t none = 0;
+    return p2p_session_48_96_update_peers(at, infos_length == 0 ? &none : infos, infos_length);
+}
+#define p2p_session_48_96_update_peers p2p_session_48_96_update_peers_nullable
+
+static inline uint64_t p2p_session_48_96_block_nullable(struct p2p_session_48_96 *at,
+        const uint8_t *peer, size_t peer_length, uint64_t seconds, uint32_t nanos)
+{
+    uint8_t none = 0;
+    return p2p_session_48_96_block(at, peer_length == 0 ? &none : peer, peer_length, seconds,
+        nanos);
+}
+#define p2p_session_48_96_block p2p_session_48_96_block_nullable
+
+static inline uint64_t p2p_session_48_96_next_unblock_nullable(struct p2p_session_48_96 *at,
+        uint8_t *out, size_t out_length)
+{
+    uint8_t none = 0;
+    return p2p_session_48_96_next_unblock(at, out_length == 0 ? &none : out, out_length);
+}
+#define p2p_session_48_96_next_unblock p2p_session_48_96_next_unblock_nullable
+
+static inline uint64_t
+        p2p_session_48_96_blocked_peers_nullable(struct p2p_session_48_96 *at, uint64_t seconds,
+        uint32_t nanos, uint8_t *out, size_t out_length)
+{
+    uint8_t none = 0;
+    return p2p_session_48_96_blocked_peers(at, seconds, nanos, out_length == 0 ? &none : out,
+        out_length);
+}
+#define p2p_session_48_96_blocked_peers p2p_session_48_96_blocked_peers_nullable
+
+static inline uint64_t p2p_session_48_96_status_nullable(struct p2p_session_48_96 *at,
+        const uint8_t *peer, size_t peer_length)
+{
+    uint8_t none = 0;
+    return p2p_session_48_96_status(at, peer_length == 0 ? &none : peer, peer_length);
+}
+#define p2p_session_48_96_status p2p_session_48_96_status_nullable
+
+static inline uint64_t p2p_session_48_96_get_peer_set_nullable(struct p2p_session_48_96 *at,
+        uint64_t index, uint8_t *out, size_t out_length)
+{
+    uint8_t none = 0;
+    return p2p_session_48_96_get_peer_set(at, index, out_length == 0 ? &none : out, out_length);
+}
+#define p2p_session_48_96_get_peer_set p2p_session_48_96_get_peer_set_nullable
+
+static inline uint64_t
+        p2p_session_48_96_latest_set_index_nullable(struct p2p_session_48_96 *at, uint8_t *out,
+        size_t out_length)
+{
+    uint8_t none = 0;
+    return p2p_session_48_96_latest_set_index(at, out_length == 0 ? &none : out, out_length);
+}
+#define p2p_session_48_96_latest_set_index p2p_session_48_96_latest_set_index_nullable
+
+static inline uint64_t
+        p2p_session_48_96_latest_update_nullable(struct p2p_session_48_96 *at, uint8_t *out,
+        size_t out_length)
+{
+    uint8_t none = 0;
+    return p2p_session_48_96_latest_update(at, out_length == 0 ? &none : out, out_length);
+}
+#define p2p_session_48_96_latest_update p2p_session_48_96_latest_update_nullable
+
+static inline uint64_t p2p_session_48_96_all_nullable(struct p2p_session_48_96 *at,
+        uint8_t *out, size_t out_length)
+{
+    uint8_t none = 0;
+    return p2p_session_48_96_all(at, out_length == 0 ? &none : out, out_length);
+}
+#define p2p_session_48_96_all p2p_session_48_96_all_nullable
+
+static inline uint64_t p2p_session_48_96_info_nullable(struct p2p_session_48_96 *at,
+        const uint8_t *peer, size_t peer_length, uint8_t *out, size_t out_length)
+{
+    uint8_t none = 0;
+    return p2p_session_48_96_info(at, peer_length == 0 ? &none : peer, peer_length,
+        out_length == 0 ? &none : out, out_length);
+}
+#define p2p_session_48_96_info p2p_session_48_96_info_nullable
+
+static inline uint64_t p2p_session_48_96_infos_nullable(struct p2p_session_48_96 *at,
+        const uint8_t *bits, size_t bits_length, uint64_t seconds, uint32_t nanos, uint8_t *out,
+        size_t out_length)
+{
+    uint8_t none = 0;
+    return p2p_session_48_96_infos(at, bits_length == 0 ? &none : bits, bits_length, seconds,
+        nanos, out_length == 0 ? &none : out, out_length);
+}
+#define p2p_session_48_96_infos p2p_session_48_96_infos_nullable
+
+static inline uint64_t
+        p2p_session_48_96_get_random_bit_vec_nullable(struct p2p_session_48_96 *at, uint64_t place,
+        uint8_t *out, size_t out_length)
+{
+    uint8_t none = 0;
+    return p2p_session_48_96_get_random_bit_vec(at, place, out_length == 0 ? &none : out,
+        out_length);
+}
+#define p2p_session_48_96_get_random_bit_vec p2p_session_48_96_get_random_bit_vec_nullable
+
+static inline uint64_t p2p_session_48_96_eligible_nullable(struct p2p_session_48_96 *at,
+        const uint8_t *peer, size_t peer_length, uint64_t seconds, uint32_t nanos)
+{
+    uint8_t none = 0;
+    return p2p_session_48_96_eligible(at, peer_length == 0 ? &none : peer, peer_length, seconds,
+        nanos);
+}
+#define p2p_session_48_96_eligible p2p_session_48_96_eligible_nullable
+
+static inline uint64_t p2p_session_48_96_acceptable_nullable(struct p2p_session_48_96 *at,
+        const uint8_t *peer, size_t peer_length, uint64_t seconds, uint32_t nanos)
+{
+    uint8_t none = 0;
+    return p2p_session_48_96_acceptable(at, peer_length == 0 ? &none : peer, peer_length,
+        seconds, nanos);
+}
+#define p2p_session_48_96_acceptable p2p_session_48_96_acceptable_nullable
+
+static inline uint64_t p2p_session_48_96_dialable_nullable(struct p2p_session_48_96 *at,
+        uint64_t seconds, uint32_t nanos, uint8_t *out, size_t out_length)
+{
+    uint8_t none = 0;
+    return p2p_session_48_96_dialable(at, seconds, nanos, out_length == 0 ? &none : out,
+        out_length);
+}
+#define p2p_session_48_96_dialable p2p_session_48_96_dialable_nullable
+
+static inline uint64_t p2p_session_48_96_next_cooled_nullable(struct p2p_session_48_96 *at,
+        uint8_t *out, size_t out_length)
+{
+    uint8_t none = 0;
+    return p2p_session_48_96_next_cooled(at, out_length == 0 ? &none : out, out_length);
+}
+#define p2p_session_48_96_next_cooled p2p_session_48_96_next_cooled_nullable
+
+static inline uint64_t p2p_session_48_96_ask_nullable(struct p2p_session_48_96 *at,
+        uint64_t place, uint8_t *out, size_t out_length)
+{
+    uint8_t none = 0;
+    return p2p_session_48_96_ask(at, place, out_length == 0 ? &none : out, out_length);
+}
+#define p2p_session_48_96_ask p2p_session_48_96_ask_nullable
+
+static inline uint64_t p2p_session_48_96_check_nullable(struct p2p_session_48_96 *at,
+        const uint8_t *frame, size_t frame_length, uint64_t seconds, uint32_t nanos, uint8_t *out,
+        size_t out_length)
+{
+    uint8_t none = 0;
+    return p2p_session_48_96_check(at, frame_length == 0 ? &none : frame, frame_length, seconds,
+        nanos, out_length == 0 ? &none : out, out_length);
+}
+#define p2p_session_48_96_check p2p_session_48_96_check_nullable
+
+static inline uint64_t p2p_session_48_96_receive_nullable(struct p2p_session_48_96 *at,
+        const uint8_t *frame, size_t frame_length, uint64_t seconds, uint32_t nanos,
+        const uint8_t *verdicts, size_t verdicts_length, uint8_t *out, size_t out_length)
+{
+    uint8_t none = 0;
+    return p2p_session_48_96_receive(at, frame_length == 0 ? &none : frame, frame_length,
+        seconds, nanos, verdicts_length == 0 ? &none : verdicts, verdicts_length,
+        out_length == 0 ? &none : out, out_length);
+}
+#define p2p_session_48_96_receive p2p_session_48_96_receive_nullable
+
+// It refers to the name that has the hash, so a host links with no archive of another interface.
+static inline void p2p_session_48_96_new_guarded(struct p2p_session_48_96 *at)
+{
+    (void)p2p_session_interface_c6aa43a92dc083a3();
+    p2p_session_48_96_new(at);
+}
+#define p2p_session_48_96_new p2p_session_48_96_new_guarded
+
+// ---- Keys of 96 bytes with signatures of 48: BLS12-381, keys in G2.
+//
+// Each call does what the one above does whose name has no sizes in it.
+#define P2P_SESSION_96_48_KEY_SIZE 96
+#define P2P_SESSION_96_48_SIGNATURE_SIZE 48
+#define P2P_SESSION_96_48_RECEIVE_ROOM (1 + P2P_SESSION_96_48_KEY_SIZE)
+
+struct p2p_session_96_48;
+
+size_t p2p_session_96_48_size(void);
+void p2p_session_96_48_new(struct p2p_session_96_48 *at);
+uint64_t p2p_session_96_48_init(
+    struct p2p_session_96_48 *at,
+    bool allow_private_ips,
+    bool allow_dns,
+    uint64_t max_sets,
+    uint64_t dial_fail_limit,
+    uint64_t cooldown_seconds,
+    uint32_t cooldown_nanos,
+    uint64_t block_seconds,
+    uint32_t block_nanos,
+    uint64_t max_bit_vec,
+    uint64_t max_peers,
+    uint64_t max_data_length,
+    uint64_t peer_gossip_max_count,
+    uint64_t bound_seconds,
+    uint32_t bound_nanos,
+    const uint8_t *signing_namespace,
+    size_t signing_namespace_length,
+    const uint8_t *bootstrappers,
+    size_t bootstrappers_length,
+    const uint8_t *myself,
+    size_t myself_length);
+uint64_t p2p_session_96_48_track(
+    struct p2p_session_96_48 *at,
+    uint64_t index,
+    const uint8_t *primary,
+    size_t primary_length,
+    const uint8_t *secondary,
+    size_t secondary_length,
+    uint8_t *torn,
+    size_t torn_length);
+uint64_t p2p_session_96_48_track_room(struct p2p_session_96_48 *at);
+uint64_t p2p_session_96_48_dial(
+    struct p2p_session_96_48 *at,
+    const uint8_t *peer,
+    size_t peer_length,
+    uint64_t seconds,
+    uint32_t nanos,
+    uint64_t draw_seconds,
+    uint32_t draw_nanos);
+uint64_t p2p_session_96_48_listen(
+    struct p2p_session_96_48 *at,
+    const uint8_t *peer,
+    size_t peer_length,
+    uint64_t seconds,
+    uint32_t nanos,
+    uint64_t draw_seconds,
+    uint32_t draw_nanos);
+uint64_t p2p_session_96_48_reservation(
+    struct p2p_session_96_48 *at,
+    const uint8_t *peer,
+    size_t peer_length,
+    uint8_t *out,
+    size_t out_length);
+uint64_t p2p_session_96_48_connect(
+    struct p2p_session_96_48 *at,
+    const uint8_t *peer,
+    size_t peer_length,
+    bool dialer);
+uint64_t p2p_session_96_48_release(
+    struct p2p_session_96_48 *at,
+    const uint8_t *peer,
+    size_t peer_length);
+uint64_t p2p_session_96_48_update_peers(
+    struct p2p_session_96_48 *at,
+    const uint8_t *infos,
+    size_t infos_length);
+uint64_t p2p_session_96_48_block(
+    struct p2p_session_96_48 *at,
+    const uint8_t *peer,
+    size_t peer_length,
+    uint64_t seconds,
+    uint32_t nanos);
+uint64_t p2p_session_96_48_unblock_expired(
+    struct p2p_session_96_48 *at,
+    uint64_t seconds,
+    uint32_t nanos);
+uint64_t p2p_session_96_48_forget_cooled(
+    struct p2p_session_96_48 *at,
+    uint64_t seconds,
+    uint32_t nanos);
+uint64_t p2p_session_96_48_next_unblock(
+    struct p2p_session_96_48 *at,
+    uint8_t *out,
+    size_t out_length);
+uint64_t p2p_session_96_48_blocked_peers(
+    struct p2p_session_96_48 *at,
+    uint64_t seconds,
+    uint32_t nanos,
+    uint8_t *out,
+    size_t out_length);
+uint64_t p2p_session_96_48_status(
+    struct p2p_session_96_48 *at,
+    const uint8_t *peer,
+    size_t peer_length);
+uint64_t p2p_session_96_48_get_peer_set(
+    struct p2p_session_96_48 *at,
+    uint64_t index,
+    uint8_t *out,
+    size_t out_length);
+uint64_t p2p_session_96_48_latest_set_index(
+    struct p2p_session_96_48 *at,
+    uint8_t *out,
+    size_t out_length);
+uint64_t p2p_session_96_48_latest_update(
+    struct p2p_session_96_48 *at,
+    uint8_t *out,
+    size_t out_length);
+uint64_t p2p_session_96_48_all(
+    struct p2p_session_96_48 *at,
+    uint8_t *out,
+    size_t out_length);
+uint64_t p2p_session_96_48_info(
+    struct p2p_session_96_48 *at,
+    const uint8_t *peer,
+    size_t peer_length,
+    uint8_t *out,
+    size_t out_length);
+uint64_t p2p_session_96_48_infos(
+    struct p2p_session_96_48 *at,
+    const uint8_t *bits,
+    size_t bits_length,
+    uint64_t seconds,
+    uint32_t nanos,
+    uint8_t *out,
+    size_t out_length);
+uint64_t p2p_session_96_48_get_random_bit_vec(
+    struct p2p_session_96_48 *at,
+    uint64_t place,
+    uint8_t *out,
+    size_t out_length);
+uint64_t p2p_session_96_48_eligible(
+    struct p2p_session_96_48 *at,
+    const uint8_t *peer,
+    size_t peer_length,
+    uint64_t seconds,
+    uint32_t nanos);
+uint64_t p2p_session_96_48_acceptable(
+    struct p2p_session_96_48 *at,
+    const uint8_t *peer,
+    size_t peer_length,
+    uint64_t seconds,
+    uint32_t nanos);
+uint64_t p2p_session_96_48_dialable(
+    struct p2p_session_96_48 *at,
+    uint64_t seconds,
+    uint32_t nanos,
+    uint8_t *out,
+    size_t out_length);
+uint64_t p2p_session_96_48_retained(struct p2p_session_96_48 *at);
+uint64_t p2p_session_96_48_next_cooled(
+    struct p2p_session_96_48 *at,
+    uint8_t *out,
+    size_t out_length);
+uint64_t p2p_session_96_48_tracked(struct p2p_session_96_48 *at);
+uint64_t p2p_session_96_48_ask(
+    struct p2p_session_96_48 *at,
+    uint64_t place,
+    uint8_t *out,
+    size_t out_length);
+uint64_t p2p_session_96_48_check(
+    struct p2p_session_96_48 *at,
+    const uint8_t *frame,
+    size_t frame_length,
+    uint64_t seconds,
+    uint32_t nanos,
+    uint8_t *out,
+    size_t out_length);
+uint64_t p2p_session_96_48_receive(
+    struct p2p_session_96_48 *at,
+    const uint8_t *frame,
+    size_t frame_length,
+    uint64_t seconds,
+    uint32_t nanos,
+    const uint8_t *verdicts,
+    size_t verdicts_length,
+    uint8_t *out,
+    size_t out_length);
+void p2p_session_96_48_free(struct p2p_session_96_48 *at);
+static inline uint64_t p2p_session_96_48_init_nullable(struct p2p_session_96_48 *at,
+        bool allow_private_ips, bool allow_dns, uint64_t max_sets, uint64_t dial_fail_limit,
+        uint64_t cooldown_seconds, uint32_t cooldown_nanos, uint64_t block_seconds,
+        uint32_t block_nanos, uint64_t max_bit_vec, uint64_t max_peers, uint64_t max_data_length,
+        uint64_t peer_gossip_max_count, uint64_t bound_seconds, uint32_t bound_nanos,
+        const uint8_t *signing_namespace, size_t signing_namespace_length,
+        const uint8_t *bootstrappers, size_t bootstrappers_length, const uint8_t *myself,
+        size_t myself_length)
+{
+    uint8_t none = 0;
+    return p2p_session_96_48_init(at, allow_private_ips, allow_dns, max_sets, dial_fail_limit,
+        cooldown_seconds, cooldown_nanos, block_seconds, block_nanos, max_bit_vec, max_peers,
+        max_data_length, peer_gossip_max_count, bound_seconds, bound_nanos,
+        signing_namespace_length == 0 ? &none : signing_namespace, signing_namespace_length,
+        bootstrappers_length == 0 ? &none : bootstrappers, bootstrappers_length,
+        myself_length == 0 ? &none : myself, myself_length);
+}
+#define p2p_session_96_48_init p2p_session_96_48_init_nullable
+
+static inline uint64_t p2p_session_96_48_track_nullable(struct p2p_session_96_48 *at,
+        uint64_t index, const uint8_t *primary, size_t primary_length, const uint8_t *secondary,
+        size_t secondary_length, uint8_t *torn, size_t torn_length)
+{
+    uint8_t none = 0;
+    return p2p_session_96_48_track(at, index, primary_length == 0 ? &none : primary,
+        primary_length, secondary_length == 0 ? &none : secondary, secondary_length,
+        torn_length == 0 ? &none : torn, torn_length);
+}
+#define p2p_session_96_48_track p2p_session_96_48_track_nullable
+
+static inline uint64_t p2p_session_96_48_dial_nullable(struct p2p_session_96_48 *at,
+        const uint8_t *peer, size_t peer_length, uint64_t seconds, uint32_t nanos,
+        uint64_t draw_seconds, uint32_t draw_nanos)
+{
+    uint8_t none = 0;
+    return p2p_session_96_48_dial(at, peer_length == 0 ? &none : peer, peer_length, seconds,
+        nanos, draw_seconds, draw_nanos);
+}
+#define p2p_session_96_48_dial p2p_session_96_48_dial_nullable
+
+static inline uint64_t p2p_session_96_48_listen_nullable(struct p2p_session_96_48 *at,
+        const uint8_t *peer, size_t peer_length, uint64_t seconds, uint32_t nanos,
+        uint64_t draw_seconds, uint32_t draw_nanos)
+{
+    uint8_t none = 0;
+    return p2p_session_96_48_listen(at, peer_length == 0 ? &none : peer, peer_length, seconds,
+        nanos, draw_seconds, draw_nanos);
+}
+#define p2p_session_96_48_listen p2p_session_96_48_listen_nullable
+
+static inline uint64_t p2p_session_96_48_reservation_nullable(struct p2p_session_96_48 *at,
+        const uint8_t *peer, size_t peer_length, uint8_t *out, size_t out_length)
+{
+    uint8_t none = 0;
+    return p2p_session_96_48_reservation(at, peer_length == 0 ? &none : peer, peer_length,
+        out_length == 0 ? &none : out, out_length);
+}
+#define p2p_session_96_48_reservation p2p_session_96_48_reservation_nullable
+
+static inline uint64_t p2p_session_96_48_connect_nullable(struct p2p_session_96_48 *at,
+        const uint8_t *peer, size_t peer_length, bool dialer)
+{
+    uint8_t none = 0;
+    return p2p_session_96_48_connect(at, peer_length == 0 ? &none : peer, peer_length, dialer);
+}
+#define p2p_session_96_48_connect p2p_session_96_48_connect_nullable
+
+static inline uint64_t p2p_session_96_48_release_nullable(struct p2p_session_96_48 *at,
+        const uint8_t *peer, size_t peer_length)
+{
+    uint8_t none = 0;
+    return p2p_session_96_48_release(at, peer_length == 0 ? &none : peer, peer_length);
+}
+#define p2p_session_96_48_release p2p_session_96_48_release_nullable
+
+static inline uint64_t p2p_session_96_48_update_peers_nullable(struct p2p_session_96_48 *at,
+        const uint8_t *infos, size_t infos_length)
+{
+    uint8_t none = 0;
+    return p2p_session_96_48_update_peers(at, infos_length == 0 ? &none : infos, infos_length);
+}
+#define p2p_session_96_48_update_peers p2p_session_96_48_update_peers_nullable
+
+static inline uint64_t p2p_session_96_48_block_nullable(struct p2p_session_96_48 *at,
+        const uint8_t *peer, size_t peer_length, uint64_t seconds, uint32_t nanos)
+{
+    uint8_t none = 0;
+    return p2p_session_96_48_block(at, peer_length == 0 ? &none : peer, peer_length, seconds,
+        nanos);
+}
+#define p2p_session_96_48_block p2p_session_96_48_block_nullable
+
+static inline uint64_t p2p_session_96_48_next_unblock_nullable(struct p2p_session_96_48 *at,
+        uint8_t *out, size_t out_length)
+{
+    uint8_t none = 0;
+    return p2p_session_96_48_next_unblock(at, out_length == 0 ? &none : out, out_length);
+}
+#define p2p_session_96_48_next_unblock p2p_session_96_48_next_unblock_nullable
+
+static inline uint64_t
+        p2p_session_96_48_blocked_peers_nullable(struct p2p_session_96_48 *at, uint64_t seconds,
+        uint32_t nanos, uint8_t *out, size_t out_length)
+{
+    uint8_t none = 0;
+    return p2p_session_96_48_blocked_peers(at, seconds, nanos, out_length == 0 ? &none : out,
+        out_length);
+}
+#define p2p_session_96_48_blocked_peers p2p_session_96_48_blocked_peers_nullable
+
+static inline uint64_t p2p_session_96_48_status_nullable(struct p2p_session_96_48 *at,
+        const uint8_t *peer, size_t peer_length)
+{
+    uint8_t none = 0;
+    return p2p_session_96_48_status(at, peer_length == 0 ? &none : peer, peer_length);
+}
+#define p2p_session_96_48_status p2p_session_96_48_status_nullable
+
+static inline uint64_t p2p_session_96_48_get_peer_set_nullable(struct p2p_session_96_48 *at,
+        uint64_t index, uint8_t *out, size_t out_length)
+{
+    uint8_t none = 0;
+    return p2p_session_96_48_get_peer_set(at, index, out_length == 0 ? &none : out, out_length);
+}
+#define p2p_session_96_48_get_peer_set p2p_session_96_48_get_peer_set_nullable
+
+static inline uint64_t
+        p2p_session_96_48_latest_set_index_nullable(struct p2p_session_96_48 *at, uint8_t *out,
+        size_t out_length)
+{
+    uint8_t none = 0;
+    return p2p_session_96_48_latest_set_index(at, out_length == 0 ? &none : out, out_length);
+}
+#define p2p_session_96_48_latest_set_index p2p_session_96_48_latest_set_index_nullable
+
+static inline uint64_t
+        p2p_session_96_48_latest_update_nullable(struct p2p_session_96_48 *at, uint8_t *out,
+        size_t out_length)
+{
+    uint8_t none = 0;
+    return p2p_session_96_48_latest_update(at, out_length == 0 ? &none : out, out_length);
+}
+#define p2p_session_96_48_latest_update p2p_session_96_48_latest_update_nullable
+
+static inline uint64_t p2p_session_96_48_all_nullable(struct p2p_session_96_48 *at,
+        uint8_t *out, size_t out_length)
+{
+    uint8_t none = 0;
+    return p2p_session_96_48_all(at, out_length == 0 ? &none : out, out_length);
+}
+#define p2p_session_96_48_all p2p_session_96_48_all_nullable
+
+static inline uint64_t p2p_session_96_48_info_nullable(struct p2p_session_96_48 *at,
+        const uint8_t *peer, size_t peer_length, uint8_t *out, size_t out_length)
+{
+    uint8_t none = 0;
+    return p2p_session_96_48_info(at, peer_length == 0 ? &none : peer, peer_length,
+        out_length == 0 ? &none : out, out_length);
+}
+#define p2p_session_96_48_info p2p_session_96_48_info_nullable
+
+static inline uint64_t p2p_session_96_48_infos_nullable(struct p2p_session_96_48 *at,
+        const uint8_t *bits, size_t bits_length, uint64_t seconds, uint32_t nanos, uint8_t *out,
+        size_t out_length)
+{
+    uint8_t none = 0;
+    return p2p_session_96_48_infos(at, bits_length == 0 ? &none : bits, bits_length, seconds,
+        nanos, out_length == 0 ? &none : out, out_length);
+}
+#define p2p_session_96_48_infos p2p_session_96_48_infos_nullable
+
+static inline uint64_t
+        p2p_session_96_48_get_random_bit_vec_nullable(struct p2p_session_96_48 *at, uint64_t place,
+        uint8_t *out, size_t out_length)
+{
+    uint8_t none = 0;
+    return p2p_session_96_48_get_random_bit_vec(at, place, out_length == 0 ? &none : out,
+        out_length);
+}
+#define p2p_session_96_48_get_random_bit_vec p2p_session_96_48_get_random_bit_vec_nullable
+
+static inline uint64_t p2p_session_96_48_eligible_nullable(struct p2p_session_96_48 *at,
+        const uint8_t *peer, size_t peer_length, uint64_t seconds, uint32_t nanos)
+{
+    uint8_t none = 0;
+    return p2p_session_96_48_eligible(at, peer_length == 0 ? &none : peer, peer_length, seconds,
+        nanos);
+}
+#define p2p_session_96_48_eligible p2p_session_96_48_eligible_nullable
+
+static inline uint64_t p2p_session_96_48_acceptable_nullable(struct p2p_session_96_48 *at,
+        const uint8_t *peer, size_t peer_length, uint64_t seconds, uint32_t nanos)
+{
+    uint8_t none = 0;
+    return p2p_session_96_48_acceptable(at, peer_length == 0 ? &none : peer, peer_length,
+        seconds, nanos);
+}
+#define p2p_session_96_48_acceptable p2p_session_96_48_acceptable_nullable
+
+static inline uint64_t p2p_session_96_48_dialable_nullable(struct p2p_session_96_48 *at,
+        uint64_t seconds, uint32_t nanos, uint8_t *out, size_t out_length)
+{
+    uint8_t none = 0;
+    return p2p_session_96_48_dialable(at, seconds, nanos, out_length == 0 ? &none : out,
+        out_length);
+}
+#define p2p_session_96_48_dialable p2p_session_96_48_dialable_nullable
+
+static inline uint64_t p2p_session_96_48_next_cooled_nullable(struct p2p_session_96_48 *at,
+        uint8_t *out, size_t out_length)
+{
+    uint8_t none = 0;
+    return p2p_session_96_48_next_cooled(at, out_length == 0 ? &none : out, out_length);
+}
+#define p2p_session_96_48_next_cooled p2p_session_96_48_next_cooled_nullable
+
+static inline uint64_t p2p_session_96_48_ask_nullable(struct p2p_session_96_48 *at,
+        uint64_t place, uint8_t *out, size_t out_length)
+{
+    uint8_t none = 0;
+    return p2p_session_96_48_ask(at, place, out_length == 0 ? &none : out, out_length);
+}
+#define p2p_session_96_48_ask p2p_session_96_48_ask_nullable
+
+static inline uint64_t p2p_session_96_48_check_nullable(struct p2p_session_96_48 *at,
+        const uint8_t *frame, size_t frame_length, uint64_t seconds, uint32_t nanos, uint8_t *out,
+        size_t out_length)
+{
+    uint8_t none = 0;
+    return p2p_session_96_48_check(at, frame_length == 0 ? &none : frame, frame_length, seconds,
+        nanos, out_length == 0 ? &none : out, out_length);
+}
+#define p2p_session_96_48_check p2p_session_96_48_check_nullable
+
+static inline uint64_t p2p_session_96_48_receive_nullable(struct p2p_session_96_48 *at,
+        const uint8_t *frame, size_t frame_length, uint64_t seconds, uint32_t nanos,
+        const uint8_t *verdicts, size_t verdicts_length, uint8_t *out, size_t out_length)
+{
+    uint8_t none = 0;
+    return p2p_session_96_48_receive(at, frame_length == 0 ? &none : frame, frame_length,
+        seconds, nanos, verdicts_length == 0 ? &none : verdicts, verdicts_length,
+        out_length == 0 ? &none : out, out_length);
+}
+#define p2p_session_96_48_receive p2p_session_96_48_receive_nullable
+
+// It refers to the name that has the hash, so a host links with no archive of another interface.
+static inline void p2p_session_96_48_new_guarded(struct p2p_session_96_48 *at)
+{
+    (void)p2p_session_interface_c6aa43a92dc083a3();
+    p2p_session_96_48_new(at);
+}
+#define p2p_session_96_48_new p2p_session_96_48_new_guarded
 #ifdef __cplusplus
 }
 #endif

@@ -1,8 +1,9 @@
 #!/bin/sh
 # Writes the exports of a session for C and Rust, with their proofs, from tools/exports/session.table:
-# crates/p2p_session_c, include/p2p_session.h and rust/p2p-directory-sys/src/exports.rs. With --check it writes them
-# in a folder of its own and says whether they are the same, and whether the refusals of p2p_session, of its specs and of
-# docs/C.md are those of the table.
+# crates/p2p_session_c, include/p2p_session.h and, each with the folder beside it, rust/p2p-directory-sys/src/exports.rs
+# and rust/p2p-directory/src/pairs.rs.
+# With --check it writes them in a folder of its own and says whether they are the same, and whether the refusals of
+# p2p_session, of its specs and of docs/C.md are those of the table.
 set -eu
 cd "$(dirname "$0")/.."
 root=$PWD
@@ -18,7 +19,8 @@ python3 tools/exports/exports.py tools/exports/session.table "$root"
 if [ "${1:-}" = --check ]; then
     tools/exports/refusals.py
     for written in crates/p2p_session_c/src crates/p2p_session_c/proofs include/p2p_session.h \
-        rust/p2p-directory-sys/src/exports.rs; do
+        rust/p2p-directory-sys/src/exports.rs rust/p2p-directory-sys/src/exports \
+        rust/p2p-directory/src/pairs.rs rust/p2p-directory/src/pairs; do
         diff -r "$written" "$root/$written"
     done
 fi

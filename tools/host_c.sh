@@ -1,6 +1,6 @@
 #!/bin/sh
 # Compiles examples/session.c as C11 and as C++17 without a warning, links it with the archive and runs both, also under
-# valgrind. Then runs it where an export that is handed a null pointer ends the program, and, with calls for 1,000 peers,
+# valgrind, and with keys of each other pair of sizes. Then runs it where an export that is handed a null pointer ends the program, and, with calls for 1,000 peers,
 # in threads with half of the stack that the header tells of.
 #
 # usage: tools/host_c.sh [FOLDER], the folder with libp2p_session.a, or libp2p_session_c.a and liblibc_c.a, by default
@@ -32,6 +32,19 @@ for language in c11 c++17; do
     "$folder/$language"
     valgrind --quiet --error-exitcode=9 --leak-check=full --errors-for-leak-kinds=definite,indirect \
         "$folder/$language" > "$folder/lines"
+done
+# The same with keys of each other pair of sizes: its calls and sizes have them in their names.
+grep '^pair ' tools/exports/session.table | tail -n +2 | sed 's/:.*//' | while read -r _ key signature firsts; do
+    pair=${key}_$signature
+    first=${firsts:+-D FIRST_BYTE=${firsts##* }}
+    sed -e "s/p2p_session_\([a-z_]*\)(/p2p_session_${pair}_\1(/g" -e "s/p2p_session_${pair}_is_/p2p_session_is_/g" \
+        -e "s/struct p2p_session\b/struct p2p_session_$pair/g" \
+        -e "s/P2P_SESSION_\(KEY_SIZE\|SIGNATURE_SIZE\|RECEIVE_ROOM\)/P2P_SESSION_${pair}_\1/g" \
+        examples/session.c > "$folder/$pair.c"
+    # shellcheck disable=SC2086 # lists of words
+    cc -std=c11 $strict $first -I include "$folder/$pair.c" $linked -o "$folder/$pair"
+    echo "examples/session.c with keys of $key bytes and signatures of $signature:"
+    valgrind --quiet --error-exitcode=9 --leak-check=full --errors-for-leak-kinds=definite,indirect "$folder/$pair"
 done
 # A host that was compiled for another interface doesn't link.
 sed 's/interface_[0-9a-f]*/interface_0123456789abcdef/' include/p2p_session.h > "$folder/p2p_session.h"

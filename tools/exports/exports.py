@@ -3,8 +3,8 @@
 
     exports.py TABLE ROOT
 
-Under ROOT it writes crates/CRATE/src and proofs, include/PREFIX.h and rust/p2p-directory-sys/src/exports.rs. The
-table has lines NAME: VALUE for crate, lib, type, words and prefix; a line `refusal NAME: WHEN` for each number that is
+Under ROOT it writes crates/CRATE/src and proofs, include/PREFIX.h, and rust/p2p-directory-sys/src/exports.rs with the
+folder beside it, and rust/p2p-directory/src/pairs.rs, likewise. The table has lines NAME: VALUE for crate, lib, type, words and prefix; a line `refusal NAME: WHEN` for each number that is
 no answer, from UINT64_MAX downwards; and then a line for each export, below lines with /// that say what it answers:
 
     add(x: u64) -> bool = Adds
@@ -164,15 +164,15 @@ def walk(names, method, params, result, word):
     else:
         w('    ' + ' '.join(['move ! (4 ∷ 3 ∷ []) $ join ! $'] + ['move ! (4 ∷ 0 ∷ []) $ join ! $'] * (m - 1)))
     w('    move ! (1 ∷ 0 ∷ []) $ join ! $ move ! (2 ∷ 3 ∷ []) $ join ! $ join ! $ nothing ! $ move ! (1 ∷ 0 ∷ []) $ use2 𝓛 (raw (G.pre y)) (id⊢ 𝓤 _) $')
-    w(f"    calls_at ! (framed 𝓤 𝓛.H 𝓜 (tables 𝓤 𝓛.H 𝓜 𝓡 𝓡.env)) G (met 𝓤 𝓛 𝓜 𝓡 (code.calls-{names['lib']}::{names['module']}::{type_}::{method} 𝓡.env wired)) y")
+    w(f"    calls_at ! (framed 𝓤 𝓛.H 𝓜 (tables 𝓤 𝓛.H 𝓜 𝓡 𝓡.env)) G (met 𝓤 𝓛 𝓜 𝓡 (code.calls-{names['crate']}::{names['module']}::{type_}::{method} 𝓡.env wired)) y")
     w('    ' + '(and_then ! (get ! refl) ' * (m + 1) + '(no_more !)' + ')' * (m + 1) + ' (λ v.')
     last = lambda i: at('xs', 1 + kept.index(i))
     said = {'alloc': None, 'shr': lambda p, i: f'{p.word}.now', 'mut': lambda p, i: f'{p.word}.now {last(i)}', 'int': lambda p, i: p.word, 'bool': lambda p, i: p.word, 'sint': lambda p, i: p.word}
-    words = ' '.join([word] + [said[params[i].kind](params[i], i) for i in kept if params[i].kind != 'alloc'])
+    words = ' '.join([word, names['keys']] + [said[params[i].kind](params[i], i) for i in kept if params[i].kind != 'alloc'])
     seen = 'Bool' if result == 'bool' else 'ℤ' if result in SIGNED else 'ℕ'
     lawful = '(bool_Lawful 𝓛)' if result == 'bool' else f'(sint_Lawful 𝓛 {SIGNED[result]})' if result in SIGNED else f'(uint_Lawful 𝓛 {WIDTH[result]})'
     w(f'    use1 𝓛 (later (some (λ (t : {seen}). ((‵ (flft κ full_share) ⊛ {toks}) ⊛ ‵ ({result}.own_val t (v ∷ []))) ⊛')
-    w(f'    some (λ (xs : Lasts g.ended y.0.0 y.0.3). ‵ (lasts g.ended y.0.0 y.0.3 xs) ⊛ raw (fact 𝓤 ({words} before xs.0 t)))))) (id⊢ 𝓤 _) $')
+    w(f'    some (λ (xs : Lasts g.ended y.0.0 y.0.3). ‵ (lasts g.ended y.0.0 y.0.3 xs) ⊛ raw (fact 𝓤 ({words} before.session xs.0.session t)))))) (id⊢ 𝓤 _) $')
     w('    await ! tt $ pick ! (λ t. split ! $ split ! $ split ! $ lft_end ! tt $')
     w('    move ! (3 ∷ []) $ pick ! (λ xs. split ! $ move ! (1 ∷ []) $ heard ! _ (λ says_so. fsplit ! $ fsplit ! $')
     depth += 4
@@ -197,21 +197,22 @@ def walk(names, method, params, result, word):
     w(f'    suffices ! _ (ends_at 𝓛 f.ended stayed c z v t {ends} {same}) $')
     steps = ['nothing ! $'] + ['move ! (2 ∷ 0 ∷ []) $ join ! $' if p.kind == 'mut' else 'nothing ! $ join ! $' for p in reversed(params)]
     w('    ' + ' '.join(steps) + ' move ! (3 ∷ []) $ group ! 3 $ frame ! $')
-    w(f'    show ! (λ (after : {type_}). sep 𝓤 (sem 𝓛 (lies_at R full_share arg-at after)) (fact 𝓤 ({words} before after t))) xs.0 $')
+    w(f'    show ! (λ (after : {type_}). sep 𝓤 (sem 𝓛 (lies_at R full_share arg-at after)) (fact 𝓤 ({words} before.session after.session t))) xs.0 $')
     w('    says ! says_so $ done !' + ')' * depth)
     return '\n'.join(out) + '\n'
 
 
 IMPORTS = """-- The value at the pointer is lent for the call of `{method}`, and comes back. Written by tools/exports.py.
 use Rattle.{crate}.proofs.Steps.{{{steps}}}
-{alloc}use Rattle.{lib}.specs.declared.{module}.{type}.{{{type}}}
-use Rattle.{lib}.specs.contracts.{module}.{type}.{{the_row as R}}
+{alloc}use Rattle.{crate}.specs.declared.{module}.{type}.{{{type}}}
+use Rattle.{crate}.specs.contracts.{module}.{type}.{{the_row as R}}
 use Rattle.{lib}.specs.{words}.{{{word}}}
-use Rattle.{lib}.specs.contracts.{module}.{type}.{method} as g
-use Rattle.{lib}.proofs.{module}.{type}.{method}.Met.{{met}}
-use Rattle.{crate}.specs.contracts.{prefix}_{method} as f
-use Rattle.{crate}.proofs.{prefix}_{method}.Statement.{{statement}}
-use Rattle.{crate}.proofs.{prefix}_{method}.Code as code
+use Rattle.{keysplace}.{{{keys}}}
+use Rattle.{crate}.specs.contracts.{module}.{type}.{method} as g
+use Rattle.{crate}.proofs.{module}.{type}.{method}.Met.{{met}}
+use Rattle.{crate}.specs.contracts.{module}.{prefix}_{method} as f
+use Rattle.{crate}.proofs.{module}.{prefix}_{method}.Statement.{{statement}}
+use Rattle.{crate}.proofs.{module}.{prefix}_{method}.Code as code
 
 """
 
@@ -271,8 +272,16 @@ def read_table(path):
             continue
         export = re.fullmatch(r'(fn )?(\w+)\((.*)\) -> (\w+) = ([\w.]+)', line)
         refusal = re.fullmatch(r'refusal (\w+): (.*)', line)
+        pair = re.fullmatch(r'pair (\d+) (\d+)((?: first \d+)*): (.*)', line)
         if line.startswith('///'):
             doc.append(line[3:].strip())
+        elif pair:
+            key, signature, firsts, said = pair.groups()
+            firsts = firsts.replace('first', '').split()
+            assert firsts == sorted(firsts, key=int), 'first bytes rise'
+            if not (4 <= int(key) <= 65535 and 4 <= int(signature) <= 65535) or any(int(first) > 255 for first in firsts):
+                sys.exit(f'{line}: keys and signatures have 4 to 65535 bytes, and a first byte is below 256')
+            names.setdefault('pairs', []).append((key, signature, firsts, said))
         elif refusal:
             refusals[refusal.group(1)] = refusal.group(2)
         elif export:
@@ -307,11 +316,29 @@ pub extern "C" fn {names['prefix']}_{method}({', '.join(f'{p.name}: {p.text}' fo
 """
 
 
+def method_text(names, method, params, result, word, doc):
+    """The method of a session with keys of one pair of sizes."""
+    said = [{'shr': f'{p.name}.now', 'mut': f'{p.name}.old {p.name}.new'}.get(p.kind, p.name) for p in params if p.kind not in ('alloc', 'at')]
+    clause = ' '.join([word, names['keys']] + said + ['self.old.session', 'self.new.session', 'result'])
+    args = [p for p in params if p.kind != 'at']
+    allow = '    #[allow(clippy::too_many_arguments)]\n' if len(args) > 6 else ''
+    declared = ', '.join(['&mut self'] + [f'{p.name}: {p.text}' for p in args])
+    return f"""{wrapped(doc, '    /// ')}
+{allow}    #[inline(always)]
+    pub fn {method}({declared}) -> {result}
+{wrapped(f'ensures {{ {clause} }}', '        ', 98)}
+    {{
+        self.session.{method}({', '.join(p.name for p in args)})
+    }}
+
+"""
+
+
 def export_text(names, method, params, result, word, doc):
     if is_apart(params):
         return apart_text(names, method, params, result, word, doc)
     said = [{'shr': f'{p.name}.now', 'mut': f'{p.name}.old {p.name}.new'}.get(p.kind, p.name) for p in params if p.kind not in ('alloc', 'at')]
-    clause = ' '.join([word] + said + ['before', 'after', 'result'])
+    clause = ' '.join([word, names['keys']] + said + ['before.session', 'after.session', 'result'])
     args = ', '.join(p.name for p in params if p.kind != 'at')
     return f"""{wrapped(doc, '/// ')}
 ///
@@ -331,12 +358,6 @@ pub unsafe extern "C" fn {names['prefix']}_{method}({', '.join(f'{p.name}: {p.te
 """
 
 
-def key_sizes(names):
-    """How many bytes a key and a signature have, by the names of these constants."""
-    text = open(os.path.join(HERE, '../../crates', names['lib'], 'src/key.rt')).read()
-    return {name: re.search(rf'pub const {name}: usize = (\d+);', text).group(1) for name in ('KEY_SIZE', 'SIGNATURE_SIZE')}
-
-
 def calls_of(exports):
     """All exports but the one whose name has the hash."""
     at = Param('at', '*mut Handle')
@@ -348,16 +369,18 @@ def calls_of(exports):
 
 def interface_of(names, exports):
     """A name that another interface doesn't have: a hash of what the calls are called, take and answer, of the refusals
-    in their order, and of both sizes."""
+    in their order, and of the pairs of sizes."""
     said = [f"{method}({', '.join(f'{p.name}: {p.text}' for p in params)}) -> {result}" for method, params, result, _, _ in calls_of(exports)]
-    said += [names['prefix'], *names['refusals'], *(f'{name} = {size}' for name, size in key_sizes(names).items())]
+    said += [names['prefix'], *names['refusals'], *(' '.join([key, signature, *firsts]) for key, signature, firsts, _ in names['pairs'])]
     return 'interface_' + hashlib.sha256('\n'.join(said).encode()).hexdigest()[:16]
 
 
 def main():
     table, root = sys.argv[1:]
     names, exports = read_table(table)
+    names['library'] = names['prefix']
     names['interface'] = interface_of(names, exports)
+
 
     def put(path, text):
         path = os.path.join(root, path)
@@ -369,9 +392,55 @@ def main():
     read = lambda path: fill(open(os.path.join(HERE, 'template', path)).read())
     put(f'{crate}/proofs/Lib.antt', read('proofs/Lib.antt.in'))
     put(f'{crate}/proofs/Steps.antt', read('proofs/Steps.antt.in'))
+    apart = [export for export in exports if is_apart(export[1])]
+    cited = '\n'.join(f"ghost use Rattle.{names['lib']}.specs.{word.replace('.', '.{')}}};" for _, _, _, word, _ in apart)
+    text = read('lib.rt.in').replace('#APART_WORDS#', cited).replace('#HOST#', wrapped(HOST, '//! '))
+    pairs = [pair_names(names, place) for place in range(len(names['pairs']))]
+    text = text.replace('#MODULES#', '\n'.join(f"mod {pair['module']};" for pair in pairs))
+    put(f'{crate}/src/lib.rt', text.replace('#APART#', ''.join(apart_text(names, *export) for export in apart)))
+    own = [export for export in exports if not is_apart(export[1])]
+    for pair in pairs:
+        write_pair(put, pair, own)
+    put(f'{crate}/specs/Lib.antt', ''.join(f"pub mod Keys{pair['key']}_{pair['signature']}\n" for pair in pairs[1:]))
+    declare(put, names, exports)
+
+
+def pair_names(names, place):
+    """The names for the pair of sizes at a place of the table. The first has the names of before, and its keys stand in
+    the library."""
+    key, signature, firsts, _ = names['pairs'][place]
+    own = {'key': key, 'signature': signature, 'keys': f'keys{key}_{signature}', 'keytype': 'Key', 'module': f'keys{key}_{signature}',
+           'all_firsts': firsts, 'firsts': ' or '.join(firsts)}
+    if place == 0:
+        return {**names, **own, 'keysplace': f"{names['lib']}.specs.Keys", 'keyplace': names['lib']}
+    crate = names['crate']
+    return {**names, **own, 'prefix': f"{names['prefix']}_{key}_{signature}",
+            'keysplace': f'{crate}.specs.Keys{key}_{signature}', 'keyplace': f"crate::{own['module']}::key"}
+
+
+def write_key(put, read, names):
+    """The keys and signatures of one pair of sizes, and what contracts see of them."""
+    crate, module, firsts = f"crates/{names['crate']}", names['module'], names['all_firsts']
+    text = read('first_key.rt.in' if firsts else 'key.rt.in')
+    text = text.replace('#LISTED#', ' ∷ '.join(firsts)).replace('#OTHERS#', ' && '.join(f'bytes[0] != {first}' for first in firsts))
+    put(f'{crate}/src/{module}/key.rt', text)
+    text = read('keys.antt.in').replace('#FIRST#', f" A key begins with {names['firsts']}." if firsts else '')
+    own = f"use Rattle.{names['crate']}.specs.declared.{module}.key.Key.{{Key}}"
+    text = text.replace('#KEY_USE#', 'use Rattle.std.specs.Prelude.{ℕ, List}' if firsts else own)
+    put(f"{crate}/specs/Keys{names['key']}_{names['signature']}.antt", text.replace('#KEY#', '(List ℕ)' if firsts else 'Key'))
+
+
+def write_pair(put, names, exports):
+    """The session with keys of one pair of sizes, and its exports with their proofs."""
+    crate, prefix, module = f"crates/{names['crate']}", names['prefix'], names['module']
+    fill = lambda text: re.sub(r'@([A-Z]+)@', lambda found: names[found.group(1).lower()], text)
+    read = lambda path: fill(open(os.path.join(HERE, 'template', path)).read())
+    is_own = names['keyplace'] != names['lib']
+    if is_own:
+        write_key(put, read, names)
     for f in ('new', 'free'):
-        put(f'{crate}/proofs/{prefix}_{f}/Proof.antt', read(f'proofs/X_{f}/Proof.antt.in'))
-    words = sorted({word for _, _, _, word, _ in exports if '.' not in word} | {'IsFresh'})
+        put(f'{crate}/proofs/{module}/{prefix}_{f}/Proof.antt', read(f'proofs/X_{f}/Proof.antt.in'))
+    words = sorted({word for _, _, _, word, _ in exports} | {'IsFresh'})
     lines, line = [], ''
     for word in words:
         if len(line) + len(word) > 40:
@@ -379,17 +448,15 @@ def main():
             line = ''
         line += (', ' if line else '') + word
     lines.append(line)
-    cited = '\n'.join([f"ghost use Rattle.{names['lib']}.specs.{names['words']}.{{{line}}};" for line in lines]
-                      + [f"ghost use Rattle.{names['lib']}.specs.{word.replace('.', '.{')}}};" for _, _, _, word, _ in exports if '.' in word])
-    text = read('lib.rt.in').replace('#WORDS#', cited).replace('#HOST#', wrapped(HOST, '//! '))
-    text = text.replace('#EXPORTS#', ''.join(export_text(names, *export) for export in exports))
-    put(f'{crate}/src/lib.rt', text)
-    for method, params, result, word, _ in (export for export in exports if not is_apart(export[1])):
+    cited = '\n'.join(f"ghost use Rattle.{names['lib']}.specs.{names['words']}.{{{line}}};" for line in lines)
+    text = read('pair.rt.in').replace('#WORDS#', cited).replace('#MODS#', '\npub mod key;\n' if is_own else '')
+    text = text.replace('#METHODS#', ''.join(method_text(names, *export) for export in exports))
+    put(f'{crate}/src/{module}.rt', text.replace('#EXPORTS#', ''.join(export_text(names, *export) for export in exports)))
+    for method, params, result, word, _ in exports:
         proof = walk(names, method, params, result, word)
         cited = [s for s in STEPS if re.search(r'(?<![\w◌-])' + re.escape(s.strip('◌')) + r'(?![\w-])' if re.fullmatch(r'[\w-]+', s) else re.escape(s.strip('◌')), proof)]
-        put(f'{crate}/proofs/{prefix}_{method}/Proof.antt', IMPORTS.format(method=method, word=word, steps=', '.join(cited),
+        put(f'{crate}/proofs/{module}/{prefix}_{method}/Proof.antt', IMPORTS.format(method=method, word=word, steps=', '.join(cited),
             alloc=ALLOC if any(p.kind == 'alloc' for p in params) else '', **names) + proof)
-    declare(put, names, exports)
 
 
 def declare(put, names, exports):
@@ -397,13 +464,33 @@ def declare(put, names, exports):
     guard = 'Returns 1. An archive with other calls, refusals or sizes has no call of this name, so it doesn\'t link.'
     calls = [(names['interface'], [], 'u64', '', guard)] + calls_of(exports)
     put(f"include/{names['prefix']}.h", header(names, calls))
-    put('rust/p2p-directory-sys/src/exports.rs', rust_exports(names, calls, exports))
+    sources = 'rust/p2p-directory-sys/src'
+    put(f'{sources}/exports.rs', rust_exports(names, calls, exports))
+    for place in range(1, len(names['pairs'])):
+        pair = pair_names(names, place)
+        put(f"{sources}/exports/{pair['module']}.rs", rust_pair(pair, names['pairs'][place][3], calls, exports))
+    sources = 'rust/p2p-directory/src'
+    others = [pair_names(names, place) for place in range(1, len(names['pairs']))]
+    in_order = sorted(others, key=lambda pair: (int(pair['key']), int(pair['signature'])))
+    put(f'{sources}/pairs.rs', RUST_PAIRS.format(head=RUST_WRITTEN) + ''.join(f"pub mod {pair['module']};\n" for pair in in_order))
+    for place, pair in enumerate(others, 1):
+        put(f"{sources}/pairs/{pair['module']}.rs", typed_pair(pair, names['pairs'][place][3]))
 
 
-def rust_exports(names, calls, exports):
-    """The declarations in Rust, and a safe call of each that is a method."""
-    prefix = names['prefix']
-    session = RUST_SESSION.replace('INTERFACE', names['interface'])
+def typed_pair(names, said):
+    """The module of the typed crate for a pair of sizes other than the first."""
+    firsts = f" A key begins with {names['firsts']}." if names['all_firsts'] else ''
+    first = wrapped(f"Keys of {names['key']} bytes and signatures of {names['signature']}: {said}{firsts}", '//! ')
+    # What examples name stands at the root, but for the key that begins with certain bytes.
+    key = '#[path = "../pair/first_key.rs"]' if firsts else '#[cfg(not(doctest))]\n#[path = "../pair/key.rs"]'
+    return TYPED_PAIR.format(first=first, head=RUST_WRITTEN, module=names['module'], key=key)
+
+
+RUST_WRITTEN = 'Written by tools/exports.sh from tools/exports/session.table.'
+
+
+def rust_declarations(prefix, calls):
+    """The declarations in Rust of the calls with one pair of sizes."""
     rust = []
     for method, params, result, _, _ in calls:
         rust_params = []
@@ -420,13 +507,47 @@ def rust_exports(names, calls, exports):
             inner = ''.join(f'        {p},\n' for p in rust_params)
             one = f"    fn {prefix}_{method}(\n{inner}    ){f' -> {result}' if result else ''};"
         rust.append(f"{one}\n")
+    return 'unsafe extern "C" {\n' + '\n'.join(rust) + '}\n\n'
+
+
+def rust_sizes(names):
+    """The sizes of keys and signatures of one pair, and the first bytes of its keys."""
+    firsts = names['all_firsts']
+    text = f"""/// How many bytes a key has.
+pub const KEY_SIZE: usize = {names['key']};
+/// How many bytes a signature has.
+pub const SIGNATURE_SIZE: usize = {names['signature']};
+"""
+    if firsts:
+        text += f"/// The first byte of a key is one of these.\npub const FIRST_BYTES: [u8; {len(firsts)}] = [{', '.join(firsts)}];\n"
+    return text
+
+
+def rust_session(names, exports):
+    """A session with one pair of sizes, behind safe calls."""
+    prefix = names['prefix']
+    head = RUST_SESSION.replace('INTERFACE', f"{names['library']}_{names['interface']}").replace('PREFIX', prefix)
+    return (head + '\n'.join(safe(prefix, *export) for export in exports if not is_apart(export[1])) + '}\n'
+            + RUST_DROP.replace('PREFIX', prefix))
+
+
+def rust_exports(names, calls, exports):
+    """What Rust has of the first pair of sizes, and what all have in common: the refusals, and what needs no session."""
+    first = pair_names(names, 0)
     numbers = ''.join(f"/// {said}\npub const {name}: u64 = u64::MAX{f' - {i}' if i else ''};\n" for i, (name, said) in enumerate(names['refusals'].items()))
-    head = 'Written by tools/exports.sh from tools/exports/session.table.'
-    return (RUST_HEAD.format(head=head, host=wrapped(HOST, '//! '), numbers=numbers)
-            + 'unsafe extern "C" {\n' + '\n'.join(rust) + '}\n\n' + session.replace('PREFIX', prefix)
-            + '\n'.join(safe(prefix, *export) for export in exports if not is_apart(export[1])) + '}\n'
-            + RUST_DROP.replace('PREFIX', prefix)
-            + ''.join('\n' + safe(prefix, *export) for export in exports if is_apart(export[1])))
+    others = [pair_names(names, place)['module'] for place in range(1, len(names['pairs']))]
+    return (RUST_HEAD.format(head=RUST_WRITTEN, host=wrapped(HOST, '//! '), numbers=numbers)
+            + ''.join(f'pub mod {module};\n' for module in others) + '\n' + rust_sizes(first) + '\n'
+            + rust_declarations(first['prefix'], calls) + rust_session(first, exports)
+            + ''.join('\n' + safe(first['prefix'], *export) for export in exports if is_apart(export[1])))
+
+
+def rust_pair(names, said, calls, exports):
+    """What Rust has of a pair of sizes other than the first."""
+    own = [call for call in calls if call[0] in ('size', 'new') or not is_apart(call[1])]
+    first = wrapped(f"The calls of a session with keys of {names['key']} bytes and signatures of {names['signature']}: {said}", '//! ')
+    head = RUST_PAIR_HEAD.format(head=RUST_WRITTEN, first=first, guard=f"{names['library']}_{names['interface']}")
+    return head + rust_sizes(names) + '\n' + rust_declarations(names['prefix'], own) + rust_session(names, exports)
 
 
 def c_params(prefix, params):
@@ -452,7 +573,7 @@ def c_declaration(doc, start, items):
     one = f"{start}({', '.join(items) or 'void'});"
     if len(one) > 80:
         one = f'{start}(\n    ' + ',\n    '.join(items) + ');'
-    return f"{wrapped(doc, '// ')}\n{one}\n"
+    return f"{wrapped(doc, '// ')}\n{one}\n" if doc else one
 
 
 def c_nullable(answer, name, declared, passed):
@@ -466,31 +587,59 @@ def c_nullable(answer, name, declared, passed):
 
 
 def header(names, calls):
-    """The header for C and C++."""
+    """The header for C and C++: the calls with the first pair of sizes, and below them those with each other pair."""
     prefix, upper = names['prefix'], names['prefix'].upper()
-    declarations, nullable = [], []
-    for method, params, result, _, doc in calls:
-        name, answer = f'{prefix}_{method}', C_TYPE.get(result, 'void')
-        declared, passed = c_params(prefix, params)
-        declarations.append(c_declaration(doc, f'{answer} {name}', declared))
-        items = {p.item for p in params if p.kind in ('shr', 'mut')}
-        assert items <= {'u8'}, f'{name}: a byte in place of a null pointer fits no other slice'
-        if items:
-            nullable.append(c_nullable(answer, name, declared, passed))
-    nullable.append(GUARDED.replace('PREFIX', prefix).replace('INTERFACE', names['interface']))
+    declarations, nullable = declared_in_c(names, calls)
     numbers = ''.join(f"#define {upper}_{name} (UINT64_MAX{f' - {i}' if i else ''})\n" for i, name in enumerate(names['refusals']))
-    filled = {'NAME': upper, **key_sizes(names), 'STACK': str(2 * STACK),
+    others = [other_pair(names, place, calls) for place in range(1, len(names['pairs']))]
+    filled = {'NAME': upper, 'KEY_SIZE': names['pairs'][0][0], 'SIGNATURE_SIZE': names['pairs'][0][1], 'STACK': str(2 * STACK),
               'MEASURED': wrapped(STACK_MEASURED, '//   '), 'REFUSALS': numbers, 'LAST': f'{upper}_{[*names["refusals"]][-1]}',
-              'DECLARATIONS': '\n'.join(declarations), 'NULLABLE': '\n'.join(nullable)}
+              'DECLARATIONS': declarations, 'NULLABLE': nullable, 'OTHERS': ''.join(others)}
     text = open(os.path.join(HERE, 'template/header.h.in')).read()
     text = re.sub(r'@([A-Z]+)@', lambda found: names[found.group(1).lower()], text)
     return re.sub(r'#([A-Z_]+)#', lambda found: filled[found.group(1)], text)
 
 
+def declared_in_c(names, calls, documented=True):
+    """The declarations of the calls with one pair of sizes, and their forms that take null pointers."""
+    prefix = names['prefix']
+    declarations, nullable = [], []
+    for method, params, result, _, doc in calls:
+        name, answer = f'{prefix}_{method}', C_TYPE.get(result, 'void')
+        declared, passed = c_params(prefix, params)
+        declarations.append(c_declaration(doc if documented else '', f'{answer} {name}', declared))
+        items = {p.item for p in params if p.kind in ('shr', 'mut')}
+        assert items <= {'u8'}, f'{name}: a byte in place of a null pointer fits no other slice'
+        if items:
+            nullable.append(c_nullable(answer, name, declared, passed))
+    nullable.append(GUARDED.replace('PREFIX', prefix).replace('INTERFACE', f"{names['library']}_{names['interface']}"))
+    return '\n'.join(declarations), '\n'.join(nullable)
+
+
+def other_pair(names, place, calls):
+    """What the header has of a pair of sizes other than the first."""
+    pair = pair_names(names, place)
+    upper = pair['prefix'].upper()
+    own = [call for call in calls if call[0] in ('size', 'new') or not is_apart(call[1])]
+    declarations, nullable = declared_in_c(pair, own, documented=False)
+    return f"""
+// ---- Keys of {pair['key']} bytes with signatures of {pair['signature']}: {names['pairs'][place][3]}
+//
+// Each call does what the one above does whose name has no sizes in it.
+#define {upper}_KEY_SIZE {pair['key']}
+#define {upper}_SIGNATURE_SIZE {pair['signature']}
+#define {upper}_RECEIVE_ROOM (1 + {upper}_KEY_SIZE)
+
+struct {pair['prefix']};
+
+{declarations}
+{nullable}"""
+
+
 GUARDED = """// It refers to the name that has the hash, so a host links with no archive of another interface.
 static inline void PREFIX_new_guarded(struct PREFIX *at)
 {
-    (void)PREFIX_INTERFACE();
+    (void)INTERFACE();
     PREFIX_new(at);
 }
 #define PREFIX_new PREFIX_new_guarded
@@ -498,8 +647,8 @@ static inline void PREFIX_new_guarded(struct PREFIX *at)
 
 RUST_HEAD = """//! {head}
 //!
-//! The exports of the library, and a session in its own memory behind safe calls: the one file
-//! with `unsafe`.
+//! The exports of the library, and a session in its own memory behind safe calls. This file and
+//! those of the folder beside it have `unsafe`, and no others.
 //!
 {host}
 
@@ -514,6 +663,41 @@ struct Handle {{
 }}
 
 {numbers}
+"""
+
+RUST_PAIR_HEAD = """{first}
+//!
+//! Each does what the one of the same name at the root of the crate does, and refuses by the same
+//! numbers.
+// {head}
+
+use super::{{Handle, {guard}}};
+use std::alloc::{{Layout, alloc, dealloc}};
+
+"""
+
+RUST_PAIRS = """//! The pairs of sizes but that of the root.
+// {head}
+
+"""
+
+TYPED_PAIR = """{first}
+//!
+//! Each name stands for what it does at the root of the crate, with these sizes. Types that don't
+//! depend on them are the same. Examples are those of the root, with keys of 32 bytes.
+// {head}
+
+use p2p_directory_sys::{module} as exports;
+
+{key}
+mod key;
+#[cfg(not(doctest))]
+#[path = "../pair/mod.rs"]
+mod pair;
+
+pub use crate::shared::*;
+#[cfg(not(doctest))]
+pub use pair::*;
 """
 
 RUST_SESSION = """/// A session, in memory that is kept for it alone.
@@ -535,7 +719,7 @@ impl Session {
         }
         // SAFETY: it takes nothing, and the memory has this size and alignment.
         unsafe {
-            PREFIX_INTERFACE();
+            INTERFACE();
             PREFIX_new(at);
         }
         Some(Session { at })

@@ -12,8 +12,8 @@ TABLE = re.findall(r'(?m)^refusal (\w+): ', open('tools/exports/session.table').
 
 
 def words(camel):
-    """A name in capitals, as the table has it: NoRoom is NO_ROOM."""
-    return re.sub(r'(?<!^)(?=[A-Z])', '_', camel).upper()
+    """A name in capitals, as the table has it: NoRoom is NO_ROOM. In Rattle None would read as that of an Option."""
+    return re.sub(r'(?<!^)(?=[A-Z])', '_', 'None' if camel == 'Absent' else camel).upper()
 
 
 def documented():

@@ -1,0 +1,52 @@
+-- The value is read out of its place and ended, and its place is room again.
+use Rattle.p2p_session_c.proofs.Steps.{◌≡◌, ℕ, List, [], ◌∷◌, ◌++◌, refl, sym, ap, ◌∙◌, proved_at, handle_tells, full_share, id⊢, sem, ftrue, fat, froom, Val, vunit, vptr, tables, ‵, raw, prop, at_ret, ◌⊛◌, some, later, ◌$◌, ◌∵◌, !, qed, done, drop, move, use1, use2, split, join, fsplit, feq_i, feq_l, pick, await, rewrite, regoal, suffices, group, enter, of_opd, unit_lit, stop, load, look, first, blocks, exec, no_more, and_then, returns, env, alloc_all, pass_all, free_all, look_at, get, through, sets, sets_last, lands_as, yes, shows, Is, Ptr, RawPtr, block_ptr, ptr_val, lies_at, room_at, in_a_block, owns, part_out, plain, nothing, only, peeks, calls_at, lasts, Lasts, triple_of, Stays, walk_of, stay_dropped, Goes-dropped, ends_at, framed, unit, WpFn}
+use mir.Syntax.{Ty}
+use denote.Memory.{lone}
+use Rattle.std.specs.contracts.alloc.Global.{the_row as A}
+use Rattle.std.proofs.alloc.Global.TheLaws as alloc_laws
+use Rattle.std.specs.contracts.impls.GlobalAllocator.TheImpl as I
+use Rattle.p2p_session_c.specs.contracts.keys32_64.Session.{the_row as R}
+use Rattle.p2p_session_c.proofs.keys32_64.Session.TheLaws as laws
+use Rattle.p2p_session_c.specs.contracts.keys32_64.Session.end as g
+use Rattle.p2p_session_c.proofs.keys32_64.Session.end.Met.{met}
+use Rattle.p2p_session_c.specs.contracts.keys32_64.p2p_session_free as f
+use Rattle.p2p_session_c.proofs.keys32_64.p2p_session_free.Statement.{statement}
+use Rattle.p2p_session_c.proofs.keys32_64.p2p_session_free.Code as code
+
+abbrev stayed : Stays f.ended.signature.params f.ended.kept
+stayed = (stay_dropped _ yes, (stay_dropped _ yes, tt))
+
+abbrev τ : Ty
+τ = lone R.mir
+
+pub p2p_session_free_spec : {M : Type 1} → statement M
+p2p_session_free_spec 𝓤 𝓛 𝓜 𝓡 wired =
+    let c = f.clauses 𝓛 𝓜.mem 𝓡.returns in let W = walk_of 𝓛 f.ended stayed c in let 𝓣 = tables 𝓤 𝓛.H 𝓜 𝓡 𝓡.env in
+    proved_at 𝓛 f.ended stayed c 𝓜 𝓡 (Goes-dropped 𝓛 0 (plain (λ _. A)) yes (λ κs x w. refl), (Goes-dropped 𝓛 0 (plain (λ _. RawPtr)) yes (λ κs x w. refl), tt))
+    f.Key.name code.function (code.unfolded 𝓤 𝓛.H 𝓜 𝓡 wired) (λ z are.
+    let alloc = z.0.3.0 in let p = z.0.3.1.0 in let us = z.0.4.0 in let vs = z.0.4.1.0 in let before = z.1 in
+    qed 𝓛 ((‵ ftrue ⊛ ‵ (owns (A ∷ RawPtr ∷ []) (alloc, (p, tt)) (us, (vs, tt)))) ∷ ‵ (lies_at R full_share p before) ∷ []) ∵ split ! $ drop ! $ fsplit ! $
+    handle_tells (record { row = A; laws = alloc_laws.the_row_laws; g = I.ghosts; d = I.dict; drops = I.dict }) ! alloc us (λ u eu fu. move ! (1 ∷ []) $ fsplit ! $ feq_l ! (λ ev. drop ! $ move ! (1 ∷ []) $
+    in_a_block ! p (λ q. lies_at R full_share q before) (id⊢ 𝓤 _) (λ b o e.
+    let is : vs ≡ vptr b o ∷ [] = ev ∙ ap (λ (q : Ptr). ptr_val q ∷ []) e in
+    regoal ! (λ (ws : List Val). prop (WpFn 𝓤 𝓛.H 𝓣.C 𝓣.Λ code.function (ws ++ (vs ++ [])) (W.post z))) eu refl $
+    regoal ! (λ (ws : List Val). prop (WpFn 𝓤 𝓛.H 𝓣.C 𝓣.Λ code.function (u ∷ (ws ++ [])) (W.post z))) is refl $
+    use1 𝓛 (some (λ (v : Val). ‵ (fat full_share τ b o v) ⊛ ‵ (R.own_val before (v ∷ [])))) (part_out 𝓛 R refl full_share before b o) $ pick ! (λ v. split ! $ move ! (1 ∷ []) $
+    peeks ! R (Is R) (shows 𝓛 R) before (v ∷ []) (λ fits. let t = ((laws.the_row_laws.lawful 𝓛).typed before (v ∷ []) fits).0 in
+    -- [what the value owns; its place; the allocator]
+    enter ! _ _ _ _ _ $ alloc_all ! (λ l. pass_all ! refl (fu, ((tt, tt), tt)) $
+    first ! $ blocks ! $ sets ! (of_opd ! (get ! refl)) refl (tt, tt) $ sets_last ! (of_opd ! (load ! (through ! refl (stop !)) (look ! 1 refl))) refl t $
+    exec ! 𝓣.C 𝓣.Λ (env code.Mir.locals l) code.Mir.t-2 (at_ret _ (W.post z)) $
+    sets ! (of_opd ! (get ! refl)) refl t $ sets ! (of_opd ! (get ! refl)) refl t $
+    let G = triple_of 𝓛 g.signature (g.spec 𝓛 𝓜.mem 𝓡.returns) in
+    let y : G.Ghost = ((tt, tt, tt, (before, (alloc, tt)), (v ∷ [], (u ∷ [], tt))), tt) in
+    move ! (2 ∷ []) $ nothing ! $ move ! (1 ∷ 0 ∷ []) $ join ! $ move ! (1 ∷ 0 ∷ []) $ join ! $ nothing ! $ join ! $ nothing ! $ move ! (1 ∷ 0 ∷ []) $ use2 𝓛 (raw (G.pre y)) (id⊢ 𝓤 _) $
+    calls_at ! (framed 𝓤 𝓛.H 𝓜 (tables 𝓤 𝓛.H 𝓜 𝓡 𝓡.env)) G (met 𝓤 𝓛 𝓜 𝓡 (code.calls-p2p_session_c::keys32_64::Session::end 𝓡.env wired)) y (and_then ! (get ! refl) (and_then ! (get ! refl) (no_more !))) (λ w.
+    use1 𝓛 (later (some (λ (r : Unit {0}). (‵ ftrue ⊛ ‵ (unit.own_val r (w ∷ []))) ⊛
+    some (λ (xs : Lasts g.ended tt (before, (alloc, tt))). ‵ (lasts g.ended tt (before, (alloc, tt)) xs) ⊛ ‵ ftrue)))) (id⊢ 𝓤 _) $
+    await ! tt $ pick ! (λ r. split ! $ split ! $ drop ! $ feq_l ! (λ is_unit. drop ! $
+    lands_as ! (ap only is_unit) refl (tt, tt) $ sets ! (of_opd ! (unit_lit !)) refl (tt, tt) $ returns ! (look_at ! 0 refl) $ free_all ! refl $
+    -- [its place]
+    use1 𝓛 (‵ (room_at R (block_ptr b o))) (𝓛.laws.at_room τ b o v) $ rewrite ! 0 (λ (q : Ptr). ‵ (room_at R q)) (sym e) refl $
+    suffices ! _ (ends_at 𝓛 f.ended stayed c z vunit tt (tt, (tt, tt)) (tt, (tt, tt))) $
+    feq_i ! _ (vunit ∷ []) _ refl $ nothing ! $ nothing ! $ join ! $ nothing ! $ join ! $ nothing ! $ group ! 3 $ done !))))))))))

@@ -1,0 +1,61 @@
+-- The value at the pointer is lent for the call of `tracked`, and comes back. Written by tools/exports.py.
+use Rattle.p2p_session_c.proofs.Steps.{◌≡◌, ℕ, List, [], ◌∷◌, ◌++◌, refl, sym, ap, ◌∙◌, w64, MutBor, proved_at, full_share, id⊢, sep, sem, ftrue, flft, flent, named, Val, vptr, fact, tables, ‵, raw, prop, at_ret, ◌⊛◌, some, later, ◌$◌, ◌∵◌, !, qed, done, drop, move, keep, use1, use2, use3, split, join, fsplit, pick, await, rewrite, regoal, suffices, frame, group, show, enter, of_opd, addr, stop, from, first, blocks, exec, no_more, and_then, returns, env, alloc_all, pass_all, free_all, look_at, get, through, sets, sets_last, lands_as, u64, yes, shows, Is, uint_Lawful, Ptr, RawPtr, block_ptr, ptr_val, lies_at, in_a_block, rawptr_Tells, MutRef, plain, types_at, owns, nothing, heard, peeks, calls_at, lasts, Lasts, triple_of, Stays, walk_of, says, stay_dropped, Goes-dropped, ends_at, framed, lft_new, lft_end, lends_ref, ref_back, Body, mem, WpFn}
+use Rattle.p2p_session_c.specs.declared.keys96_48.Session.{Session}
+use Rattle.p2p_session_c.specs.contracts.keys96_48.Session.{the_row as R}
+use Rattle.p2p_session.specs.Sessions.{TellsTracked}
+use Rattle.p2p_session_c.specs.Keys96_48.{keys96_48}
+use Rattle.p2p_session_c.specs.contracts.keys96_48.Session.tracked as g
+use Rattle.p2p_session_c.proofs.keys96_48.Session.tracked.Met.{met}
+use Rattle.p2p_session_c.specs.contracts.keys96_48.p2p_session_96_48_tracked as f
+use Rattle.p2p_session_c.proofs.keys96_48.p2p_session_96_48_tracked.Statement.{statement}
+use Rattle.p2p_session_c.proofs.keys96_48.p2p_session_96_48_tracked.Code as code
+
+abbrev stayed : Stays f.ended.signature.params f.ended.kept
+stayed = (stay_dropped _ yes, tt)
+
+pub p2p_session_96_48_tracked_spec : {M : Type 1} → statement M
+p2p_session_96_48_tracked_spec 𝓤 𝓛 𝓜 𝓡 wired =
+    let c = f.clauses 𝓛 𝓜.mem 𝓡.returns in let W = walk_of 𝓛 f.ended stayed c in let 𝓣 = tables 𝓤 𝓛.H 𝓜 𝓡 𝓡.env in
+    proved_at 𝓛 f.ended stayed c 𝓜 𝓡 (Goes-dropped 𝓛 0 (plain (λ _. RawPtr)) yes (λ κs x w. refl), tt)
+    f.Key.name code.function (code.unfolded 𝓤 𝓛.H 𝓜 𝓡 wired) (λ z are.
+    let before = z.1 in
+    let arg-at = z.0.3.0 in let arg-at_vs = z.0.4.0 in
+    qed 𝓛 (((‵ ftrue) ⊛ ‵ (owns (types_at f.ended.signature.params z.0.0) z.0.3 z.0.4)) ∷ ‵ (lies_at R full_share arg-at before) ∷ []) ∵ split ! $ move ! (2 ∷ []) $
+    in_a_block ! arg-at (λ s. lies_at R full_share s before) (id⊢ 𝓤 _) (λ b o e.
+    let arg-at_is : arg-at_vs ≡ vptr b o ∷ [] = rawptr_Tells arg-at arg-at_vs are.0 ∙ ap (λ (s : Ptr). ptr_val s ∷ []) e in
+    move ! (2 ∷ []) $
+    fsplit ! $ drop ! $
+    -- [nothing; what the parameters own, from the last; the value; the tokens]
+    regoal ! (λ (vs : List Val). prop (WpFn 𝓤 𝓛.H 𝓣.C 𝓣.Λ code.function (vs ++ []) (W.post z))) (λ i. arg-at_is i) refl $
+    enter ! _ _ _ _ _ $ alloc_all ! (λ l. pass_all ! refl ((tt, tt), tt) $
+    lft_new ! tt (λ α. let κ : List ℕ = α ∷ [] in
+    let r : ℕ → MutBor Session = λ γ. record { ref_ptr = (b, o); ghost_name = γ; now = before } in
+    move ! (2 ∷ []) $
+    use1 𝓛 (later (some (λ (γ : ℕ). ‵ ((MutRef (named 0) κ R).own_val (r γ) (vptr b o ∷ [])) ⊛ ‵ (flent κ (Body (mem R) b o γ))))) (lends_ref 𝓛 R (named 0) κ before b o) $
+    await ! tt $ pick ! (λ γ. split ! $
+    -- [the loan; the lender's part; the token of α; nothing; what the parameters own, from the last; the tokens; the locals]
+    first ! $ blocks ! $ sets ! (of_opd ! (get ! refl)) refl (tt, tt) $ sets_last ! (addr ! (through ! refl (stop !))) refl (tt, tt) $
+    exec ! 𝓣.C 𝓣.Λ (env code.Mir.locals l) code.Mir.t-2 (at_ret _ (W.post z)) $
+    sets ! (of_opd ! (get ! refl)) refl (tt, tt) $ sets ! (addr ! (through ! refl (stop !))) refl (tt, tt) $
+    let G = triple_of 𝓛 g.signature (g.spec 𝓛 𝓜.mem 𝓡.returns) in
+    let y : G.Ghost = (((κ, tt), (full_share, tt), tt, (r γ, tt), (vptr b o ∷ [], tt)), tt) in
+    move ! (3 ∷ []) $
+    move ! (1 ∷ 0 ∷ []) $ join ! $ move ! (2 ∷ 3 ∷ []) $ join ! $ join ! $ nothing ! $ move ! (1 ∷ 0 ∷ []) $ use2 𝓛 (raw (G.pre y)) (id⊢ 𝓤 _) $
+    calls_at ! (framed 𝓤 𝓛.H 𝓜 (tables 𝓤 𝓛.H 𝓜 𝓡 𝓡.env)) G (met 𝓤 𝓛 𝓜 𝓡 (code.calls-p2p_session_c::keys96_48::Session::tracked 𝓡.env wired)) y
+    (and_then ! (get ! refl) (no_more !)) (λ v.
+    use1 𝓛 (later (some (λ (t : ℕ). ((‵ (flft κ full_share) ⊛ ‵ ftrue) ⊛ ‵ (u64.own_val t (v ∷ []))) ⊛
+    some (λ (xs : Lasts g.ended y.0.0 y.0.3). ‵ (lasts g.ended y.0.0 y.0.3 xs) ⊛ raw (fact 𝓤 (TellsTracked keys96_48 before.session xs.0.session t)))))) (id⊢ 𝓤 _) $
+    await ! tt $ pick ! (λ t. split ! $ split ! $ split ! $ lft_end ! tt $
+    move ! (3 ∷ []) $ pick ! (λ xs. split ! $ move ! (1 ∷ []) $ heard ! _ (λ says_so. fsplit ! $ fsplit ! $
+    -- [the loan's last value; its borrow; what else is left of the arguments; α is over; the tokens; the answer; the lender's part; the locals]
+    move ! (3 ∷ 6 ∷ 0 ∷ []) $ use3 𝓛 (later (‵ (lies_at R full_share (block_ptr b o) xs.0))) (ref_back 𝓛 R κ γ xs.0 b o) $ await ! tt $
+    move ! (2 ∷ []) $
+    drop ! $
+    -- [what is left of each `&mut`, from the last; the value; its borrow; the tokens; the answer; the locals]
+    move ! (3 ∷ []) $ peeks ! u64 (Is u64) (shows 𝓛 u64) t (v ∷ []) (λ is. lands_as ! refl refl ((uint_Lawful 𝓛 w64).typed t _ is).0 $
+    returns ! (look_at ! 0 refl) $ free_all ! refl $ keep ! (0 ∷ 1 ∷ 3 ∷ []) $
+    rewrite ! 1 (λ (s : Ptr). ‵ (lies_at R full_share s xs.0)) (sym e) refl $
+    suffices ! _ (ends_at 𝓛 f.ended stayed c z v t (tt, tt) (tt, tt)) $
+    nothing ! $ nothing ! $ join ! $ move ! (3 ∷ []) $ group ! 3 $ frame ! $
+    show ! (λ (after : Session). sep 𝓤 (sem 𝓛 (lies_at R full_share arg-at after)) (fact 𝓤 (TellsTracked keys96_48 before.session after.session t))) xs.0 $
+    says ! says_so $ done !))))))))))
