@@ -4,11 +4,12 @@
 # Each target begins with its folder of rust/p2p-directory/tests/corpus and with seeds; the fewest files that reach the edges which
 # that corpus doesn't are added to it. Where something is found it fails, and names the file.
 #
-# usage: tools/fuzz.sh [MINUTES [TARGET]], of each target so many, by default one; the targets are frame and calls
+# usage: tools/fuzz.sh [MINUTES [TARGET]], of each target so many, by default one; the targets are frame and calls,
+# and frame33_64 and calls33_64 with keys of 33 bytes
 set -eu
 cd "$(dirname "$0")/../rust/p2p-directory"
 minutes=${1:-1}
-targets=${2:-frame calls}
+targets=${2:-frame calls frame33_64 calls33_64}
 [ "$minutes" -gt 0 ] || {
     echo 'usage: tools/fuzz.sh [MINUTES [TARGET]]' >&2
     exit 1
@@ -47,7 +48,7 @@ logged() {
     return 1
 }
 
-FUZZ_SEEDS="$folder/seeds" logged cargo test --offline --test corpus -- --ignored --exact writes_seeds
+FUZZ_SEEDS="$folder/seeds" logged cargo test --offline --test corpus --test keys33_64 -- --ignored writes_seeds
 for target in $targets; do
     corpus=tests/corpus/$target
     mkdir -p "$corpus" "$folder/seen/$target"

@@ -1,7 +1,7 @@
 //! Written by tools/exports.sh from tools/exports/session.table.
 //!
-//! The exports of the library, and a session in its own memory behind safe calls: the one file
-//! with `unsafe`.
+//! The exports of the library, and a session in its own memory behind safe calls. This file and
+//! those of the folder beside it have `unsafe`, and no others.
 //!
 //! Obligations of the host, which nothing checks. The memory of a session has size bytes and begins
 //! at a multiple of 16. It is neither read, written nor moved while a session is in it. new comes
@@ -46,8 +46,17 @@ pub const BAD_SETTING: u64 = u64::MAX - 11;
 /// Not as many verdicts as infos.
 pub const BAD_VERDICTS: u64 = u64::MAX - 12;
 
+pub mod keys33_64;
+pub mod keys48_96;
+pub mod keys96_48;
+
+/// How many bytes a key has.
+pub const KEY_SIZE: usize = 32;
+/// How many bytes a signature has.
+pub const SIGNATURE_SIZE: usize = 64;
+
 unsafe extern "C" {
-    fn p2p_session_interface_94783bdc9468ec13() -> u64;
+    fn p2p_session_interface_c6aa43a92dc083a3() -> u64;
 
     fn p2p_session_size() -> usize;
 
@@ -276,7 +285,7 @@ impl Session {
         }
         // SAFETY: it takes nothing, and the memory has this size and alignment.
         unsafe {
-            p2p_session_interface_94783bdc9468ec13();
+            p2p_session_interface_c6aa43a92dc083a3();
             p2p_session_new(at);
         }
         Some(Session { at })

@@ -5,6 +5,8 @@
 #[path = "../tests/calls/mod.rs"]
 mod calls;
 
+use p2p_directory as pair;
+
 /// libFuzzer calls this with the bytes that it generated.
 #[allow(non_snake_case)]
 #[unsafe(no_mangle)]

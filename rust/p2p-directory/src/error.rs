@@ -82,10 +82,10 @@ pub enum What {
     Hostname,
     /// Unused bits of the last byte that are not 0.
     Padding,
-    /// Invalid key bytes. Never returned for the keys of this crate: any 32 bytes are a key.
+    /// Bytes that are no key. Only keys whose first byte is bounded, as those of
+    /// [`keys33_64`](crate::keys33_64), have such bytes.
     Key,
-    /// Invalid signature bytes. Never returned for the signatures of this crate: any 64 bytes are a
-    /// signature.
+    /// Bytes that are no signature. Never returned by this crate: any bytes of its sizes are one.
     Signature,
 }
 
@@ -134,12 +134,130 @@ pub enum ParseError {
     Length(usize),
     /// A character is no hexadecimal digit.
     Digit,
+    /// No key begins with this byte.
+    Key(u8),
     /// There is no port after a colon at the end, or it is above `u16::MAX`.
     Port,
     /// The host has brackets or its last label is a number, and it is no address.
     Address,
     /// The host is no hostname, for this reason.
     Hostname(CodecError),
+}
+
+/// A key occurs more than once in a list that was converted to a set.
+///
+/// # Examples
+///
+/// ```
+/// use p2p_directory::{DuplicateKeyError, Key, OrderedSet};
+///
+/// assert_eq!(OrderedSet::try_from(vec![Key([1; 32]); 2]), Err(DuplicateKeyError));
+/// ```
+#[derive(Clone, Copy, Debug, PartialEq, Eq, Hash)]
+pub struct DuplicateKeyError;
+
+/// The reason why a reservation was not connected. Nothing has changed.
+///
+/// # Examples
+///
+/// ```
+/// # use p2p_directory::*; use std::time::Duration;
+/// # let (mut directory, mut other) = (testing::directory(), testing::directory());
+/// # let (peer, now) = (testing::key(1), Moment::from_secs(1));
+/// # directory.track(0, &OrderedSet::from_iter_dedup([peer]).into())?;
+/// let reservation = directory.listen(&peer, now, Duration::ZERO)?.expect("in a set");
+/// let refused = other.connect_reserved(&reservation).unwrap_err();
+/// assert_eq!(refused, ConnectError::OfAnotherDirectory);
+/// assert_eq!(refused.to_string(), "the reservation is of another directory");
+/// # Ok::<(), OutOfMemory>(())
+/// ```
+#[derive(Clone, Copy, Debug, PartialEq, Eq, Hash)]
+#[non_exhaustive]
+pub enum ConnectError {
+    /// The reservation is of another directory.
+    OfAnotherDirectory,
+    /// The peer is connected already.
+    NotReserved,
+}
+
+/// The reason why a frame was refused, as an error.
+///
+/// # Examples
+///
+/// ```
+/// # use p2p_directory::*;
+/// # let mut node = Node::new(&testing::setup(9)).unwrap();
+/// let refused = node.receive(&[], Moment::EPOCH, testing::verify).accepted().unwrap_err();
+/// assert_eq!(refused, RefusedError::Codec(CodecError::EndOfBuffer));
+/// assert_eq!(refused.to_string(), "the frame encodes no payload");
+/// ```
+#[derive(Clone, Copy, Debug, PartialEq, Eq, Hash)]
+#[non_exhaustive]
+pub enum RefusedError {
+    /// The frame encodes no payload within the limits: its first error.
+    Codec(CodecError),
+    /// The number of bits differs from the number of primary peers.
+    Malformed,
+    /// An info, or the number of infos, is invalid.
+    Invalid(Error),
+    /// An allocation failed: the frame may be passed in again.
+    OutOfMemory,
+}
+
+/// The number of verification results differs from the number of questions. Fewer are accepted only
+/// if one of them is false.
+///
+/// # Examples
+///
+/// ```
+/// # use p2p_directory::*;
+/// # let node = Node::new(&testing::setup(9)).unwrap();
+/// let frame = Payload::Peers(vec![testing::info(1, 0), testing::info(2, 0)]).encode();
+/// let judged = |verdicts: &[bool]| {
+///     let questions = node.check(&frame, Moment::from_secs(1)).expect("memory");
+///     questions.judged(verdicts.iter().copied()).map(|_| ())
+/// };
+/// assert_eq!(judged(&[true]), Err(WrongVerdictsError));
+/// assert_eq!(judged(&[true, true]), Ok(()));
+/// assert_eq!(judged(&[false]), Ok(()));
+/// ```
+#[derive(Clone, Copy, Debug, PartialEq, Eq, Hash)]
+pub struct WrongVerdictsError;
+
+/// The reason why infos are invalid or could not be validated.
+///
+/// # Examples
+///
+/// ```
+/// # use p2p_directory::{Error, ValidateError};
+/// assert_eq!(ValidateError::Invalid(Error::ReceivedSelf).to_string(), "the infos are invalid");
+/// ```
+#[derive(Clone, Copy, Debug, PartialEq, Eq, Hash)]
+#[non_exhaustive]
+pub enum ValidateError {
+    /// An allocation failed.
+    OutOfMemory,
+    /// An info, or the number of infos, is invalid.
+    Invalid(Error),
+}
+
+/// The reason why bytes are no key of a pair whose keys begin with certain bytes.
+///
+/// # Examples
+///
+/// ```
+/// use p2p_directory::{KeyError, keys33_64};
+///
+/// assert_eq!(keys33_64::Key::new([4; 33]), Err(KeyError::First(4)));
+/// assert_eq!(keys33_64::Key::try_from(&[2; 32][..]), Err(KeyError::Length(32)));
+/// ```
+#[derive(Clone, Copy, Debug, PartialEq, Eq, Hash)]
+#[non_exhaustive]
+pub enum KeyError {
+    /// There is another number of bytes: this one.
+    Length(usize),
+    /// No key begins with this byte.
+    First(u8),
 }
 
 impl fmt::Display for OutOfMemory {
@@ -204,6 +322,7 @@ impl fmt::Display for ParseError {
         match self {
             ParseError::Length(length) => write!(f, "invalid number of digits: {length}"),
             ParseError::Digit => f.write_str("invalid hexadecimal digit"),
+            ParseError::Key(byte) => write!(f, "no key begins with the byte {byte}"),
             ParseError::Port => f.write_str("invalid port"),
             ParseError::Address => f.write_str("invalid address"),
             ParseError::Hostname(_) => f.write_str("the host is no name"),
@@ -245,3 +364,102 @@ impl From<OutOfMemory> for SetupError {
         SetupError::OutOfMemory
     }
 }
+
+impl fmt::Display for DuplicateKeyError {
+    fn fmt(&self, f: &mut fmt::Formatter<'_>) -> fmt::Result {
+        f.write_str("a key stands more than once")
+    }
+}
+
+impl error::Error for DuplicateKeyError {}
+
+impl fmt::Display for ConnectError {
+    fn fmt(&self, f: &mut fmt::Formatter<'_>) -> fmt::Result {
+        match self {
+            ConnectError::OfAnotherDirectory => {
+                f.write_str("the reservation is of another directory")
+            }
+            ConnectError::NotReserved => f.write_str("the reservation is connected already"),
+        }
+    }
+}
+
+impl error::Error for ConnectError {
+    fn source(&self) -> Option<&(dyn error::Error + 'static)> {
+        match self {
+            ConnectError::OfAnotherDirectory => None,
+            ConnectError::NotReserved => Some(&NotReservedError),
+        }
+    }
+}
+
+impl From<NotReservedError> for ConnectError {
+    fn from(_refused: NotReservedError) -> ConnectError {
+        ConnectError::NotReserved
+    }
+}
+
+impl fmt::Display for RefusedError {
+    fn fmt(&self, f: &mut fmt::Formatter<'_>) -> fmt::Result {
+        match self {
+            RefusedError::Codec(_) => f.write_str("the frame encodes no payload"),
+            RefusedError::Malformed => f.write_str("the frame has another number of bits"),
+            RefusedError::Invalid(_) => f.write_str("the infos of the frame are invalid"),
+            RefusedError::OutOfMemory => f.write_str("the frame could not be processed"),
+        }
+    }
+}
+
+impl error::Error for RefusedError {
+    fn source(&self) -> Option<&(dyn error::Error + 'static)> {
+        match self {
+            RefusedError::Codec(fault) => Some(fault),
+            RefusedError::Malformed => None,
+            RefusedError::Invalid(error) => Some(error),
+            RefusedError::OutOfMemory => Some(&OutOfMemory),
+        }
+    }
+}
+
+impl fmt::Display for WrongVerdictsError {
+    fn fmt(&self, f: &mut fmt::Formatter<'_>) -> fmt::Result {
+        f.write_str("there is not one verdict for each question")
+    }
+}
+
+impl error::Error for WrongVerdictsError {}
+
+impl fmt::Display for ValidateError {
+    fn fmt(&self, f: &mut fmt::Formatter<'_>) -> fmt::Result {
+        match self {
+            ValidateError::OutOfMemory => f.write_str("the infos could not be validated"),
+            ValidateError::Invalid(_) => f.write_str("the infos are invalid"),
+        }
+    }
+}
+
+impl error::Error for ValidateError {
+    fn source(&self) -> Option<&(dyn error::Error + 'static)> {
+        match self {
+            ValidateError::OutOfMemory => Some(&OutOfMemory),
+            ValidateError::Invalid(error) => Some(error),
+        }
+    }
+}
+
+impl From<OutOfMemory> for ValidateError {
+    fn from(_refused: OutOfMemory) -> ValidateError {
+        ValidateError::OutOfMemory
+    }
+}
+
+impl fmt::Display for KeyError {
+    fn fmt(&self, f: &mut fmt::Formatter<'_>) -> fmt::Result {
+        match self {
+            KeyError::Length(length) => write!(f, "invalid number of bytes: {length}"),
+            KeyError::First(byte) => write!(f, "no key begins with the byte {byte}"),
+        }
+    }
+}
+
+impl error::Error for KeyError {}

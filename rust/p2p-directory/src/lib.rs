@@ -24,6 +24,51 @@
 //!
 //! Buffers are kept between calls, each up to 64 KiB.
 //!
+//! # Keys of other sizes
+//!
+//! Keys have 32 bytes and signatures 64, as those of ed25519. The modules [`keys33_64`],
+//! [`keys48_96`] and [`keys96_48`] have the same names for keys and signatures of other sizes, and
+//! a host names one of them in place of the root. Types that don't depend on the sizes are the same
+//! in all.
+//!
+//! ```
+//! use p2p_directory::keys33_64::{Config, Directory, Info, Ingress, Key, Moment, Signature};
+//! use p2p_directory::keys33_64::{OrderedSet, Status};
+//! use std::net::SocketAddr;
+//! use std::num::NonZeroUsize;
+//! use std::time::Duration;
+//!
+//! let cfg = Config {
+//!     allow_private_ips: true,
+//!     allow_dns: true,
+//!     max_sets: NonZeroUsize::MIN,
+//!     dial_fail_limit: 1,
+//!     peer_connection_cooldown: Duration::from_secs(10),
+//!     block_duration: Duration::from_secs(60),
+//! };
+//! let ingress = Ingress::from(SocketAddr::from(([8, 8, 8, 8], 9000)));
+//! let (own, peer) = (Key::new([2; 33])?, Key::new([3; 33])?);
+//! let myself = Info::sign(own, b"net", ingress, 0, |_, _| Signature([0; 64]));
+//! let mut directory = Directory::init(&[], &myself, cfg)?;
+//! directory.track(0, &OrderedSet::from_iter_dedup([peer]).into())?;
+//! assert_eq!(directory.status(&peer), Some(Status::Inert));
+//! # Ok::<(), Box<dyn std::error::Error>>(())
+//! ```
+//!
+//! A key of one pair of sizes at a directory of another doesn't compile:
+//!
+//! ```compile_fail,E0308
+//! fn status(directory: &p2p_directory::keys33_64::Directory, peer: &p2p_directory::Key) {
+//!     directory.status(peer);
+//! }
+//! ```
+//!
+//! ```compile_fail,E0308
+//! fn status(directory: &p2p_directory::Directory, peer: &p2p_directory::keys33_64::Key) {
+//!     directory.status(peer);
+//! }
+//! ```
+//!
 //! # Features
 //!
 //! `testing` adds the module `testing`: keys, infos and a signature scheme without any security,
@@ -51,48 +96,43 @@
 //! ```
 
 #![forbid(unsafe_code)]
+// The files of a pair of sizes are those of each other pair.
+#![allow(clippy::duplicate_mod)]
 
 mod answer;
 mod codec;
-mod directory;
+mod config;
+mod data;
 mod error;
-mod info;
 mod ingress;
-mod key;
+mod keys32_64;
 mod memory;
 mod moment;
-mod node;
-mod payload;
-mod sets;
+mod pairs;
+mod shared;
 mod sizes;
-#[cfg(any(test, feature = "testing"))]
-pub mod testing;
-mod verification;
-mod verifier;
+mod status;
+mod text;
 
-pub use directory::{
-    Config, ConnectError, Dialable, Directory, Metadata, PeerSetUpdate, ReleaseError, Reservation,
-    Status,
+pub use config::{Config, PayloadConfig};
+pub use data::{BitVec, Data};
+pub use error::{
+    CodecError, ConnectError, DuplicateKeyError, Error, KeyError, NotReservedError, OutOfMemory,
+    ParseError, RefusedError, SetupError, ValidateError, What, WrongVerdictsError,
 };
-pub use error::{CodecError, Error, NotReservedError, OutOfMemory, ParseError, SetupError, What};
-pub use info::Info;
 pub use ingress::{Hostname, Ingress, is_global};
-pub use key::{KEY_SIZE, Key, SIGNATURE_SIZE, Signature};
-pub use moment::{BeforeEpochError, Moment};
-pub use node::{Node, Received, RefusedError, Setup};
-pub use payload::{BitVec, Data, Payload, PayloadConfig};
-pub use sets::{DuplicateKeyError, OrderedSet, TrackedPeers};
-pub use sizes::{EncodedData, MAX_PAYLOAD_OVERHEAD, max_gossip_size, max_size};
-pub use verification::{
-    Judged, Question, Questions, QuestionsIter, ReceiveError, WrongVerdictsError,
+#[cfg(any(test, feature = "testing"))]
+pub use keys32_64::testing;
+pub use keys32_64::{
+    Dialable, Directory, Info, InfoVerifier, Judged, KEY_SIZE, Key, Metadata, Node, OrderedSet,
+    Payload, PeerSetUpdate, Question, Questions, QuestionsIter, ReceiveError, Received,
+    ReleaseError, Reservation, SIGNATURE_SIZE, Setup, Signature, TrackedPeers, max_gossip_size,
 };
-pub use verifier::{InfoVerifier, ValidateError};
+pub use moment::{BeforeEpochError, Moment};
+pub use pairs::*;
+pub use sizes::{EncodedData, MAX_PAYLOAD_OVERHEAD, max_size};
+pub use status::Status;
 
 #[cfg(doctest)]
 #[doc = include_str!("../README.md")]
 struct Readme;
-
-#[cfg(test)]
-mod hostile;
-#[cfg(test)]
-mod session_tests;

@@ -1,7 +1,6 @@
 //! The sizes of frames and values, by `docs/FORMATS.md` of the repository.
 
 use crate::codec::{MAX_VARINT_SIZE, put_varint, varint_size};
-use crate::info::Info;
 use std::fmt;
 
 /// How many bytes a data frame is longer than its message, at most.
@@ -27,17 +26,12 @@ pub const fn max_size(max_frame_size: u32) -> Option<u32> {
     max_frame_size.checked_sub(MAX_PAYLOAD_OVERHEAD)
 }
 
-/// The maximum size of a frame that isn't data, if it has at most so many bits or infos. A
-/// transport has to carry such frames for gossip. Returns `None` if the size exceeds `usize::MAX`.
-///
-/// # Examples
-///
-/// ```
-/// assert_eq!(p2p_directory::max_gossip_size(100_000, 0), Some(12_514));
-/// ```
-#[must_use]
-pub const fn max_gossip_size(max_bit_vec: u64, max_peers: usize) -> Option<usize> {
-    let info = Info::max_encode_size();
+/// The maximum size of a frame that isn't data, if infos have at most this size.
+pub(crate) const fn longest_gossip(
+    info: usize,
+    max_bit_vec: u64,
+    max_peers: usize,
+) -> Option<usize> {
     let bytes = max_bit_vec.div_ceil(8);
     if bytes > usize::MAX as u64 - 64 {
         return None;

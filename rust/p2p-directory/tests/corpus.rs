@@ -7,6 +7,9 @@ mod seeds;
 mod valgrind;
 mod widened;
 
+// Where another file has this one as a module, the pair of sizes is that of the other.
+#[allow(unused_imports)]
+use p2p_directory as pair;
 use std::path::{Path, PathBuf};
 use std::{env, fs};
 
@@ -14,10 +17,18 @@ use std::{env, fs};
 const MOST_FILES: usize = 200;
 const MOST_BYTES: usize = 1024;
 
+/// The name of a target with the pair of sizes.
+fn of_pair(target: &str) -> String {
+    match (crate::pair::KEY_SIZE, crate::pair::SIGNATURE_SIZE) {
+        (32, 64) => target.to_owned(),
+        (key, signature) => format!("{target}{key}_{signature}"),
+    }
+}
+
 /// The contents of the files of a target, in the order of their names.
 fn corpus(target: &str) -> Vec<(PathBuf, Vec<u8>)> {
     let root = concat!(env!("CARGO_MANIFEST_DIR"), "/tests/corpus");
-    let entries = fs::read_dir(Path::new(root).join(target)).expect("a folder");
+    let entries = fs::read_dir(Path::new(root).join(of_pair(target))).expect("a folder");
     let mut paths: Vec<PathBuf> = entries.map(|entry| entry.expect("a file").path()).collect();
     paths.sort();
     let read = |path: PathBuf| {
@@ -69,10 +80,16 @@ fn the_corpus_is_small() {
 
 #[test]
 fn valgrind_finds_nothing() {
-    valgrind::finds_nothing(&[
+    let names = [
         "each_frame_is_read_alike",
         "each_list_of_calls_is_answered_as_by_the_model",
-    ]);
+    ];
+    let module = module_path!().split_once("::");
+    let names = names.map(|name| match module {
+        Some((_, module)) => format!("{module}::{name}"),
+        None => name.to_owned(),
+    });
+    valgrind::finds_nothing(&names.each_ref().map(String::as_str));
 }
 
 /// Writes the initial corpus for fuzzing into the folder that `FUZZ_SEEDS` names, for
@@ -85,7 +102,7 @@ fn writes_seeds() {
         .map(|seed| random::bytes(seed, MOST_BYTES))
         .collect();
     for (target, seeds) in [("frame", seeds::frames()), ("calls", lists)] {
-        let folder = folder.join(target);
+        let folder = folder.join(of_pair(target));
         fs::create_dir_all(&folder).expect("a folder");
         for (place, seed) in seeds.iter().enumerate() {
             fs::write(folder.join(place.to_string()), seed).expect("a file");

@@ -5,6 +5,9 @@ mod random;
 
 use calls::call::Call;
 use calls::{MOST_CALLS, compare, shrunk};
+// Where another file has this one as a module, the pair of sizes is that of the other.
+#[allow(unused_imports)]
+use p2p_directory as pair;
 use std::collections::{BTreeMap, BTreeSet};
 
 const RUNS: usize = 500;

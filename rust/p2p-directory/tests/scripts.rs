@@ -8,6 +8,7 @@
 mod player;
 mod widened;
 
+use p2p_directory as pair;
 use player::{Mode, Tally, play};
 use std::collections::BTreeMap;
 use std::fs;

@@ -5,6 +5,10 @@ mod frames;
 mod seeds;
 mod widened;
 
+// Where another file has this one as a module, the pair of sizes is that of the other.
+#[allow(unused_imports)]
+use p2p_directory as pair;
+
 const FRAMES: u32 = 100_000;
 
 // Pseudo-random numbers, the same in each run.

@@ -1,36 +1,64 @@
 //! How long calls take from Rust.
 //!
 //! - `SCENARIO N SAMPLES` measures a call so often, with N peers. It prints the minimum and the
-//!   median in nanoseconds, and how much was done. A further word `32`, the size of the keys,
-//!   changes nothing.
+//!   median in nanoseconds, and how much was done. A further word is the size of the keys in bytes:
+//!   32 unless it is 33, 48 or 96.
 //! - `times` prints how the times of some calls grow with sets and with blocks.
 //! - Without a word, each call is made with few peers, and what was done is printed.
 //!
 //! `cargo bench --bench timing -- SCENARIO N SAMPLES`. The program `timing` of the repository has
 //! the same words, for what no export reaches.
 
+// The measurements are the same for each pair of sizes.
+#![allow(clippy::duplicate_mod)]
+
 use std::env;
 use std::error::Error;
 use std::process::ExitCode;
 
-mod growth;
-mod hour;
-mod made;
-mod scenarios;
+mod keys32_64;
+mod keys33_64;
+mod keys48_96;
+mod keys96_48;
 mod times;
+
+use times::Times;
 
 type Outcome<T> = Result<T, Box<dyn Error>>;
 
+/// The measurements with keys of one pair of sizes.
+struct Pair {
+    key_size: usize,
+    measure_few: fn() -> Outcome<()>,
+    measure_growth: fn() -> Outcome<()>,
+    times_of: fn(&str, usize, usize) -> Outcome<Times>,
+}
+
+const PAIRS: [Pair; 4] = [
+    keys32_64::PAIR,
+    keys33_64::PAIR,
+    keys48_96::PAIR,
+    keys96_48::PAIR,
+];
+
 fn measure(words: &[&str]) -> Outcome<()> {
+    let (words, size) = match words {
+        [scenario @ .., size] if scenario.len() == 3 => (scenario, size.parse()?),
+        _ => (words, 32),
+    };
+    let mut pairs = PAIRS.iter();
+    let pair = pairs
+        .find(|pair| pair.key_size == size)
+        .ok_or("keys have 32, 33, 48 or 96 bytes")?;
     match words {
-        [] => scenarios::measure_few(),
-        ["times"] => growth::measure(),
-        [name, count, samples] | [name, count, samples, "32"] => {
-            let times = scenarios::times_of(name, count.parse()?, samples.parse()?)?;
+        [] => (pair.measure_few)(),
+        ["times"] => (pair.measure_growth)(),
+        [name, count, samples] => {
+            let times = (pair.times_of)(name, count.parse()?, samples.parse()?)?;
             println!("{times}");
             Ok(())
         }
-        _ => Err("the words are: SCENARIO N SAMPLES [32], or times".into()),
+        _ => Err("the words are: SCENARIO N SAMPLES [SIZE], or times".into()),
     }
 }
 

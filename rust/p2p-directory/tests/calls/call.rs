@@ -1,9 +1,9 @@
 //! Calls with their arguments, and how a list of them is decoded from bytes.
 
-use p2p_directory::testing::{NAMESPACE, key, sign};
-use p2p_directory::{
-    BitVec, Config, Data, Hostname, Info, Ingress, Key, Moment, Payload, PayloadConfig, Setup,
-    Signature,
+use crate::pair::testing::{NAMESPACE, key, sign};
+use crate::pair::{
+    BitVec, Config, Data, Hostname, Info, Ingress, Key, Moment, Payload, PayloadConfig,
+    SIGNATURE_SIZE, Setup, Signature,
 };
 use std::net::{Ipv6Addr, SocketAddr};
 use std::num::NonZeroUsize;
@@ -133,7 +133,7 @@ impl Draws<'_> {
             timestamp,
             |namespace, message| match is_right {
                 true => sign(&public_key, namespace, message),
-                false => Signature([1; 64]),
+                false => Signature([1; SIGNATURE_SIZE]),
             },
         )
     }
@@ -243,7 +243,7 @@ impl Draws<'_> {
         let count = self.below(5) as usize;
         Setup {
             bootstrappers: bootstrappers[..count].to_vec(),
-            myself: p2p_directory::testing::info(OWN, self.one(&[0, 100_000, u64::MAX])),
+            myself: crate::pair::testing::info(OWN, self.one(&[0, 100_000, u64::MAX])),
             cfg: Config {
                 allow_private_ips: self.truth(),
                 allow_dns: self.truth(),

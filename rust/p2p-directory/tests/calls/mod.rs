@@ -6,9 +6,9 @@ pub mod call;
 mod model;
 mod real;
 
+use crate::pair::Setup;
 use call::{Call, Draws};
 use model::Model;
-use p2p_directory::Setup;
 use real::Real;
 
 /// The maximum number of calls in a list.

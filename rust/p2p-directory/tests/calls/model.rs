@@ -1,8 +1,8 @@
 //! A model of a node: maps and lists, and the results that the specification has for them.
 
 use super::call::{Call, OWN};
-use p2p_directory::testing::{NAMESPACE, key, verify};
-use p2p_directory::{
+use crate::pair::testing::{NAMESPACE, key, verify};
+use crate::pair::{
     BitVec, CodecError, ConnectError, EncodedData, Error, Info, Ingress, Key, Metadata, Moment,
     NotReservedError, OrderedSet, OutOfMemory, Payload, Received, Setup, Status, TrackedPeers,
     ValidateError,
@@ -142,7 +142,18 @@ impl Model {
                 let others = all.filter(|peer| *peer != key(OWN) && self.is_present(peer));
                 shown((others.count(), self.retained().len()))
             }
-            change => unreachable!("{change:?} changes something"),
+            change @ (Call::Track(..)
+            | Call::Dial(..)
+            | Call::Listen(..)
+            | Call::Connect(..)
+            | Call::ConnectReserved(..)
+            | Call::Release(..)
+            | Call::Abandon(..)
+            | Call::Update(..)
+            | Call::Block(..)
+            | Call::UnblockExpired(..)
+            | Call::ForgetCooled(..)
+            | Call::Receive(..)) => unreachable!("{change:?} changes something"),
         }
     }
 

@@ -2,8 +2,8 @@
 
 use super::call::Call;
 use super::model::{CUTS, shown};
-use p2p_directory::testing::verify;
-use p2p_directory::{
+use crate::pair::testing::verify;
+use crate::pair::{
     Info, InfoVerifier, Key, Metadata, Moment, Node, OrderedSet, Payload, Reservation, Setup,
     TrackedPeers, ValidateError,
 };
@@ -116,7 +116,18 @@ impl Real {
                 shown((told.peers, told.next_query_at))
             }
             Call::Tracked => shown((directory.tracked(), directory.retained())),
-            change => unreachable!("{change:?} changes something"),
+            change @ (Call::Track(..)
+            | Call::Dial(..)
+            | Call::Listen(..)
+            | Call::Connect(..)
+            | Call::ConnectReserved(..)
+            | Call::Release(..)
+            | Call::Abandon(..)
+            | Call::Update(..)
+            | Call::Block(..)
+            | Call::UnblockExpired(..)
+            | Call::ForgetCooled(..)
+            | Call::Receive(..)) => unreachable!("{change:?} changes something"),
         }
     }
 }

@@ -1,8 +1,8 @@
 //! A frame, as the library and this crate's own decoder read it: both return the same value, or the
 //! same error.
 
-use p2p_directory::testing::{info, key, setup};
-use p2p_directory::{
+use crate::pair::testing::{info, key, setup};
+use crate::pair::{
     BitVec, EncodedData, Error, Info, Key, Moment, Node, OrderedSet, Payload, PayloadConfig,
     Received, Reservation, Setup, Signature, TrackedPeers,
 };

@@ -1,10 +1,10 @@
 //! Initial frames: one of each kind and each kind of address, the vectors of `docs/FORMATS.md`,
 //! lengths at their limits and beyond, and the frames of the scripts of `play`.
 
-use crate::frames::{INDEX, LIMITS, PEERS};
-use crate::widened::{bytes_of, widened_frame};
-use p2p_directory::testing::{NAMESPACE, info, key, sign};
-use p2p_directory::{
+use super::frames::{INDEX, LIMITS, PEERS};
+use super::widened::{bytes_of, widened_frame};
+use crate::pair::testing::{NAMESPACE, info, key, sign};
+use crate::pair::{
     BitVec, Data, Hostname, Info, Ingress, KEY_SIZE, Payload, PayloadConfig, SIGNATURE_SIZE,
 };
 use std::fs;

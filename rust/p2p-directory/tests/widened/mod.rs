@@ -1,8 +1,8 @@
 //! Frames of the scripts of `play`, whose keys and signatures have eight bytes each, with the wider
 //! ones of this crate.
 
-use p2p_directory::testing::sign;
-use p2p_directory::{Info, KEY_SIZE, SIGNATURE_SIZE};
+use crate::pair::testing::{key, sign};
+use crate::pair::{Info, KEY_SIZE, SIGNATURE_SIZE};
 
 /// The namespaces in which the infos of the scripts' frames are signed.
 const NAMESPACES: [&[u8]; 2] = [b"rows", b"other"];
@@ -43,7 +43,8 @@ fn widened_info(bytes: &[u8]) -> Option<(Info, &[u8])> {
     let (front, rest) = bytes.split_at(ingress + timestamp);
     let (number, rest) = rest.split_first_chunk::<8>()?;
     let (signature, rest) = rest.split_first_chunk::<8>()?;
-    let (head, tail) = ([0; KEY_SIZE - 8], [0; SIGNATURE_SIZE]);
+    let (mut head, tail) = ([0; KEY_SIZE - 8], [0; SIGNATURE_SIZE]);
+    head[0] = key(0).as_bytes()[0];
     let mut info = Info::decode(&[front, &head, number, &tail].concat()).ok()?;
     let message = info.signed_bytes();
     let number = u64::from_be_bytes(*number);

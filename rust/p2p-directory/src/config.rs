@@ -1,0 +1,81 @@
+//! The settings of directories and nodes, whatever sizes their keys have.
+
+use std::num::NonZeroUsize;
+use std::time::Duration;
+
+/// The settings of a directory.
+///
+/// # Examples
+///
+/// ```
+/// use p2p_directory::Config;
+/// use std::num::NonZeroUsize;
+/// use std::time::Duration;
+///
+/// let cfg = Config {
+///     allow_private_ips: false,
+///     allow_dns: true,
+///     max_sets: NonZeroUsize::new(4).unwrap(),
+///     dial_fail_limit: 3,
+///     peer_connection_cooldown: Duration::from_secs(10),
+///     block_duration: Duration::from_secs(3600),
+/// };
+/// assert!(!cfg.allow_private_ips);
+/// ```
+#[derive(Clone, Copy, Debug, PartialEq, Eq, Hash)]
+pub struct Config {
+    /// Whether addresses that are not [global](crate::is_global) may be dialled.
+    pub allow_private_ips: bool,
+    /// Whether names may be dialled.
+    pub allow_dns: bool,
+    /// How many peer sets are retained, below `usize::MAX`.
+    pub max_sets: NonZeroUsize,
+    /// After how many failed dials a peer's info is requested again.
+    pub dial_fail_limit: usize,
+    /// The minimum time between two reservations of one peer.
+    pub peer_connection_cooldown: Duration,
+    /// How long a block lasts.
+    pub block_duration: Duration,
+}
+
+/// The limits under which frames are decoded.
+///
+/// # Examples
+///
+/// ```
+/// use p2p_directory::{CodecError, Payload, PayloadConfig};
+///
+/// let limits = PayloadConfig { max_bit_vec: 8, max_peers: 8, max_data_length: 4 };
+/// let frame = [0, 1, 5, b'h', b'e', b'l', b'l', b'o'];
+/// assert_eq!(Payload::decode(&frame, &limits), Err(CodecError::InvalidLength(5)));
+/// ```
+#[derive(Clone, Copy, Debug, PartialEq, Eq, Hash)]
+pub struct PayloadConfig {
+    /// The maximum number of bits, at most `u32::MAX`.
+    pub max_bit_vec: u64,
+    /// The maximum number of infos.
+    pub max_peers: usize,
+    /// The maximum length of a message, in bytes.
+    pub max_data_length: usize,
+}
+
+/// The settings of a node in addition to those of its directory.
+pub(crate) struct Limits {
+    pub(crate) payload: PayloadConfig,
+    pub(crate) peer_gossip_max_count: usize,
+    pub(crate) synchrony_bound: Duration,
+    pub(crate) namespace: Vec<u8>,
+}
+
+/// Whether the processor has all instruction sets that the library is compiled for. The library
+/// itself doesn't check.
+pub(crate) fn is_supported() -> bool {
+    #[cfg(target_arch = "x86_64")]
+    let is_supported = is_x86_feature_detected!("sse4.2")
+        && is_x86_feature_detected!("ssse3")
+        && is_x86_feature_detected!("popcnt")
+        && is_x86_feature_detected!("cmpxchg16b");
+    #[cfg(not(target_arch = "x86_64"))]
+    let is_supported = true;
+    is_supported
+}

@@ -1,0 +1,206 @@
+//! Permission to connect to a peer.
+
+use super::super::key::Key;
+use super::held::Origin;
+use crate::ingress::Ingress;
+use std::error;
+use std::fmt;
+
+/// Permission to connect to a peer, returned by [`Directory::dial`](super::Directory::dial) and
+/// [`Directory::listen`](super::Directory::listen). While it is held, the peer can't be reserved
+/// again.
+///
+/// [`Directory::release`](super::Directory::release) gives it back at once. One that is dropped, on
+/// whichever thread, is released by the next call of its directory, queries included, before that
+/// call returns. Dropping doesn't allocate, and has no effect if the directory was dropped.
+///
+/// # Examples
+///
+/// ```
+/// # use p2p_directory::*; use std::time::Duration;
+/// # let mut directory = testing::directory();
+/// # let (peer, now) = (testing::key(1), Moment::from_secs(1));
+/// # directory.track(0, &OrderedSet::from_iter_dedup([peer]).into())?;
+/// let reservation = directory.listen(&peer, now, Duration::ZERO)?.expect("in a set");
+/// assert!(directory.listen(&peer, now, Duration::ZERO)?.is_none());
+/// directory.release(reservation).expect("its own");
+///
+/// // After its cooldown it is accepted again, and this time the reservation is dropped.
+/// let later = Moment::from_secs(11);
+/// let reservation = directory.listen(&peer, later, Duration::ZERO)?.expect("not reserved");
+/// drop(reservation);
+/// assert_eq!(directory.status(&peer), Some(Status::Inert));
+/// # Ok::<(), OutOfMemory>(())
+/// ```
+#[must_use = "a reservation that is dropped is released by the next call of its directory"]
+pub struct Reservation {
+    metadata: Metadata,
+    // `None` after it was given back.
+    origin: Option<Origin>,
+}
+
+/// The peer of a reservation, and the direction of its connection.
+///
+/// # Examples
+///
+/// ```
+/// # use p2p_directory::{Key, Metadata};
+/// assert_eq!(Metadata::Listener(Key([1; 32])).public_key(), &Key([1; 32]));
+/// ```
+#[derive(Clone, Debug, PartialEq, Eq, Hash)]
+#[non_exhaustive]
+pub enum Metadata {
+    /// The peer is dialled at this address.
+    Dialer(Key, Ingress),
+    /// The peer is inbound.
+    Listener(Key),
+}
+
+/// A reservation that was passed to [`Directory::release`](super::Directory::release) is of another
+/// directory. Nothing has changed.
+///
+/// The error gives the reservation back. If the error is dropped, so is the reservation, and its
+/// own directory releases it.
+///
+/// # Examples
+///
+/// ```
+/// # use p2p_directory::*; use std::time::Duration;
+/// # let (mut directory, mut other) = (testing::directory(), testing::directory());
+/// # let (peer, now) = (testing::key(1), Moment::from_secs(1));
+/// # directory.track(0, &OrderedSet::from_iter_dedup([peer]).into())?;
+/// let reservation = directory.listen(&peer, now, Duration::ZERO)?.expect("in a set");
+/// let ReleaseError { reservation, .. } = other.release(reservation).unwrap_err();
+/// assert!(directory.release(reservation).is_ok());
+/// # Ok::<(), OutOfMemory>(())
+/// ```
+#[derive(Debug)]
+#[non_exhaustive]
+pub struct ReleaseError {
+    /// The reservation that was passed.
+    pub reservation: Reservation,
+}
+
+impl Reservation {
+    #[inline]
+    pub(super) fn new(metadata: Metadata, origin: Origin) -> Reservation {
+        Reservation {
+            metadata,
+            origin: Some(origin),
+        }
+    }
+
+    /// The peer of the reservation, and the direction of its connection. For a dial it has the
+    /// address to dial. It doesn't allocate.
+    ///
+    /// # Examples
+    ///
+    /// ```
+    /// # use p2p_directory::*; use std::time::Duration;
+    /// # let mut directory = testing::directory();
+    /// let (peer, now) = (testing::key(1), Moment::from_secs(1));
+    /// directory.track(0, &OrderedSet::from_iter_dedup([peer]).into())?;
+    /// directory.update_peers(&[testing::info(1, 1000)])?;
+    /// let reservation = directory.dial(&peer, now, Duration::ZERO)?.expect("its address is known");
+    /// let Metadata::Dialer(key, ingress) = reservation.metadata() else { panic!() };
+    /// assert_eq!((key, ingress), (&peer, &testing::info(1, 1000).ingress));
+    /// # directory.release(reservation).expect("its own");
+    /// # Ok::<(), OutOfMemory>(())
+    /// ```
+    #[must_use]
+    #[inline]
+    pub fn metadata(&self) -> &Metadata {
+        &self.metadata
+    }
+
+    /// The key of the peer.
+    ///
+    /// # Examples
+    ///
+    /// ```
+    /// # use p2p_directory::*; use std::time::Duration;
+    /// # let mut directory = testing::directory();
+    /// # let (peer, now) = (testing::key(1), Moment::from_secs(1));
+    /// # directory.track(0, &OrderedSet::from_iter_dedup([peer]).into())?;
+    /// let reservation = directory.listen(&peer, now, Duration::ZERO)?.expect("in a set");
+    /// assert_eq!(reservation.public_key(), &peer);
+    /// # directory.release(reservation).expect("its own");
+    /// # Ok::<(), OutOfMemory>(())
+    /// ```
+    #[must_use]
+    #[inline]
+    pub fn public_key(&self) -> &Key {
+        self.metadata.public_key()
+    }
+
+    #[inline]
+    pub(super) fn is_of(&self, directory: Origin) -> bool {
+        self.origin
+            .is_some_and(|origin| origin.id() == directory.id())
+    }
+
+    /// Returns the peer without giving the reservation back.
+    #[inline]
+    pub(super) fn into_peer(mut self) -> Key {
+        self.origin = None;
+        *self.public_key()
+    }
+}
+
+impl Drop for Reservation {
+    #[inline]
+    fn drop(&mut self) {
+        if let Some(origin) = self.origin {
+            origin.leave(*self.public_key());
+        }
+    }
+}
+
+impl fmt::Debug for Reservation {
+    fn fmt(&self, f: &mut fmt::Formatter<'_>) -> fmt::Result {
+        f.debug_struct("Reservation")
+            .field("metadata", &self.metadata)
+            .finish_non_exhaustive()
+    }
+}
+
+impl Metadata {
+    /// The key of the peer.
+    ///
+    /// # Examples
+    ///
+    /// ```
+    /// # use p2p_directory::{Key, Metadata};
+    /// assert_eq!(Metadata::Listener(Key([2; 32])).public_key(), &Key([2; 32]));
+    /// ```
+    #[must_use]
+    #[inline]
+    pub fn public_key(&self) -> &Key {
+        match self {
+            Metadata::Dialer(key, _) | Metadata::Listener(key) => key,
+        }
+    }
+
+    #[inline]
+    pub(super) fn is_dialer(&self) -> bool {
+        matches!(self, Metadata::Dialer(..))
+    }
+}
+
+impl fmt::Display for Metadata {
+    fn fmt(&self, f: &mut fmt::Formatter<'_>) -> fmt::Result {
+        match self {
+            Metadata::Dialer(key, ingress) => write!(f, "dialer of {key} at {ingress}"),
+            Metadata::Listener(key) => write!(f, "listener for {key}"),
+        }
+    }
+}
+
+impl fmt::Display for ReleaseError {
+    fn fmt(&self, f: &mut fmt::Formatter<'_>) -> fmt::Result {
+        let peer = self.reservation.public_key();
+        write!(f, "the reservation of {peer} is of another directory")
+    }
+}
+
+impl error::Error for ReleaseError {}

@@ -1,0 +1,195 @@
+//! Sorted sets of keys, and the peers of a set by role.
+
+use super::key::{KEY_SIZE, Key};
+use crate::error::{DuplicateKeyError, OutOfMemory};
+use std::ops::Deref;
+
+/// Keys in ascending order, without duplicates. Sets are compared as lists of their keys.
+///
+/// `collect` and [`OrderedSet::from_iter_dedup`] drop duplicates, and `try_from` refuses them.
+///
+/// # Examples
+///
+/// ```
+/// use p2p_directory::{Key, OrderedSet};
+///
+/// let set = OrderedSet::from_iter_dedup([Key([2; 32]), Key([1; 32]), Key([2; 32])]);
+/// assert_eq!(set.to_vec(), [Key([1; 32]), Key([2; 32])]);
+/// assert_eq!(set.position(&Key([2; 32])), Some(1));
+/// ```
+#[derive(Clone, Debug, Default, PartialEq, Eq, PartialOrd, Ord, Hash)]
+pub struct OrderedSet(Vec<Key>);
+
+impl OrderedSet {
+    /// Creates a set from keys, and drops duplicates. It aborts the program if an allocation fails.
+    ///
+    /// # Examples
+    ///
+    /// ```
+    /// # use p2p_directory::{Key, OrderedSet};
+    /// assert_eq!(OrderedSet::from_iter_dedup([Key([1; 32]); 3]).len(), 1);
+    /// ```
+    #[must_use]
+    pub fn from_iter_dedup(keys: impl IntoIterator<Item = Key>) -> OrderedSet {
+        let mut keys: Vec<Key> = keys.into_iter().collect();
+        keys.sort_unstable();
+        keys.dedup();
+        OrderedSet(keys)
+    }
+
+    /// The position of the key in the set, counted from 0, or `None` if it isn't in the set.
+    ///
+    /// # Examples
+    ///
+    /// ```
+    /// # use p2p_directory::{Key, OrderedSet};
+    /// let set = OrderedSet::from_iter_dedup([Key([1; 32])]);
+    /// assert_eq!(set.position(&Key([9; 32])), None);
+    /// ```
+    #[must_use]
+    pub fn position(&self, key: &Key) -> Option<usize> {
+        self.0.binary_search(key).ok()
+    }
+
+    pub(crate) fn write(&self, out: &mut Vec<u8>) -> Result<(), OutOfMemory> {
+        out.try_reserve(self.0.len() * KEY_SIZE)?;
+        for key in &self.0 {
+            out.extend_from_slice(key.as_bytes());
+        }
+        Ok(())
+    }
+
+    // Reads keys that are written one after the other. They are sorted and distinct.
+    pub(crate) fn read(bytes: &[u8]) -> Result<OrderedSet, OutOfMemory> {
+        read_keys(bytes).map(OrderedSet)
+    }
+
+    // Reads them as `read` does, into an empty list.
+    pub(crate) fn read_into(mut room: Vec<Key>, bytes: &[u8]) -> OrderedSet {
+        room.extend(keys_of(bytes));
+        OrderedSet(room)
+    }
+}
+
+fn keys_of(bytes: &[u8]) -> impl ExactSizeIterator<Item = Key> {
+    let (keys, _none) = bytes.as_chunks::<KEY_SIZE>();
+    keys.iter().map(|key| Key::of_library(*key))
+}
+
+/// Reads keys that are written one after the other.
+pub(crate) fn read_keys(bytes: &[u8]) -> Result<Vec<Key>, OutOfMemory> {
+    let spelled = keys_of(bytes);
+    let mut keys = Vec::new();
+    keys.try_reserve_exact(spelled.len())?;
+    keys.extend(spelled);
+    Ok(keys)
+}
+
+impl Deref for OrderedSet {
+    type Target = [Key];
+
+    fn deref(&self) -> &[Key] {
+        &self.0
+    }
+}
+
+impl<const N: usize> TryFrom<[Key; N]> for OrderedSet {
+    type Error = DuplicateKeyError;
+
+    /// Creates a set from these keys, in any order, and fails if a key occurs more than once.
+    fn try_from(keys: [Key; N]) -> Result<OrderedSet, DuplicateKeyError> {
+        OrderedSet::try_from(Vec::from(keys))
+    }
+}
+
+impl TryFrom<Vec<Key>> for OrderedSet {
+    type Error = DuplicateKeyError;
+
+    /// Creates a set from these keys, in any order, and fails if a key occurs more than once.
+    fn try_from(mut keys: Vec<Key>) -> Result<OrderedSet, DuplicateKeyError> {
+        keys.sort_unstable();
+        if keys.windows(2).any(|pair| pair[0] == pair[1]) {
+            return Err(DuplicateKeyError);
+        }
+        Ok(OrderedSet(keys))
+    }
+}
+
+impl AsRef<[Key]> for OrderedSet {
+    fn as_ref(&self) -> &[Key] {
+        &self.0
+    }
+}
+
+impl From<OrderedSet> for Vec<Key> {
+    /// Returns the keys in ascending order. It doesn't allocate.
+    fn from(set: OrderedSet) -> Vec<Key> {
+        set.0
+    }
+}
+
+impl IntoIterator for OrderedSet {
+    type Item = Key;
+    type IntoIter = std::vec::IntoIter<Key>;
+
+    fn into_iter(self) -> Self::IntoIter {
+        self.0.into_iter()
+    }
+}
+
+impl FromIterator<Key> for OrderedSet {
+    /// Creates a set as [`OrderedSet::from_iter_dedup`] does.
+    fn from_iter<I: IntoIterator<Item = Key>>(keys: I) -> OrderedSet {
+        OrderedSet::from_iter_dedup(keys)
+    }
+}
+
+impl<'a> IntoIterator for &'a OrderedSet {
+    type Item = &'a Key;
+    type IntoIter = std::slice::Iter<'a, Key>;
+
+    fn into_iter(self) -> Self::IntoIter {
+        self.0.iter()
+    }
+}
+
+/// The peers of one set, or of all retained sets, by role.
+///
+/// # Examples
+///
+/// ```
+/// use p2p_directory::{Key, OrderedSet, TrackedPeers};
+///
+/// let primary = OrderedSet::from_iter_dedup([Key([1; 32])]);
+/// assert!(TrackedPeers::from(primary).secondary.is_empty());
+/// ```
+#[derive(Clone, Debug, Default, PartialEq, Eq, Hash)]
+pub struct TrackedPeers {
+    /// The primary peers, whose infos are gossiped.
+    pub primary: OrderedSet,
+    /// The secondary peers. A peer in both roles is primary only.
+    pub secondary: OrderedSet,
+}
+
+impl TrackedPeers {
+    /// Creates a value from the peers of both roles.
+    ///
+    /// # Examples
+    ///
+    /// ```
+    /// # use p2p_directory::{OrderedSet, TrackedPeers};
+    /// let none = TrackedPeers::new(OrderedSet::default(), OrderedSet::default());
+    /// assert_eq!(none, TrackedPeers::default());
+    /// ```
+    #[must_use]
+    pub fn new(primary: OrderedSet, secondary: OrderedSet) -> TrackedPeers {
+        TrackedPeers { primary, secondary }
+    }
+}
+
+impl From<OrderedSet> for TrackedPeers {
+    /// Creates a value with these primary peers and no secondary ones.
+    fn from(primary: OrderedSet) -> TrackedPeers {
+        TrackedPeers::new(primary, OrderedSet::default())
+    }
+}

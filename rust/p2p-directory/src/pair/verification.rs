@@ -1,0 +1,410 @@
+//! The signatures of a frame, which may be verified without its node.
+
+use super::key::Key;
+use super::signature::Signature;
+use crate::answer::OWN;
+use crate::codec::{ReadError, Reader};
+use crate::error::{CodecError, WrongVerdictsError};
+use crate::memory::zeros;
+use crate::moment::Moment;
+use std::error;
+use std::fmt;
+
+/// A signature that has to be verified: whether the key made it over the namespace and the message.
+///
+/// # Examples
+///
+/// ```
+/// # use p2p_directory::*;
+/// # let node = Node::new(&testing::setup(9)).unwrap();
+/// let info = testing::info(1, 1000);
+/// let frame = Payload::Greeting(info.clone()).encode();
+/// let questions = node.check(&frame, Moment::from_secs(1))?;
+/// let question = questions.iter().next().expect("the info is signed");
+/// assert_eq!(question.public_key, info.public_key);
+/// assert_eq!(question.message, info.signed_bytes());
+/// assert_eq!(question.signature, info.signature);
+/// # Ok::<(), OutOfMemory>(())
+/// ```
+#[derive(Clone, Copy, Debug, PartialEq, Eq, Hash)]
+#[non_exhaustive]
+pub struct Question<'q> {
+    /// The key that has to have made the signature.
+    pub public_key: Key,
+    /// The signed bytes.
+    pub message: &'q [u8],
+    /// The signature.
+    pub signature: Signature,
+}
+
+/// The signatures of a frame that have to be verified, returned by
+/// [`Node::check`](super::Node::check). There is a question for each info whose signature decides,
+/// in the order of the frame. It borrows the frame and nothing of the node.
+///
+/// # Examples
+///
+/// The signatures are verified while the node is not locked.
+///
+/// ```
+/// # use p2p_directory::*; use std::sync::Mutex;
+/// # let node = Mutex::new(Node::new(&testing::setup(9)).unwrap());
+/// # let frame = Payload::Greeting(testing::info(1, 1000)).encode();
+/// # let now = Moment::from_secs(1);
+/// let questions = node.lock().unwrap().check(&frame, now)?;
+/// let mut verdicts = Vec::new();
+/// for question in &questions {
+///     let Question { public_key, message, signature, .. } = question;
+///     verdicts.push(testing::verify(&public_key, questions.namespace(), message, &signature));
+/// }
+/// let judged = questions.judged(verdicts)?;
+/// let received = node.lock().unwrap().receive_judged(judged).unwrap();
+/// assert_eq!(received, Received::Greeted(testing::key(1)));
+/// # Ok::<(), Box<dyn std::error::Error>>(())
+/// ```
+#[derive(Debug)]
+pub struct Questions<'f> {
+    frame: &'f [u8],
+    now: Moment,
+    node: u64,
+    // The length of the namespace, with which these bytes begin. The questions follow it.
+    namespace: usize,
+    bytes: Vec<u8>,
+    // How many questions there are.
+    count: usize,
+    // A byte for each info of the frame, including those without a question.
+    verdicts: Vec<u8>,
+}
+
+/// An iterator over the questions of a frame.
+///
+/// # Examples
+///
+/// ```
+/// # use p2p_directory::*;
+/// # let node = Node::new(&testing::setup(9)).unwrap();
+/// let frame = Payload::Peers(vec![testing::info(1, 0), testing::info(2, 0)]).encode();
+/// let questions = node.check(&frame, Moment::from_secs(1))?;
+/// let keys: Vec<_> = questions.iter().map(|question| question.public_key).collect();
+/// assert_eq!(keys, [testing::key(1), testing::key(2)]);
+/// # Ok::<(), OutOfMemory>(())
+/// ```
+#[derive(Clone, Debug)]
+pub struct QuestionsIter<'q> {
+    asked: Asked<'q>,
+    // How many questions are left.
+    count: usize,
+}
+
+/// A frame with its verification results, for [`Node::receive_judged`](super::Node::receive_judged)
+/// of the node that checked it.
+///
+/// # Examples
+///
+/// ```
+/// # use p2p_directory::*;
+/// # let mut node = Node::new(&testing::setup(9)).unwrap();
+/// let frame = Payload::Greeting(testing::info(1, 1000)).encode();
+/// let judged = node.check(&frame, Moment::from_secs(1))?.judged([false])?;
+/// assert_eq!(node.receive_judged(judged).unwrap(), Received::Invalid(Error::InvalidSignature));
+/// # Ok::<(), Box<dyn std::error::Error>>(())
+/// ```
+#[derive(Debug)]
+pub struct Judged<'f> {
+    pub(crate) frame: &'f [u8],
+    pub(crate) now: Moment,
+    pub(crate) node: u64,
+    pub(crate) verdicts: Vec<u8>,
+}
+
+/// A frame was passed to another node than the one that checked it. The error gives it back, and
+/// nothing has changed.
+///
+/// # Examples
+///
+/// ```
+/// # use p2p_directory::*;
+/// # let mut node = Node::new(&testing::setup(9)).unwrap();
+/// # let mut other = Node::new(&testing::setup(8)).unwrap();
+/// let frame = Payload::Greeting(testing::info(1, 1000)).encode();
+/// let judged = node.check(&frame, Moment::from_secs(1))?.judged([true])?;
+/// let ReceiveError { judged, .. } = other.receive_judged(judged).unwrap_err();
+/// assert_eq!(node.receive_judged(judged).unwrap(), Received::Greeted(testing::key(1)));
+/// # Ok::<(), Box<dyn std::error::Error>>(())
+/// ```
+#[derive(Debug)]
+#[non_exhaustive]
+pub struct ReceiveError<'f> {
+    /// The frame, with its verification results.
+    pub judged: Judged<'f>,
+}
+
+/// An iterator over the questions that the library wrote one after the other.
+#[derive(Clone, Debug)]
+pub(crate) struct Asked<'q>(&'q [u8]);
+
+/// What the library writes about a frame without infos.
+pub(crate) const NOTHING_TOLD: [u8; 8] = [0; 8];
+
+/// Reads what the library wrote about a frame: how many infos it has, and the questions.
+pub(crate) fn read_told(told: &[u8]) -> Result<(usize, Asked<'_>), CodecError> {
+    let mut reader = Reader::new(told);
+    let infos = reader.number()? as usize;
+    Ok((infos, Asked(reader.rest())))
+}
+
+#[inline]
+fn read_question<'q>(reader: &mut Reader<'q>) -> Result<Question<'q>, CodecError> {
+    let length = reader.number()? as usize;
+    Ok(Question {
+        public_key: Key::of_library(reader.array()?),
+        message: reader.take(length)?,
+        signature: Signature::read(reader)?,
+    })
+}
+
+impl<'q> Iterator for Asked<'q> {
+    type Item = Question<'q>;
+
+    #[inline]
+    fn next(&mut self) -> Option<Question<'q>> {
+        if self.0.is_empty() {
+            return None;
+        }
+        let mut reader = Reader::new(self.0);
+        let question = read_question(&mut reader).expect(OWN);
+        self.0 = reader.rest();
+        Some(question)
+    }
+}
+
+/// Writes the verification result of each question, in order, up to the first false one. The others
+/// stay as they are.
+pub(crate) fn write_verdicts(
+    verdicts: &mut [u8],
+    namespace: &[u8],
+    questions: Asked<'_>,
+    mut verify: impl FnMut(&Key, &[u8], &[u8], &Signature) -> bool,
+) {
+    for (verdict, question) in verdicts.iter_mut().zip(questions) {
+        let Question {
+            public_key,
+            message,
+            signature,
+        } = question;
+        let is_right = verify(&public_key, namespace, message, &signature);
+        *verdict = is_right.into();
+        if !is_right {
+            break;
+        }
+    }
+}
+
+impl<'f> Questions<'f> {
+    // The questions of the library about a frame that a node of this namespace received at this
+    // time.
+    pub(crate) fn new(
+        frame: &'f [u8],
+        now: Moment,
+        node: u64,
+        namespace: &[u8],
+        told: &[u8],
+    ) -> Result<Questions<'f>, ReadError> {
+        let (infos, asked) = read_told(told)?;
+        let mut bytes = Vec::new();
+        bytes.try_reserve_exact(namespace.len() + asked.0.len())?;
+        bytes.extend_from_slice(namespace);
+        bytes.extend_from_slice(asked.0);
+        Ok(Questions {
+            frame,
+            now,
+            node,
+            namespace: namespace.len(),
+            bytes,
+            count: asked.count(),
+            verdicts: zeros(infos)?,
+        })
+    }
+
+    /// The namespace in which all of these infos are signed.
+    ///
+    /// # Examples
+    ///
+    /// ```
+    /// # use p2p_directory::*;
+    /// # let node = Node::new(&testing::setup(9)).unwrap();
+    /// let questions = node.check(&[0], Moment::EPOCH)?;
+    /// assert_eq!(questions.namespace(), testing::NAMESPACE);
+    /// # Ok::<(), OutOfMemory>(())
+    /// ```
+    #[must_use]
+    pub fn namespace(&self) -> &[u8] {
+        &self.bytes[..self.namespace]
+    }
+
+    /// How many questions there are.
+    ///
+    /// # Examples
+    ///
+    /// ```
+    /// # use p2p_directory::*;
+    /// # let node = Node::new(&testing::setup(9)).unwrap();
+    /// // The local info is refused whatever its signature is, and there is no question after it.
+    /// let infos = [1, 9, 2].map(|number| testing::info(number, 0));
+    /// let frame = Payload::Peers(infos.to_vec()).encode();
+    /// assert_eq!(node.check(&frame, Moment::from_secs(1))?.len(), 1);
+    /// # Ok::<(), OutOfMemory>(())
+    /// ```
+    #[must_use]
+    pub fn len(&self) -> usize {
+        self.count
+    }
+
+    /// Whether there is no question.
+    ///
+    /// # Examples
+    ///
+    /// ```
+    /// # use p2p_directory::*;
+    /// # let node = Node::new(&testing::setup(9)).unwrap();
+    /// let data = Payload::Data(Data { channel: 0, message: vec![1] });
+    /// assert!(node.check(&data.encode(), Moment::EPOCH)?.is_empty());
+    /// # Ok::<(), OutOfMemory>(())
+    /// ```
+    #[must_use]
+    pub fn is_empty(&self) -> bool {
+        self.count == 0
+    }
+
+    /// An iterator over the questions, in the order of the frame. Those after the first invalid
+    /// signature need not be verified.
+    ///
+    /// # Examples
+    ///
+    /// ```
+    /// # use p2p_directory::*;
+    /// # let node = Node::new(&testing::setup(9)).unwrap();
+    /// let frame = Payload::Greeting(testing::info(1, 1000)).encode();
+    /// let questions = node.check(&frame, Moment::from_secs(1))?;
+    /// assert_eq!(questions.iter().len(), 1);
+    /// # Ok::<(), OutOfMemory>(())
+    /// ```
+    #[must_use]
+    pub fn iter(&self) -> QuestionsIter<'_> {
+        QuestionsIter {
+            asked: Asked(&self.bytes[self.namespace..]),
+            count: self.count,
+        }
+    }
+
+    /// The frame with a verification result for each question, in their order: whether its
+    /// signature is valid. Results after a false one may be left out. An info without a question
+    /// counts as one whose signature is invalid. It doesn't allocate.
+    ///
+    /// # Errors
+    ///
+    /// [`WrongVerdictsError`] if there are more results than questions, or fewer and all of them
+    /// are true.
+    ///
+    /// # Examples
+    ///
+    /// ```
+    /// # use p2p_directory::*;
+    /// # let mut node = Node::new(&testing::setup(9)).unwrap();
+    /// let frame = Payload::Greeting(testing::info(1, 1000)).encode();
+    /// let judged = node.check(&frame, Moment::from_secs(1))?.judged([true])?;
+    /// assert_eq!(node.receive_judged(judged).unwrap(), Received::Greeted(testing::key(1)));
+    /// # Ok::<(), Box<dyn std::error::Error>>(())
+    /// ```
+    pub fn judged(
+        self,
+        verdicts: impl IntoIterator<Item = bool>,
+    ) -> Result<Judged<'f>, WrongVerdictsError> {
+        let mut written = self.verdicts;
+        let (mut given, mut are_all_right) = (0, true);
+        for is_right in verdicts {
+            if given == self.count {
+                return Err(WrongVerdictsError);
+            }
+            written[given] = is_right.into();
+            given += 1;
+            are_all_right &= is_right;
+        }
+        if given < self.count && are_all_right {
+            return Err(WrongVerdictsError);
+        }
+        Ok(Judged {
+            frame: self.frame,
+            now: self.now,
+            node: self.node,
+            verdicts: written,
+        })
+    }
+
+    /// The frame with the verification results of `verify`, which returns whether a signature is
+    /// valid. Its arguments are a key, the namespace, a message and the signature. It is called
+    /// once for each question, in order, up to the first false result. It doesn't allocate.
+    ///
+    /// # Panics
+    ///
+    /// Panics if `verify` panics.
+    ///
+    /// # Examples
+    ///
+    /// ```
+    /// # use p2p_directory::*;
+    /// # let mut node = Node::new(&testing::setup(9)).unwrap();
+    /// let frame = Payload::Peers(vec![testing::info(1, 0), testing::info(2, 0)]).encode();
+    /// let judged = node.check(&frame, Moment::from_secs(1))?.judged_by(testing::verify);
+    /// assert_eq!(node.receive_judged(judged).unwrap(), Received::Applied(2));
+    /// # Ok::<(), OutOfMemory>(())
+    /// ```
+    #[must_use]
+    pub fn judged_by(
+        self,
+        verify: impl FnMut(&Key, &[u8], &[u8], &Signature) -> bool,
+    ) -> Judged<'f> {
+        let mut verdicts = self.verdicts;
+        let (namespace, asked) = self.bytes.split_at(self.namespace);
+        write_verdicts(&mut verdicts, namespace, Asked(asked), verify);
+        Judged {
+            frame: self.frame,
+            now: self.now,
+            node: self.node,
+            verdicts,
+        }
+    }
+}
+
+impl<'q> IntoIterator for &'q Questions<'_> {
+    type Item = Question<'q>;
+    type IntoIter = QuestionsIter<'q>;
+
+    fn into_iter(self) -> QuestionsIter<'q> {
+        self.iter()
+    }
+}
+
+impl<'q> Iterator for QuestionsIter<'q> {
+    type Item = Question<'q>;
+
+    #[inline]
+    fn next(&mut self) -> Option<Question<'q>> {
+        let question = self.asked.next()?;
+        self.count -= 1;
+        Some(question)
+    }
+
+    fn size_hint(&self) -> (usize, Option<usize>) {
+        (self.count, Some(self.count))
+    }
+}
+
+impl ExactSizeIterator for QuestionsIter<'_> {}
+
+impl fmt::Display for ReceiveError<'_> {
+    fn fmt(&self, f: &mut fmt::Formatter<'_>) -> fmt::Result {
+        f.write_str("the frame was checked by another node")
+    }
+}
+
+impl error::Error for ReceiveError<'_> {}

@@ -1,0 +1,279 @@
+//! The same small run with keys and signatures of each pair of sizes.
+
+use p2p_directory::{CodecError, KeyError, ParseError, Received, What, keys33_64};
+
+// The tests of a pair of sizes: its module, the sizes, and the first byte of its keys here.
+macro_rules! pair {
+    ($name:ident: $($module:ident)::+, $key_size:literal, $signature_size:literal, $first:literal) => {
+        mod $name {
+            // The names of the root, each of which the module has.
+            #[allow(unused_imports)]
+            use $($module)::+::{
+                BeforeEpochError, BitVec, CodecError, Config, ConnectError, Data, Dialable,
+                Directory, DuplicateKeyError, EncodedData, Error, Hostname, Info, InfoVerifier,
+                Ingress, Judged, KEY_SIZE, Key, KeyError, MAX_PAYLOAD_OVERHEAD, Metadata, Moment,
+                Node, NotReservedError, OrderedSet, OutOfMemory, ParseError, Payload,
+                PayloadConfig, PeerSetUpdate, Question, Questions, QuestionsIter, ReceiveError,
+                Received, RefusedError, ReleaseError, Reservation, SIGNATURE_SIZE, Setup,
+                SetupError, Signature, Status, TrackedPeers, ValidateError, What,
+                WrongVerdictsError, is_global, max_gossip_size, max_size, testing,
+            };
+            use std::time::Duration;
+
+            const NOW: Moment = Moment::from_secs(100);
+
+            // The key of a number, and the bytes that it has.
+            fn key(number: u8) -> Key {
+                Key::from_slice(&key_bytes(number)).expect("a key")
+            }
+
+            fn key_bytes(number: u8) -> [u8; $key_size] {
+                let mut bytes = [0; $key_size];
+                bytes[0] = $first;
+                bytes[$key_size - 1] = number;
+                bytes
+            }
+
+            fn set(numbers: &[u8]) -> TrackedPeers {
+                OrderedSet::from_iter_dedup(numbers.iter().map(|number| key(*number))).into()
+            }
+
+            #[test]
+            fn sizes_are_those_of_the_pair() {
+                assert_eq!((KEY_SIZE, SIGNATURE_SIZE), ($key_size, $signature_size));
+                assert_eq!(key(1).as_bytes(), &key_bytes(1));
+                assert_eq!(key(1).as_ref(), key_bytes(1));
+                assert_eq!(Key::from_slice(&[$first; $key_size - 1]), None);
+                assert_eq!(Key::from_slice(&[$first; $key_size + 1]), None);
+                assert!(Signature::from_slice(&[0; $signature_size - 1]).is_none());
+                let largest = 261 + 10 + $key_size + $signature_size;
+                assert_eq!(Info::max_encode_size(), largest);
+                assert_eq!(max_gossip_size(0, 0), Some(1 + largest));
+                assert_eq!(max_gossip_size(0, 100), Some(1 + 5 + 100 * largest));
+                assert_eq!(max_gossip_size(100_000, 0), Some(1 + 10 + 3 + 12_500));
+                assert_eq!(max_gossip_size(0, usize::MAX), None);
+            }
+
+            #[test]
+            fn what_holds_a_key_is_sent() {
+                fn is_sent<T: Send>() {}
+                is_sent::<Directory>();
+                is_sent::<Node>();
+                is_sent::<Reservation>();
+                is_sent::<Questions<'_>>();
+            }
+
+            #[test]
+            fn keys_have_a_text() {
+                let text = key(0xab).to_string();
+                assert_eq!(text.len(), 2 * $key_size);
+                assert!(text.starts_with(concat!("0", $first)) && text.ends_with("ab"));
+                assert_eq!(text.parse(), Ok(key(0xab)));
+                assert_eq!(text.to_uppercase().parse(), Ok(key(0xab)));
+                assert_eq!(text[2..].parse::<Key>(), Err(ParseError::Length(2 * $key_size - 2)));
+            }
+
+            #[test]
+            fn infos_have_the_bytes_of_the_formats() {
+                let info = Info {
+                    ingress: testing::info(1, 0).ingress,
+                    timestamp: 1000,
+                    public_key: key(5),
+                    signature: Signature([7; $signature_size]),
+                };
+                let mut bytes = vec![0, 4, 1, 2, 3, 4, 0x1f, 0x41, 0xe8, 0x07];
+                bytes.extend(key_bytes(5));
+                bytes.extend([7; $signature_size]);
+                assert_eq!(info.encode(), bytes);
+                assert_eq!(info.encode_size(), 10 + $key_size + $signature_size);
+                assert_eq!(Info::decode(&bytes).as_ref(), Ok(&info));
+                for length in 0..bytes.len() {
+                    assert_eq!(Info::decode(&bytes[..length]), Err(CodecError::EndOfBuffer));
+                }
+                let greeting = Payload::Greeting(info.clone());
+                assert_eq!(greeting.encode(), [&[1][..], &bytes].concat());
+                let peers = Payload::Peers(vec![info.clone(), info]);
+                let frame = [&[3, 2][..], &bytes, &bytes].concat();
+                assert_eq!(peers.encode(), frame);
+                assert_eq!(Payload::decode(&frame, &testing::setup(9).payload), Ok(peers));
+            }
+
+            #[test]
+            fn a_peer_is_reserved_connected_and_released() {
+                let mut directory = testing::directory();
+                let peer = key(1);
+                assert_eq!(directory.status(&peer), None);
+                let torn = directory.track(0, &set(&[1, 2])).unwrap();
+                assert_eq!(torn, Some(OrderedSet::default()));
+                assert_eq!(directory.get_peer_set(0).unwrap(), Some(set(&[2, 1])));
+                assert_eq!(directory.all().unwrap(), set(&[1, 2]));
+                let update = directory.latest_update().unwrap().expect("a set");
+                assert_eq!((update.index, update.latest), (0, set(&[1, 2])));
+                assert_eq!(directory.status(&peer), Some(Status::Inert));
+                assert!(directory.acceptable(&peer, NOW));
+
+                let reservation = directory.listen(&peer, NOW, Duration::ZERO).unwrap();
+                let reservation = reservation.expect("it is acceptable");
+                assert_eq!(reservation.metadata(), &Metadata::Listener(peer));
+                assert_eq!(directory.status(&peer), Some(Status::Reserved));
+                assert_eq!(directory.connect_reserved(&reservation), Ok(()));
+                assert_eq!(directory.status(&peer), Some(Status::Active));
+                let torn = directory.track(1, &set(&[2])).unwrap().expect("a later set");
+                assert_eq!(torn.to_vec(), [peer]);
+                assert!(directory.release(reservation).is_ok());
+                assert_eq!(directory.status(&peer), None);
+
+                // One that is dropped is released, too.
+                drop(directory.listen(&key(2), NOW, Duration::ZERO).unwrap().expect("acceptable"));
+                assert_eq!(directory.status(&key(2)), Some(Status::Inert));
+                assert!(directory.block(&key(2), NOW).unwrap());
+                assert_eq!(directory.blocked_peers(NOW).unwrap().to_vec(), [key(2)]);
+            }
+
+            #[test]
+            fn a_peer_is_dialled_at_its_address() {
+                let mut directory = testing::directory();
+                let (peer, info) = (testing::key(1), testing::info(1, 1000));
+                let peers = OrderedSet::from_iter_dedup([peer]).into();
+                directory.track(0, &peers).unwrap();
+                directory.update_peers(std::slice::from_ref(&info)).unwrap();
+                assert_eq!(directory.dialable(NOW).unwrap().peers, [peer]);
+                let reservation = directory.dial(&peer, NOW, Duration::ZERO).unwrap();
+                let reservation = reservation.expect("its address is known");
+                assert_eq!(reservation.metadata(), &Metadata::Dialer(peer, info.ingress.clone()));
+                directory.connect_reserved(&reservation).unwrap();
+                assert_eq!(directory.info(&peer).unwrap(), Some(info));
+                assert!(directory.release(reservation).is_ok());
+            }
+
+            #[test]
+            fn infos_go_from_node_to_node() {
+                let (one, two) = (testing::key(1), testing::key(2));
+                let mut asker = Node::new(&testing::setup(1)).unwrap();
+                let mut replier = Node::new(&testing::setup(2)).unwrap();
+                for node in [&mut asker, &mut replier] {
+                    let peers = OrderedSet::from_iter_dedup([one, two]).into();
+                    node.directory_mut().track(0, &peers).unwrap();
+                }
+                let question = asker.ask(0).unwrap().expect("a set");
+                let reply = replier.receive(&question, NOW, testing::verify);
+                let own = testing::info(2, 0);
+                let Received::Reply(frame) = reply else {
+                    panic!("{reply:?}");
+                };
+                assert_eq!(frame, Payload::Peers(vec![own.clone()]).encode());
+
+                let questions = asker.check(&frame, NOW).unwrap();
+                let asked: Vec<_> = questions.iter().collect();
+                assert_eq!(asked.len(), 1);
+                assert_eq!(asked[0].public_key, two);
+                assert_eq!(asked[0].message, own.signed_bytes());
+                assert_eq!(asked[0].signature, own.signature);
+                let refused = questions.judged([false]).unwrap();
+                let refused = asker.receive_judged(refused).unwrap();
+                assert_eq!(refused, Received::Invalid(Error::InvalidSignature));
+                let judged = asker.check(&frame, NOW).unwrap().judged_by(testing::verify);
+                assert_eq!(asker.receive_judged(judged).unwrap(), Received::Applied(1));
+                assert_eq!(asker.directory().dialable(NOW).unwrap().peers, [two]);
+
+                let greeting = replier.receive(asker.greeting(), NOW, testing::verify);
+                assert_eq!(greeting, Received::Greeted(one));
+                let me = asker.receive(&asker.greeting().to_vec(), NOW, testing::verify);
+                assert_eq!(me, Received::Invalid(Error::ReceivedSelf));
+
+                let verifier = Info::verifier(one, 8, Duration::ZERO, testing::NAMESPACE).unwrap();
+                assert_eq!(verifier.validate_info(NOW, &own, testing::verify), Ok(()));
+            }
+        }
+    };
+}
+
+pair!(keys_32_64: p2p_directory, 32, 64, 0);
+pair!(keys_33_64: p2p_directory::keys33_64, 33, 64, 2);
+pair!(keys_48_96: p2p_directory::keys48_96, 48, 96, 0);
+pair!(keys_96_48: p2p_directory::keys96_48, 96, 48, 0);
+
+#[test]
+fn keys_of_33_bytes_begin_with_2_or_3() {
+    use keys33_64::Key;
+    for first in 0..=255 {
+        let bytes = [first; 33];
+        let key = Key::new(bytes);
+        assert_eq!(key.is_ok(), first == 2 || first == 3);
+        assert_eq!(Key::try_from(bytes), key);
+        assert_eq!(Key::try_from(&bytes[..]), key);
+        assert_eq!(Key::from_slice(&bytes), key.ok());
+        match key {
+            Ok(key) => assert_eq!(key.as_bytes(), &bytes),
+            Err(error) => assert_eq!(error, KeyError::First(first)),
+        }
+    }
+    assert_eq!(Key::try_from(&[2; 34][..]), Err(KeyError::Length(34)));
+    assert_eq!("04".repeat(33).parse::<Key>(), Err(ParseError::Key(4)));
+    assert_eq!("4".repeat(65).parse::<Key>(), Err(ParseError::Length(65)));
+    assert_eq!("x".repeat(66).parse::<Key>(), Err(ParseError::Digit));
+}
+
+// The answer of a node with keys of 33 bytes for a frame, which is that of `decode` if the frame
+// can't be decoded.
+fn fault(frame: &[u8]) -> CodecError {
+    use keys33_64::{Node, Payload, testing};
+    let setup = testing::setup(9);
+    let mut node = Node::new(&setup).expect("memory for a node");
+    let now = p2p_directory::Moment::from_secs(100);
+    let received = node.receive(frame, now, testing::verify);
+    let decoded = Payload::decode(frame, &setup.payload).expect_err("no payload");
+    assert_eq!(received, keys33_64::Received::Codec(decoded), "{frame:?}");
+    decoded
+}
+
+#[test]
+fn a_frame_with_a_bad_key_is_refused() {
+    use keys33_64::{Payload, testing};
+    let bad_key = CodecError::Invalid(What::Key);
+    let info = testing::info(1, 0).encode();
+    // An ingress of 8 bytes and a timestamp of one precede the key.
+    let bad = |first: u8| {
+        let mut bad = info.clone();
+        assert_eq!(bad[9], 2);
+        bad[9] = first;
+        bad
+    };
+    for first in [0, 1, 4, 0x82, 0xff] {
+        assert_eq!(fault(&[&[1][..], &bad(first)].concat()), bad_key);
+        assert_eq!(fault(&[&[3, 2][..], &info, &bad(first)].concat()), bad_key);
+    }
+    let greeting = [&[1][..], &bad(4)].concat();
+    // Faults behind the key: fewer bytes of the signature, more bytes, a bad info.
+    assert_eq!(fault(&greeting[..10 + 33]), bad_key);
+    assert_eq!(fault(&greeting[..greeting.len() - 1]), bad_key);
+    assert_eq!(fault(&[&greeting[..], &[0]].concat()), bad_key);
+    assert_eq!(fault(&[&[3, 2][..], &bad(4), &[9]].concat()), bad_key);
+    // Faults before it: too few bytes of the key itself, a bad address, a bad timestamp, too many
+    // infos.
+    for length in 10..10 + 33 {
+        assert_eq!(fault(&greeting[..length]), CodecError::EndOfBuffer);
+    }
+    let mut no_address = greeting.clone();
+    no_address[1] = 9;
+    assert_eq!(fault(&no_address), CodecError::InvalidEnum(9));
+    let mut no_time = greeting.clone();
+    no_time.splice(9..10, [0x80, 0]);
+    assert_eq!(fault(&no_time), CodecError::InvalidVarint(10));
+    let many = [&[3, 0x81, 0x02][..], &bad(4)].concat();
+    assert_eq!(fault(&many), CodecError::InvalidLength(257));
+    let whole = Payload::Greeting(testing::info(1, 0)).encode();
+    assert_eq!(
+        fault(&[&whole[..], &[0]].concat()),
+        CodecError::ExtraData(1)
+    );
+}
+
+#[test]
+fn types_without_keys_are_those_of_the_root() {
+    let config: p2p_directory::Config = keys33_64::testing::config();
+    assert_eq!(config, p2p_directory::testing::config());
+    let other: p2p_directory::PayloadConfig = p2p_directory::keys96_48::testing::setup(1).payload;
+    assert_eq!(other, p2p_directory::testing::setup(1).payload);
+    assert_ne!(Received::Malformed, Received::Memory);
+}
