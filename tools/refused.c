@@ -1,7 +1,7 @@
 // Stands before the C library's malloc, calloc and realloc, and refuses the Nth request.
 //
-// Requests are counted between two marks, which are requests of just MARK bytes. REFUSE says which is
-// refused, counted from 1, and COUNTED names the file that says in the end how many there were.
+// Requests are counted from each odd mark to the next: marks are requests of just MARK bytes. REFUSE says which
+// is refused, counted from 1, and COUNTED names the file that says in the end how many there were.
 
 #include <fcntl.h>
 #include <stdio.h>
@@ -30,7 +30,7 @@ static int is_granted(size_t size) {
         marks++;
         return 1;
     }
-    return marks != 1 || ++counted != refused;
+    return marks % 2 == 0 || ++counted != refused;
 }
 
 void *malloc(size_t size) {
@@ -49,7 +49,7 @@ __attribute__((destructor)) static void end(void) {
     const char *name = getenv("COUNTED");
     char text[32];
     int file = name ? open(name, O_WRONLY | O_CREAT | O_TRUNC, 0600) : -1;
-    if (file < 0 || marks != 2) {
+    if (file < 0 || marks == 0 || marks % 2 != 0) {
         return;
     }
     int length = snprintf(text, sizeof text, "%lu\n", counted);
