@@ -2,8 +2,12 @@
 
 #![deny(unsafe_code)]
 
-use p2p_node::simulate;
+use p2p_node::identity::Identity;
+use p2p_node::settings::{self, Settings};
+use p2p_node::sodium::Sodium;
+use p2p_node::{node, simulate};
 use std::env;
+use std::path::Path;
 use std::process::ExitCode;
 
 /// What `--help` prints.
@@ -20,14 +24,38 @@ Run it in networks that you trust.
 
 fn perform(words: &[String]) -> Result<(), String> {
     match words.split_first() {
-        Some((word, rest)) if word == "simulate" => simulate::run(rest),
-        Some((word, _)) if word == "--help" || word == "-h" => {
-            print!("{HELP}");
+        None => Err("no word: see p2p-node --help".to_owned()),
+        Some((word, rest)) => match word.as_str() {
+            "run" => run(rest),
+            "key" => create_key(rest),
+            "simulate" => simulate::run(rest),
+            "--help" | "-h" => {
+                print!("{HELP}");
+                Ok(())
+            }
+            _ => Err(format!("unknown word {word}: see p2p-node --help")),
+        },
+    }
+}
+
+fn run(words: &[String]) -> Result<(), String> {
+    match Settings::parse(words)? {
+        Some(settings) => node::run(settings),
+        None => {
+            print!("{}", settings::HELP);
             Ok(())
         }
-        Some((word, _)) => Err(format!("unknown word {word}: see p2p-node --help")),
-        None => Err("no word: see p2p-node --help".to_owned()),
     }
+}
+
+fn create_key(words: &[String]) -> Result<(), String> {
+    let [path] = words else {
+        return Err("key: it takes one word, the FILE to create".to_owned());
+    };
+    let sodium = Sodium::new().map_err(|error| error.to_string())?;
+    let identity = Identity::create(sodium, Path::new(path))?;
+    println!("{}", identity.public_key());
+    Ok(())
 }
 
 fn main() -> ExitCode {
