@@ -27,8 +27,8 @@ pub enum Entry<'e> {
     Connected(&'e Key, Direction),
     /// The connection has ended, and is released.
     Disconnected(&'e Key, &'e dyn Display),
-    /// A dial led to no connection, and is released.
-    DialFailed(&'e Key, &'e dyn Display),
+    /// What was granted led to no connection, and is released.
+    NotConnected(&'e Key, &'e dyn Display),
     /// An info was received from a peer, and accepted.
     Info(&'e Key, &'e Info),
     /// A peer was blocked.
@@ -74,7 +74,7 @@ impl Entry<'_> {
             Entry::Grant(peer, direction) => of("grant", peer).text("by", direction.name()),
             Entry::Connected(peer, direction) => of("connected", peer).text("by", direction.name()),
             Entry::Disconnected(peer, why) => of("disconnected", peer).text("reason", why),
-            Entry::DialFailed(peer, why) => of("dial_failed", peer).text("reason", why),
+            Entry::NotConnected(peer, why) => of("not_connected", peer).text("reason", why),
             Entry::Info(peer, info) => with_info(of("info", peer), info),
             Entry::Block(peer, why) => of("block", peer).text("reason", why),
             Entry::Unblock => line("unblock"),

@@ -7,6 +7,7 @@ use p2p_node::settings::{self, Settings};
 use p2p_node::sodium::Sodium;
 use p2p_node::{node, simulate};
 use std::env;
+use std::io::{self, Write};
 use std::path::Path;
 use std::process::ExitCode;
 
@@ -29,22 +30,21 @@ fn perform(words: &[String]) -> Result<(), String> {
             "run" => run(rest),
             "key" => create_key(rest),
             "simulate" => simulate::run(rest),
-            "--help" | "-h" => {
-                print!("{HELP}");
-                Ok(())
-            }
+            "--help" | "-h" => print(HELP),
             _ => Err(format!("unknown word {word}: see p2p-node --help")),
         },
     }
 }
 
+fn print(text: &str) -> Result<(), String> {
+    let printed = io::stdout().write_all(text.as_bytes());
+    printed.map_err(|error| format!("the standard output: {error}"))
+}
+
 fn run(words: &[String]) -> Result<(), String> {
     match Settings::parse(words)? {
         Some(settings) => node::run(settings),
-        None => {
-            print!("{}", settings::HELP);
-            Ok(())
-        }
+        None => print(settings::HELP),
     }
 }
 
@@ -54,8 +54,7 @@ fn create_key(words: &[String]) -> Result<(), String> {
     };
     let sodium = Sodium::new().map_err(|error| error.to_string())?;
     let identity = Identity::create(sodium, Path::new(path))?;
-    println!("{}", identity.public_key());
-    Ok(())
+    print(&format!("{}\n", identity.public_key()))
 }
 
 fn main() -> ExitCode {
@@ -63,7 +62,8 @@ fn main() -> ExitCode {
     match perform(&words) {
         Ok(()) => ExitCode::SUCCESS,
         Err(why) => {
-            eprintln!("p2p-node: {why}");
+            // Nobody may read it.
+            let _ = writeln!(io::stderr(), "p2p-node: {why}");
             ExitCode::FAILURE
         }
     }

@@ -9,7 +9,7 @@ use std::sync::atomic::{AtomicBool, Ordering};
 use std::time::{Duration, Instant};
 
 /// How long a call of the system waits before the flag and the deadline are looked at.
-pub const POLL: Duration = Duration::from_millis(100);
+pub const POLL: Duration = Duration::from_millis(250);
 
 /// How many bytes of a frame are requested at a time. A frame takes no more memory than has
 /// arrived of it, and this.

@@ -127,9 +127,22 @@ impl From<FrameError> for End {
 /// Serves the connection of a reservation until it ends, and then releases the reservation.
 pub fn run(shared: &Arc<Shared>, listed: Listed, reservation: Reservation, slot: Slot) {
     let slot = Arc::new(slot);
-    let Err(end) = serve(shared, &listed, &reservation, &slot);
-    drop(listed);
-    close(shared, reservation, &end);
+    match connect(shared, &listed, &reservation) {
+        Ok(greeting) => {
+            let peer = *reservation.public_key();
+            let Err(end) = serve(shared, &listed, peer, &greeting, &slot);
+            drop(listed);
+            close(shared, reservation, &end);
+        }
+        Err(why) => {
+            drop(listed);
+            let mut state = shared.lock();
+            let now = state.now();
+            shared.record(now, &Entry::NotConnected(reservation.public_key(), &why));
+            // A reservation of this directory is always released.
+            let _ = state.node.directory_mut().release(reservation);
+        }
+    }
     drop(slot);
     shared.wake();
 }
@@ -157,16 +170,17 @@ fn close(shared: &Shared, reservation: Reservation, end: &End) {
     shared.record(now, &Entry::Disconnected(&peer, end));
 }
 
+/// Greets the peer, starts the thread that writes, and reads until the connection ends.
 fn serve(
     shared: &Arc<Shared>,
     listed: &Listed,
-    reservation: &Reservation,
+    peer: Key,
+    greeting: &[u8],
     slot: &Arc<Slot>,
 ) -> Result<Infallible, End> {
-    let greeting = connect(shared, listed, reservation)?;
     let mut stream = Timed::new(&listed.stream, shared.stop)?;
     stream.set_deadline(shared.within(shared.settings.silence()));
-    write_frame(&mut stream, &greeting)?;
+    write_frame(&mut stream, greeting)?;
     shared.counts.event(Event::FrameOut);
     let (outbox, outgoing) = sync_channel(QUEUE);
     let (stream, slot) = (Arc::clone(&listed.stream), Arc::clone(slot));
@@ -176,20 +190,24 @@ fn serve(
         let _ = stream.shutdown(Shutdown::Both);
         drop(slot);
     })?;
-    read(shared, listed, *reservation.public_key(), &outbox)
+    read(shared, listed, peer, &outbox)
 }
 
 /// Marks the peer as connected, and returns the greeting. If the peer was blocked or left the sets
 /// during the handshake, no connection was there to be ended.
-fn connect(shared: &Shared, listed: &Listed, reservation: &Reservation) -> Result<Vec<u8>, End> {
+fn connect(
+    shared: &Shared,
+    listed: &Listed,
+    reservation: &Reservation,
+) -> Result<Vec<u8>, &'static str> {
     let peer = reservation.public_key();
     let mut state = shared.lock();
     let now = state.now();
     if !state.node.directory().eligible(peer, now) {
-        return Err(End::Left("in no set any more"));
+        return Err("in no set any more");
     }
     let connected = state.node.directory_mut().connect_reserved(reservation);
-    connected.map_err(|_| End::Left("not reserved"))?;
+    connected.map_err(|_| "not reserved")?;
     listed.connect(&mut state);
     let direction = match reservation.metadata() {
         Metadata::Dialer(..) => Direction::Dial,

@@ -49,7 +49,7 @@ pub fn round(shared: &Arc<Shared>) -> Duration {
         if let Err(error) = started {
             // The reservation was dropped with the closure, and is released by the next call.
             let now = shared.lock().now();
-            shared.record(now, &Entry::DialFailed(&peer, &error));
+            shared.record(now, &Entry::NotConnected(&peer, &error));
         }
     }
     wait
@@ -144,7 +144,7 @@ fn perform(shared: &Arc<Shared>, dial: Dial) {
             let mut state = shared.lock();
             drop(reservation);
             let now = state.now();
-            shared.record(now, &Entry::DialFailed(&peer, &error));
+            shared.record(now, &Entry::NotConnected(&peer, &error));
         }
     }
     shared.wake();

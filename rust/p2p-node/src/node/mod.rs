@@ -87,7 +87,7 @@ fn own_address(settings: &Settings, listener: &TcpListener) -> Result<Ingress, S
     let address = settings.address.clone();
     let address = address.unwrap_or_else(|| Ingress::from(bound));
     if let Some(advice) = settings.advice(&address) {
-        eprintln!("p2p-node: {advice}");
+        warn(&advice);
     }
     // Nobody may read it.
     let _ = writeln!(io::stdout(), "listening {bound}");
@@ -188,9 +188,14 @@ fn end(shared: &Shared) {
     let now = state.now();
     let held = shared.connections.taken();
     if held > 0 {
-        eprintln!("p2p-node: {held} connections had not ended");
+        warn(&format_args!("{held} connections had not ended"));
     }
     shared.record(now, &Entry::Stopped(held));
+}
+
+/// Says something on the standard error output. Nobody may read it.
+fn warn(message: &dyn Display) {
+    let _ = writeln!(io::stderr(), "p2p-node: {message}");
 }
 
 /// How a failed handshake is counted.

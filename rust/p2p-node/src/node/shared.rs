@@ -1,5 +1,6 @@
 //! What the threads of a node share: one lock around the directory and the list of open streams.
 
+use super::warn;
 use crate::broken::Rule;
 use crate::counts::{Counts, Event};
 use crate::identity::Identity;
@@ -243,7 +244,7 @@ impl Shared {
         if let Err(error) = ledger.write(at, entry) {
             self.counts.event(Event::LedgerLost);
             if !self.has_lost_lines.swap(true, Ordering::Relaxed) {
-                eprintln!("p2p-node: ledger: {error}");
+                warn(&format_args!("ledger: {error}"));
             }
         }
     }

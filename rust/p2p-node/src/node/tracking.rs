@@ -1,6 +1,7 @@
 //! Sets of peers, from files to the directory.
 
 use super::shared::Shared;
+use super::warn;
 use crate::broken::Rule;
 use crate::counts::Event;
 use crate::ledger::Entry;
@@ -32,7 +33,7 @@ pub fn update(shared: &Shared, files: &mut SetFiles) {
             Ok(()) => {}
             Err(Refused::Wrong(why)) => {
                 shared.counts.event(Event::SetRefused);
-                eprintln!("p2p-node: set {}: {why}", path.display());
+                warn(&format_args!("set {}: {why}", path.display()));
             }
             Err(Refused::OutOfMemory) => {
                 shared.counts.event(Event::OutOfMemory);
