@@ -454,7 +454,8 @@ mod tests {
     }
 
     #[test]
-    fn help_names_each_setting() {
+    fn help_and_the_read_me_name_each_setting() {
+        let readme = include_str!("../README.md");
         let source = include_str!("settings.rs");
         let (_, arms) = source
             .split_once("match name {\n            \"key\"")
@@ -467,6 +468,7 @@ mod tests {
         assert_eq!(names.len(), 22);
         for name in names {
             assert!(HELP.contains(&format!("  --{name} ")), "{name}");
+            assert!(readme.contains(&format!("| `--{name} ")), "{name}");
         }
     }
 }

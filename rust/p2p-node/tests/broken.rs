@@ -8,9 +8,9 @@ use common::{
     Folder, NAMESPACE, QUICK, Running, frames, info, key, member, milliseconds, send, timed, until,
 };
 use p2p_directory::{BitVec, Data, Payload};
-use std::io::{Read, Write};
+use std::io::Read;
 use std::net::TcpStream;
-use std::time::{Duration, Instant};
+use std::time::Duration;
 
 fn start(words: &str) -> (Folder, Running) {
     let folder = Folder::new();
