@@ -214,6 +214,25 @@ fn a_node_that_dials_in_vain_ends_in_time() {
 }
 
 #[test]
+fn a_node_that_is_killed_leaves_whole_lines() {
+    let folder = Folder::new();
+    let nodes = three(&folder, "");
+    connect_all(&nodes);
+    drop(nodes);
+    for number in 1..=3 {
+        let text = std::fs::read_to_string(folder.path(&format!("ledger{number}"))).unwrap();
+        assert!(text.ends_with('\n'));
+        assert!(text.lines().count() > 4);
+        for line in text.lines() {
+            assert!(
+                line.starts_with("{\"at\":") && line.ends_with('}'),
+                "{line}"
+            );
+        }
+    }
+}
+
+#[test]
 fn replies_have_no_more_infos_than_the_network_accepts() {
     let folder = Folder::new();
     let nodes = three(&folder, "--gossip-count 1");
