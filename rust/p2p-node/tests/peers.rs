@@ -215,6 +215,7 @@ fn handshakes_at_a_time_are_bounded() {
     node.until_count("handshakes", 0);
     let _stream = node.dial(2);
     node.until_event("connected", &key(2));
+    node.until_count("handshakes", 0);
 }
 
 #[test]

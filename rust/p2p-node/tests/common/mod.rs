@@ -307,11 +307,11 @@ pub fn frames(stream: &TcpStream) -> Vec<Vec<u8>> {
     frames_of(stream, usize::MAX)
 }
 
-/// The frames that arrive until there are so many, or the stream ends.
+/// The frames that arrive until there are so many, the stream ends or time is up.
 pub fn frames_of(stream: &TcpStream, most: usize) -> Vec<Vec<u8>> {
-    let mut frames = Vec::new();
+    let (mut stream, mut frames) = (timed(stream), Vec::new());
     while frames.len() < most {
-        match read_frame(&mut timed(stream), LIMIT) {
+        match read_frame(&mut stream, LIMIT) {
             Ok(frame) => frames.push(frame),
             Err(_) => break,
         }
