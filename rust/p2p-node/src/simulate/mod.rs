@@ -1,11 +1,113 @@
-//! A simulation of networks on virtual time.
+//! A simulation of networks on virtual time: how gossip behaves where no test network reaches.
+//!
+//! Each simulated node is a [`Node`](p2p_directory::Node) of the crate. It dials, listens, greets,
+//! asks and replies as the host of the guide does. The network between them delivers frames after a
+//! latency, or loses them. Nothing depends on a clock, so the same parameters give the same bytes.
+
+mod behaviour;
+mod events;
+mod gossip;
+mod ledger;
+mod members;
+mod network;
+mod parameters;
+mod random;
+mod record;
+mod rows;
+
+pub use behaviour::Lie;
+pub use ledger::Ledger;
+pub use network::{Counts, Network};
+pub use parameters::{Outputs, Parameters};
+pub use random::Random;
+pub use record::{Age, Grant, NodeState, Record, cells_csv, details_csv};
+pub use rows::{COLUMNS, Row, csv};
+
+use std::fs;
+use std::path::Path;
+use std::time::Instant;
+
+/// A run that has ended.
+#[derive(Debug)]
+pub struct Run {
+    /// A row for each tick.
+    pub rows: Vec<Row>,
+    /// The state of each tick, if it was asked for.
+    pub record: Option<Record>,
+    /// The network as it is at the end.
+    pub network: Network,
+}
+
+/// Runs a network for as many ticks as the parameters say.
+///
+/// # Errors
+///
+/// Says that there is no memory, or that the processor lacks an instruction set.
+pub fn simulate(parameters: &Parameters, is_recorded: bool) -> Result<Run, String> {
+    let mut network = Network::new(parameters.clone());
+    network.record = is_recorded.then(|| Record::new(parameters.nodes));
+    let mut rows = Vec::new();
+    for tick in 1..=parameters.ticks {
+        let end = parameters.tick.as_nanos() * u128::from(tick);
+        let end = u64::try_from(end).map_err(|_| "the run is longer than 500 years".to_owned())?;
+        network.run_until(std::time::Duration::from_nanos(end))?;
+        rows.push(Row::take(&mut network, tick));
+        record::record_tick(&mut network)?;
+    }
+    let record = network.record.take();
+    Ok(Run {
+        rows,
+        record,
+        network,
+    })
+}
 
 /// Runs the simulation that these words ask for.
 ///
 /// # Errors
 ///
-/// Says why the words ask for none.
+/// Says why the words ask for none, or what can't be written.
 pub fn run(words: &[String]) -> Result<(), String> {
-    let _ = words;
+    if words.iter().any(|word| word == "--help" || word == "-h") {
+        print!("{}", parameters::HELP);
+        return Ok(());
+    }
+    let began = Instant::now();
+    let (parameters, outputs) = Parameters::read(words)?;
+    let run = simulate(&parameters, outputs.are_drawn())?;
+    write_outputs(&parameters, &outputs, &run)?;
+    if outputs.cost {
+        eprintln!("{:.1},{}", began.elapsed().as_secs_f64(), greatest_memory());
+    }
     Ok(())
+}
+
+fn write_outputs(parameters: &Parameters, outputs: &Outputs, run: &Run) -> Result<(), String> {
+    let table = csv(parameters, &run.rows);
+    match &outputs.csv {
+        Some(path) => write(path, &table)?,
+        None => print!("{table}"),
+    }
+    let Some(record) = &run.record else {
+        return Ok(());
+    };
+    if let Some(path) = &outputs.cells {
+        write(path, &cells_csv(record))?;
+    }
+    if let Some(path) = &outputs.details {
+        write(path, &details_csv(record))?;
+    }
+    Ok(())
+}
+
+fn write(path: &Path, text: &str) -> Result<(), String> {
+    fs::write(path, text).map_err(|error| format!("{}: {error}", path.display()))
+}
+
+/// The greatest memory of this process so far, in megabytes, as the system tells it.
+fn greatest_memory() -> String {
+    let status = fs::read_to_string("/proc/self/status").unwrap_or_default();
+    let line = status.lines().find_map(|line| line.strip_prefix("VmHWM:"));
+    let kilobytes = line.and_then(|line| line.trim().trim_end_matches(" kB").parse::<u64>().ok());
+    kilobytes.map_or_else(|| "unknown".to_owned(), |size| (size / 1000).to_string())
 }
