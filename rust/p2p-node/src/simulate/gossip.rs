@@ -141,7 +141,6 @@ impl Network {
         if blocked.map_err(|error| error.to_string())? {
             self.counts.blocks += 1;
         }
-        self.end(node, peer);
-        Ok(())
+        self.end(node, peer)
     }
 }

@@ -5,7 +5,7 @@ use super::parameters::Parameters;
 use super::random::Random;
 use p2p_directory::testing::{self, NAMESPACE};
 use p2p_directory::{
-    Config, Info, Ingress, Key, Node, OrderedSet, PayloadConfig, Setup, TrackedPeers,
+    Config, Info, Ingress, KEY_SIZE, Key, Node, OrderedSet, PayloadConfig, Setup, TrackedPeers,
 };
 use std::net::{Ipv4Addr, SocketAddr};
 use std::num::NonZeroUsize;
@@ -34,23 +34,32 @@ pub struct Member {
     pub bootstrappers: Vec<usize>,
 }
 
-/// The key of a node. Keys are ordered as the nodes.
+/// The key of a node. Keys are ordered as the nodes. They differ in their first bytes, as random
+/// keys do, so that comparing them doesn't take longer than in a real network.
 #[must_use]
 pub fn key_of(node: usize) -> Key {
-    testing::key(u16::try_from(node).unwrap_or(u16::MAX))
+    let mut bytes = [0; KEY_SIZE];
+    let [high, low] = number_of(node);
+    bytes[..2].copy_from_slice(&[high, low]);
+    Key(bytes)
 }
 
 /// The node of a key.
 #[must_use]
 pub fn node_of(key: &Key) -> usize {
-    let [.., high, low] = *key.as_bytes();
+    let [high, low, ..] = *key.as_bytes();
     usize::from(u16::from_be_bytes([high, low]))
+}
+
+// There are at most 20,000 nodes.
+fn number_of(node: usize) -> [u8; 2] {
+    u16::try_from(node).unwrap_or(u16::MAX).to_be_bytes()
 }
 
 /// The address of a node that has come back so many times. No two are the same, up to 60,000 times.
 #[must_use]
 pub fn address_of(node: usize, returns: usize) -> Ingress {
-    let [high, low] = u16::try_from(node).unwrap_or(u16::MAX).to_be_bytes();
+    let [high, low] = number_of(node);
     let port = 1024 + (returns % 60_000) as u16;
     Ingress::from(SocketAddr::from((Ipv4Addr::new(1, 0, high, low), port)))
 }

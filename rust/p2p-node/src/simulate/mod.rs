@@ -5,8 +5,11 @@
 //! latency, or loses them. Nothing depends on a clock, so the same parameters give the same bytes.
 
 mod behaviour;
+mod chart;
 mod events;
+mod figures;
 mod gossip;
+mod hops;
 mod ledger;
 mod members;
 mod network;
@@ -14,14 +17,17 @@ mod parameters;
 mod random;
 mod record;
 mod rows;
+mod stored;
 
 pub use behaviour::Lie;
+pub use chart::{Axis, Chart, Scale, Series, escaped, svg};
 pub use ledger::Ledger;
 pub use network::{Counts, Network};
 pub use parameters::{Outputs, Parameters};
 pub use random::Random;
 pub use record::{Age, Grant, NodeState, Record, cells_csv, details_csv};
 pub use rows::{COLUMNS, Row, csv};
+pub use stored::{Stored, StoredRow, read_run, read_runs};
 
 use std::fs;
 use std::path::Path;
@@ -71,6 +77,14 @@ pub fn run(words: &[String]) -> Result<(), String> {
     if words.iter().any(|word| word == "--help" || word == "-h") {
         print!("{}", parameters::HELP);
         return Ok(());
+    }
+    if let Some((word, rest)) = words.split_first()
+        && word == "draw"
+    {
+        return match rest {
+            [folder] => figures::draw(Path::new(folder)),
+            _ => Err("draw takes one folder: see p2p-node simulate --help".to_owned()),
+        };
     }
     let began = Instant::now();
     let (parameters, outputs) = Parameters::read(words)?;

@@ -12,7 +12,7 @@ use std::collections::BTreeMap;
 use std::time::Duration;
 
 /// The virtual time at which a network starts, since the Unix epoch. Timestamps are after it.
-const START: Duration = Duration::from_secs(1_000_000);
+const START: Duration = Duration::from_secs(1_700_000_000);
 
 /// How many dials a node may begin in a tick, as in the guide.
 const DIALS: usize = 16;
@@ -29,6 +29,13 @@ pub struct Running {
     pub connections: BTreeMap<usize, Connection>,
     /// The peers whom it is dialling.
     pub dialling: BTreeMap<usize, (Link, Reservation)>,
+}
+
+impl Running {
+    fn release(&mut self, connection: Connection) -> Result<(), String> {
+        let released = self.node.directory_mut().release(connection.reservation);
+        released.map_err(|error| error.to_string())
+    }
 }
 
 /// One side of a connection.
@@ -159,7 +166,7 @@ impl Network {
                 } => self.accepted(node, from, link, latency)?,
                 Event::Refused { from, link } => self.refused(node, from, link),
                 Event::Frame { from, link, frame } => self.frame(node, from, link, &frame)?,
-                Event::Closed { from, link } => self.closed(node, from, link),
+                Event::Closed { from, link } => self.closed(node, from, link)?,
             }
         }
         self.now = end;
@@ -180,7 +187,7 @@ impl Network {
             running.node.directory_mut().forget_cooled(now);
             running.node.directory_mut().unblock_expired(now);
         }
-        self.end_due(node);
+        self.end_due(node)?;
         self.dial(node)?;
         self.ask(node);
         Ok(())
@@ -231,40 +238,46 @@ impl Network {
         self.events.schedule(self.now + latency, peer, closed);
     }
 
-    fn end_due(&mut self, node: usize) {
+    fn end_due(&mut self, node: usize) -> Result<(), String> {
         let now = self.now;
         let Some(running) = &mut self.places[node].running else {
-            return;
+            return Ok(());
         };
         let is_due = |connection: &Connection| connection.ends_at.is_some_and(|end| end <= now);
         let connections = running.connections.iter();
         let due = connections.filter(|(_, connection)| is_due(connection));
         let due: Vec<usize> = due.map(|(peer, _)| *peer).collect();
-        for peer in due {
-            self.end(node, peer);
-        }
+        due.into_iter().try_for_each(|peer| self.end(node, peer))
     }
 
     /// Ends a connection from this side.
-    pub(super) fn end(&mut self, node: usize, peer: usize) {
+    ///
+    /// # Errors
+    ///
+    /// Says that the reservation is not one of this node, which is a fault of the simulation.
+    pub(super) fn end(&mut self, node: usize, peer: usize) -> Result<(), String> {
         let Some(running) = &mut self.places[node].running else {
-            return;
+            return Ok(());
         };
         if let Some(connection) = running.connections.remove(&peer) {
             let (link, latency) = (connection.link, connection.latency);
-            // The reservation is released when it is dropped.
-            drop(connection);
+            running.release(connection)?;
             self.close(node, peer, link, latency);
         }
+        Ok(())
     }
 
-    fn closed(&mut self, node: usize, from: usize, link: Link) {
-        if let Some(running) = &mut self.places[node].running {
-            let connection = running.connections.get(&from);
-            if connection.is_some_and(|connection| connection.link == link) {
-                running.connections.remove(&from);
-            }
+    fn closed(&mut self, node: usize, from: usize, link: Link) -> Result<(), String> {
+        let Some(running) = &mut self.places[node].running else {
+            return Ok(());
+        };
+        let ended = running.connections.get(&from);
+        if ended.is_some_and(|connection| connection.link == link)
+            && let Some(connection) = running.connections.remove(&from)
+        {
+            running.release(connection)?;
         }
+        Ok(())
     }
 
     // How many connections a node may have besides those that it has or begins.
@@ -284,6 +297,15 @@ impl Network {
     fn latency(&mut self) -> Duration {
         let mean = self.parameters.latency.as_nanos() as u64;
         Duration::from_nanos(mean / 2 + self.random.below(mean.saturating_add(1)))
+    }
+
+    // When the dialer ends a connection that begins now: after half its mean lifetime to one and a
+    // half, so that those that began together don't end together.
+    fn draw_end(&mut self) -> Option<Duration> {
+        let lifetime = u32::try_from(self.parameters.lifetime).unwrap_or(u32::MAX);
+        let mean = (self.parameters.tick * lifetime).as_nanos() as u64;
+        let drawn = mean / 2 + self.random.below(mean.saturating_add(1));
+        (lifetime > 0).then(|| self.now + Duration::from_nanos(drawn))
     }
 
     // Dials random peers, as many as it may still be connected with.
@@ -381,8 +403,7 @@ impl Network {
             self.close(node, from, link, latency);
             return Ok(());
         };
-        let lifetime = u32::try_from(self.parameters.lifetime).unwrap_or(u32::MAX);
-        let ends_at = (lifetime > 0).then(|| self.now + self.parameters.tick * lifetime);
+        let ends_at = self.draw_end();
         self.connect(node, from, link, latency, reservation, ends_at)
     }
 

@@ -29,7 +29,7 @@ Parameters, with their defaults:
   --loss 0                share of dials, questions and replies that get lost
   --churn 0               share of nodes that go in a tick; each is back a tick later, with
                           another address and a newer info, and nothing else
-  --lifetime 0            ticks after which the dialer ends a connection; 0: never
+  --lifetime 0            mean ticks after which the dialer ends a connection; 0: never
   --cooldown 60           seconds between two connections with the same peer
   --dial-fail-limit 2     failed dials after which an info is asked for again
   --bootstrappers 3       random peers whose address a node knows when it starts
@@ -74,7 +74,7 @@ pub struct Parameters {
     pub loss: f64,
     /// The probability that a node goes in a tick.
     pub churn: f64,
-    /// How many ticks the dialer keeps a connection, or 0 if it keeps it forever.
+    /// How many ticks the dialer keeps a connection in the mean, or 0 if it keeps it forever.
     pub lifetime: u64,
     /// The minimum time between two reservations of one peer.
     pub cooldown: Duration,

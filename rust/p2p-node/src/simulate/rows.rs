@@ -1,5 +1,6 @@
 //! A row of numbers for each tick, and their CSV.
 
+use super::hops::Reach;
 use super::network::{Counts, Network, Place};
 use super::parameters::Parameters;
 use std::fmt;
@@ -18,6 +19,9 @@ pub struct Row {
     pub newest_known: f64,
     /// The same, for any info of the peer, newest or not.
     pub known: f64,
+    /// The share of these pairs in which the peer is within two connections. No node can know
+    /// more at a time, but for what it keeps of connections that have ended.
+    pub two_hops: f64,
     /// How many honest nodes know the newest info of each peer.
     pub complete: usize,
     /// The mean number of connections of the nodes that run.
@@ -29,7 +33,7 @@ pub struct Row {
 }
 
 /// The names of the columns, which are the first line of the CSV.
-pub const COLUMNS: &str = "tick,seconds,running,newest_known,known,complete,connections,\
+pub const COLUMNS: &str = "tick,seconds,running,newest_known,known,two_hops,complete,connections,\
 questions,replies,infos,bytes_of_node,dials,failed_dials,lost,blocks";
 
 impl Row {
@@ -38,6 +42,7 @@ impl Row {
     pub fn take(network: &mut Network, tick: u64) -> Row {
         let counts = std::mem::take(&mut network.counts);
         let (mut pairs, mut newest, mut known, mut complete) = (0, 0, 0, 0);
+        let (mut reach, mut near) = (Reach::new(network.places.len()), 0);
         let mut links = 0;
         for (node, place) in network.places.iter().enumerate() {
             let Some(running) = &place.running else {
@@ -49,6 +54,7 @@ impl Row {
                 pairs += peers;
                 newest += network.ledger.newest_known(node);
                 known += network.ledger.known(node);
+                near += reach.of(network, node);
                 complete += usize::from(network.ledger.newest_known(node) == peers);
             }
         }
@@ -60,6 +66,7 @@ impl Row {
             running,
             newest_known: share(newest, pairs),
             known: share(known, pairs),
+            two_hops: share(near, pairs),
             complete,
             connections: share(links, running),
             bytes_of_node: counts.bytes as f64 / network.places.len() as f64,
@@ -87,6 +94,7 @@ impl fmt::Display for Row {
         } = self.counts;
         write!(f, "{},{:.3},{}", self.tick, self.seconds, self.running)?;
         write!(f, ",{:.6},{:.6}", self.newest_known, self.known)?;
+        write!(f, ",{:.6}", self.two_hops)?;
         write!(f, ",{},{:.3}", self.complete, self.connections)?;
         write!(
             f,

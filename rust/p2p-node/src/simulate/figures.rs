@@ -1,0 +1,323 @@
+//! The pictures of stored runs.
+//!
+//! The name of a run begins with the picture that it is for. Its parameters say which line it
+//! belongs to.
+
+use super::chart::{Axis, Chart, Scale, Series, svg};
+use super::stored::{Stored, read_runs};
+use std::fs;
+use std::path::Path;
+
+/// The share of infos at which a network counts as complete.
+const NEARLY_ALL: f64 = 0.99;
+
+/// The shares of liars of the pictures, each with the pattern of its lines.
+const LIARS: [f64; 3] = [0.0, 0.1, 0.3];
+
+/// Draws the pictures of the runs in `folder/runs` into the folder.
+///
+/// # Errors
+///
+/// Says which run can't be read, which picture has none, or which can't be written.
+pub fn draw(folder: &Path) -> Result<(), String> {
+    let runs = read_runs(&folder.join("runs"))?;
+    let honest = |run: &Stored| is_near(run.parameters.share_of_liars(), 0.0);
+    let of_honest: Vec<Stored> = runs.iter().filter(|run| honest(run)).cloned().collect();
+    let pictures = [
+        ("share.svg", vec![share_by_time(&of_honest, "share-")]),
+        (
+            "connections.svg",
+            vec![plateaus(&of_honest), ticks(&of_honest)],
+        ),
+        ("bytes.svg", vec![bytes(&of_honest)]),
+        (
+            "liars-share.svg",
+            vec![share_by_time(&lasting(&runs), "share-")],
+        ),
+        ("liars-connections.svg", vec![plateaus(&runs), ticks(&runs)]),
+        ("liars-bytes.svg", vec![bytes(&runs)]),
+        ("churn.svg", vec![share_by_time(&runs, "churn-")]),
+    ];
+    for (name, charts) in pictures {
+        if charts.iter().any(|chart| chart.series.is_empty()) {
+            return Err(format!("{}: no run is for {name}", folder.display()));
+        }
+        let path = folder.join(name);
+        fs::write(&path, svg(&charts)).map_err(|error| format!("{}: {error}", path.display()))?;
+    }
+    Ok(())
+}
+
+fn is_near(one: f64, other: f64) -> bool {
+    (one - other).abs() < 1e-6
+}
+
+// The runs whose connections end after some ticks.
+fn lasting(runs: &[Stored]) -> Vec<Stored> {
+    let ends = |run: &&Stored| run.parameters.lifetime > 0;
+    runs.iter().filter(ends).cloned().collect()
+}
+
+fn pattern_of(liars: f64) -> usize {
+    let place = LIARS.iter().position(|share| is_near(*share, liars));
+    place.unwrap_or(LIARS.len())
+}
+
+fn percent(share: f64) -> String {
+    format!("{} %", (share * 1e4).round() / 1e2)
+}
+
+// What a legend says of how long connections last.
+fn lasting_text(lifetime: u64) -> String {
+    match lifetime {
+        0 => "connections last".to_owned(),
+        ticks => format!("connections end after {ticks} ticks"),
+    }
+}
+
+fn liars_text(liars: f64) -> String {
+    if liars == 0.0 {
+        String::new()
+    } else {
+        format!(", {} of liars", percent(liars))
+    }
+}
+
+fn share_axis(label: &str) -> Axis {
+    Axis {
+        label: label.to_owned(),
+        scale: Scale::Linear,
+        range: (0.0, 1.0),
+    }
+}
+
+// A line for each run whose name begins in this way. Runs that differ in the number of nodes or in
+// churn have different colours, and those that differ in liars or lifetime different patterns.
+fn share_by_time(runs: &[Stored], prefix: &str) -> Chart {
+    let mut runs: Vec<&Stored> = runs
+        .iter()
+        .filter(|run| run.name.starts_with(prefix))
+        .collect();
+    let key = |run: &Stored| (run.parameters.nodes, (run.parameters.churn * 1e6) as u64);
+    runs.sort_by_key(|run| (key(run), (run.parameters.share_of_liars() * 1e6) as u64));
+    let mut keys: Vec<(usize, u64)> = runs.iter().map(|run| key(run)).collect();
+    keys.dedup();
+    let series = runs.iter().map(|run| {
+        let parameters = &run.parameters;
+        let liars = parameters.share_of_liars();
+        let pattern = if parameters.lifetime == 0 {
+            3
+        } else {
+            pattern_of(liars)
+        };
+        let churn = match parameters.churn {
+            0.0 => String::new(),
+            churn => format!(", {} of nodes restart a tick", percent(churn)),
+        };
+        let lasting = lasting_text(parameters.lifetime);
+        let nodes = parameters.nodes;
+        Series {
+            label: format!("{nodes} nodes, {lasting}{churn}{}", liars_text(liars)),
+            points: run
+                .rows
+                .iter()
+                .map(|row| (row.seconds / 60.0, row.newest_known))
+                .collect(),
+            colour: keys
+                .iter()
+                .position(|other| *other == key(run))
+                .unwrap_or(0),
+            pattern,
+            is_marked: false,
+        }
+    });
+    let series: Vec<Series> = series.collect();
+    let ends = runs.iter().filter_map(|run| run.rows.last());
+    let end = ends.map(|row| row.seconds / 60.0).fold(1.0, f64::max);
+    let connections = runs.first().map_or(0, |run| run.parameters.connections);
+    Chart {
+        title: format!("Infos known, with at most {connections} connections a node"),
+        x: Axis {
+            label: "minutes since the start".to_owned(),
+            scale: Scale::Linear,
+            range: (0.0, end),
+        },
+        y: share_axis("share of infos known, each the newest"),
+        series,
+    }
+}
+
+// The runs of this picture by lifetime and liars, each group in the order of connections.
+fn by_connections(runs: &[Stored]) -> Vec<(u64, f64, Vec<&Stored>)> {
+    let runs = runs
+        .iter()
+        .filter(|run| run.name.starts_with("connections-"));
+    let mut runs: Vec<&Stored> = runs.collect();
+    runs.sort_by_key(|run| run.parameters.connections);
+    let mut groups: Vec<(u64, f64, Vec<&Stored>)> = Vec::new();
+    for run in runs {
+        let (lifetime, liars) = (run.parameters.lifetime, run.parameters.share_of_liars());
+        let is_its =
+            |group: &&mut (u64, f64, Vec<&Stored>)| group.0 == lifetime && is_near(group.1, liars);
+        match groups.iter_mut().find(is_its) {
+            Some((_, _, group)) => group.push(run),
+            None => groups.push((lifetime, liars, vec![run])),
+        }
+    }
+    groups.sort_by(|one, other| {
+        (one.0, one.1)
+            .partial_cmp(&(other.0, other.1))
+            .unwrap_or(std::cmp::Ordering::Equal)
+    });
+    groups
+}
+
+fn connections_axis(runs: &[Stored]) -> Axis {
+    let runs = runs
+        .iter()
+        .filter(|run| run.name.starts_with("connections-"));
+    let most = runs.map(|run| run.parameters.connections).max();
+    Axis {
+        label: "most connections of a node".to_owned(),
+        scale: Scale::Logarithmic,
+        range: (1.0, most.unwrap_or(2).max(2) as f64),
+    }
+}
+
+// The share that is known at the end, beside what two hops reach.
+fn plateaus(runs: &[Stored]) -> Chart {
+    let line = |label: String, points, colour, pattern| Series {
+        label,
+        points,
+        colour,
+        pattern,
+        is_marked: true,
+    };
+    let mut series = Vec::new();
+    for (lifetime, liars, group) in by_connections(runs) {
+        let of_all = |share: fn(&Stored) -> f64| -> Vec<(f64, f64)> {
+            let points = group
+                .iter()
+                .map(|run| (run.parameters.connections as f64, share(run)));
+            points.collect()
+        };
+        let (pattern, colour) = (pattern_of(liars), usize::from(lifetime > 0));
+        let ticks = group.iter().map(|run| run.rows.len()).max().unwrap_or(0);
+        let label = format!(
+            "known after {ticks} ticks, {}{}",
+            lasting_text(lifetime),
+            liars_text(liars)
+        );
+        series.push(line(label, of_all(Stored::plateau), colour, pattern));
+        if lifetime == 0 && liars == 0.0 {
+            let label = "within two hops at the end, connections last".to_owned();
+            series.push(line(label, of_all(Stored::two_hops), 2, 1));
+            let label = "two hops at most: k + k(k - 1) of n - 1 peers".to_owned();
+            series.push(line(label, of_all(two_hops_at_most), 5, 2));
+        }
+    }
+    let nodes = runs.iter().find(|run| run.name.starts_with("connections-"));
+    let nodes = nodes.map_or(0, |run| run.parameters.nodes);
+    Chart {
+        title: format!("Infos known at the end, {nodes} nodes"),
+        x: connections_axis(runs),
+        y: share_axis("share of infos known"),
+        series,
+    }
+}
+
+fn two_hops_at_most(run: &Stored) -> f64 {
+    let (connections, peers) = (
+        run.parameters.connections as f64,
+        run.parameters.nodes as f64 - 1.0,
+    );
+    (connections * connections / peers).min(1.0)
+}
+
+// The ticks until nearly all is known, where that is reached.
+fn ticks(runs: &[Stored]) -> Chart {
+    let mut series = Vec::new();
+    for (lifetime, liars, group) in by_connections(runs) {
+        let points = group
+            .iter()
+            .filter_map(|run| Some((run.parameters.connections as f64, run.tick_of(NEARLY_ALL)?)));
+        let points: Vec<(f64, f64)> = points.collect();
+        if !points.is_empty() {
+            series.push(Series {
+                label: format!("{}{}", lasting_text(lifetime), liars_text(liars)),
+                points,
+                colour: usize::from(lifetime > 0),
+                pattern: pattern_of(liars),
+                is_marked: true,
+            });
+        }
+    }
+    let points = series.iter().flat_map(|series| series.points.iter());
+    let most = points.map(|(_, ticks)| *ticks).fold(1.0, f64::max);
+    Chart {
+        title: "Ticks until 99 % of infos are known, where that is reached".to_owned(),
+        x: connections_axis(runs),
+        y: Axis {
+            label: "ticks".to_owned(),
+            scale: Scale::Linear,
+            range: (0.0, most * 1.1),
+        },
+        series,
+    }
+}
+
+// The bytes of a node in a tick by the number of nodes, of runs whose connections end.
+fn bytes(runs: &[Stored]) -> Chart {
+    let of_bytes = |run: &&Stored| run.name.starts_with("share-") || run.name.starts_with("bytes-");
+    let runs = lasting(runs);
+    let mut runs: Vec<&Stored> = runs.iter().filter(of_bytes).collect();
+    runs.sort_by_key(|run| run.parameters.nodes);
+    let mut series = Vec::new();
+    for share in LIARS {
+        let with = |run: &&&Stored| is_near(run.parameters.share_of_liars(), share);
+        let with: Vec<&Stored> = runs.iter().filter(with).copied().collect();
+        let line = |label: &str, bytes: fn(&Stored) -> f64, colour| Series {
+            label: format!("{label}{}", liars_text(share)),
+            points: with
+                .iter()
+                .map(|run| (run.parameters.nodes as f64, bytes(run)))
+                .collect(),
+            colour,
+            pattern: pattern_of(share),
+            is_marked: true,
+        };
+        if !with.is_empty() {
+            series.push(line("the greatest tick", Stored::greatest_bytes, 1));
+            series.push(line(
+                "mean of the second half of the run",
+                Stored::later_bytes,
+                0,
+            ));
+        }
+    }
+    let range = |axis: fn(&(f64, f64)) -> f64, least: f64| -> (f64, f64) {
+        let points = series
+            .iter()
+            .flat_map(|series: &Series| series.points.iter());
+        let values: Vec<f64> = points.map(axis).collect();
+        let first = values.iter().copied().fold(f64::MAX, f64::min);
+        (
+            first.min(1e9) * least,
+            values.iter().copied().fold(1.0, f64::max) / least,
+        )
+    };
+    Chart {
+        title: "Bytes that a node sends in a tick".to_owned(),
+        x: Axis {
+            label: "nodes".to_owned(),
+            scale: Scale::Logarithmic,
+            range: range(|point| point.0, 1.0),
+        },
+        y: Axis {
+            label: "bytes of frames".to_owned(),
+            scale: Scale::Logarithmic,
+            range: range(|point| point.1, 0.8),
+        },
+        series,
+    }
+}
