@@ -13,6 +13,7 @@ mod hops;
 mod ledger;
 mod members;
 mod network;
+mod page;
 mod parameters;
 mod random;
 mod record;
@@ -23,6 +24,7 @@ pub use behaviour::Lie;
 pub use chart::{Axis, Chart, Scale, Series, escaped, svg};
 pub use ledger::Ledger;
 pub use network::{Counts, Network};
+pub use page::page;
 pub use parameters::{Outputs, Parameters};
 pub use random::Random;
 pub use record::{Age, Grant, NodeState, Record, cells_csv, details_csv};
@@ -40,8 +42,8 @@ pub struct Run {
     pub rows: Vec<Row>,
     /// The state of each tick, if it was asked for.
     pub record: Option<Record>,
-    /// The network as it is at the end.
-    pub network: Network,
+    /// How each node lies, if it does.
+    pub lies: Vec<Option<Lie>>,
 }
 
 /// Runs a network for as many ticks as the parameters say.
@@ -60,11 +62,10 @@ pub fn simulate(parameters: &Parameters, is_recorded: bool) -> Result<Run, Strin
         rows.push(Row::take(&mut network, tick));
         record::record_tick(&mut network)?;
     }
-    let record = network.record.take();
     Ok(Run {
         rows,
-        record,
-        network,
+        record: network.record.take(),
+        lies: network.lies(),
     })
 }
 
@@ -110,6 +111,9 @@ fn write_outputs(parameters: &Parameters, outputs: &Outputs, run: &Run) -> Resul
     }
     if let Some(path) = &outputs.details {
         write(path, &details_csv(record))?;
+    }
+    if let Some(path) = &outputs.html {
+        write(path, &page(parameters, &run.lies, &run.rows, record))?;
     }
     Ok(())
 }

@@ -1,6 +1,6 @@
 //! A network on virtual time: its nodes, and their life.
 
-use super::behaviour::Oldest;
+use super::behaviour::{Lie, Oldest};
 use super::events::{Event, Events, Link};
 use super::ledger::Ledger;
 use super::members::{Member, address_of, draw_members, info_of, key_of, node_of};
@@ -133,6 +133,13 @@ impl Network {
             events,
             links: 0,
         }
+    }
+
+    /// How each node lies, if it does.
+    #[must_use]
+    pub fn lies(&self) -> Vec<Option<Lie>> {
+        let lies = self.places.iter().map(|place| place.member.lie);
+        lies.collect()
     }
 
     /// The time since the Unix epoch.
