@@ -2,69 +2,81 @@
 
 use super::network::{Network, Place};
 
-/// Counts for nodes of a network how many of their peers are within two connections.
+/// Counts for the nodes of a network how many of their peers are within two connections.
 ///
 /// A peer counts if the node is connected with it, or with another one that is connected with it,
 /// and all three are in one set. So a question about that set can bring its info.
 #[derive(Debug)]
 pub struct Reach {
+    // The connected peers of each node.
+    neighbours: Vec<Vec<usize>>,
+    // The group of each node in each round, the rounds of a node one after the other.
+    groups: Vec<u64>,
+    rounds: usize,
     // For each node the number of the count in which it was reached last.
     reached: Vec<usize>,
     count: usize,
 }
 
 impl Reach {
-    /// Creates a counter for so many nodes.
+    /// Creates a counter for a network as it is now.
     #[must_use]
-    pub fn new(nodes: usize) -> Reach {
+    pub fn new(network: &Network) -> Reach {
+        let places = &network.places;
+        let groups = places.iter().flat_map(|place| place.member.groups.iter());
         Reach {
-            reached: vec![0; nodes],
+            neighbours: places.iter().map(neighbours).collect(),
+            groups: groups.map(|group| group.index).collect(),
+            rounds: network.parameters.sets,
+            reached: vec![0; places.len()],
             count: 0,
         }
     }
 
-    /// How many peers of a node are within two connections now.
+    /// How many of a node's peers, of whom there are so many, are within two connections.
     ///
     /// # Panics
     ///
     /// Panics if there is no such node.
     #[must_use]
-    pub fn of(&mut self, network: &Network, node: usize) -> usize {
-        self.count += 1;
-        self.reached[node] = self.count;
-        let mut reached = 0;
-        let peers = network.ledger.peers(node).len();
-        for peer in neighbours(&network.places[node]) {
-            reached += self.reach(peer);
-        }
-        for peer in neighbours(&network.places[node]) {
-            if reached == peers {
+    pub fn of(&mut self, node: usize, peers: usize) -> usize {
+        let Reach {
+            neighbours,
+            groups,
+            rounds,
+            reached,
+            count,
+        } = self;
+        *count += 1;
+        let mut reach = |node: usize| {
+            let before = std::mem::replace(&mut reached[node], *count);
+            usize::from(before < *count)
+        };
+        let groups = |node: usize| &groups[node * *rounds..(node + 1) * *rounds];
+        reach(node);
+        let mut within: usize = neighbours[node].iter().map(|peer| reach(*peer)).sum();
+        for peer in &neighbours[node] {
+            if within == peers {
                 break;
             }
-            for other in neighbours(&network.places[peer]) {
-                if self.reached[other] < self.count && share_set(network, [node, peer, other]) {
-                    reached += self.reach(other);
+            for other in &neighbours[*peer] {
+                if share_group(groups(node), groups(*peer), groups(*other)) {
+                    within += reach(*other);
                 }
             }
         }
-        reached
-    }
-
-    // Returns 1 if the node was not reached before in this count.
-    fn reach(&mut self, node: usize) -> usize {
-        let before = std::mem::replace(&mut self.reached[node], self.count);
-        usize::from(before < self.count)
+        within
     }
 }
 
-fn neighbours(place: &Place) -> impl Iterator<Item = usize> {
+fn neighbours(place: &Place) -> Vec<usize> {
     let running = place.running.iter();
-    running.flat_map(|running| running.connections.keys().copied())
+    let peers = running.flat_map(|running| running.connections.keys().copied());
+    peers.collect()
 }
 
 // Each node is in one group of each round, so groups are compared round by round.
-fn share_set(network: &Network, [one, two, three]: [usize; 3]) -> bool {
-    let groups = |node: usize| network.places[node].member.groups.iter();
-    let mut rounds = groups(one).zip(groups(two)).zip(groups(three));
-    rounds.any(|((one, two), three)| one.index == two.index && two.index == three.index)
+fn share_group(one: &[u64], two: &[u64], three: &[u64]) -> bool {
+    let mut rounds = one.iter().zip(two).zip(three);
+    rounds.any(|((one, two), three)| one == two && two == three)
 }

@@ -42,7 +42,7 @@ impl Row {
     pub fn take(network: &mut Network, tick: u64) -> Row {
         let counts = std::mem::take(&mut network.counts);
         let (mut pairs, mut newest, mut known, mut complete) = (0, 0, 0, 0);
-        let (mut reach, mut near) = (Reach::new(network.places.len()), 0);
+        let (mut reach, mut near) = (Reach::new(network), 0);
         let mut links = 0;
         for (node, place) in network.places.iter().enumerate() {
             let Some(running) = &place.running else {
@@ -54,7 +54,7 @@ impl Row {
                 pairs += peers;
                 newest += network.ledger.newest_known(node);
                 known += network.ledger.known(node);
-                near += reach.of(network, node);
+                near += reach.of(node, peers);
                 complete += usize::from(network.ledger.newest_known(node) == peers);
             }
         }
