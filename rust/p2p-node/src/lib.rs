@@ -5,5 +5,16 @@
 
 #![deny(unsafe_code)]
 
+pub mod broken;
+pub mod counts;
+pub mod handshake;
+pub mod identity;
+pub mod json;
+pub mod ledger;
+pub mod limits;
+pub mod node;
+pub mod sets;
+pub mod settings;
 pub mod simulate;
 pub mod sodium;
+pub mod wire;

@@ -2,8 +2,13 @@
 
 #![deny(unsafe_code)]
 
-use p2p_node::simulate;
+use p2p_node::identity::Identity;
+use p2p_node::settings::{self, Settings};
+use p2p_node::sodium::Sodium;
+use p2p_node::{node, simulate};
 use std::env;
+use std::io::{self, Write};
+use std::path::Path;
 use std::process::ExitCode;
 
 /// What `--help` prints.
@@ -20,14 +25,36 @@ Run it in networks that you trust.
 
 fn perform(words: &[String]) -> Result<(), String> {
     match words.split_first() {
-        Some((word, rest)) if word == "simulate" => simulate::run(rest),
-        Some((word, _)) if word == "--help" || word == "-h" => {
-            print!("{HELP}");
-            Ok(())
-        }
-        Some((word, _)) => Err(format!("unknown word {word}: see p2p-node --help")),
         None => Err("no word: see p2p-node --help".to_owned()),
+        Some((word, rest)) => match word.as_str() {
+            "run" => run(rest),
+            "key" => create_key(rest),
+            "simulate" => simulate::run(rest),
+            "--help" | "-h" => print(HELP),
+            _ => Err(format!("unknown word {word}: see p2p-node --help")),
+        },
     }
+}
+
+fn print(text: &str) -> Result<(), String> {
+    let printed = io::stdout().write_all(text.as_bytes());
+    printed.map_err(|error| format!("the standard output: {error}"))
+}
+
+fn run(words: &[String]) -> Result<(), String> {
+    match Settings::parse(words)? {
+        Some(settings) => node::run(settings),
+        None => print(settings::HELP),
+    }
+}
+
+fn create_key(words: &[String]) -> Result<(), String> {
+    let [path] = words else {
+        return Err("key: it takes one word, the FILE to create".to_owned());
+    };
+    let sodium = Sodium::new().map_err(|error| error.to_string())?;
+    let identity = Identity::create(sodium, Path::new(path))?;
+    print(&format!("{}\n", identity.public_key()))
 }
 
 fn main() -> ExitCode {
@@ -35,7 +62,8 @@ fn main() -> ExitCode {
     match perform(&words) {
         Ok(()) => ExitCode::SUCCESS,
         Err(why) => {
-            eprintln!("p2p-node: {why}");
+            // Nobody may read it.
+            let _ = writeln!(io::stderr(), "p2p-node: {why}");
             ExitCode::FAILURE
         }
     }

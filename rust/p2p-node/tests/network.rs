@@ -1,0 +1,242 @@
+//! Networks of real processes on this machine.
+
+mod common;
+
+use common::{Folder, QUICK, Running, key, member, until};
+use p2p_directory::Key;
+use std::net::TcpListener;
+use std::time::Duration;
+
+/// Starts three nodes, of which two know the first only.
+fn three(folder: &Folder, words: &str) -> [Running; 3] {
+    folder.set(0, &[1, 2, 3]);
+    let words = format!("{QUICK} {words}");
+    let first = Running::start(folder, 1, &words);
+    let words = format!("{words} {}", first.as_bootstrapper());
+    let second = Running::start(folder, 2, &words);
+    let third = Running::start(folder, 3, &words);
+    [first, second, third]
+}
+
+fn connect_all(nodes: &[Running; 3]) {
+    for node in nodes {
+        node.until_count("connected", 2);
+    }
+}
+
+#[test]
+fn nodes_of_which_two_know_the_first_only_find_each_other() {
+    let folder = Folder::new();
+    let nodes = three(&folder, "");
+    connect_all(&nodes);
+    let [_, second, third] = &nodes;
+    second.until_event("connected", &third.key);
+    third.until_event("connected", &second.key);
+    // The second learnt the address of the third, of which nobody told it but its peers.
+    let third_key = third.key.to_string();
+    let infos = second.events("info");
+    let info = infos
+        .iter()
+        .find(|line| member(line, "key") == Some(&third_key));
+    let info = info.expect("an info of the third node");
+    assert_eq!(
+        member(info, "ingress"),
+        Some(third.address.to_string().as_str())
+    );
+    let started = &third.events("started")[0];
+    assert_eq!(member(info, "timestamp"), member(started, "timestamp"));
+    for node in &nodes {
+        node.until_count("infos_known", 3);
+        let status = node.status().unwrap();
+        assert_eq!(member(&status, "tracked"), Some("2"), "{status}");
+        assert_eq!(member(&status, "retained"), Some("1"), "{status}");
+        assert_eq!(member(&status, "latest_set"), Some("0"), "{status}");
+        assert_eq!(member(&status, "blocked"), Some("0"), "{status}");
+        assert_eq!(member(&status, "memory_refusals"), Some("0"), "{status}");
+        assert!(node.events("block").is_empty());
+    }
+}
+
+/// The times of the grants of a peer, in nanoseconds.
+fn grants(node: &Running, peer: &Key) -> Vec<u128> {
+    let events = node.events("grant").into_iter();
+    let of_peer = events.filter(|line| member(line, "peer") == Some(&peer.to_string()));
+    of_peer
+        .map(|line| member(&line, "at").unwrap().parse().unwrap())
+        .collect()
+}
+
+#[test]
+fn grants_of_a_peer_are_a_cooldown_apart() {
+    let folder = Folder::new();
+    folder.set(0, &[1, 2]);
+    let first = Running::start(&folder, 1, QUICK);
+    let known = format!("{QUICK} {}", first.as_bootstrapper());
+    // The second node comes and goes, so that the first one grants it again and again.
+    let second = key(2);
+    let granted = until("three grants", || {
+        let node = Running::start(&folder, 2, &known);
+        let connected = first.events("connected").len();
+        until("a connection", || {
+            (first.events("connected").len() > connected).then_some(())
+        });
+        drop(node);
+        let granted = grants(&first, &second);
+        (granted.len() >= 3).then_some(granted)
+    });
+    for pair in granted.windows(2) {
+        assert!(pair[1] - pair[0] >= 1_000_000_000, "{granted:?}");
+    }
+}
+
+#[test]
+fn a_set_without_a_peer_disconnects_it() {
+    let folder = Folder::new();
+    let nodes = three(&folder, "--max-sets 1");
+    connect_all(&nodes);
+    let [first, second, third] = &nodes;
+    folder.set(1, &[1, 2]);
+    for node in [first, second] {
+        let torn = node.until_event("teardown", &third.key);
+        assert_eq!(member(&torn, "index"), Some("1"));
+        node.until_event("disconnected", &third.key);
+        node.until_count("connected", 1);
+        node.until_count("tracked", 1);
+        // Those that stay are not disconnected.
+        let gone: Vec<_> = node
+            .events("disconnected")
+            .into_iter()
+            .skip_while(|line| *line < torn)
+            .collect();
+        assert!(
+            gone.iter()
+                .all(|line| member(line, "peer") == Some(&third.key.to_string())),
+            "{gone:?}"
+        );
+    }
+}
+
+#[test]
+fn an_index_keeps_its_peers() {
+    let folder = Folder::new();
+    folder.set(3, &[1, 2, 3]);
+    let node = Running::start(&folder, 1, QUICK);
+    node.until_count("latest_set", 3);
+    // The same peers, in a new file.
+    folder.set(3, &[3, 2, 1]);
+    // Others under the same index, and then under a lower one.
+    folder.set(3, &[1, 2]);
+    node.until_count("set_refusals", 1);
+    folder.set(2, &[1, 2]);
+    node.until_count("set_refusals", 2);
+    node.until_count("tracked", 2);
+    folder.set(4, &[1, 2]);
+    node.until_count("latest_set", 4);
+    let indices: Vec<_> = node
+        .events("set")
+        .iter()
+        .map(|line| member(line, "index").map(str::to_owned))
+        .collect();
+    assert_eq!(indices, [Some("3".to_owned()), Some("4".to_owned())]);
+    node.until_count("set_refusals", 2);
+}
+
+#[test]
+fn a_folder_has_many_sets() {
+    let folder = Folder::new();
+    let sets = folder.path("sets");
+    std::fs::create_dir(&sets).unwrap();
+    for index in [10, 9, 8] {
+        let set = folder.set(index, &[1, index as u8]);
+        std::fs::rename(set, sets.join(index.to_string())).unwrap();
+    }
+    let words = format!("{QUICK} --sets {}", sets.display());
+    let node = Running::start(&folder, 1, &words);
+    node.until_count("retained", 3);
+    node.until_count("latest_set", 10);
+    // The peers 8, 9 and 10.
+    node.until_count("tracked", 3);
+}
+
+#[test]
+fn a_signal_ends_a_node_within_two_seconds() {
+    let folder = Folder::new();
+    let nodes = three(&folder, "");
+    connect_all(&nodes);
+    let ledger = folder.path("ledger1");
+    let [first, second, third] = nodes;
+    // A handshake that doesn't go on.
+    let _hanging = first.stream();
+    first.until_count("handshakes", 1);
+    let (status, passed) = first.terminate();
+    assert_eq!(status.code(), Some(0));
+    assert!(passed < Duration::from_secs(2), "{passed:?}");
+    let text = std::fs::read_to_string(ledger).unwrap();
+    let last = text.lines().last().unwrap();
+    assert_eq!(member(last, "event"), Some("stopped"), "{last}");
+    // Each reservation was released.
+    assert_eq!(member(last, "held"), Some("0"), "{last}");
+    let count = |event: &str| {
+        let events = text
+            .lines()
+            .filter(|line| member(line, "event") == Some(event));
+        events.count()
+    };
+    assert_eq!(count("connected"), count("disconnected"));
+    // The others go on.
+    for node in [&second, &third] {
+        node.until_event("disconnected", &key(1));
+        node.until_count("connected", 1);
+    }
+}
+
+#[test]
+fn a_node_that_dials_in_vain_ends_in_time() {
+    let folder = Folder::new();
+    folder.set(0, &[1, 2]);
+    // The backlog of this listener is filled, so that a dial waits for an answer.
+    let listener = TcpListener::bind("127.0.0.1:0").unwrap();
+    let address = listener.local_addr().unwrap();
+    let mut backlog = Vec::new();
+    while let Ok(stream) =
+        std::net::TcpStream::connect_timeout(&address, Duration::from_millis(200))
+    {
+        backlog.push(stream);
+        assert!(backlog.len() < 10_000);
+    }
+    let words = format!("{QUICK} --bootstrapper {}@{address}", key(2));
+    let node = Running::start(&folder, 1, &words);
+    node.until_event("grant", &key(2));
+    std::thread::sleep(Duration::from_millis(100));
+    let (status, passed) = node.terminate();
+    assert_eq!(status.code(), Some(0));
+    assert!(passed < Duration::from_secs(2), "{passed:?}");
+}
+
+#[test]
+fn replies_have_no_more_infos_than_the_network_accepts() {
+    let folder = Folder::new();
+    let nodes = three(&folder, "--gossip-count 1");
+    connect_all(&nodes);
+    // Each reply of two infos is cut, and the infos arrive all the same.
+    for node in &nodes {
+        node.until_count("infos_known", 3);
+        assert!(node.events("block").is_empty());
+    }
+}
+
+#[test]
+fn a_node_that_comes_back_elsewhere_is_found_again() {
+    let folder = Folder::new();
+    let [first, second, third] = three(&folder, "");
+    let bootstrapper = first.as_bootstrapper();
+    let nodes = [first, second, third];
+    connect_all(&nodes);
+    let [first, second, third] = nodes;
+    let (old, _) = (third.address, third.terminate());
+    second.until_count("connected", 1);
+    let words = format!("{QUICK} {bootstrapper}");
+    let third = Running::start(&folder, 3, &words);
+    assert_ne!(third.address, old);
+    connect_all(&[first, second, third]);
+}
