@@ -4,7 +4,8 @@
 #
 # usage: tools/simulate.sh [PICTURE..], of share, connections, bytes and churn; by default all
 #
-# runs/ gets the CSV of each run, and costs.csv what each took: seconds, and its greatest memory in megabytes.
+# runs/ gets the CSV of each run, and costs.csv what each took: seconds of a processor, and its
+# greatest memory in megabytes.
 set -eu
 cd "$(dirname "$0")/.."
 (cd rust/p2p-node && cargo build --offline --release --quiet)
@@ -44,7 +45,7 @@ share() {
     simulate share-100-lasting --nodes 100 --connections 32 --ticks 40
     simulate share-1000-lasting --nodes 1000 --connections 32 --ticks 40
     # shellcheck disable=SC2086
-    simulate share-10000-lasting --nodes 10000 $groups --connections 32 --ticks 16
+    simulate share-10000-lasting --nodes 10000 $groups --connections 32 --ticks 20
 }
 
 # 300 nodes by the most connections of a node.
@@ -62,13 +63,16 @@ connections() {
     done
 }
 
-# Further numbers of nodes for the bytes of a node; the others are those of `share`.
+# Further numbers of nodes for the bytes of a node, and another limit of failed dials; the others are those of `share`.
 bytes() {
     for percent in 0 10 30; do
         # shellcheck disable=SC2046
         simulate bytes-40-$percent --nodes 40 --connections 32 --lifetime 10 --ticks 40 $(liars $percent)
         # shellcheck disable=SC2046
         simulate bytes-300-$percent --nodes 300 --connections 32 --lifetime 10 --ticks 40 $(liars $percent)
+    done
+    for nodes in 40 100 300 1000; do
+        simulate bytes-$nodes-limit --nodes $nodes --connections 32 --lifetime 10 --ticks 40 --dial-fail-limit 10
     done
     simulate bytes-3000-0 --nodes 3000 --sets 2 --set-size 125 --connections 32 --lifetime 10 --ticks 40
 }

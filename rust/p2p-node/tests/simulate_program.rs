@@ -133,6 +133,18 @@ fn a_file_that_cannot_be_written_is_named() {
 }
 
 #[test]
+fn the_cost_of_a_run_is_printed() {
+    let output = run(&["--nodes", "300", "--ticks", "6", "--cost"]);
+    let printed = String::from_utf8_lossy(&output.stderr);
+    let (seconds, megabytes) = printed.trim().split_once(',').expect("two fields");
+    let seconds: f64 = seconds.parse().expect("seconds");
+    let megabytes: u64 = megabytes.parse().expect("megabytes");
+    assert!(seconds < 60.0, "{printed}");
+    // 300 nodes with 300 peers each, of 763 to 911 bytes, and what nodes and the program need.
+    assert!((68..400).contains(&megabytes), "{printed}");
+}
+
+#[test]
 fn help_lists_each_flag() {
     let output = run(&["--help"]);
     let printed = String::from_utf8_lossy(&output.stdout);

@@ -268,56 +268,67 @@ fn ticks(runs: &[Stored]) -> Chart {
 
 // The bytes of a node in a tick by the number of nodes, of runs whose connections end.
 fn bytes(runs: &[Stored]) -> Chart {
-    let of_bytes = |run: &&Stored| run.name.starts_with("share-") || run.name.starts_with("bytes-");
-    let runs = lasting(runs);
-    let mut runs: Vec<&Stored> = runs.iter().filter(of_bytes).collect();
-    runs.sort_by_key(|run| run.parameters.nodes);
-    let mut series = Vec::new();
-    for share in LIARS {
-        let with = |run: &&&Stored| is_near(run.parameters.share_of_liars(), share);
-        let with: Vec<&Stored> = runs.iter().filter(with).copied().collect();
-        let line = |label: &str, bytes: fn(&Stored) -> f64, colour| Series {
-            label: format!("{label}{}", liars_text(share)),
-            points: with
-                .iter()
-                .map(|run| (run.parameters.nodes as f64, bytes(run)))
-                .collect(),
-            colour,
-            pattern: pattern_of(share),
-            is_marked: true,
-        };
-        if !with.is_empty() {
-            series.push(line("the greatest tick", Stored::greatest_bytes, 1));
-            series.push(line(
-                "mean of the second half of the run",
-                Stored::later_bytes,
-                0,
-            ));
-        }
-    }
-    let range = |axis: fn(&(f64, f64)) -> f64, least: f64| -> (f64, f64) {
-        let points = series
-            .iter()
-            .flat_map(|series: &Series| series.points.iter());
-        let values: Vec<f64> = points.map(axis).collect();
-        let first = values.iter().copied().fold(f64::MAX, f64::min);
-        (
-            first.min(1e9) * least,
-            values.iter().copied().fold(1.0, f64::max) / least,
-        )
-    };
+    let series = series_of_bytes(runs);
     Chart {
         title: "Bytes that a node sends in a tick".to_owned(),
         x: Axis {
             label: "nodes".to_owned(),
             scale: Scale::Logarithmic,
-            range: range(|point| point.0, 1.0),
+            range: range(&series, |point| point.0, 1.0),
         },
         y: Axis {
             label: "bytes of frames".to_owned(),
             scale: Scale::Logarithmic,
-            range: range(|point| point.1, 0.8),
+            range: range(&series, |point| point.1, 0.8),
         },
         series,
     }
+}
+
+// Two lines for each share of liars and each limit of failed dials.
+fn series_of_bytes(runs: &[Stored]) -> Vec<Series> {
+    let of_bytes = |run: &&Stored| run.name.starts_with("share-") || run.name.starts_with("bytes-");
+    let runs = lasting(runs);
+    let mut runs: Vec<&Stored> = runs.iter().filter(of_bytes).collect();
+    runs.sort_by_key(|run| run.parameters.nodes);
+    let mut limits: Vec<usize> = runs
+        .iter()
+        .map(|run| run.parameters.dial_fail_limit)
+        .collect();
+    limits.sort_unstable();
+    limits.dedup();
+    let mut series = Vec::new();
+    for (number, limit) in limits.into_iter().enumerate() {
+        for liars in LIARS {
+            let is_its = |run: &&&Stored| {
+                let parameters = &run.parameters;
+                parameters.dial_fail_limit == limit && is_near(parameters.share_of_liars(), liars)
+            };
+            let runs: Vec<&Stored> = runs.iter().filter(is_its).copied().collect();
+            let line = |label: &str, bytes: fn(&Stored) -> f64, colour| Series {
+                label: format!("{label}, dial fail limit {limit}{}", liars_text(liars)),
+                points: runs
+                    .iter()
+                    .map(|run| (run.parameters.nodes as f64, bytes(run)))
+                    .collect(),
+                colour: colour + 2 * number,
+                pattern: pattern_of(liars),
+                is_marked: true,
+            };
+            if !runs.is_empty() {
+                series.push(line("the greatest tick", Stored::greatest_bytes, 1));
+                series.push(line("mean of the second half", Stored::later_bytes, 0));
+            }
+        }
+    }
+    series
+}
+
+// The least and the greatest value of all points on an axis, and a margin.
+fn range(series: &[Series], axis: fn(&(f64, f64)) -> f64, margin: f64) -> (f64, f64) {
+    let points = series.iter().flat_map(|series| series.points.iter());
+    let values: Vec<f64> = points.map(axis).collect();
+    let least = values.iter().copied().fold(1e9, f64::min);
+    let greatest = values.iter().copied().fold(1.0, f64::max);
+    (least * margin, greatest / margin)
 }

@@ -6,6 +6,7 @@
 
 mod behaviour;
 mod chart;
+mod cost;
 mod events;
 mod figures;
 mod gossip;
@@ -22,6 +23,7 @@ mod stored;
 
 pub use behaviour::Lie;
 pub use chart::{Axis, Chart, Scale, Series, escaped, svg};
+pub use cost::Cost;
 pub use ledger::Ledger;
 pub use network::{Counts, Network};
 pub use page::page;
@@ -33,7 +35,7 @@ pub use stored::{Stored, StoredRow, read_run, read_runs};
 
 use std::fs;
 use std::path::Path;
-use std::time::Instant;
+use std::time::Duration;
 
 /// A run that has ended.
 #[derive(Debug)]
@@ -58,7 +60,7 @@ pub fn simulate(parameters: &Parameters, is_recorded: bool) -> Result<Run, Strin
     for tick in 1..=parameters.ticks {
         let end = parameters.tick.as_nanos() * u128::from(tick);
         let end = u64::try_from(end).map_err(|_| "the run is longer than 500 years".to_owned())?;
-        network.run_until(std::time::Duration::from_nanos(end))?;
+        network.run_until(Duration::from_nanos(end))?;
         rows.push(Row::take(&mut network, tick));
         record::record_tick(&mut network)?;
     }
@@ -87,12 +89,14 @@ pub fn run(words: &[String]) -> Result<(), String> {
             _ => Err("draw takes one folder: see p2p-node simulate --help".to_owned()),
         };
     }
-    let began = Instant::now();
     let (parameters, outputs) = Parameters::read(words)?;
     let run = simulate(&parameters, outputs.are_drawn())?;
     write_outputs(&parameters, &outputs, &run)?;
     if outputs.cost {
-        eprintln!("{:.1},{}", began.elapsed().as_secs_f64(), greatest_memory());
+        match Cost::read() {
+            Some(cost) => eprintln!("{cost}"),
+            None => return Err("the system doesn't tell the cost of the run".to_owned()),
+        }
     }
     Ok(())
 }
@@ -120,12 +124,4 @@ fn write_outputs(parameters: &Parameters, outputs: &Outputs, run: &Run) -> Resul
 
 fn write(path: &Path, text: &str) -> Result<(), String> {
     fs::write(path, text).map_err(|error| format!("{}: {error}", path.display()))
-}
-
-/// The greatest memory of this process so far, in megabytes, as the system tells it.
-fn greatest_memory() -> String {
-    let status = fs::read_to_string("/proc/self/status").unwrap_or_default();
-    let line = status.lines().find_map(|line| line.strip_prefix("VmHWM:"));
-    let kilobytes = line.and_then(|line| line.trim().trim_end_matches(" kB").parse::<u64>().ok());
-    kilobytes.map_or_else(|| "unknown".to_owned(), |size| (size / 1000).to_string())
 }

@@ -44,7 +44,8 @@ Output:
   --cells FILE            CSV of who knows whose info of which age at each tick
   --details FILE          CSV of each node's sets, connections, grants and blocks at each tick
   --html FILE             a page to look at the run; for up to 100 nodes, as --cells, --details
-  --cost                  prints seconds and greatest memory to standard error
+  --cost                  prints seconds of a processor and the greatest memory, in megabytes, to
+                          standard error
 
 In each set index the nodes are divided at random into groups of nearly the same size. The nodes
 of a group retain the set that names exactly them, so a node is in one group for each of its
@@ -97,7 +98,7 @@ pub struct Outputs {
     pub details: Option<PathBuf>,
     /// The file for the page.
     pub html: Option<PathBuf>,
-    /// Whether seconds and memory are printed.
+    /// Whether processor time and memory are printed.
     pub cost: bool,
 }
 
