@@ -94,42 +94,16 @@ fn share_axis(label: &str) -> Axis {
 // A line for each run whose name begins in this way. Runs that differ in the number of nodes or in
 // churn have different colours, and those that differ in liars or lifetime different patterns.
 fn share_by_time(runs: &[Stored], prefix: &str) -> Chart {
-    let mut runs: Vec<&Stored> = runs
-        .iter()
-        .filter(|run| run.name.starts_with(prefix))
-        .collect();
-    let key = |run: &Stored| (run.parameters.nodes, (run.parameters.churn * 1e6) as u64);
-    runs.sort_by_key(|run| (key(run), (run.parameters.share_of_liars() * 1e6) as u64));
-    let mut keys: Vec<(usize, u64)> = runs.iter().map(|run| key(run)).collect();
-    keys.dedup();
+    let runs = runs.iter().filter(|run| run.name.starts_with(prefix));
+    let mut runs: Vec<&Stored> = runs.collect();
+    let colour_of = |run: &Stored| (run.parameters.nodes, millionths(run.parameters.churn));
+    let liars_of = |run: &Stored| millionths(run.parameters.share_of_liars());
+    runs.sort_by_key(|run| (colour_of(run), liars_of(run)));
+    let mut colours: Vec<(usize, u64)> = runs.iter().map(|run| colour_of(run)).collect();
+    colours.dedup();
     let series = runs.iter().map(|run| {
-        let parameters = &run.parameters;
-        let liars = parameters.share_of_liars();
-        let pattern = if parameters.lifetime == 0 {
-            3
-        } else {
-            pattern_of(liars)
-        };
-        let churn = match parameters.churn {
-            0.0 => String::new(),
-            churn => format!(", {} of nodes restart a tick", percent(churn)),
-        };
-        let lasting = lasting_text(parameters.lifetime);
-        let nodes = parameters.nodes;
-        Series {
-            label: format!("{nodes} nodes, {lasting}{churn}{}", liars_text(liars)),
-            points: run
-                .rows
-                .iter()
-                .map(|row| (row.seconds / 60.0, row.newest_known))
-                .collect(),
-            colour: keys
-                .iter()
-                .position(|other| *other == key(run))
-                .unwrap_or(0),
-            pattern,
-            is_marked: false,
-        }
+        let colour = colours.iter().position(|other| *other == colour_of(run));
+        line_by_time(run, colour.unwrap_or(0))
     });
     let series: Vec<Series> = series.collect();
     let ends = runs.iter().filter_map(|run| run.rows.last());
@@ -144,6 +118,34 @@ fn share_by_time(runs: &[Stored], prefix: &str) -> Chart {
         },
         y: share_axis("share of infos known, each the newest"),
         series,
+    }
+}
+
+fn millionths(share: f64) -> u64 {
+    (share * 1e6).round() as u64
+}
+
+fn line_by_time(run: &Stored, colour: usize) -> Series {
+    let parameters = &run.parameters;
+    let liars = parameters.share_of_liars();
+    let churn = match parameters.churn {
+        0.0 => String::new(),
+        churn => format!(", {} of nodes restart a tick", percent(churn)),
+    };
+    let (nodes, lasting) = (parameters.nodes, lasting_text(parameters.lifetime));
+    let points = run
+        .rows
+        .iter()
+        .map(|row| (row.seconds / 60.0, row.newest_known));
+    Series {
+        label: format!("{nodes} nodes, {lasting}{churn}{}", liars_text(liars)),
+        points: points.collect(),
+        colour,
+        pattern: match parameters.lifetime {
+            0 => LIARS.len(),
+            _ => pattern_of(liars),
+        },
+        is_marked: false,
     }
 }
 
@@ -184,7 +186,7 @@ fn connections_axis(runs: &[Stored]) -> Axis {
     }
 }
 
-// The share that is known at the end, beside what two hops reach.
+// The share that is known at the end, next to what two hops reach.
 fn plateaus(runs: &[Stored]) -> Chart {
     let line = |label: String, points, colour, pattern| Series {
         label,

@@ -2,7 +2,7 @@
 
 /// What each node knows of its peers, by the timestamps of infos.
 ///
-/// A directory tells only the infos of connected peers. So the ledger is kept beside the nodes: it
+/// A directory tells only the infos of connected peers. So the ledger is kept next to the nodes: it
 /// has the infos of the frames that a node accepted, and of each peer the one with the greatest
 /// timestamp, as a directory does.
 ///

@@ -6,6 +6,7 @@
 
 mod behaviour;
 mod chart;
+mod connections;
 mod cost;
 mod events;
 mod figures;

@@ -20,7 +20,7 @@ pub struct Row {
     /// The same, for any info of the peer, newest or not.
     pub known: f64,
     /// The share of these pairs in which the peer is within two connections. No node can know
-    /// more at a time, but for what it keeps of connections that have ended.
+    /// more at a time, except for what it keeps of connections that have ended.
     pub two_hops: f64,
     /// How many honest nodes know the newest info of each peer.
     pub complete: usize,
