@@ -4,7 +4,7 @@
 #![allow(unsafe_code)]
 
 use std::error;
-use std::ffi::{c_char, c_int, c_uchar, c_ulonglong, c_void};
+use std::ffi::{c_int, c_uchar, c_ulonglong, c_void};
 use std::fmt;
 use std::io;
 use std::ptr;
@@ -28,7 +28,6 @@ const SIG_ERR: usize = usize::MAX;
 unsafe extern "C" {
     fn sodium_init() -> c_int;
     fn sodium_memzero(bytes: *mut c_void, length: usize);
-    fn sodium_version_string() -> *const c_char;
     fn randombytes_buf(bytes: *mut c_void, length: usize);
     fn crypto_sign_seed_keypair(
         public: *mut c_uchar,
@@ -174,14 +173,6 @@ pub fn verify(
         )
     };
     result == 0
-}
-
-/// The version of libsodium, for example `1.0.18`.
-#[must_use]
-pub fn version() -> String {
-    // SAFETY: it returns a constant text that ends with a zero.
-    let version = unsafe { std::ffi::CStr::from_ptr(sodium_version_string()) };
-    version.to_string_lossy().into_owned()
 }
 
 static STOP: AtomicBool = AtomicBool::new(false);

@@ -2,8 +2,7 @@
 
 mod common;
 
-use common::{Folder, QUICK, Running, key, member, until};
-use p2p_directory::Key;
+use common::{Folder, QUICK, Running, frames_of, key, member, until};
 use std::net::TcpListener;
 use std::time::Duration;
 
@@ -57,36 +56,26 @@ fn nodes_of_which_two_know_the_first_only_find_each_other() {
     }
 }
 
-/// The times of the grants of a peer, in nanoseconds.
-fn grants(node: &Running, peer: &Key) -> Vec<u128> {
-    let events = node.events("grant").into_iter();
-    let of_peer = events.filter(|line| member(line, "peer") == Some(&peer.to_string()));
-    of_peer
-        .map(|line| member(&line, "at").unwrap().parse().unwrap())
-        .collect()
-}
-
 #[test]
 fn grants_of_a_peer_are_a_cooldown_apart() {
     let folder = Folder::new();
     folder.set(0, &[1, 2]);
-    let first = Running::start(&folder, 1, QUICK);
-    let known = format!("{QUICK} {}", first.as_bootstrapper());
-    // The second node comes and goes, so that the first one grants it again and again.
-    let second = key(2);
+    let node = Running::start(&folder, 1, QUICK);
+    // The peer comes as often as it can. It doesn't greet, so the node doesn't know where to dial it.
     let granted = until("three grants", || {
-        let node = Running::start(&folder, 2, &known);
-        let connected = first.events("connected").len();
-        until("a connection", || {
-            (first.events("connected").len() > connected).then_some(())
-        });
-        drop(node);
-        let granted = grants(&first, &second);
-        (granted.len() >= 3).then_some(granted)
+        frames_of(&node.dial(2), 1);
+        let granted = node.events("grant");
+        (granted.len() == 3).then_some(granted)
     });
-    for pair in granted.windows(2) {
-        assert!(pair[1] - pair[0] >= 1_000_000_000, "{granted:?}");
+    let times = granted
+        .iter()
+        .map(|line| member(line, "at").unwrap().parse().unwrap());
+    let times: Vec<u128> = times.collect();
+    for pair in times.windows(2) {
+        assert!(pair[1] - pair[0] >= 1_000_000_000, "{times:?}");
     }
+    let status = until("refusals", || node.status());
+    assert_ne!(member(&status, "not_granted"), Some("0"), "{status}");
 }
 
 #[test]
@@ -214,6 +203,25 @@ fn a_node_that_dials_in_vain_ends_in_time() {
 }
 
 #[test]
+fn a_node_that_is_killed_leaves_whole_lines() {
+    let folder = Folder::new();
+    let nodes = three(&folder, "");
+    connect_all(&nodes);
+    drop(nodes);
+    for number in 1..=3 {
+        let text = std::fs::read_to_string(folder.path(&format!("ledger{number}"))).unwrap();
+        assert!(text.ends_with('\n'));
+        assert!(text.lines().count() > 4);
+        for line in text.lines() {
+            assert!(
+                line.starts_with("{\"at\":") && line.ends_with('}'),
+                "{line}"
+            );
+        }
+    }
+}
+
+#[test]
 fn replies_have_no_more_infos_than_the_network_accepts() {
     let folder = Folder::new();
     let nodes = three(&folder, "--gossip-count 1");
@@ -228,14 +236,15 @@ fn replies_have_no_more_infos_than_the_network_accepts() {
 #[test]
 fn a_node_that_comes_back_elsewhere_is_found_again() {
     let folder = Folder::new();
-    let [first, second, third] = three(&folder, "");
+    let quicker = "--cooldown 0.3";
+    let [first, second, third] = three(&folder, quicker);
     let bootstrapper = first.as_bootstrapper();
     let nodes = [first, second, third];
     connect_all(&nodes);
     let [first, second, third] = nodes;
     let (old, _) = (third.address, third.terminate());
     second.until_count("connected", 1);
-    let words = format!("{QUICK} {bootstrapper}");
+    let words = format!("{QUICK} {quicker} {bootstrapper}");
     let third = Running::start(&folder, 3, &words);
     assert_ne!(third.address, old);
     connect_all(&[first, second, third]);

@@ -3,10 +3,11 @@
 mod common;
 
 use common::{
-    Folder, NAMESPACE, QUICK, Running, frames, info, key, member, milliseconds, send, timed,
+    Folder, NAMESPACE, QUICK, Running, frames, info, key, member, milliseconds, send, timed, until,
 };
-use p2p_directory::{BitVec, Data, Info, Payload};
+use p2p_directory::{BitVec, Data, Info, Payload, PayloadConfig};
 use p2p_node::wire::read_frame;
+use std::collections::BTreeSet;
 use std::io::{Read, Write};
 use std::net::TcpStream;
 use std::time::{Duration, Instant};
@@ -27,6 +28,14 @@ fn greeting(number: u8) -> Vec<u8> {
 fn bits(count: usize) -> Vec<u8> {
     let bits = vec![false; count];
     Payload::BitVec(BitVec { index: 0, bits }).encode()
+}
+
+fn limits() -> PayloadConfig {
+    PayloadConfig {
+        max_bit_vec: 3,
+        max_peers: 3,
+        max_data_length: 0,
+    }
 }
 
 fn infos(infos: Vec<Info>) -> Vec<u8> {
@@ -206,6 +215,7 @@ fn handshakes_at_a_time_are_bounded() {
     node.until_count("handshakes", 0);
     let _stream = node.dial(2);
     node.until_event("connected", &key(2));
+    node.until_count("handshakes", 0);
 }
 
 #[test]
@@ -289,11 +299,7 @@ fn a_reply_has_no_more_infos_than_the_network_accepts() {
     // The node has three infos to share: its own, that of the third, and that of the second.
     send(&second, &bits(3));
     node.until_count("replies_cut", 1);
-    let limits = p2p_directory::PayloadConfig {
-        max_bit_vec: 3,
-        max_peers: 3,
-        max_data_length: 0,
-    };
+    let limits = limits();
     loop {
         let frame = read_frame(&mut timed(&second), 10_000).unwrap();
         if let Ok(Payload::Peers(infos)) = Payload::decode(&frame, &limits) {
@@ -314,7 +320,7 @@ fn infos_of_frames_stand_in_the_ledger() {
     );
     send(&stream, &infos(vec![info(3, NAMESPACE, third)]));
     let expected = [(key(2), second), (key(3), third)];
-    let lines = common::until("two infos", || {
+    let lines = until("two infos", || {
         let lines = node.events("info");
         (lines.len() == 2).then_some(lines)
     });
@@ -329,6 +335,48 @@ fn infos_of_frames_stand_in_the_ledger() {
     }
     // Now the third peer's address is known, and it is dialled.
     node.until_event("grant", &key(3));
+}
+
+#[test]
+fn questions_are_of_each_retained_set() {
+    let (folder, node) = start("--tick 0.05 --silence 20 --cooldown 1");
+    for index in [5, 9] {
+        folder.set(index, &[1, 2]);
+        node.until_count("latest_set", index);
+    }
+    let stream = node.dial(2);
+    send(&stream, &greeting(2));
+    // One of three sets is left out of 60 questions in about one of ten thousand million runs.
+    node.until_count("frames_out", 61);
+    drop(node);
+    let limits = limits();
+    let questions = frames(&stream).into_iter();
+    let indices = questions.filter_map(|frame| match Payload::decode(&frame, &limits) {
+        Ok(Payload::BitVec(bits)) => Some(bits.index),
+        _ => None,
+    });
+    assert_eq!(
+        indices.collect::<BTreeSet<u64>>(),
+        BTreeSet::from([0, 5, 9])
+    );
+}
+
+#[test]
+fn a_block_ends() {
+    let (_folder, node) = start("--tick 60 --silence 120 --cooldown 0.1 --block 1.5");
+    let stream = node.dial(2);
+    send(&stream, &bits(3));
+    node.until_event("block", &key(2));
+    is_not_acceptable(&node, 2);
+    until("the end of the block", || node.events("unblock").pop());
+    let at = |line: &str| member(line, "at").unwrap().parse::<u128>().unwrap();
+    let (begin, end) = (&node.events("block")[0], &node.events("unblock")[0]);
+    let lasted = at(end) - at(begin);
+    assert!((1_500_000_000..6_000_000_000).contains(&lasted), "{lasted}");
+    let _stream = node.dial(2);
+    until("two connections", || {
+        (node.events("connected").len() == 2).then_some(())
+    });
 }
 
 #[test]

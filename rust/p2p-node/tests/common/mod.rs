@@ -20,7 +20,7 @@ use std::thread;
 use std::time::{Duration, Instant, SystemTime, UNIX_EPOCH};
 
 /// The time within which each expected event has to happen.
-pub const PATIENCE: Duration = Duration::from_secs(20);
+pub const PATIENCE: Duration = Duration::from_secs(40);
 
 /// The namespace of the networks of tests.
 pub const NAMESPACE: &[u8] = b"test";
@@ -304,9 +304,17 @@ pub fn send(stream: &TcpStream, frame: &[u8]) {
 
 /// The frames that arrive until the stream ends.
 pub fn frames(stream: &TcpStream) -> Vec<Vec<u8>> {
-    let mut frames = Vec::new();
-    while let Ok(frame) = read_frame(&mut timed(stream), LIMIT) {
-        frames.push(frame);
+    frames_of(stream, usize::MAX)
+}
+
+/// The frames that arrive until there are so many, the stream ends or time is up.
+pub fn frames_of(stream: &TcpStream, most: usize) -> Vec<Vec<u8>> {
+    let (mut stream, mut frames) = (timed(stream), Vec::new());
+    while frames.len() < most {
+        match read_frame(&mut stream, LIMIT) {
+            Ok(frame) => frames.push(frame),
+            Err(_) => break,
+        }
     }
     frames
 }
