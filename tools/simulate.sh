@@ -86,6 +86,8 @@ churn() {
                 --churn $restarts $(liars $percent)
         done
     done
+    # In no picture: what another limit of failed dials changes.
+    simulate limit-0.01 --nodes 300 --connections 32 --lifetime 10 --ticks 60 --churn 0.01 --dial-fail-limit 10
 }
 
 for picture in "${@:-share connections bytes churn}"; do

@@ -202,7 +202,7 @@ fn pictures_have_axes_lines_and_a_legend() {
     // The plateaus of both lifetimes, two lines of two hops, and the ticks of both.
     assert_eq!(connections.matches("<polyline").count(), 6);
     let bytes = picture("bytes.svg");
-    assert!(bytes.contains(">the greatest tick</text>"));
+    assert!(bytes.contains(">the greatest tick, dial fail limit 2</text>"));
     assert_eq!(bytes.matches("<polyline").count(), 2);
     assert!(picture("churn.svg").contains(", 1 % of nodes restart a tick</text>"));
 }
