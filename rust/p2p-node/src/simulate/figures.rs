@@ -5,6 +5,7 @@
 
 use super::chart::{Axis, Chart, Scale, Series, svg};
 use super::stored::{Stored, read_runs};
+use std::collections::BTreeSet;
 use std::fs;
 use std::path::Path;
 
@@ -75,6 +76,14 @@ fn lasting_text(lifetime: u64) -> String {
     }
 }
 
+// What a legend says of how many peers a node knows of, unless it is all.
+fn peers_text(run: &Stored) -> String {
+    match run.parameters.groups() {
+        1 => String::new(),
+        _ => format!(", {} peers each", run.parameters.peers()),
+    }
+}
+
 fn liars_text(liars: f64) -> String {
     if liars == 0.0 {
         String::new()
@@ -133,12 +142,16 @@ fn line_by_time(run: &Stored, colour: usize) -> Series {
         churn => format!(", {} of nodes restart a tick", percent(churn)),
     };
     let (nodes, lasting) = (parameters.nodes, lasting_text(parameters.lifetime));
+    let peers = peers_text(run);
     let points = run
         .rows
         .iter()
         .map(|row| (row.seconds / 60.0, row.newest_known));
     Series {
-        label: format!("{nodes} nodes, {lasting}{churn}{}", liars_text(liars)),
+        label: format!(
+            "{nodes} nodes{peers}, {lasting}{churn}{}",
+            liars_text(liars)
+        ),
         points: points.collect(),
         colour,
         pattern: match parameters.lifetime {
@@ -287,43 +300,54 @@ fn bytes(runs: &[Stored]) -> Chart {
     }
 }
 
-// Two lines for each share of liars and each limit of failed dials.
+// Two lines for each limit of failed dials, each number of peers and each share of liars.
 fn series_of_bytes(runs: &[Stored]) -> Vec<Series> {
     let of_bytes = |run: &&Stored| run.name.starts_with("share-") || run.name.starts_with("bytes-");
     let runs = lasting(runs);
-    let mut runs: Vec<&Stored> = runs.iter().filter(of_bytes).collect();
+    let runs: Vec<&Stored> = runs.iter().filter(of_bytes).collect();
+    let limit_of = |run: &Stored| run.parameters.dial_fail_limit;
+    let kind_of = |run: &Stored| {
+        let liars = millionths(run.parameters.share_of_liars());
+        (limit_of(run), peers_text(run), liars)
+    };
+    let kinds: BTreeSet<_> = runs.iter().map(|run| kind_of(run)).collect();
+    let limits: BTreeSet<usize> = runs.iter().map(|run| limit_of(run)).collect();
+    let lines = kinds.into_iter().flat_map(|kind| {
+        let of_kind = runs.iter().filter(|run| kind_of(run) == kind);
+        let of_kind: Vec<&Stored> = of_kind.copied().collect();
+        let number = limits.iter().position(|limit| *limit == kind.0);
+        lines_of_bytes(of_kind, number.unwrap_or(0))
+    });
+    lines.collect()
+}
+
+// The lines of runs that differ in the number of nodes alone.
+fn lines_of_bytes(mut runs: Vec<&Stored>, number: usize) -> Vec<Series> {
     runs.sort_by_key(|run| run.parameters.nodes);
-    let mut limits: Vec<usize> = runs
-        .iter()
-        .map(|run| run.parameters.dial_fail_limit)
-        .collect();
-    limits.sort_unstable();
-    limits.dedup();
-    let mut series = Vec::new();
-    for (number, limit) in limits.into_iter().enumerate() {
-        for liars in LIARS {
-            let is_its = |run: &&&Stored| {
-                let parameters = &run.parameters;
-                parameters.dial_fail_limit == limit && is_near(parameters.share_of_liars(), liars)
-            };
-            let runs: Vec<&Stored> = runs.iter().filter(is_its).copied().collect();
-            let line = |label: &str, bytes: fn(&Stored) -> f64, colour| Series {
-                label: format!("{label}, dial fail limit {limit}{}", liars_text(liars)),
-                points: runs
-                    .iter()
-                    .map(|run| (run.parameters.nodes as f64, bytes(run)))
-                    .collect(),
-                colour: colour + 2 * number,
-                pattern: pattern_of(liars),
-                is_marked: true,
-            };
-            if !runs.is_empty() {
-                series.push(line("the greatest tick", Stored::greatest_bytes, 1));
-                series.push(line("mean of the second half", Stored::later_bytes, 0));
-            }
+    let Some(first) = runs.first() else {
+        return Vec::new();
+    };
+    let (limit, peers) = (first.parameters.dial_fail_limit, peers_text(first));
+    let liars = first.parameters.share_of_liars();
+    let line = |label: &str, bytes: fn(&Stored) -> f64, colour| {
+        let points = runs
+            .iter()
+            .map(|run| (run.parameters.nodes as f64, bytes(run)));
+        Series {
+            label: format!(
+                "{label}{peers}, dial fail limit {limit}{}",
+                liars_text(liars)
+            ),
+            points: points.collect(),
+            colour: colour + 2 * number,
+            pattern: pattern_of(liars),
+            is_marked: true,
         }
-    }
-    series
+    };
+    vec![
+        line("the greatest tick", Stored::greatest_bytes, 1),
+        line("mean of the second half", Stored::later_bytes, 0),
+    ]
 }
 
 // The least and the greatest value of all points on an axis, and a margin.
