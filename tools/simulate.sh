@@ -55,7 +55,7 @@ connections() {
             # shellcheck disable=SC2046
             simulate connections-$most-$percent-lasting --nodes 300 --connections $most --ticks 30 $(liars $percent)
         done
-        for most in 4 8 16 24 32 48 64; do
+        for most in 4 8 16 24 32 48; do
             # shellcheck disable=SC2046
             simulate connections-$most-$percent --nodes 300 --connections $most --lifetime 10 --ticks 100 \
                 $(liars $percent)

@@ -51,6 +51,24 @@ fn the_same_seed_gives_the_same_bytes() {
 }
 
 #[test]
+fn stored_runs_are_those_of_their_parameters() {
+    // The runs of the documentation. If one differs, tools/simulate.sh has to be run again.
+    let runs = Path::new(env!("CARGO_MANIFEST_DIR")).join("../../docs/simulation/runs");
+    for name in ["share-100-30", "connections-16-10", "churn-0.05-30"] {
+        let path = runs.join(format!("{name}.csv"));
+        let stored = fs::read_to_string(&path).expect("a stored run");
+        let flags = stored
+            .lines()
+            .next()
+            .and_then(|line| line.strip_prefix("# "));
+        let words: Vec<&str> = flags.expect("parameters").split_whitespace().collect();
+        let output = run(&words);
+        assert!(output.status.success(), "{output:?}");
+        assert!(output.stdout == stored.as_bytes(), "{name} differs");
+    }
+}
+
+#[test]
 fn parameters_out_of_range_are_errors_that_name_them() {
     let cases = [
         ("--nodes 1", "--nodes is 1, and not from 2 to 20000"),
