@@ -91,10 +91,10 @@ fn parameters_out_of_range_are_errors_that_name_them() {
         ("--loss 1.5", "--loss is 1.5, and not from 0 to 1"),
         ("--loss NaN", "--loss is NaN, and not from 0 to 1"),
         ("--churn -0.1", "--churn is -0.1, and not from 0 to 1"),
-        ("--tick 0", "--tick is 0, and not from 0.001 to 1000000000"),
+        ("--tick 0", "--tick is 0, and not from 0.001 to 1000000"),
         (
             "--latency inf",
-            "--latency is inf, and not from 0 to 1000000000",
+            "--latency is inf, and not from 0 to 1000000",
         ),
         (
             "--dial-fail-limit 0",
@@ -136,6 +136,22 @@ fn parameters_out_of_range_are_errors_that_name_them() {
         let printed = String::from_utf8_lossy(&output.stderr);
         assert_eq!(printed, format!("p2p-node: {error}\n"), "{flags}");
         assert!(output.stdout.is_empty(), "{flags}");
+    }
+}
+
+#[test]
+fn the_ends_of_the_ranges_work() {
+    let longest = "--nodes 3 --ticks 9 --tick 1000000 --latency 1000000 --cooldown 1000000 \
+                   --lifetime 10000";
+    let shortest = "--nodes 2 --ticks 9 --tick 0.001 --latency 0 --cooldown 0 --lifetime 1";
+    let most = "--nodes 9 --ticks 9 --connections 20000 --bootstrappers 1000 --sets 16 \
+                --dial-fail-limit 1000000 --loss 0 --churn 1 --liars-forged 1";
+    for flags in [longest, shortest, most] {
+        let words: Vec<&str> = flags.split_whitespace().collect();
+        let output = run(&words);
+        assert!(output.status.success(), "{flags}: {output:?}");
+        let lines = String::from_utf8_lossy(&output.stdout).lines().count();
+        assert_eq!(lines, 11, "{flags}");
     }
 }
 

@@ -108,8 +108,8 @@ const MOST_RECORDS: usize = 6_000_000;
 /// The most nodes of a run whose cells are recorded.
 pub const MOST_DRAWN: usize = 100;
 
-/// The longest duration that a flag may have, in seconds: some thirty years.
-const LONGEST: f64 = 1e9;
+/// The longest duration that a flag may have, in seconds: some eleven days.
+const LONGEST: f64 = 1e6;
 
 impl Default for Parameters {
     fn default() -> Parameters {
@@ -180,7 +180,7 @@ impl Parameters {
             "latency" => self.latency = seconds(name, value, 0.0)?,
             "loss" => self.loss = within(name, value, 0.0, 1.0)?,
             "churn" => self.churn = within(name, value, 0.0, 1.0)?,
-            "lifetime" => self.lifetime = within(name, value, 0, 100_000)?,
+            "lifetime" => self.lifetime = within(name, value, 0, 10_000)?,
             "cooldown" => self.cooldown = seconds(name, value, 0.0)?,
             "dial-fail-limit" => self.dial_fail_limit = within(name, value, 1, 1_000_000)?,
             "bootstrappers" => self.bootstrappers = within(name, value, 1, 1000)?,
