@@ -215,7 +215,15 @@ fn handshakes_at_a_time_are_bounded() {
     node.until_count("handshakes", 0);
     let _stream = node.dial(2);
     node.until_event("connected", &key(2));
-    node.until_count("handshakes", 0);
+}
+
+#[test]
+fn a_connection_takes_no_slot_of_handshakes() {
+    let (_folder, node) = start(&format!("{LATE} --max-handshakes 1"));
+    let _second = node.dial(2);
+    node.until_event("connected", &key(2));
+    let _third = node.dial(3);
+    node.until_event("connected", &key(3));
 }
 
 #[test]
