@@ -79,22 +79,21 @@ impl Network {
         }
         connection.is_greeted = true;
         match self.receive(node, frame) {
-            Received::Greeted(key) if key == key_of(from) => {}
-            Received::Applied(infos) => self.counts.infos += infos as u64,
-            Received::Reply(frame) => self.answer(node, from, frame),
-            Received::Memory => return Err("out of memory".to_owned()),
+            Some(Received::Greeted(key)) if key == key_of(from) => {}
+            Some(Received::Applied(infos)) => self.counts.infos += infos as u64,
+            Some(Received::Reply(frame)) => self.answer(node, from, frame),
+            Some(Received::Memory) => return Err("out of memory".to_owned()),
             _ => return self.block(node, from),
         }
         Ok(())
     }
 
-    // The result of the node for a frame. The ledger gets the infos of a frame that was accepted:
-    // those whose signatures were verified. The last eight of the signed bytes are the timestamp.
-    fn receive(&mut self, node: usize, frame: &[u8]) -> Received {
+    // The result of the node for a frame, if it runs. The ledger gets the infos of a frame that was
+    // accepted: those whose signatures were verified. The last eight of the signed bytes are the
+    // timestamp.
+    fn receive(&mut self, node: usize, frame: &[u8]) -> Option<Received> {
         let now = self.moment();
-        let Some(running) = &mut self.places[node].running else {
-            return Received::Malformed;
-        };
+        let running = self.places[node].running.as_mut()?;
         let mut infos: Vec<(usize, u64)> = Vec::new();
         let judge = |key: &Key, namespace: &[u8], message: &[u8], signature: &Signature| {
             if let Some(timestamp) = message.last_chunk() {
@@ -109,7 +108,7 @@ impl Network {
             }
             self.remember(node, frame);
         }
-        received
+        Some(received)
     }
 
     fn remember(&mut self, node: usize, frame: &[u8]) {
