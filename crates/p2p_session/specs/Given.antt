@@ -89,15 +89,16 @@ numbers_at n = if are_settings n
     and_then (moment_at n.block.0 n.block.1) (λ _. moment_at n.bound.0 n.bound.1))
     else Err refusal.BadSetting
 
+-- what is no key is refused as such
+abbrev pub or_bad : {C : Type 0} → Option C → Result C Refusal
+or_bad (Some key) = Ok key
+or_bad None = Err refusal.BadKey
+
 module _ {C S : Type 0} (k : Scheme C S) where
   -- the key that these bytes are
   abbrev pub key_at : List ℕ → Result C Refusal
   key_at bytes = if length bytes == k.key.SIZE then or_bad (k.key.value bytes)
       else Err refusal.BadKey
-    where
-      or_bad : Option C → Result C Refusal
-      or_bad (Some key) = Ok key
-      or_bad None = Err refusal.BadKey
 
   -- these keys are the bytes, one after the other
   abbrev pub AreKeysOf : List ℕ → List C → Type 0

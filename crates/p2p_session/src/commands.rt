@@ -62,7 +62,7 @@ pub fn info<C: PublicKey>(peer: &[u8]) -> Result<Command<C>, Refusal>
     ensures { asked result ≡ of_peer (scheme C.PublicKey C.Signature.FixedBytes) peer.now (λ p. Ask
         (InfoOf p)) }
 {
-    Ok(Command::Info(key(peer)?))
+    Ok(Command::Info(key(peer).ok_or(Refusal::BadKey)?))
 }
 
 pub fn dialable<C: PublicKey>(seconds: u64, nanos: u32) -> Result<Command<C>, Refusal>

@@ -4,7 +4,7 @@ ghost use Rattle.std.specs.Prelude.{◌≡◌, ℕ, ◌+◌, ◌≤◌, ◌<◌,
 ghost use Rattle.std.specs.Prelude.{None, IfSome, IfOk, OnErr};
 ghost use Rattle.p2p_discovery.specs.Reading.{IsBytes};
 ghost use Rattle.p2p_session.specs.Schemes.{scheme};
-ghost use Rattle.p2p_session.specs.Given.{key_at, moment_at, nanos_of, AreKeys, AreKeysOf, IsSetOf};
+ghost use Rattle.p2p_session.specs.Given.{or_bad, key_at, moment_at, nanos_of, AreKeys, AreKeysOf, IsSetOf};
 ghost use Rattle.p2p_session.specs.Given.{infos_spelled, bits_spelled, infos_of, IsRead};
 
 use crate::refusal::Refusal;
@@ -17,14 +17,16 @@ use std::time::Duration;
 
 const NANOS_PER_SECOND: u32 = 1_000_000_000;
 
-/// The key that these bytes are.
-pub fn key<C: PublicKey>(bytes: &[u8]) -> Result<C, Refusal>
-    ensures { result ≡ key_at (scheme C.PublicKey C.Signature.FixedBytes) bytes.now }
+/// The key that these bytes are. A call whose key is `None` is refused as [`Refusal::BadKey`].
+// An option, since a refusal in the place of the key's first byte would have the key copied in
+// parts.
+pub fn key<C: PublicKey>(bytes: &[u8]) -> Option<C>
+    ensures { or_bad result ≡ key_at (scheme C.PublicKey C.Signature.FixedBytes) bytes.now }
 {
     if bytes.len() != C::SIZE {
-        return Err(Refusal::BadKey);
+        return None;
     }
-    C::read_fixed(bytes).ok_or(Refusal::BadKey)
+    C::read_fixed(bytes)
 }
 
 /// The time, or the duration, of so many seconds and nanoseconds.

@@ -109,14 +109,13 @@ impl<C: PublicKey> Session<C> {
         let now = moment(seconds, nanos);
         let draw = moment(draw_seconds, draw_nanos);
         match (key(peer), now, draw) {
-            (Ok(peer), Ok(now), Ok(draw)) => {
+            (Some(peer), Ok(now), Ok(draw)) => {
                 let alloc = node.directory().allocator();
                 let reply = node.dial(&peer, now, draw);
                 tell(alloc, reply, &mut [])
             }
-            (Err(refusal), _, _) | (Ok(_), Err(refusal), _) | (Ok(_), Ok(_), Err(refusal)) => {
-                refusal.number()
-            }
+            (None, _, _) => Refusal::BadKey.number(),
+            (Some(_), Err(refusal), _) | (Some(_), Ok(_), Err(refusal)) => refusal.number(),
         }
     }
 
@@ -138,14 +137,13 @@ impl<C: PublicKey> Session<C> {
         let now = moment(seconds, nanos);
         let draw = moment(draw_seconds, draw_nanos);
         match (key(peer), now, draw) {
-            (Ok(peer), Ok(now), Ok(draw)) => {
+            (Some(peer), Ok(now), Ok(draw)) => {
                 let alloc = node.directory().allocator();
                 let reply = node.listen(&peer, now, draw);
                 tell(alloc, reply, &mut [])
             }
-            (Err(refusal), _, _) | (Ok(_), Err(refusal), _) | (Ok(_), Ok(_), Err(refusal)) => {
-                refusal.number()
-            }
+            (None, _, _) => Refusal::BadKey.number(),
+            (Some(_), Err(refusal), _) | (Some(_), Ok(_), Err(refusal)) => refusal.number(),
         }
     }
 
@@ -158,12 +156,12 @@ impl<C: PublicKey> Session<C> {
             return Refusal::NoNode.number();
         };
         match key(peer) {
-            Ok(peer) => {
+            Some(peer) => {
                 let alloc = node.directory().allocator();
                 let reply = node.connect(&peer, dialer);
                 tell(alloc, reply, &mut [])
             },
-            Err(refusal) => refusal.number(),
+            None => Refusal::BadKey.number(),
         }
     }
 
@@ -176,12 +174,12 @@ impl<C: PublicKey> Session<C> {
             return Refusal::NoNode.number();
         };
         match key(peer) {
-            Ok(peer) => {
+            Some(peer) => {
                 let alloc = node.directory().allocator();
                 let reply = node.release(&peer);
                 tell(alloc, reply, &mut [])
             },
-            Err(refusal) => refusal.number(),
+            None => Refusal::BadKey.number(),
         }
     }
 
@@ -203,12 +201,13 @@ impl<C: PublicKey> Session<C> {
             return Refusal::NoNode.number();
         };
         match (key(peer), moment(seconds, nanos)) {
-            (Ok(peer), Ok(now)) => {
+            (Some(peer), Ok(now)) => {
                 let alloc = node.directory().allocator();
                 let reply = node.block(&peer, now);
                 tell(alloc, reply, &mut [])
             },
-            (Err(refusal), _) | (Ok(_), Err(refusal)) => refusal.number(),
+            (None, _) => Refusal::BadKey.number(),
+            (Some(_), Err(refusal)) => refusal.number(),
         }
     }
 

@@ -61,8 +61,8 @@ impl<C: PublicKey> Session<C> {
             return Refusal::NoNode.number();
         };
         match key(peer) {
-            Ok(peer) => status_of(node.status(&peer)),
-            Err(refusal) => refusal.number(),
+            Some(peer) => status_of(node.status(&peer)),
+            None => Refusal::BadKey.number(),
         }
     }
 
@@ -129,8 +129,9 @@ impl<C: PublicKey> Session<C> {
             return Refusal::NoNode.number();
         };
         match (key(peer), moment(seconds, nanos)) {
-            (Ok(peer), Ok(now)) => truth_of(node.eligible(&peer, now)),
-            (Err(refusal), _) | (Ok(_), Err(refusal)) => refusal.number(),
+            (Some(peer), Ok(now)) => truth_of(node.eligible(&peer, now)),
+            (None, _) => Refusal::BadKey.number(),
+            (Some(_), Err(refusal)) => refusal.number(),
         }
     }
 
@@ -143,8 +144,9 @@ impl<C: PublicKey> Session<C> {
             return Refusal::NoNode.number();
         };
         match (key(peer), moment(seconds, nanos)) {
-            (Ok(peer), Ok(now)) => truth_of(node.acceptable(&peer, now)),
-            (Err(refusal), _) | (Ok(_), Err(refusal)) => refusal.number(),
+            (Some(peer), Ok(now)) => truth_of(node.acceptable(&peer, now)),
+            (None, _) => Refusal::BadKey.number(),
+            (Some(_), Err(refusal)) => refusal.number(),
         }
     }
 
@@ -198,8 +200,8 @@ impl<C: PublicKey> Session<C> {
             return Refusal::NoNode.number();
         };
         match key(peer) {
-            Ok(peer) => tell_held(node.held(&peer), out),
-            Err(refusal) => refusal.number(),
+            Some(peer) => tell_held(node.held(&peer), out),
+            None => Refusal::BadKey.number(),
         }
     }
 }

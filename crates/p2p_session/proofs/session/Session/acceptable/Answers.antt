@@ -9,13 +9,13 @@ use Rattle.p2p_session.proofs.Direct.{asked}
 use Rattle.p2p_session.proofs.session.Session.acceptable.Goals as goal
 use Rattle.p2p_session.specs.Schemes.{scheme_by}
 
-pub returns-in-Ok-Ok : goal.returns-in-Ok-Ok
-returns-in-Ok-Ok g c =
+pub returns-in-Some-Ok : goal.returns-in-Some-Ok
+returns-in-Some-Ok g c =
     let v = c.in-Some.node in
-    let p = c.in-Ok-Ok.peer in
+    let p = c.in-Some-Ok.peer in
     let n = c.truth_of.result in
     rw c.in-Some.is
     (subst (λ k. Serves (scheme_by g.C.PartialOrd g.C.Ord g.C.PartialEq g.C.FixedBytes g.C.PublicKey g.C.Signature.PartialEq g.C.Signature.FixedBytes) (and_then k (λ q. and_then (moment_at c.args.seconds c.args.nanos) (λ t. Ok (Ask (IsAcceptable q t))))) [] [] (Some v) (Some v) n)
-    c.in-Ok-Ok.ensures
-    (subst (λ t. Serves (scheme_by g.C.PartialOrd g.C.Ord g.C.PartialEq g.C.FixedBytes g.C.PublicKey g.C.Signature.PartialEq g.C.Signature.FixedBytes) (and_then t (λ now. Ok (Ask (IsAcceptable p now)))) [] [] (Some v) (Some v) n) c.in-Ok-Ok.ensures'
-    (asked (scheme_by g.C.PartialOrd g.C.Ord g.C.PartialEq g.C.FixedBytes g.C.PublicKey g.C.Signature.PartialEq g.C.Signature.FixedBytes) (Ask (IsAcceptable p (as_nanos c.in-Ok-Ok.now))) (reply.Acceptable c.acceptable.result) v n c.acceptable.ensures c.truth_of.ensures)))
+    c.in-Some-Ok.ensures
+    (subst (λ t. Serves (scheme_by g.C.PartialOrd g.C.Ord g.C.PartialEq g.C.FixedBytes g.C.PublicKey g.C.Signature.PartialEq g.C.Signature.FixedBytes) (and_then t (λ now. Ok (Ask (IsAcceptable p now)))) [] [] (Some v) (Some v) n) c.in-Some-Ok.ensures'
+    (asked (scheme_by g.C.PartialOrd g.C.Ord g.C.PartialEq g.C.FixedBytes g.C.PublicKey g.C.Signature.PartialEq g.C.Signature.FixedBytes) (Ask (IsAcceptable p (as_nanos c.in-Some-Ok.now))) (reply.Acceptable c.acceptable.result) v n c.acceptable.ensures c.truth_of.ensures)))

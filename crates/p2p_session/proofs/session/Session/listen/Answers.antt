@@ -7,12 +7,12 @@ use Rattle.p2p_session.proofs.Direct.{called}
 use Rattle.std.specs.Duration.{as_nanos}
 use Rattle.p2p_session.proofs.session.Session.listen.Goals as goal
 
-pub returns-in-Ok-Ok-Ok : goal.returns-in-Ok-Ok-Ok
-returns-in-Ok-Ok-Ok g c =
+pub returns-in-Some-Ok-Ok : goal.returns-in-Some-Ok-Ok
+returns-in-Some-Ok-Ok g c =
     let v = c.in-Some.node in
     let v2 = c.listen-reply.new.self in
     let n = c.tell.result in
-    let it = c.in-Ok-Ok-Ok in
+    let it = c.in-Some-Ok-Ok in
     let now = ap nanos_of (sym it.is-1) ∙ c.moment-now.ensures in
     let draw = ap nanos_of (sym it.is-2) ∙ c.moment-draw.ensures in
     rw c.in-Some.is

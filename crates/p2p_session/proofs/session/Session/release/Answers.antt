@@ -6,12 +6,12 @@ use Rattle.p2p_session.specs.Sessions.{Serves}
 use Rattle.p2p_session.proofs.Direct.{called}
 use Rattle.p2p_session.proofs.session.Session.release.Goals as goal
 
-pub returns-in-Ok : goal.returns-in-Ok
-returns-in-Ok g c =
+pub returns-in-Some-key : goal.returns-in-Some-key
+returns-in-Some-key g c =
     let v = c.in-Some.node in
     let v2 = c.release-reply.new.self in
     let n = c.tell.result in
     rw c.in-Some.is
-    (subst (λ x. Serves (scheme_by g.C.PartialOrd g.C.Ord g.C.PartialEq g.C.FixedBytes g.C.PublicKey g.C.Signature.PartialEq g.C.Signature.FixedBytes) (and_then x (λ p. Ok (Release p))) [] [] (Some v) (Some v2) n) c.in-Ok.ensures
-    (called (scheme_by g.C.PartialOrd g.C.Ord g.C.PartialEq g.C.FixedBytes g.C.PublicKey g.C.Signature.PartialEq g.C.Signature.FixedBytes) (Release c.in-Ok.peer) c.release-reply.result v v2
+    (subst (λ x. Serves (scheme_by g.C.PartialOrd g.C.Ord g.C.PartialEq g.C.FixedBytes g.C.PublicKey g.C.Signature.PartialEq g.C.Signature.FixedBytes) (and_then x (λ p. Ok (Release p))) [] [] (Some v) (Some v2) n) c.in-Some-key.ensures
+    (called (scheme_by g.C.PartialOrd g.C.Ord g.C.PartialEq g.C.FixedBytes g.C.PublicKey g.C.Signature.PartialEq g.C.Signature.FixedBytes) (Release c.in-Some-key.peer) c.release-reply.result v v2
     c.tell.new.out n c.release-reply.ensures.stepped c.release-reply.ensures.unchanged c.tell.auto.out c.tell.ensures))
