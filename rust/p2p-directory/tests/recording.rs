@@ -224,6 +224,21 @@ fn calls_that_are_swapped_are_named() {
 }
 
 #[test]
+fn a_call_that_ran_out_of_memory_counts_as_not_made() {
+    let log = random_log(3);
+    let (place, places) = (granted(&log), places(&log));
+    let mut refused = log[places[place]..places[place + 1]].to_vec();
+    let number = refused.len() - 8;
+    refused[number..].fill(0xff);
+    let parts = [&log[..places[place]], &refused, &log[places[place]..]];
+    let file = Scratch::of("out-of-memory", &parts.concat());
+    for words in [&[][..], &["--model"], &["--script"]] {
+        let output = replayed(words, &file.0);
+        assert!(output.status.success(), "{words:?}: {}", said(&output));
+    }
+}
+
+#[test]
 fn a_record_that_is_cut_off_ends_the_log() {
     let log = random_log(5);
     let whole = places(&log);
