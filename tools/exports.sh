@@ -1,7 +1,7 @@
 #!/bin/sh
 # Writes the exports of a session for C and Rust, with their proofs, from tools/exports/session.table:
-# crates/p2p_session_c, include/p2p_session.h and, each with the folder beside it, rust/p2p-directory-sys/src/exports.rs
-# and rust/p2p-directory/src/pairs.rs.
+# crates/p2p_session_c, include/p2p_session.h, each with the folder beside it rust/p2p-directory-sys/src/exports.rs and
+# rust/p2p-directory/src/pairs.rs, and what recorded.py says of rust/p2p-directory/src.
 # With --check it writes them in a folder of its own and says whether they are the same, and whether the refusals of
 # p2p_session, of its specs and of docs/C.md are those of the table.
 set -eu
@@ -20,7 +20,8 @@ if [ "${1:-}" = --check ]; then
     tools/exports/refusals.py
     for written in crates/p2p_session_c/src crates/p2p_session_c/proofs include/p2p_session.h \
         rust/p2p-directory-sys/src/exports.rs rust/p2p-directory-sys/src/exports \
-        rust/p2p-directory/src/pairs.rs rust/p2p-directory/src/pairs; do
+        rust/p2p-directory/src/pairs.rs rust/p2p-directory/src/pairs rust/p2p-directory/src/record/calls.rs \
+        rust/p2p-directory/src/pair/recorded.rs rust/p2p-directory/src/pair/replay.rs; do
         diff -r "$written" "$root/$written"
     done
 fi

@@ -4,8 +4,9 @@
     exports.py TABLE ROOT
 
 Under ROOT it writes crates/CRATE/src and proofs, include/PREFIX.h, and rust/p2p-directory-sys/src/exports.rs with the
-folder beside it, and rust/p2p-directory/src/pairs.rs, likewise. The table has lines NAME: VALUE for crate, lib, type, words and prefix; a line `refusal NAME: WHEN` for each number that is
-no answer, from UINT64_MAX downwards; and then a line for each export, below lines with /// that say what it answers:
+folder beside it, and rust/p2p-directory/src/pairs.rs, likewise, and there what recorded.py says. The table has lines
+NAME: VALUE for crate, lib, type, words and prefix; a line `refusal NAME: WHEN` for each number that is no answer, from
+UINT64_MAX downwards; and then a line for each export, below lines with /// that say what it answers:
 
     add(x: u64) -> bool = Adds
 
@@ -25,6 +26,8 @@ import hashlib
 import os
 import re
 import sys
+
+import recorded
 
 HERE = os.path.dirname(os.path.abspath(__file__))
 WIDTH = {'u8': 'w8', 'u16': 'w16', 'u32': 'w32', 'u64': 'w64', 'usize': 'w64'}
@@ -475,6 +478,7 @@ def declare(put, names, exports):
     put(f'{sources}/pairs.rs', RUST_PAIRS.format(head=RUST_WRITTEN) + ''.join(f"pub mod {pair['module']};\n" for pair in in_order))
     for place, pair in enumerate(others, 1):
         put(f"{sources}/pairs/{pair['module']}.rs", typed_pair(pair, names['pairs'][place][3]))
+    recorded.write(put, exports)
 
 
 def typed_pair(names, said):

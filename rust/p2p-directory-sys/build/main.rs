@@ -78,11 +78,25 @@ fn link(folder: &Path) -> Result<Vec<PathBuf>, String> {
             folder.display()
         ));
     }
+    println!(
+        "cargo::rustc-env=P2P_SESSION_ARCHIVE={}",
+        hash_of(&archives)?
+    );
     println!("cargo::rustc-link-search=native={}", folder.display());
     for name in names {
         println!("cargo::rustc-link-lib=static={name}");
     }
     Ok(archives)
+}
+
+/// The hash of what is linked.
+fn hash_of(archives: &[PathBuf]) -> Result<String, String> {
+    let mut all = Vec::new();
+    for archive in archives {
+        let bytes = fs::read(archive);
+        all.extend(bytes.map_err(|error| format!("{}: {error}", archive.display()))?);
+    }
+    Ok(sha256::hex(&all))
 }
 
 /// Links the archives of a folder, and again whenever they change.

@@ -44,3 +44,27 @@ compile_error!("the library is built for targets whose `usize` has 64 bits");
 mod exports;
 
 pub use exports::*;
+
+/// The SHA-256 of the archive that is linked, or of the two, one behind the other. It is all zeros
+/// if none is.
+pub const ARCHIVE: [u8; 32] = match option_env!("P2P_SESSION_ARCHIVE") {
+    Some(digits) => read_hash(digits.as_bytes()),
+    None => [0; 32],
+};
+
+// The bytes of the hexadecimal digits that the build script writes.
+const fn read_hash(digits: &[u8]) -> [u8; 32] {
+    assert!(digits.len() == 64, "the build script writes a hash");
+    let mut hash = [0; 32];
+    let mut place = 0;
+    while place < 64 {
+        let digit = match digits[place] {
+            digit @ b'0'..=b'9' => digit - b'0',
+            digit @ b'a'..=b'f' => digit - b'a' + 10,
+            _ => panic!("the build script writes a hash"),
+        };
+        hash[place / 2] = 16 * hash[place / 2] + digit;
+        place += 1;
+    }
+    hash
+}

@@ -46,6 +46,7 @@ impl From<TryReserveError> for ReadError {
 }
 
 /// Reads values from the front of a slice.
+#[derive(Clone)]
 pub(crate) struct Reader<'a> {
     bytes: &'a [u8],
 }
@@ -54,6 +55,12 @@ impl<'a> Reader<'a> {
     #[inline]
     pub(crate) fn new(bytes: &'a [u8]) -> Reader<'a> {
         Reader { bytes }
+    }
+
+    /// Whether nothing is left.
+    #[cfg(feature = "record")]
+    pub(crate) fn is_empty(&self) -> bool {
+        self.bytes.is_empty()
     }
 
     /// Reads the next byte.

@@ -67,6 +67,22 @@ pub(crate) struct Limits {
     pub(crate) namespace: Vec<u8>,
 }
 
+impl Limits {
+    /// Those of a directory without a node, which decodes no frames.
+    pub(crate) fn none() -> Limits {
+        Limits {
+            payload: PayloadConfig {
+                max_bit_vec: u64::from(u32::MAX),
+                max_peers: usize::MAX,
+                max_data_length: usize::MAX,
+            },
+            peer_gossip_max_count: usize::MAX,
+            synchrony_bound: Duration::MAX,
+            namespace: Vec::new(),
+        }
+    }
+}
+
 /// Whether the processor has all instruction sets that the library is compiled for. The library
 /// itself doesn't check.
 pub(crate) fn is_supported() -> bool {

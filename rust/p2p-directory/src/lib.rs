@@ -74,6 +74,9 @@
 //! `testing` adds the module `testing`: keys, infos and a signature scheme without any security,
 //! for tests and examples. The examples of this documentation use it.
 //!
+//! `record` adds the module `record`: logs of the calls of a directory or node, and the program
+//! `p2p-replay`, which makes the calls of a log anew and compares the answers.
+//!
 //! # Examples
 //!
 //! ```
@@ -109,6 +112,8 @@ mod keys32_64;
 mod memory;
 mod moment;
 mod pairs;
+#[cfg(feature = "record")]
+pub mod record;
 mod shared;
 mod sizes;
 mod status;
@@ -121,6 +126,8 @@ pub use error::{
     ParseError, RefusedError, SetupError, ValidateError, What, WrongVerdictsError,
 };
 pub use ingress::{Hostname, Ingress, is_global};
+#[cfg(feature = "record")]
+pub use keys32_64::Replay;
 #[cfg(any(test, feature = "testing"))]
 pub use keys32_64::testing;
 pub use keys32_64::{

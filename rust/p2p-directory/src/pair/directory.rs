@@ -1,16 +1,18 @@
 //! The directory of peers, and what its calls return.
 
-use super::exports::Session;
+use super::Session;
 use super::info::{Info, try_write_infos};
 use super::key::{KEY_SIZE, Key};
 use super::sets::{OrderedSet, TrackedPeers};
 use crate::answer::{Kind, OWN, Room, answered, certain, is_certain, is_done, is_true, unknown};
 use crate::codec::{ReadError, Reader};
-use crate::config::{Config, Limits, PayloadConfig, is_supported};
+use crate::config::{Config, Limits, is_supported};
 use crate::error::{CodecError, ConnectError, NotReservedError, OutOfMemory, SetupError};
 use crate::ingress::{Ingress, MAX_HOSTNAME};
 use crate::memory::{MOST_KEPT, give_back_large};
 use crate::moment::Moment;
+#[cfg(feature = "record")]
+use crate::record::{Recorder, Recording};
 use p2p_directory_sys::{BAD_SETTING, NOT_RESERVED};
 use std::cell::RefCell;
 use std::fmt;
@@ -168,29 +170,46 @@ impl Directory {
         myself: &Info,
         cfg: Config,
     ) -> Result<Directory, SetupError> {
-        let limits = Limits {
-            payload: PayloadConfig {
-                max_bit_vec: u64::from(u32::MAX),
-                max_peers: usize::MAX,
-                max_data_length: usize::MAX,
-            },
-            peer_gossip_max_count: usize::MAX,
-            synchrony_bound: Duration::MAX,
-            namespace: Vec::new(),
-        };
-        Directory::with_limits(bootstrappers, myself, &cfg, limits)
+        let session = new_session()?;
+        Directory::with_limits(session, bootstrappers, myself, &cfg, Limits::none())
+    }
+
+    /// Creates a directory as [`Directory::init`] does, and records that call and each later one.
+    ///
+    /// # Errors
+    ///
+    /// Those of [`Directory::init`]. The log has the refused call.
+    ///
+    /// # Examples
+    ///
+    /// ```
+    /// # use p2p_directory::{*, record::{Recorder, Recording}};
+    /// # let setup = testing::setup(9);
+    /// # let (myself, cfg) = (setup.myself, setup.cfg);
+    /// let recorder = Recorder::new(std::io::sink(), 1 << 20);
+    /// let directory = Directory::init_recorded(&[], &myself, cfg, recorder)?;
+    /// assert_eq!(directory.recording(), Some(Recording::Going));
+    /// # Ok::<(), SetupError>(())
+    /// ```
+    #[cfg(feature = "record")]
+    pub fn init_recorded(
+        bootstrappers: &[(Key, Ingress)],
+        myself: &Info,
+        cfg: Config,
+        recorder: Recorder,
+    ) -> Result<Directory, SetupError> {
+        let session = new_session()?;
+        session.record(recorder);
+        Directory::with_limits(session, bootstrappers, myself, &cfg, Limits::none())
     }
 
     pub(crate) fn with_limits(
+        session: Session,
         bootstrappers: &[(Key, Ingress)],
         myself: &Info,
         cfg: &Config,
         limits: Limits,
     ) -> Result<Directory, SetupError> {
-        if !is_supported() {
-            return Err(SetupError::Processor);
-        }
-        let session = Session::new().ok_or(OutOfMemory)?;
         let spelled = spelled(bootstrappers)?;
         let mut own = Vec::new();
         myself.try_write(&mut own)?;
@@ -561,6 +580,33 @@ impl Directory {
         certain(self.session().forget_cooled(seconds, nanos)) as usize
     }
 
+    /// How the recording of its calls stands, or `None` if they aren't recorded. Never allocates.
+    ///
+    /// # Examples
+    ///
+    /// ```
+    /// # use p2p_directory::*;
+    /// assert_eq!(testing::directory().recording(), None);
+    /// ```
+    #[cfg(feature = "record")]
+    pub fn recording(&self) -> Option<Recording> {
+        self.session().recording()
+    }
+
+    /// Flushes what the recorder writes to, so that the log has each call that was made. A failure
+    /// ends the recording, as [`Directory::recording`] then says. Never allocates by itself.
+    ///
+    /// # Examples
+    ///
+    /// ```
+    /// # use p2p_directory::*;
+    /// testing::directory().flush_record();
+    /// ```
+    #[cfg(feature = "record")]
+    pub fn flush_record(&self) {
+        self.session().flush_record();
+    }
+
     // The session, after each dropped reservation is released.
     #[inline]
     pub(crate) fn session(&self) -> &Session {
@@ -625,6 +671,14 @@ impl fmt::Debug for Directory {
             .field("tracked", &self.tracked())
             .field("latest_set_index", &self.latest_set_index())
             .finish_non_exhaustive()
+    }
+}
+
+/// A session with no node, if the processor has what the library needs.
+pub(super) fn new_session() -> Result<Session, SetupError> {
+    match is_supported() {
+        true => Ok(Session::new().ok_or(OutOfMemory)?),
+        false => Err(SetupError::Processor),
     }
 }
 

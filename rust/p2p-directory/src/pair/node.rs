@@ -1,6 +1,7 @@
 //! A node: a directory that verifies the infos of frames, and replies to frames.
 
-use super::directory::Directory;
+use super::Session;
+use super::directory::{Directory, new_session};
 use super::info::Info;
 use super::key::Key;
 use super::payload::{Payload, greeting_of, reply_of};
@@ -16,6 +17,8 @@ use crate::error::{CodecError, Error, OutOfMemory, RefusedError, SetupError, Wha
 use crate::ingress::Ingress;
 use crate::memory::{copied, give_back_large, lengthen};
 use crate::moment::Moment;
+#[cfg(feature = "record")]
+use crate::record::Recorder;
 use std::ops::Range;
 use std::time::Duration;
 
@@ -193,6 +196,33 @@ impl Node {
     /// assert_eq!(Node::new(&setup).err(), Some(SetupError::Setting));
     /// ```
     pub fn new(setup: &Setup) -> Result<Node, SetupError> {
+        Node::in_session(new_session()?, setup)
+    }
+
+    /// Creates a node as [`Node::new`] does, and records that call and each later one of the node
+    /// and of its directory.
+    ///
+    /// # Errors
+    ///
+    /// Those of [`Node::new`]. The log has the refused call.
+    ///
+    /// # Examples
+    ///
+    /// ```
+    /// # use p2p_directory::{*, record::{Recorder, Recording}};
+    /// let recorder = Recorder::new(std::io::sink(), 1 << 20);
+    /// let node = Node::new_recorded(&testing::setup(9), recorder)?;
+    /// assert_eq!(node.directory().recording(), Some(Recording::Going));
+    /// # Ok::<(), SetupError>(())
+    /// ```
+    #[cfg(feature = "record")]
+    pub fn new_recorded(setup: &Setup, recorder: Recorder) -> Result<Node, SetupError> {
+        let session = new_session()?;
+        session.record(recorder);
+        Node::in_session(session, setup)
+    }
+
+    fn in_session(session: Session, setup: &Setup) -> Result<Node, SetupError> {
         let limits = Limits {
             payload: setup.payload,
             peer_gossip_max_count: setup.peer_gossip_max_count,
@@ -207,7 +237,7 @@ impl Node {
             cfg,
             ..
         } = setup;
-        let directory = Directory::with_limits(bootstrappers, myself, cfg, limits)?;
+        let directory = Directory::with_limits(session, bootstrappers, myself, cfg, limits)?;
         Ok(Node {
             id: directory.id(),
             public_key: myself.public_key,

@@ -2,19 +2,30 @@
 //! the calls that some bytes describe. If one differs, the calls that are printed are reduced to
 //! those that the difference needs.
 
+// Each program of tests uses a part of these.
+#[allow(dead_code)]
 pub mod call;
+mod draws;
+#[allow(dead_code)]
 mod model;
+#[allow(dead_code)]
 mod real;
 
-use crate::pair::Setup;
-use call::{Call, Draws};
+#[cfg(feature = "record")]
+use crate::pair::Node;
+use crate::pair::testing::verify;
+use crate::pair::{Info, Setup};
+use call::Call;
+use draws::Draws;
 use model::Model;
 use real::Real;
 
 /// The maximum number of calls in a list.
+#[allow(dead_code)]
 pub const MOST_CALLS: usize = 200;
 
 /// A call whose result differs from that of the model.
+#[allow(dead_code)]
 #[derive(Debug)]
 struct Difference {
     place: usize,
@@ -24,6 +35,7 @@ struct Difference {
 
 /// Makes the calls that the bytes describe, and passes each with its result to the closure. Panics
 /// if a result differs from that of the model.
+#[allow(dead_code)]
 pub fn compare(bytes: &[u8], tell: impl FnMut(&Call, &str)) {
     let mut draws = Draws(bytes);
     let setup = draws.setup();
@@ -33,7 +45,21 @@ pub fn compare(bytes: &[u8], tell: impl FnMut(&Call, &str)) {
     }
 }
 
+/// Makes the calls that the bytes describe on a node that is made with their setup.
+#[cfg(feature = "record")]
+#[allow(dead_code)]
+pub fn make(bytes: &[u8], made: impl FnOnce(&Setup) -> Node) -> Setup {
+    let mut draws = Draws(bytes);
+    let setup = draws.setup();
+    let mut real = Real::of(made(&setup), &setup);
+    for call in draws.calls(MOST_CALLS) {
+        real.answer(&call);
+    }
+    setup
+}
+
 /// The first call whose result differs. Passes each call with its result to the closure.
+#[allow(dead_code)]
 fn difference(
     setup: &Setup,
     calls: &[Call],
@@ -41,9 +67,10 @@ fn difference(
 ) -> Option<Difference> {
     let mut real = Real::new(setup.clone());
     let mut model = Model::new(setup.clone());
+    let is_valid = |_: usize, info: &Info| info.verify(&setup.namespace, verify);
     calls.iter().enumerate().find_map(|(place, call)| {
         let answer = real.answer(call);
-        let wanted = model.answer(call);
+        let wanted = model.answer(call, &is_valid);
         tell(call, &answer);
         (answer != wanted).then_some(Difference {
             place,
@@ -54,6 +81,7 @@ fn difference(
 }
 
 /// The calls without those that aren't needed for the failure.
+#[allow(dead_code)]
 pub fn shrunk<T: Clone>(mut calls: Vec<T>, is_seen: impl Fn(&[T]) -> bool) -> Vec<T> {
     let mut length = usize::MAX;
     while calls.len() < length {
@@ -70,6 +98,7 @@ pub fn shrunk<T: Clone>(mut calls: Vec<T>, is_seen: impl Fn(&[T]) -> bool) -> Ve
 }
 
 /// Panics with the reduced list of calls, one of which has a different result in the model.
+#[allow(dead_code)]
 fn fail(setup: &Setup, calls: Vec<Call>) -> ! {
     let left = shrunk(calls, |calls| difference(setup, calls, |_, _| ()).is_some());
     let Difference {

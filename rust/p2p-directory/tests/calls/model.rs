@@ -1,7 +1,6 @@
 //! A model of a node: maps and lists, and the results that the specification has for them.
 
-use super::call::{Call, OWN};
-use crate::pair::testing::{NAMESPACE, key, verify};
+use super::call::Call;
 use crate::pair::{
     BitVec, CodecError, ConnectError, EncodedData, Error, Info, Ingress, Key, Metadata, Moment,
     NotReservedError, OrderedSet, OutOfMemory, Payload, Received, Setup, Status, TrackedPeers,
@@ -36,6 +35,9 @@ pub struct Model {
     blocks: BTreeMap<Key, Moment>,
 }
 
+/// Whether the signature is valid of the info at a place of its frame.
+pub type Validity<'a> = &'a dyn Fn(usize, &Info) -> bool;
+
 /// To how many infos a reply is cut, with which draw.
 pub const CUTS: [(usize, u64); 6] = [(0, 1), (1, 0), (1, 1), (1, u64::MAX), (2, 2), (9, 1)];
 
@@ -58,6 +60,25 @@ fn cut(infos: Vec<Info>, count: usize, draw: u64) -> Vec<u8> {
     Payload::Peers(chosen).encode()
 }
 
+// Whether an address is none of those that are private, local, unspecified or for documentation,
+// which are the ones that tests have. The library knows more that aren't global.
+fn is_global(address: IpAddr) -> bool {
+    match address {
+        IpAddr::V4(address) => {
+            let is_local = address.is_loopback() || address.is_link_local();
+            !(is_local
+                || address.is_private()
+                || address.is_unspecified()
+                || address.is_documentation()
+                || address.is_broadcast())
+        }
+        IpAddr::V6(address) => {
+            let is_local = address.is_loopback() || address.is_unicast_link_local();
+            !(is_local || address.is_unique_local() || address.is_unspecified())
+        }
+    }
+}
+
 fn ordered(keys: impl IntoIterator<Item = Key>) -> OrderedSet {
     OrderedSet::from_iter_dedup(keys)
 }
@@ -74,7 +95,7 @@ impl Model {
         }
     }
 
-    pub fn answer(&mut self, call: &Call) -> String {
+    pub fn answer(&mut self, call: &Call, is_valid: Validity<'_>) -> String {
         match call {
             Call::Track(index, primary, secondary) => shown(self.track(*index, primary, secondary)),
             Call::Dial(peer, now, draw) => shown(self.grant(peer, *now, *draw, true)),
@@ -98,12 +119,12 @@ impl Model {
             )),
             Call::Receive(payload, now) => {
                 let judged = match payload {
-                    Payload::Greeting(info) => self.judged(info, *now),
-                    Payload::Peers(infos) => self.all_judged(infos, *now),
+                    Payload::Greeting(info) => self.judged(0, info, *now, is_valid),
+                    Payload::Peers(infos) => self.all_judged(infos, *now, is_valid),
                     Payload::Data(_) | Payload::BitVec(_) => Ok(()),
                 };
                 let judged = judged.map_err(ValidateError::Invalid);
-                shown((judged, self.receive(payload, *now)))
+                shown((judged, self.receive(payload, *now, is_valid)))
             }
             question => self.answer_question(question),
         }
@@ -111,14 +132,8 @@ impl Model {
 
     fn answer_question(&self, question: &Call) -> String {
         match question {
-            Call::NextUnblock => shown(self.blocks.values().min()),
-            Call::BlockedPeers(now) => {
-                let blocked = self
-                    .blocks
-                    .keys()
-                    .filter(|peer| self.is_blocked(peer, *now));
-                shown(ordered(blocked.copied()))
-            }
+            Call::NextUnblock => shown(self.next_unblock()),
+            Call::BlockedPeers(now) => shown(self.blocked_peers(*now)),
             Call::PeerSet(index) => shown(self.set_of(*index).map(|place| self.set_at(place))),
             Call::LatestUpdate => shown(self.latest_update()),
             Call::LatestSetIndex => shown(self.sets.last().map(|set| set.0)),
@@ -137,11 +152,7 @@ impl Model {
                 shown(self.is_eligible(peer, *now) && self.status(peer) == Status::Inert)
             }
             Call::Dialable(now) => shown(self.dialable(*now)),
-            Call::Tracked => {
-                let all = (0..=u16::from(u8::MAX)).map(key);
-                let others = all.filter(|peer| *peer != key(OWN) && self.is_present(peer));
-                shown((others.count(), self.retained().len()))
-            }
+            Call::Tracked => shown((self.tracked(), self.retained().len())),
             change @ (Call::Track(..)
             | Call::Dial(..)
             | Call::Listen(..)
@@ -157,7 +168,27 @@ impl Model {
         }
     }
 
-    fn retained(&self) -> &[(u64, BTreeSet<Key>, BTreeSet<Key>)] {
+    pub fn own(&self) -> Key {
+        self.setup.myself.public_key
+    }
+
+    // All keys that something was said of, and which may have a record therefore.
+    fn mentioned(&self) -> BTreeSet<Key> {
+        let sets = self.sets.iter().flat_map(|set| set.1.iter().chain(&set.2));
+        let bootstrappers = self.setup.bootstrappers.iter().map(|(key, _)| key);
+        let all = sets.chain(bootstrappers).chain(self.held.keys());
+        all.copied().collect()
+    }
+
+    // How many peers have a record, except the local node.
+    pub fn tracked(&self) -> usize {
+        let mut others = self.mentioned();
+        others.remove(&self.own());
+        others.retain(|peer| self.is_present(peer));
+        others.len()
+    }
+
+    pub fn retained(&self) -> &[(u64, BTreeSet<Key>, BTreeSet<Key>)] {
         let first = self
             .sets
             .len()
@@ -175,18 +206,18 @@ impl Model {
 
     fn is_persistent(&self, peer: &Key) -> bool {
         let mut bootstrappers = self.setup.bootstrappers.iter();
-        *peer == key(OWN) || bootstrappers.any(|(key, _)| key == peer)
+        *peer == self.own() || bootstrappers.any(|(key, _)| key == peer)
     }
 
     fn is_entitled(&self, peer: &Key) -> bool {
-        *peer != key(OWN) && (self.is_named(peer) || self.is_persistent(peer))
+        *peer != self.own() && (self.is_named(peer) || self.is_persistent(peer))
     }
 
-    fn is_present(&self, peer: &Key) -> bool {
+    pub fn is_present(&self, peer: &Key) -> bool {
         self.is_persistent(peer) || self.is_named(peer) || self.held.contains_key(peer)
     }
 
-    fn status(&self, peer: &Key) -> Status {
+    pub fn status(&self, peer: &Key) -> Status {
         match self.held.get(peer) {
             None => Status::Inert,
             Some(held) if held.is_active => Status::Active,
@@ -204,7 +235,6 @@ impl Model {
     }
 
     fn has_valid_address(&self, peer: &Key) -> bool {
-        let is_global = |ip: IpAddr| ip != IpAddr::from([10, 0, 0, 1]) && !ip.is_loopback();
         match self.address(peer) {
             None => false,
             Some(Ingress::Dns { .. }) => self.setup.cfg.allow_dns,
@@ -219,11 +249,20 @@ impl Model {
             && (self.is_primary(peer) || self.is_persistent(peer))
     }
 
-    fn is_blocked(&self, peer: &Key, now: Moment) -> bool {
+    pub fn is_blocked(&self, peer: &Key, now: Moment) -> bool {
         self.blocks.get(peer).is_some_and(|end| *end > now)
     }
 
-    fn is_eligible(&self, peer: &Key, now: Moment) -> bool {
+    pub fn next_unblock(&self) -> Option<Moment> {
+        self.blocks.values().min().copied()
+    }
+
+    pub fn blocked_peers(&self, now: Moment) -> OrderedSet {
+        let blocked = self.blocks.keys();
+        ordered(blocked.filter(|peer| self.is_blocked(peer, now)).copied())
+    }
+
+    pub fn is_eligible(&self, peer: &Key, now: Moment) -> bool {
         self.is_entitled(peer) && !self.is_blocked(peer, now)
     }
 
@@ -234,7 +273,7 @@ impl Model {
         self.known = present.collect();
     }
 
-    fn track(&mut self, index: u64, primary: &[Key], secondary: &[Key]) -> Option<OrderedSet> {
+    pub fn track(&mut self, index: u64, primary: &[Key], secondary: &[Key]) -> Option<OrderedSet> {
         if self.sets.last().is_some_and(|set| index <= set.0) {
             return None;
         }
@@ -252,7 +291,7 @@ impl Model {
         Some(ordered(torn))
     }
 
-    fn grant(
+    pub fn grant(
         &mut self,
         peer: &Key,
         now: Moment,
@@ -272,16 +311,20 @@ impl Model {
         let dial = reservable.saturating_add(draw.min(interval / 2 * 2));
         let dialled = self.address(peer).filter(|_| is_dial).cloned();
         self.cooldowns.insert(*peer, Cooldown { reservable, dial });
-        let metadata = match dialled.clone() {
-            Some(ingress) => Metadata::Dialer(*peer, ingress),
-            None => Metadata::Listener(*peer),
-        };
         let is_active = false;
         self.held.insert(*peer, Held { dialled, is_active });
-        Some(metadata)
+        self.metadata(peer)
     }
 
-    fn connect(&mut self, peer: &Key, is_dialer: bool) -> bool {
+    /// What is held of the peer.
+    pub fn metadata(&self, peer: &Key) -> Option<Metadata> {
+        Some(match self.held.get(peer)?.dialled.clone() {
+            Some(ingress) => Metadata::Dialer(*peer, ingress),
+            None => Metadata::Listener(*peer),
+        })
+    }
+
+    pub fn connect(&mut self, peer: &Key, is_dialer: bool) -> bool {
         let Some(held) = self.held.get_mut(peer).filter(|held| !held.is_active) else {
             return false;
         };
@@ -302,7 +345,7 @@ impl Model {
     }
 
     // Whether there was a reservation to release.
-    fn release(&mut self, peer: &Key) -> bool {
+    pub fn release(&mut self, peer: &Key) -> bool {
         let Some(held) = self.held.remove(peer) else {
             return false;
         };
@@ -313,19 +356,19 @@ impl Model {
         true
     }
 
-    fn update(&mut self, infos: &[Info]) {
+    pub fn update(&mut self, infos: &[Info]) {
         for info in infos {
             let peer = info.public_key;
             let known = self.known.get(&peer);
             let is_newer = known.is_none_or(|(known, _)| info.timestamp > known.timestamp);
-            if is_newer && peer != key(OWN) && self.is_present(&peer) {
+            if is_newer && peer != self.own() && self.is_present(&peer) {
                 self.known.insert(peer, (info.clone(), 0));
             }
         }
     }
 
-    fn block(&mut self, peer: &Key, now: Moment) -> bool {
-        let is_taken = *peer != key(OWN) && !self.is_blocked(peer, now);
+    pub fn block(&mut self, peer: &Key, now: Moment) -> bool {
+        let is_taken = *peer != self.own() && !self.is_blocked(peer, now);
         if is_taken {
             let end = now.saturating_add(self.setup.cfg.block_duration);
             self.blocks.insert(*peer, end);
@@ -333,33 +376,33 @@ impl Model {
         is_taken
     }
 
-    fn unblock_expired(&mut self, now: Moment) -> bool {
+    pub fn unblock_expired(&mut self, now: Moment) -> bool {
         let before = self.blocks.len();
         self.blocks.retain(|_, end| *end > now);
         self.blocks.len() < before
     }
 
-    fn next_cooled(&self) -> Option<Moment> {
+    pub fn next_cooled(&self) -> Option<Moment> {
         self.cooldowns.values().map(|cooldown| cooldown.dial).min()
     }
 
-    fn forget_cooled(&mut self, now: Moment) -> usize {
+    pub fn forget_cooled(&mut self, now: Moment) -> usize {
         let before = self.cooldowns.len();
         self.cooldowns.retain(|_, cooldown| cooldown.dial > now);
         before - self.cooldowns.len()
     }
 
     // The position of the retained set of this index.
-    fn set_of(&self, index: u64) -> Option<usize> {
+    pub fn set_of(&self, index: u64) -> Option<usize> {
         self.retained().iter().position(|set| set.0 == index)
     }
 
-    fn set_at(&self, place: usize) -> TrackedPeers {
+    pub fn set_at(&self, place: usize) -> TrackedPeers {
         let (_, primary, secondary) = &self.retained()[place];
         TrackedPeers::new(ordered(primary.clone()), ordered(secondary.clone()))
     }
 
-    fn all(&self) -> TrackedPeers {
+    pub fn all(&self) -> TrackedPeers {
         let sets = self.retained().iter();
         let primary: BTreeSet<Key> = sets.clone().flat_map(|set| set.1.clone()).collect();
         let secondary: BTreeSet<Key> = sets.flat_map(|set| set.2.clone()).collect();
@@ -368,13 +411,13 @@ impl Model {
     }
 
     // Its index, its peers, and those of all sets.
-    fn latest_update(&self) -> Option<(u64, TrackedPeers, TrackedPeers)> {
+    pub fn latest_update(&self) -> Option<(u64, TrackedPeers, TrackedPeers)> {
         let last = self.retained().len().checked_sub(1)?;
         Some((self.retained()[last].0, self.set_at(last), self.all()))
     }
 
-    fn sharable(&self, peer: &Key) -> Option<Info> {
-        if *peer == key(OWN) {
+    pub fn sharable(&self, peer: &Key) -> Option<Info> {
+        if *peer == self.own() {
             return Some(self.setup.myself.clone());
         }
         let known = self.known.get(peer)?;
@@ -382,7 +425,7 @@ impl Model {
     }
 
     // `None` if the number of bits isn't that of the primary peers.
-    fn infos(&self, bit_vec: &BitVec, now: Moment) -> Option<Vec<Info>> {
+    pub fn infos(&self, bit_vec: &BitVec, now: Moment) -> Option<Vec<Info>> {
         let Some(place) = self.set_of(bit_vec.index) else {
             return Some(Vec::new());
         };
@@ -401,7 +444,7 @@ impl Model {
 
     fn is_wanted(&self, peer: &Key) -> bool {
         match self.known.get(peer) {
-            _ if *peer == key(OWN) => false,
+            _ if *peer == self.own() => false,
             None => true,
             Some((_, fails)) => {
                 self.status(peer) != Status::Active && *fails >= self.setup.cfg.dial_fail_limit
@@ -409,7 +452,7 @@ impl Model {
         }
     }
 
-    fn bits(&self, place: usize) -> Option<BitVec> {
+    pub fn bits(&self, place: usize) -> Option<BitVec> {
         let (index, primary, _) = self.retained().get(place)?;
         Some(BitVec {
             index: *index,
@@ -418,8 +461,8 @@ impl Model {
     }
 
     // The peers that may be dialled, and when to ask again.
-    fn dialable(&self, now: Moment) -> (Vec<Key>, Option<Moment>) {
-        let all = || (0..=u16::from(u8::MAX)).map(key);
+    pub fn dialable(&self, now: Moment) -> (Vec<Key>, Option<Moment>) {
+        let all = || self.mentioned().into_iter();
         let dial_moment = |peer: &Key| self.cooldowns.get(peer).map_or(Moment::EPOCH, |c| c.dial);
         let targets = all().filter(|peer| self.is_target(peer) && !self.is_blocked(peer, now));
         let (peers, later): (Vec<Key>, Vec<Key>) =
@@ -430,7 +473,7 @@ impl Model {
         (peers, next_query_at)
     }
 
-    fn receive(&mut self, payload: &Payload, now: Moment) -> Received {
+    pub fn receive(&mut self, payload: &Payload, now: Moment, is_valid: Validity<'_>) -> Received {
         if let Some(length) = self.excess(payload) {
             return Received::Codec(CodecError::InvalidLength(length as u64));
         }
@@ -447,14 +490,14 @@ impl Model {
                 Some(infos) => Received::Reply(Payload::Peers(infos).encode()),
                 None => Received::Malformed,
             },
-            Payload::Greeting(info) => match self.judged(info, now) {
+            Payload::Greeting(info) => match self.judged(0, info, now, is_valid) {
                 Err(error) => Received::Invalid(error),
                 Ok(()) => {
                     self.update(std::slice::from_ref(info));
                     Received::Greeted(info.public_key)
                 }
             },
-            Payload::Peers(infos) => match self.all_judged(infos, now) {
+            Payload::Peers(infos) => match self.all_judged(infos, now, is_valid) {
                 Err(error) => Received::Invalid(error),
                 Ok(()) => {
                     self.update(infos);
@@ -465,7 +508,7 @@ impl Model {
     }
 
     // The length that exceeds the limits of frames.
-    fn excess(&self, payload: &Payload) -> Option<usize> {
+    pub fn excess(&self, payload: &Payload) -> Option<usize> {
         let limits = &self.setup.payload;
         let (length, most) = match payload {
             Payload::Data(data) => (data.message.len(), limits.max_data_length),
@@ -476,24 +519,36 @@ impl Model {
         (length > most).then_some(length)
     }
 
-    fn judged(&self, info: &Info, now: Moment) -> Result<(), Error> {
+    pub fn judged(
+        &self,
+        place: usize,
+        info: &Info,
+        now: Moment,
+        is_valid: Validity<'_>,
+    ) -> Result<(), Error> {
         let latest = now.saturating_add(self.setup.synchrony_bound);
-        if info.public_key == key(OWN) {
+        if info.public_key == self.own() {
             return Err(Error::ReceivedSelf);
         }
         if Duration::from_millis(info.timestamp) > latest.as_duration() {
             return Err(Error::SynchronyBound);
         }
-        match info.verify(NAMESPACE, verify) {
+        match is_valid(place, info) {
             true => Ok(()),
             false => Err(Error::InvalidSignature),
         }
     }
 
-    fn all_judged(&self, infos: &[Info], now: Moment) -> Result<(), Error> {
+    pub fn all_judged(
+        &self,
+        infos: &[Info],
+        now: Moment,
+        is_valid: Validity<'_>,
+    ) -> Result<(), Error> {
         if infos.len() > self.setup.peer_gossip_max_count {
             return Err(Error::TooManyPeers(infos.len() as u64));
         }
-        infos.iter().try_for_each(|info| self.judged(info, now))
+        let mut places = infos.iter().enumerate();
+        places.try_for_each(|(place, info)| self.judged(place, info, now, is_valid))
     }
 }

@@ -20,11 +20,16 @@ const MEMORY: &str = "there is memory";
 
 impl Real {
     pub fn new(setup: Setup) -> Real {
+        Real::of(Node::new(&setup).expect("a node"), &setup)
+    }
+
+    /// A node that has this setup.
+    pub fn of(node: Node, setup: &Setup) -> Real {
         let (count, bound) = (setup.peer_gossip_max_count, setup.synchrony_bound);
         let verifier = Info::verifier(setup.myself.public_key, count, bound, &setup.namespace);
         Real {
             verifier: verifier.expect("a verifier"),
-            node: Node::new(&setup).expect("a node"),
+            node,
             held: BTreeMap::new(),
         }
     }

@@ -1,7 +1,7 @@
 //! A session with the reservations that it granted. Those that were dropped are released before the
 //! next call.
 
-use super::super::exports::Session;
+use super::super::Session;
 use super::super::key::Key;
 use crate::answer::{is_true, unknown};
 use crate::error::OutOfMemory;

@@ -1,6 +1,6 @@
 //! The queries of a directory. None of these calls changes anything.
 
-use super::super::exports::Session;
+use super::super::Session;
 use super::super::info::{Info, read_infos};
 use super::super::key::{KEY_SIZE, Key};
 use super::super::sets::{OrderedSet, TrackedPeers, read_keys};

@@ -1,0 +1,349 @@
+//! What is read of a log.
+
+use super::calls::CALLS;
+use super::{Answer, FULL, MAGIC, REPEATED, VERSION};
+use crate::codec::Reader;
+use crate::error::CodecError;
+use std::fmt;
+
+/// What a parameter of a call has in a log.
+#[derive(Clone, Copy, Debug, PartialEq, Eq)]
+pub(crate) enum Form {
+    /// A bool, as the number 0 or 1.
+    Flag,
+    /// A number.
+    Number,
+    /// A slice that is read.
+    Bytes,
+    /// A buffer that is written: how long it is.
+    Room,
+}
+
+/// A parameter of a call.
+#[derive(Debug)]
+pub(crate) struct Parameter {
+    pub(crate) name: &'static str,
+    pub(crate) form: Form,
+}
+
+/// A call, as it stands in a log.
+#[derive(Debug)]
+pub(crate) struct CallForm {
+    pub(crate) name: &'static str,
+    pub(crate) parameters: &'static [Parameter],
+}
+
+/// An argument of a recorded call.
+#[derive(Clone, Copy, PartialEq, Eq)]
+#[non_exhaustive]
+pub enum Argument<'a> {
+    /// A number, or a bool as 0 or 1.
+    Number(u64),
+    /// A slice.
+    Bytes(&'a [u8]),
+    /// How long the buffer is for what is written.
+    Room(u64),
+}
+
+impl fmt::Debug for Argument<'_> {
+    fn fmt(&self, f: &mut fmt::Formatter<'_>) -> fmt::Result {
+        match self {
+            Argument::Number(number) => write!(f, "{number}"),
+            Argument::Room(length) => write!(f, "{length} bytes of room"),
+            Argument::Bytes([]) => write!(f, "no bytes"),
+            Argument::Bytes(bytes) => bytes.iter().try_for_each(|byte| write!(f, "{byte:02x}")),
+        }
+    }
+}
+
+/// A recorded call.
+#[derive(Clone, PartialEq, Eq)]
+#[non_exhaustive]
+pub struct Call<'a> {
+    /// How many calls of the log come before it.
+    pub place: usize,
+    /// What it answered.
+    pub answer: Answer,
+    number: u8,
+    arguments: Vec<Argument<'a>>,
+}
+
+impl<'a> Call<'a> {
+    /// The name of the call, as in `docs/C.md` of the repository.
+    pub fn name(&self) -> &'static str {
+        self.form().name
+    }
+
+    /// Its arguments, in their order.
+    pub fn arguments(&self) -> &[Argument<'a>] {
+        &self.arguments
+    }
+
+    /// The argument of a parameter, if there is one of this name.
+    pub fn argument(&self, name: &str) -> Option<Argument<'a>> {
+        let mut parameters = self.form().parameters.iter();
+        let place = parameters.position(|parameter| parameter.name == name)?;
+        Some(self.arguments[place])
+    }
+
+    /// How long the buffer was for what it writes, if it writes anything.
+    pub fn room(&self) -> Option<u64> {
+        let mut rooms = self.arguments.iter().filter_map(|argument| match argument {
+            Argument::Room(length) => Some(*length),
+            Argument::Number(_) | Argument::Bytes(_) => None,
+        });
+        rooms.next()
+    }
+
+    fn form(&self) -> &'static CallForm {
+        &CALLS[usize::from(self.number) - 1]
+    }
+}
+
+impl fmt::Debug for Call<'_> {
+    fn fmt(&self, f: &mut fmt::Formatter<'_>) -> fmt::Result {
+        write!(f, "record {}, {}(", self.place, self.name())?;
+        let parameters = self.form().parameters.iter().zip(&self.arguments);
+        for (place, (parameter, argument)) in parameters.enumerate() {
+            let comma = if place == 0 { "" } else { ", " };
+            write!(f, "{comma}{}: {argument:?}", parameter.name)?;
+        }
+        write!(f, ") -> {:?}", self.answer)
+    }
+}
+
+/// With what a log begins.
+#[derive(Clone, Copy, Debug, PartialEq, Eq)]
+#[non_exhaustive]
+pub struct Header {
+    /// How many bytes a key has.
+    pub key_size: usize,
+    /// How many bytes a signature has.
+    pub signature_size: usize,
+    /// The SHA-256 of the archive of the library that answered.
+    pub archive: [u8; 32],
+}
+
+/// Why bytes are no log.
+#[derive(Clone, Copy, Debug, PartialEq, Eq)]
+#[non_exhaustive]
+pub enum LogError {
+    /// They don't begin as a log does.
+    NoLog,
+    /// The log has another version of the form.
+    Version(u8),
+    /// This record is of no call, or its arguments and answer are not those of its call. Records
+    /// are counted from 0.
+    Record(usize),
+}
+
+impl fmt::Display for LogError {
+    fn fmt(&self, f: &mut fmt::Formatter<'_>) -> fmt::Result {
+        match self {
+            LogError::NoLog => write!(f, "these bytes don't begin as a log does"),
+            LogError::Version(version) => {
+                write!(f, "the log has version {version}, this is {VERSION}")
+            }
+            LogError::Record(place) => write!(f, "record {place} is damaged"),
+        }
+    }
+}
+
+impl std::error::Error for LogError {}
+
+/// A log.
+///
+/// # Examples
+///
+/// ```
+/// use p2p_directory::record::{Log, LogError};
+///
+/// assert_eq!(Log::read(b"no log".to_vec()).err(), Some(LogError::NoLog));
+/// ```
+pub struct Log {
+    bytes: Vec<u8>,
+    header: Header,
+    is_full: bool,
+    is_cut: bool,
+}
+
+/// How many bytes the header has.
+const HEADER_LENGTH: usize = 41;
+
+impl Log {
+    /// Reads a log. A record whose end is missing isn't read: a program that is killed leaves one.
+    ///
+    /// # Errors
+    ///
+    /// [`LogError`] if the bytes are no log, or one of its records is damaged.
+    pub fn read(bytes: Vec<u8>) -> Result<Log, LogError> {
+        let header = header(&bytes)?;
+        let mut log = Log {
+            bytes,
+            header,
+            is_full: false,
+            is_cut: false,
+        };
+        let mut calls = log.calls();
+        let mut place = 0;
+        let end = loop {
+            match calls.read() {
+                Ok(Next::Call(_)) => place += 1,
+                Ok(end) => break end,
+                Err(CodecError::EndOfBuffer) | Err(_) => return Err(LogError::Record(place)),
+            }
+        };
+        (log.is_full, log.is_cut) = (matches!(end, Next::Full), matches!(end, Next::Cut));
+        Ok(log)
+    }
+
+    /// With what it begins.
+    pub fn header(&self) -> Header {
+        self.header
+    }
+
+    /// Whether it ended at its bound, as its last record says.
+    pub fn is_full(&self) -> bool {
+        self.is_full
+    }
+
+    /// Whether its last record is cut off.
+    pub fn is_cut(&self) -> bool {
+        self.is_cut
+    }
+
+    /// Its calls, in their order.
+    pub fn calls(&self) -> Calls<'_> {
+        Calls {
+            reader: Reader::new(&self.bytes[HEADER_LENGTH..]),
+            place: 0,
+            last: &[],
+        }
+    }
+}
+
+impl fmt::Debug for Log {
+    fn fmt(&self, f: &mut fmt::Formatter<'_>) -> fmt::Result {
+        f.debug_struct("Log")
+            .field("header", &self.header)
+            .field("is_full", &self.is_full)
+            .field("is_cut", &self.is_cut)
+            .finish_non_exhaustive()
+    }
+}
+
+fn header(bytes: &[u8]) -> Result<Header, LogError> {
+    let mut reader = Reader::new(bytes);
+    if reader.array() != Ok(MAGIC) {
+        return Err(LogError::NoLog);
+    }
+    match reader.byte() {
+        Ok(VERSION) => {}
+        Ok(other) => return Err(LogError::Version(other)),
+        Err(_) => return Err(LogError::NoLog),
+    }
+    let mut sizes = || -> Result<Header, CodecError> {
+        Ok(Header {
+            key_size: usize::from(reader.short()?),
+            signature_size: usize::from(reader.short()?),
+            archive: reader.array()?,
+        })
+    };
+    sizes().map_err(|_| LogError::NoLog)
+}
+
+/// The calls of a log.
+#[derive(Clone)]
+pub struct Calls<'a> {
+    reader: Reader<'a>,
+    place: usize,
+    // The first slice of the last call that had one.
+    last: &'a [u8],
+}
+
+/// What comes next in a log.
+enum Next<'a> {
+    Call(Call<'a>),
+    /// The record of a log that ended at its bound.
+    Full,
+    /// A record whose end is missing.
+    Cut,
+    End,
+}
+
+impl<'a> Calls<'a> {
+    fn read(&mut self) -> Result<Next<'a>, CodecError> {
+        if self.reader.is_empty() {
+            return Ok(Next::End);
+        }
+        let Ok(length) = self.reader.array().map(u32::from_be_bytes) else {
+            return Ok(Next::Cut);
+        };
+        let Ok(record) = self.reader.take(length as usize) else {
+            return Ok(Next::Cut);
+        };
+        let mut record = Reader::new(record);
+        let number = record.byte()?;
+        match number {
+            FULL => Ok(Next::Full),
+            _ => self.call(number, &mut record).map(Next::Call),
+        }
+    }
+
+    fn call(&mut self, number: u8, record: &mut Reader<'a>) -> Result<Call<'a>, CodecError> {
+        let form = CALLS.get(usize::from(number) - 1);
+        let form = form.ok_or(CodecError::InvalidLength(u64::from(number)))?;
+        let mut first = None;
+        let mut arguments = Vec::new();
+        for parameter in form.parameters {
+            arguments.push(match parameter.form {
+                Form::Flag | Form::Number => Argument::Number(record.number()?),
+                Form::Room => Argument::Room(record.number()?),
+                Form::Bytes => {
+                    let bytes = self.slice(record, first.is_none())?;
+                    first.get_or_insert(bytes);
+                    Argument::Bytes(bytes)
+                }
+            });
+        }
+        self.last = first.unwrap_or(self.last);
+        let answer = Answer {
+            number: record.number()?,
+            bytes: record.clone().rest().to_vec(),
+        };
+        let place = self.place;
+        self.place += 1;
+        Ok(Call {
+            place,
+            answer,
+            number,
+            arguments,
+        })
+    }
+
+    fn slice(&self, record: &mut Reader<'a>, is_first: bool) -> Result<&'a [u8], CodecError> {
+        match record.array().map(u32::from_be_bytes)? {
+            REPEATED if is_first => Ok(self.last),
+            length => record.take(length as usize),
+        }
+    }
+}
+
+impl<'a> Iterator for Calls<'a> {
+    type Item = Call<'a>;
+
+    fn next(&mut self) -> Option<Call<'a>> {
+        match self.read() {
+            Ok(Next::Call(call)) => Some(call),
+            _ => None,
+        }
+    }
+}
+
+impl fmt::Debug for Calls<'_> {
+    fn fmt(&self, f: &mut fmt::Formatter<'_>) -> fmt::Result {
+        f.debug_struct("Calls")
+            .field("place", &self.place)
+            .finish_non_exhaustive()
+    }
+}

@@ -1,0 +1,295 @@
+//! Logs of the calls of a directory or node, which can be made anew.
+//!
+//! A [`Recorder`] writes each call that crosses into the library, with its arguments and its
+//! answer: those that an item of this crate makes by itself too, as the release of a dropped
+//! reservation. [`Directory::init_recorded`](crate::Directory::init_recorded) and
+//! [`Node::new_recorded`](crate::Node::new_recorded) begin with one. `docs/FORMATS.md` of the
+//! repository has the form of a log.
+//!
+//! A [`Log`] is read back call by call, and [`Replay`](crate::Replay) makes each on a session of
+//! its own. The program `p2p-replay` compares the answers.
+//!
+//! A log has the keys, addresses and messages that the calls had. It has no secret key, since the
+//! library is given none.
+
+#[rustfmt::skip]
+pub(crate) mod calls;
+mod log;
+mod replay;
+
+pub use log::{Argument, Call, Calls, Header, Log, LogError};
+pub(crate) use replay::Arguments;
+pub use replay::{Answer, ReplayError};
+
+use crate::memory::give_back_large;
+pub use p2p_directory_sys::ARCHIVE;
+use p2p_directory_sys::BAD_VERDICTS;
+use std::fmt;
+use std::io::{self, Write};
+
+/// With what a log begins.
+pub(crate) const MAGIC: [u8; 4] = *b"P2PL";
+
+/// The version of the form of a log.
+pub(crate) const VERSION: u8 = 1;
+
+/// The number in place of a call's, if the log ends at its bound.
+pub(crate) const FULL: u8 = 0;
+
+/// The length in place of a slice's, if the slice is that of the call before.
+pub(crate) const REPEATED: u32 = u32::MAX;
+
+/// How many bytes the record has that says that the log is full.
+const LAST_RECORD: u64 = 5;
+
+/// How a recording stands.
+#[derive(Clone, Copy, Debug, PartialEq, Eq)]
+#[non_exhaustive]
+pub enum Recording {
+    /// Calls are recorded.
+    Going,
+    /// The bound was reached. The last record says so.
+    Full,
+    /// The log couldn't be written. It has the calls before.
+    Failed(io::ErrorKind),
+    /// There was no memory for a record. The log has the calls before.
+    OutOfMemory,
+}
+
+/// Writes the calls of a directory or node to a log, until it has so many bytes.
+///
+/// What it does never changes what a call does or answers. If it can't write on, the recording
+/// ends, and [`Recording`] says why.
+///
+/// # Examples
+///
+/// ```
+/// # use p2p_directory::*;
+/// use p2p_directory::record::{Log, Recorder, Recording};
+/// use std::fs::File;
+/// use std::io::BufWriter;
+///
+/// let path = std::env::temp_dir().join(format!("p2p-{}.log", std::process::id()));
+/// let recorder = Recorder::new(BufWriter::new(File::create(&path)?), 1 << 20);
+/// let mut node = Node::new_recorded(&testing::setup(9), recorder)?;
+/// node.directory_mut().block(&testing::key(1), Moment::EPOCH)?;
+/// assert_eq!(node.directory().recording(), Some(Recording::Going));
+/// drop(node);
+///
+/// let log = Log::read(std::fs::read(&path)?)?;
+/// let names: Vec<&str> = log.calls().map(|call| call.name()).collect();
+/// assert_eq!(names, ["init", "block"]);
+/// # std::fs::remove_file(&path)?;
+/// # Ok::<(), Box<dyn std::error::Error>>(())
+/// ```
+pub struct Recorder {
+    sink: Box<dyn Write + Send>,
+    // How many bytes the log has, and may have.
+    length: u64,
+    limit: u64,
+    recording: Recording,
+    // The record that is made.
+    entry: Entry,
+}
+
+/// A record, while its call is written to it.
+#[derive(Default)]
+pub(crate) struct Entry {
+    bytes: Vec<u8>,
+    // The first slice of the call before, if it is long enough to be told by a word.
+    last: Vec<u8>,
+    // Whether this call had a slice, and whether there was memory for all.
+    has_slice: bool,
+    is_short: bool,
+}
+
+impl Recorder {
+    /// A recorder to a file, or to whatever takes bytes, of at most so many bytes.
+    ///
+    /// Bytes are written as they come, so a [`BufWriter`](io::BufWriter) around a file is faster.
+    /// What is in it when the process is killed is lost, and the log ends before.
+    ///
+    /// # Examples
+    ///
+    /// ```
+    /// use p2p_directory::record::Recorder;
+    ///
+    /// let recorder = Recorder::new(std::io::sink(), 1 << 20);
+    /// assert!(format!("{recorder:?}").contains("Going"));
+    /// ```
+    pub fn new(sink: impl Write + Send + 'static, limit: u64) -> Recorder {
+        Recorder {
+            sink: Box::new(sink),
+            length: 0,
+            limit,
+            recording: Recording::Going,
+            entry: Entry::default(),
+        }
+    }
+
+    /// Writes with what a log begins.
+    pub(crate) fn begin(&mut self, key_size: usize, signature_size: usize) {
+        self.entry.clear();
+        self.entry.raw(&MAGIC);
+        self.entry.raw(&[VERSION]);
+        self.entry.raw(&(key_size as u16).to_be_bytes());
+        self.entry.raw(&(signature_size as u16).to_be_bytes());
+        self.entry.raw(&ARCHIVE);
+        self.write_entry();
+    }
+
+    /// Records a call, with its answer and the bytes that it wrote to `out`.
+    #[inline]
+    pub(crate) fn call(
+        &mut self,
+        number: u8,
+        answer: u64,
+        out: &[u8],
+        arguments: impl FnOnce(&mut Entry),
+    ) {
+        if self.recording != Recording::Going {
+            return;
+        }
+        self.entry.clear();
+        // The length comes here, when it is known.
+        self.entry.raw(&[0; 4]);
+        self.entry.raw(&[number]);
+        arguments(&mut self.entry);
+        self.entry.number(answer);
+        self.entry.raw(written(answer, out));
+        self.entry.set_length();
+        self.write_entry();
+    }
+
+    /// How the recording stands.
+    pub(crate) fn recording(&self) -> Recording {
+        self.recording
+    }
+
+    /// Flushes what takes the bytes.
+    pub(crate) fn flush(&mut self) {
+        if let Err(error) = self.sink.flush() {
+            self.fail(&error);
+        }
+    }
+
+    // Writes the record, or one that says that the log is full.
+    fn write_entry(&mut self) {
+        if self.entry.is_short {
+            self.recording = Recording::OutOfMemory;
+            return;
+        }
+        let length = self.length + self.entry.bytes.len() as u64;
+        if length.saturating_add(LAST_RECORD) > self.limit {
+            self.end();
+            return;
+        }
+        self.length = length;
+        if let Err(error) = self.sink.write_all(&self.entry.bytes) {
+            self.fail(&error);
+        }
+        give_back_large(&mut self.entry.bytes);
+        give_back_large(&mut self.entry.last);
+    }
+
+    // Ends a log that is full, which says so unless its bound leaves no room for that.
+    fn end(&mut self) {
+        self.recording = Recording::Full;
+        if self.length + LAST_RECORD > self.limit {
+            return;
+        }
+        let last = [0, 0, 0, 1, FULL];
+        match self.sink.write_all(&last).and_then(|()| self.sink.flush()) {
+            Ok(()) => self.length += LAST_RECORD,
+            Err(error) => self.fail(&error),
+        }
+    }
+
+    fn fail(&mut self, error: &io::Error) {
+        self.recording = Recording::Failed(error.kind());
+    }
+}
+
+impl fmt::Debug for Recorder {
+    fn fmt(&self, f: &mut fmt::Formatter<'_>) -> fmt::Result {
+        f.debug_struct("Recorder")
+            .field("length", &self.length)
+            .field("limit", &self.limit)
+            .field("recording", &self.recording)
+            .finish_non_exhaustive()
+    }
+}
+
+impl Drop for Recorder {
+    fn drop(&mut self) {
+        self.flush();
+    }
+}
+
+/// The bytes that a call wrote: none if it is refused, has no answer, or its answer is longer than
+/// the buffer.
+pub(crate) fn written(answer: u64, out: &[u8]) -> &[u8] {
+    match usize::try_from(answer) {
+        Ok(length) if answer < BAD_VERDICTS && length <= out.len() => &out[..length],
+        _ => &[],
+    }
+}
+
+/// The shortest slice that is told by a word if it comes again.
+const SHORTEST_REPEATED: usize = 256;
+
+impl Entry {
+    fn clear(&mut self) {
+        self.bytes.clear();
+        self.has_slice = false;
+        self.is_short = false;
+    }
+
+    /// Appends a number, or how long a buffer is.
+    pub(crate) fn number(&mut self, number: u64) {
+        self.raw(&number.to_be_bytes());
+    }
+
+    /// Appends a slice, behind its length.
+    pub(crate) fn bytes(&mut self, bytes: &[u8]) {
+        let is_first = !std::mem::replace(&mut self.has_slice, true);
+        let is_long = bytes.len() >= SHORTEST_REPEATED;
+        if is_first && is_long && bytes == self.last {
+            self.raw(&REPEATED.to_be_bytes());
+            return;
+        }
+        match u32::try_from(bytes.len()) {
+            Ok(length) if length != REPEATED => self.raw(&length.to_be_bytes()),
+            _ => self.is_short = true,
+        }
+        self.raw(bytes);
+        if is_first {
+            self.remember(if is_long { bytes } else { &[] });
+        }
+    }
+
+    fn remember(&mut self, bytes: &[u8]) {
+        self.last.clear();
+        match self.last.try_reserve(bytes.len()) {
+            Ok(()) => self.last.extend_from_slice(bytes),
+            Err(_) => self.is_short = true,
+        }
+    }
+
+    fn raw(&mut self, bytes: &[u8]) {
+        match self.bytes.try_reserve(bytes.len()) {
+            Ok(()) => self.bytes.extend_from_slice(bytes),
+            Err(_) => self.is_short = true,
+        }
+    }
+
+    // The length of what follows it, at the front.
+    fn set_length(&mut self) {
+        match u32::try_from(self.bytes.len() - 4) {
+            Ok(length) if !self.is_short => {
+                self.bytes[..4].copy_from_slice(&length.to_be_bytes());
+            }
+            _ => self.is_short = true,
+        }
+    }
+}

@@ -1,0 +1,120 @@
+//! Arguments of a recorded call, and its answer.
+
+use super::log::{Argument, Call};
+use super::written;
+use crate::memory::zeros;
+use p2p_directory_sys::BAD_VERDICTS;
+use std::fmt;
+
+/// What a call answered: a number, and the bytes that it wrote.
+#[derive(Clone, PartialEq, Eq)]
+#[non_exhaustive]
+pub struct Answer {
+    /// The number. `docs/C.md` of the repository says which are refusals.
+    pub number: u64,
+    /// The bytes that it wrote to its buffer.
+    pub bytes: Vec<u8>,
+}
+
+impl Answer {
+    /// An answer of this number and these bytes.
+    pub fn new(number: u64, bytes: Vec<u8>) -> Answer {
+        Answer { number, bytes }
+    }
+
+    pub(crate) fn of(number: u64, mut out: Vec<u8>) -> Answer {
+        out.truncate(written(number, &out).len());
+        Answer { number, bytes: out }
+    }
+
+    /// Whether the call was refused for want of memory, and counts as not made.
+    pub fn is_out_of_memory(&self) -> bool {
+        self.number == p2p_directory_sys::MEMORY
+    }
+}
+
+impl fmt::Debug for Answer {
+    fn fmt(&self, f: &mut fmt::Formatter<'_>) -> fmt::Result {
+        match self.number {
+            number @ BAD_VERDICTS.. => write!(f, "{number:#x}")?,
+            number => write!(f, "{number}")?,
+        }
+        if self.bytes.is_empty() {
+            return Ok(());
+        }
+        write!(f, ", {:?}", Argument::Bytes(&self.bytes))
+    }
+}
+
+/// Why a recorded call can't be made anew.
+#[derive(Clone, Copy, Debug, PartialEq, Eq)]
+#[non_exhaustive]
+pub enum ReplayError {
+    /// There is no call of this name.
+    Unknown(&'static str),
+    /// An argument is none that the call takes.
+    Argument,
+    /// There is no memory for what the call may write.
+    OutOfMemory,
+}
+
+impl fmt::Display for ReplayError {
+    fn fmt(&self, f: &mut fmt::Formatter<'_>) -> fmt::Result {
+        match self {
+            ReplayError::Unknown(name) => write!(f, "there is no call {name}"),
+            ReplayError::Argument => write!(f, "an argument is none that the call takes"),
+            ReplayError::OutOfMemory => write!(f, "out of memory"),
+        }
+    }
+}
+
+impl std::error::Error for ReplayError {}
+
+/// The arguments of a call, which are taken in their order.
+pub(crate) struct Arguments<'a> {
+    left: std::vec::IntoIter<Argument<'a>>,
+}
+
+impl<'a> Arguments<'a> {
+    pub(crate) fn of(call: &Call<'a>) -> Arguments<'a> {
+        Arguments {
+            left: call.arguments().to_vec().into_iter(),
+        }
+    }
+
+    pub(crate) fn number(&mut self) -> Result<u64, ReplayError> {
+        match self.left.next() {
+            Some(Argument::Number(number)) => Ok(number),
+            _ => Err(ReplayError::Argument),
+        }
+    }
+
+    pub(crate) fn small(&mut self) -> Result<u32, ReplayError> {
+        u32::try_from(self.number()?).map_err(|_| ReplayError::Argument)
+    }
+
+    pub(crate) fn flag(&mut self) -> Result<bool, ReplayError> {
+        match self.number()? {
+            0 => Ok(false),
+            1 => Ok(true),
+            _ => Err(ReplayError::Argument),
+        }
+    }
+
+    pub(crate) fn bytes(&mut self) -> Result<&'a [u8], ReplayError> {
+        match self.left.next() {
+            Some(Argument::Bytes(bytes)) => Ok(bytes),
+            _ => Err(ReplayError::Argument),
+        }
+    }
+
+    pub(crate) fn room(&mut self) -> Result<Vec<u8>, ReplayError> {
+        match self.left.next() {
+            Some(Argument::Room(length)) => {
+                let length = usize::try_from(length).map_err(|_| ReplayError::Argument)?;
+                zeros(length).map_err(|_| ReplayError::OutOfMemory)
+            }
+            _ => Err(ReplayError::Argument),
+        }
+    }
+}
