@@ -1,0 +1,221 @@
+//! Runs that break a promise on purpose, to show that each check can fail.
+
+use crate::Flags;
+use crate::attack::Attack;
+use crate::checks::{self, Check};
+use crate::network::{Network, Options, said};
+use crate::phases::{self, Settled};
+use crate::weather::Weather;
+use p2p_node::identity::Identity;
+use p2p_node::sodium::Sodium;
+use std::collections::BTreeSet;
+use std::fmt;
+use std::fs;
+use std::time::Duration;
+
+/// The number of nodes of each run.
+const NODES: usize = 4;
+
+/// The node that breaks a rule, unless all do.
+const BROKEN: usize = 2;
+
+/// A run in which something is broken.
+#[derive(Clone, Copy, Debug, PartialEq, Eq)]
+pub enum Scenario {
+    /// A node grants connections within the cooldown.
+    GrantsEarly,
+    /// A node keeps the connections of peers that no set names.
+    KeepsDropped,
+    /// A node blocks peers that broke no rule.
+    BlocksAtRandom,
+    /// A node has no limits.
+    NoLimit,
+    /// A node keeps each frame.
+    Leaks,
+    /// No node asks.
+    NoRepair,
+    /// The halves are never joined.
+    NeverJoined,
+    /// Nodes that are killed are not started anew.
+    NeverRestarted,
+    /// An attacker has the secret of an honest node.
+    StolenKey,
+    /// A log is damaged.
+    DamagedLog,
+}
+
+impl Scenario {
+    /// Each scenario.
+    pub const ALL: [Scenario; 10] = [
+        Scenario::GrantsEarly,
+        Scenario::KeepsDropped,
+        Scenario::BlocksAtRandom,
+        Scenario::NoLimit,
+        Scenario::Leaks,
+        Scenario::NoRepair,
+        Scenario::NeverJoined,
+        Scenario::NeverRestarted,
+        Scenario::StolenKey,
+        Scenario::DamagedLog,
+    ];
+
+    /// The rule that nodes break, if any does: from which node to which, and its name.
+    fn rule(self) -> Option<(usize, usize, &'static str)> {
+        let one = |name| Some((BROKEN, BROKEN, name));
+        match self {
+            Scenario::GrantsEarly => one("grants-early"),
+            Scenario::KeepsDropped => one("keeps-dropped"),
+            Scenario::BlocksAtRandom => one("blocks-at-random"),
+            Scenario::NoLimit => one("no-limit"),
+            Scenario::Leaks => one("leaks"),
+            Scenario::NoRepair => Some((0, NODES - 1, "no-repair")),
+            Scenario::NeverJoined
+            | Scenario::NeverRestarted
+            | Scenario::StolenKey
+            | Scenario::DamagedLog => None,
+        }
+    }
+
+    /// The checks that have to fail.
+    fn checks(self) -> &'static [Check] {
+        match self {
+            Scenario::GrantsEarly => &[Check::CooldownByLedgers, Check::CooldownByFrames],
+            Scenario::KeepsDropped => &[Check::Dropped],
+            Scenario::BlocksAtRandom => &[Check::Blocks],
+            Scenario::NoLimit => &[Check::Answers, Check::Memory],
+            Scenario::Leaks => &[Check::Memory],
+            Scenario::NoRepair | Scenario::NeverJoined => {
+                &[Check::KnowledgeByLedgers, Check::KnowledgeByFrames]
+            }
+            Scenario::NeverRestarted => &[Check::Alive, Check::KnowledgeByLedgers],
+            Scenario::StolenKey => &[Check::Written, Check::WithoutAttackers],
+            Scenario::DamagedLog => &[Check::Replay],
+        }
+    }
+}
+
+impl fmt::Display for Scenario {
+    fn fmt(&self, f: &mut fmt::Formatter<'_>) -> fmt::Result {
+        f.write_str(match self {
+            Scenario::GrantsEarly => "a node that grants within the cooldown",
+            Scenario::KeepsDropped => "a node that keeps dropped peers",
+            Scenario::BlocksAtRandom => "a node that blocks at random",
+            Scenario::NoLimit => "a node without limits",
+            Scenario::Leaks => "a node that leaks",
+            Scenario::NoRepair => "nodes that don't ask",
+            Scenario::NeverJoined => "halves that are never joined",
+            Scenario::NeverRestarted => "killed nodes that stay dead",
+            Scenario::StolenKey => "an attacker with an honest secret",
+            Scenario::DamagedLog => "a damaged log",
+        })
+    }
+}
+
+/// Makes these runs, and says of each whether its checks failed.
+///
+/// # Errors
+///
+/// Says which run could not be made.
+pub fn all(flags: &Flags, scenarios: &[Scenario]) -> Result<bool, String> {
+    let mut all_failed = true;
+    for scenario in scenarios {
+        println!("broken: {scenario}");
+        let failed = run(flags, *scenario)?;
+        for check in scenario.checks() {
+            let has_failed = failed.contains(check);
+            let word = if has_failed {
+                "failed as it must"
+            } else {
+                "DID NOT FAIL"
+            };
+            println!("    {check}: {word}");
+            all_failed &= has_failed;
+        }
+        let expected: BTreeSet<Check> = scenario.checks().iter().copied().collect();
+        for check in failed.difference(&expected) {
+            println!("    {check}: failed too");
+        }
+    }
+    Ok(all_failed)
+}
+
+/// Makes a run, and returns the checks that failed.
+fn run(flags: &Flags, scenario: Scenario) -> Result<BTreeSet<Check>, String> {
+    let sodium = Sodium::new().map_err(|error| error.to_string())?;
+    let attacks = attacks(scenario);
+    let options = Options {
+        folder: flags.folder.join(format!("{scenario:?}")),
+        node: flags.broken_node.clone(),
+        replay: flags.replay.clone(),
+        nodes: NODES,
+        attackers: attacks.len(),
+        // The bound of a run that has to fail is waited for.
+        load: flags.load.min(2.0),
+        broken: scenario
+            .rule()
+            .map(|(first, last, rule)| (first, last, rule.to_owned())),
+    };
+    let mut network = Network::new(options, sodium)?;
+    let settled = act(&mut network, scenario, sodium)?;
+    network.end();
+    if scenario == Scenario::DamagedLog {
+        damage(&network)?;
+    }
+    let verdicts = checks::all(&network, &settled)?;
+    let failed = verdicts.iter().filter(|verdict| !verdict.faults.is_empty());
+    failed.for_each(|verdict| println!("    {verdict}"));
+    Ok(checks::failed(&verdicts))
+}
+
+/// The attacks of a scenario, each made by one attacker.
+fn attacks(scenario: Scenario) -> &'static [Attack] {
+    match scenario {
+        Scenario::NoLimit => &[Attack::Questions, Attack::LongFrame],
+        Scenario::Leaks => &[Attack::Messages],
+        Scenario::StolenKey => &[Attack::StolenKey],
+        _ => &[],
+    }
+}
+
+/// What happens in a scenario after all nodes have started.
+fn act(network: &mut Network, scenario: Scenario, sodium: Sodium) -> Result<Vec<Settled>, String> {
+    let mut settled = vec![phases::start(network)?];
+    match scenario {
+        Scenario::GrantsEarly => {
+            network.proxies.set_weather(Weather::Rough);
+            let key = network.members[BROKEN].key;
+            network.proxies.disconnect(&key);
+            network.wait(Duration::from_secs(6));
+        }
+        Scenario::KeepsDropped => settled.push(phases::leave_out(network, &[NODES - 1])?),
+        Scenario::BlocksAtRandom => network.wait(Duration::from_secs(4)),
+        Scenario::NoLimit | Scenario::Leaks => {
+            settled.push(phases::attack(network, attacks(scenario), NODES, None)?);
+        }
+        Scenario::StolenKey => {
+            let path = network.options.folder.join("key-0");
+            let stolen = Identity::read(sodium, &path)?;
+            let settle = phases::attack(network, attacks(scenario), 1, Some(&stolen))?;
+            settled.push(settle);
+        }
+        Scenario::NeverJoined => {
+            settled.push(phases::part(network, Duration::from_secs(1), false)?)
+        }
+        Scenario::NeverRestarted => settled.push(phases::restart(network, false)?),
+        Scenario::NoRepair | Scenario::DamagedLog => {}
+    }
+    Ok(settled)
+}
+
+/// Changes the answer of the last call in a log.
+fn damage(network: &Network) -> Result<(), String> {
+    let lives = network
+        .members
+        .iter()
+        .filter_map(|member| member.lives.last());
+    let life = lives.last().ok_or("no node has a log")?;
+    let mut bytes = fs::read(&life.record).map_err(|error| said(&life.record, &error))?;
+    let last = bytes.last_mut().ok_or("a log is empty")?;
+    *last ^= 1;
+    fs::write(&life.record, bytes).map_err(|error| said(&life.record, &error))
+}

@@ -1,0 +1,307 @@
+//! What is done to a network.
+
+use crate::attack::{Attack, Knowledge, make};
+use crate::checks::knowledge::{self, Missing};
+use crate::network::Network;
+use crate::weather::Weather;
+use p2p_directory::{Info, Key};
+use p2p_node::identity::Identity;
+use p2p_node::sodium::Sodium;
+use std::collections::BTreeSet;
+use std::sync::atomic::{AtomicUsize, Ordering};
+use std::thread;
+use std::time::Duration;
+
+/// How long the network runs under each fault.
+#[derive(Clone, Copy, Debug)]
+pub struct Lengths {
+    /// While it is cut in two.
+    pub parted: Duration,
+    /// While connections are slow, held, refused or cut, each.
+    pub rough: Duration,
+    /// How many nodes each attacker attacks.
+    pub targets: usize,
+    /// How many sets are written, one in each second.
+    pub sets: usize,
+    /// How long the memory of nodes is bounded.
+    pub memory: Duration,
+}
+
+/// What a phase found.
+#[derive(Clone, Debug)]
+pub struct Settled {
+    /// The phase.
+    pub phase: &'static str,
+    /// How long after its last fault each node knew each newest info, if that was within the bound.
+    pub after: Option<Duration>,
+    /// What was missing at the end of the bound.
+    pub missing: Vec<Missing>,
+}
+
+/// Waits until each node knows the newest infos.
+pub fn settle(network: &mut Network, phase: &'static str) -> Settled {
+    let within = network.bounds.knowledge;
+    let after = network.wait_for(within, |network| knowledge::missing(network).is_empty());
+    let missing = match after {
+        Some(_) => Vec::new(),
+        None => knowledge::missing(network),
+    };
+    let bound = within.as_secs_f64();
+    match after {
+        Some(after) => {
+            let after = after.as_secs_f64();
+            println!("{phase}: all is known after {after:.1} s, of {bound:.1} s");
+        }
+        None => println!(
+            "{phase}: after {bound:.1} s {} infos are missing",
+            missing.len()
+        ),
+    }
+    Settled {
+        phase,
+        after,
+        missing,
+    }
+}
+
+/// Starts all nodes, of which each knows the first or the second.
+///
+/// # Errors
+///
+/// Says which node doesn't start.
+pub fn start(network: &mut Network) -> Result<Settled, String> {
+    for number in 0..network.members.len() {
+        network.start(number, None)?;
+    }
+    Ok(settle(network, "(a) start"))
+}
+
+/// Kills every third node, and starts it anew, unless they are to stay dead.
+///
+/// # Errors
+///
+/// Says which node doesn't start.
+pub fn restart(network: &mut Network, comes_back: bool) -> Result<Settled, String> {
+    let killed: Vec<usize> = (0..network.members.len()).step_by(3).collect();
+    for number in &killed {
+        network.kill(*number);
+    }
+    network.wait(Duration::from_secs(1));
+    if comes_back {
+        for number in &killed {
+            network.start(*number, None)?;
+        }
+    }
+    Ok(settle(network, "(b) restart"))
+}
+
+/// Cuts the network in two, in each half starts a node anew, and joins them, unless they are to
+/// stay apart.
+///
+/// # Errors
+///
+/// Says which node doesn't start.
+pub fn part(network: &mut Network, time: Duration, joins: bool) -> Result<Settled, String> {
+    let half = network.members.len() / 2;
+    let keys: BTreeSet<Key> = network
+        .members
+        .iter()
+        .take(half)
+        .map(|member| member.key)
+        .collect();
+    network.proxies.set_weather(Weather::Halves(keys));
+    for number in [half - 1, half] {
+        network.kill(number);
+        network.start(number, None)?;
+    }
+    network.wait(time);
+    let missing = knowledge::missing(network).len();
+    println!("    while it is cut {missing} infos are missing");
+    if joins {
+        network.proxies.set_weather(Weather::Clear);
+    }
+    Ok(settle(network, "(c) halves"))
+}
+
+/// Makes connections slow, half-open, refused, and cut at each byte.
+pub fn disturb(network: &mut Network, time: Duration) -> Settled {
+    for weather in [Weather::Rough, Weather::Cuts] {
+        network.proxies.set_weather(weather);
+        let keys: Vec<Key> = network.members.iter().map(|member| member.key).collect();
+        // What is connected has no faults, so it is made to connect anew.
+        keys.iter().for_each(|key| network.proxies.disconnect(key));
+        network.wait(time);
+    }
+    network.proxies.set_weather(Weather::Clear);
+    let faults = network.proxies.faults();
+    println!("    {faults} connections were refused, slowed, held or cut");
+    settle(network, "(d) bad connections")
+}
+
+/// Makes these attacks, each by an attacker of its own.
+///
+/// # Errors
+///
+/// Says which attack could not be made on any node.
+pub fn attack(
+    network: &mut Network,
+    attacks: &[Attack],
+    targets: usize,
+    stolen: Option<&Identity>,
+) -> Result<Settled, String> {
+    let sodium = Sodium::new().map_err(|error| error.to_string())?;
+    let old = replaced(network);
+    let set = (network.latest_index(), network.largest());
+    let places: Vec<_> = network
+        .members
+        .iter()
+        .map(|member| (member.key, member.proxy.address))
+        .collect();
+    let within = network.bounds.start;
+    let made: Vec<AtomicUsize> = attacks.iter().map(|_| AtomicUsize::new(0)).collect();
+    let attackers = std::mem::take(&mut network.attackers);
+    thread::scope(|scope| {
+        let each = attacks.iter().zip(&attackers).zip(&made).enumerate();
+        let threads: Vec<_> = each
+            .map(|(number, ((attack, identity), made))| {
+                let (old, places) = (&old, &places);
+                scope.spawn(move || {
+                    for step in 0..targets {
+                        let place = (number + 1 + step) % places.len();
+                        let other = places[(place + 1) % places.len()].0;
+                        let known = Knowledge {
+                            sodium,
+                            target: places[place],
+                            other: (other, stolen),
+                            set,
+                            old,
+                        };
+                        if make(*attack, identity, &known, within).is_ok() {
+                            made.fetch_add(1, Ordering::Relaxed);
+                        }
+                    }
+                })
+            })
+            .collect();
+        while threads.iter().any(|thread| !thread.is_finished()) {
+            network.wait(Duration::from_millis(100));
+        }
+    });
+    network.attackers = attackers;
+    report(attacks, &made, targets)?;
+    Ok(settle(network, "(e) attackers"))
+}
+
+fn report(attacks: &[Attack], made: &[AtomicUsize], targets: usize) -> Result<(), String> {
+    for (attack, made) in attacks.iter().zip(made) {
+        let made = made.load(Ordering::Relaxed);
+        println!("    {attack}: made {made} of {targets} times");
+        if made == 0 {
+            return Err(format!("the attack '{attack}' could not be made"));
+        }
+    }
+    Ok(())
+}
+
+/// Infos that honest nodes sent, and their owners have replaced since.
+fn replaced(network: &Network) -> Vec<Info> {
+    let traffic = network.proxies.traffic();
+    let infos = traffic
+        .shared
+        .iter()
+        .filter_map(|info| Info::decode(info).ok());
+    let is_old = |info: &Info| {
+        let mut members = network.members.iter();
+        let owner = members.find(|member| member.key == info.public_key);
+        let own = owner.and_then(|owner| owner.ledger()?.own());
+        own.is_some_and(|(_, timestamp, _)| info.timestamp < *timestamp)
+    };
+    infos.filter(is_old).take(8).collect()
+}
+
+/// Writes another set in each second, moves two nodes to other addresses, and leaves the last node
+/// out in the end.
+///
+/// # Errors
+///
+/// Says which node doesn't start.
+pub fn change(network: &mut Network, sets: usize) -> Result<Settled, String> {
+    let count = network.members.len();
+    let mut moves = [2, 3].into_iter().filter(|number| *number < count);
+    for step in 0..sets {
+        let out: Vec<usize> = (2..count)
+            .filter(|number| (number + step) % 4 == 0)
+            .collect();
+        network.write_set(&out)?;
+        if step % 3 == 1
+            && let Some(number) = moves.next()
+        {
+            network.kill(number);
+            network.move_elsewhere(number)?;
+            network.start(number, None)?;
+        }
+        network.wait(Duration::from_secs(1));
+    }
+    leave_out(network, &[count - 1])
+}
+
+/// Writes a set without these nodes, and lets pass the time after which they are disconnected.
+///
+/// # Errors
+///
+/// That of the system.
+pub fn leave_out(network: &mut Network, out: &[usize]) -> Result<Settled, String> {
+    network.write_set(out)?;
+    let settled = settle(network, "(f) sets and addresses");
+    let time = network.bounds.dropped + Duration::from_secs(2);
+    network.wait(time);
+    Ok(settled)
+}
+
+/// Starts two nodes anew with less memory than they had, lets them go on or end, and then starts
+/// them anew as before.
+///
+/// # Errors
+///
+/// Says which node doesn't start.
+pub fn starve(network: &mut Network, time: Duration) -> Result<Settled, String> {
+    // The second gets so little that it may not even start.
+    let starved = [(1, 60), (4, 30)];
+    let starved = starved
+        .into_iter()
+        .filter(|(number, _)| *number < network.members.len());
+    let starved: Vec<(usize, u64)> = starved.collect();
+    network.poll();
+    for (number, percent) in &starved {
+        let memory = network.members[*number]
+            .lives
+            .last()
+            .and_then(|life| life.memory);
+        let requested = memory.map_or(100 << 10, |memory| memory.requested);
+        network.kill(*number);
+        let limit = requested * percent / 100;
+        let listens = network.start(*number, Some(limit))?;
+        println!("    node {number} gets {limit} of {requested} KiB, and listens: {listens}");
+    }
+    network.wait(time);
+    for (number, _) in &starved {
+        let member = &network.members[*number];
+        let refusals = member.ledger().map_or(0, |ledger| {
+            let reasons = ledger.events.iter().map(|event| event.reason.as_str());
+            let of_memory =
+                |reason: &str| reason.contains("memory") || reason.contains("temporarily");
+            reasons.filter(|reason| of_memory(reason)).count()
+        });
+        let ended = if member.process.is_some() {
+            "goes on"
+        } else {
+            "has ended"
+        };
+        println!(
+            "    node {number} {ended}, and left out {refusals} connections for want of memory"
+        );
+        network.kill(*number);
+        network.start(*number, None)?;
+    }
+    Ok(settle(network, "(g) memory"))
+}
