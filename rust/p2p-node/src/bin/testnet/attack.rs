@@ -20,7 +20,7 @@ const PAUSE: Duration = Duration::from_millis(50);
 /// How long a read or write of an attacker may take.
 const PATIENCE: Duration = Duration::from_secs(2);
 
-/// How many questions are asked without a pause.
+/// How many questions are asked, with a short pause between two.
 const QUESTIONS: usize = 500;
 
 /// How many streams a flood opens.
@@ -225,7 +225,14 @@ fn act(
             let future = signed(identity, own, now + 3_600_000);
             send(stream, &Payload::Peers(vec![future]))
         }
-        Attack::Replay => send(stream, &Payload::Peers(known.old.to_vec())),
+        Attack::Replay => {
+            let old = known.old.iter();
+            let old = old.filter(|info| info.public_key != known.target.0);
+            send(
+                stream,
+                &Payload::Peers(old.take(known.set.1).cloned().collect()),
+            )
+        }
         Attack::Bits => send(stream, &question(known.set.0, known.set.1 + 1)),
         Attack::LongFrame => flood_frame(stream),
         Attack::Garbage => write_frame(&mut timed(stream)?, &[9, 9, 9]),
@@ -246,27 +253,23 @@ fn question(index: u64, count: usize) -> Payload {
     Payload::BitVec(BitVec { index, bits })
 }
 
-/// Asks for all infos again and again, and reads the replies.
+/// Asks for all infos again and again, so slowly that replies have room, and then reads them.
 fn ask(stream: &TcpStream, known: &Knowledge<'_>) -> io::Result<()> {
     let (index, count) = known.set;
     let frame = question(index, count).encode();
-    for _ in 0..3 {
-        for _ in 0..QUESTIONS {
-            write_frame(&mut timed(stream)?, &frame)?;
-        }
-        listen(stream, Duration::from_millis(500))?;
+    for _ in 0..QUESTIONS {
+        write_frame(&mut timed(stream)?, &frame)?;
+        thread::sleep(Duration::from_millis(2));
     }
-    Ok(())
+    listen(stream, PATIENCE)
 }
 
 fn flood_streams(known: &Knowledge<'_>) -> io::Result<()> {
     let (_, address) = known.target;
     let streams: Vec<TcpStream> = (0..STREAMS)
         .map(|_| {
-            let mut stream = TcpStream::connect_timeout(&address, PATIENCE)?;
-            // The key of nobody, so that the proxy passes it on.
-            stream.write_all(&[7; 63])?;
-            Ok(stream)
+            // The proxy connects to the node before it waits for what the dialer says.
+            TcpStream::connect_timeout(&address, PATIENCE)
         })
         .collect::<io::Result<_>>()?;
     thread::sleep(Duration::from_secs(1));

@@ -2,13 +2,13 @@
 
 use crate::Flags;
 use crate::attack::Attack;
-use crate::checks::{self, Check};
+use crate::bounds::COOLDOWN;
+use crate::checks::{self, Check, Verdict};
 use crate::network::{Network, Options, said};
 use crate::phases::{self, Settled};
 use crate::weather::Weather;
 use p2p_node::identity::Identity;
 use p2p_node::sodium::Sodium;
-use std::collections::BTreeSet;
 use std::fmt;
 use std::fs;
 use std::time::Duration;
@@ -120,27 +120,26 @@ pub fn all(flags: &Flags, scenarios: &[Scenario]) -> Result<bool, String> {
     let mut all_failed = true;
     for scenario in scenarios {
         println!("broken: {scenario}");
-        let failed = run(flags, *scenario)?;
-        for check in scenario.checks() {
-            let has_failed = failed.contains(check);
-            let word = if has_failed {
-                "failed as it must"
-            } else {
-                "DID NOT FAIL"
-            };
-            println!("    {check}: {word}");
-            all_failed &= has_failed;
-        }
-        let expected: BTreeSet<Check> = scenario.checks().iter().copied().collect();
-        for check in failed.difference(&expected) {
-            println!("    {check}: failed too");
+        let expected = scenario.checks();
+        for verdict in run(flags, *scenario)? {
+            let (has_failed, has_to) = (
+                !verdict.faults.is_empty(),
+                expected.contains(&verdict.check),
+            );
+            match (has_failed, has_to) {
+                (true, true) => println!("  failed as it must:\n    {verdict}"),
+                (true, false) => println!("  failed too:\n    {verdict}"),
+                (false, true) => println!("  DID NOT FAIL:\n    {verdict}"),
+                (false, false) => {}
+            }
+            all_failed &= has_failed || !has_to;
         }
     }
     Ok(all_failed)
 }
 
-/// Makes a run, and returns the checks that failed.
-fn run(flags: &Flags, scenario: Scenario) -> Result<BTreeSet<Check>, String> {
+/// Makes a run, and its checks.
+fn run(flags: &Flags, scenario: Scenario) -> Result<Vec<Verdict>, String> {
     let sodium = Sodium::new().map_err(|error| error.to_string())?;
     let attacks = attacks(scenario);
     let options = Options {
@@ -161,10 +160,7 @@ fn run(flags: &Flags, scenario: Scenario) -> Result<BTreeSet<Check>, String> {
     if scenario == Scenario::DamagedLog {
         damage(&network)?;
     }
-    let verdicts = checks::all(&network, &settled)?;
-    let failed = verdicts.iter().filter(|verdict| !verdict.faults.is_empty());
-    failed.for_each(|verdict| println!("    {verdict}"));
-    Ok(checks::failed(&verdicts))
+    checks::all(&network, &settled)
 }
 
 /// The attacks of a scenario, each made by one attacker.
@@ -193,6 +189,8 @@ fn act(network: &mut Network, scenario: Scenario, sodium: Sodium) -> Result<Vec<
             settled.push(phases::attack(network, attacks(scenario), NODES, None)?);
         }
         Scenario::StolenKey => {
+            // What a node knows of a peer is told while they are connected.
+            network.wait(4 * COOLDOWN);
             let path = network.options.folder.join("key-0");
             let stolen = Identity::read(sodium, &path)?;
             let settle = phases::attack(network, attacks(scenario), 1, Some(&stolen))?;

@@ -18,6 +18,7 @@ mod scan;
 mod traffic;
 mod weather;
 
+use broken::Scenario;
 use std::env;
 use std::path::PathBuf;
 use std::process::ExitCode;
@@ -37,6 +38,7 @@ testnet: breaks a network of real nodes on purpose, and checks their promises
   --nodes COUNT       honest nodes of the long form                   [30]
   --load FACTOR       by which bounds on times are longer       [measured]
   --keep              keeps the files
+  --only NUMBER       of the broken runs this one alone, counted from 1
 ";
 
 /// What the flags say.
@@ -58,6 +60,8 @@ pub struct Flags {
     pub load: f64,
     /// Whether the files are kept.
     pub is_kept: bool,
+    /// The number of the broken run that is made alone.
+    pub only: Option<usize>,
 }
 
 /// What is run.
@@ -82,6 +86,7 @@ fn parse(words: &[String]) -> Result<Option<Flags>, String> {
         nodes: 30,
         load: bounds::measured_load(),
         is_kept: false,
+        only: None,
     };
     let mut words = words.iter();
     while let Some(word) = words.next() {
@@ -100,6 +105,7 @@ fn parse(words: &[String]) -> Result<Option<Flags>, String> {
             "--replay" => flags.replay = value()?.into(),
             "--folder" => flags.folder = value()?.into(),
             "--nodes" => flags.nodes = number(word, value()?)?,
+            "--only" => flags.only = Some(number(word, value()?)?),
             "--load" => flags.load = number(word, value()?)?,
             _ => return Err(format!("{word}: no such flag: see testnet --help")),
         }
@@ -115,6 +121,16 @@ fn number<T: std::str::FromStr>(word: &str, text: &str) -> Result<T, String> {
         .map_err(|_| format!("{word} {text}: not a number"))
 }
 
+/// The scenario of this number, or all of them.
+fn scenarios(only: Option<usize>) -> Result<&'static [Scenario], String> {
+    const ALL: &[Scenario] = &Scenario::ALL;
+    let Some(number) = only else { return Ok(ALL) };
+    let found = number
+        .checked_sub(1)
+        .and_then(|place| ALL.get(place..number));
+    found.ok_or_else(|| format!("--only {number}: from 1 to {}", ALL.len()))
+}
+
 fn run() -> Result<bool, String> {
     let words: Vec<String> = env::args().skip(1).collect();
     let Some(flags) = parse(&words)? else {
@@ -124,7 +140,7 @@ fn run() -> Result<bool, String> {
     let held = match flags.form {
         Form::Long => runs::long(&flags),
         Form::Short => runs::short(&flags),
-        Form::Broken => broken::all(&flags, &broken::Scenario::ALL),
+        Form::Broken => broken::all(&flags, scenarios(flags.only)?),
     };
     if flags.is_kept {
         println!("files: {}", flags.folder.display());

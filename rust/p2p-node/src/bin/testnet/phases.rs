@@ -216,7 +216,7 @@ fn replaced(network: &Network) -> Vec<Info> {
         let own = owner.and_then(|owner| owner.ledger()?.own());
         own.is_some_and(|(_, timestamp, _)| info.timestamp < *timestamp)
     };
-    infos.filter(is_old).take(8).collect()
+    infos.filter(is_old).collect()
 }
 
 /// Writes another set in each second, moves two nodes to other addresses, and leaves the last node

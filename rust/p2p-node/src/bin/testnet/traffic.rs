@@ -64,14 +64,14 @@ impl Connection {
 /// What a node was sent in one of its lives.
 #[derive(Clone, Debug, Default)]
 pub struct Received {
-    /// The latest timestamp of each key that was delivered.
+    /// The latest timestamp of each key that honest nodes sent.
     pub known: HashMap<Key, u64>,
     /// The frames with infos that honest nodes sent.
     pub honest: HashSet<Vec<u8>>,
     /// The frames that attackers sent.
     pub hostile: HashSet<Vec<u8>>,
-    /// The infos in those.
-    pub from_attackers: Vec<Info>,
+    /// The infos in those that are newer than what honest nodes had sent before.
+    pub newer: Vec<Info>,
 }
 
 /// All that the proxies of a network saw.
@@ -167,20 +167,26 @@ impl Traffic {
             return;
         }
         let received = self.received.entry(receiver).or_default();
-        for info in &infos {
-            let known = received.known.entry(info.public_key).or_default();
-            *known = info.timestamp.max(*known);
-        }
         if is_hostile {
-            received.from_attackers.extend(infos);
+            let known = &received.known;
+            let is_newer = |info: &Info| {
+                let known = known.get(&info.public_key);
+                known.is_none_or(|known| info.timestamp > *known)
+            };
+            let newer = infos.into_iter().filter(is_newer);
+            received.newer.extend(newer);
             received.hostile.insert(frame);
         } else {
+            for info in &infos {
+                let known = received.known.entry(info.public_key).or_default();
+                *known = info.timestamp.max(*known);
+            }
             self.shared.extend(infos.iter().map(Info::encode));
             received.honest.insert(frame);
         }
     }
 
-    /// The latest timestamp of a key that was delivered to a node in a life.
+    /// The latest timestamp of a key that honest nodes sent to a node in a life.
     pub fn known(&self, receiver: (Key, usize), key: &Key) -> Option<u64> {
         self.received.get(&receiver)?.known.get(key).copied()
     }
@@ -231,5 +237,18 @@ mod tests {
         let received = &traffic.received[&(key(2), 0)];
         assert!(received.hostile.contains([9, 9].as_slice()));
         assert!(traffic.shared.is_empty() && received.honest.is_empty());
+        // What an attacker repeats is not newer than what honest nodes sent.
+        let honest = traffic.begin(now(), key(1), (key(2), 0));
+        traffic.deliver(
+            honest,
+            Side::Dialer,
+            Payload::Peers(vec![info(5, 70)]).encode(),
+        );
+        let infos = vec![info(5, 60), info(5, 80), info(6, 10)];
+        traffic.deliver(place, Side::Dialer, Payload::Peers(infos).encode());
+        let received = &traffic.received[&(key(2), 0)];
+        let newer: Vec<u64> = received.newer.iter().map(|info| info.timestamp).collect();
+        assert_eq!(newer, [80, 10]);
+        assert_eq!(traffic.known((key(2), 0), &key(5)), Some(70));
     }
 }

@@ -9,7 +9,6 @@ mod truth;
 use crate::network::Network;
 use crate::phases::Settled;
 use knowledge::Evidence;
-use std::collections::BTreeSet;
 use std::fmt;
 
 /// A promise.
@@ -109,12 +108,6 @@ pub fn all(network: &Network, settled: &[Settled]) -> Result<Vec<Verdict>, Strin
     ];
     verdicts.extend(records::replay(network)?);
     Ok(verdicts)
-}
-
-/// The checks that failed.
-pub fn failed(verdicts: &[Verdict]) -> BTreeSet<Check> {
-    let failed = verdicts.iter().filter(|verdict| !verdict.faults.is_empty());
-    failed.map(|verdict| verdict.check).collect()
 }
 
 fn known(settled: &[Settled], evidence: Evidence) -> Verdict {

@@ -4,16 +4,17 @@ use super::connections::name;
 use super::{Check, Verdict};
 use crate::network::{Life, Member, Network, said};
 use crate::traffic::Received;
-use p2p_directory::record::{Answer, Argument, Call, Log};
+use p2p_directory::record::{Answer, Argument, Call, Log, ReplayError};
 use p2p_directory::{Info, KEY_SIZE, Key, Replay};
 use std::collections::HashSet;
 use std::fs;
 use std::process::Command;
 
 /// Calls about one peer, whose answers don't depend on others.
-const ABOUT_A_PEER: [&str; 9] = [
+const ABOUT_A_PEER: [&str; 10] = [
     "status",
     "info",
+    "reservation",
     "eligible",
     "acceptable",
     "dial",
@@ -26,8 +27,8 @@ const ABOUT_A_PEER: [&str; 9] = [
 /// The number of the call `info` in a log.
 const INFO: u8 = 20;
 
-/// How many bytes a log begins with, before its records.
-const HEADER: usize = 41;
+/// After so many calls it is asked again what is known of each honest peer.
+const ASKED_EACH: usize = 256;
 
 /// Room for the answer of `info`, in bytes.
 const ROOM: u64 = 1024;
@@ -111,13 +112,13 @@ impl Without {
         Verdict {
             check: Check::WithoutAttackers,
             evidence: format!(
-                "{compared} answers compared, {left_out} calls left out, {relayed} peers exempt since attackers relayed their infos"
+                "{compared} answers compared, {left_out} calls left out, {relayed} peers exempt since attackers told of them first"
             ),
             faults,
         }
     }
 
-    /// Makes the calls of a log without those with frames that attackers alone sent.
+    /// Makes the calls of a log, and next to them those without frames that attackers alone sent.
     fn judge(
         &mut self,
         network: &Network,
@@ -134,59 +135,64 @@ impl Without {
         self.relayed += relayed.len();
         let honest: HashSet<Key> = network.members.iter().map(|member| member.key).collect();
         let honest: HashSet<Key> = honest.difference(&relayed).copied().collect();
-        let mut replay = Replay::new().ok_or("no memory for a session")?;
-        let node = name(network, &member.key);
-        for call in log.calls() {
-            if call.answer.is_out_of_memory() {
-                continue;
-            }
-            if is_hostile(&call, &received) {
-                self.left_out += 1;
-                continue;
-            }
-            let now = replay.make(&call).map_err(|error| error.to_string())?;
-            if !is_compared(&call, &honest) {
-                continue;
-            }
-            self.compared += 1;
-            if !is_alike(&call, &now, &honest) {
-                self.faults.push(format!(
-                    "{node}, life {place}: {} is answered otherwise",
-                    call.name()
-                ));
-                return Ok(());
-            }
-        }
-        self.judge_end(&node, place, log, &mut replay, &honest)
-    }
-
-    /// Compares what is known of each honest peer in the end.
-    fn judge_end(
-        &mut self,
-        node: &str,
-        place: usize,
-        log: &Log,
-        replay: &mut Replay,
-        honest: &HashSet<Key>,
-    ) -> Result<(), String> {
-        let mut whole = Replay::new().ok_or("no memory for a session")?;
+        let said =
+            |error: &dyn std::fmt::Display| format!("{}: {error}", name(network, &member.key));
+        let asked = Log::read(questions(log, &honest)).map_err(|error| said(&error))?;
+        let asked: Vec<Call<'_>> = asked.calls().collect();
+        let session = || Replay::new().ok_or("no memory for a session");
+        let mut both = [session()?, session()?];
         for call in log.calls().filter(|call| !call.answer.is_out_of_memory()) {
-            whole.make(&call).map_err(|error| error.to_string())?;
-        }
-        let asked = Log::read(questions(log, honest)).map_err(|error| error.to_string())?;
-        for call in asked.calls() {
-            let answers = [whole.make(&call), replay.make(&call)];
-            self.compared += 1;
-            if call.name() != "info" || answers[0] != answers[1] {
-                self.faults
-                    .push(format!("{node}, life {place}: another info in the end"));
+            let differing = self.step(&mut both, &call, &received, &honest, &asked);
+            if let Some(what) = differing.map_err(|error| said(&error))? {
+                self.faults.push(said(&format_args!(
+                    "life {place}, record {}: {what}",
+                    call.place
+                )));
+                return Ok(());
             }
         }
         Ok(())
     }
+
+    /// Makes a call on the session with all calls, and on the one without attackers' frames.
+    /// Returns which answer about honest peers differs.
+    fn step(
+        &mut self,
+        both: &mut [Replay; 2],
+        call: &Call<'_>,
+        received: &Received,
+        honest: &HashSet<Key>,
+        asked: &[Call<'_>],
+    ) -> Result<Option<String>, ReplayError> {
+        let [whole, without] = both;
+        // An info is told while its peer is connected, so the end of a log would tell none.
+        if call.name() == "release" || call.place % ASKED_EACH == 0 {
+            for question in asked {
+                self.compared += 1;
+                if whole.make(question)? != without.make(question)? {
+                    return Ok(Some("another info is known".to_owned()));
+                }
+            }
+        }
+        let answer = whole.make(call)?;
+        if is_hostile(call, received) {
+            self.left_out += 1;
+            return Ok(None);
+        }
+        let now = without.make(call)?;
+        if !is_compared(call, honest) {
+            return Ok(None);
+        }
+        self.compared += 1;
+        let is_alike = match call.name() {
+            "dialable" => dialable(&answer, honest) == dialable(&now, honest),
+            _ => answer == now,
+        };
+        Ok((!is_alike).then(|| format!("{} is answered otherwise", call.name())))
+    }
 }
 
-/// The honest keys of which attackers sent this node infos that the owners wrote.
+/// The honest keys of which attackers sent this node infos that the owners wrote, before others did.
 fn relayed(network: &Network, received: &Received) -> HashSet<Key> {
     let lives = network.members.iter().flat_map(|member| &member.lives);
     let own: HashSet<_> = lives
@@ -194,7 +200,7 @@ fn relayed(network: &Network, received: &Received) -> HashSet<Key> {
         .collect();
     let is_own =
         |info: &&Info| own.contains(&(info.public_key, info.timestamp, info.ingress.to_string()));
-    let relayed = received.from_attackers.iter().filter(is_own);
+    let relayed = received.newer.iter().filter(is_own);
     relayed.map(|info| info.public_key).collect()
 }
 
@@ -218,14 +224,6 @@ fn is_compared(call: &Call<'_>, honest: &HashSet<Key>) -> bool {
     }
 }
 
-/// Whether two answers are the same, of lists as far as honest peers are in them.
-fn is_alike(call: &Call<'_>, now: &Answer, honest: &HashSet<Key>) -> bool {
-    match call.name() {
-        "dialable" => dialable(&call.answer, honest) == dialable(now, honest),
-        _ => call.answer == *now,
-    }
-}
-
 /// The honest peers among those that can be dialled: see `docs/C.md` for the form.
 fn dialable(answer: &Answer, honest: &HashSet<Key>) -> Vec<Key> {
     let keys = match answer.bytes.split_first() {
@@ -244,7 +242,6 @@ fn questions(log: &Log, keys: &HashSet<Key>) -> Vec<u8> {
     bytes.extend((header.key_size as u16).to_be_bytes());
     bytes.extend((header.signature_size as u16).to_be_bytes());
     bytes.extend(header.archive);
-    debug_assert_eq!(bytes.len(), HEADER);
     for key in keys {
         let mut record = vec![INFO];
         record.extend((KEY_SIZE as u32).to_be_bytes());
@@ -255,4 +252,58 @@ fn questions(log: &Log, keys: &HashSet<Key>) -> Vec<u8> {
         bytes.extend(record);
     }
     bytes
+}
+
+#[cfg(test)]
+mod tests {
+    use super::*;
+    use p2p_directory::record::Recorder;
+    use p2p_directory::{Node, testing};
+    use std::sync::{Arc, Mutex};
+
+    /// Bytes that a recorder writes, and a test reads.
+    #[derive(Clone, Default)]
+    struct Sink(Arc<Mutex<Vec<u8>>>);
+
+    impl std::io::Write for Sink {
+        fn write(&mut self, bytes: &[u8]) -> std::io::Result<usize> {
+            self.0.lock().unwrap().extend_from_slice(bytes);
+            Ok(bytes.len())
+        }
+
+        fn flush(&mut self) -> std::io::Result<()> {
+            Ok(())
+        }
+    }
+
+    #[test]
+    fn questions_ask_for_infos() {
+        let sink = Sink::default();
+        let recorder = Recorder::new(sink.clone(), 1 << 20);
+        drop(Node::new_recorded(&testing::setup(1), recorder).unwrap());
+        let log = Log::read(sink.0.lock().unwrap().clone()).unwrap();
+        let keys = HashSet::from([testing::key(2), testing::key(3)]);
+        let asked = Log::read(questions(&log, &keys)).unwrap();
+        let names: Vec<&str> = asked.calls().map(|call| call.name()).collect();
+        assert_eq!(names, ["info", "info"]);
+        let peers: HashSet<Key> = asked
+            .calls()
+            .filter_map(|call| match call.argument("peer") {
+                Some(Argument::Bytes(peer)) => Key::from_slice(peer),
+                _ => None,
+            })
+            .collect();
+        assert_eq!(peers, keys);
+    }
+
+    #[test]
+    fn a_list_of_dialable_peers_is_told_without_others() {
+        let keys = [testing::key(1), testing::key(2)];
+        let mut bytes = vec![1];
+        bytes.extend([0; 12]);
+        keys.iter().for_each(|key| bytes.extend(key.as_bytes()));
+        let honest = HashSet::from([keys[1]]);
+        let answer = Answer::new(bytes.len() as u64, bytes);
+        assert_eq!(dialable(&answer, &honest), [keys[1]]);
+    }
 }
