@@ -233,7 +233,7 @@ fn act(
                 &Payload::Peers(old.take(known.set.1).cloned().collect()),
             )
         }
-        Attack::Bits => send(stream, &question(known.set.0, known.set.1 + 1)),
+        Attack::Bits => send(stream, &question(known.set.0, known.set.1 - 1)),
         Attack::LongFrame => flood_frame(stream),
         Attack::Garbage => write_frame(&mut timed(stream)?, &[9, 9, 9]),
         Attack::Messages => flood_messages(stream),

@@ -2,7 +2,6 @@
 
 use crate::Flags;
 use crate::attack::Attack;
-use crate::bounds::COOLDOWN;
 use crate::checks::{self, Check, Verdict};
 use crate::network::{Network, Options, said};
 use crate::phases::{self, Settled};
@@ -184,13 +183,24 @@ fn act(network: &mut Network, scenario: Scenario, sodium: Sodium) -> Result<Vec<
             network.wait(Duration::from_secs(6));
         }
         Scenario::KeepsDropped => settled.push(phases::leave_out(network, &[NODES - 1])?),
-        Scenario::BlocksAtRandom => network.wait(Duration::from_secs(4)),
+        Scenario::BlocksAtRandom => {
+            let within = network.bounds.knowledge;
+            let is_blocking = |network: &Network| {
+                let ledger = network.members[BROKEN].ledger();
+                ledger.is_some_and(|ledger| ledger.of("block").next().is_some())
+            };
+            network.wait_for(within, is_blocking);
+        }
         Scenario::NoLimit | Scenario::Leaks => {
             settled.push(phases::attack(network, attacks(scenario), NODES, None)?);
         }
         Scenario::StolenKey => {
             // What a node knows of a peer is told while they are connected.
-            network.wait(4 * COOLDOWN);
+            let (within, owner) = (network.bounds.knowledge, network.members[0].key);
+            network.wait_for(within, |network| {
+                let ledger = network.members[1].ledger();
+                ledger.is_some_and(|ledger| ledger.is_connected(&owner))
+            });
             let path = network.options.folder.join("key-0");
             let stolen = Identity::read(sodium, &path)?;
             let settle = phases::attack(network, attacks(scenario), 1, Some(&stolen))?;

@@ -112,6 +112,15 @@ impl Ledger {
         events.find(|event| event.name == "started")?.info.as_ref()
     }
 
+    /// Whether a connection of this peer has begun, and hasn't ended.
+    pub fn is_connected(&self, peer: &Key) -> bool {
+        let of_peer = |name| {
+            let events = self.of(name);
+            events.filter(|event| event.peer == Some(*peer)).count()
+        };
+        of_peer("connected") > of_peer("disconnected")
+    }
+
     /// The events of a name.
     pub fn of<'l>(&'l self, name: &'l str) -> impl Iterator<Item = &'l Event> {
         self.events.iter().filter(move |event| event.name == name)
@@ -157,5 +166,11 @@ mod tests {
         assert_eq!(ledger.events[2].peer, Some(two));
         assert_eq!(ledger.events[2].reason, "a reason");
         assert_eq!(ledger.strange, 0);
+        assert!(!ledger.is_connected(&two));
+        ledger.events.push(Event {
+            name: "connected".to_owned(),
+            ..ledger.events[1].clone()
+        });
+        assert!(ledger.is_connected(&two) && !ledger.is_connected(&one));
     }
 }

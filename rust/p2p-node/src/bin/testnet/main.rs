@@ -111,8 +111,8 @@ fn parse(words: &[String]) -> Result<Option<Flags>, String> {
         }
     }
     match flags.nodes {
-        4..=200 if flags.load > 0.0 && flags.load.is_finite() => Ok(Some(flags)),
-        _ => Err("--nodes: from 4 to 200; --load: more than 0".to_owned()),
+        6..=200 if flags.load > 0.0 && flags.load.is_finite() => Ok(Some(flags)),
+        _ => Err("--nodes: from 6 to 200; --load: more than 0".to_owned()),
     }
 }
 

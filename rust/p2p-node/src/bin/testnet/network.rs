@@ -8,11 +8,12 @@ use crate::proxy::{Proxies, Proxy};
 use crate::traffic::Traffic;
 use p2p_directory::Key;
 use p2p_node::identity::Identity;
-use p2p_node::sodium::Sodium;
+use p2p_node::sodium::{Sodium, stop_on_signals};
 use std::fmt::Display;
 use std::fs;
 use std::path::PathBuf;
 use std::sync::Arc;
+use std::sync::atomic::{AtomicBool, Ordering};
 use std::thread;
 use std::time::{Duration, Instant};
 
@@ -103,6 +104,7 @@ pub struct Network {
     pub deaths: Vec<String>,
     // Each proxy that was started.
     started: Vec<Arc<Proxy>>,
+    stop: &'static AtomicBool,
 }
 
 /// Says what went wrong with a file.
@@ -149,6 +151,7 @@ impl Network {
             attackers,
             sets: Vec::new(),
             deaths: Vec::new(),
+            stop: stop_on_signals().map_err(|error| format!("signals: {error}"))?,
             options,
         };
         network.write_set(&[])?;
@@ -274,8 +277,15 @@ impl Network {
         Ok(())
     }
 
-    /// Reads what the ledgers have new, and looks at memory and whether all nodes run.
+    /// Reads what the ledgers have new, and looks at memory and whether all nodes run. A signal ends
+    /// the nodes and this program.
     pub fn poll(&mut self) {
+        if self.stop.load(Ordering::Relaxed) {
+            self.members
+                .iter_mut()
+                .for_each(|member| member.process = None);
+            std::process::exit(1);
+        }
         for (number, member) in self.members.iter_mut().enumerate() {
             let Some(life) = member.lives.last_mut() else {
                 continue;

@@ -2,6 +2,7 @@
 
 use crate::attack::{Attack, Knowledge, make};
 use crate::checks::knowledge::{self, Missing};
+use crate::ledger::Ledger;
 use crate::network::Network;
 use crate::weather::Weather;
 use p2p_directory::{Info, Key};
@@ -123,19 +124,31 @@ pub fn part(network: &mut Network, time: Duration, joins: bool) -> Result<Settle
     Ok(settle(network, "(c) halves"))
 }
 
-/// Makes connections slow, half-open, refused, and cut at each byte.
-pub fn disturb(network: &mut Network, time: Duration) -> Settled {
-    for weather in [Weather::Rough, Weather::Cuts] {
+/// Makes connections slow, half-open, refused, and cut at each byte. Meanwhile every fifth node is
+/// started anew, so that there are newer infos.
+///
+/// # Errors
+///
+/// Says which node doesn't start.
+pub fn disturb(network: &mut Network, time: Duration) -> Result<Settled, String> {
+    for (step, weather) in [Weather::Rough, Weather::Cuts].into_iter().enumerate() {
         network.proxies.set_weather(weather);
         let keys: Vec<Key> = network.members.iter().map(|member| member.key).collect();
         // What is connected has no faults, so it is made to connect anew.
         keys.iter().for_each(|key| network.proxies.disconnect(key));
-        network.wait(time);
+        network.wait(time.mul_f64(0.8));
+        for number in (step..keys.len()).step_by(5) {
+            network.kill(number);
+            network.start(number, None)?;
+        }
+        network.wait(time.mul_f64(0.2));
+        let missing = knowledge::missing(network).len();
+        println!("    {missing} infos are missing under these faults");
     }
     network.proxies.set_weather(Weather::Clear);
     let faults = network.proxies.faults();
     println!("    {faults} connections were refused, slowed, held or cut");
-    settle(network, "(d) bad connections")
+    Ok(settle(network, "(d) bad connections"))
 }
 
 /// Makes these attacks, each by an attacker of its own.
@@ -188,6 +201,10 @@ pub fn attack(
         }
     });
     network.attackers = attackers;
+    // Attackers have told infos of all kinds: a newer one has to arrive all the same.
+    let last = network.members.len() - 1;
+    network.kill(last);
+    network.start(last, None)?;
     report(attacks, &made, targets)?;
     Ok(settle(network, "(e) attackers"))
 }
@@ -258,50 +275,46 @@ pub fn leave_out(network: &mut Network, out: &[usize]) -> Result<Settled, String
     Ok(settled)
 }
 
-/// Starts two nodes anew with less memory than they had, lets them go on or end, and then starts
-/// them anew as before.
+/// How much virtual memory a node gets, in KiB: one has room for threads of a few peers, and the
+/// other can't even start.
+const LITTLE: [(usize, u64); 2] = [(1, 16_000), (4, 6000)];
+
+/// Starts two nodes anew with little memory, lets them go on or end, and then starts them anew as
+/// before.
 ///
 /// # Errors
 ///
 /// Says which node doesn't start.
 pub fn starve(network: &mut Network, time: Duration) -> Result<Settled, String> {
-    // The second gets so little that it may not even start.
-    let starved = [(1, 60), (4, 30)];
-    let starved = starved
-        .into_iter()
-        .filter(|(number, _)| *number < network.members.len());
-    let starved: Vec<(usize, u64)> = starved.collect();
-    network.poll();
-    for (number, percent) in &starved {
-        let memory = network.members[*number]
-            .lives
-            .last()
-            .and_then(|life| life.memory);
-        let requested = memory.map_or(100 << 10, |memory| memory.requested);
-        network.kill(*number);
-        let limit = requested * percent / 100;
-        let listens = network.start(*number, Some(limit))?;
-        println!("    node {number} gets {limit} of {requested} KiB, and listens: {listens}");
+    for (number, limit) in LITTLE {
+        network.kill(number);
+        let listens = network.start(number, Some(limit))?;
+        let word = if listens { "starts" } else { "can't start" };
+        println!("    node {number} gets {limit} KiB, and {word}");
     }
     network.wait(time);
-    for (number, _) in &starved {
-        let member = &network.members[*number];
-        let refusals = member.ledger().map_or(0, |ledger| {
-            let reasons = ledger.events.iter().map(|event| event.reason.as_str());
-            let of_memory =
-                |reason: &str| reason.contains("memory") || reason.contains("temporarily");
-            reasons.filter(|reason| of_memory(reason)).count()
-        });
-        let ended = if member.process.is_some() {
+    for (number, _) in LITTLE {
+        let Some(member) = network.members.get(number) else {
+            continue;
+        };
+        let (connected, refused) = member.ledger().map_or((0, 0), connections);
+        let word = if member.process.is_some() {
             "goes on"
         } else {
             "has ended"
         };
         println!(
-            "    node {number} {ended}, and left out {refusals} connections for want of memory"
+            "    node {number} {word}: {connected} peers are connected, {refused} grants led to nothing"
         );
-        network.kill(*number);
-        network.start(*number, None)?;
+        network.kill(number);
+        network.start(number, None)?;
     }
     Ok(settle(network, "(g) memory"))
+}
+
+/// How many connections a ledger says are open, and how many grants led to none.
+fn connections(ledger: &Ledger) -> (usize, usize) {
+    let count = |name| ledger.of(name).count();
+    let open = count("connected").saturating_sub(count("disconnected"));
+    (open, count("not_connected"))
 }

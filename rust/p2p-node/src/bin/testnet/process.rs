@@ -72,25 +72,22 @@ impl Start {
         flags.extend(self.broken.iter().map(|rule| ("break", rule.clone())));
         let words = flags.into_iter();
         let words = words.flat_map(|(name, value)| [format!("--{name}"), value]);
-        [path(&self.program), "run".to_owned()]
-            .into_iter()
-            .chain(words)
-            .collect()
+        ["run".to_owned()].into_iter().chain(words).collect()
     }
 
     fn command(&self) -> Command {
         let words = self.words();
+        let Some(kibibytes) = self.memory else {
+            let mut command = Command::new(&self.program);
+            command.args(words);
+            return command;
+        };
+        let script = format!("ulimit -v {kibibytes}; exec \"$@\"");
         let mut command = Command::new("sh");
-        match self.memory {
-            Some(kibibytes) => {
-                let script = format!("ulimit -v {kibibytes}; exec \"$@\"");
-                command.args(["-c", &script, "sh"]);
-            }
-            None => {
-                command.args(["-c", "exec \"$@\"", "sh"]);
-            }
-        }
-        command.args(words);
+        command
+            .args(["-c", &script, "sh"])
+            .arg(&self.program)
+            .args(words);
         command
     }
 
@@ -178,7 +175,6 @@ impl Process {
         Some(Memory {
             resident: member("VmRSS:")?,
             highest: member("VmHWM:")?,
-            requested: member("VmSize:")?,
         })
     }
 }
@@ -196,6 +192,4 @@ pub struct Memory {
     pub resident: u64,
     /// The most that it had: VmHWM.
     pub highest: u64,
-    /// The memory that it has requested: VmSize.
-    pub requested: u64,
 }

@@ -44,7 +44,7 @@ pub fn long(flags: &Flags) -> Result<bool, String> {
     let lengths = Lengths::of(Form::Long);
     let mut network = network(flags, flags.nodes, Attack::ALL.len())?;
     let mut settled = common(&mut network, &lengths)?;
-    settled.push(phases::disturb(&mut network, lengths.rough));
+    settled.push(phases::disturb(&mut network, lengths.rough)?);
     settled.push(phases::attack(
         &mut network,
         &Attack::ALL,

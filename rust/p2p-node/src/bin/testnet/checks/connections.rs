@@ -10,8 +10,8 @@ use std::collections::HashMap;
 use std::time::Duration;
 
 /// A line of a ledger has the time before the directory is asked, which may be earlier than the
-/// time of the grant by so much.
-const SLACK: Duration = Duration::from_millis(100);
+/// time of the grant by so much if the machine is loaded.
+const SLACK: Duration = Duration::from_millis(250);
 
 /// By their ledgers, nodes grant no peer a connection within the cooldown of the last grant.
 pub fn cooldown_by_ledgers(network: &Network) -> Verdict {
