@@ -88,14 +88,14 @@ impl fmt::Display for Bounds {
     }
 }
 
-/// By how much times are multiplied on this machine now: at least 2, and twice the processes that
+/// By how much times are multiplied on this machine now: at least 4, and twice the processes that
 /// want each processor.
 pub fn measured_load() -> f64 {
     let text = fs::read_to_string("/proc/loadavg").unwrap_or_default();
     let average = text.split(' ').next().and_then(|word| word.parse().ok());
     let average: f64 = average.unwrap_or(0.0);
     let processors = std::thread::available_parallelism().map_or(1, usize::from);
-    (2.0 * (1.0 + average) / processors as f64).clamp(2.0, 10.0)
+    (2.0 * (1.0 + average) / processors as f64).clamp(4.0, 10.0)
 }
 
 #[cfg(test)]
@@ -109,6 +109,6 @@ mod tests {
         assert_eq!(bounds.knowledge, Duration::from_millis(62_800));
         assert_eq!(bounds.dropped, Duration::from_secs(2));
         assert_eq!(bounds.memory, 59_904);
-        assert!(measured_load() >= 2.0);
+        assert!(measured_load() >= 4.0);
     }
 }

@@ -215,13 +215,11 @@ fn act(network: &mut Network, scenario: Scenario, sodium: Sodium) -> Result<Vec<
     Ok(settled)
 }
 
-/// Changes the answer of the last call in a log.
+/// Changes the answer of the last call in the log of the first node.
 fn damage(network: &Network) -> Result<(), String> {
-    let lives = network
-        .members
-        .iter()
-        .filter_map(|member| member.lives.last());
-    let life = lives.last().ok_or("no node has a log")?;
+    let first = network.members.first();
+    let life = first.and_then(|member| member.lives.last());
+    let life = life.ok_or("no node has a log")?;
     let mut bytes = fs::read(&life.record).map_err(|error| said(&life.record, &error))?;
     let last = bytes.last_mut().ok_or("a log is empty")?;
     *last ^= 1;

@@ -228,18 +228,19 @@ impl Network {
     /// Says why it doesn't, unless its memory is bounded.
     pub fn start(&mut self, number: usize, memory: Option<u64>) -> Result<bool, String> {
         let start = self.start_of(number, memory).ok_or("no such node")?;
-        let process = start.spawn();
-        let mut process = process.map_err(|error| said(&start.program, &error))?;
         let within = self.bounds.start;
         let member = self.members.get_mut(number).ok_or("no such node")?;
         let life = member.lives.len();
+        // The node may dial others before this thread runs again.
+        self.proxies.traffic().begin_life(member.key, life);
+        let process = start.spawn();
+        let mut process = process.map_err(|error| said(&start.program, &error))?;
         member.lives.push(Life {
             ledger: Ledger::new(start.ledger),
             record: start.record,
             memory: None,
             is_limited: memory.is_some(),
         });
-        self.proxies.traffic().begin_life(member.key, life);
         match process.address(within) {
             Ok(address) => {
                 member.proxy.lead_to(Some((address, life)));
@@ -262,6 +263,8 @@ impl Network {
             process.kill();
         }
         self.proxies.disconnect(&member.key);
+        // A proxy may not have looked yet at what the node dialled last, which is of this life.
+        thread::sleep(POLL);
     }
 
     /// Lets a node that doesn't run announce another address from its next start on.

@@ -166,7 +166,7 @@ impl Without {
     ) -> Result<Option<String>, ReplayError> {
         let [whole, without] = both;
         // An info is told while its peer is connected, so the end of a log would tell none.
-        if call.name() == "release" || call.place % ASKED_EACH == 0 {
+        if call.name() == "release" || call.place.is_multiple_of(ASKED_EACH) {
             for question in asked {
                 self.compared += 1;
                 if whole.make(question)? != without.make(question)? {
