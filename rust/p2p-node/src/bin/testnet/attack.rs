@@ -64,13 +64,15 @@ pub enum Attack {
     Garbage,
     /// It sends many messages of a MiB.
     Messages,
+    /// It leaves, and comes back at once, again and again.
+    Return,
     /// It sends an info of an honest key, whose secret it has.
     StolenKey,
 }
 
 impl Attack {
     /// What attackers do that have no secret but their own.
-    pub const ALL: [Attack; 12] = [
+    pub const ALL: [Attack; 13] = [
         Attack::Signature,
         Attack::OtherGreeting,
         Attack::SecondGreeting,
@@ -83,6 +85,7 @@ impl Attack {
         Attack::LongFrame,
         Attack::Garbage,
         Attack::Messages,
+        Attack::Return,
     ];
 }
 
@@ -101,6 +104,7 @@ impl fmt::Display for Attack {
             Attack::LongFrame => "long frame",
             Attack::Garbage => "no payload",
             Attack::Messages => "flood of messages",
+            Attack::Return => "comes back at once",
             Attack::StolenKey => "stolen key",
         })
     }
@@ -189,6 +193,9 @@ pub fn make(
     if attack == Attack::Streams {
         return flood_streams(known);
     }
+    if attack == Attack::Return {
+        return come_back(identity, known, within);
+    }
     let stream = dial(identity, known, within)?;
     // From here on the target may end the connection at any byte.
     let _ = act(attack, identity, known, &stream);
@@ -244,7 +251,7 @@ fn act(
             }
             None => Ok(()),
         },
-        Attack::OtherGreeting | Attack::Streams => Ok(()),
+        Attack::OtherGreeting | Attack::Streams | Attack::Return => Ok(()),
     }
 }
 
@@ -262,6 +269,14 @@ fn ask(stream: &TcpStream, known: &Knowledge<'_>) -> io::Result<()> {
         thread::sleep(Duration::from_millis(2));
     }
     listen(stream, PATIENCE)
+}
+
+/// Dials until the node has granted three connections. It doesn't greet, so the node doesn't dial.
+fn come_back(identity: &Identity, known: &Knowledge<'_>, within: Duration) -> io::Result<()> {
+    for _ in 0..3 {
+        drop(dial(identity, known, within)?);
+    }
+    Ok(())
 }
 
 fn flood_streams(known: &Knowledge<'_>) -> io::Result<()> {

@@ -5,7 +5,6 @@ use crate::attack::Attack;
 use crate::checks::{self, Check, Verdict};
 use crate::network::{Network, Options, said};
 use crate::phases::{self, Settled};
-use crate::weather::Weather;
 use p2p_node::identity::Identity;
 use p2p_node::sodium::Sodium;
 use std::fmt;
@@ -167,6 +166,7 @@ fn attacks(scenario: Scenario) -> &'static [Attack] {
     match scenario {
         Scenario::NoLimit => &[Attack::Questions, Attack::LongFrame],
         Scenario::Leaks => &[Attack::Messages],
+        Scenario::GrantsEarly => &[Attack::Return],
         Scenario::StolenKey => &[Attack::StolenKey],
         _ => &[],
     }
@@ -177,10 +177,12 @@ fn act(network: &mut Network, scenario: Scenario, sodium: Sodium) -> Result<Vec<
     let mut settled = vec![phases::start(network)?];
     match scenario {
         Scenario::GrantsEarly => {
-            network.proxies.set_weather(Weather::Rough);
             let key = network.members[BROKEN].key;
-            network.proxies.disconnect(&key);
-            network.wait(Duration::from_secs(6));
+            for _ in 0..10 {
+                network.proxies.disconnect(&key);
+                network.wait(Duration::from_millis(500));
+            }
+            settled.push(phases::attack(network, attacks(scenario), NODES, None)?);
         }
         Scenario::KeepsDropped => settled.push(phases::leave_out(network, &[NODES - 1])?),
         Scenario::BlocksAtRandom => {

@@ -275,9 +275,9 @@ pub fn leave_out(network: &mut Network, out: &[usize]) -> Result<Settled, String
     Ok(settled)
 }
 
-/// How much virtual memory a node gets, in KiB: one has room for threads of a few peers, and the
-/// other can't even start.
-const LITTLE: [(usize, u64); 2] = [(1, 16_000), (4, 6000)];
+/// How much virtual memory a node gets, in KiB: one has room for the threads of some peers, and the
+/// other for hardly more than its start.
+const LITTLE: [(usize, u64); 2] = [(1, 24_000), (4, 10_000)];
 
 /// Starts two nodes anew with little memory, lets them go on or end, and then starts them anew as
 /// before.

@@ -39,47 +39,81 @@ pub fn cooldown_by_ledgers(network: &Network) -> Verdict {
     }
 }
 
-/// By what the proxies saw, no node grants a peer two connections within the cooldown. A listener
-/// grants one after the handshake has come, and before it sends its first frame; so two are surely
-/// too close if they are by the earliest time of the one and the latest of the other. A dialer
-/// grants one before it connects, and how long before isn't seen: a quarter of the cooldown counts
-/// as too close.
+/// So many dials in a row have to take half of what their cooldowns take.
+const DIALS: usize = 11;
+
+/// A node and a life of it, for each end of a connection.
+type Ends = [(Key, usize); 2];
+
+/// By what the proxies saw, no node grants a peer two connections within the cooldown.
+///
+/// A listener grants one after the handshake was delivered, and before its first frame arrives at
+/// the proxy. If two connections have less than the cooldown from the earlier handshake to the later
+/// first frame, both grants are in it, however slow the proxy was.
+///
+/// A dialer grants one before it connects, and the proxy may see that late. So a row of dials is
+/// looked at, and half of the time is left for the machine.
 pub fn cooldown_by_frames(network: &Network) -> Verdict {
     let traffic = network.proxies.traffic();
-    let mut faults = Vec::new();
-    let mut listened: HashMap<[(Key, usize); 2], Duration> = HashMap::new();
-    let mut dialled: HashMap<[(Key, usize); 2], Duration> = HashMap::new();
-    let mut count = 0;
+    let mut listened: HashMap<Ends, Vec<(Duration, Duration)>> = HashMap::new();
+    let mut dialled: HashMap<Ends, Vec<Duration>> = HashMap::new();
     for connection in &traffic.connections {
         let ends = connection.ends(Side::Dialer);
-        let first = connection.from_listener.first;
-        if let (Some(signed), Some(first)) = (connection.from_dialer.signed, first) {
-            count += 1;
-            let before = listened.insert(ends, signed);
-            let passed = before.map(|before| first.saturating_sub(before));
-            if let Some(passed) = passed.filter(|passed| *passed < COOLDOWN) {
-                let [dialer, listener] = ends.map(|(key, _)| name(network, &key));
-                faults.push(format!("{listener} granted {dialer} twice in {passed:?}"));
-            }
+        let span = (
+            connection.from_dialer.signed,
+            connection.from_listener.first,
+        );
+        if let (Some(signed), Some(first)) = span {
+            listened.entry(ends).or_default().push((signed, first));
         }
-        if !is_honest(network, &connection.dialer.0) {
-            continue;
-        }
-        let before = dialled.insert(ends, connection.begun);
-        let passed = before.map(|before| connection.begun.saturating_sub(before));
-        if let Some(passed) = passed.filter(|passed| *passed < COOLDOWN / 4) {
-            let [dialer, listener] = ends.map(|(key, _)| name(network, &key));
-            faults.push(format!("{dialer} dialled {listener} twice in {passed:?}"));
+        if is_honest(network, &connection.dialer.0) {
+            dialled.entry(ends).or_default().push(connection.begun);
         }
     }
+    let named = |ends: &Ends| ends.map(|(key, _)| name(network, &key));
+    let mut faults = Vec::new();
+    for (ends, spans) in &mut listened {
+        if let Some(passed) = shortest_span(spans).filter(|passed| *passed < COOLDOWN) {
+            let [dialer, listener] = named(ends);
+            faults.push(format!("{listener} granted {dialer} twice in {passed:?}"));
+        }
+    }
+    let shortest = COOLDOWN * (DIALS as u32 - 1) / 2;
+    for (ends, times) in &mut dialled {
+        if let Some(passed) = shortest_row(times).filter(|passed| *passed < shortest) {
+            let [dialer, listener] = named(ends);
+            faults.push(format!(
+                "{dialer} dialled {listener} {DIALS} times in {passed:?}"
+            ));
+        }
+    }
+    let granted: usize = listened.values().map(Vec::len).sum();
+    let all = traffic.connections.len();
     Verdict {
         check: Check::CooldownByFrames,
-        evidence: format!(
-            "{count} of {} connections were granted",
-            traffic.connections.len()
-        ),
+        evidence: format!("{granted} of {all} connections were granted"),
         faults,
     }
+}
+
+/// The shortest time that has the handshakes and the first frames of two connections.
+fn shortest_span(spans: &mut [(Duration, Duration)]) -> Option<Duration> {
+    spans.sort_unstable();
+    let pairs = spans.windows(2).filter_map(|pair| match pair {
+        [(signed, first), (_, later)] => Some((*first.max(later)).saturating_sub(*signed)),
+        _ => None,
+    });
+    pairs.min()
+}
+
+/// The shortest time in which so many dials were made, if there are so many.
+fn shortest_row(times: &mut [Duration]) -> Option<Duration> {
+    times.sort_unstable();
+    let rows = times.windows(DIALS).filter_map(|row| match row {
+        [first, .., last] => Some(last.saturating_sub(*first)),
+        _ => None,
+    });
+    rows.min()
 }
 
 fn is_honest(network: &Network, key: &Key) -> bool {
@@ -184,6 +218,30 @@ fn bound_on_lists(connection: &Connection) -> Option<u64> {
 mod tests {
     use super::*;
     use p2p_directory::testing::key;
+
+    #[test]
+    fn two_grants_are_within_the_span_of_their_connections() {
+        let at = Duration::from_millis;
+        let mut spans = [
+            (at(5000), at(5010)),
+            (at(1000), at(1020)),
+            (at(1500), at(1600)),
+        ];
+        assert_eq!(shortest_span(&mut spans), Some(at(600)));
+        // The first one may have been granted late.
+        let mut spans = [(at(1000), at(4000)), (at(3500), at(3600))];
+        assert_eq!(shortest_span(&mut spans), Some(at(3000)));
+        assert_eq!(shortest_span(&mut spans[..1]), None);
+    }
+
+    #[test]
+    fn a_row_of_dials_is_as_long_as_its_shortest_part() {
+        let seconds = Duration::from_secs;
+        let mut times: Vec<Duration> = (0..20).map(|number| seconds(number * number)).collect();
+        times.reverse();
+        assert_eq!(shortest_row(&mut times), Some(seconds(100)));
+        assert_eq!(shortest_row(&mut times[..DIALS - 1]), None);
+    }
 
     #[test]
     fn peers_are_together_until_the_bound_after_a_set_without_one() {
