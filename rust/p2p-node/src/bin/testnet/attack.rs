@@ -32,6 +32,9 @@ const MESSAGES: usize = 64;
 /// The length that a long frame announces, in bytes.
 const LONG: u32 = 128 << 20;
 
+/// How far ahead an info of the future is, in milliseconds.
+const HOUR: u64 = 3_600_000;
+
 /// No frame that an attacker reads is longer.
 const READ: u32 = 4 << 20;
 
@@ -117,7 +120,7 @@ pub struct Knowledge<'k> {
     pub sodium: Sodium,
     /// Whom it attacks, and where.
     pub target: (Key, SocketAddr),
-    /// Another honest node: its key, and its secret if that was stolen.
+    /// The key of another honest node, or of the one whose keys were stolen, and then those.
     pub other: (Key, Option<&'k Identity>),
     /// The index of the latest set, and its number of peers.
     pub set: (u64, usize),
@@ -208,51 +211,59 @@ fn act(
     known: &Knowledge<'_>,
     stream: &TcpStream,
 ) -> io::Result<()> {
-    let (own, now) = (identity.public_key(), milliseconds());
-    let greeting = Payload::Greeting(signed(identity, own, now));
-    if attack == Attack::OtherGreeting {
-        let another = Identity::from_seed(known.sodium, &known.sodium.bytes());
-        let info = signed(&another, another.public_key(), now);
-        return send(stream, &Payload::Greeting(info));
-    }
-    send(stream, &greeting)?;
-    let (other, stolen) = known.other;
+    let another;
+    let greeter = match attack {
+        Attack::OtherGreeting => {
+            another = Identity::from_seed(known.sodium, &known.sodium.bytes());
+            &another
+        }
+        _ => identity,
+    };
+    let info = signed(greeter, greeter.public_key(), milliseconds());
+    send(stream, &Payload::Greeting(info.clone()))?;
     match attack {
-        Attack::Signature => {
-            let forged = signed(identity, other, now);
-            send(stream, &Payload::Peers(vec![forged]))
-        }
-        Attack::SecondGreeting => send(stream, &greeting),
-        Attack::LongList => {
-            let info = signed(identity, own, now);
-            send(stream, &Payload::Peers(vec![info; known.set.1 + 1]))
-        }
         Attack::Questions => ask(stream, known),
-        Attack::Future => {
-            let future = signed(identity, own, now + 3_600_000);
-            send(stream, &Payload::Peers(vec![future]))
-        }
-        Attack::Replay => {
-            let old = known.old.iter();
-            let old = old.filter(|info| info.public_key != known.target.0);
-            send(
-                stream,
-                &Payload::Peers(old.take(known.set.1).cloned().collect()),
-            )
-        }
-        Attack::Bits => send(stream, &question(known.set.0, known.set.1 - 1)),
         Attack::LongFrame => flood_frame(stream),
         Attack::Garbage => write_frame(&mut timed(stream)?, &[9, 9, 9]),
         Attack::Messages => flood_messages(stream),
-        Attack::StolenKey => match stolen {
-            Some(stolen) => {
-                let info = signed(stolen, stolen.public_key(), now);
-                send(stream, &Payload::Peers(vec![info]))
-            }
+        _ => match wrong_payload(attack, identity, known, info) {
+            Some(payload) => send(stream, &payload),
             None => Ok(()),
         },
-        Attack::OtherGreeting | Attack::Streams | Attack::Return => Ok(()),
     }
+}
+
+/// What an attacker sends after its greeting with this info, if that is one payload.
+fn wrong_payload(
+    attack: Attack,
+    identity: &Identity,
+    known: &Knowledge<'_>,
+    own: Info,
+) -> Option<Payload> {
+    let now = milliseconds();
+    let (index, count) = known.set;
+    let (other, stolen) = known.other;
+    let infos = match attack {
+        Attack::SecondGreeting => return Some(Payload::Greeting(own)),
+        Attack::Bits => return Some(question(index, count.saturating_sub(1))),
+        Attack::Signature => vec![signed(identity, other, now)],
+        Attack::LongList => vec![own; count + 1],
+        Attack::Future => vec![signed(identity, own.public_key, now + HOUR)],
+        Attack::Replay => {
+            let old = known.old.iter();
+            let old = old.filter(|info| info.public_key != known.target.0);
+            old.take(count).cloned().collect()
+        }
+        Attack::StolenKey => vec![signed(stolen?, other, now)],
+        Attack::OtherGreeting
+        | Attack::Questions
+        | Attack::LongFrame
+        | Attack::Garbage
+        | Attack::Messages
+        | Attack::Streams
+        | Attack::Return => return None,
+    };
+    Some(Payload::Peers(infos))
 }
 
 fn question(index: u64, count: usize) -> Payload {

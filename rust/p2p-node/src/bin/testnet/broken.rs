@@ -3,6 +3,7 @@
 use crate::Flags;
 use crate::attack::Attack;
 use crate::checks::{self, Check, Verdict};
+use crate::ledger::Ledger;
 use crate::network::{Network, Options, said};
 use crate::phases::{self, Settled};
 use p2p_node::identity::Identity;
@@ -174,47 +175,45 @@ fn attacks(scenario: Scenario) -> &'static [Attack] {
 
 /// What happens in a scenario after all nodes have started.
 fn act(network: &mut Network, scenario: Scenario, sodium: Sodium) -> Result<Vec<Settled>, String> {
-    let mut settled = vec![phases::start(network)?];
-    match scenario {
+    let first = phases::start(network)?;
+    let attacks = attacks(scenario);
+    let second = match scenario {
         Scenario::GrantsEarly => {
             let key = network.members[BROKEN].key;
             for _ in 0..10 {
                 network.proxies.disconnect(&key);
                 network.wait(Duration::from_millis(500));
             }
-            settled.push(phases::attack(network, attacks(scenario), NODES, None)?);
+            phases::attack(network, attacks, NODES, None)?
         }
-        Scenario::KeepsDropped => settled.push(phases::leave_out(network, &[NODES - 1])?),
-        Scenario::BlocksAtRandom => {
-            let within = network.bounds.knowledge;
-            let is_blocking = |network: &Network| {
-                let ledger = network.members[BROKEN].ledger();
-                ledger.is_some_and(|ledger| ledger.of("block").next().is_some())
-            };
-            network.wait_for(within, is_blocking);
-        }
-        Scenario::NoLimit | Scenario::Leaks => {
-            settled.push(phases::attack(network, attacks(scenario), NODES, None)?);
-        }
+        Scenario::KeepsDropped => phases::leave_out(network, &[NODES - 1])?,
+        Scenario::NoLimit | Scenario::Leaks => phases::attack(network, attacks, NODES, None)?,
         Scenario::StolenKey => {
             // What a node knows of a peer is told while they are connected.
-            let (within, owner) = (network.bounds.knowledge, network.members[0].key);
-            network.wait_for(within, |network| {
-                let ledger = network.members[1].ledger();
-                ledger.is_some_and(|ledger| ledger.is_connected(&owner))
+            let owner = network.members[0].key;
+            wait_for(network, 1, |ledger| ledger.is_connected(&owner));
+            let stolen = Identity::read(sodium, &network.options.folder.join("key-0"))?;
+            phases::attack(network, attacks, 1, Some(&stolen))?
+        }
+        Scenario::NeverJoined => phases::part(network, Duration::from_secs(1), false)?,
+        Scenario::NeverRestarted => phases::restart(network, false)?,
+        Scenario::BlocksAtRandom => {
+            wait_for(network, BROKEN, |ledger| {
+                ledger.of("block").next().is_some()
             });
-            let path = network.options.folder.join("key-0");
-            let stolen = Identity::read(sodium, &path)?;
-            let settle = phases::attack(network, attacks(scenario), 1, Some(&stolen))?;
-            settled.push(settle);
+            return Ok(vec![first]);
         }
-        Scenario::NeverJoined => {
-            settled.push(phases::part(network, Duration::from_secs(1), false)?)
-        }
-        Scenario::NeverRestarted => settled.push(phases::restart(network, false)?),
-        Scenario::NoRepair | Scenario::DamagedLog => {}
-    }
-    Ok(settled)
+        Scenario::NoRepair | Scenario::DamagedLog => return Ok(vec![first]),
+    };
+    Ok(vec![first, second])
+}
+
+/// Waits until something holds of the ledger of a node, at most for the bound on knowledge.
+fn wait_for(network: &mut Network, number: usize, holds: impl Fn(&Ledger) -> bool) {
+    let within = network.bounds.knowledge;
+    network.wait_for(within, |network| {
+        network.members[number].ledger().is_some_and(&holds)
+    });
 }
 
 /// Changes the answer of the last call in the log of the first node.

@@ -151,7 +151,8 @@ pub fn disturb(network: &mut Network, time: Duration) -> Result<Settled, String>
     Ok(settle(network, "(d) bad connections"))
 }
 
-/// Makes these attacks, each by an attacker of its own.
+/// Makes these attacks, each by an attacker of its own, and then starts a node anew. The keys of a
+/// node may have been stolen.
 ///
 /// # Errors
 ///
@@ -165,47 +166,45 @@ pub fn attack(
     let sodium = Sodium::new().map_err(|error| error.to_string())?;
     let old = replaced(network);
     let set = (network.latest_index(), network.largest());
-    let places: Vec<_> = network
-        .members
-        .iter()
+    let members = network.members.iter();
+    let places: Vec<_> = members
         .map(|member| (member.key, member.proxy.address))
         .collect();
-    let within = network.bounds.start;
+    // The attacker of a number attacks so many nodes from the next one on.
+    let known = |number: usize, step: usize| {
+        let place = number + 1 + step;
+        let [target, other] = [place, place + 1].map(|place| places[place % places.len()]);
+        let other = stolen.map_or(other.0, Identity::public_key);
+        Knowledge {
+            sodium,
+            target,
+            other: (other, stolen),
+            set,
+            old: &old,
+        }
+    };
     let made: Vec<AtomicUsize> = attacks.iter().map(|_| AtomicUsize::new(0)).collect();
-    let attackers = std::mem::take(&mut network.attackers);
+    let (within, attackers) = (network.bounds.start, std::mem::take(&mut network.attackers));
     thread::scope(|scope| {
-        let each = attacks.iter().zip(&attackers).zip(&made).enumerate();
-        let threads: Vec<_> = each
-            .map(|(number, ((attack, identity), made))| {
-                let (old, places) = (&old, &places);
-                scope.spawn(move || {
-                    for step in 0..targets {
-                        let place = (number + 1 + step) % places.len();
-                        let other = places[(place + 1) % places.len()].0;
-                        let known = Knowledge {
-                            sodium,
-                            target: places[place],
-                            other: (other, stolen),
-                            set,
-                            old,
-                        };
-                        if make(*attack, identity, &known, within).is_ok() {
-                            made.fetch_add(1, Ordering::Relaxed);
-                        }
-                    }
-                })
-            })
-            .collect();
+        let mut threads = Vec::new();
+        for (number, attack) in attacks.iter().enumerate() {
+            let (identity, made, known) = (&attackers[number], &made[number], &known);
+            threads.push(scope.spawn(move || {
+                let made_on =
+                    |step: &usize| make(*attack, identity, &known(number, *step), within).is_ok();
+                made.fetch_add((0..targets).filter(made_on).count(), Ordering::Relaxed);
+            }));
+        }
         while threads.iter().any(|thread| !thread.is_finished()) {
             network.wait(Duration::from_millis(100));
         }
     });
     network.attackers = attackers;
+    report(attacks, &made, targets)?;
     // Attackers have told infos of all kinds: a newer one has to arrive all the same.
     let last = network.members.len() - 1;
     network.kill(last);
     network.start(last, None)?;
-    report(attacks, &made, targets)?;
     Ok(settle(network, "(e) attackers"))
 }
 

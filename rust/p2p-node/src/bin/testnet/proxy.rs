@@ -173,7 +173,7 @@ fn end(streams: &[TcpStream; 2]) {
     }
 }
 
-/// Carries a connection from a dialer to the node, until it ends.
+/// Connects to the node, and carries what a dialer sends to it and back, until either ends.
 fn serve(proxies: &Arc<Proxies>, proxy: &Proxy, mut dialer: TcpStream) -> io::Result<()> {
     let begun = now();
     let number = proxies.numbers.fetch_add(1, Ordering::Relaxed);
@@ -186,21 +186,11 @@ fn serve(proxies: &Arc<Proxies>, proxy: &Proxy, mut dialer: TcpStream) -> io::Re
     for stream in [&dialer, &listener] {
         stream.set_nodelay(true)?;
     }
-    dialer.set_read_timeout(Some(PATIENCE))?;
-    let mut claim = [0; CLAIM];
-    dialer.read_exact(&mut claim)?;
-    dialer.set_read_timeout(None)?;
-    let mut scanner = Scanner::default();
-    scanner.take(&claim);
-    let Some(key) = scanner.key() else {
-        return Ok(());
-    };
-    let streams = [dialer.try_clone()?, listener.try_clone()?];
-    let keys = [key, proxy.owner];
+    let (claim, key) = read_claim(&mut dialer)?;
     let open = Open {
         number,
-        keys,
-        streams,
+        keys: [key, proxy.owner],
+        streams: [dialer.try_clone()?, listener.try_clone()?],
     };
     if proxies.list(open).is_none() {
         return Ok(());
@@ -214,20 +204,40 @@ fn serve(proxies: &Arc<Proxies>, proxy: &Proxy, mut dialer: TcpStream) -> io::Re
         passed: 0,
         scanner: Scanner::default(),
     };
-    let (from, to) = (listener.try_clone()?, dialer.try_clone()?);
-    let back = pipe(Side::Listener);
-    let started = spawn(move || back.run(from, to));
-    if started.is_ok() {
-        let mut forth = pipe(Side::Dialer);
-        if forth.carry(&claim, &mut &listener)? {
-            forth.run(dialer, listener);
-        } else {
-            end(&[dialer, listener]);
-        }
-    }
+    let carried = carry_both(pipe, &claim, dialer, listener);
     let mut all = locked(&proxies.open);
     if let Some(place) = all.iter().position(|open| open.number == number) {
         end(&all.swap_remove(place).streams);
+    }
+    carried
+}
+
+/// Reads the bytes in which a dialer claims a key.
+fn read_claim(dialer: &mut TcpStream) -> io::Result<([u8; CLAIM], Key)> {
+    dialer.set_read_timeout(Some(PATIENCE))?;
+    let mut claim = [0; CLAIM];
+    dialer.read_exact(&mut claim)?;
+    dialer.set_read_timeout(None)?;
+    let mut scanner = Scanner::default();
+    scanner.take(&claim);
+    let key = scanner.key().ok_or(io::ErrorKind::InvalidData)?;
+    Ok((claim, key))
+}
+
+/// Carries both directions, of which one has begun with these bytes.
+fn carry_both(
+    pipe: impl Fn(Side) -> Pipe,
+    claim: &[u8],
+    dialer: TcpStream,
+    mut listener: TcpStream,
+) -> io::Result<()> {
+    let (from, to) = (listener.try_clone()?, dialer.try_clone()?);
+    let back = pipe(Side::Listener);
+    spawn(move || back.run(from, to))?;
+    let mut forth = pipe(Side::Dialer);
+    match forth.carry(claim, &mut listener)? {
+        true => forth.run(dialer, listener),
+        false => end(&[dialer, listener]),
     }
     Ok(())
 }

@@ -43,47 +43,47 @@ pub fn blocks(network: &Network) -> Verdict {
 pub fn written(network: &Network) -> Verdict {
     let honest: HashSet<Key> = network.members.iter().map(|member| member.key).collect();
     let lives = network.members.iter().flat_map(|member| &member.lives);
-    let own: HashSet<(Key, u64, String)> = lives
+    let own: HashSet<Told> = lives
         .filter_map(|life| life.ledger.own().cloned())
         .collect();
-    let mut faults = Vec::new();
-    let mut count = 0;
-    for (number, member) in network.members.iter().enumerate() {
-        for event in member.lives.iter().flat_map(|life| &life.ledger.events) {
-            let Some(info) = event.info.as_ref().filter(|info| honest.contains(&info.0)) else {
-                continue;
-            };
-            count += 1;
-            if !own.contains(info) {
-                let owner = name(network, &info.0);
-                let (_, timestamp, ingress) = info;
-                faults.push(format!(
-                    "node {number} accepted {timestamp} {ingress} of {owner}, who never wrote it"
-                ));
-            }
-        }
-    }
+    let is_false = |told: &Told| honest.contains(&told.0) && !own.contains(told);
+    let (count, mut faults) = accepted(network, is_false);
     let traffic = network.proxies.traffic();
-    let shared = traffic
-        .shared
-        .iter()
-        .filter_map(|info| Info::decode(info).ok());
-    for info in shared.filter(|info| honest.contains(&info.public_key)) {
-        let told = (info.public_key, info.timestamp, info.ingress.to_string());
-        if !own.contains(&told) {
-            let owner = name(network, &info.public_key);
+    let shared = traffic.shared.iter();
+    let shared = shared.filter_map(|info| Info::decode(info).ok());
+    let shared = shared.map(|info| (info.public_key, info.timestamp, info.ingress.to_string()));
+    for (owner, timestamp, _) in shared.filter(is_false) {
+        let owner = name(network, &owner);
+        faults.push(format!(
+            "an honest node sent {timestamp} of {owner}, who never wrote it"
+        ));
+    }
+    let sent = traffic.shared.len();
+    Verdict {
+        check: Check::Written,
+        evidence: format!("{count} infos that were accepted, {sent} that were sent"),
+        faults,
+    }
+}
+
+/// A key with the timestamp and the address of its info.
+type Told = (Key, u64, String);
+
+/// How many infos nodes accepted, and which of them are false.
+fn accepted(network: &Network, is_false: impl Fn(&Told) -> bool) -> (usize, Vec<String>) {
+    let mut count = 0;
+    let mut faults = Vec::new();
+    for (number, member) in network.members.iter().enumerate() {
+        let events = member.lives.iter().flat_map(|life| &life.ledger.events);
+        let infos: Vec<&Told> = events.filter_map(|event| event.info.as_ref()).collect();
+        count += infos.len();
+        for info in infos.into_iter().filter(|info| is_false(info)) {
+            let (owner, timestamp, ingress) = info;
+            let owner = name(network, owner);
             faults.push(format!(
-                "an honest node sent {} of {owner}, who never wrote it",
-                info.timestamp
+                "node {number} accepted {timestamp} {ingress} of {owner}, who never wrote it"
             ));
         }
     }
-    Verdict {
-        check: Check::Written,
-        evidence: format!(
-            "{count} infos that were accepted, {} that were sent",
-            traffic.shared.len()
-        ),
-        faults,
-    }
+    (count, faults)
 }
