@@ -64,6 +64,8 @@ Limits:
 
 Files:
   --ledger FILE               appends a line of JSON for each event
+  --record FILE               the calls of the directory, for p2p-replay
+  --record-limit BYTES        the longest such file         [1073741824]
   --config FILE               settings, one in a line; # begins a comment
 ";
 
@@ -116,6 +118,10 @@ pub struct Settings {
     pub refill: u32,
     /// The file of events.
     pub ledger: Option<PathBuf>,
+    /// The file of the calls of the directory, which is written anew.
+    pub record: Option<PathBuf>,
+    /// The length of the longest such file, in bytes.
+    pub record_limit: u64,
     /// The rule that the node breaks.
     pub broken: Option<Rule>,
 }
@@ -146,6 +152,8 @@ impl Default for Settings {
             burst: 8,
             refill: 4,
             ledger: None,
+            record: None,
+            record_limit: 1 << 30,
             broken: None,
         }
     }
@@ -230,6 +238,8 @@ impl Settings {
             "burst" => self.burst = parsed(value)?,
             "refill" => self.refill = parsed(value)?,
             "ledger" => self.ledger = Some(value.into()),
+            "record" => self.record = Some(value.into()),
+            "record-limit" => self.record_limit = parsed(value)?,
             "break" if cfg!(feature = "broken") => self.broken = Some(value.parse()?),
             _ => return Err("unknown setting: see p2p-node run --help".to_owned()),
         }

@@ -16,10 +16,12 @@ use crate::ledger::{Entry, Ledger};
 use crate::sets::SetFiles;
 use crate::settings::Settings;
 use crate::sodium::{Sodium, stop_on_signals};
+use p2p_directory::record::Recorder;
 use p2p_directory::{Info, Ingress, Moment, Node, Setup};
 use shared::{Parts, Shared};
 use std::fmt::Display;
-use std::io::{self, Write};
+use std::fs::File;
+use std::io::{self, BufWriter, Write};
 use std::net::TcpListener;
 use std::sync::Arc;
 use std::sync::mpsc::{Receiver, sync_channel};
@@ -34,6 +36,9 @@ const PATIENCE: Duration = Duration::from_millis(1500);
 
 /// Of so many ticks, a peer is blocked in one, by the rule that blocks at random.
 const TICKS_TO_BLOCK: u64 = 4;
+
+/// How many bytes of recorded calls are written at once.
+const RECORD_BUFFER: usize = 256 << 10;
 
 /// Runs a node until a signal ends it.
 ///
@@ -51,7 +56,11 @@ pub fn run(settings: Settings) -> Result<(), String> {
     });
     let myself = own_info(&settings, &identity, address.clone())?;
     let setup = setup(&settings, myself.clone());
-    let node = Node::new(&setup).map_err(|error| format!("settings: {error}"))?;
+    let node = match recorder(&settings)? {
+        Some(recorder) => Node::new_recorded(&setup, recorder),
+        None => Node::new(&setup),
+    };
+    let node = node.map_err(|error| format!("settings: {error}"))?;
     let mut files = SetFiles::new(settings.sets.clone(), settings.largest_set);
     let stop = stop_on_signals().map_err(|error| format!("signals: {error}"))?;
     let parts = Parts {
@@ -71,6 +80,16 @@ pub fn run(settings: Settings) -> Result<(), String> {
     tick(&shared, &mut files, &woken);
     end(&shared);
     Ok(())
+}
+
+/// The recorder of the directory's calls, if they are to be recorded.
+fn recorder(settings: &Settings) -> Result<Option<Recorder>, String> {
+    let Some(path) = &settings.record else {
+        return Ok(None);
+    };
+    let said = |error: io::Error| format!("record {}: {error}", path.display());
+    let file = BufWriter::with_capacity(RECORD_BUFFER, File::create(path).map_err(said)?);
+    Ok(Some(Recorder::new(file, settings.record_limit)))
 }
 
 fn listen(settings: &Settings) -> Result<TcpListener, String> {
@@ -145,6 +164,7 @@ fn tick(shared: &Arc<Shared>, files: &mut SetFiles, woken: &Receiver<()>) {
             next_tick = now + shared.settings.tick;
             tracking::update(shared, files);
             block_at_random(shared);
+            shared.lock().node.directory().flush_record();
         }
         if now >= next_round {
             next_round = now + dialer::round(shared);
@@ -191,6 +211,7 @@ fn end(shared: &Shared) {
         warn(&format_args!("{held} connections had not ended"));
     }
     shared.record(now, &Entry::Stopped(held));
+    state.node.directory().flush_record();
 }
 
 /// Says something on the standard error output. Nobody may read it.

@@ -3,6 +3,7 @@
 use super::shared::{Shared, State};
 use crate::counts::Event;
 use crate::json::Object;
+use p2p_directory::record::Recording;
 use p2p_directory::{Ingress, Key, OutOfMemory};
 use std::collections::BTreeSet;
 use std::io::{self, Write};
@@ -55,6 +56,19 @@ fn gauges(shared: &Shared, state: &mut State, address: &Ingress) -> Object {
             latest.and_then(|index| usize::try_from(index).ok()),
         )
         .count("infos_known", known(shared, infos_known(state)))
+        .text("recording", recording(state))
+}
+
+/// How the recording of calls stands.
+fn recording(state: &State) -> String {
+    match state.node.directory().recording() {
+        None => "none".to_owned(),
+        Some(Recording::Going) => "going".to_owned(),
+        Some(Recording::Full) => "full".to_owned(),
+        Some(Recording::Failed(error)) => format!("failed: {error}"),
+        Some(Recording::OutOfMemory) => "out of memory".to_owned(),
+        Some(_) => "ended".to_owned(),
+    }
 }
 
 /// A count, or `None` if there was no memory for it.

@@ -1,0 +1,61 @@
+//! The calls that a node records are those that it made.
+
+mod common;
+
+use common::{Folder, QUICK, Running, key, member, until};
+use p2p_directory::Replay;
+use p2p_directory::record::Log;
+use std::fs;
+use std::path::Path;
+
+/// The log of a file.
+fn log(path: &Path) -> Log {
+    Log::read(fs::read(path).unwrap()).unwrap()
+}
+
+fn until_recording(node: &Running, expected: &str) {
+    until(expected, || {
+        let status = node.status()?;
+        (member(&status, "recording") == Some(expected)).then_some(())
+    });
+}
+
+#[test]
+fn a_record_is_answered_alike_when_its_calls_are_made_anew() {
+    let folder = Folder::new();
+    folder.set(0, &[1, 2]);
+    let path = folder.path("record");
+    let first = Running::start(&folder, 1, &format!("{QUICK} --record {}", path.display()));
+    let words = format!("{QUICK} {}", first.as_bootstrapper());
+    let _second = Running::start(&folder, 2, &words);
+    first.until_event("connected", &key(2));
+    first.until_count("infos_known", 2);
+    until_recording(&first, "going");
+    let (status, _) = first.terminate();
+    assert_eq!(status.code(), Some(0));
+    let log = log(&path);
+    assert!(!log.is_full() && !log.is_cut());
+    let mut replay = Replay::new().unwrap();
+    for call in log.calls() {
+        assert_eq!(replay.make(&call).unwrap(), call.answer, "{call:?}");
+    }
+    let count = |name: &str| log.calls().filter(|call| call.name() == name).count();
+    assert_eq!(count("init"), 1);
+    assert_eq!(count("track"), 1);
+    assert!(count("receive") >= 2);
+    // The reservation of the connection was released at the end.
+    assert!(count("connect") >= 1 && count("release") >= count("connect"));
+}
+
+#[test]
+fn a_record_ends_at_its_limit() {
+    let folder = Folder::new();
+    folder.set(0, &[1, 2]);
+    let path = folder.path("record");
+    let words = format!("{QUICK} --record {} --record-limit 1000", path.display());
+    let node = Running::start(&folder, 1, &words);
+    until_recording(&node, "full");
+    drop(node);
+    assert!(log(&path).is_full());
+    assert!(fs::metadata(&path).unwrap().len() <= 1000);
+}
