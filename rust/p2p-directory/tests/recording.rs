@@ -232,7 +232,7 @@ fn a_call_that_ran_out_of_memory_counts_as_not_made() {
     refused[number..].fill(0xff);
     let parts = [&log[..places[place]], &refused, &log[places[place]..]];
     let file = Scratch::of("out-of-memory", &parts.concat());
-    for words in [&[][..], &["--model"], &["--script"]] {
+    for words in [&[][..], &["--model"], &["--play"]] {
         let output = replayed(words, &file.0);
         assert!(output.status.success(), "{words:?}: {}", said(&output));
     }

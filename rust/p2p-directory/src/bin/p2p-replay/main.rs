@@ -7,6 +7,9 @@ mod fields;
 #[allow(dead_code)]
 mod model;
 mod modelled;
+#[path = "../../../examples/play/player/mod.rs"]
+#[allow(dead_code)]
+mod player;
 #[path = "../../../examples/play/player/printed.rs"]
 #[allow(dead_code)]
 mod printed;
@@ -21,13 +24,14 @@ use modelled::Modelled;
 use p2p_directory as pair;
 use p2p_directory::record::{Answer, Call, Log, ReplayError};
 use p2p_directory::{Replay, keys33_64, keys48_96, keys96_48};
+use player::{Mode, Tally, play};
 use script::Script;
 use std::error::Error;
 use std::process::ExitCode;
-use std::{env, fs, process};
+use std::{env, fs, io, process};
 
 const HELP: &str = "\
-p2p-replay [--model | --script] FILE
+p2p-replay [--model | --script | --play] FILE
 
 Makes the calls of a log on a new node, and compares each answer with the one of the log.
 It ends at the first that differs, prints its record and both answers, and ends with status 1.
@@ -36,8 +40,9 @@ A call that was refused for want of memory counts as not made.
   --model   on a model of maps and lists, which shares no code with the library
   --script  prints the calls as a script of `play`, with the replies that it expects: keys are
             numbered in the order of their bytes, infos are signed anew
+  --play    plays that script, and prints each reply that isn't as expected
 
-Both are for keys of 32 bytes.";
+All three are for keys of 32 bytes.";
 
 fn main() -> ExitCode {
     let words: Vec<String> = env::args().skip(1).collect();
@@ -49,6 +54,7 @@ fn main() -> ExitCode {
         }
         ["--model", file] => on_the_model(file),
         ["--script", file] => as_script(file),
+        ["--play", file] => by_play(file),
         [file] if !file.starts_with('-') => on_the_library(file),
         _ => {
             eprintln!("{HELP}");
@@ -153,4 +159,16 @@ fn as_script(file: &str) -> Result<ExitCode, Box<dyn Error>> {
         println!("{line}");
     }
     Ok(ExitCode::SUCCESS)
+}
+
+fn by_play(file: &str) -> Result<ExitCode, Box<dyn Error>> {
+    let log = read(file)?;
+    of_32_bytes(&log)?;
+    let script = Script::of(&log)?.lines().join("\n") + "\n";
+    let tally: Tally = play(script.as_bytes(), &mut io::stdout().lock(), Mode::Checks)?;
+    println!("{tally}");
+    Ok(match tally.is_good() {
+        true => ExitCode::SUCCESS,
+        false => ExitCode::FAILURE,
+    })
 }

@@ -62,13 +62,27 @@ pub fn replay(network: &Network) -> Result<[Verdict; 2], String> {
     Ok([again, without.verdict()])
 }
 
-/// Lets the program `p2p-replay` compare the answers.
+/// Logs up to so many bytes are replayed by the model and by `play` as well.
+const LONGEST_MODELLED: u64 = 4 << 20;
+
+/// Lets the program `p2p-replay` compare the answers: with those of the library, and of a log that
+/// isn't long with those of the model and of `play`.
 fn by_program(network: &Network, life: &Life) -> Result<(), String> {
-    if life.is_limited && fs::metadata(&life.record).map_or(0, |data| data.len()) == 0 {
+    let length = fs::metadata(&life.record).map_or(0, |data| data.len());
+    if life.is_limited && length == 0 {
         return Ok(());
     }
+    replayed(network, life, &[])?;
+    if length <= LONGEST_MODELLED {
+        replayed(network, life, &["--model"])?;
+        replayed(network, life, &["--play"])?;
+    }
+    Ok(())
+}
+
+fn replayed(network: &Network, life: &Life, words: &[&str]) -> Result<(), String> {
     let program = &network.options.replay;
-    let output = Command::new(program).arg(&life.record).output();
+    let output = Command::new(program).args(words).arg(&life.record).output();
     let output = output.map_err(|error| said(program, &error))?;
     match output.status.success() {
         true => Ok(()),
