@@ -2,7 +2,7 @@
 
 mod calls;
 mod fault;
-mod printed;
+pub mod printed;
 mod script;
 mod settings;
 mod usage;

@@ -10,9 +10,6 @@ mod modelled;
 #[path = "../../../examples/play/player/mod.rs"]
 #[allow(dead_code)]
 mod player;
-#[path = "../../../examples/play/player/printed.rs"]
-#[allow(dead_code)]
-mod printed;
 mod script;
 
 /// Calls of the model, which takes them from here.

@@ -1,8 +1,8 @@
 //! Recorded calls as a script of `play`.
 
 use crate::fields::{Fields, NO_LIMITS, Outcome, infos};
-use crate::printed::{bit_vec, hexadecimal, info, infos as printed_infos, ingress, keys};
-use crate::printed::{option, or_none};
+use crate::player::printed::{bit_vec, hexadecimal, info, infos as printed_infos, ingress, keys};
+use crate::player::printed::{option, or_none};
 use p2p_directory::record::{Call, Log};
 use p2p_directory::testing::sign;
 use p2p_directory::{
