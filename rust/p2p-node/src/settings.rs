@@ -475,7 +475,7 @@ mod tests {
             .lines()
             .filter_map(|line| line.trim().strip_prefix('"')?.split('"').next());
         let names: Vec<&str> = names.collect();
-        assert_eq!(names.len(), 22);
+        assert_eq!(names.len(), 24);
         for name in names {
             assert!(HELP.contains(&format!("  --{name} ")), "{name}");
             assert!(readme.contains(&format!("| `--{name} ")), "{name}");

@@ -3,13 +3,12 @@
 use crate::bounds::Bounds;
 use crate::clock::now;
 use crate::ledger::Ledger;
-use crate::process::{Memory, Process, Start};
+use crate::process::{Memory, Process, Start, said};
 use crate::proxy::{Proxies, Proxy};
 use crate::traffic::Traffic;
 use p2p_directory::Key;
 use p2p_node::identity::Identity;
 use p2p_node::sodium::{Sodium, stop_on_signals};
-use std::fmt::Display;
 use std::fs;
 use std::path::PathBuf;
 use std::sync::Arc;
@@ -105,11 +104,6 @@ pub struct Network {
     // Each proxy that was started.
     started: Vec<Arc<Proxy>>,
     stop: &'static AtomicBool,
-}
-
-/// Says what went wrong with a file.
-pub fn said(path: &std::path::Path, error: &dyn Display) -> String {
-    format!("{}: {error}", path.display())
 }
 
 impl Network {
@@ -233,8 +227,7 @@ impl Network {
         let life = member.lives.len();
         // The node may dial others before this thread runs again.
         self.proxies.traffic().begin_life(member.key, life);
-        let process = start.spawn();
-        let mut process = process.map_err(|error| said(&start.program, &error))?;
+        let mut process = start.spawn()?;
         member.lives.push(Life {
             ledger: Ledger::new(start.ledger),
             record: start.record,

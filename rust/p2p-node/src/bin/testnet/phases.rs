@@ -183,23 +183,7 @@ pub fn attack(
             old: &old,
         }
     };
-    let made: Vec<AtomicUsize> = attacks.iter().map(|_| AtomicUsize::new(0)).collect();
-    let (within, attackers) = (network.bounds.start, std::mem::take(&mut network.attackers));
-    thread::scope(|scope| {
-        let mut threads = Vec::new();
-        for (number, attack) in attacks.iter().enumerate() {
-            let (identity, made, known) = (&attackers[number], &made[number], &known);
-            threads.push(scope.spawn(move || {
-                let made_on =
-                    |step: &usize| make(*attack, identity, &known(number, *step), within).is_ok();
-                made.fetch_add((0..targets).filter(made_on).count(), Ordering::Relaxed);
-            }));
-        }
-        while threads.iter().any(|thread| !thread.is_finished()) {
-            network.wait(Duration::from_millis(100));
-        }
-    });
-    network.attackers = attackers;
+    let made = launch(network, attacks, targets, known);
     report(attacks, &made, targets)?;
     // Attackers have told infos of all kinds: a newer one has to arrive all the same.
     let last = network.members.len() - 1;
@@ -208,6 +192,39 @@ pub fn attack(
     Ok(settle(network, "(e) attackers"))
 }
 
+/// Makes each attack by a thread of its own, and returns how often each was made. The closure says
+/// what the attacker of a number knows when it attacks the first node, the second one and so on.
+fn launch<'k>(
+    network: &mut Network,
+    attacks: &[Attack],
+    targets: usize,
+    known: impl Fn(usize, usize) -> Knowledge<'k> + Sync,
+) -> Vec<AtomicUsize> {
+    let made: Vec<AtomicUsize> = attacks.iter().map(|_| AtomicUsize::new(0)).collect();
+    let within = network.bounds.start;
+    let attackers = std::mem::take(&mut network.attackers);
+    thread::scope(|scope| {
+        let mut threads = Vec::new();
+        let each = attacks.iter().zip(&attackers).zip(&made);
+        for (number, ((attack, identity), made)) in each.enumerate() {
+            let known = &known;
+            threads.push(scope.spawn(move || {
+                for step in 0..targets {
+                    if make(*attack, identity, &known(number, step), within).is_ok() {
+                        made.fetch_add(1, Ordering::Relaxed);
+                    }
+                }
+            }));
+        }
+        while threads.iter().any(|thread| !thread.is_finished()) {
+            network.wait(Duration::from_millis(100));
+        }
+    });
+    network.attackers = attackers;
+    made
+}
+
+/// Says how often each attack was made, and fails if one was never made.
 fn report(attacks: &[Attack], made: &[AtomicUsize], targets: usize) -> Result<(), String> {
     for (attack, made) in attacks.iter().zip(made) {
         let made = made.load(Ordering::Relaxed);

@@ -1,6 +1,7 @@
 //! Processes of nodes.
 
 use crate::bounds::{COOLDOWN, FRAMES, HANDSHAKE, HANDSHAKES, SILENCE, TICK};
+use std::fmt::Display;
 use std::fs::{self, File};
 use std::io;
 use std::net::SocketAddr;
@@ -14,6 +15,11 @@ pub const NAMESPACE: &str = "testnet";
 
 /// The maximum length of a log of calls, in bytes.
 const RECORD_LIMIT: u64 = 512 << 20;
+
+/// Says what went wrong with a file.
+pub fn said(path: &Path, error: &dyn Display) -> String {
+    format!("{}: {error}", path.display())
+}
 
 /// With what a node is started.
 #[derive(Clone, Debug)]
@@ -95,14 +101,16 @@ impl Start {
     ///
     /// # Errors
     ///
-    /// That of the system.
-    pub fn spawn(&self) -> io::Result<Process> {
-        let output = File::create(&self.output)?;
-        let errors = output.try_clone()?;
+    /// Names the file of the output, or the program, that the system refused.
+    pub fn spawn(&self) -> Result<Process, String> {
+        let of_output = |error: io::Error| said(&self.output, &error);
+        let output = File::create(&self.output).map_err(of_output)?;
+        let errors = output.try_clone().map_err(of_output)?;
         let mut command = self.command();
         let command = command.stdin(Stdio::null()).stdout(output).stderr(errors);
+        let child = command.spawn();
         Ok(Process {
-            child: command.spawn()?,
+            child: child.map_err(|error| said(&self.program, &error))?,
             output: self.output.clone(),
         })
     }

@@ -88,10 +88,12 @@ pub fn cooldown_by_frames(network: &Network) -> Verdict {
         }
     }
     let granted: usize = listened.values().map(Vec::len).sum();
-    let all = traffic.connections.len();
     Verdict {
         check: Check::CooldownByFrames,
-        evidence: format!("{granted} of {all} connections were granted"),
+        evidence: format!(
+            "{granted} of {} connections were granted",
+            traffic.connections.len()
+        ),
         faults,
     }
 }

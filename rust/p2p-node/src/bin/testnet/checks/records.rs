@@ -2,7 +2,8 @@
 
 use super::connections::name;
 use super::{Check, Verdict};
-use crate::network::{Life, Member, Network, said};
+use crate::network::{Life, Member, Network};
+use crate::process::said;
 use crate::traffic::Received;
 use p2p_directory::record::{Answer, Argument, Call, Log, ReplayError};
 use p2p_directory::{Info, KEY_SIZE, Key, Replay};
