@@ -21,7 +21,10 @@ if [ "${1:-}" = --after-ci ]; then
         [ -d "$library" ] || { echo "there is no $library: run rt ci first" >&2; exit 1; }
         set -- "$@" -L "dependency=../$name/out/rlib"
     done
-    set -- "$@" --extern p2p_session=../p2p_session/out/rlib/p2p_session.rlib --links p2p_session_c=
+    for name in p2p_discovery p2p_session; do
+        set -- "$@" --extern "$name=../$name/out/rlib/$name.rlib"
+    done
+    set -- "$@" --links p2p_session_c=
     set -- "$@" --antt-project "$kit/rattle/logic/antt-project.json" --logic-built "$kit/logic_built"
     set -- "$@" --jobs "$(nproc)" --toolchain "$kit/toolchain" --backend llvm
     mkdir -p "$folder/out"
