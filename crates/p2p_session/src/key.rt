@@ -1,6 +1,6 @@
 //! Keys and signatures, as bytes.
 
-ghost use Rattle.std.specs.Prelude.{◌≡◌, ◌≤◌, refl, false, Some, length};
+ghost use Rattle.std.specs.Prelude.{◌≡◌, ◌≤◌, ◌+◌, refl, false, Some, length, drop};
 ghost use Rattle.std.specs.Int.{w32, from_be_bytes};
 ghost use Rattle.std.specs.Cmp.Lexicographic.{slice_cmp};
 ghost use Rattle.std.specs.Ordering.{nat_cmp};
@@ -62,6 +62,38 @@ pub fn compare<const N: usize>(a: &[u8; N], b: &[u8; N]) -> Ordering
         return x.cmp(&y);
     }
     a.cmp(b)
+}
+
+/// [`compare`], of keys whose first byte stands before REST bytes: if the first four bytes are the
+/// same, the rest is compared, since the order of arrays is fastest for whole words.
+///
+/// # Conditions
+///
+/// A key has at least four bytes, one more than REST.
+#[inline(always)]
+pub fn compare_prefixed<const N: usize, const REST: usize>(a: &[u8; N], b: &[u8; N]) -> Ordering
+    requires front { 4 ≤ N }
+    requires rest { 1 + REST ≡ N }
+    ensures { result ≡ slice_cmp nat_cmp a.now b.now }
+{
+    let (x, y) = (front(a), front(b));
+    if x != y {
+        x.cmp(&y)
+    } else {
+        behind_first::<N, REST>(a).cmp(behind_first(b))
+    }
+}
+
+// The bytes behind the first one.
+#[inline(always)]
+fn behind_first<const N: usize, const REST: usize>(bytes: &[u8; N]) -> &[u8; REST]
+    requires { 1 + REST ≡ N }
+    ensures { result.now ≡ drop 1 bytes.now }
+{
+    match bytes.split_last_chunk::<REST>() {
+        Some((_first, rest)) => rest,
+        None => unreachable!(),
+    }
 }
 
 // The first four bytes as a number, big-endian.
