@@ -21,7 +21,7 @@ use Rattle.p2p_directory.specs.declared.node.network.commands.NetworkReply.TheVa
 use Rattle.p2p_directory.specs.declared.run.commands.Command.{Command}
 use Rattle.p2p_directory.specs.declared.run.commands.Reply.{Reply}
 use Rattle.p2p_directory.specs.declared.run.commands.Reply.TheVariants as run_reply
-use Rattle.p2p_tracker.specs.Calls.{Call}
+use Rattle.p2p_tracker.specs.Calls.{Call, may_reserve}
 use Rattle.p2p_tracker.specs.World.{World}
 use Rattle.p2p_tracker.specs.Answers.{set_at_place}
 use Rattle.p2p_directory.specs.Run.{call_of, next, world_after, was_made}
@@ -33,7 +33,7 @@ use Rattle.p2p_directory.specs.Exchange as exchange
 use Rattle.p2p_tracker.specs.Seen.{DirectoryView}
 use Rattle.p2p_directory.specs.Held.{ReleasesAll}
 use Rattle.p2p_directory.specs.Nodes.{NodeView, Made, NodeStandsAt, made_of, standing_in}
-use Rattle.p2p_directory.specs.Nodes.{calls_with, may_reserve, IsStepped, IsReceived, IsAsked}
+use Rattle.p2p_directory.specs.Nodes.{calls_with, IsStepped, IsReceived, IsAsked}
 
 -- what was done to the nodes: commands with their replies, the newest first
 abbrev pub Done : Type 0 → Type 0 → Type 0

@@ -1,6 +1,6 @@
 -- Nodes: what contracts see of one, what it is made from, and how it stands at the point after the
 -- calls that its directory accepted.
-use Rattle.std.specs.Prelude.{ℕ, ◌≡◌, ◌<◌, ◌^◌, ◌∷◌, Bool, true, false, ◌⊎◌, List, Option, Some}
+use Rattle.std.specs.Prelude.{ℕ, ◌≡◌, ◌<◌, ◌^◌, ◌∷◌, Bool, true, ◌⊎◌, List, Option, Some}
 use Rattle.std.specs.Prelude.{None, Result, Ok, []}
 use Rattle.std.specs.Prelude.{IfOk, IfSome, OnErr, is_some, slice_get, length, ◌≤◌}
 use Rattle.std.specs.Duration.{as_nanos}
@@ -18,9 +18,8 @@ use Rattle.p2p_directory.specs.declared.node.setup.Setup.{Setup}
 use Rattle.p2p_directory.specs.declared.run.commands.Command.{Command}
 use Rattle.p2p_directory.specs.declared.run.commands.Reply.{Reply}
 use Rattle.p2p_directory.specs.declared.run.commands.Reply.TheVariants as reply
-use Rattle.p2p_tracker.specs.Calls.{Settings, Call}
-use Rattle.p2p_tracker.specs.Calls.Call.{Track, Dial, Listen, Connect, Release, Update, Block}
-use Rattle.p2p_tracker.specs.Calls.Call.{UnblockExpired, ForgetCooled, Ask}
+use Rattle.p2p_tracker.specs.Calls.{Settings, Call, may_reserve}
+use Rattle.p2p_tracker.specs.Calls.Call.{Update}
 use Rattle.p2p_tracker.specs.World.{World}
 use Rattle.p2p_tracker.specs.Answers.{infos_for, set_at_place}
 use Rattle.p2p_tracker.specs.Directory.{Updates, bit_vec_at, infos_in, other_keys}
@@ -83,19 +82,6 @@ made_of cmp given = record {
     namespace = given.namespace.items;
   };
 }
-
--- a call may be granted a reservation
-abbrev pub may_reserve : {C S : Type 0} → Call C S → Bool
-may_reserve (Dial p t draw) = true
-may_reserve (Listen p t draw) = true
-may_reserve (Track index primary secondary) = false
-may_reserve (Connect p dialer) = false
-may_reserve (Release p) = false
-may_reserve (Update infos) = false
-may_reserve (Block p t) = false
-may_reserve (UnblockExpired t) = false
-may_reserve (ForgetCooled t) = false
-may_reserve (Ask question) = false
 
 -- the calls accepted after some, where an update with these infos was one more
 abbrev pub calls_with : {C S : Type 0} → Option (List (Info C S)) → List (Call C S) →

@@ -1,16 +1,14 @@
 //! Commands to a directory, served one after the other, and their replies.
 
-ghost use Rattle.std.specs.Prelude.{ℕ, ◌≡◌, ◌<◌, ◌-◌, ◌^◌, ◌||◌, [], None, true, false};
-ghost use Rattle.std.specs.Prelude.{IfOk, OnOk, OnErr};
+ghost use Rattle.std.specs.Prelude.{ℕ, ◌≡◌, ◌<◌, ◌-◌, ◌^◌, [], None, IfOk};
 ghost use Rattle.std.specs.Int.NonZero.{non_zero_usize_get};
 ghost use Rattle.std.specs.List.{All, AllPass};
 ghost use Rattle.p2p_tracker.specs.Directory.{bit_vec_at};
 ghost use Rattle.p2p_directory.specs.Held.{held_of};
 ghost use Rattle.p2p_directory.specs.Private.Slots.{held_in, AreSlots};
 ghost use Rattle.p2p_directory.specs.Private.Serving.{has_slot_for, reserved_peer, IsAmong};
-ghost use Rattle.p2p_directory.specs.Nodes.{may_reserve};
 ghost use Rattle.p2p_directory.specs.Refinement.{Refines};
-ghost use Rattle.p2p_directory.specs.Run.{settings, call_of, calls_of, world_left, AreAnswers};
+ghost use Rattle.p2p_directory.specs.Run.{settings, calls_of, world_left, AreAnswers};
 ghost use Rattle.p2p_directory.specs.Run.{bit_vec_in, Holds};
 ghost use Rattle.p2p_directory.specs.Laws.Run.{LawsOfRun};
 

@@ -1,6 +1,5 @@
 -- What any node holds was given to some node, or is the own info of one.
-use Rattle.std.proofs.Common.{◌≡◌, ℕ, Bool, true, false, ◌&&◌, List, [], ◌∷◌, ◌++◌, refl, subst}
-use Rattle.std.proofs.Common.{inl, inr, ap}
+use Rattle.std.proofs.Common.{◌≡◌, ℕ, Bool, true, false, ◌&&◌, List, [], ◌∷◌, ◌++◌, refl, subst, inl, inr, ap}
 use Rattle.std.specs.Prelude.{if◌then◌else◌, not, ◌==◌}
 use Rattle.std.specs.List.{AllByRecursion}
 use Rattle.std.specs.Duration.{as_nanos}
@@ -10,7 +9,7 @@ use Rattle.p2p_directory.specs.declared.node.network.commands.NetworkCommand.{Ne
 use Rattle.p2p_directory.specs.declared.node.network.commands.NetworkCommand.TheVariants as command
 use Rattle.p2p_directory.specs.declared.node.network.commands.NetworkReply.{NetworkReply}
 use Rattle.p2p_directory.specs.declared.node.network.commands.NetworkReply.TheVariants as reply
-use Rattle.p2p_tracker.specs.Calls.{Call}
+use Rattle.p2p_tracker.specs.Calls.{Call, given_by}
 use Rattle.p2p_tracker.specs.Calls.Call.{Update}
 use Rattle.p2p_directory.specs.Run.{call_of, was_made, world_after}
 use Rattle.p2p_directory.specs.Received.{Wire, applies}
@@ -20,13 +19,11 @@ use Rattle.p2p_directory.specs.Nodes.{Made}
 use Rattle.p2p_directory.specs.Network.{infos_of_frame, Done, changed_by, calls_then, is_node}
 use Rattle.p2p_directory.specs.Network.{calls_at, standing_at, IsNetworkAnswer, AreNetworkAnswers}
 use Rattle.p2p_directory.specs.Laws.Gossip.{GivesOnly}
-use Rattle.p2p_directory.specs.Laws.Network.{IsAmong, given_by, GivesTo, GivesOrBrings, IsGivenOnly}
-use Rattle.p2p_directory.specs.Laws.Network.{GivesEach, HoldsOnly, IsSigned, GivesSigned, IsGivenBy}
-use Rattle.p2p_directory.specs.Laws.Network.{IsGivenIn, HasOrigin, Provenance, IsSignedFor}
-use Rattle.p2p_directory.specs.Laws.Network.{HoldSigned, AtEachPoint, OfEachReply, LeavesOtherNodes}
+use Rattle.p2p_directory.specs.Laws.Network.{IsAmong, GivesTo, GivesOrBrings, IsGivenOnly, GivesEach, HoldsOnly}
+use Rattle.p2p_directory.specs.Laws.Network.{IsSigned, GivesSigned, IsGivenBy, IsGivenIn, HasOrigin, Provenance}
+use Rattle.p2p_directory.specs.Laws.Network.{IsSignedFor, HoldSigned, AtEachPoint, OfEachReply, LeavesOtherNodes}
 use Rattle.p2p_directory.proofs.LawsOfGossip.Infos
-use Rattle.p2p_directory.proofs.LawsOfGossip.Given.{exchange_gives, brings_applied, gives_with}
-use Rattle.p2p_directory.proofs.LawsOfGossip.Given.{gives_if}
+use Rattle.p2p_directory.proofs.LawsOfGossip.Given.{exchange_gives, brings_applied, gives_with, gives_if}
 
 -- what holds of all that is given
 

@@ -5,7 +5,7 @@ use Rattle.std.specs.Prelude.{if◌then◌else◌, nat_le, option_to_list, IfSom
 use Rattle.std.specs.Option.{option_map}
 use Rattle.std.proofs.lemmas.Bool.{leb-true, ltb-false, not-true, and_parts}
 use Rattle.p2p_tracker.specs.Blocks.{is_blocked}
-use Rattle.p2p_tracker.specs.Calls.{Settings, Call, SetAt, Grant, Event}
+use Rattle.p2p_tracker.specs.Calls.{Settings, Call, SetAt, Grant, Event, expires_until}
 use Rattle.p2p_tracker.specs.Calls.Call.{Dial, Listen, Block, UnblockExpired}
 use Rattle.p2p_tracker.specs.Calls.Event.{Nothing, Blocked, Expired}
 use Rattle.p2p_tracker.specs.Moments.{cap}
@@ -19,7 +19,7 @@ use Rattle.p2p_directory.specs.declared.run.commands.Reply.{Reply}
 use Rattle.p2p_directory.specs.declared.run.commands.Reply.TheVariants as reply
 use Rattle.p2p_directory.specs.Laws.Grants.{moment_or, AreOver}
 use Rattle.p2p_directory.specs.Laws.GrantRuns.{granted_by, blocked_by, IsAfter, RunKeepsBlocks}
-use Rattle.p2p_directory.specs.Laws.BlockRuns.{expires_until, expired_by, unless_expired, IsNotBefore, block_taken_by, block_left, KeepLastBlock}
+use Rattle.p2p_directory.specs.Laws.BlockRuns.{expired_by, unless_expired, IsNotBefore, block_taken_by, block_left, KeepLastBlock}
 use Rattle.p2p_directory.proofs.Definitions.Steps
 use Rattle.p2p_directory.proofs.Definitions.Makes.{Makes, makes}
 use Rattle.p2p_directory.proofs.LawsOfRuns.Spacing

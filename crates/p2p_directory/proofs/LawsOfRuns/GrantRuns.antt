@@ -3,7 +3,7 @@ use Rattle.std.proofs.Common.{◌≡◌, ℕ, ◌≤◌, Bool, true, false, List
 use Rattle.std.specs.Prelude.{if◌then◌else◌}
 use Rattle.std.specs.Option.{option_map}
 use Rattle.std.specs.List.{list_any}
-use Rattle.p2p_tracker.specs.Calls.{Settings, SetAt, Call, Grant, Event}
+use Rattle.p2p_tracker.specs.Calls.{Settings, SetAt, Call, Grant, Event, moment_of}
 use Rattle.p2p_tracker.specs.Calls.Call.{Dial, Listen, Block, ForgetCooled}
 use Rattle.p2p_tracker.specs.Calls.Event.{Granted, Blocked, Forgot}
 use Rattle.p2p_tracker.specs.Answers.{was_granted, was_blocked}
@@ -11,13 +11,12 @@ use Rattle.p2p_tracker.specs.History
 use Rattle.p2p_tracker.specs.History.{last_with, found_with, unless_ended, last_unless_ended}
 use Rattle.p2p_tracker.specs.World
 use Rattle.p2p_tracker.specs.World.{World}
-use Rattle.p2p_directory.specs.Laws.Grants.{IsSpaced, IsSpacedUnlessForgotten, or_now, moment_or, moment_of, NeverGoBack}
+use Rattle.p2p_directory.specs.Laws.Grants.{IsSpaced, IsSpacedUnlessForgotten, or_now, moment_or, NeverGoBack}
 use Rattle.p2p_directory.specs.Run
 use Rattle.p2p_directory.specs.declared.run.commands.Reply.{Reply}
 use Rattle.p2p_directory.specs.declared.run.commands.Reply.TheVariants as reply
-use Rattle.p2p_directory.specs.Laws.GrantRuns.{granted_by, forgets_by, blocked_by, IsGrantCooledAfter}
-use Rattle.p2p_directory.specs.Laws.GrantRuns.{last_after, kept_after, RunKeepsCooldownUnlessForgotten}
-use Rattle.p2p_directory.specs.Laws.GrantRuns.{RunKeepsCooldown}
+use Rattle.p2p_directory.specs.Laws.GrantRuns.{granted_by, forgets_by, blocked_by, IsGrantCooledAfter, last_after}
+use Rattle.p2p_directory.specs.Laws.GrantRuns.{kept_after, RunKeepsCooldownUnlessForgotten, RunKeepsCooldown}
 use Rattle.p2p_directory.proofs.Definitions.Steps
 use Rattle.p2p_directory.proofs.Definitions.Makes.{Makes, makes}
 use Rattle.p2p_directory.proofs.LawsOfRuns.Spacing
@@ -102,7 +101,7 @@ module _ {C S : Type 0} (s : Settings C S) where
   -- a later now is as good
   later_back : (cs : List (Call C S)) (now later : ℕ) → now ≤ later → NeverGoBack s now cs → NeverGoBack s later cs
   later_back [] now later le on = tt
-  later_back (c ∷ cs) now later le on = go (moment_of s c) (λ x. later_back cs now later le x) on
+  later_back (c ∷ cs) now later le on = go (moment_of c) (λ x. later_back cs now later le x) on
     where
       go : (o : Option ℕ) → (NeverGoBack s now cs → NeverGoBack s later cs) →
           (or_now now o ≤ now) × NeverGoBack s (or_now now o) cs →
@@ -112,7 +111,7 @@ module _ {C S : Type 0} (s : Settings C S) where
 
   -- a call that comes no earlier than now
   one_forward : (c : Call C S) (cs : List (Call C S)) (now : ℕ) → now ≤ moment_or s now c → NeverGoBack s now cs → NeverGoBack s (moment_or s now c) (c ∷ cs)
-  one_forward c cs now le on = go (moment_of s c) le
+  one_forward c cs now le on = go (moment_of c) le
     where
       go : (o : Option ℕ) → now ≤ or_now now o → (or_now (or_now now o) o ≤ or_now now o) × NeverGoBack s (or_now (or_now now o) o) cs
       go None le = (omega arith, on)

@@ -4,7 +4,7 @@ use Rattle.std.specs.Prelude.{if◌then◌else◌}
 use Rattle.std.specs.Option.{option_map, option_map_or, IsSomeAnd}
 use Rattle.p2p_discovery.specs.Ingress.{takes_none}
 use Rattle.p2p_tracker.specs.Status.{is_inert, is_reserved}
-use Rattle.p2p_tracker.specs.Calls.{Settings, Question, Call, Event}
+use Rattle.p2p_tracker.specs.Calls.{Settings, Question, Call, Event, single_peer_of}
 use Rattle.p2p_tracker.specs.Calls.Question.{StatusOf, InfoOf, IsEligible, IsAcceptable, DialableAt}
 use Rattle.p2p_tracker.specs.Calls.Call.{Track, Dial, Listen, Connect, Release, Block, Ask}
 use Rattle.p2p_tracker.specs.History
@@ -14,7 +14,7 @@ use Rattle.p2p_tracker.specs.Answers.{was_granted, was_blocked, was_taken, is_to
 use Rattle.p2p_directory.specs.Run
 use Rattle.p2p_directory.specs.declared.run.commands.Reply.{Reply}
 use Rattle.p2p_directory.specs.declared.run.commands.Reply.TheVariants as reply
-use Rattle.p2p_directory.specs.Laws.Isolation.{SameFor, single_peer_of, is_on, is_on_another, left_for}
+use Rattle.p2p_directory.specs.Laws.Isolation.{SameFor, is_on, is_on_another, left_for}
 use Rattle.p2p_directory.specs.Laws.IsolationRuns.{torn_after, IsListedAfter, KeepAlone}
 use Rattle.p2p_directory.proofs.Definitions.Law
 use Rattle.p2p_directory.proofs.LawsOfRuns.Isolation

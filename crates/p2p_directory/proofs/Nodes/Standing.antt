@@ -5,13 +5,12 @@ use Rattle.p2p_tracker.specs.declared.directory.Metadata.{Metadata}
 use Rattle.p2p_directory.specs.declared.run.commands.Command.{Command}
 use Rattle.p2p_directory.specs.declared.run.commands.Reply.{Reply}
 use Rattle.p2p_directory.specs.declared.run.commands.Reply.TheVariants as reply
-use Rattle.p2p_tracker.specs.Calls.{Settings, Call}
+use Rattle.p2p_tracker.specs.Calls.{Settings, Call, may_reserve}
 use Rattle.p2p_tracker.specs.World.{World}
 use Rattle.p2p_directory.specs.Held.{held_of}
 use Rattle.p2p_directory.specs.Refinement.{Refines}
 use Rattle.p2p_directory.specs.Run.{call_of, world_after, next, Holds}
-use Rattle.p2p_directory.specs.Nodes.{Made, NodeView, NodeStandsAt, IsStepped, IsSteppedAt, made_of, may_reserve}
-use Rattle.p2p_directory.specs.Nodes.{StandsSomewhere}
+use Rattle.p2p_directory.specs.Nodes.{Made, NodeView, NodeStandsAt, IsStepped, IsSteppedAt, made_of, StandsSomewhere}
 use Rattle.p2p_directory.specs.Private.Endpoints.{IsEndpointServedAt}
 use Rattle.p2p_directory.specs.Private.Serving.{ServerView, StandsAt}
 use Rattle.p2p_directory.specs.Private.Serving as serving

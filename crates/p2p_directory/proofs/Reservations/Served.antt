@@ -10,7 +10,7 @@ use Rattle.p2p_discovery.specs.declared.discovery.Info.{Info}
 use Rattle.p2p_tracker.specs.declared.directory.Metadata.{Metadata}
 use Rattle.p2p_tracker.specs.declared.directory.Metadata.TheVariants as metadata
 use Rattle.p2p_directory.specs.declared.run.commands.Reply.TheVariants as reply
-use Rattle.p2p_tracker.specs.Calls.{Settings, Call, Event}
+use Rattle.p2p_tracker.specs.Calls.{Settings, Call, Event, may_reserve}
 use Rattle.p2p_tracker.specs.Calls.Call.{Track, Dial, Listen, Connect, Release, Update, Block, UnblockExpired, ForgetCooled}
 use Rattle.p2p_tracker.specs.Calls.Direction.{Listener, Dialer}
 use Rattle.p2p_tracker.specs.Calls.Event.{Nothing, SetTaken, Granted, Connected, Released, Updated, Blocked, Expired, Forgot}
@@ -20,18 +20,12 @@ use Rattle.p2p_tracker.specs.Moments.{cap}
 use Rattle.p2p_tracker.specs.Answers.{was_taken, was_granted, granted_direction, was_blocked}
 use Rattle.p2p_tracker.specs.Blocks.{IsAnyUntil}
 use Rattle.p2p_tracker.specs.PeerSets.{set_of, latest_index, is_above}
-use Rattle.p2p_tracker.specs.Directory.{first_record}
-use Rattle.p2p_tracker.specs.Seen.{record_of}
-use Rattle.p2p_tracker.specs.Directory.{kept_after_release, may_block, BlocksUntil}
-use Rattle.p2p_tracker.specs.Seen.{unblock_of}
-use Rattle.p2p_tracker.specs.Directory.{EndsBlocks, IsNumberCooledIn, ForgetsCooled, may_listen_in}
-use Rattle.p2p_tracker.specs.Directory.{may_dial_in, ingress_in, ChangesRecord, Reserves, Connects}
-use Rattle.p2p_tracker.specs.Directory.{Updates, TakesSet, AreTornDown}
+use Rattle.p2p_tracker.specs.Directory.{first_record, kept_after_release, may_block, BlocksUntil, EndsBlocks}
+use Rattle.p2p_tracker.specs.Directory.{IsNumberCooledIn, ForgetsCooled, may_listen_in, may_dial_in, ingress_in}
+use Rattle.p2p_tracker.specs.Directory.{ChangesRecord, Reserves, Connects, Updates, TakesSet, AreTornDown, has_status}
+use Rattle.p2p_tracker.specs.Seen.{record_of, unblock_of, RecordView}
 use Rattle.p2p_directory.specs.Laws.Effects.{AddsHeld, DropsHeld, DirectoryStandsAt}
-use Rattle.p2p_directory.specs.Nodes.{may_reserve}
 use Rattle.p2p_directory.specs.declared.run.commands.Reply.{Reply}
-use Rattle.p2p_tracker.specs.Seen.{RecordView}
-use Rattle.p2p_tracker.specs.Directory.{has_status}
 use Rattle.p2p_directory.specs.Private.Serving.{ServerView, StandsAt, IsCallServedAt, IsCallSteppedAt}
 use Rattle.p2p_directory.specs.Private.Slots.{held_in}
 use Rattle.p2p_directory.specs.Refinement.{Refines, config_of, metadata_of}

@@ -4,29 +4,15 @@ use Rattle.std.specs.Prelude.{ℕ, ◌+◌, ◌≤◌, true, nat_le, if◌then�
 use Rattle.std.specs.Prelude.{None}
 use Rattle.std.specs.Option.{option_map}
 use Rattle.p2p_tracker.specs.Moments.{cap}
-use Rattle.p2p_tracker.specs.Calls.{Settings, Call}
-use Rattle.p2p_tracker.specs.Calls.Call.{Track, Dial, Listen, Connect, Release, Update, Block}
-use Rattle.p2p_tracker.specs.Calls.Call.{UnblockExpired, ForgetCooled, Ask}
+use Rattle.p2p_tracker.specs.Calls.{Settings, Call, expires_until}
+use Rattle.p2p_tracker.specs.Calls.Call.{Block}
 use Rattle.p2p_tracker.specs.History.{same}
 use Rattle.p2p_directory.specs.declared.run.commands.Reply.{Reply}
 use Rattle.p2p_directory.specs.declared.run.commands.Reply.TheVariants as reply
 use Rattle.p2p_directory.specs.Run.{was_made}
 use Rattle.p2p_directory.specs.Laws.GrantRuns.{granted_by}
 
--- until when the command ends blocks, if it does
-abbrev pub expires_until : {C S : Type 0} → Call C S → Option ℕ
-expires_until (UnblockExpired t) = Some t
-expires_until (Track index primary secondary) = None
-expires_until (Dial p t draw) = None
-expires_until (Listen p t draw) = None
-expires_until (Connect p dialer) = None
-expires_until (Release p) = None
-expires_until (Update infos) = None
-expires_until (Block p t) = None
-expires_until (ForgetCooled t) = None
-expires_until (Ask question) = None
-
--- .. where it was made
+-- until when a call ends blocks, where it was made
 abbrev pub expired_by : {C S : Type 0} → Call C S → Reply C S → Option ℕ
 expired_by c r = if was_made r then expires_until c else None
 

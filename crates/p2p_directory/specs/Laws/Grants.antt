@@ -3,9 +3,7 @@ use Rattle.std.specs.Prelude.{◌≡◌, ℕ, ◌+◌, ◌≤◌, false, List, [
 use Rattle.std.specs.Prelude.{option_to_list}
 use Rattle.std.specs.List.{AllByRecursion, list_any}
 use Rattle.p2p_tracker.specs.Moments.{cap}
-use Rattle.p2p_tracker.specs.Calls.{Settings, Call, Grant, Event}
-use Rattle.p2p_tracker.specs.Calls.Call.{Track, Dial, Listen, Connect, Release, Update, Block}
-use Rattle.p2p_tracker.specs.Calls.Call.{UnblockExpired, ForgetCooled, Ask}
+use Rattle.p2p_tracker.specs.Calls.{Settings, Call, Grant, Event, moment_of}
 use Rattle.p2p_tracker.specs.History.{last_with, grant_by, is_forgetting, block_by}
 
 -- a moment, or now where there is none
@@ -52,20 +50,7 @@ module _ {C S : Type 0} (s : Settings C S) where
 
   -- BLOCKS
 
-  -- the moment of a call that may grant, block, end a block or forget a grant
-  abbrev pub moment_of : Call C S → Option ℕ
-  moment_of (Dial p t draw) = Some t
-  moment_of (Listen p t draw) = Some t
-  moment_of (Block p t) = Some t
-  moment_of (UnblockExpired t) = Some t
-  moment_of (ForgetCooled t) = Some t
-  moment_of (Track index primary secondary) = None
-  moment_of (Connect p dialer) = None
-  moment_of (Release p) = None
-  moment_of (Update infos) = None
-  moment_of (Ask question) = None
-
-  -- .. or now, where it has none
+  -- the moment of a call, or now where it has none
   abbrev pub moment_or : ℕ → Call C S → ℕ
   moment_or now c = or_now now (moment_of c)
 

@@ -1,48 +1,13 @@
 -- What the calls on other single peers leave as it was.
 use Rattle.std.specs.Prelude.{◌≡◌, ℕ, Bool, false, not, if◌then◌else◌, List, [], ◌∷◌, filter}
-use Rattle.std.specs.Prelude.{Option, Some, None}
 use Rattle.std.specs.Option.{option_map_or}
-use Rattle.p2p_tracker.specs.Calls.{Settings, Question, Call}
-use Rattle.p2p_tracker.specs.Calls.Question.{StatusOf, NumberTracked, NextUnblock, BlockedAt, PeerSet}
-use Rattle.p2p_tracker.specs.Calls.Question.{LatestIndex, AllPeers, LatestUpdate, InfoOf, InfosFor}
-use Rattle.p2p_tracker.specs.Calls.Question.{BitsAt, IsEligible, IsAcceptable, DialableAt}
-use Rattle.p2p_tracker.specs.Calls.Call.{Track, Dial, Listen, Connect, Release, Update, Block}
-use Rattle.p2p_tracker.specs.Calls.Call.{UnblockExpired, ForgetCooled, Ask}
+use Rattle.p2p_tracker.specs.Calls.{Settings, Call, single_peer_of}
+use Rattle.p2p_tracker.specs.Calls.Call.{Update}
 use Rattle.p2p_tracker.specs.History.{same}
 use Rattle.p2p_tracker.specs.World.{World, event_in}
 use Rattle.p2p_tracker.specs.Answers.{is_present_in, status_in, sharable_info, wants}
 use Rattle.p2p_tracker.specs.Answers.{is_blocked_at, is_eligible_at, is_acceptable_at}
 use Rattle.p2p_tracker.specs.Answers.{is_cooled_at, is_dialable, query_moment}
-
--- the single peer that a question is about, if it is about one
-abbrev pub single_peer_asked : {C : Type 0} → Question C → Option C
-single_peer_asked (StatusOf q) = Some q
-single_peer_asked (InfoOf q) = Some q
-single_peer_asked (IsEligible q t) = Some q
-single_peer_asked (IsAcceptable q t) = Some q
-single_peer_asked NumberTracked = None
-single_peer_asked NextUnblock = None
-single_peer_asked (BlockedAt t) = None
-single_peer_asked (PeerSet index) = None
-single_peer_asked LatestIndex = None
-single_peer_asked AllPeers = None
-single_peer_asked LatestUpdate = None
-single_peer_asked (InfosFor index bits t) = None
-single_peer_asked (BitsAt place) = None
-single_peer_asked (DialableAt t) = None
-
--- the single peer that a call is on, if it is on one
-abbrev pub single_peer_of : {C S : Type 0} → Call C S → Option C
-single_peer_of (Dial q t draw) = Some q
-single_peer_of (Listen q t draw) = Some q
-single_peer_of (Connect q dialer) = Some q
-single_peer_of (Release q) = Some q
-single_peer_of (Block q t) = Some q
-single_peer_of (Ask question) = single_peer_asked question
-single_peer_of (Track index primary secondary) = None
-single_peer_of (Update infos) = None
-single_peer_of (UnblockExpired t) = None
-single_peer_of (ForgetCooled t) = None
 
 module _ {C S : Type 0} (s : Settings C S) where
   -- a call on the single peer p

@@ -16,9 +16,7 @@ use Rattle.p2p_directory.specs.declared.node.network.commands.NetworkCommand.{Ne
 use Rattle.p2p_directory.specs.declared.node.network.commands.NetworkCommand.TheVariants as command
 use Rattle.p2p_directory.specs.declared.node.network.commands.NetworkReply.{NetworkReply}
 use Rattle.p2p_directory.specs.declared.node.network.commands.NetworkReply.TheVariants as reply
-use Rattle.p2p_tracker.specs.Calls.{Call, SetAt}
-use Rattle.p2p_tracker.specs.Calls.Call.{Track, Dial, Listen, Connect, Release, Update, Block}
-use Rattle.p2p_tracker.specs.Calls.Call.{UnblockExpired, ForgetCooled, Ask}
+use Rattle.p2p_tracker.specs.Calls.{Call, SetAt, given_by}
 use Rattle.p2p_tracker.specs.History.{is_own, is_in}
 use Rattle.p2p_directory.specs.Run.{call_of, world_after}
 use Rattle.p2p_directory.specs.Received.{Wire, applies, received_at, told_with}
@@ -43,19 +41,6 @@ module _ {C S : Type 0} where
   abbrev pub IsAmong : List (Info C S) → Info C S → Type 0
   IsAmong [] i = ⊥
   IsAmong (x ∷ xs) i = (i ≡ x) ⊎ IsAmong xs i
-
-  -- the infos that a call gives
-  abbrev pub given_by : Call C S → List (Info C S)
-  given_by (Update infos) = infos
-  given_by (Track index primary secondary) = []
-  given_by (Dial p t draw) = []
-  given_by (Listen p t draw) = []
-  given_by (Connect p dialer) = []
-  given_by (Release p) = []
-  given_by (Block p t) = []
-  given_by (UnblockExpired t) = []
-  given_by (ForgetCooled t) = []
-  given_by (Ask question) = []
 
 module _ {C S : Type 0} (wire : Wire C S) (size : ℕ) (node : ℕ → Made C S) where
   -- each node is made from one setup

@@ -1,5 +1,5 @@
 -- Serving one command: from wherever the calls accepted before led, the reply is the answer.
-use Rattle.std.specs.Prelude.{◌≡◌, ◌⊎◌, ◌<◌, ◌^◌, Bool, true, List, Option, Some, None, IfSome}
+use Rattle.std.specs.Prelude.{◌≡◌, ◌⊎◌, ◌<◌, ◌^◌, Bool, true, List, Option, Some, IfSome}
 use Rattle.std.specs.List.{Contains}
 use Rattle.std.specs.Option.{option_map_or}
 use Rattle.std.specs.declared.cmp.Ordering.{Ordering}
@@ -11,9 +11,8 @@ use Rattle.p2p_directory.specs.declared.run.commands.Command.{Command}
 use Rattle.p2p_directory.specs.declared.run.commands.Command.TheVariants as command
 use Rattle.p2p_directory.specs.declared.run.commands.Reply.{Reply}
 use Rattle.p2p_directory.specs.declared.run.commands.Reply.TheVariants as reply
-use Rattle.p2p_tracker.specs.Calls.{Settings, Call}
+use Rattle.p2p_tracker.specs.Calls.{Settings, Call, may_reserve, reserved_by}
 use Rattle.p2p_tracker.specs.Seen.{DirectoryView}
-use Rattle.p2p_directory.specs.Nodes.{may_reserve}
 use Rattle.p2p_directory.specs.Refinement.{Refines}
 use Rattle.p2p_directory.specs.Private.Slots.{has_slot, held_in}
 use Rattle.p2p_directory.specs.Run.{settings, call_of, world_after, IsAnswer, next, Holds}
@@ -25,29 +24,7 @@ pub record ServerView (C S : Type 0) : Type 0 where
 
 -- the peer that the command may be granted a reservation of, if there is one
 abbrev pub reserved_peer : {C S : Type 0} → Command C S → Option C
-reserved_peer (command.Dial peer now draw) = Some peer
-reserved_peer (command.Listen peer now draw) = Some peer
-reserved_peer (command.Track index peers) = None
-reserved_peer (command.Connect peer dialer) = None
-reserved_peer (command.Release peer) = None
-reserved_peer (command.UpdatePeers infos) = None
-reserved_peer (command.Block peer now) = None
-reserved_peer (command.UnblockExpired now) = None
-reserved_peer (command.ForgetCooled now) = None
-reserved_peer command.NextUnblock = None
-reserved_peer (command.BlockedPeers now) = None
-reserved_peer (command.Status peer) = None
-reserved_peer (command.GetPeerSet index) = None
-reserved_peer command.LatestUpdate = None
-reserved_peer command.LatestSetIndex = None
-reserved_peer command.All = None
-reserved_peer (command.Info peer) = None
-reserved_peer (command.Infos bits now) = None
-reserved_peer (command.GetRandomBitVec place) = None
-reserved_peer (command.Eligible peer now) = None
-reserved_peer (command.Acceptable peer now) = None
-reserved_peer (command.Dialable now) = None
-reserved_peer command.Tracked = None
+reserved_peer x = reserved_by (call_of x)
 
 -- .. or that it may release
 abbrev pub named_peer : {C S : Type 0} → Command C S → Option C

@@ -1,16 +1,15 @@
 //! A directory that serves commands, and holds the reservations that it grants.
 
-ghost use Rattle.std.specs.Prelude.{◌≡◌, ◌<◌, true, false, None, OnOk, OnErr, IfOk, IfSome};
-ghost use Rattle.std.specs.Prelude.{length, option_map, is_some, ◌||◌};
-ghost use Rattle.std.specs.BTreeMap.{is_at};
+ghost use Rattle.std.specs.Prelude.{◌≡◌, ◌<◌, true, false, None, OnErr, IfOk};
+ghost use Rattle.std.specs.Prelude.{length, option_map, is_some};
 ghost use Rattle.std.specs.Duration.{as_nanos};
 ghost use Rattle.std.specs.Option.{IsSomeAnd};
 ghost use Rattle.p2p_tracker.specs.Directory.{infos_in, Updates};
 ghost use Rattle.p2p_directory.specs.Held.{held_of, AreHeld};
-ghost use Rattle.p2p_directory.specs.Private.Slots.{has_slot, held_in, is_named, AreSlots};
-ghost use Rattle.p2p_directory.specs.Private.Serving.{has_slot_for, reserved_peer, IsServed};
-ghost use Rattle.p2p_directory.specs.Nodes.{may_reserve, TearsDownFew};
-ghost use Rattle.p2p_directory.specs.Run.{call_of, was_made};
+ghost use Rattle.p2p_directory.specs.Private.Slots.{has_slot, held_in, AreSlots};
+ghost use Rattle.p2p_directory.specs.Private.Serving.{has_slot_for, IsServed};
+ghost use Rattle.p2p_directory.specs.Nodes.{TearsDownFew};
+ghost use Rattle.p2p_directory.specs.Run.{was_made};
 
 use crate::run::commands::{Command, Reply};
 use crate::run::held::Held;

@@ -12,7 +12,7 @@ ghost use Rattle.std.specs.List.{All};
 ghost use Rattle.p2p_tracker.specs.Seen.{key_of};
 ghost use Rattle.p2p_tracker.specs.declared.directory.Metadata.{Metadata};
 ghost use Rattle.p2p_directory.specs.Held.{held_of};
-ghost use Rattle.p2p_directory.specs.Nodes.{may_reserve};
+ghost use Rattle.p2p_tracker.specs.Calls.{may_reserve};
 ghost use Rattle.p2p_directory.specs.Run.{call_of};
 ghost use Rattle.p2p_directory.specs.Private.Serving.{has_slot_for, reserved_peer};
 ghost use Rattle.p2p_directory.specs.Private.Slots.{begins_full, has_slot, held_in, is_named};

@@ -1,32 +1,21 @@
 //! The frames that an endpoint receives.
 
-ghost use Rattle.std.specs.Prelude.{◌≡◌, ◌<◌, ◌^◌, [], true, false, None, IfOk, IfSome, OnOk, OnErr};
-ghost use Rattle.std.specs.Prelude.{length, ◌||◌};
-ghost use Rattle.std.specs.Prelude.{is_some, option_map};
+ghost use Rattle.std.specs.Prelude.{◌≡◌, ◌<◌, ◌^◌, [], true, false, None, IfOk, IfSome, OnErr};
+ghost use Rattle.std.specs.Prelude.{length, is_some, option_map};
 ghost use Rattle.std.specs.Duration.{as_nanos};
-ghost use Rattle.p2p_discovery.specs.Payload.{CanSpell, payload_spelling, IsPayload};
-ghost use Rattle.p2p_discovery.specs.Payload.{IsKeyedPayload, IsAdmitted};
+ghost use Rattle.p2p_discovery.specs.Payload.{payload_spelling, IsAdmitted, infos_of_payload};
 ghost use Rattle.p2p_discovery.specs.Judgement.{judge_of, refusal, list_refusal};
 ghost use Rattle.p2p_discovery.specs.Judgement.{refusal_if, list_refusal_by};
 ghost use Rattle.p2p_discovery.specs.declared.discovery.Payload.TheVariants.{Peers};
-ghost use Rattle.p2p_tracker.specs.Directory.{bit_vec_at, infos_in};
-ghost use Rattle.p2p_directory.specs.Held.{held_of, AreHeld, ReleasesAll};
-ghost use Rattle.p2p_directory.specs.Run.{call_of, was_made};
+ghost use Rattle.p2p_tracker.specs.Directory.{infos_in};
 ghost use Rattle.p2p_directory.specs.Received.{wire_of, greeted, replied, taken, takes_room};
 ghost use Rattle.p2p_directory.specs.Received.{applies, told_with, are_miscounted, answered_by};
-ghost use Rattle.p2p_directory.specs.Received.{received_of, AreFew};
-ghost use Rattle.p2p_directory.specs.Received.{first_verdict, IsWantOfMemory};
-ghost use Rattle.p2p_discovery.specs.Payload.{infos_of_payload, payload_at};
-ghost use Rattle.p2p_discovery.specs.Reading.{GivesAs, whole};
-ghost use Rattle.p2p_directory.specs.Nodes.{AnswersFrameBy, standing_of};
-ghost use Rattle.p2p_directory.specs.Nodes.{may_reserve, Answers, AnswersFrame, AsksWith};
-ghost use Rattle.p2p_directory.specs.Nodes.{AreValues, TellsValues, IsStepped, TearsDownFew};
-ghost use Rattle.p2p_directory.specs.Nodes.{StandsSomewhere};
-ghost use Rattle.p2p_directory.specs.Exchange.{HasSpelling, HaveSpelling};
+ghost use Rattle.p2p_directory.specs.Received.{received_of, AreFew, first_verdict, IsWantOfMemory};
+ghost use Rattle.p2p_directory.specs.Nodes.{AnswersFrameBy, standing_of, Answers, AnswersFrame};
+ghost use Rattle.p2p_directory.specs.Nodes.{AreValues, TellsValues};
+ghost use Rattle.p2p_directory.specs.Exchange.{HaveSpelling};
 ghost use Rattle.p2p_directory.specs.Private.Frames.{fault_answer};
-ghost use Rattle.p2p_directory.specs.Private.Serving.{has_slot_for, reserved_peer, named_peer};
-ghost use Rattle.p2p_directory.specs.Private.Slots.{contents, has_slot, is_named, KeepsRoom};
-ghost use Rattle.p2p_directory.specs.Private.Endpoints.{node_of, IsServedBy};
+ghost use Rattle.p2p_directory.specs.Private.Endpoints.{node_of};
 
 use crate::node::decoded::{Decoded, are_equal};
 use crate::node::endpoint::{Endpoint, frame_of};

@@ -1,7 +1,7 @@
 //! Slots that are made for one command and removed if they are empty after it.
 
 ghost use Rattle.std.specs.Prelude.{◌≡◌, true, false, OnOk, OnErr, Some, ◌||◌};
-ghost use Rattle.p2p_directory.specs.Nodes.{may_reserve};
+ghost use Rattle.p2p_tracker.specs.Calls.{may_reserve};
 ghost use Rattle.p2p_directory.specs.Run.{call_of, was_made};
 ghost use Rattle.p2p_directory.specs.Private.Serving.{has_slot_for, reserved_peer, IsServed};
 ghost use Rattle.p2p_directory.specs.Private.Serving.{IsSteppedAlone};
