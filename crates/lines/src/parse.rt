@@ -1,6 +1,6 @@
 //! What a line requests.
 
-ghost use Rattle.std.specs.Prelude.{◌<◌, ◌-◌, ◌^◌, IfOk, length};
+ghost use Rattle.std.specs.Prelude.{◌<◌, ◌-◌, IfOk};
 ghost use Rattle.lines.specs.Requests.{CanServe};
 
 use crate::fault::Fault;

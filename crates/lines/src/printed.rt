@@ -1,9 +1,8 @@
 //! The printed forms of values.
 
 ghost use Rattle.std.specs.Prelude.{Some};
-ghost use Rattle.lines.specs.Printed.{hex_text, ip_text, socket_text, ingress_text};
-ghost use Rattle.lines.specs.Printed.{address_text, info_text, data_text, bits_text};
-ghost use Rattle.lines.specs.Printed.{bit_vec_text};
+ghost use Rattle.lines.specs.Printed.{hex_text, ip_text, socket_text, ingress_text, address_text};
+ghost use Rattle.lines.specs.Printed.{info_text, data_text, bits_text, bit_vec_text};
 
 use p2p_directory::directory::{PeerSetUpdate, TrackedPeers};
 use p2p_directory::node::{Exchanged, NetworkReply, PairReply, Received};

@@ -4,10 +4,8 @@ use Rattle.std.specs.List.{filter}
 use Rattle.std.specs.declared.cmp.Ordering.{Ordering}
 use Rattle.std.specs.BTreeMap.{is_at}
 use Rattle.p2p_tracker.specs.declared.directory.Metadata.{Metadata}
-use Rattle.p2p_tracker.specs.Seen.{RecordView}
-use Rattle.p2p_tracker.specs.Directory.{kept_after_release}
-use Rattle.p2p_tracker.specs.Seen.{DirectoryView, record_of, key_of}
-use Rattle.p2p_tracker.specs.Directory.{is_busy}
+use Rattle.p2p_tracker.specs.Seen.{RecordView, DirectoryView, record_of, key_of}
+use Rattle.p2p_tracker.specs.Directory.{kept_after_release, is_busy}
 
 module _ {C S : Type 0} where
   -- the record of a peer once what is held of it, if anything, was released

@@ -1,6 +1,6 @@
 //! What the tests share: nodes and runs from lines.
 
-ghost use Rattle.std.specs.Prelude.{◌<◌, ◌-◌, ◌^◌};
+ghost use Rattle.std.specs.Prelude.{◌<◌, ◌-◌};
 
 use lines::{commands, setup};
 use p2p_directory::node::{Node, Setup};

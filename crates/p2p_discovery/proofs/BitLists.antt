@@ -11,11 +11,9 @@ use Rattle.std.proofs.lemmas.Map.Lookups.{CmpEqualImpliesEq}
 use Rattle.std.proofs.lemmas.Map.Views.{tells_apart}
 use Rattle.p2p_discovery.specs.Ordered.{IsPlaceOf}
 use Rattle.std.specs.List.{zip}
-use Rattle.std.specs.Map.{lookup, set_value}
+use Rattle.std.specs.Map.{lookup, set_value, values_of, keys_of}
 use Rattle.std.specs.Option.{is_some}
 use Rattle.p2p_discovery.specs.BitSets.{with_bit, unset}
-use Rattle.std.specs.Map.{values_of}
-use Rattle.std.specs.Map.{keys_of}
 use Rattle.std.proofs.lemmas.Bool.{false_from_ne_true}
 
 pub zip_unset : {P : Type 0} (xs : List P) → zip xs (replicate (length xs) false) ≡ unset xs

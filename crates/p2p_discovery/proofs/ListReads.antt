@@ -1,17 +1,14 @@
 -- Reading and writing values one after the other, as a loop does.
-use Rattle.std.proofs.Common.{◌≡◌, ℕ, suc, ◌+◌, ◌*◌, ◌/◌, ◌≤◌, ◌<◌, true}
-use Rattle.std.proofs.Common.{List, [], ◌∷◌, ◌++◌, length, Result, Ok, Err, refl, sym, ap, ◌∙◌}
-use Rattle.std.proofs.Common.{append_assoc, arith}
-use Rattle.std.proofs.Common.{min, ltb, leb, get_or, drop, add-one, drop-cons}
+use Rattle.std.proofs.Common.{◌≡◌, ℕ, suc, ◌+◌, ◌*◌, ◌/◌, ◌≤◌, ◌<◌, true, List, [], ◌∷◌, ◌++◌, length, Result, Ok, Err}
+use Rattle.std.proofs.Common.{refl, sym, ap, ◌∙◌, append_assoc, arith, min, ltb, leb, get_or, drop, add-one, drop-cons}
 use Rattle.std.specs.List.{AllByRecursion}
-use Rattle.p2p_discovery.specs.Lists.{spellings}
+use Rattle.p2p_discovery.specs.Lists.{spellings, elems, items_at, has_room}
 use Rattle.std.proofs.Math.Nat.{le-div_iff_mul-le}
 use Rattle.std.proofs.lemmas.Bool.{lt-ltb, le-leb, or_left, or_right}
 use Rattle.std.proofs.lemmas.List.{append-nil, length-append, length-drop, nil_from_length}
 use Rattle.p2p_discovery.specs.declared.codec.error.CodecError.{CodecError}
 use Rattle.p2p_discovery.specs.declared.codec.error.CodecError.TheVariants.{Memory}
 use Rattle.p2p_discovery.specs.Reading.{Reading, ◌>>=◌, reads, outcome_then, grows_then, Fails}
-use Rattle.p2p_discovery.specs.Lists.{elems, items_at, has_room}
 
 -- what was read before, and what is still read
 abbrev pub with_front : {A : Type 0} → List A → Result (List A × List ℕ) CodecError → Result (List A × List ℕ) CodecError

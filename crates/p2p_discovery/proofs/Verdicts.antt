@@ -3,8 +3,7 @@ use Rattle.std.proofs.Common.{◌≡◌, ℕ, zero, suc, ◌+◌, ◌<◌, Bool,
 use Rattle.std.proofs.Common.{length, drop, get_or, refl, arith, is_some, if◌then◌else◌}
 use Rattle.std.proofs.Math.Seq.{drop-nil}
 use Rattle.p2p_discovery.specs.declared.discovery.Info.{Info}
-use Rattle.p2p_discovery.specs.Judgement.{Judge, first_of, refusal_if, first_refusal_by}
-use Rattle.p2p_discovery.specs.Judgement.{judged_before}
+use Rattle.p2p_discovery.specs.Judgement.{Judge, first_of, refusal_if, first_refusal_by, judged_before}
 
 module _ {C S : Type 0} (j : Judge C S) (now : ℕ) where
   judges : (k : ℕ) (vs : List Bool) (is : List (Info C S)) (i : Info C S) → k < length is →

@@ -1,6 +1,6 @@
 //! Codecs: the bytes that they read and write.
 
-ghost use Rattle.std.specs.Prelude.{◌≡◌, ◌<◌, ◌^◌};
+ghost use Rattle.std.specs.Prelude.{◌<◌, ◌^◌};
 
 pub(crate) mod array_keys;
 pub(crate) mod small_keys;

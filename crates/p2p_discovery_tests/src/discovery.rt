@@ -1,6 +1,6 @@
 //! Payloads, infos, and the verifier of infos.
 
-ghost use Rattle.std.specs.Prelude.{◌≡◌, ◌<◌};
+ghost use Rattle.std.specs.Prelude.{◌<◌};
 
 use crate::codec::array_keys::{ArrayKey, ArraySignature};
 use crate::codec::small_keys::Small;

@@ -11,8 +11,7 @@ use Rattle.p2p_discovery.specs.declared.types.ingress.Ingress.{Ingress}
 use Rattle.p2p_discovery.specs.Ingress.{ingress_spelling}
 use Rattle.p2p_session.specs.declared.refusal.Refusal.{Refusal}
 use Rattle.p2p_session.specs.declared.refusal.Refusal.TheVariants.{Memory, BadInfo}
-use Rattle.p2p_session.specs.Given.{IsBootstrapper, SpellBootstrappers}
-use Rattle.p2p_session.specs.Given.{bootstrapper_spelling, bootstrappers_spelling}
+use Rattle.p2p_session.specs.Given.{IsBootstrapper, SpellBootstrappers, bootstrapper_spelling, bootstrappers_spelling}
 use Rattle.p2p_discovery.specs.Fixed.{IsFixed}
 use Rattle.p2p_session.specs.Schemes.{Scheme}
 

@@ -24,8 +24,7 @@ use Rattle.p2p_session.specs.Frames.{greeter_of, greeter_in, key_at_end, HasKey,
 use Rattle.p2p_discovery.specs.Fixed.{IsFixed}
 use Rattle.p2p_discovery.specs.Ingress.{ingress_spelling}
 use Rattle.p2p_discovery.specs.Varint.{varint32, varint64}
-use Rattle.p2p_directory.specs.Nodes.{standing_of}
-use Rattle.p2p_directory.specs.Nodes.{NodeView}
+use Rattle.p2p_directory.specs.Nodes.{standing_of, NodeView}
 use Rattle.p2p_session.specs.Schemes.{Scheme, wire}
 
 module _ {C S : Type 0} (k : Scheme C S)

@@ -1,9 +1,8 @@
 -- A frame that was taken by equal bytes.
 use Rattle.std.proofs.Common.{◌≡◌, ℕ, Bool, List, subst}
-use Rattle.p2p_directory.specs.Nodes.{AnswersFrameBy, IsReceivedBy}
+use Rattle.p2p_directory.specs.Nodes.{AnswersFrameBy, IsReceivedBy, NodeView}
 use Rattle.p2p_directory.specs.declared.node.received.Received.{Received}
 use Rattle.p2p_session.specs.Frames.{Hears}
-use Rattle.p2p_directory.specs.Nodes.{NodeView}
 use Rattle.p2p_session.specs.Schemes.{Scheme, wire}
 
 module _ {C S : Type 0} (k : Scheme C S) where

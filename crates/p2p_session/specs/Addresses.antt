@@ -1,6 +1,5 @@
 -- What is asked about addresses, without a session.
-use Rattle.std.specs.Prelude.{◌≡◌, ℕ, ◌==◌, Bool, List, length, Option, Some, None}
-use Rattle.std.specs.Prelude.{if◌then◌else◌}
+use Rattle.std.specs.Prelude.{◌≡◌, ℕ, ◌==◌, Bool, List, length, Option, Some, None, if◌then◌else◌}
 use Rattle.std.specs.Option.{option_map_or}
 use Rattle.p2p_discovery.specs.Global.{is_global}
 use Rattle.p2p_discovery.specs.Ingress.{is_valid}

@@ -5,9 +5,8 @@ use Rattle.p2p_tracker.specs.Calls.{Call}
 use Rattle.p2p_tracker.specs.Calls.Call.{Dial, Listen, Connect, Release, Update, Block}
 use Rattle.p2p_tracker.specs.Calls.Call.{UnblockExpired, ForgetCooled, Ask}
 use Rattle.p2p_tracker.specs.Calls.Question.{StatusOf, NumberTracked, NextUnblock, BlockedAt}
-use Rattle.p2p_tracker.specs.Calls.Question.{PeerSet, LatestIndex, AllPeers, LatestUpdate}
-use Rattle.p2p_tracker.specs.Calls.Question.{InfoOf, InfosFor, BitsAt, IsEligible, IsAcceptable}
-use Rattle.p2p_tracker.specs.Calls.Question.{DialableAt}
+use Rattle.p2p_tracker.specs.Calls.Question.{PeerSet, LatestIndex, AllPeers, LatestUpdate, InfoOf}
+use Rattle.p2p_tracker.specs.Calls.Question.{InfosFor, BitsAt, IsEligible, IsAcceptable, DialableAt}
 use Rattle.p2p_tracker.specs.Directory.{other_keys, dial_moment_in}
 use Rattle.p2p_tracker.specs.Lists.{IsLeastOf}
 use Rattle.p2p_directory.specs.Run.{was_made}

@@ -1,6 +1,6 @@
 //! Answers, written straight into the host's buffer: nothing is allocated.
 
-ghost use Rattle.std.specs.Prelude.{◌≡◌, ℕ, List, ◌+◌, ◌*◌, ◌≤◌, ◌<◌, ◌^◌, min, length, take, flat_map};
+ghost use Rattle.std.specs.Prelude.{◌≡◌, ℕ, List, ◌+◌, ◌*◌, ◌≤◌, ◌<◌, ◌^◌, min, length, flat_map};
 ghost use Rattle.p2p_session.specs.Schemes.{scheme};
 ghost use Rattle.p2p_session.specs.Answers.{keys_bytes, values_bytes, put_at};
 ghost use Rattle.p2p_session.specs.Answers.{IsAnswered, asked_bytes, info_bytes};

@@ -20,12 +20,7 @@ ghost use Rattle.std.specs.Duration.{as_nanos};
 ghost use Rattle.p2p_session.specs.Schemes.{scheme, wire};
 ghost use Rattle.p2p_session.specs.Answers.{IsAnswered, number, asked_bytes};
 ghost use Rattle.p2p_session.specs.Given.{moment_at};
-ghost use Rattle.p2p_session.specs.Frames.{
-  received_answer,
-  TellsReceived,
-  fault_bytes,
-  error_bytes,
-};
+ghost use Rattle.p2p_session.specs.Frames.{TellsReceived, fault_bytes, error_bytes};
 ghost use Rattle.p2p_session.specs.Frames.{greeter_in, key_at_end, HasKey, IsNamedAtEnd};
 ghost use Rattle.p2p_session.specs.Frames.{
   verdicts_in,
@@ -40,8 +35,7 @@ ghost use Rattle.p2p_discovery.specs.Judgement.{judge_of};
 ghost use Rattle.p2p_discovery.specs.Payload.{infos_of_payload};
 ghost use Rattle.p2p_discovery.specs.declared.discovery.Payload.TheVariants.{Peers};
 ghost use Rattle.p2p_directory.specs.Nodes.{standing_of};
-ghost use Rattle.p2p_directory.specs.Received.{received_of, AreFew, are_miscounted};
-ghost use Rattle.p2p_directory.specs.Received.{IsWantOfMemory};
+ghost use Rattle.p2p_directory.specs.Received.{received_of, AreFew, are_miscounted, IsWantOfMemory};
 
 use crate::answer::{Plain, Values, answer, answer_bytes};
 use crate::checked::Checked;

@@ -13,7 +13,7 @@ ghost use Rattle.p2p_session.specs.Answers.{};
 ghost use Rattle.p2p_session.specs.Given.{bootstrapper_spelling, bootstrappers_spelling};
 ghost use Rattle.p2p_session.specs.Given.{IsBootstrapper, SpellBootstrappers, IsInfoOfKeys};
 ghost use Rattle.p2p_session.specs.Given.{SpellInfo, are_settings, numbers_at, moment_at};
-ghost use Rattle.p2p_session.specs.Given.{IsSetup, IsSetupRead};
+ghost use Rattle.p2p_session.specs.Given.{IsSetupRead};
 ghost use Rattle.p2p_session.specs.declared.refusal.Refusal.TheVariants.{Memory, BadInfo};
 
 use crate::given::{key_in, moment};

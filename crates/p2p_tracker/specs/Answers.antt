@@ -9,14 +9,13 @@ use Rattle.p2p_tracker.specs.Calls.{Settings, SetAt, Direction, Cooldown, Event}
 use Rattle.p2p_tracker.specs.declared.record.Status.TheVariants.{Active}
 use Rattle.p2p_tracker.specs.Calls.Event.{SetTaken, Granted, Blocked}
 use Rattle.p2p_tracker.specs.History.{is_own, is_entitled}
-use Rattle.p2p_tracker.specs.Status.{is_inert, is_reserved}
 use Rattle.p2p_tracker.specs.History.{is_present_with, primary_count, secondary_count}
+use Rattle.p2p_tracker.specs.Status.{is_inert, is_reserved}
 use Rattle.p2p_tracker.specs.Moments.{epoch_millis}
 use Rattle.p2p_tracker.specs.PeerSets.{set_with, latest_index}
-use Rattle.p2p_tracker.specs.Blocks.{IsAnyUntil}
+use Rattle.p2p_tracker.specs.Blocks.{IsAnyUntil, is_blocked}
 use Rattle.p2p_tracker.specs.Lists.{Lists, IsLeastOf}
 use Rattle.p2p_tracker.specs.World.{World, Peer, is_target}
-use Rattle.p2p_tracker.specs.Blocks.{is_blocked}
 use Rattle.p2p_tracker.specs.Cooldowns.{dialable_from}
 
 -- WHAT AN EVENT DID

@@ -1,7 +1,6 @@
 -- Cooldowns, as keys with the moments that are kept of their last grant, in ascending order of the
 -- keys.
-use Rattle.std.specs.Prelude.{ℕ, Bool, List, map, Option, Some, None, nat_le}
-use Rattle.std.specs.Prelude.{if◌then◌else◌}
+use Rattle.std.specs.Prelude.{ℕ, Bool, List, map, Option, Some, None, nat_le, if◌then◌else◌}
 use Rattle.std.specs.Map.{lookup}
 use Rattle.std.specs.Duration.{as_nanos}
 use Rattle.std.specs.declared.time.Duration.{Duration}

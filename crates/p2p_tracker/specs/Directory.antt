@@ -1,8 +1,7 @@
 -- What contracts see of a directory, and what its calls answer and change.
-use Rattle.std.specs.Prelude.{ℕ, ◌≡◌, Bool, true, false, not, ◌&&◌, ◌||◌, if◌then◌else◌, List}
-use Rattle.std.specs.Prelude.{◌++◌, ◌∷◌}
-use Rattle.std.specs.Prelude.{[], map, filter, slice_get, Option, Some, None, unwrap_or, nat_lt}
-use Rattle.std.specs.Prelude.{◌==◌, length, zip, filter_map, nat_le}
+use Rattle.std.specs.Prelude.{ℕ, ◌≡◌, Bool, true, false, not, ◌&&◌, ◌||◌, if◌then◌else◌, List, ◌++◌}
+use Rattle.std.specs.Prelude.{◌∷◌, [], map, filter, slice_get, Option, Some, None, unwrap_or}
+use Rattle.std.specs.Prelude.{nat_lt, ◌==◌, length, zip, filter_map, nat_le}
 use Rattle.std.specs.List.{last_or}
 use Rattle.std.specs.Option.{option_map, option_map_or, option_and_then}
 use Rattle.std.specs.Map.{keys_of}
@@ -12,6 +11,7 @@ use Rattle.p2p_discovery.specs.declared.discovery.Info.{Info}
 use Rattle.p2p_discovery.specs.declared.discovery.BitVec.{BitVec}
 use Rattle.p2p_discovery.specs.declared.types.ingress.Ingress.{Ingress}
 use Rattle.p2p_tracker.specs.Seen.{DirectoryView, record_at, record_of, unblock_of, cooldown_of, peers_of, set_in, key_of}
+use Rattle.p2p_tracker.specs.Seen.{RecordView}
 use Rattle.p2p_tracker.specs.declared.record.Address.{Address}
 use Rattle.p2p_tracker.specs.declared.record.Address.TheVariants.{Myself, Bootstrapper}
 use Rattle.p2p_tracker.specs.declared.record.Status.{Status}
@@ -23,20 +23,16 @@ use Rattle.p2p_tracker.specs.declared.directory.Metadata.{Metadata}
 use Rattle.p2p_tracker.specs.declared.directory.Metadata.TheVariants.{Dialer, Listener}
 use Rattle.p2p_tracker.specs.Calls.{SetAt, Cooldown}
 use Rattle.p2p_tracker.specs.Status.{is_inert, is_reserved}
-use Rattle.p2p_tracker.specs.Lists.{last_ingress_by, last_of}
+use Rattle.p2p_tracker.specs.Lists.{last_ingress_by, last_of, Lists, IsLeastOf}
 use Rattle.p2p_tracker.specs.Blocks.{is_blocked}
 use Rattle.p2p_tracker.specs.Answers.{is_cooled_by}
-use Rattle.p2p_tracker.specs.Moments.{epoch_millis}
-use Rattle.p2p_tracker.specs.Record.{new_record, fresh, is_myself, is_eligible}
-use Rattle.p2p_tracker.specs.Seen.{RecordView}
-use Rattle.p2p_tracker.specs.Record.{after_failure, after_success, reserved_record, with_counts}
-use Rattle.p2p_tracker.specs.Record.{unless_deletable, address_after_infos, wants_info}
-use Rattle.p2p_tracker.specs.Record.{sharable_by, may_come, may_be_dialled, ingress_of}
-use Rattle.p2p_tracker.specs.Record.{DialView, dial_status, is_now, later_moment}
-use Rattle.p2p_tracker.specs.Record.{with_cooldown}
-use Rattle.p2p_tracker.specs.Moments.{moments_after}
+use Rattle.p2p_tracker.specs.Moments.{epoch_millis, moments_after}
+use Rattle.p2p_tracker.specs.Record.{new_record, fresh, is_myself, is_eligible, after_failure}
+use Rattle.p2p_tracker.specs.Record.{after_success, reserved_record, with_counts, unless_deletable}
+use Rattle.p2p_tracker.specs.Record.{address_after_infos, wants_info, sharable_by, may_come}
+use Rattle.p2p_tracker.specs.Record.{may_be_dialled, ingress_of, DialView, dial_status, is_now}
+use Rattle.p2p_tracker.specs.Record.{later_moment, with_cooldown}
 use Rattle.p2p_tracker.specs.PeerSets.{set_count, set_with}
-use Rattle.p2p_tracker.specs.Lists.{Lists, IsLeastOf}
 use Rattle.p2p_tracker.specs.Cooldowns.{unless_cooled}
 
 -- the peers of the retained set with an index, if there is one

@@ -9,9 +9,8 @@ use Rattle.p2p_tracker.specs.Calls.{Settings, Call, SetAt, Direction, Grant, Coo
 use Rattle.p2p_tracker.specs.declared.record.Status.TheVariants.{Inert, Reserved, Active}
 use Rattle.p2p_tracker.specs.Calls.Event.{SetTaken, Granted, Connected, Released, Updated, Blocked}
 use Rattle.p2p_tracker.specs.Calls.Event.{Expired, Forgot}
-use Rattle.p2p_tracker.specs.History.{same, is_own, is_present_with, is_dial_at}
+use Rattle.p2p_tracker.specs.History.{same, is_own, is_present_with, is_dial_at, moments_of}
 use Rattle.p2p_tracker.specs.Lists.{last_of}
-use Rattle.p2p_tracker.specs.History.{moments_of}
 use Rattle.p2p_tracker.specs.World.{Known, Peer, State, World, event_in}
 
 module _ {C S : Type 0} (s : Settings C S) where

@@ -170,13 +170,11 @@ impl<C: PublicKey> Model for Directory<C> {
 }
 
 impl<C: PublicKey> Directory<C> {
-    ghost use Rattle.p2p_tracker.specs.Directory.{first_record};
+    ghost use Rattle.p2p_tracker.specs.Directory.{first_record, IsBusy, IsReserved, StayBusy};
+    ghost use Rattle.p2p_tracker.specs.Directory.{StayReserved, Reserves, Updates, TakesSet};
+    ghost use Rattle.p2p_tracker.specs.Directory.{AreTornDown, other_keys, may_listen_in};
+    ghost use Rattle.p2p_tracker.specs.Directory.{may_dial_in, ingress_in};
     ghost use Rattle.p2p_tracker.specs.Seen.{config_view, key_of, record_of};
-    ghost use Rattle.p2p_tracker.specs.Directory.{IsBusy, IsReserved, StayBusy, StayReserved};
-    ghost use Rattle.p2p_tracker.specs.Directory.{Reserves, Updates};
-    ghost use Rattle.p2p_tracker.specs.Directory.{TakesSet, AreTornDown};
-    ghost use Rattle.p2p_tracker.specs.Directory.{other_keys};
-    ghost use Rattle.p2p_tracker.specs.Directory.{may_listen_in, may_dial_in, ingress_in};
 
     /// A directory that retains no set and blocks nobody. It has a record of the local node and one
     /// of each bootstrapper. If a key occurs twice among the bootstrappers, the later one counts;

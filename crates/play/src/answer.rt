@@ -1,6 +1,5 @@
 //! The reply to what a line requests.
 
-ghost use Rattle.std.specs.Prelude.{◌≡◌};
 ghost use Rattle.p2p_directory.specs.Received.{wire_of};
 ghost use Rattle.lines.specs.Requests.{CanServe};
 ghost use Rattle.play.specs.Answers.{IsAnswered};

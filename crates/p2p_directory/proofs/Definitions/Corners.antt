@@ -15,10 +15,9 @@ use Rattle.p2p_discovery.specs.declared.types.ingress.Ingress.{Ingress}
 use Rattle.p2p_tracker.specs.History
 use Rattle.p2p_tracker.specs.World.{world_at, event_in, past_after}
 use Rattle.p2p_tracker.specs.Cooldowns.{reservable_from, dialable_from}
-use Rattle.p2p_tracker.specs.Answers.{was_granted, was_taken, was_blocked, status_in, may_connect}
-use Rattle.p2p_tracker.specs.Answers.{may_release, is_torn_down, is_tracked, set_with_index}
-use Rattle.p2p_tracker.specs.Answers.{is_primary_in, is_secondary_in, bits_at, is_dialable}
-use Rattle.p2p_tracker.specs.Answers.{query_moment, sharable_info, infos_for, is_eligible_at}
+use Rattle.p2p_tracker.specs.Answers.{was_granted, was_taken, was_blocked, status_in, may_connect, may_release}
+use Rattle.p2p_tracker.specs.Answers.{is_torn_down, is_tracked, set_with_index, is_primary_in, is_secondary_in, bits_at}
+use Rattle.p2p_tracker.specs.Answers.{is_dialable, query_moment, sharable_info, infos_for, is_eligible_at}
 use Rattle.p2p_tracker.specs.Answers.{is_acceptable_at, granted_direction, is_blocked_at}
 use Rattle.p2p_directory.proofs.Definitions.Setting.{sec, info_at, info, own, setup, after_calls, track, listen, dial, update}
 

@@ -8,11 +8,10 @@ use Rattle.p2p_tracker.specs.Calls.Call.{Track, Dial, Listen, Connect, Release, 
 use Rattle.p2p_tracker.specs.declared.record.Status.TheVariants.{Reserved}
 use Rattle.p2p_tracker.specs.History
 use Rattle.p2p_tracker.specs.World.{world_at, event_in, past_after}
-use Rattle.p2p_tracker.specs.Answers.{was_granted, was_taken, was_blocked, status_in, may_connect}
-use Rattle.p2p_tracker.specs.Answers.{may_release, is_torn_down, is_tracked, set_with_index}
-use Rattle.p2p_tracker.specs.Answers.{latest_index_in, latest_set, is_primary_in, is_secondary_in}
-use Rattle.p2p_tracker.specs.Answers.{bits_at, is_dialable, query_moment, sharable_info, infos_for}
-use Rattle.p2p_tracker.specs.Answers.{is_eligible_at, is_blocked_at}
+use Rattle.p2p_tracker.specs.Answers.{was_granted, was_taken, was_blocked, status_in, may_connect, may_release}
+use Rattle.p2p_tracker.specs.Answers.{is_torn_down, is_tracked, set_with_index, latest_index_in, latest_set}
+use Rattle.p2p_tracker.specs.Answers.{is_primary_in, is_secondary_in, bits_at, is_dialable, query_moment, sharable_info}
+use Rattle.p2p_tracker.specs.Answers.{infos_for, is_eligible_at, is_blocked_at}
 use Rattle.p2p_directory.proofs.Definitions.Setting.{sec, info_at, info, own, setup, after_calls, track, listen, dial, update}
 
 abbrev keys : List ℕ

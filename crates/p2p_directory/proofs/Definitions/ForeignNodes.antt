@@ -41,9 +41,8 @@ use Rattle.p2p_directory.specs.Run.{world_after, IsAnswer}
 use Rattle.p2p_directory.specs.Network.{Done, calls_at, world_at_node, standing_at}
 use Rattle.p2p_directory.specs.Network.{IsNetworkAnswer, AreNetworkAnswers, done_after}
 use Rattle.p2p_directory.specs.Laws.Gossip.{wanted_infos}
-use Rattle.p2p_directory.specs.Laws.Network.{Brings, IsSigned, AreAllGiven, IsGivenOnly, HaveOneList}
-use Rattle.p2p_directory.specs.Laws.Network.{Fits, MayBring, BringsWanted, OfEachReply, infos_to_bring}
-use Rattle.p2p_directory.specs.Laws.Network.{RepliesInfos, IsReplyFor}
+use Rattle.p2p_directory.specs.Laws.Network.{Brings, IsSigned, AreAllGiven, IsGivenOnly, HaveOneList, Fits, MayBring}
+use Rattle.p2p_directory.specs.Laws.Network.{BringsWanted, OfEachReply, infos_to_bring, RepliesInfos, IsReplyFor}
 use Rattle.p2p_directory.proofs.LawsOfGossip.Lists.{inside}
 use Rattle.p2p_directory.proofs.Definitions.Setting.{sec, track, listen}
 use Rattle.p2p_directory.proofs.Definitions.GossipExamples.{wire, signed, signed_elsewhere, asker}

@@ -45,10 +45,9 @@ use Rattle.p2p_directory.proofs.Definitions.Setting.{sec}
 use Rattle.p2p_directory.proofs.Definitions.GossipExamples.{wire, signed, asker, replier}
 use Rattle.p2p_directory.proofs.Definitions.ByteKeys.{IsByte}
 use Rattle.p2p_directory.proofs.Definitions.ExchangePremises.{three, done, seconds, x, IsHonest}
-use Rattle.p2p_directory.proofs.Definitions.ShownRun.{Steps, AreSteps, Infos, after, first, frames, refused, applied, late}
-use Rattle.p2p_directory.proofs.Definitions.ShownRun.{asked, after_frames, after_refused}
-use Rattle.p2p_directory.proofs.Definitions.ShownRun.{answered, answered_of, are_applied, are_late, once, before_late}
-use Rattle.p2p_directory.proofs.Definitions.ShownRun.{answered_before_late}
+use Rattle.p2p_directory.proofs.Definitions.ShownRun.{Steps, AreSteps, Infos, after, first, frames, refused, applied}
+use Rattle.p2p_directory.proofs.Definitions.ShownRun.{late, asked, after_frames, after_refused, answered, answered_of}
+use Rattle.p2p_directory.proofs.Definitions.ShownRun.{are_applied, are_late, once, before_late, answered_before_late}
 
 -- WHAT THE NODES ARE MADE FROM
 

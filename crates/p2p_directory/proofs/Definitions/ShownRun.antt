@@ -32,8 +32,7 @@ use Rattle.p2p_directory.specs.Exchange.{ExchangeOutcome, exchanged_at}
 use Rattle.p2p_directory.specs.Exchange.ExchangeOutcome.{Applied}
 use Rattle.p2p_directory.specs.Nodes.{standing_in}
 use Rattle.p2p_directory.specs.Run.{world_after}
-use Rattle.p2p_directory.specs.Network.{Done, calls_at, standing_at, IsNetworkAnswer, AreNetworkAnswers}
-use Rattle.p2p_directory.specs.Network.{done_after}
+use Rattle.p2p_directory.specs.Network.{Done, calls_at, standing_at, IsNetworkAnswer, AreNetworkAnswers, done_after}
 use Rattle.p2p_directory.proofs.LawsOfNetworks.Provenance.{AreAnswered}
 use Rattle.p2p_directory.proofs.Definitions.Setting.{sec}
 use Rattle.p2p_directory.proofs.Definitions.GossipExamples.{wire, signed, asker}

@@ -1,6 +1,5 @@
 -- Where infos come from: what is known of a peer is the own info or was given, and has its key.
-use Rattle.std.proofs.Common.{◌≡◌, ℕ, Bool, true, false, List, [], ◌∷◌, length, Option, Some, None}
-use Rattle.std.proofs.Common.{refl, subst}
+use Rattle.std.proofs.Common.{◌≡◌, ℕ, Bool, true, false, List, [], ◌∷◌, length, Option, Some, None, refl, subst}
 use Rattle.std.specs.Prelude.{if◌then◌else◌, nat_lt, nat_le, zip, ◌==◌}
 use Rattle.std.specs.List.{AllByRecursion}
 use Rattle.p2p_discovery.specs.declared.discovery.Info.{Info}
@@ -16,8 +15,7 @@ use Rattle.p2p_tracker.specs.World.{World}
 use Rattle.p2p_tracker.specs.Answers
 use Rattle.p2p_directory.specs.Laws.Gossip.{GivesOnly}
 use Rattle.p2p_directory.proofs.Definitions.Makes.{Makes, makes}
-use Rattle.p2p_directory.proofs.LawsOfGossip.Lists.{inside, all_append, all_filter, from_members}
-use Rattle.p2p_directory.proofs.LawsOfGossip.Lists.{member_filter_map}
+use Rattle.p2p_directory.proofs.LawsOfGossip.Lists.{inside, all_append, all_filter, from_members, member_filter_map}
 
 module _ {C S : Type 0} (s : Settings C S) (P : Info C S → Type 0) where
   -- P holds of the own info, and of each info that these calls give

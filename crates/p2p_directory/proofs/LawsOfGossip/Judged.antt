@@ -5,12 +5,10 @@ use Rattle.std.specs.Prelude.{if◌then◌else◌, nat_lt, not}
 use Rattle.std.specs.List.{AllByRecursion}
 use Rattle.std.specs.Duration.{max_nanos}
 use Rattle.std.proofs.lemmas.Bool.{le-ltb}
-use Rattle.p2p_discovery.specs.declared.discovery.Error.TheVariants.{TooManyPeers, ReceivedSelf}
-use Rattle.p2p_discovery.specs.declared.discovery.Error.TheVariants.{InvalidSignature}
+use Rattle.p2p_discovery.specs.declared.discovery.Error.TheVariants.{TooManyPeers, ReceivedSelf, InvalidSignature}
 use Rattle.p2p_discovery.specs.declared.discovery.Error.TheVariants.{SynchronyBound}
 use Rattle.p2p_discovery.specs.declared.discovery.Info.{Info}
-use Rattle.p2p_discovery.specs.Judgement.{Judge, first_of, is_signed, is_too_late, refusal}
-use Rattle.p2p_discovery.specs.Judgement.{first_refusal, list_refusal}
+use Rattle.p2p_discovery.specs.Judgement.{Judge, first_of, is_signed, is_too_late, refusal, first_refusal, list_refusal}
 use Rattle.p2p_tracker.specs.Moments.{epoch_millis}
 
 -- a timestamp that isn't above the milliseconds of a moment, which lies at most the bound past now,

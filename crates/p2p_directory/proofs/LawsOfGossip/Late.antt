@@ -23,12 +23,10 @@ use Rattle.p2p_tracker.specs.Step
 use Rattle.p2p_tracker.specs.Answers.{is_present_in}
 use Rattle.p2p_directory.specs.Run.{world_after}
 use Rattle.p2p_directory.specs.Received as frames
-use Rattle.p2p_directory.specs.Received.{Wire, FrameOutcome, applying, taken, read_at}
-use Rattle.p2p_directory.specs.Received.{received_at, applied_with}
+use Rattle.p2p_directory.specs.Received.{Wire, FrameOutcome, applying, taken, read_at, received_at, applied_with}
 use Rattle.p2p_directory.specs.Nodes.{Made, standing_in, calls_with}
 use Rattle.p2p_directory.specs.Laws.Gossip.{IsMade, IsUpToDate}
-use Rattle.p2p_directory.specs.Laws.LateFrames.{AreKnown, IsTaken, FitsAt, IsFor, SpellsFor}
-use Rattle.p2p_directory.specs.Laws.LateFrames.{TakesLate}
+use Rattle.p2p_directory.specs.Laws.LateFrames.{AreKnown, IsTaken, FitsAt, IsFor, SpellsFor, TakesLate}
 use Rattle.p2p_directory.proofs.Definitions.Keys.{exact_from}
 use Rattle.p2p_directory.proofs.Definitions.Law
 use Rattle.p2p_directory.proofs.Nodes.ReadBack.{wire_by, is_admitted}

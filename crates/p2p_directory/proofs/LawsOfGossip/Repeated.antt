@@ -12,8 +12,7 @@ use Rattle.p2p_tracker.specs.Calls.Call.{Update}
 use Rattle.p2p_tracker.specs.History
 use Rattle.p2p_tracker.specs.World.{World, Known}
 use Rattle.p2p_tracker.specs.Step
-use Rattle.p2p_tracker.specs.Answers.{is_present_in, set_at_place, set_with_index, wants}
-use Rattle.p2p_tracker.specs.Answers.{wants_with}
+use Rattle.p2p_tracker.specs.Answers.{is_present_in, set_at_place, set_with_index, wants, wants_with}
 use Rattle.p2p_tracker.specs.Moments.{epoch_millis}
 use Rattle.p2p_directory.specs.Run.{world_after}
 use Rattle.p2p_directory.specs.Received.{Wire}

@@ -9,12 +9,10 @@ use Rattle.p2p_tracker.specs.Status.{is_inert}
 use Rattle.p2p_tracker.specs.Calls.{Settings, SetAt}
 use Rattle.p2p_tracker.specs.History
 use Rattle.p2p_tracker.specs.World.{World}
-use Rattle.p2p_tracker.specs.Answers.{wants, sharable_info, shared_infos, shared_info}
-use Rattle.p2p_tracker.specs.Answers.{is_present_in, set_at_place}
+use Rattle.p2p_tracker.specs.Answers.{wants, sharable_info, shared_infos, shared_info, is_present_in, set_at_place}
 use Rattle.p2p_directory.specs.Nodes.{Made}
 use Rattle.p2p_directory.specs.Laws.Gossip.{unless_above, wanted_info}
-use Rattle.p2p_directory.proofs.LawsOfGossip.Lists.{inside, IsLess, Member, member_at, any_member}
-use Rattle.p2p_directory.proofs.LawsOfGossip.Lists.{count_some}
+use Rattle.p2p_directory.proofs.LawsOfGossip.Lists.{inside, IsLess, Member, member_at, any_member, count_some}
 
 module _ {C S : Type 0} (asker replier : Made C S) (v : World C S) (millis : ℕ) where
   -- at the asker's bits, a peer's info is shared where it is wanted

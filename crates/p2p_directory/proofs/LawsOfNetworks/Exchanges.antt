@@ -27,8 +27,7 @@ use Rattle.p2p_directory.specs.Exchange
 use Rattle.p2p_directory.specs.Exchange.{ExchangeOutcome, infos_applied}
 use Rattle.p2p_directory.specs.Exchange.ExchangeOutcome.{Applied}
 use Rattle.p2p_directory.specs.Nodes.{Made, standing_in, calls_with}
-use Rattle.p2p_directory.specs.Network.{Done, is_node, calls_at, world_at_node}
-use Rattle.p2p_directory.specs.Network.{IsNetworkAnswer, AreNetworkAnswers}
+use Rattle.p2p_directory.specs.Network.{Done, is_node, calls_at, world_at_node, IsNetworkAnswer, AreNetworkAnswers}
 use Rattle.p2p_directory.specs.Laws.Gossip.{wanted_infos}
 use Rattle.p2p_directory.specs.Laws.Network.{AreMade, IsSigned, MayBring, infos_to_bring, Brings}
 use Rattle.p2p_directory.specs.Laws.Network.{AreSame, BringsWanted, OfEachReply}

@@ -1,6 +1,5 @@
 -- Greetings and late frames between any of the nodes.
-use Rattle.std.proofs.Common.{◌≡◌, ℕ, ◌*◌, ◌^◌, ◌+◌, min, true, List, [], ◌∷◌, Option}
-use Rattle.std.proofs.Common.{sym, ◌∙◌, ap, subst, Bool}
+use Rattle.std.proofs.Common.{◌≡◌, ℕ, ◌*◌, ◌^◌, ◌+◌, min, true, List, [], ◌∷◌, Option, sym, ◌∙◌, ap, subst, Bool}
 use Rattle.std.specs.Cmp.{IsTotalOrder}
 use Rattle.std.specs.Duration.{as_nanos, max_nanos}
 use Rattle.std.specs.Ordering.{is_eq}
@@ -22,8 +21,7 @@ use Rattle.p2p_directory.specs.Received as frames
 use Rattle.p2p_directory.specs.Received.{Wire, Standing, FrameOutcome, applying, greeted}
 use Rattle.p2p_directory.specs.Received.{read_at, received_at, applied_with}
 use Rattle.p2p_directory.specs.Nodes.{Made, calls_with}
-use Rattle.p2p_directory.specs.Network.{Done, is_node, calls_at, calls_then, standing_at}
-use Rattle.p2p_directory.specs.Network.{IsNetworkAnswer}
+use Rattle.p2p_directory.specs.Network.{Done, is_node, calls_at, calls_then, standing_at, IsNetworkAnswer}
 use Rattle.p2p_directory.specs.Laws.LateFrames.{TakesLate}
 use Rattle.p2p_directory.specs.Laws.Network.{AreMade, TakesGreeting, TakesFrame}
 use Rattle.p2p_directory.proofs.Nodes.ReadBack.{wire_by}

@@ -10,9 +10,8 @@ use Rattle.p2p_directory.specs.declared.node.network.commands.NetworkReply.{Netw
 use Rattle.p2p_directory.specs.Received.{Wire}
 use Rattle.p2p_directory.specs.Nodes.{Made}
 use Rattle.p2p_directory.specs.Network.{Done, is_node, calls_at, AreNetworkAnswers}
-use Rattle.p2p_directory.specs.Laws.Network.{AreMade, Isolate, Reorder, PointLaws, ReplyLaws}
-use Rattle.p2p_directory.specs.Laws.Network.{OfEachReply, CarriesExchange, AreWritten}
-use Rattle.p2p_directory.specs.Laws.Network.{AtEachPoint, RepliesInfos}
+use Rattle.p2p_directory.specs.Laws.Network.{AreMade, Isolate, Reorder, PointLaws, ReplyLaws, OfEachReply}
+use Rattle.p2p_directory.specs.Laws.Network.{CarriesExchange, AreWritten, AtEachPoint, RepliesInfos}
 use Rattle.p2p_directory.proofs.Definitions.Keys.{exact_from}
 use Rattle.p2p_directory.proofs.Nodes.ReadBack.{wire_by}
 use Rattle.p2p_directory.proofs.LawsOfRuns.Isolation

@@ -18,13 +18,11 @@ use Rattle.p2p_tracker.specs.Calls.Call.{Update}
 use Rattle.p2p_tracker.specs.History
 use Rattle.p2p_tracker.specs.World.{Peer}
 use Rattle.p2p_directory.specs.Run.{world_after}
-use Rattle.p2p_directory.specs.Nodes.{calls_with}
-use Rattle.p2p_tracker.specs.Answers.{wants, wants_with, is_present_in}
+use Rattle.p2p_directory.specs.Nodes.{calls_with, Made}
+use Rattle.p2p_tracker.specs.Answers.{wants, wants_with, is_present_in, sharable_info}
 use Rattle.p2p_tracker.specs.Moments.{epoch_millis}
-use Rattle.p2p_tracker.specs.Answers.{sharable_info}
 use Rattle.p2p_directory.specs.Received.{Wire}
 use Rattle.p2p_directory.specs.Exchange.{infos_applied}
-use Rattle.p2p_directory.specs.Nodes.{Made}
 use Rattle.p2p_directory.specs.Network.{Done, world_at_node, calls_at}
 use Rattle.p2p_directory.specs.Laws.Gossip.{IsSince, IsUpToDate, unless_above}
 use Rattle.p2p_directory.specs.Laws.Network.{AreMade, MayBring, info_to_bring, infos_to_bring}

@@ -25,8 +25,7 @@ use Rattle.p2p_tracker.specs.Answers.{bits_of, wants}
 use Rattle.p2p_tracker.specs.Moments.{epoch_millis}
 use Rattle.p2p_directory.specs.Run.{bit_vec_of}
 use Rattle.p2p_directory.specs.Received as frames
-use Rattle.p2p_directory.specs.Received.{Wire, Standing, FrameOutcome, only, replied, read_at}
-use Rattle.p2p_directory.specs.Received.{received_at, told_with}
+use Rattle.p2p_directory.specs.Received.{Wire, Standing, FrameOutcome, only, replied, read_at, received_at, told_with}
 use Rattle.p2p_directory.specs.Nodes.{Made, AreValues}
 use Rattle.p2p_directory.specs.Network.{Done, is_node, calls_at, world_at_node, standing_at}
 use Rattle.p2p_directory.specs.Network.{IsNetworkAnswer, IsServedAnswer, AreNetworkAnswers}
@@ -36,8 +35,7 @@ use Rattle.p2p_directory.specs.Laws.Network.{IsReplyFor, RepliesInfos, AreWritte
 use Rattle.p2p_directory.specs.Laws.LateFrames.{IsFor}
 use Rattle.p2p_directory.proofs.Definitions.Keys.{exact_from}
 use Rattle.p2p_directory.proofs.Nodes.ReadBack.{wire_by, is_above, too_many_bits}
-use Rattle.p2p_directory.proofs.LawsOfGossip.Lists.{inside, Member, from_members, member_filter_map}
-use Rattle.p2p_directory.proofs.LawsOfGossip.Lists.{length_some}
+use Rattle.p2p_directory.proofs.LawsOfGossip.Lists.{inside, Member, from_members, member_filter_map, length_some}
 use Rattle.p2p_directory.proofs.LawsOfGossip.Infos
 use Rattle.p2p_directory.proofs.LawsOfGossip.Wanted
 use Rattle.p2p_directory.proofs.LawsOfGossip.Exchanges

@@ -16,9 +16,8 @@ use Rattle.p2p_tracker.specs.History.{last_with, found_with, unless_ended}
 use Rattle.p2p_tracker.specs.World
 use Rattle.p2p_tracker.specs.Step
 use Rattle.p2p_tracker.specs.World.{World}
-use Rattle.p2p_directory.specs.Laws.Grants.{IsCooledAfter, IsCooledUnlessForgotten, IsSpaced}
-use Rattle.p2p_directory.specs.Laws.Grants.{IsSpacedUnlessForgotten, KeepsCooldown}
-use Rattle.p2p_directory.specs.Laws.Grants.{KeepsCooldownUnlessForgotten, moment_or, NeverGoBack}
+use Rattle.p2p_directory.specs.Laws.Grants.{IsCooledAfter, IsCooledUnlessForgotten, IsSpaced, IsSpacedUnlessForgotten}
+use Rattle.p2p_directory.specs.Laws.Grants.{KeepsCooldown, KeepsCooldownUnlessForgotten, moment_or, NeverGoBack}
 use Rattle.p2p_directory.specs.Laws.Grants.{blocks_in, AreOver, IsOverAt, KeepsBlocks}
 use Rattle.p2p_directory.proofs.Definitions.Steps
 use Rattle.p2p_directory.proofs.Definitions.Makes.{Makes, makes, at_call}

@@ -19,10 +19,9 @@ use Rattle.p2p_directory.specs.declared.node.received.Received.{Received}
 use Rattle.p2p_directory.specs.declared.node.received.Received.TheVariants as received
 use Rattle.p2p_directory.specs.Received.{Wire, Standing, FrameOutcome, read_at, received_at}
 use Rattle.p2p_directory.specs.Received.{ask_frame_at, only, applying, replied, taken, frame_may_want_memory}
-use Rattle.p2p_directory.specs.Exchange.{ExchangeOutcome, judged_at, replied_at, asked_at, exchanged_at}
-use Rattle.p2p_directory.specs.Exchange.{IsCarried, HasSpelling, HaveSpelling, CanBeReplied, CanBeSpelled}
-use Rattle.p2p_directory.specs.Exchange.{AnswersAsk, TakesReply, Exchanges, IsExchangeAnswer, infos_applied}
-use Rattle.p2p_directory.specs.Exchange.{exchange_may_want_memory, Carries}
+use Rattle.p2p_directory.specs.Exchange.{ExchangeOutcome, judged_at, replied_at, asked_at, exchanged_at, IsCarried}
+use Rattle.p2p_directory.specs.Exchange.{HasSpelling, HaveSpelling, CanBeReplied, CanBeSpelled, AnswersAsk, TakesReply}
+use Rattle.p2p_directory.specs.Exchange.{Exchanges, IsExchangeAnswer, infos_applied, exchange_may_want_memory, Carries}
 use Rattle.p2p_directory.specs.Nodes.{NodeView, standing_of, Answers, AnswersFrame, IsLeft}
 use Rattle.p2p_directory.specs.Private.Exchanging.{UnlessRefused}
 use Rattle.p2p_directory.specs.Exchange.ExchangeOutcome.{NoSet, AskRefused, Malformed, ReplyRefused, Invalid, Applied}

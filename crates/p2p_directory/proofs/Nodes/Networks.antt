@@ -1,8 +1,7 @@
 -- Any number of nodes: what one of them answers is what is replied to a command, and where all then
 -- stand.
-use Rattle.std.proofs.Common.{◌≡◌, ◌<◌, ◌≤◌, ◌^◌, ℕ, length, Bool, true, false, List, ◌∷◌, Option}
-use Rattle.std.proofs.Common.{inl, inr, ◌++◌, ◌-◌, Result, Ok, Err, refl, sym, ◌∙◌, ap, subst}
-use Rattle.std.proofs.Common.{arith}
+use Rattle.std.proofs.Common.{◌≡◌, ◌<◌, ◌≤◌, ◌^◌, ℕ, length, Bool, true, false, List, ◌∷◌, Option, inl, inr, ◌++◌, ◌-◌}
+use Rattle.std.proofs.Common.{Result, Ok, Err, refl, sym, ◌∙◌, ap, subst, arith}
 use Rattle.std.specs.Prelude.{if◌then◌else◌, IfOk, IfSome, ◌==◌, not, ◌&&◌, slice_index_or}
 use Rattle.std.specs.Prelude.{slice_set, nat_lt, OnOk, ◌⊎◌}
 use Rattle.std.specs.Duration.{as_nanos}
@@ -25,8 +24,7 @@ use Rattle.p2p_tracker.specs.Calls.{Call}
 use Rattle.p2p_directory.specs.Run.{call_of}
 use Rattle.p2p_directory.specs.Received as frames
 use Rattle.p2p_directory.specs.Received.{Wire}
-use Rattle.p2p_directory.specs.Nodes.{Made, NodeView, NodeStandsAt, IsReceivedAt, IsAskedAt}
-use Rattle.p2p_directory.specs.Nodes.{IsSteppedAt, IsStepAnswer}
+use Rattle.p2p_directory.specs.Nodes.{Made, NodeView, NodeStandsAt, IsReceivedAt, IsAskedAt, IsSteppedAt, IsStepAnswer}
 use Rattle.p2p_directory.specs.Network.{Done, changed_by, calls_then, is_node, calls_at, are_there}
 use Rattle.p2p_directory.specs.Network.{standing_at, StandAfter, IsNetworkAnswer}
 use Rattle.p2p_directory.specs.Network as network

@@ -1,7 +1,6 @@
 -- Bits and infos that were spelled are read as they are, or refused for their number.
-use Rattle.std.proofs.Common.{◌≡◌, ◌≢◌, ℕ, ◌+◌, ◌<◌, ◌^◌, Bool, true, false, List, [], ◌++◌, length}
-use Rattle.std.proofs.Common.{Option, Result, Ok, Err, refl, ap, ◌∙◌, cond, lit<, ◌⊎◌, inl, inr}
-use Rattle.std.proofs.Common.{arith}
+use Rattle.std.proofs.Common.{◌≡◌, ◌≢◌, ℕ, ◌+◌, ◌<◌, ◌^◌, Bool, true, false, List, [], ◌++◌, length, Option, Result, Ok}
+use Rattle.std.proofs.Common.{Err, refl, ap, ◌∙◌, cond, lit<, ◌⊎◌, inl, inr, arith}
 use Rattle.std.proofs.lemmas.Bool.Decides.{nat_tests}
 use Rattle.std.specs.Prelude.{nat_lt, nat_le}
 use Rattle.p2p_discovery.specs.declared.codec.error.CodecError.{CodecError}

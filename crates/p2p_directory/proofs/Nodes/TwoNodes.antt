@@ -1,6 +1,5 @@
 -- Two nodes as a network: there are both, so none of the replies is that there is no node.
-use Rattle.std.proofs.Common.{◌≡◌, ◌<◌, ℕ, zero, suc, true, List, [], ◌∷◌, length, refl, ap, subst}
-use Rattle.std.proofs.Common.{arith}
+use Rattle.std.proofs.Common.{◌≡◌, ◌<◌, ℕ, zero, suc, true, List, [], ◌∷◌, length, refl, ap, subst, arith}
 use Rattle.std.specs.Prelude.{slice_index_or}
 use Rattle.std.specs.List.{AllPass}
 use Rattle.std.specs.declared.cmp.Ordering.{Ordering}
@@ -13,8 +12,7 @@ use Rattle.p2p_directory.specs.declared.node.pair.PairCommand.{PairCommand}
 use Rattle.p2p_directory.specs.declared.node.pair.PairCommand.TheVariants as command
 use Rattle.p2p_directory.specs.Received.{Wire}
 use Rattle.p2p_directory.specs.Nodes.{Made, made_of}
-use Rattle.p2p_directory.specs.Network.{Done, are_there, IsNetworkAnswer, AreNetworkAnswers}
-use Rattle.p2p_directory.specs.Network.{node_made, OfNetwork}
+use Rattle.p2p_directory.specs.Network.{Done, are_there, IsNetworkAnswer, AreNetworkAnswers, node_made, OfNetwork}
 use Rattle.p2p_directory.specs.Pairs.{two, command_in, commands_in}
 use Rattle.p2p_directory.specs.Private.Networks.{is_of_node}
 

@@ -5,7 +5,7 @@ use Rattle.std.specs.Option.{option_map, option_map_or}
 use Rattle.std.specs.List.{last_or, list_any}
 use Rattle.std.specs.BTreeMap.{is_at}
 use Rattle.p2p_discovery.proofs.Truth.{nat_le-not_lt}
-use Rattle.p2p_tracker.specs.Blocks.{is_blocked}
+use Rattle.p2p_tracker.specs.Blocks.{is_blocked, IsAnyUntil}
 use Rattle.p2p_tracker.specs.declared.directory.PeerSetUpdate.{PeerSetUpdate}
 use Rattle.p2p_tracker.specs.declared.directory.TrackedPeers.{TrackedPeers}
 use Rattle.p2p_tracker.specs.Calls.{Settings}
@@ -15,16 +15,13 @@ use Rattle.p2p_tracker.specs.History.{same, is_own, is_persistent, is_named, is_
 use Rattle.p2p_tracker.specs.Status.{is_inert}
 use Rattle.p2p_tracker.specs.World.{World}
 use Rattle.p2p_tracker.specs.Step.{unblock_after, world_with}
-use Rattle.p2p_tracker.specs.Answers.{is_present_in, AreAll, IsLatestUpdate, is_blocked_at}
-use Rattle.p2p_tracker.specs.Answers.{AreBlocked, IsNextUnblock, IsAnyExpired, is_eligible_at}
-use Rattle.p2p_tracker.specs.Answers.{is_acceptable_at}
+use Rattle.p2p_tracker.specs.Answers.{is_present_in, AreAll, IsLatestUpdate, is_blocked_at, AreBlocked, IsNextUnblock}
+use Rattle.p2p_tracker.specs.Answers.{IsAnyExpired, is_eligible_at, is_acceptable_at}
 use Rattle.p2p_tracker.specs.Lists.{Lists, IsLeastOf, Somebody}
-use Rattle.p2p_tracker.specs.Blocks.{IsAnyUntil}
 use Rattle.p2p_tracker.specs.Record.{is_myself, is_eligible, is_acceptable}
-use Rattle.p2p_tracker.specs.Directory.{is_blocked_in}
-use Rattle.p2p_tracker.specs.Seen.{DirectoryView, record_of, unblock_of}
-use Rattle.p2p_tracker.specs.Directory.{may_block, if_later, is_free_and, is_named_of, AreAllOf}
+use Rattle.p2p_tracker.specs.Directory.{is_blocked_in, may_block, if_later, is_free_and, is_named_of, AreAllOf}
 use Rattle.p2p_tracker.specs.Directory.{IsUpdateOf, BlocksUntil, EndsBlocks}
+use Rattle.p2p_tracker.specs.Seen.{DirectoryView, record_of, unblock_of}
 use Rattle.p2p_directory.specs.Refinement.{Refines}
 use Rattle.p2p_directory.specs.Run.{update_in}
 use Rattle.p2p_tracker.proofs.Definitions.Listed

@@ -20,21 +20,17 @@ use Rattle.p2p_tracker.specs.World
 use Rattle.p2p_tracker.specs.Step
 use Rattle.p2p_tracker.specs.World.{World, Known, Peer, may_listen}
 use Rattle.p2p_tracker.specs.Lists.{last_ingress_by, last_of}
-use Rattle.p2p_tracker.specs.Cooldowns.{reservable_from}
+use Rattle.p2p_tracker.specs.Cooldowns.{reservable_from, cooldown_in, unless_cooled}
 use Rattle.p2p_tracker.specs.Step.{new_known, world_with}
 use Rattle.p2p_tracker.specs.Answers.{is_present_in, IsTeardown, status_in, is_cooled_by, is_cooled_at, IsNumberCooled}
 use Rattle.p2p_tracker.specs.Record.{new_record, with_cooldown, is_eligible, reserved_record, unless_deletable}
-use Rattle.p2p_tracker.specs.Seen.{RecordView}
+use Rattle.p2p_tracker.specs.Seen.{RecordView, DirectoryView, unblock_of, cooldown_of, record_of}
 use Rattle.p2p_tracker.specs.Moments.{moments_after}
 use Rattle.p2p_tracker.specs.PeerSets.{latest_index, is_above}
 use Rattle.p2p_tracker.specs.Blocks.{unblock_in}
-use Rattle.p2p_tracker.specs.Cooldowns.{cooldown_in, unless_cooled}
-use Rattle.p2p_tracker.specs.Directory.{is_cooled_in}
-use Rattle.p2p_tracker.specs.Seen.{DirectoryView, unblock_of, cooldown_of}
-use Rattle.p2p_tracker.specs.Directory.{IsNumberCooledIn, ForgetsCooled, first_record}
-use Rattle.p2p_tracker.specs.Seen.{record_of}
-use Rattle.p2p_tracker.specs.Directory.{kept_after_release, record_with_sets, is_connectable}
-use Rattle.p2p_tracker.specs.Directory.{ChangesRecord, Reserves, TakesSet, AreTornDown}
+use Rattle.p2p_tracker.specs.Directory.{is_cooled_in, IsNumberCooledIn, ForgetsCooled, first_record, kept_after_release}
+use Rattle.p2p_tracker.specs.Directory.{record_with_sets, is_connectable, ChangesRecord, Reserves, TakesSet}
+use Rattle.p2p_tracker.specs.Directory.{AreTornDown}
 use Rattle.p2p_directory.specs.Refinement.{Refines, config_of, metadata_of, address_known}
 use Rattle.p2p_directory.proofs.Refinement.RecordOfPeer.{record_with, shown, shown_entitled}
 use Rattle.p2p_directory.proofs.Refinement.RecordOfPeer.{shown_busy, shown_with_sets, some_given}

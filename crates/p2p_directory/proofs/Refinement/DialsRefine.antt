@@ -18,9 +18,8 @@ use Rattle.p2p_tracker.specs.World.{World, Known, Peer, last_ingress, is_target}
 use Rattle.p2p_tracker.specs.Cooldowns.{reservable_from, dialable_from}
 use Rattle.p2p_tracker.specs.Answers
 use Rattle.p2p_tracker.specs.Answers.{is_present_in, is_dialable, query_moment, IsDialable}
-use Rattle.p2p_tracker.specs.Record.{DialView, is_grant, may_come, has_valid_ingress, ingress_of}
-use Rattle.p2p_tracker.specs.Record.{is_dial_candidate, may_be_dialled, reserve_answer, dial_status}
-use Rattle.p2p_tracker.specs.Record.{is_now, later_moment}
+use Rattle.p2p_tracker.specs.Record.{DialView, is_grant, may_come, has_valid_ingress, ingress_of, is_dial_candidate}
+use Rattle.p2p_tracker.specs.Record.{may_be_dialled, reserve_answer, dial_status, is_now, later_moment}
 use Rattle.p2p_tracker.specs.Directory.{may_listen_in, may_dial_in, ingress_in, is_dialable_in, query_moment_in, AreDialableIn}
 use Rattle.p2p_tracker.specs.Seen.{DirectoryView}
 use Rattle.p2p_directory.specs.Refinement.{Refines, address_given, address_known, address_of}

@@ -1,7 +1,6 @@
 -- What is known of peers: that connects and updates are steps of the world that a directory refines, and what it tells of them.
-use Rattle.std.proofs.Common.{◌≡◌, ℕ, ◌-◌, ◌^◌, ◌<◌, min, Bool, true, false, ◌||◌, ◌&&◌, not, List}
-use Rattle.std.proofs.Common.{[], Option, Some, None, sym, ap, refl, ◌∙◌, length, map, arith, zip}
-use Rattle.std.proofs.Common.{filter_map, ◌==◌}
+use Rattle.std.proofs.Common.{◌≡◌, ℕ, ◌-◌, ◌^◌, ◌<◌, min, Bool, true, false, ◌||◌, ◌&&◌, not, List, [], Option, Some}
+use Rattle.std.proofs.Common.{None, sym, ap, refl, ◌∙◌, length, map, arith, zip, filter_map, ◌==◌}
 use Rattle.std.specs.Prelude.{if◌then◌else◌, nat_lt, nat_le, slice_get}
 use Rattle.std.specs.declared.cmp.Ordering.TheVariants.{Equal}
 use Rattle.std.specs.BTreeMap.{is_at}
@@ -20,27 +19,22 @@ use Rattle.p2p_tracker.specs.declared.record.Status.{Status}
 use Rattle.p2p_tracker.specs.declared.record.Status.TheVariants.{Inert, Reserved, Active}
 use Rattle.p2p_tracker.specs.Calls.{Settings, SetAt, Cooldown}
 use Rattle.p2p_tracker.specs.Calls.Event.{Connected, Updated}
-use Rattle.p2p_tracker.specs.History.{same, is_own, is_persistent, is_named}
-use Rattle.p2p_tracker.specs.Status.{is_inert, is_reserved}
-use Rattle.p2p_tracker.specs.History.{is_present_with, is_newer, primary_count}
-use Rattle.p2p_tracker.specs.Lists.{first_greatest}
+use Rattle.p2p_tracker.specs.History.{same, is_own, is_persistent, is_named, is_present_with, is_newer, primary_count}
 use Rattle.p2p_tracker.specs.History.{secondary_count}
+use Rattle.p2p_tracker.specs.Status.{is_inert, is_reserved}
+use Rattle.p2p_tracker.specs.Lists.{first_greatest}
 use Rattle.p2p_tracker.specs.World.{World, Known, Peer, last_ingress}
 use Rattle.p2p_tracker.specs.Cooldowns.{reservable_from, dialable_from}
 use Rattle.p2p_tracker.specs.Step
 use Rattle.p2p_tracker.specs.Step.{new_known, world_with, status_connected}
-use Rattle.p2p_tracker.specs.Answers.{is_present_in, wants, wants_with, active_info, sharable_of}
-use Rattle.p2p_tracker.specs.Answers.{sharable_info, shared_info, infos_for}
+use Rattle.p2p_tracker.specs.Answers.{is_present_in, wants, wants_with, active_info, sharable_of, sharable_info}
+use Rattle.p2p_tracker.specs.Answers.{shared_info, infos_for, IsNumberTracked}
 use Rattle.p2p_tracker.specs.Moments.{epoch_millis}
-use Rattle.p2p_tracker.specs.Answers.{IsNumberTracked}
 use Rattle.p2p_tracker.specs.PeerSets.{set_with}
 use Rattle.p2p_tracker.specs.Record.{is_myself, after_success, address_after_offer, address_after_infos, wants_by, sharable_by}
-use Rattle.p2p_tracker.specs.Seen.{RecordView}
-use Rattle.p2p_tracker.specs.Directory.{connected_record, updated_record}
-use Rattle.p2p_tracker.specs.Seen.{DirectoryView, record_of}
-use Rattle.p2p_tracker.specs.Directory.{infos_of, sharable_in, sharable_of_record, shared_at}
-use Rattle.p2p_tracker.specs.Directory.{infos_in, is_known, bit_vec_at, other_keys, Connects}
-use Rattle.p2p_tracker.specs.Directory.{Updates}
+use Rattle.p2p_tracker.specs.Seen.{RecordView, DirectoryView, record_of}
+use Rattle.p2p_tracker.specs.Directory.{connected_record, updated_record, infos_of, sharable_in, sharable_of_record}
+use Rattle.p2p_tracker.specs.Directory.{shared_at, infos_in, is_known, bit_vec_at, other_keys, Connects, Updates}
 use Rattle.p2p_directory.specs.Refinement.{Refines, address_given, address_known, address_of}
 use Rattle.p2p_directory.specs.Run.{bit_vec_of, bit_vec_in}
 use Rattle.p2p_tracker.proofs.SetsAndRecords.Listing.{listed_by_value}

@@ -24,10 +24,9 @@ use Rattle.p2p_tracker.specs.Moments.{cap}
 use Rattle.p2p_tracker.specs.Answers.{is_present_in, was_taken, was_blocked, granted_direction, IsTrackAnswer}
 use Rattle.p2p_tracker.specs.PeerSets.{set_of, latest_index, is_above}
 use Rattle.p2p_tracker.specs.Seen.{RecordView, DirectoryView, record_of}
-use Rattle.p2p_tracker.specs.Directory.{is_busy, first_record, kept_after_release, may_block}
-use Rattle.p2p_tracker.specs.Directory.{may_listen_in, may_dial_in, ingress_in, ChangesRecord}
-use Rattle.p2p_tracker.specs.Directory.{Reserves, Connects, Updates, TakesSet, AreTornDown}
-use Rattle.p2p_tracker.specs.Directory.{BlocksUntil, EndsBlocks, ForgetsCooled}
+use Rattle.p2p_tracker.specs.Directory.{is_busy, first_record, kept_after_release, may_block, may_listen_in}
+use Rattle.p2p_tracker.specs.Directory.{may_dial_in, ingress_in, ChangesRecord, Reserves, Connects, Updates, TakesSet}
+use Rattle.p2p_tracker.specs.Directory.{AreTornDown, BlocksUntil, EndsBlocks, ForgetsCooled}
 use Rattle.p2p_directory.specs.Held.{AreHeld}
 use Rattle.p2p_directory.specs.Refinement.{Refines, config_of, record_in, metadata_of}
 use Rattle.p2p_directory.specs.Run.{world_after, event_of, Holds}

@@ -14,13 +14,10 @@ use Rattle.p2p_tracker.specs.declared.record.Status.TheVariants.{Inert, Reserved
 use Rattle.p2p_tracker.specs.Calls.{SetAt}
 use Rattle.p2p_tracker.specs.Status.{is_inert, is_reserved}
 use Rattle.p2p_tracker.specs.Record.{with_cooldown}
-use Rattle.p2p_tracker.specs.Seen.{RecordView}
-use Rattle.p2p_tracker.specs.Directory.{is_busy, released_record}
-use Rattle.p2p_tracker.specs.Seen.{DirectoryView, record_of, key_of}
-use Rattle.p2p_tracker.specs.Directory.{kept_after_release, connected_record, IsBusy, IsReserved}
-use Rattle.p2p_tracker.specs.Directory.{ChangesRecord, Connects, TakesSet, ForgetsCooled, ChangesAt}
+use Rattle.p2p_tracker.specs.Seen.{RecordView, DirectoryView, record_of, key_of, cooldown_of, record_at}
+use Rattle.p2p_tracker.specs.Directory.{is_busy, released_record, kept_after_release, connected_record, IsBusy}
+use Rattle.p2p_tracker.specs.Directory.{IsReserved, ChangesRecord, Connects, TakesSet, ForgetsCooled, ChangesAt}
 use Rattle.p2p_tracker.specs.Directory.{is_cooled_in}
-use Rattle.p2p_tracker.specs.Seen.{cooldown_of, record_at}
 use Rattle.p2p_directory.specs.Held.{AreHeld, after_release}
 use Rattle.p2p_tracker.proofs.SetsAndRecords.Consistent.{status_unless, status_with_sets}
 

@@ -37,10 +37,9 @@ use Rattle.p2p_tracker.specs.Answers.{IsNumberTracked, is_dialable}
 use Rattle.p2p_tracker.specs.PeerSets.{set_with, has_peers}
 use Rattle.p2p_tracker.specs.Lists.{Lists, IsLeastOf, Somebody}
 use Rattle.p2p_tracker.specs.Record.{is_eligible, is_acceptable}
-use Rattle.p2p_tracker.specs.Directory.{peer_set_in, sharable_in, infos_in, bit_vec_at}
+use Rattle.p2p_tracker.specs.Directory.{peer_set_in, sharable_in, infos_in, bit_vec_at, other_keys, is_blocked_in}
+use Rattle.p2p_tracker.specs.Directory.{is_free_and, is_named_of, AreAllOf, IsUpdateOf, is_dialable_in, AreDialableIn}
 use Rattle.p2p_tracker.specs.Seen.{peers_of}
-use Rattle.p2p_tracker.specs.Directory.{other_keys, is_blocked_in, is_free_and, is_named_of}
-use Rattle.p2p_tracker.specs.Directory.{AreAllOf, IsUpdateOf, is_dialable_in, AreDialableIn}
 use Rattle.p2p_directory.specs.Run.{MayWantToTell}
 use Rattle.p2p_tracker.proofs.Definitions.Listed.{somebody_alike}
 use Rattle.p2p_directory.proofs.Reservations.Served.{same_views, idle}

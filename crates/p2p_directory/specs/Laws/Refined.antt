@@ -15,12 +15,10 @@ use Rattle.p2p_tracker.specs.Answers.{status_in, IsNumberTracked, AreBlocked, Is
 use Rattle.p2p_tracker.specs.Answers.{IsAnyExpired, IsNumberCooled, set_with_index, latest_index_in}
 use Rattle.p2p_tracker.specs.Answers.{AreAll, IsLatestUpdate, sharable_info, infos_for}
 use Rattle.p2p_tracker.specs.Answers.{is_eligible_at, is_acceptable_at, IsDialable}
-use Rattle.p2p_tracker.specs.Directory.{other_keys}
-use Rattle.p2p_tracker.specs.Seen.{DirectoryView, record_of, unblock_of}
-use Rattle.p2p_tracker.specs.Directory.{is_blocked_in, peer_set_in, AreAllOf, IsUpdateOf}
-use Rattle.p2p_tracker.specs.Seen.{peers_of}
-use Rattle.p2p_tracker.specs.Directory.{sharable_in, infos_in, bit_vec_at, is_free_and}
+use Rattle.p2p_tracker.specs.Directory.{other_keys, is_blocked_in, peer_set_in, AreAllOf}
+use Rattle.p2p_tracker.specs.Directory.{IsUpdateOf, sharable_in, infos_in, bit_vec_at, is_free_and}
 use Rattle.p2p_tracker.specs.Directory.{IsNumberCooledIn, AreDialableIn, may_listen_in, may_dial_in}
+use Rattle.p2p_tracker.specs.Seen.{DirectoryView, record_of, unblock_of, peers_of}
 use Rattle.p2p_directory.specs.Run.{bit_vec_in, update_in}
 
 module _ {C S : Type 0} (s : Settings C S) (w : World C S) (d : DirectoryView C S) where

@@ -1,8 +1,7 @@
 //! Laws of one directory, over the calls that it accepted.
 
 ghost use Rattle.std.specs.Prelude.{◌≡◌, ◌≤◌, ◌<◌, ◌^◌, ℕ, Bool, true, false, List, [], ◌∷◌, ◌++◌};
-ghost use Rattle.std.specs.Prelude.{map, Option, Some, option_map, is_some, IfSome, IfNone};
-ghost use Rattle.std.specs.Prelude.{◌+◌};
+ghost use Rattle.std.specs.Prelude.{map, Option, Some, option_map, is_some, IfSome, IfNone, ◌+◌};
 ghost use Rattle.std.specs.List.{AllByRecursion};
 ghost use Rattle.p2p_discovery.specs.declared.discovery.Info.{Info};
 ghost use Rattle.p2p_tracker.specs.Calls.{Settings, SetAt, Call, Question};
@@ -17,14 +16,12 @@ ghost use Rattle.p2p_tracker.specs.Answers.{is_torn_down, IsDialable, IsTrackAns
 ghost use Rattle.p2p_tracker.specs.Moments.{cap};
 ghost use Rattle.p2p_tracker.specs.PeerSets.{set_of, latest_index, is_above};
 ghost use Rattle.p2p_tracker.specs.declared.directory.Metadata.{Metadata};
-ghost use Rattle.p2p_tracker.specs.Directory.{Reserves, Connects, Releases};
-ghost use Rattle.p2p_tracker.specs.Seen.{DirectoryView, record_of};
-ghost use Rattle.p2p_tracker.specs.Directory.{BlocksUntil, Updates, LeavesOthers, IsAsBefore};
-ghost use Rattle.p2p_tracker.specs.Directory.{infos_of};
-ghost use Rattle.p2p_tracker.specs.Directory.{first_record, TakesSet, AreTornDown, IsReserved};
-ghost use Rattle.p2p_tracker.specs.Directory.{may_dial_in, may_listen_in, ingress_in, may_block};
-ghost use Rattle.p2p_tracker.specs.Directory.{EndsBlocks, ForgetsCooled};
-ghost use Rattle.p2p_tracker.specs.Seen.{key_of};
+ghost use Rattle.p2p_tracker.specs.Directory.{Reserves, Connects, Releases, BlocksUntil, Updates};
+ghost use Rattle.p2p_tracker.specs.Directory.{LeavesOthers, IsAsBefore, infos_of, first_record};
+ghost use Rattle.p2p_tracker.specs.Directory.{TakesSet, AreTornDown, IsReserved, may_dial_in};
+ghost use Rattle.p2p_tracker.specs.Directory.{may_listen_in, ingress_in, may_block, EndsBlocks};
+ghost use Rattle.p2p_tracker.specs.Directory.{ForgetsCooled};
+ghost use Rattle.p2p_tracker.specs.Seen.{DirectoryView, record_of, key_of};
 ghost use Rattle.p2p_directory.specs.Held.{AreHeld};
 ghost use Rattle.p2p_directory.specs.Laws.Effects.{HoldsNone, AddsHeld, DropsHeld};
 ghost use Rattle.p2p_directory.specs.Laws.Effects.{DirectoryStandsAt, granted_after};

@@ -11,13 +11,11 @@ ghost use Rattle.p2p_directory.specs.Laws.Gossip.{IsMade};
 ghost use Rattle.p2p_directory.specs.Laws.LateFrames.{TakesLateAt};
 ghost use Rattle.p2p_directory.specs.declared.node.received.Received.{Received};
 ghost use Rattle.p2p_directory.specs.Network.{is_node};
-ghost use Rattle.p2p_directory.specs.Laws.Network.{AreMade, OfAll, OfAnswers};
-ghost use Rattle.p2p_directory.specs.Laws.Network.{AtEachPoint, PointLaws, Provenance};
-ghost use Rattle.p2p_directory.specs.Laws.Network.{GivesSigned, HoldSigned};
-ghost use Rattle.p2p_directory.specs.Laws.Network.{OnlyGetNewer, Isolate, Reorder};
-ghost use Rattle.p2p_directory.specs.Laws.Network.{OfEachReply, BringsWanted, LeavesOtherNodes};
-ghost use Rattle.p2p_directory.specs.Laws.Network.{TakesGreeting, TakesFrame, AreWritten};
-ghost use Rattle.p2p_directory.specs.Laws.Network.{RepliesInfos};
+ghost use Rattle.p2p_directory.specs.Laws.Network.{AreMade, OfAll, OfAnswers, AtEachPoint};
+ghost use Rattle.p2p_directory.specs.Laws.Network.{PointLaws, Provenance, GivesSigned, HoldSigned};
+ghost use Rattle.p2p_directory.specs.Laws.Network.{OnlyGetNewer, Isolate, Reorder, OfEachReply};
+ghost use Rattle.p2p_directory.specs.Laws.Network.{BringsWanted, LeavesOtherNodes, TakesGreeting};
+ghost use Rattle.p2p_directory.specs.Laws.Network.{TakesFrame, AreWritten, RepliesInfos};
 
 use p2p_discovery::codec::PublicKey;
 

@@ -3,8 +3,7 @@
 ghost use Rattle.std.specs.Prelude.{◌≡◌, None};
 ghost use Rattle.std.specs.Duration.{as_nanos};
 ghost use Rattle.p2p_directory.specs.Received.{wire_of};
-ghost use Rattle.p2p_directory.specs.Exchange.{Exchanges, IsExchanged, Carries};
-ghost use Rattle.p2p_directory.specs.Exchange.{infos_applied};
+ghost use Rattle.p2p_directory.specs.Exchange.{Exchanges, IsExchanged, Carries, infos_applied};
 
 use crate::node::Node;
 use p2p_discovery::codec::{CodecError, PublicKey};

@@ -1,6 +1,5 @@
 //! The calls of a node that change nothing and return a number or a time.
 
-ghost use Rattle.std.specs.Prelude.{◌≡◌};
 ghost use Rattle.p2p_directory.specs.Nodes.{IsStepped};
 ghost use Rattle.p2p_directory.specs.declared.run.commands.Command.{Command};
 ghost use Rattle.p2p_directory.specs.declared.run.commands.Reply.{Reply};

@@ -1,6 +1,6 @@
 //! How bits and their index are encoded.
 
-ghost use Rattle.std.specs.Prelude.{◌≡◌, ◌+◌, ◌<◌, ◌≤◌, ◌^◌, length};
+ghost use Rattle.std.specs.Prelude.{◌≡◌, ◌+◌, ◌<◌, ◌^◌, length};
 ghost use Rattle.p2p_discovery.specs.Reading.{Gives};
 ghost use Rattle.p2p_discovery.specs.BitVec.{bit_vec_spelling, IsBitVecAllowed, bits_read_at};
 ghost use Rattle.p2p_discovery.specs.BitVec.{bit_vec_read_at};

@@ -3,7 +3,6 @@
 ghost use Rattle.std.specs.Prelude.{◌≡◌, ◌+◌, ◌<◌, ◌≤◌, ◌^◌, length};
 ghost use Rattle.p2p_discovery.specs.declared.discovery.Payload.{Payload};
 ghost use Rattle.p2p_discovery.specs.declared.discovery.PayloadConfig.{PayloadConfig};
-ghost use Rattle.p2p_discovery.specs.Reading.{Gives};
 ghost use Rattle.p2p_discovery.specs.Payload.{up_to, prefix_of, IsPayload, IsKeyedPayload};
 ghost use Rattle.p2p_discovery.specs.Payload.{IsAdmitted, CanSpell, payload_spelling, body_at};
 ghost use Rattle.p2p_discovery.specs.Payload.{payload_at, gossip_size};

@@ -1,7 +1,6 @@
 //! Which infos are valid, and why others are refused.
 
-ghost use Rattle.std.specs.Prelude.{◌≡◌, ◌≤◌, true, false, take, length, nat_lt};
-ghost use Rattle.std.specs.Prelude.{get_or};
+ghost use Rattle.std.specs.Prelude.{◌≡◌, ◌≤◌, true, false, take, length, nat_lt, get_or};
 ghost use Rattle.std.specs.Duration.{as_nanos};
 ghost use Rattle.p2p_discovery.specs.Judgement.{judge_of, refusal, list_refusal, judged};
 ghost use Rattle.p2p_discovery.specs.Judgement.{refusal_if, list_refusal_by, to_verify};

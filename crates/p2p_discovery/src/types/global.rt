@@ -1,6 +1,6 @@
 //! The addresses that are not global.
 
-ghost use Rattle.std.specs.Prelude.{◌≡◌, ◌-◌, ◌/◌, ◌^◌, ◌<◌, ◌≤◌};
+ghost use Rattle.std.specs.Prelude.{◌≡◌, ◌-◌, ◌/◌, ◌^◌};
 ghost use Rattle.std.specs.Int.{w32, w128};
 ghost use Rattle.std.specs.List.{list_any};
 ghost use Rattle.p2p_discovery.specs.Global.{lies_in, not_global_v4, not_global_v6};

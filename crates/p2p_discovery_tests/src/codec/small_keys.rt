@@ -1,6 +1,6 @@
 //! A key and a signature of one byte each, below 128. Other bytes are not valid encodings.
 
-ghost use Rattle.std.specs.Prelude.{◌≡◌, ◌<◌, ◌==◌, [], ◌∷◌, true};
+ghost use Rattle.std.specs.Prelude.{◌≡◌, ◌<◌, ◌==◌, [], ◌∷◌};
 ghost use Rattle.std.proofs.Common.{lit≤};
 ghost use Rattle.std.proofs.lemmas.Bool.{eqb-true};
 ghost use Rattle.std.proofs.lemmas.Map.Lookups.{exact_unsigned};

@@ -3,10 +3,9 @@
 ghost use Rattle.std.specs.Prelude.{◌≡◌};
 ghost use Rattle.p2p_session.specs.Schemes.{scheme};
 ghost use Rattle.p2p_session.specs.Given.{track_of};
-ghost use Rattle.p2p_session.specs.Sessions.{Serves, Dials, Listens, TellsConnect};
-ghost use Rattle.p2p_session.specs.Sessions.{TellsRelease, Blocks};
-ghost use Rattle.p2p_session.specs.Sessions.{Unblocks, Forgets, TellsRoom, room_refusal, Tracks};
-ghost use Rattle.p2p_session.specs.Sessions.{UpdatesPeers, HasRoom, Fits};
+ghost use Rattle.p2p_session.specs.Sessions.{Serves, Dials, Listens, TellsConnect, TellsRelease};
+ghost use Rattle.p2p_session.specs.Sessions.{Blocks, Unblocks, Forgets, TellsRoom, room_refusal};
+ghost use Rattle.p2p_session.specs.Sessions.{Tracks, UpdatesPeers, HasRoom, Fits};
 
 use crate::given::{key, moment};
 use crate::refusal::Refusal;

@@ -9,9 +9,8 @@ use Rattle.p2p_tracker.specs.Cooldowns.{dialable_from}
 use Rattle.p2p_tracker.specs.Calls.{Settings}
 use Rattle.p2p_tracker.specs.History
 use Rattle.p2p_tracker.specs.World
-use Rattle.p2p_tracker.specs.World.{World}
+use Rattle.p2p_tracker.specs.World.{World, is_target}
 use Rattle.p2p_tracker.specs.Answers.{IsDialable, is_dialable, is_present_in, query_moment}
-use Rattle.p2p_tracker.specs.World.{is_target}
 use Rattle.p2p_tracker.specs.Dials.{IsBefore}
 use Rattle.p2p_tracker.proofs.Definitions.Listed
 

@@ -1,7 +1,6 @@
 -- Keys with moments: as they are kept and as contracts see them, and who is blocked.
-use Rattle.std.proofs.Common.{◌≡◌, ℕ, suc, ◌≤◌, Bool, true, false, ◌||◌, cond, not, nat_lt, List}
-use Rattle.std.proofs.Common.{[], ◌∷◌, filter, length, Option, Some, None, refl, sym, ◌∙◌, ap}
-use Rattle.std.proofs.Common.{subst, arith}
+use Rattle.std.proofs.Common.{◌≡◌, ℕ, suc, ◌≤◌, Bool, true, false, ◌||◌, cond, not, nat_lt, List, [], ◌∷◌, filter}
+use Rattle.std.proofs.Common.{length, Option, Some, None, refl, sym, ◌∙◌, ap, subst, arith}
 use Rattle.std.specs.declared.cmp.Ordering.{Ordering}
 use Rattle.std.specs.declared.time.Duration.{Duration}
 use Rattle.std.specs.BTreeMap.{insert_entry, is_at}
@@ -19,12 +18,11 @@ use Rattle.std.proofs.lemmas.Map.Entries.{option_filter, lookup-filter-values}
 use Rattle.std.proofs.lemmas.Map.Keys.{IsDistinct-from_sorted}
 use Rattle.std.proofs.lemmas.Map.Lookups.{CmpEqualImpliesEq}
 use Rattle.std.proofs.lemmas.Bool.{ltb-false, le-ltb, lt-ltb, not-true}
-use Rattle.p2p_tracker.specs.Blocks.{is_blocked}
+use Rattle.p2p_tracker.specs.Blocks.{is_blocked, in_nanos, is_later, IsAnyUntil, unblock_in}
 use Rattle.p2p_discovery.specs.Ordered.{has_key}
 use Rattle.p2p_tracker.specs.Directory.{if_later}
 use Rattle.p2p_tracker.specs.Lists.{Lists, Somebody}
 use Rattle.p2p_tracker.proofs.SetsAndRecords.Listing.{listed_by_value, somebody_passes}
-use Rattle.p2p_tracker.specs.Blocks.{in_nanos, is_later, IsAnyUntil, unblock_in}
 
 -- AS CONTRACTS SEE THEM
 

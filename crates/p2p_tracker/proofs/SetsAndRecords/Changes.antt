@@ -21,16 +21,13 @@ use Rattle.p2p_tracker.specs.declared.record.Status.TheVariants.{Inert, Reserved
 use Rattle.p2p_tracker.specs.declared.record.dialing.ReserveResult.TheVariants as answer
 use Rattle.p2p_tracker.specs.Calls.{SetAt, Cooldown}
 use Rattle.p2p_tracker.specs.Lists.{first_greatest}
-use Rattle.p2p_tracker.specs.Record.{is_myself, is_named_or_persistent, is_outbound_target}
-use Rattle.p2p_tracker.specs.Seen.{RecordView}
-use Rattle.p2p_tracker.specs.Record.{is_dial_candidate, has_valid_ingress, ingress_of}
-use Rattle.p2p_tracker.specs.Record.{may_be_dialled, reserve_answer, is_eligible, is_grant}
-use Rattle.p2p_tracker.specs.Record.{may_come, wants_by, is_deletable, reserved_record}
+use Rattle.p2p_tracker.specs.Record.{is_myself, is_named_or_persistent, is_outbound_target, is_dial_candidate}
+use Rattle.p2p_tracker.specs.Record.{has_valid_ingress, ingress_of, may_be_dialled, reserve_answer, is_eligible}
+use Rattle.p2p_tracker.specs.Record.{is_grant, may_come, wants_by, is_deletable, reserved_record, unless_deletable}
+use Rattle.p2p_tracker.specs.Record.{after_failure, after_success, address_after_update, address_after_offer}
+use Rattle.p2p_tracker.specs.Seen.{RecordView, ConfigView, DirectoryView, record_of}
 use Rattle.p2p_tracker.specs.Status.{is_active, is_inert}
-use Rattle.p2p_tracker.specs.Record.{unless_deletable, after_failure, after_success}
-use Rattle.p2p_tracker.specs.Record.{address_after_update, address_after_offer}
 use Rattle.p2p_tracker.specs.Directory.{has_status, ChangesAt, ChangesRecord}
-use Rattle.p2p_tracker.specs.Seen.{ConfigView, DirectoryView, record_of}
 use Rattle.p2p_tracker.specs.Directory.{is_known, released_record, address_after_release, kept_after_release, connected_record, updated_record}
 use Rattle.p2p_tracker.specs.Private.Window.{SetWithBits, plain_sets, sets_with_bits, bits_with, with_bit_of}
 use Rattle.p2p_tracker.specs.declared.record.Role.TheVariants.{Primary, Secondary}

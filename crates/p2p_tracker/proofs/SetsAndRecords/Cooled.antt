@@ -13,18 +13,16 @@ use Rattle.p2p_tracker.specs.declared.record.Status.{Status}
 use Rattle.p2p_tracker.specs.declared.directory.Metadata.{Metadata}
 use Rattle.p2p_tracker.specs.Calls.{SetAt, Cooldown}
 use Rattle.p2p_tracker.specs.Lists.{last_ingress_by}
-use Rattle.p2p_tracker.specs.Cooldowns.{reservable_from, dialable_from}
+use Rattle.p2p_tracker.specs.Cooldowns.{reservable_from, dialable_from, has_cooled, unless_cooled}
 use Rattle.p2p_tracker.specs.Answers.{is_cooled_by}
-use Rattle.p2p_tracker.specs.Record.{new_record, with_cooldown, reserved_record}
+use Rattle.p2p_tracker.specs.Record.{new_record, with_cooldown, reserved_record, is_deletable, with_counts, fresh}
 use Rattle.p2p_tracker.specs.Seen.{RecordView}
 use Rattle.p2p_tracker.specs.Moments.{moments_after}
-use Rattle.p2p_tracker.specs.Record.{is_deletable, with_counts, fresh}
 use Rattle.p2p_tracker.specs.PeerSets.{set_count}
 use Rattle.p2p_tracker.specs.declared.record.Role.TheVariants.{Primary, Secondary}
 use Rattle.p2p_tracker.specs.Directory.{first_record, is_known, has_status, released_record, kept_after_release}
 use Rattle.p2p_tracker.specs.Directory.{connected_record, updated_record, record_with_sets}
 use Rattle.p2p_discovery.specs.Ordered.{has_key}
-use Rattle.p2p_tracker.specs.Cooldowns.{has_cooled, unless_cooled}
 use Rattle.p2p_tracker.specs.Private.Window.{SetWithBits}
 use Rattle.p2p_tracker.specs.Private.Counts.{AreCooled, IsDirectoryInvariant, changed_if, cleared_at}
 use Rattle.p2p_tracker.proofs.SetsAndRecords.Changes.{IsSound, IsKept, kept_same, each_sound, bits_same}

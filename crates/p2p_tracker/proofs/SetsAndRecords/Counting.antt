@@ -1,7 +1,6 @@
 -- Records counted for the sets that come and go, at one key.
-use Rattle.std.proofs.Common.{◌≡◌, ℕ, ◌+◌, ◌-◌, ◌^◌, ◌<◌, ◌≤◌, min, Bool, true, false, cond, ◌||◌}
-use Rattle.std.proofs.Common.{◌&&◌, not, nat_lt, Option, Some, None, IfSome, sym, ap, refl, ◌∙◌}
-use Rattle.std.proofs.Common.{arith}
+use Rattle.std.proofs.Common.{◌≡◌, ℕ, ◌+◌, ◌-◌, ◌^◌, ◌<◌, ◌≤◌, min, Bool, true, false, cond, ◌||◌, ◌&&◌, not, nat_lt}
+use Rattle.std.proofs.Common.{Option, Some, None, IfSome, sym, ap, refl, ◌∙◌, arith}
 use Rattle.std.specs.Prelude.{if◌then◌else◌, unwrap_or}
 use Rattle.std.specs.Option.{option_map_or}
 use Rattle.std.proofs.lemmas.Bool.{lt-ltb, or_right}

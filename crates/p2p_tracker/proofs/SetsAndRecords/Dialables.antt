@@ -7,14 +7,12 @@ use Rattle.std.proofs.Math.Bool.{and-false}
 use Rattle.p2p_discovery.proofs.Truth.{nat_le-not_lt}
 use Rattle.p2p_tracker.specs.declared.directory.Config.{Config}
 use Rattle.p2p_tracker.specs.Calls.{SetAt, Cooldown}
-use Rattle.p2p_tracker.specs.Blocks.{is_blocked}
+use Rattle.p2p_tracker.specs.Blocks.{is_blocked, unblock_in}
 use Rattle.p2p_tracker.specs.Dials.{IsBefore}
 use Rattle.p2p_tracker.specs.Lists.{Lists, IsLeastOf}
-use Rattle.p2p_tracker.specs.Blocks.{unblock_in}
 use Rattle.p2p_tracker.specs.Record.{DialView, dial_status, is_dial_candidate, is_now, later_moment}
-use Rattle.p2p_tracker.specs.Seen.{RecordView}
+use Rattle.p2p_tracker.specs.Seen.{RecordView, ConfigView, DirectoryView, record_at, record_of, unblock_of}
 use Rattle.p2p_tracker.specs.Directory.{is_dialable_in, query_moment_in, AreDialableIn}
-use Rattle.p2p_tracker.specs.Seen.{ConfigView, DirectoryView, record_at, record_of, unblock_of}
 use Rattle.p2p_tracker.specs.Private.Dialling.{dial_state, entry_state}
 use Rattle.p2p_tracker.proofs.Definitions.Quiet
 use Rattle.p2p_tracker.proofs.Definitions.Listed

@@ -7,8 +7,7 @@ use Rattle.std.specs.declared.cmp.Ordering.{Ordering}
 use Rattle.std.proofs.lemmas.Map.Lookups.{CmpEqualImpliesEq, btree_map_from_get}
 use Rattle.std.specs.Map.{lookup, set_value}
 use Rattle.std.proofs.lemmas.Map.Steps.{set_value_same}
-use Rattle.p2p_tracker.specs.Seen.{RecordView}
-use Rattle.p2p_tracker.specs.Seen.{record_at}
+use Rattle.p2p_tracker.specs.Seen.{RecordView, record_at}
 use Rattle.p2p_tracker.specs.Private.Counts.{IsOfMap}
 
 pub same_entries : {C S : Type 0} {cmp : C → C → Ordering} → IsTotalOrder cmp → CmpEqualImpliesEq cmp →

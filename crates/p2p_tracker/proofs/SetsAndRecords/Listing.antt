@@ -1,7 +1,6 @@
 -- The keys of the entries that pass a test, in order: they list the keys whose entry passes.
-use Rattle.std.proofs.Common.{◌≡◌, ℕ, ◌≤◌, ◌⊎◌, min, Bool, true, false, ◌||◌, cond, List, [], ◌∷◌}
-use Rattle.std.proofs.Common.{◌++◌, filter, Option, Some, None, refl, sym, ◌∙◌, ap, subst, arith}
-use Rattle.std.proofs.Common.{append_assoc}
+use Rattle.std.proofs.Common.{◌≡◌, ℕ, ◌≤◌, ◌⊎◌, min, Bool, true, false, ◌||◌, cond, List, [], ◌∷◌, ◌++◌, filter, Option}
+use Rattle.std.proofs.Common.{Some, None, refl, sym, ◌∙◌, ap, subst, arith, append_assoc}
 use Rattle.std.specs.Prelude.{if◌then◌else◌, nat_lt}
 use mathlib.Core.Logic.{inl, inr}
 use Rattle.std.proofs.lemmas.Bool.{ltb-true, ltb-false}

@@ -1,7 +1,6 @@
 -- Where keys stand in lists, and in how many.
-use Rattle.std.proofs.Common.{◌≡◌, ℕ, zero, suc, ◌+◌, ◌||◌, filter, ◌<◌, ◌++◌, Bool, true, ◌⊎◌, inl, inr}
-use Rattle.std.proofs.Common.{false, cond, List, [], ◌∷◌, length, get_or, map, Option, Some, None, refl}
-use Rattle.std.proofs.Common.{sym, ◌∙◌, ap, arith}
+use Rattle.std.proofs.Common.{◌≡◌, ℕ, zero, suc, ◌+◌, ◌||◌, filter, ◌<◌, ◌++◌, Bool, true, ◌⊎◌, inl, inr, false, cond}
+use Rattle.std.proofs.Common.{List, [], ◌∷◌, length, get_or, map, Option, Some, None, refl, sym, ◌∙◌, ap, arith}
 use mathlib.Core.Bool.{true≢false}
 use Rattle.std.specs.Cmp.{IsTotalOrder}
 use Rattle.std.specs.Ordering.{is_eq}

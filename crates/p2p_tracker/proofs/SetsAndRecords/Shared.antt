@@ -12,13 +12,9 @@ use Rattle.p2p_discovery.proofs.Truth.{suc-plus_one}
 use Rattle.p2p_tracker.specs.Calls.{SetAt}
 use Rattle.p2p_tracker.specs.Moments.{epoch_millis}
 use Rattle.p2p_tracker.specs.PeerSets.{set_with}
-use Rattle.p2p_tracker.specs.Seen.{RecordView}
-use Rattle.p2p_tracker.specs.Directory.{shared_at, shared_of, shared_for, infos_in}
-use Rattle.p2p_tracker.specs.Seen.{DirectoryView}
-use Rattle.p2p_tracker.specs.Directory.{is_known, known_bits, bit_vec_at}
-use Rattle.p2p_tracker.specs.Seen.{record_at}
-use Rattle.p2p_tracker.specs.Private.Window.{SetWithBits, plain_set, plain_sets, set_at}
-use Rattle.p2p_tracker.specs.Private.Window.{sets_with_bits}
+use Rattle.p2p_tracker.specs.Seen.{RecordView, DirectoryView, record_at}
+use Rattle.p2p_tracker.specs.Directory.{shared_at, shared_of, shared_for, infos_in, is_known, known_bits, bit_vec_at}
+use Rattle.p2p_tracker.specs.Private.Window.{SetWithBits, plain_set, plain_sets, set_at, sets_with_bits}
 use Rattle.p2p_tracker.proofs.SetsAndRecords.Windows.{bits_shown, none_shown}
 
 -- the set with an index, without its bits

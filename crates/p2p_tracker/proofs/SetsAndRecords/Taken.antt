@@ -1,7 +1,6 @@
 -- What holds between calls, after a set was taken: bits, counts, and whose record is the own one.
-use Rattle.std.proofs.Common.{◌≡◌, ℕ, ◌+◌, ◌≤◌, Bool, true, false, ◌||◌, ◌&&◌, not, List, [], ◌∷◌}
-use Rattle.std.proofs.Common.{◌++◌, map, drop, length, Option, Some, None, IfSome, sym, ap, subst}
-use Rattle.std.proofs.Common.{refl, ◌∙◌, arith}
+use Rattle.std.proofs.Common.{◌≡◌, ℕ, ◌+◌, ◌≤◌, Bool, true, false, ◌||◌, ◌&&◌, not, List, [], ◌∷◌, ◌++◌, map, drop}
+use Rattle.std.proofs.Common.{length, Option, Some, None, IfSome, sym, ap, subst, refl, ◌∙◌, arith}
 use Rattle.std.specs.Prelude.{if◌then◌else◌, unwrap_or, nat_lt}
 use Rattle.std.specs.declared.cmp.Ordering.{Ordering}
 use Rattle.std.specs.Cmp.{IsTotalOrder}

@@ -12,15 +12,13 @@ use Rattle.p2p_tracker.specs.declared.record.Role.{Role}
 use Rattle.p2p_tracker.specs.declared.record.Role.TheVariants.{Primary, Secondary}
 use Rattle.p2p_tracker.specs.Calls.{SetAt, Cooldown}
 use Rattle.p2p_tracker.specs.Status.{is_inert}
-use Rattle.p2p_tracker.specs.Record.{fresh, is_myself, is_eligible, is_deletable}
+use Rattle.p2p_tracker.specs.Record.{fresh, is_myself, is_eligible, is_deletable, with_counts}
+use Rattle.p2p_tracker.specs.Record.{with_cooldown, unless_deletable, reserved_record}
 use Rattle.p2p_tracker.specs.Seen.{RecordView}
-use Rattle.p2p_tracker.specs.Record.{with_counts, with_cooldown}
-use Rattle.p2p_tracker.specs.Record.{unless_deletable}
 use Rattle.p2p_tracker.specs.PeerSets.{set_count, AreRolesDisjoint}
 use Rattle.p2p_discovery.specs.Ordered.{has_key}
 use Rattle.p2p_tracker.specs.Directory.{is_known, ChangesAt}
 use Rattle.p2p_tracker.specs.Moments.{moments_after}
-use Rattle.p2p_tracker.specs.Record.{reserved_record}
 use Rattle.p2p_tracker.specs.Cooldowns.{has_cooled, cooldown_in}
 use Rattle.p2p_tracker.specs.Private.Window.{SetWithBits, plain_sets, sets_with_bits}
 

@@ -1,15 +1,12 @@
 -- Private: dials by the records alone, and what the records list.
-use Rattle.std.specs.Prelude.{ℕ, Bool, List, [], ◌∷◌, min, Option, Some}
-use Rattle.std.specs.Prelude.{None}
-use Rattle.std.specs.Prelude.{if◌then◌else◌, nat_lt, not, ◌&&◌, ◌||◌}
+use Rattle.std.specs.Prelude.{ℕ, Bool, List, [], ◌∷◌, min, Option, Some, None, if◌then◌else◌}
+use Rattle.std.specs.Prelude.{nat_lt, not, ◌&&◌, ◌||◌}
 use Rattle.std.specs.Option.{option_and_then}
 use Rattle.std.specs.declared.cmp.Ordering.{Ordering}
 use Rattle.p2p_discovery.specs.declared.types.ingress.Ingress.{Ingress}
 use Rattle.p2p_tracker.specs.declared.directory.Config.{Config}
-use Rattle.p2p_tracker.specs.Record.{DialView, ingress_of, may_be_dialled}
-use Rattle.p2p_tracker.specs.Seen.{RecordView}
-use Rattle.p2p_tracker.specs.Record.{dial_status}
-use Rattle.p2p_tracker.specs.Seen.{record_at}
+use Rattle.p2p_tracker.specs.Record.{DialView, ingress_of, may_be_dialled, dial_status}
+use Rattle.p2p_tracker.specs.Seen.{RecordView, record_at}
 use Rattle.p2p_tracker.specs.Blocks.{unblock_in}
 
 module _ {C S : Type 0} where

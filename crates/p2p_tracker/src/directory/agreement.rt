@@ -10,9 +10,8 @@ use crate::directory::Directory;
 use p2p_discovery::codec::PublicKey;
 
 impl<C: PublicKey> Directory<C> {
-    ghost use Rattle.p2p_tracker.specs.Directory.{is_named_of};
+    ghost use Rattle.p2p_tracker.specs.Directory.{is_named_of, bit_vec_at, wants_in};
     ghost use Rattle.p2p_tracker.specs.Seen.{record_of, cooldown_of};
-    ghost use Rattle.p2p_tracker.specs.Directory.{bit_vec_at, wants_in};
     ghost use Rattle.p2p_tracker.specs.Cooldowns.{reservable_from, dialable_from};
     ghost use Rattle.p2p_tracker.specs.Record.{is_deletable, is_myself};
     ghost use Rattle.std.specs.BTreeMap.{is_at};

@@ -6,9 +6,8 @@ ghost use Rattle.std.specs.List.{filter, list_any};
 ghost use Rattle.std.specs.Map.{keys_of};
 ghost use Rattle.std.specs.Option.{option_map, option_map_or};
 ghost use Rattle.p2p_tracker.specs.Record.{is_myself};
-ghost use Rattle.p2p_tracker.specs.Blocks.{is_blocked};
+ghost use Rattle.p2p_tracker.specs.Blocks.{is_blocked, in_nanos, is_later, unblock_in};
 ghost use Rattle.p2p_tracker.specs.Lists.{Lists, Somebody};
-ghost use Rattle.p2p_tracker.specs.Blocks.{in_nanos, is_later, unblock_in};
 
 use crate::directory::Directory;
 use crate::directory::records::counts::ordered;
@@ -22,10 +21,9 @@ use std::time::Duration;
 
 impl<C: PublicKey> Directory<C> {
     ghost use Rattle.p2p_tracker.specs.Blocks.{IsAnyUntil};
-    ghost use Rattle.p2p_tracker.specs.Directory.{is_blocked_in, may_block};
+    ghost use Rattle.p2p_tracker.specs.Directory.{is_blocked_in, may_block, BlocksUntil};
+    ghost use Rattle.p2p_tracker.specs.Directory.{EndsBlocks, StayBusy, StayReserved};
     ghost use Rattle.p2p_tracker.specs.Seen.{record_of, unblock_of};
-    ghost use Rattle.p2p_tracker.specs.Directory.{BlocksUntil, EndsBlocks};
-    ghost use Rattle.p2p_tracker.specs.Directory.{StayBusy, StayReserved};
     ghost use Rattle.p2p_tracker.specs.Lists.{IsLeastOf};
     ghost use Rattle.p2p_tracker.specs.Moments.{cap};
 

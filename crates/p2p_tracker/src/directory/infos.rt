@@ -2,18 +2,16 @@
 
 ghost use Rattle.std.specs.Prelude.{◌≡◌, ◌<◌, ◌≤◌, ◌+◌, ◌++◌, length, slice_get, None, true};
 ghost use Rattle.std.specs.Prelude.{option_map, option_to_list, drop, zip, List, ◌∷◌, false};
-ghost use Rattle.std.specs.Prelude.{filter_map, if◌then◌else◌};
+ghost use Rattle.std.specs.Prelude.{filter_map, if◌then◌else◌, IfOk, IfSome, IsOk, OnOk, OnErr};
 ghost use Rattle.std.specs.BTreeMap.{is_at};
 ghost use Rattle.std.specs.Map.{keys_of};
-ghost use Rattle.std.specs.Prelude.{IfOk, IfSome, IsOk, OnOk, OnErr};
 ghost use Rattle.std.specs.Option.{option_and_then, option_copied, IsSomeAnd};
 ghost use Rattle.std.specs.Duration.{as_nanos};
 ghost use Rattle.p2p_discovery.specs.Ingress.{takes_none};
 ghost use Rattle.p2p_tracker.specs.Moments.{epoch_millis};
 ghost use Rattle.p2p_discovery.specs.Ordered.{has_key};
 ghost use Rattle.p2p_tracker.specs.Seen.{record_at};
-ghost use Rattle.p2p_tracker.specs.Directory.{shared_at, shared_of, shared_for};
-ghost use Rattle.p2p_tracker.specs.Directory.{sharable_of_record};
+ghost use Rattle.p2p_tracker.specs.Directory.{shared_at, shared_of, shared_for, sharable_of_record};
 ghost use Rattle.p2p_tracker.specs.Private.Asked.{shared_of_record, asked_from};
 ghost use Rattle.p2p_tracker.specs.Private.Among.{left_keys, shared_with, with_key};
 

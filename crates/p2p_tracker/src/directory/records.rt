@@ -1,8 +1,7 @@
 //! What a directory knows of each peer, by key.
 
-ghost use Rattle.std.specs.Prelude.{◌≡◌, ◌∷◌, [], false, true, IfOk, IfSome, IfNone, Some};
-ghost use Rattle.std.specs.Prelude.{None, OnErr, OnOk, if◌then◌else◌};
-ghost use Rattle.std.specs.Prelude.{length};
+ghost use Rattle.std.specs.Prelude.{◌≡◌, ◌∷◌, [], false, true, IfOk, IfSome, IfNone, Some, None};
+ghost use Rattle.std.specs.Prelude.{OnErr, OnOk, if◌then◌else◌, length};
 ghost use Rattle.std.specs.Option.{option_map, option_map_or, option_copied};
 ghost use Rattle.std.specs.Map.{keys_of};
 ghost use Rattle.std.specs.List.Sorted.{IsStrictlySortedBy};
@@ -14,11 +13,10 @@ ghost use Rattle.p2p_tracker.specs.Moments.{moments_after};
 ghost use Rattle.p2p_tracker.specs.Cooldowns.{cooldown_in};
 ghost use Rattle.p2p_tracker.specs.Private.Counts.{IsGranted};
 ghost use Rattle.p2p_tracker.specs.Private.Dialling.{dialled_of, dialled_in};
-ghost use Rattle.p2p_tracker.specs.Directory.{has_status, is_busy, is_known};
-ghost use Rattle.p2p_tracker.specs.Seen.{key_of, record_at};
-ghost use Rattle.p2p_tracker.specs.Directory.{first_record};
+ghost use Rattle.p2p_tracker.specs.Directory.{has_status, is_busy, is_known, first_record};
 ghost use Rattle.p2p_tracker.specs.Directory.{released_record, kept_after_release};
 ghost use Rattle.p2p_tracker.specs.Directory.{connected_record, updated_record, ChangesAt};
+ghost use Rattle.p2p_tracker.specs.Seen.{key_of, record_at};
 
 use crate::directory::{Config, Metadata};
 use crate::kept::cooldowns::Cooldowns;

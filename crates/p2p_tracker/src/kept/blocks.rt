@@ -10,8 +10,7 @@ ghost use Rattle.std.specs.BTreeMap.{get, is_at};
 ghost use Rattle.std.specs.BTreeSet.{contains};
 ghost use Rattle.std.specs.Option.{option_map, option_map_or};
 ghost use Rattle.std.specs.Ordering.{is_gt};
-ghost use Rattle.p2p_tracker.specs.Blocks.{in_nanos, is_later, unblock_in};
-ghost use Rattle.p2p_tracker.specs.Blocks.{is_blocked};
+ghost use Rattle.p2p_tracker.specs.Blocks.{in_nanos, is_later, unblock_in, is_blocked};
 ghost use Rattle.p2p_tracker.specs.Private.Expirations.{end_cmp, end_in_nanos, IsFirstOf, AreExpirations, AreKept};
 
 use crate::kept::maps::drop_value;

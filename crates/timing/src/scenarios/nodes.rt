@@ -1,6 +1,6 @@
 //! Calls of nodes within Rattle, and exchanges.
 
-ghost use Rattle.std.specs.Prelude.{◌≡◌, ◌<◌, ◌^◌};
+ghost use Rattle.std.specs.Prelude.{◌<◌};
 
 use crate::keys::{Key32, keys};
 use crate::made::{SETS, infos_of, node, tracked};

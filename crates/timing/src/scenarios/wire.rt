@@ -1,6 +1,5 @@
 //! Encoding and decoding of values, and verification of infos.
 
-ghost use Rattle.std.specs.Prelude.{◌≡◌};
 ghost use Rattle.p2p_discovery.specs.Payload.{CanSpell};
 
 use crate::keys::{Key32, keys};

@@ -12,12 +12,11 @@ ghost use Rattle.p2p_tracker.specs.Directory.{infos_in};
 ghost use Rattle.p2p_directory.specs.Received.{wire_of};
 ghost use Rattle.p2p_directory.specs.Nodes.{standing_of, IsLeft};
 ghost use Rattle.p2p_directory.specs.Exchange.{asked_at, replied_at, judged_at, IsExchangeAnswer};
-ghost use Rattle.p2p_directory.specs.Exchange.{infos_applied, Exchanges};
+ghost use Rattle.p2p_directory.specs.Exchange.{infos_applied, Exchanges, HasSpelling, HaveSpelling};
+ghost use Rattle.p2p_directory.specs.Exchange.{CanBeReplied, CanBeSpelled};
 ghost use Rattle.p2p_directory.specs.Private.Endpoints.{node_of};
 ghost use Rattle.p2p_directory.specs.Private.Exchanging.{RepliesToBits, ask_fault, reply_fault};
 ghost use Rattle.p2p_directory.specs.Private.Exchanging.{UnlessRefused, UnlessReplyRefused};
-ghost use Rattle.p2p_directory.specs.Exchange.{HasSpelling, HaveSpelling, CanBeReplied};
-ghost use Rattle.p2p_directory.specs.Exchange.{CanBeSpelled};
 ghost use Rattle.p2p_directory.specs.Private.Frames.{SpellsBits, SpellsInfos, IsReadBack};
 
 use crate::node::endpoint::Endpoint;

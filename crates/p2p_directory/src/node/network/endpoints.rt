@@ -1,7 +1,6 @@
 //! The endpoints of a network: one command among them.
 
-ghost use Rattle.std.specs.Prelude.{◌≡◌, ◌<◌, false, ◌==◌, OnOk, length, slice_index_or};
-ghost use Rattle.std.specs.Prelude.{slice_set};
+ghost use Rattle.std.specs.Prelude.{◌≡◌, ◌<◌, false, ◌==◌, OnOk, length, slice_index_or, slice_set};
 ghost use Rattle.std.specs.List.{All};
 ghost use Rattle.std.specs.Duration.{as_nanos};
 ghost use Rattle.p2p_directory.specs.Received.{wire_of};

@@ -1,7 +1,7 @@
 //! Lists that are made by one pass over all records.
 
 ghost use Rattle.std.specs.Prelude.{◌≡◌, ◌++◌, ◌∷◌, [], false, true, if◌then◌else◌};
-ghost use Rattle.std.specs.Prelude.{IfOk, OnOk, OnErr, Some, ◌||◌};
+ghost use Rattle.std.specs.Prelude.{IfOk, OnOk, OnErr, Some};
 ghost use Rattle.std.specs.Option.{option_map, option_map_or, option_and_then};
 ghost use Rattle.std.specs.List.{filter, list_any};
 ghost use Rattle.std.specs.Map.{keys_of};

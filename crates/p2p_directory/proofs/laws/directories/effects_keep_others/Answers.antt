@@ -2,9 +2,8 @@ use Rattle.std.proofs.Common.{Option, Some, cond, sym, ◌∙◌, ap}
 use Rattle.std.specs.Prelude.{option_map}
 use Rattle.std.specs.declared.cmp.Ordering.{Ordering}
 use Rattle.p2p_tracker.specs.Directory.{ChangesRecord, LeavesOthers, updated_record}
-use Rattle.p2p_tracker.specs.Seen.{DirectoryView, record_at, record_of, unblock_of, cooldown_of}
+use Rattle.p2p_tracker.specs.Seen.{DirectoryView, record_at, record_of, unblock_of, cooldown_of, RecordView}
 use Rattle.p2p_tracker.specs.Record.{reserved_record}
-use Rattle.p2p_tracker.specs.Seen.{RecordView}
 use Rattle.p2p_tracker.specs.Moments.{moments_after}
 use Rattle.p2p_tracker.specs.Blocks.{unblock_in}
 use Rattle.p2p_tracker.specs.Cooldowns.{cooldown_in}

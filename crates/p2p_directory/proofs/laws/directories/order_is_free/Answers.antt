@@ -1,10 +1,9 @@
 use Rattle.std.proofs.Common.{Option, ◌∙◌, ap, subst}
 use Rattle.std.specs.Option.{option_map}
 use Rattle.p2p_tracker.specs.Directory.{Updates}
-use Rattle.p2p_tracker.specs.Seen.{record_of}
+use Rattle.p2p_tracker.specs.Seen.{record_of, RecordView}
 use Rattle.p2p_discovery.specs.declared.discovery.Info.{Info}
 use Rattle.p2p_tracker.specs.Record.{address_after_offer}
-use Rattle.p2p_tracker.specs.Seen.{RecordView}
 use Rattle.p2p_directory.proofs.LawsOfRuns.Ordered
 use Rattle.p2p_directory.proofs.laws.directories.order_is_free.Goals as goal
 

@@ -10,9 +10,8 @@ use Rattle.p2p_tracker.specs.Calls.{SetAt}
 use Rattle.p2p_tracker.specs.PeerSets.{set_count}
 use Rattle.std.specs.BTreeMap.{is_at}
 use Rattle.p2p_tracker.specs.Record.{is_deletable, is_myself, wants_info}
-use Rattle.p2p_tracker.specs.Seen.{RecordView}
+use Rattle.p2p_tracker.specs.Seen.{RecordView, DirectoryView, record_of, cooldown_of}
 use Rattle.p2p_tracker.specs.Directory.{is_known}
-use Rattle.p2p_tracker.specs.Seen.{DirectoryView, record_of, cooldown_of}
 use Rattle.p2p_tracker.specs.Private.Window.{plain_set}
 use Rattle.p2p_tracker.specs.Private.Counts.{AreCounted}
 use Rattle.p2p_tracker.proofs.SetsAndRecords.Cooled.{HasMoments, moments_of_record}

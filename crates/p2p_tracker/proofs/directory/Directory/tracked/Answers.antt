@@ -1,9 +1,8 @@
 use Rattle.std.proofs.Common.{not, filter, length, ◌∙◌, ap, arith}
 use Rattle.std.proofs.lemmas.Map.Entries.{length-keys_of}
 use Rattle.p2p_tracker.specs.Record.{is_myself}
-use Rattle.p2p_tracker.specs.Seen.{RecordView}
+use Rattle.p2p_tracker.specs.Seen.{RecordView, DirectoryView}
 use Rattle.p2p_tracker.specs.Directory.{other_keys}
-use Rattle.p2p_tracker.specs.Seen.{DirectoryView}
 use Rattle.p2p_tracker.proofs.SetsAndRecords.Own.{one_passes}
 use Rattle.p2p_tracker.proofs.directory.Directory.tracked.Goals as goal
 

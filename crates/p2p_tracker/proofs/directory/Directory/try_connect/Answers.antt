@@ -2,9 +2,8 @@ use Rattle.std.proofs.Common.{◌≡◌, Bool, Option, not, true, Some, None, re
 use Rattle.std.specs.Option.{option_map}
 use Rattle.std.specs.Int.NonZero.{non_zero_usize_get}
 use Rattle.p2p_tracker.specs.Status.{is_inert, is_reserved}
-use Rattle.p2p_tracker.specs.Seen.{RecordView}
+use Rattle.p2p_tracker.specs.Seen.{RecordView, config_view, record_at}
 use Rattle.p2p_tracker.specs.Directory.{is_busy, connected_record}
-use Rattle.p2p_tracker.specs.Seen.{config_view, record_at}
 use Rattle.p2p_tracker.specs.Cooldowns.{cooldown_in}
 use Rattle.p2p_tracker.proofs.SetsAndRecords.Cooled.{cooled_at, connect_keeps}
 use Rattle.p2p_tracker.proofs.SetsAndRecords.Changes.{changed_at, kept_connected, changes_view}

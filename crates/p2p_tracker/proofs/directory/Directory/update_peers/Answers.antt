@@ -4,9 +4,8 @@ use Rattle.std.specs.Int.NonZero.{non_zero_usize_get}
 use Rattle.p2p_discovery.specs.declared.discovery.Info.{Info}
 use Rattle.p2p_tracker.specs.declared.record.Status.{Status}
 use Rattle.p2p_tracker.specs.Status.{is_inert, is_reserved}
-use Rattle.p2p_tracker.specs.Seen.{RecordView}
+use Rattle.p2p_tracker.specs.Seen.{RecordView, DirectoryView, config_view, record_at, record_of}
 use Rattle.p2p_tracker.specs.Directory.{has_status, is_busy, infos_of, updated_record, Updates}
-use Rattle.p2p_tracker.specs.Seen.{DirectoryView, config_view, record_at, record_of}
 use Rattle.p2p_tracker.specs.Private.Window.{plain_sets}
 use Rattle.p2p_tracker.specs.Cooldowns.{cooldown_in}
 use Rattle.p2p_tracker.proofs.SetsAndRecords.Cooled.{cooled_each, update_keeps}

@@ -3,8 +3,7 @@ use Rattle.std.specs.Prelude.{option_to_list}
 use Rattle.std.proofs.lemmas.List.{length-append, append-nil}
 use Rattle.p2p_discovery.proofs.Results.{OnErr-from}
 use Rattle.p2p_tracker.specs.Directory.{shared_at}
-use Rattle.p2p_tracker.proofs.SetsAndRecords.Shared.{chosen_from, chosen_at, chosen_behind}
-use Rattle.p2p_tracker.proofs.SetsAndRecords.Shared.{chosen_within}
+use Rattle.p2p_tracker.proofs.SetsAndRecords.Shared.{chosen_from, chosen_at, chosen_behind, chosen_within}
 use Rattle.p2p_tracker.proofs.directory.infos.copy_shared.Goals as goal
 
 pub returns-in_err-copy_info-clause-err : goal.returns-in_err-copy_info-clause-err

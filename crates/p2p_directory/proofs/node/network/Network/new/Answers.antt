@@ -2,8 +2,7 @@ use Rattle.std.proofs.Common.{◌≡◌, length, sym, ◌∙◌, ap, subst, arit
 use Rattle.std.proofs.lemmas.List.{length_push, length-append}
 use Rattle.std.specs.List.{All}
 use Rattle.p2p_discovery.specs.Info.{IsInfo, IsKeyed}
-use Rattle.p2p_directory.proofs.Nodes.NetworkRuns.{OfBoth, both_push, all_push, IsNew}
-use Rattle.p2p_directory.proofs.Nodes.NetworkRuns.{stand_at_start}
+use Rattle.p2p_directory.proofs.Nodes.NetworkRuns.{OfBoth, both_push, all_push, IsNew, stand_at_start}
 use Rattle.p2p_directory.proofs.Nodes.ReadBack.{wire_in}
 use Rattle.p2p_tracker.proofs.SetsAndRecords.Moved.{item_left, item_moved, all_moved}
 use Rattle.p2p_directory.proofs.node.network.Network.new.Goals as goal

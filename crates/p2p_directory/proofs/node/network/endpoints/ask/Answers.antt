@@ -4,8 +4,7 @@ use Rattle.p2p_directory.specs.declared.node.network.commands.NetworkCommand.The
 use Rattle.p2p_directory.specs.Network.{node_made, calls_at}
 use Rattle.p2p_directory.specs.Private.Endpoints.{node_of}
 use Rattle.p2p_directory.proofs.Nodes.Among.{not_there, asked_among}
-use Rattle.p2p_directory.proofs.Nodes.Networks.{stands_there, none_more, is_absent, ask_more}
-use Rattle.p2p_directory.proofs.Nodes.Networks.{ask_written}
+use Rattle.p2p_directory.proofs.Nodes.Networks.{stands_there, none_more, is_absent, ask_more, ask_written}
 use Rattle.p2p_directory.proofs.Nodes.Worlds.{asked_in, bits_in}
 use Rattle.p2p_directory.proofs.Nodes.ReadBack.{wire_in}
 use Rattle.p2p_directory.proofs.node.network.endpoints.ask.Goals as goal

@@ -1,8 +1,7 @@
 use Rattle.std.specs.Prelude.{length, slice_index_or}
 use Rattle.p2p_directory.specs.declared.node.network.commands.NetworkCommand.TheVariants as command
 use Rattle.p2p_directory.specs.Network.{node_made, calls_at}
-use Rattle.p2p_directory.proofs.Nodes.Networks.{stands_at, none_more, is_absent, call_more}
-use Rattle.p2p_directory.proofs.Nodes.Networks.{keep_slots}
+use Rattle.p2p_directory.proofs.Nodes.Networks.{stands_at, none_more, is_absent, call_more, keep_slots}
 use Rattle.p2p_directory.proofs.Nodes.ReadBack.{wire_in}
 use Rattle.p2p_directory.proofs.node.network.endpoints.call.Goals as goal
 

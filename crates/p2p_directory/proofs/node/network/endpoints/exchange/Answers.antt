@@ -7,10 +7,8 @@ use Rattle.p2p_directory.specs.Private.Endpoints.{node_of}
 use Rattle.p2p_directory.specs.Exchange.{infos_applied}
 use Rattle.p2p_directory.specs.Private.Networks.{KeepSlots, nodes_of}
 use Rattle.p2p_directory.specs.Private.Slots.{has_slot}
-use Rattle.p2p_directory.proofs.Nodes.Among.{not_there, not_two, exchanged_among_nodes}
-use Rattle.p2p_directory.proofs.Nodes.Among.{same_nodes, same_left}
-use Rattle.p2p_directory.proofs.Nodes.Networks.{stands_at, none_more, not_served, exchange_more}
-use Rattle.p2p_directory.proofs.Nodes.Networks.{keep_slots}
+use Rattle.p2p_directory.proofs.Nodes.Among.{not_there, not_two, exchanged_among_nodes, same_nodes, same_left}
+use Rattle.p2p_directory.proofs.Nodes.Networks.{stands_at, none_more, not_served, exchange_more, keep_slots}
 use Rattle.p2p_directory.proofs.Nodes.Worlds.{exchanged_in, carried_in}
 use Rattle.p2p_directory.proofs.Nodes.ReadBack.{wire_in}
 use Rattle.p2p_directory.proofs.node.network.endpoints.exchange.Goals as goal

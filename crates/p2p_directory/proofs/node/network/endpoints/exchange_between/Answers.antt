@@ -4,8 +4,7 @@ use Rattle.std.specs.Duration.{as_nanos}
 use Rattle.std.proofs.lemmas.Bool.{eqb-false}
 use Rattle.p2p_directory.specs.Private.Endpoints.{node_of}
 use Rattle.p2p_directory.proofs.Nodes.Carried.{carries}
-use Rattle.p2p_directory.proofs.Nodes.Networks.{exchanged_among, set_in_front, set_in_back}
-use Rattle.p2p_directory.proofs.Nodes.Networks.{of_front, first_of_back}
+use Rattle.p2p_directory.proofs.Nodes.Networks.{exchanged_among, set_in_front, set_in_back, of_front, first_of_back}
 use Rattle.p2p_directory.proofs.Nodes.ReadBack.{wire_in}
 use Rattle.p2p_directory.proofs.node.network.endpoints.exchange_between.Goals as goal
 

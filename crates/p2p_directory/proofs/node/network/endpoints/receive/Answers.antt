@@ -7,8 +7,7 @@ use Rattle.p2p_directory.specs.Private.Endpoints.{node_of}
 use Rattle.std.proofs.Common.{ap}
 use Rattle.p2p_directory.specs.Private.Slots.{has_slot}
 use Rattle.p2p_directory.proofs.Nodes.Among.{not_there, received_among, same_nodes}
-use Rattle.p2p_directory.proofs.Nodes.Networks.{stands_at, none_more, is_absent, frame_more}
-use Rattle.p2p_directory.proofs.Nodes.Networks.{keep_slots}
+use Rattle.p2p_directory.proofs.Nodes.Networks.{stands_at, none_more, is_absent, frame_more, keep_slots}
 use Rattle.p2p_directory.proofs.Nodes.Worlds.{received_in, told_in}
 use Rattle.p2p_directory.proofs.Nodes.ReadBack.{wire_in}
 use Rattle.p2p_directory.proofs.node.network.endpoints.receive.Goals as goal

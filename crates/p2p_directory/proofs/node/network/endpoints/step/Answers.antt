@@ -3,8 +3,7 @@ use Rattle.std.specs.Prelude.{length, slice_index_or}
 use Rattle.p2p_directory.specs.declared.node.network.commands.NetworkCommand.TheVariants as command
 use Rattle.p2p_directory.specs.Network.{node_made, calls_at}
 use Rattle.p2p_directory.proofs.Nodes.Among.{not_there, stepped_among, same_nodes}
-use Rattle.p2p_directory.proofs.Nodes.Networks.{stands_at, none_more, is_absent, step_more}
-use Rattle.p2p_directory.proofs.Nodes.Networks.{answered_served}
+use Rattle.p2p_directory.proofs.Nodes.Networks.{stands_at, none_more, is_absent, step_more, answered_served}
 use Rattle.p2p_directory.proofs.Nodes.ReadBack.{wire_in}
 use Rattle.p2p_directory.proofs.node.network.endpoints.step.Goals as goal
 
