@@ -187,9 +187,9 @@ fn spells_test_keys(rt: HostRuntime) -> Result<(), Fail> {
     Ok(())
 }
 
-/// For `ab`, key 1 gives `1 * 257 + 97 + 1` after `a`, and after `b` that times 257, plus 98 and 1.
-/// Key `u64::MAX` gives `257 * 2^64 - 257 + 256` for one byte 255, which is `2^64 - 1` modulo
-/// `2^64`.
+/// Tests the codec's test keys: for `ab`, key 1 gives `1 * 257 + 97 + 1` after `a`, and after `b`
+/// that times 257, plus 98 and 1. Key `u64::MAX` gives `257 * 2^64 - 257 + 256` for one byte 255,
+/// which is `2^64 - 1` modulo `2^64`.
 #[test]
 fn signs_by_the_bytes(rt: HostRuntime) {
     assert_eq!(rt; TestKey(0).sign(b"", b""), TestSignature(0));

@@ -38,15 +38,16 @@ impl Ord for Key {
 
     ghost matches_eq = { Prim.search (comparing, rules) };
 
-    // Always inlined: a search compares a key with dozens of others.
+    // The order of the session's keys, always inlined: a search compares a key with dozens of
+    // others.
     #[inline(always)]
     fn cmp(&self, other: &Key) -> Ordering {
         compare(&self.0, &other.0)
     }
 }
 
-/// The order of two keys by their bytes: that of the first bytes that differ. The first four bytes
-/// of each are compared as one number, since random keys rarely share them.
+/// The order of two of the session's keys by their bytes: that of the first bytes that differ. The
+/// first four bytes of each are compared as one number, since random keys rarely share them.
 ///
 /// # Conditions
 ///
@@ -64,7 +65,7 @@ pub fn compare<const N: usize>(a: &[u8; N], b: &[u8; N]) -> Ordering
     a.cmp(b)
 }
 
-// The first four bytes as a number, big-endian.
+// The first four bytes of a session's key as a number, big-endian.
 #[inline(always)]
 fn front<const N: usize>(bytes: &[u8; N]) -> u32
     requires { 4 ≤ N }
@@ -141,7 +142,7 @@ impl PublicKey for Key {
 
     ghost verifies = { λ _ _ _ _. false };
 
-    // No session asks: the host verifies signatures, and no scheme is in this library.
+    // No session asks its keys: the host verifies signatures, and no scheme is in this library.
     fn verify(&self, _namespace: &[u8], _message: &[u8], _signature: &Signature) -> bool {
         false
     }

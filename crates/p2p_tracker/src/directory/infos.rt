@@ -40,8 +40,8 @@ const FIRST: usize = 32;
 impl<C: PublicKey> Directory<C> {
     ghost use Rattle.p2p_tracker.specs.Directory.{IsBusy, sharable_in, infos_in, bit_vec_at};
 
-    /// The info of the peer that may be shared: that of the local node, and that of a connected
-    /// peer. It allocates only for an info whose ingress is a name.
+    /// The info of the peer that the directory may share: that of the local node, and that of a
+    /// connected peer. It allocates only for an info whose ingress is a name.
     ///
     /// # Errors
     ///
@@ -62,10 +62,10 @@ impl<C: PublicKey> Directory<C> {
         }
     }
 
-    /// The infos to send to a peer that sent these bits, at the time `now`, a duration since the
-    /// epoch. They are those of the primary peers whose bit is false, in order, of the retained set
-    /// with the index. An info is left out if it may not be shared, or its timestamp is above the
-    /// whole milliseconds of `now`.
+    /// The infos that the directory sends to a peer that sent these bits, at the time `now`, a
+    /// duration since the epoch. They are those of the primary peers whose bit is false, in order,
+    /// of the retained set with the index. An info is left out if it may not be shared, or its
+    /// timestamp is above the whole milliseconds of `now`.
     ///
     /// Returns an empty list if no retained set has the index, and `None` if the number of bits
     /// differs from the number of its primary peers. It allocates only if an info is shared: for
@@ -104,8 +104,8 @@ impl<C: PublicKey> Directory<C> {
         }
     }
 
-    /// The infos that [`Directory::infos`] returns, by a search for each key of a map, if that is
-    /// less work. It allocates as that does.
+    /// The infos that [`Directory::infos`] returns, by a search for each key of a map of busy
+    /// peers, if that is less work. It allocates as that does.
     ///
     /// # Conditions
     ///
@@ -158,8 +158,8 @@ impl<C: PublicKey> Directory<C> {
     }
 
     /// The bits of the retained set at a position, counted from 0 in order of index, with its
-    /// index: for each primary peer in order whether its info is known and not wanted. `None` if
-    /// there is no such position.
+    /// index, by which infos are asked for: for each primary peer in order whether its info is
+    /// known and not wanted. `None` if there is no such position.
     ///
     /// # Errors
     ///
@@ -182,7 +182,8 @@ impl<C: PublicKey> Directory<C> {
     }
 }
 
-/// The whole milliseconds of a time, at most `u64::MAX`.
+/// The whole milliseconds of a time, at most `u64::MAX`, with which timestamps of infos are
+/// compared.
 pub fn epoch_millis(now: Duration) -> u64
     ensures { result ≡ epoch_millis (as_nanos now) }
 {
@@ -219,7 +220,7 @@ pub fn shared_for<C: PublicKey>(
     Ok(Some(infos))
 }
 
-// Whether at least so many bits are false.
+// Whether at least so many infos are unknown, by the bits that are false.
 fn are_unknown(bits: &BitMap, count: usize) -> bool {
     let mut left = count;
     for place in 0..bits.len() {
@@ -263,7 +264,8 @@ fn copy_walked<C: PublicKey>(
     Ok(())
 }
 
-// The first position, from that one on, of a peer whose bit is false and that is not below the key.
+// The first position, from that one on, of a peer whose info is asked for, as its bit is false, and
+// that is not below the key.
 fn first_from<C: PublicKey>(peers: &[C], bits: &BitMap, place: usize, key: &C) -> usize
     requires same { length bits.now ≡ length peers.now }
     requires within { place ≤ length peers.now }
@@ -279,7 +281,8 @@ fn first_from<C: PublicKey>(peers: &[C], bits: &BitMap, place: usize, key: &C) -
     peers.len()
 }
 
-// The same by one search among the records for each peer whose bit is false.
+// Appends copies of the infos of these peers that are shared, by one search among the records for
+// each peer whose bit is false.
 fn copy_shared<C: PublicKey>(
     infos: &mut Vec<Info<C>>,
     records: &Records<C>,
@@ -316,7 +319,7 @@ fn shared<'a, C: PublicKey>(
     shared_by(records.get(peer)?, millis)
 }
 
-// The record's info, if it is shared.
+// The record's info, if the directory shares it.
 fn shared_by<C: PublicKey>(found: &Record<C>, millis: u64) -> Option<&Info<C>>
     ensures { option_copied result ≡ shared_of_record millis found.now }
 {
