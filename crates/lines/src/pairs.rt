@@ -37,7 +37,7 @@ pub fn command(alloc: Global, line: &str) -> Result<PairCommand<TestKey>, Fault>
     }
 }
 
-// The command of a pair, with the nodes by their sides.
+// The command of a line for a pair of nodes, with these by their sides.
 fn of_sides(command: NetworkCommand<TestKey>) -> PairCommand<TestKey> {
     match command {
         NetworkCommand::Call(node, command) => PairCommand::Call(side(node), command),

@@ -99,7 +99,7 @@ pub fn run<C: PublicKey>(
     Ok(server.into_run(replies))
 }
 
-// The slots with which a run starts, one for each peer of which its commands may be granted a
+// Makes, before a run starts, a slot for each peer of which its commands may be granted a
 // reservation.
 fn slots_for<C: PublicKey>(alloc: Global, commands: &[Command<C>]) -> Result<Slots<C>, AllocError>
     ensures room { IfOk result (λ slots. AllPass (has_slot_for C.cmp slots) commands.now) }
@@ -110,7 +110,7 @@ fn slots_for<C: PublicKey>(alloc: Global, commands: &[Command<C>]) -> Result<Slo
     Slots::of_peers(alloc, peers)
 }
 
-// The peers of which the commands of a run may be granted a reservation.
+// The peers, listed before a run starts, of which its commands may be granted a reservation.
 fn reserved_peers<C: PublicKey>(
     alloc: Global,
     commands: &[Command<C>],

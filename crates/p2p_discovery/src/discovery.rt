@@ -38,7 +38,8 @@ pub struct Info<C: PublicKey> {
 }
 
 impl<C: PublicKey> Info<C> {
-    /// An equal info. It doesn't allocate if the info has a socket address.
+    /// An equal info, as discovery passes it on. It doesn't allocate if the info has a socket
+    /// address.
     ///
     /// # Errors
     ///

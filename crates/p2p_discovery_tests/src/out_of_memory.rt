@@ -102,9 +102,9 @@ fn is_unencoded(
     }
 }
 
-/// Encodes, reads and decodes a value at a budget. Asserts that each result is right or out of
-/// memory, and that reading then leaves its buffer unchanged. Returns whether reading, decoding and
-/// encoding ran out of memory.
+/// Encodes, reads and decodes a value at a budget, out of memory or not. Asserts that each result
+/// is right or out of memory, and that reading then leaves its buffer unchanged. Returns whether
+/// reading, decoding and encoding ran out of memory.
 fn reads_within<T: Read<Cfg = ()> + Write + PartialEq>(
     rt: &impl Abort,
     alloc: Global,

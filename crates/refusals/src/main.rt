@@ -28,8 +28,8 @@ fn word(rt: &HostRuntime) -> Option<String> {
     words.nth(1)
 }
 
-// Performs the operation of this name while memory may be refused, and says in the text what comes
-// of it. Returns whether everything is as it should be.
+// Performs the one operation of the program `refusals`, by its name, and says in the text what
+// comes of it. Returns whether everything is as it should be.
 fn is_as_before(alloc: Global, name: &str, text: &mut String) -> Result<bool, Unreadable> {
     match name {
         "init" => starts::directory(alloc, text),

@@ -89,12 +89,12 @@ pub fn signed(key: TestKey, namespace: &[u8], ingress: Ingress, timestamp: u64) 
     })
 }
 
-// The ingress at 1.2.3.4 of an info that names only a port.
+// The ingress at 1.2.3.4 of a parsed info that names only a port.
 fn at_port(port: u16) -> Ingress {
     Ingress::Socket(SocketAddr::new(IpAddr::V4([1, 2, 3, 4]), port))
 }
 
-// The port of a peer whose info is typed without one.
+// The port of a peer whose parsed info names none.
 fn port_of(peer: u64) -> Result<u16, Fault> {
     match u16::try_from(peer.saturating_add(8_000)) {
         Ok(port) => Ok(port),

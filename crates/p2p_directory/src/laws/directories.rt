@@ -51,10 +51,10 @@ pub fn recomputed_is_one_step<C: PublicKey>()
         world_at s (past s (c ∷ cs)) ≡ step s (world_at s (past s cs)) c }
 {}
 
-/// If a directory refines the world that the accepted calls make, its results are those of that
-/// world. By its clause `directory`, [`run`](crate::run::run) returns such a directory. So this law
-/// is for callers that go on with a directory that a run or a node leaves, or that make all calls
-/// by hand: [`effects_refine`]. The results are those of the calls of
+/// By a law of directories, if one refines the world that the accepted calls make, its results are
+/// those of that world. By its clause `directory`, [`run`](crate::run::run) returns such a
+/// directory. So this law is for callers that go on with a directory that a run or a node leaves,
+/// or that make all calls by hand: [`effects_refine`]. The results are those of the calls of
 /// [`Directory`](p2p_tracker::directory::Directory): of each query, who is granted, whether a block
 /// has ended, and how many cooldowns. The failure limit fits `usize`, as in each `Config`.
 pub fn refined_answers<C: PublicKey>()
@@ -158,8 +158,10 @@ pub fn effects_refine<C: PublicKey>()
         DirectoryStandsAt s cs d held → AreHeld C.cmp d held }
 {}
 
-/// What a directory answers is determined: a result that lists the keys with a property, gives the
-/// earliest time of some keys, or counts the tracked or the cooled keys of a world, is unique.
+/// By a law of directories, an answer is unique if it lists the keys of a world with a property,
+/// gives the earliest time of some, or counts the tracked or the cooled keys. a result that lists
+/// the keys with a property, gives the earliest time of some keys, or counts the tracked or the
+/// cooled keys of a world, is unique.
 pub fn answers_are_determined<C: PublicKey>()
     ensures lists { (s : Settings C C.Signature) → s.cmp ≡ C.cmp →
         (test : C → Bool) (xs ys : List C) → Lists s.cmp test xs → Lists s.cmp test ys → xs ≡ ys }
@@ -173,9 +175,9 @@ pub fn answers_are_determined<C: PublicKey>()
         IsNumberCooled s w t m → IsNumberCooled s w t n → m ≡ n }
 {}
 
-/// Calls of a directory on other single peers, and the infos of others in updates, may be left out
-/// of the accepted calls. All that is said of p is the same, and so are the results on p and the
-/// effects of calls on p.
+/// By a law of directories, calls on other single peers, and the infos of others in updates, may be
+/// left out of the accepted calls. All that is said of p is the same, and so are the results on p
+/// and the effects of calls on p.
 pub fn others_may_be_left_out<C: PublicKey>()
     ensures same { (s : Settings C C.Signature) → s.cmp ≡ C.cmp → 1 ≤ s.max_sets →
         (p : C) (cs : List (Call C C.Signature)) →
@@ -186,8 +188,8 @@ pub fn others_may_be_left_out<C: PublicKey>()
         SameFor p w w2 → SameFor p v v2 → is_torn_down s w v p ≡ is_torn_down s w2 v2 p }
 {}
 
-/// Each call of a directory keeps what is said of others: a call on another single peer leaves all
-/// that is said of p as it was; an update changes it by p's infos alone.
+/// By a law of directories, each call keeps what is said of others: a call on another single peer
+/// leaves all that is said of p as it was; an update changes it by p's infos alone.
 pub fn each_call_keeps_others<C: PublicKey>()
     ensures another { (s : Settings C C.Signature) → 1 ≤ s.max_sets →
         (p : C) (c : Call C C.Signature) (cs : List (Call C C.Signature)) →
@@ -197,10 +199,10 @@ pub fn each_call_keeps_others<C: PublicKey>()
         (c : Call C C.Signature) → SameFor p (step s w c) (step s w (narrowed s p c)) }
 {}
 
-/// Call by call, on a directory: what `dial`, `listen`, `connect`, `release` and `block` do to one
-/// peer leaves the retained sets as they are. They also leave each other peer's record, block and
-/// cooldown as they are. Infos that are offered change a peer's record by those of its own key
-/// alone, and nothing else.
+/// By a law of directories, the effects of calls keep others, call by call: what `dial`, `listen`,
+/// `connect`, `release` and `block` do to one peer leaves the retained sets as they are. They also
+/// leave each other peer's record, block and cooldown as they are. Infos that are offered change a
+/// peer's record by those of its own key alone, and nothing else.
 pub fn effects_keep_others<C: PublicKey>()
     ensures reserves { (old new : DirectoryView C C.Signature) (p : C) (now draw : ℕ) →
         Reserves C.cmp old new p now draw → LeavesOthers C.cmp old new p }
@@ -217,8 +219,8 @@ pub fn effects_keep_others<C: PublicKey>()
         (new.sets ≡ old.sets) × IsAsBefore C.cmp other new q }
 {}
 
-/// The order of infos in an update of a directory, or in several that follow each other directly,
-/// doesn't matter if no two infos of one key have the same timestamp.
+/// By a law of directories, the order of infos doesn't matter if no two of one key have the same
+/// timestamp. They may be in an update, or in several that follow each other directly.
 pub fn order_is_free<C: PublicKey>()
     ensures alike { (s : Settings C C.Signature) (w : World C C.Signature)
         (xs ys : List (Info C C.Signature)) → HaveSame xs ys → IsUnambiguous s xs →
@@ -235,10 +237,10 @@ pub fn order_is_free<C: PublicKey>()
         Updates C.cmp old new xs → Updates C.cmp old new ys }
 {}
 
-/// If each set that a directory registered names at most n distinct peers, the number of present
-/// keys is bounded. The bound is n for each set that may be retained, plus the persistent keys,
-/// plus the peers that are not inert and in no set. There are sorted lists of each of these keys,
-/// without repeats, and of the peers of each set: so the bound always says something.
+/// By a law of directories, if each registered set names at most n distinct peers, the number of
+/// present keys is bounded. The bound is n for each set that may be retained, plus the persistent
+/// keys, plus the peers that are not inert and in no set. There are sorted lists of each of these
+/// keys, without repeats, and of the peers of each set: so the bound always says something.
 pub fn presence_is_bounded<C: PublicKey>()
     ensures bounded { (s : Settings C C.Signature) → s.cmp ≡ C.cmp →
         (n : ℕ) (cs : List (Call C C.Signature)) →
@@ -250,42 +252,43 @@ pub fn presence_is_bounded<C: PublicKey>()
         (x : SetAt C) → IsNamingListed s x }
 {}
 
-/// A directory forgets the info and failures of an absent peer: what is known of it is what is
-/// known of a new peer.
+/// By a law of directories, the info and failures of an absent peer are forgotten: what is known of
+/// it is what is known of a new peer.
 pub fn absent_are_forgotten<C: PublicKey>()
     ensures { (s : Settings C C.Signature) (cs : List (Call C C.Signature)) (p : C) →
         is_present_in s (world_at s (past s cs)) p ≡ false →
         ((world_at s (past s cs)).peer p).known ≡ new_known s p }
 {}
 
-/// For two consecutive grants of a peer by a directory, if the first isn't forgotten in between:
-/// the second comes no earlier than the cooldown after the first, capped at `Duration::MAX`. This
-/// also holds if its record was deleted and made again in between. Times may go backwards.
+/// By a law of directories, for two consecutive grants of a peer, if the first isn't forgotten in
+/// between: the second comes no earlier than the cooldown after the first, capped at
+/// `Duration::MAX`. This also holds if its record was deleted and made again in between. Times may
+/// go backwards.
 pub fn grants_are_spaced<C: PublicKey>()
     ensures { (s : Settings C C.Signature) → s.cmp ≡ C.cmp →
         (p : C) (cs : List (Call C C.Signature)) → KeepsCooldownUnlessForgotten s p (past s cs) }
 {}
 
-/// If the times of a directory's calls never go backwards, two consecutive grants of a peer are at
-/// least the cooldown apart, capped at `Duration::MAX`. This holds whatever was forgotten, and also
-/// if its record was deleted and made again in between.
+/// By a law of directories, if the times of the calls never go backwards, two consecutive grants of
+/// a peer are at least the cooldown apart, capped at `Duration::MAX`. This holds whatever was
+/// forgotten, and also if its record was deleted and made again in between.
 pub fn cooldown_lasts<C: PublicKey>()
     ensures { (s : Settings C C.Signature) → s.cmp ≡ C.cmp →
         (p : C) (cs : List (Call C C.Signature)) (now : ℕ) → NeverGoBack s now cs →
         KeepsCooldown s p (past s cs) }
 {}
 
-/// If the times of a directory's calls never go backwards, a peer whose block was accepted is
-/// granted by no later call before the block's end, capped at `Duration::MAX`. This also holds if
-/// its record was deleted and made again in between.
+/// By a law of directories, blocks hold if the times of the calls never go backwards. A peer whose
+/// block was accepted is granted by no later call before the block's end, capped at
+/// `Duration::MAX`. This also holds if its record was deleted and made again in between.
 pub fn blocks_hold<C: PublicKey>()
     ensures { (s : Settings C C.Signature) → s.cmp ≡ C.cmp →
         (p : C) (cs : List (Call C C.Signature)) (now : ℕ) → NeverGoBack s now cs →
         KeepsBlocks s p (past s cs) }
 {}
 
-/// Dials of the peers that a directory's result of `dialable` lists are all granted if they are
-/// made at the same time and directly one after the other, with any draws. They may be dials of the
+/// By a law of directories, dials of the peers that a result of `dialable` lists are all granted if
+/// they directly follow each other at the same time as it, with any draws. They may be dials of the
 /// whole list in its order, or of any of its peers in any order, each once.
 pub fn dialable_are_granted<C: PublicKey>()
     ensures whole { (s : Settings C C.Signature) → s.cmp ≡ C.cmp → 1 ≤ s.max_sets →
@@ -297,9 +300,9 @@ pub fn dialable_are_granted<C: PublicKey>()
         IsDialable s (world_at s (past s cs)) t ps next → AreChosen s ps xs → AreDialled s t xs cs }
 {}
 
-/// If nothing of a directory is called in between, a result of `dialable` stays the same until its
-/// next query, or for ever if it has none: both the peers and the next query. Each time has one
-/// result.
+/// By a law of directories, if nothing is called in between, a result of `dialable` stays the same
+/// until its next query, or for ever if it has none: both the peers and the next query. Each time
+/// has one result.
 pub fn dialable_is_quiet<C: PublicKey>()
     ensures stays { (s : Settings C C.Signature) (w : World C C.Signature) (t u : ℕ) (ps : List C)
         (next : Option ℕ) →

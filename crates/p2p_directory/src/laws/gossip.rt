@@ -21,8 +21,8 @@ ghost use Rattle.p2p_directory.specs.Laws.Network.{RepliesInfos};
 
 use p2p_discovery::codec::PublicKey;
 
-/// Infos of gossip may come late: a frame of them is applied by a node, whatever was done to it
-/// before. The premises are in docs/PROOFS.md, below "Late and repeated frames".
+/// By a law of gossip, infos may come late: a frame of them is applied by a node, whatever was done
+/// to it before. The premises are in docs/PROOFS.md, below "Late and repeated frames".
 pub fn infos_may_come_late<C: PublicKey>()
     ensures { (m : Made C C.Signature) → IsMade C.cmp m →
         (calls : List (Call C C.Signature)) (frame : List ℕ) (now : ℕ) (r : Received)
@@ -32,8 +32,8 @@ pub fn infos_may_come_late<C: PublicKey>()
         TakesLateAt wire C.IsValue C.Signature.IsValue m calls frame now r }
 {}
 
-/// An exchange of gossip is carried as bytes: it comes to what its three frames come to, and they
-/// to nothing else. docs/PROOFS.md has this below "Exchanges".
+/// By a law of gossip, an exchange is carried as bytes: it comes to what its three frames come to,
+/// and they to nothing else. docs/PROOFS.md has this below "Exchanges".
 pub fn exchanges_are_carried<C: PublicKey>()
     ensures carried { let wire = wire_of C.verifies C.FixedBytes C.Signature.FixedBytes in
         (asker replier : Standing C C.Signature) (place s t : ℕ) →

@@ -270,7 +270,7 @@ impl<C: PublicKey> Network<C> {
     }
 }
 
-// The endpoint of a new node of the network.
+// Makes a new node for the network.
 fn end_of<C: PublicKey>(alloc: Global, setup: Setup<C>) -> Result<Endpoint<C>, AllocError>
     requires sets { non_zero_usize_get setup.cfg.max_sets < 2 ^ 64 - 1 }
     requires bits { setup.payload.max_bit_vec < 2 ^ 32 }

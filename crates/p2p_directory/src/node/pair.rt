@@ -160,7 +160,7 @@ pub fn run_pair<C: PublicKey>(
     })
 }
 
-// Both setups of a pair.
+// Both setups of a pair of nodes.
 fn both<C: PublicKey>(
     alloc: Global,
     left: Setup<C>,
@@ -174,7 +174,7 @@ fn both<C: PublicKey>(
     Ok(setups)
 }
 
-// The commands of a pair, as those to a network.
+// The commands to a pair of nodes, as those to a network.
 fn network_commands<C: PublicKey>(
     alloc: Global,
     commands: Vec<PairCommand<C>>,
@@ -188,7 +188,7 @@ fn network_commands<C: PublicKey>(
     Ok(given)
 }
 
-// The command of a pair, as one to a network.
+// The command to a pair of nodes, as one to a network.
 fn network_command<C: PublicKey>(command: PairCommand<C>) -> NetworkCommand<C>
     ensures { result ≡ command_in command }
 {
@@ -211,7 +211,7 @@ fn network_command<C: PublicKey>(command: PairCommand<C>) -> NetworkCommand<C>
     }
 }
 
-// The number of the node at a side of a pair.
+// The number of the node at a side of a pair of nodes.
 fn index(side: Side) -> usize
     ensures { result ≡ pairs.index side }
 {
@@ -221,7 +221,7 @@ fn index(side: Side) -> usize
     }
 }
 
-// The other side of a pair.
+// The other side of a pair of nodes.
 fn other(side: Side) -> Side
     ensures { result ≡ pairs.other side }
 {
@@ -248,7 +248,7 @@ fn pair_replies<C: PublicKey>(
     replies
 }
 
-// One reply of a network, as that of a pair.
+// One reply of a network, as that of a pair of nodes.
 fn pair_reply<C: PublicKey>(reply: NetworkReply<C>) -> PairReply<C>
     requires { is_of_node reply ≡ true }
     ensures { reply_in result ≡ reply }

@@ -212,7 +212,8 @@ impl<C: PublicKey> Server<C> {
         Reply::NotReserved
     }
 
-    /// Releases the reservation of the peer that the server holds, if it holds one, and replies.
+    /// Releases the peer in the server's directory if the server holds its reservation, and
+    /// replies.
     pub fn release(&mut self, peer: &C) -> Reply<C>
         ensures served { IsServed C.cmp (Command.Release peer.now) result self.old self.new }
         ensures unchanged { was_made result ≡ false → self.new ≡ self.old }

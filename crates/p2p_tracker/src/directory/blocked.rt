@@ -133,7 +133,8 @@ impl<C: PublicKey> Directory<C> {
     }
 }
 
-/// The peers that are blocked by these blocks at the time `now`, a duration since the epoch.
+/// The peers that are blocked in a directory by these blocks at the time `now`, a duration since
+/// the epoch.
 ///
 /// # Errors
 ///
@@ -156,7 +157,8 @@ pub fn blocked_at<C: PublicKey>(
     Ok(ordered(peers))
 }
 
-// Those of the peers that are still blocked at `now`, as their blocks end later, in their order.
+// Those of the directory's peers that are still blocked at `now`, as their blocks end later, in
+// their order.
 fn peers_after<C: PublicKey>(
     alloc: Global,
     blocks: btree_map::Iter<'_, C, Duration>,

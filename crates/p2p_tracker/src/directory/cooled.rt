@@ -59,7 +59,7 @@ impl<C: PublicKey> Directory<C> {
     }
 }
 
-// The earliest of the dial times at which a peer has cooled.
+// The earliest of the dial times at which one of the directory's peers has cooled.
 fn next_dial<C: PublicKey>(cooldowns: &Cooldowns<C>) -> Option<Duration>
     ensures { option_map as_nanos result ≡ least_by (λ e. Some e.1.dial_at) cooldowns.now }
 {
@@ -70,8 +70,8 @@ fn next_dial<C: PublicKey>(cooldowns: &Cooldowns<C>) -> Option<Duration>
     next
 }
 
-// Forgets the cooldown of each peer that has cooled, since its dial time is at or before `now`, in
-// its record too, and returns how many there were.
+// Forgets the cooldown of each of the directory's peers that has cooled, with a dial time at or
+// before `now`, in its record too, and returns how many.
 fn forget_each<C: PublicKey>(
     records: &mut Records<C>,
     cooldowns: &mut Cooldowns<C>,
@@ -94,8 +94,8 @@ fn forget_each<C: PublicKey>(
     count
 }
 
-// Clears the cooldown in the record of each peer that has cooled, since its dial time is at or
-// before `now`, and returns how many such peers there are.
+// Clears the cooldown in the directory's record of each peer that has cooled, since its dial time
+// is at or before `now`, and returns how many such peers there are.
 fn clear_each<C: PublicKey>(
     records: &mut Records<C>,
     cooldowns: &Cooldowns<C>,
@@ -113,8 +113,8 @@ fn clear_each<C: PublicKey>(
     count
 }
 
-// Clears this cooldown in the record of the peer if it has cooled, since its dial time is at or
-// before `now`, and returns how many that are: 0 or 1.
+// Clears this cooldown in the directory's record of the peer if it has cooled, since its dial time
+// is at or before `now`, and returns how many that are: 0 or 1.
 fn clear_one<C: PublicKey>(
     records: &mut Records<C>,
     peer: &C,

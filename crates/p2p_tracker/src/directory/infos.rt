@@ -157,9 +157,9 @@ impl<C: PublicKey> Directory<C> {
         }
     }
 
-    /// The bits of the retained set at a position, counted from 0 in order of index, with its
-    /// index, by which infos are asked for: for each primary peer in order whether its info is
-    /// known and not wanted. `None` if there is no such position.
+    /// The bits of the directory's retained set at a position, counted from 0 in order of index,
+    /// with its index, by which infos are asked for: for each primary peer in order whether its
+    /// info is known and not wanted. `None` if there is no such position.
     ///
     /// # Errors
     ///
@@ -182,16 +182,16 @@ impl<C: PublicKey> Directory<C> {
     }
 }
 
-/// The whole milliseconds of a time, at most `u64::MAX`, with which timestamps of infos are
-/// compared.
+/// The whole milliseconds of a time, at most `u64::MAX`, with which a directory compares timestamps
+/// of infos.
 pub fn epoch_millis(now: Duration) -> u64
     ensures { result ≡ epoch_millis (as_nanos now) }
 {
     u64::try_from(now.as_millis()).unwrap_or(u64::MAX)
 }
 
-/// The infos of these peers that are shared with a peer that sent the bits, or `None` if the number
-/// of bits differs. Those with a timestamp above the milliseconds are left out.
+/// The infos of these peers that the directory shares with a peer that sent the bits, or `None` if
+/// the number of bits differs. Those with a timestamp above the milliseconds are left out.
 ///
 /// # Errors
 ///
@@ -220,7 +220,8 @@ pub fn shared_for<C: PublicKey>(
     Ok(Some(infos))
 }
 
-// Whether at least so many infos are unknown, by the bits that are false.
+// Whether at least so many infos are unknown to a peer that asks the directory, by the bits that
+// are false.
 fn are_unknown(bits: &BitMap, count: usize) -> bool {
     let mut left = count;
     for place in 0..bits.len() {
@@ -234,8 +235,8 @@ fn are_unknown(bits: &BitMap, count: usize) -> bool {
     left == 0
 }
 
-// Appends copies of the infos of these peers that are shared, by one walk along the records and the
-// peers together, which are both in order.
+// Appends copies of the infos of these peers that the directory shares, by one walk along the
+// records and the peers together, which are both in order.
 fn copy_walked<C: PublicKey>(
     infos: &mut Vec<Info<C>>,
     records: &Records<C>,
@@ -264,8 +265,8 @@ fn copy_walked<C: PublicKey>(
     Ok(())
 }
 
-// The first position, from that one on, of a peer whose info is asked for, as its bit is false, and
-// that is not below the key.
+// The first position, from that one on, of a peer whose info the directory is asked for, as its bit
+// is false, and that is not below the key.
 fn first_from<C: PublicKey>(peers: &[C], bits: &BitMap, place: usize, key: &C) -> usize
     requires same { length bits.now ≡ length peers.now }
     requires within { place ≤ length peers.now }
@@ -281,8 +282,8 @@ fn first_from<C: PublicKey>(peers: &[C], bits: &BitMap, place: usize, key: &C) -
     peers.len()
 }
 
-// Appends copies of the infos of these peers that are shared, by one search among the records for
-// each peer whose bit is false.
+// Appends copies of the infos of these peers that the directory shares, by one search among the
+// records for each peer whose bit is false.
 fn copy_shared<C: PublicKey>(
     infos: &mut Vec<Info<C>>,
     records: &Records<C>,
@@ -304,7 +305,7 @@ fn copy_shared<C: PublicKey>(
     Ok(())
 }
 
-// The info of the peer that is shared if this is its bit.
+// The info of the peer that the directory shares if this is its bit.
 fn shared<'a, C: PublicKey>(
     records: &'a Records<C>,
     peer: &C,
@@ -331,8 +332,8 @@ fn shared_by<C: PublicKey>(found: &Record<C>, millis: u64) -> Option<&Info<C>>
     }
 }
 
-// The infos of these peers that are shared, if each that may be is the own one or that of a key of
-// the map.
+// The infos of these peers that the directory shares, if each that may be shared is the own one or
+// that of a key of the map.
 fn shared_among<C: PublicKey, V>(
     alloc: Global,
     records: &Records<C>,
@@ -360,8 +361,8 @@ fn shared_among<C: PublicKey, V>(
     Ok(Some(found))
 }
 
-// Appends copies of the infos of these peers that are shared, of the own key and of these keys
-// alone, in order.
+// Appends copies of the infos of these peers that the directory shares, of the own key and of these
+// keys alone, in order.
 fn copy_among<C: PublicKey, V>(
     infos: &mut Vec<Info<C>>,
     records: &Records<C>,
@@ -390,8 +391,8 @@ fn copy_among<C: PublicKey, V>(
     Ok(())
 }
 
-// Appends a copy of the own info, if it is left and its place is before this key. Returns whether
-// it is left then.
+// Appends a copy of the directory's own info, if it is left and its place is before this key.
+// Returns whether it is left then.
 fn copy_own_before<C: PublicKey>(
     infos: &mut Vec<Info<C>>,
     records: &Records<C>,
@@ -427,7 +428,7 @@ fn copy_own_before<C: PublicKey>(
     }
 }
 
-// Appends a copy of the info of the peer, if it is one of these and its info is shared.
+// Appends a copy of the info of the peer, if it is one of these and the directory shares its info.
 fn copy_asked<C: PublicKey>(
     infos: &mut Vec<Info<C>>,
     records: &Records<C>,
@@ -449,8 +450,8 @@ fn copy_asked<C: PublicKey>(
     copy_info(infos, info, peers.len() - place)
 }
 
-// Appends a copy of the info, if there is one. There is capacity for some of the infos that may be
-// left once the first is appended.
+// Appends a copy of the info that the directory shares, if there is one. There is capacity for some
+// of the infos that may be left once the first is appended.
 fn copy_info<C: PublicKey>(
     infos: &mut Vec<Info<C>>,
     info: Option<&Info<C>>,

@@ -102,7 +102,7 @@ impl<C: PublicKey> Directory<C> {
     }
 }
 
-// The peers of one retained peer set, by role.
+// The peers of one of the directory's retained peer sets, by role.
 fn peers_in<C: PublicKey>(set: &PeerSet<C>) -> Result<TrackedPeers<C>, AllocError>
     ensures peers { IfOk result (λ peers. peers ≡ peers_of (plain_set set.now)) }
     ensures err { OnErr result (has_peers (plain_set set.now) ≡ true) }

@@ -86,8 +86,8 @@ impl<C: PublicKey> Records<C> {
         torn
     }
 
-    // Counts one set less in the records of these peers, and adds to a list the peers that must be
-    // disconnected.
+    // Counts one set less in the directory's records of these peers, and adds to a list the peers
+    // that must be disconnected.
     fn leave_each(&mut self, peers: &[C], role: Role, torn: &mut Vec<C>)
         requires sorted { IsStrictlySortedBy C.cmp peers.now }
         requires room { length torn.old.items + length peers.now ≤ vec_capacity torn.old }
@@ -106,8 +106,8 @@ impl<C: PublicKey> Records<C> {
         }
     }
 
-    // Counts one set less in the records of these peers, when none of them must be disconnected by
-    // that.
+    // Counts one set less in the directory's records of these peers, when none of them must be
+    // disconnected by that.
     fn undo_each(&mut self, peers: &[C], role: Role)
         requires { IsStrictlySortedBy C.cmp peers.now }
         ensures { (q : C) → record_at C.cmp self.new q ≡
@@ -119,7 +119,8 @@ impl<C: PublicKey> Records<C> {
         }
     }
 
-    // Counts one more secondary set in the records of these peers, or leaves everything as it was.
+    // Counts one more secondary set in the directory's records of these peers, or leaves everything
+    // as it was.
     fn join_secondary(
         &mut self,
         peers: &[C],
@@ -147,8 +148,8 @@ impl<C: PublicKey> Records<C> {
         Ok(())
     }
 
-    // Counts one more primary set in the records of these peers and sets their bits, or leaves all
-    // records as they were.
+    // Counts one more primary set in the directory's records of these peers and sets their bits, or
+    // leaves all records as they were.
     fn join_primary(
         &mut self,
         set: &mut PeerSet<C>,
@@ -184,8 +185,8 @@ impl<C: PublicKey> Records<C> {
         Ok(())
     }
 
-    // Counts one more set in the records of the peers of each role and sets its bits, or leaves
-    // what is known of each peer as it was.
+    // Counts one more set in the directory's records of the peers of each role and sets its bits,
+    // or leaves what is known of each peer as it was.
     fn join_roles(
         &mut self,
         set: &mut PeerSet<C>,
@@ -214,8 +215,9 @@ impl<C: PublicKey> Records<C> {
         Ok(())
     }
 
-    /// Counts a new set in the records of all its peers and sets its bits. If an allocation fails,
-    /// all records are as they were. A peer that has no record gets one, with its cooldown.
+    /// Counts a new set in the directory's records of all its peers and sets its bits. If an
+    /// allocation fails, all records are as they were. A peer that has no record gets one, with its
+    /// cooldown.
     pub fn join(
         &mut self,
         set: &mut PeerSet<C>,
@@ -241,8 +243,8 @@ impl<C: PublicKey> Records<C> {
         joined
     }
 
-    /// Counts one set less in the records of all its peers, when none of them must be disconnected
-    /// by that.
+    /// Counts one set less in the directory's records of all its peers, when none of them must be
+    /// disconnected by that.
     pub fn undo(&mut self, set: &PeerSet<C>)
         ensures map { IsOfMap C.cmp self.new }
         ensures records { (q : C) → record_at C.cmp self.new q ≡
@@ -254,9 +256,9 @@ impl<C: PublicKey> Records<C> {
         let _after = self.map.len();
     }
 
-    // Counts one set less in the records of these peers, removes the records that are deletable
-    // then, and adds to a list the peers that must be disconnected. It walks along the records and
-    // the peers, or searches for each peer if there are few.
+    // Counts one set less in the directory's records of these peers, removes those that are
+    // deletable then, and adds to a list the peers that must be disconnected. It walks along the
+    // records and the peers, or searches for each peer if there are few.
     fn leave_role(&mut self, peers: &OrderedSet<C>, role: Role, torn: &mut Vec<C>)
         requires room { length torn.old.items + length peers.now ≤ vec_capacity torn.old }
         ensures records { (q : C) → record_at C.cmp self.new q ≡
@@ -278,9 +280,9 @@ impl<C: PublicKey> Records<C> {
         }
     }
 
-    /// Counts a dropped set in the records of all its peers, and removes the records that are
-    /// deletable then. Returns the peers that must be disconnected, in the list that is passed in,
-    /// which has capacity for all peers of the set.
+    /// Counts a dropped set in the directory's records of all its peers, and removes the records
+    /// that are deletable then. Returns the peers that must be disconnected, in the list that is
+    /// passed in, which has capacity for all peers of the set.
     pub fn leave(&mut self, set: &PeerSet<C>, mut torn: Vec<C>) -> OrderedSet<C>
         requires empty { torn.items ≡ [] }
         requires room { length set.now.primary + length set.now.secondary ≤ vec_capacity torn }
@@ -297,8 +299,8 @@ impl<C: PublicKey> Records<C> {
     }
 }
 
-// Adds the peer, whose sets were counted in its record, to a list that has capacity for it, if
-// `is_added` is true.
+// Adds the peer, whose sets were counted in the directory's records, to a list that has capacity
+// for it, if `is_added` is true.
 fn push_if<C: PublicKey>(list: &mut Vec<C>, peer: C, is_added: bool)
     requires { length list.old.items < vec_capacity list.old }
     ensures items { list.new.items ≡ list.old.items ++ (if is_added then peer ∷ [] else []) }

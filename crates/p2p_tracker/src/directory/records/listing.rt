@@ -24,8 +24,8 @@ use std::collections::BTreeMap;
 use std::time::Duration;
 
 impl<C: PublicKey> Records<C> {
-    /// Lists, by one pass over the records, the peers that may be dialled at this time, with these
-    /// blocks, and when to ask again.
+    /// Lists, by one pass over the directory's records, the peers that may be dialled at this time,
+    /// with these blocks, and when to ask again.
     pub fn dialable(
         &self,
         alloc: Global,
@@ -48,8 +48,8 @@ impl<C: PublicKey> Records<C> {
         dialable_in(alloc, &self.map, blocks, now, cfg)
     }
 
-    /// Lists, by one pass over the records, the peers of the retained sets by role: one that is
-    /// primary in some is primary only.
+    /// Lists, by one pass over the directory's records, the peers of the retained sets by role: one
+    /// that is primary in some is primary only.
     pub fn all(&self, alloc: Global) -> Result<TrackedPeers<C>, AllocError>
         ensures primary { IfOk result (λ all. Lists C.cmp (λ q.
             option_map_or is_primary_record (record_at C.cmp self.now q) false) all.primary) }
@@ -68,8 +68,8 @@ impl<C: PublicKey> Records<C> {
     }
 }
 
-// Lists, by one pass over a map of records, the peers that may be dialled at this time, and when to
-// ask again.
+// Lists, by one pass over the directory's records in their map, the peers that may be dialled at
+// this time, and when to ask again.
 fn dialable_in<C: PublicKey>(
     alloc: Global,
     map: &BTreeMap<C, Record<C>>,
@@ -148,7 +148,8 @@ pub fn earliest(known: Option<Duration>, moment: Duration) -> Duration
     }
 }
 
-// Lists, by one pass over the records, the primary peers, and those that are secondary only.
+// Lists, by one pass over the directory's records, the primary peers, and those that are secondary
+// only.
 fn by_role<C: PublicKey>(
     alloc: Global,
     map: &BTreeMap<C, Record<C>>,
