@@ -51,7 +51,7 @@ impl<C: PublicKey> Model for Node<C> {
 }
 
 impl<C: PublicKey> Node<C> {
-    /// A node of this setup: its directory is new, it holds no reservation, and its verifier of
+    /// A new node of this setup: its directory is new, it holds no reservation, and its verifier of
     /// infos has the key of the local info.
     ///
     /// # Conditions

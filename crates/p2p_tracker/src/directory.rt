@@ -342,8 +342,7 @@ impl<C: PublicKey> Directory<C> {
         }))
     }
 
-    /// Reserves the peer in the directory for an inbound connection at the time `now`, a duration
-    /// since the epoch.
+    /// Reserves an inbound peer in the directory at the time `now`, a duration since the epoch.
     ///
     /// Returns `None`, doesn't allocate and changes nothing if the peer is blocked or has no
     /// record, it is not eligible, not inert, or `now` is before its reservable time. Otherwise the
@@ -403,9 +402,9 @@ impl<C: PublicKey> Directory<C> {
         Ok(None)
     }
 
-    /// Offers infos to the directory's records of their peers. Of the known info of a peer and
-    /// those in the list, the record keeps the first with the greatest timestamp. A new one has no
-    /// failures yet. The local node's info stays, and an info of a peer that has no record is
+    /// Offers infos to the directory for its records of their peers. Of the known info of a peer
+    /// and those in the list, the record keeps the first with the greatest timestamp. A new one has
+    /// no failures yet. The local node's info stays, and an info of a peer that has no record is
     /// dropped. Whoever is reserved or connected stays so. It doesn't allocate.
     ///
     /// # Cost
@@ -422,7 +421,7 @@ impl<C: PublicKey> Directory<C> {
         update_each(&mut self.sets, &mut self.records, infos, limit);
     }
 
-    /// How many peers the directory tracks with a record, not counting the local node. It doesn't
+    /// How many peers have a record in the directory, not counting the local node. It doesn't
     /// allocate.
     ///
     /// # Cost
@@ -435,8 +434,8 @@ impl<C: PublicKey> Directory<C> {
         self.records.len() - 1
     }
 
-    /// Whether the peer is connected in the directory, or `None` if there is no record of it. It
-    /// doesn't allocate.
+    /// The status of the peer in the directory, or `None` if there is no record of it. It doesn't
+    /// allocate.
     ///
     /// # Cost
     ///

@@ -52,13 +52,13 @@ impl From<Unreadable> for Stop {
     }
 }
 
-// Writes one line of a worked example's row.
+// Writes one line of a row.
 fn print<W: Write>(out: &mut W, line: &impl Display) -> Result<(), Stop> {
     writeln!(out, "{line}").map_err(|_error: io::Error| Stop::Write)
 }
 
-/// Prints for a row that memory ran out, and returns the exit status: 3, or 1 if that could not be
-/// written.
+/// Prints that memory ran out for the row that is run, and returns the exit status: 3, or 1 if that
+/// could not be written.
 pub fn out_of_memory<W: Write>(out: &mut W) -> u8
     ensures status { ¬ (result ≡ 3) → result ≡ 1 }
     ensures printed { result ≡ 3
@@ -83,7 +83,7 @@ pub fn no_such_row<W: Write>(out: &mut W) -> u8
     }
 }
 
-/// Runs the worked example, or row, that the only word names, writes its lines to `out`, and
+/// Runs the row, or worked example, that the only word names, writes its lines to `out`, and
 /// returns the exit status of the program.
 ///
 /// The status is 0 if all lines were written. It is 2 after `no such row`, if there is not exactly
@@ -130,7 +130,7 @@ pub fn run_rows<W: Write>(alloc: Global, words: &[String], out: &mut W) -> u8
     status_after(ended, out)
 }
 
-// The row with dials that fail; and again with a failure limit of 0.
+// Prints the rows of dials that fail; and again with a failure limit of 0.
 fn failed_dials<W: Write>(alloc: Global, out: &mut W) -> Result<(), Stop> {
     directory::print_row(alloc, &examples::dialling::FAILED_DIALS, out)?;
     directory::print_row(alloc, &examples::dialling::NO_FAILURE_ALLOWED, out)

@@ -42,7 +42,7 @@ ghost use Rattle.p2p_directory.specs.Laws.Refined.{AnswersAs};
 
 use p2p_discovery::codec::PublicKey;
 
-/// The main law of a directory, for every setup with at least one set, every list of accepted
+/// The main law of directories, for every setup with at least one set, every list of accepted
 /// calls, the newest first, and one more call. The world recomputed from all these calls is one
 /// step from the world recomputed from the calls before.
 pub fn recomputed_is_one_step<C: PublicKey>()
@@ -63,11 +63,11 @@ pub fn refined_answers<C: PublicKey>()
         Refines s (world_after s cs) d → AnswersAs s (world_after s cs) d }
 {}
 
-/// Calls of a directory made by hand. A directory, with the reservations that its caller holds,
-/// stands at the point after some accepted calls if it refines the world that they make and these
-/// are the grants of that world. If it does before a call, it does after it: what a clause wants to
-/// know of the call is what the contract of the call says. By [`refined_answers`] each query then
-/// has the result of that world.
+/// By a law of directories, their calls may be made by hand. A directory, with the reservations
+/// that its caller holds, stands at the point after some accepted calls if it refines the world
+/// that they make and these are the grants of that world. If it does before a call, it does after
+/// it: what a clause wants to know of the call is what the contract of the call says. By
+/// [`refined_answers`] each query then has the result of that world.
 ///
 /// - A new directory, of which nothing is held, stands at the point before any call.
 /// - A track, a dial, a listen and a block are accepted whether or not they take effect. A track
@@ -158,10 +158,8 @@ pub fn effects_refine<C: PublicKey>()
         DirectoryStandsAt s cs d held → AreHeld C.cmp d held }
 {}
 
-/// By a law of directories, an answer is unique if it lists the keys of a world with a property,
-/// gives the earliest time of some, or counts the tracked or the cooled keys. a result that lists
-/// the keys with a property, gives the earliest time of some keys, or counts the tracked or the
-/// cooled keys of a world, is unique.
+/// By a law of directories, an answer that lists keys with a property, gives an earliest time, or
+/// counts the tracked or cooled keys is unique in its world.
 pub fn answers_are_determined<C: PublicKey>()
     ensures lists { (s : Settings C C.Signature) → s.cmp ≡ C.cmp →
         (test : C → Bool) (xs ys : List C) → Lists s.cmp test xs → Lists s.cmp test ys → xs ≡ ys }

@@ -46,10 +46,10 @@ pub fn exchanges_are_carried<C: PublicKey>()
         o ≡ exchanged_at asker replier place s t }
 {}
 
-/// Gossip of any number of nodes, by the replies to what is done to them from their start: what
-/// [`run_network`](crate::node::run_network) promises, in words in docs/PROOFS.md. Laws that have
-/// fewer premises than all at a point are said by themselves, too. Infos, newer, isolation, order
-/// and others are laws of the definitions: they hold whatever the replies.
+/// The laws of gossip of any number of nodes, by the replies to what is done to them from their
+/// start: what [`run_network`](crate::node::run_network) promises, in words in docs/PROOFS.md. Laws
+/// that have fewer premises than all at a point are said by themselves, too. Infos, newer,
+/// isolation, order and others are laws of the definitions: they hold whatever the replies.
 pub fn gossip_of_a_network<C: PublicKey>()
     ensures at_each_point { (wire : Wire C C.Signature) (size : ℕ) (node : ℕ → Made C C.Signature) →
         AreMade wire size node C.cmp → OfAnswers wire size node

@@ -85,8 +85,8 @@ fn a_run_of_a_network_replies_to_each_command(rt: HostRuntime) -> Result<(), Fai
     Ok(())
 }
 
-// Asserts that replacing a node of a network releases its reservation of peer 8, and that replacing
-// a node that does not exist returns `None`.
+// Asserts of a tested network that replacing a node releases its reservation of peer 8, and that
+// replacing a node that does not exist returns `None`.
 fn is_replaced(
     rt: &impl Abort,
     alloc: Global,

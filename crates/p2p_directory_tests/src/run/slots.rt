@@ -15,8 +15,8 @@ const ROUNDS: u64 = 10_000;
 // Memory for a few slots.
 const FEW: usize = 32_768;
 
-// Whether an inbound stranger and a dialled one are refused by commands, for which the node should
-// keep no slots.
+// Whether an inbound stranger and a dialled one are refused by commands, for which the tested node
+// should keep no slots.
 fn refused_by_commands(node: &mut Node<TestKey>, peer: TestKey) -> bool {
     let (now, draw) = (hundred(), Duration::ZERO);
     let listened = node.step(Command::Listen { peer, now, draw });
@@ -27,8 +27,8 @@ fn refused_by_commands(node: &mut Node<TestKey>, peer: TestKey) -> bool {
     )
 }
 
-// Whether an inbound stranger and a dialled one are refused by calls, for which the node should
-// keep no slots.
+// Whether an inbound stranger and a dialled one are refused by calls, for which the tested node
+// should keep no slots.
 fn refused_by_calls(node: &mut Node<TestKey>, peer: TestKey) -> bool {
     let listened = node.listen(&peer, hundred(), Duration::ZERO);
     let dialled = node.dial(&peer, hundred(), Duration::ZERO);

@@ -170,8 +170,8 @@ fn links_of<C: PublicKey>(
     Ok(Links { set, older })
 }
 
-// From a position of the list of places on: the position after the key, and what is stored for the
-// key.
+// Looks up a key's place from a position of the list of places on: the position after the key, and
+// what is stored for the key.
 fn place_from<C: PublicKey>(latest: &[(C, Place)], from: usize, key: &C) -> (usize, Option<Place>)
     requires { IsStrictlySortedBy C.cmp (keys_of latest.now) }
     ensures rest { drop result.0 latest.now ≡ behind_key C.cmp key.now (drop from latest.now) }

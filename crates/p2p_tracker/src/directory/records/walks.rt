@@ -25,7 +25,8 @@ pub trait Membership: Drop {
     // What is left of it after one set less of the role has its peer.
     ghost left: { Role → Self → Option Self };
 
-    /// Counts one set less of the role in a record that a walk meets, and returns whether it stays.
+    /// Counts one set less of the role in one of the directory's records that a walk meets, and
+    /// returns whether it stays.
     fn leave(&mut self, role: Role) -> bool
         ensures { (if result then Some self.new else None) ≡ Self.left role self.old };
 }
