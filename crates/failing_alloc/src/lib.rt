@@ -74,7 +74,8 @@ impl Model for FailingAlloc {
 }
 
 impl FailingAlloc {
-    /// Allocates all memory except a reserve of 4 MiB, which is free until the first `limit`.
+    /// A failing allocator that has all memory allocated except a reserve of 4 MiB, which is free
+    /// until the first `limit`.
     ///
     /// # Errors
     ///

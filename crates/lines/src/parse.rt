@@ -1,4 +1,4 @@
-//! What a line requests.
+//! Parses a line as what it requests.
 
 ghost use Rattle.std.specs.Prelude.{◌<◌, ◌-◌, ◌^◌, IfOk, length};
 ghost use Rattle.lines.specs.Requests.{CanServe};
@@ -63,7 +63,7 @@ fn node_named<N: Nodes>(nodes: &N, name: &str) -> Result<usize, Fault> {
     }
 }
 
-// The words of a line that is parsed behind the name of this command, its arguments.
+// The words behind the name of this command in a line that is parsed, its arguments.
 fn words_after<'a>(name: &str, arguments: &'a str) -> Result<Words<'a>, Fault> {
     match usage_of(name) {
         Some(usage) => Ok(Words::new(arguments, usage)),

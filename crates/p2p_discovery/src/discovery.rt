@@ -38,8 +38,7 @@ pub struct Info<C: PublicKey> {
 }
 
 impl<C: PublicKey> Info<C> {
-    /// An equal info, as discovery passes it on. It doesn't allocate if the info has a socket
-    /// address.
+    /// An equal info. It doesn't allocate if the info has a socket address.
     ///
     /// # Errors
     ///

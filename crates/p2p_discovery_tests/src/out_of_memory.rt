@@ -36,7 +36,7 @@ impl Tally {
         }
     }
 
-    /// Asserts that some budget was out of memory, and that another was sufficient.
+    /// Asserts that some budget ran out of memory, and that another was sufficient.
     pub(crate) fn is_mixed(&self, rt: &impl Abort) {
         assert!(rt; self.refused > 0, "nothing was refused");
         assert!(rt; self.done > 0, "each call was refused");
@@ -102,9 +102,9 @@ fn is_unencoded(
     }
 }
 
-/// Encodes, reads and decodes a value at a budget, out of memory or not. Asserts that each result
-/// is right or out of memory, and that reading then leaves its buffer unchanged. Returns whether
-/// reading, decoding and encoding ran out of memory.
+/// Encodes, reads and decodes a value at a budget that may run out of memory. Asserts that each
+/// result is right or out of memory, and that reading then leaves its buffer unchanged. Returns
+/// whether reading, decoding and encoding ran out of memory.
 fn reads_within<T: Read<Cfg = ()> + Write + PartialEq>(
     rt: &impl Abort,
     alloc: Global,
@@ -128,8 +128,8 @@ fn reads_within<T: Read<Cfg = ()> + Write + PartialEq>(
     Ok((unread, undecoded, is_unencoded(rt, frame, encoded, step)))
 }
 
-/// Calls `reads_within` at each budget until it isn't out of memory. Asserts that reading, decoding
-/// and encoding each run out of memory at some budget and succeed at another.
+/// Calls `reads_within` at each budget, to run out of memory at some. Asserts that reading,
+/// decoding and encoding each run out of memory at some budget and succeed at another.
 fn reads_at_each_budget<T: Read<Cfg = ()> + Write + PartialEq>(
     rt: &impl Abort,
     alloc: Global,
@@ -213,8 +213,8 @@ fn assert_copies(
     Ok(())
 }
 
-/// Makes host names and copies at a budget, out of memory or not. Returns whether making the valid
-/// name ran out of memory.
+/// Makes host names and copies at a budget that may run out of memory. Returns whether making the
+/// valid name ran out of memory.
 fn names_within(
     rt: &impl Abort,
     alloc: Global,
@@ -287,8 +287,8 @@ fn assert_message(
     }
 }
 
-/// Reads and encodes messages at a budget, out of memory or not. Returns whether encoding ran out
-/// of memory.
+/// Reads and encodes messages at a budget that may run out of memory. Returns whether encoding ran
+/// out of memory.
 fn messages_within(
     rt: &impl Abort,
     alloc: Global,

@@ -58,8 +58,8 @@ use std::time::Duration;
 // The first byte of a frame with infos.
 const INFOS_PREFIX: u8 = 3;
 
-/// Processes a frame that the session received by verification results for the signatures of its
-/// infos, and writes the answer.
+/// By verification results for the signatures of its infos, processes a frame that the session
+/// received, and writes the answer.
 pub fn receive<C: PublicKey>(
     alloc: Global,
     node: &mut Node<C>,
@@ -79,7 +79,7 @@ pub fn receive<C: PublicKey>(
     }
 }
 
-// Processes a frame that the session received by verification results, if the buffer is long
+// By verification results, processes a frame that the session received, if the buffer is long
 // enough.
 fn hear<C: PublicKey>(
     alloc: Global,
@@ -360,7 +360,7 @@ fn tell_error(error: Error, out: &mut [u8]) -> u64
     }
 }
 
-// Writes for the session's frames two bytes and a number.
+// Writes two bytes and a number of what the session's node returned for a frame.
 fn answer_three(byte: u8, kind: u8, count: u64, out: &mut [u8]) -> u64
     ensures { IsAnswered (byte ∷ (kind ∷ number count)) out.old out.new result }
 {

@@ -110,7 +110,8 @@ fn mark_if(alloc: Global, is_marked: bool) {
     }
 }
 
-// The results of all queries of the directories of the network to which memory was refused.
+// The results of all queries of the directories of the network to which memory may have been
+// refused.
 fn questions_of(alloc: Global, nodes: &Network<TestKey>) -> Result<String, AllocError> {
     let mut words = String::new(alloc);
     for node in 0..nodes.len() {

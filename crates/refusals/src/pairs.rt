@@ -51,7 +51,7 @@ fn replies_of(alloc: Global, replies: &[PairReply<TestKey>]) -> Result<String, A
     Ok(text)
 }
 
-// The results of all queries of both directories of a pair to which memory was refused.
+// The results of all queries of both directories of a pair to which memory may have been refused.
 fn questions_of(
     alloc: Global,
     left: &Directory<TestKey>,

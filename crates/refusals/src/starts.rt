@@ -1,4 +1,4 @@
-//! Directories and nodes that are made.
+//! Directories and nodes that are started while memory may be refused.
 
 ghost use Rattle.std.specs.Prelude.{◌<◌, ◌-◌, ◌^◌};
 ghost use Rattle.std.specs.Int.NonZero.{non_zero_usize_get};

@@ -1,4 +1,4 @@
-//! Values as bytes, and bytes as values.
+//! Words of frames: values as bytes, and bytes as values.
 
 use crate::fault::Fault;
 use crate::parse::commands::bit_vec;

@@ -218,7 +218,7 @@ pub fn effects_keep_others<C: PublicKey>()
 {}
 
 /// By a law of directories, the order of infos doesn't matter if no two of one key have the same
-/// timestamp. They may be in an update, or in several that follow each other directly.
+/// timestamp. They may be in one update, or in several that follow each other directly.
 pub fn order_is_free<C: PublicKey>()
     ensures alike { (s : Settings C C.Signature) (w : World C C.Signature)
         (xs ys : List (Info C C.Signature)) → HaveSame xs ys → IsUnambiguous s xs →

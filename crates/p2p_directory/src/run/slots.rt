@@ -304,7 +304,7 @@ impl<C: PublicKey> Slots<C> {
         Held::new(self)
     }
 
-    /// Consumes the list or the tree of slots, if no reservation is in them.
+    /// Consumes the list or the tree of slots, if no reservation is in it.
     pub fn close(self)
         requires ordered { AreSlots C.cmp self }
         requires empty { (q : C) → held_in C.cmp self q ≡ None }

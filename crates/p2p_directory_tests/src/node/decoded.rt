@@ -27,7 +27,7 @@ fn is_of_peer_one(answer: Result<Answer<TestKey>, Miscounted>) -> bool {
     }
 }
 
-// Whether the tested node decodes the question as it is, and answers so when it is decoded.
+// Whether the tested node decodes the question as it is, and answers the decoded frame.
 fn decodes_and_answers(replier: &mut Node<TestKey>, question: Bytes) -> bool {
     match replier.decode(question) {
         Ok(decoded) => {

@@ -1,4 +1,4 @@
-//! The calls that may change the node.
+//! The calls of a session that may change its node.
 
 ghost use Rattle.std.specs.Prelude.{◌≡◌};
 ghost use Rattle.p2p_session.specs.Schemes.{scheme};

@@ -1,4 +1,4 @@
-//! The calls that change nothing.
+//! Questions to a session's node: the calls that change nothing.
 
 ghost use Rattle.p2p_session.specs.Schemes.{scheme};
 ghost use Rattle.p2p_session.specs.Sessions.{TellsUnblock, TellsBlocked, TellsStatus, TellsPeerSet};

@@ -81,7 +81,7 @@ impl<C: PublicKey> Directory<C> {
         self.blocks.drop_until(now) > 0
     }
 
-    /// When the first of the directory's blocked peers is unblocked, as a duration since the epoch,
+    /// When the first block of the directory's blocked peers ends, as a duration since the epoch,
     /// or `None` if there is no block. A block that has ended counts until
     /// [`Directory::unblock_expired`] removes it. It doesn't allocate.
     ///

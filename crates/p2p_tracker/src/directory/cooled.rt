@@ -23,10 +23,10 @@ impl<C: PublicKey> Directory<C> {
     ghost use Rattle.p2p_tracker.specs.Directory.{IsNumberCooledIn, ForgetsCooled, dial_moment_in};
     ghost use Rattle.p2p_tracker.specs.Lists.{IsLeastOf};
 
-    /// Forgets the cooldown of each of the directory's peers that has cooled, since its dial time
-    /// is at or before `now`, and returns how many there were. The time is a duration since the
-    /// epoch. Such a peer is reservable and dialable from the epoch on, also in its record if it
-    /// has one. Nothing else changes. It doesn't allocate.
+    /// Forgets the cooldown of each of the directory's peers that has cooled, by a dial time at or
+    /// before `now`, and returns how many there were. The time is a duration since the epoch. Such
+    /// a peer is reservable and dialable from the epoch on, also in its record if it has one.
+    /// Nothing else changes. It doesn't allocate.
     ///
     /// # Cost
     ///
@@ -70,8 +70,8 @@ fn next_dial<C: PublicKey>(cooldowns: &Cooldowns<C>) -> Option<Duration>
     next
 }
 
-// Forgets the cooldown of each of the directory's peers that has cooled, with a dial time at or
-// before `now`, in its record too, and returns how many.
+// Forgets the cooldown of each of the directory's peers that has cooled, by a dial time at or
+// before `now`, in its record too, and returns how many there were.
 fn forget_each<C: PublicKey>(
     records: &mut Records<C>,
     cooldowns: &mut Cooldowns<C>,
@@ -94,8 +94,8 @@ fn forget_each<C: PublicKey>(
     count
 }
 
-// Clears the cooldown in the directory's record of each peer that has cooled, since its dial time
-// is at or before `now`, and returns how many such peers there are.
+// Clears the cooldown in the directory's record of each peer that has cooled, by a dial time at or
+// before `now`, and returns how many such peers there are.
 fn clear_each<C: PublicKey>(
     records: &mut Records<C>,
     cooldowns: &Cooldowns<C>,
@@ -113,8 +113,8 @@ fn clear_each<C: PublicKey>(
     count
 }
 
-// Clears this cooldown in the directory's record of the peer if it has cooled, since its dial time
-// is at or before `now`, and returns how many that are: 0 or 1.
+// Clears this cooldown in the directory's record of the peer if it has cooled, by a dial time at or
+// before `now`, and returns how many that are: 0 or 1.
 fn clear_one<C: PublicKey>(
     records: &mut Records<C>,
     peer: &C,

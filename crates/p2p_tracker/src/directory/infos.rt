@@ -62,10 +62,10 @@ impl<C: PublicKey> Directory<C> {
         }
     }
 
-    /// The infos that the directory sends to a peer that sent these bits, at the time `now`, a
-    /// duration since the epoch. They are those of the primary peers whose bit is false, in order,
-    /// of the retained set with the index. An info is left out if it may not be shared, or its
-    /// timestamp is above the whole milliseconds of `now`.
+    /// The directory's infos to send to a peer that sent these bits, at the time `now`, a duration
+    /// since the epoch. They are those of the primary peers whose bit is false, in order, of the
+    /// retained set with the index. An info is left out if it may not be shared, or its timestamp
+    /// is above the whole milliseconds of `now`.
     ///
     /// Returns an empty list if no retained set has the index, and `None` if the number of bits
     /// differs from the number of its primary peers. It allocates only if an info is shared: for

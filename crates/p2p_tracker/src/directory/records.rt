@@ -209,7 +209,7 @@ impl<C: PublicKey> Records<C> {
         })
     }
 
-    /// Offers an info to the one of the directory's records that is of its peer. If it is accepted,
+    /// Offers an info to the record of its peer among the directory's records. If it is accepted,
     /// returns whether the peer's info is known and not wanted, before and after; if not, nothing
     /// has changed.
     pub fn update(&mut self, info: Info<C>, limit: usize) -> Option<BitChange>

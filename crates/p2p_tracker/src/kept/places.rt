@@ -98,8 +98,8 @@ impl<C: PublicKey> Places<C> {
         }
     }
 
-    /// Makes the place of each of the keys in this list, its position in the set with this index,
-    /// its latest, and returns the places before.
+    /// Makes the position of each of the keys in this list, in the set with this index, its latest
+    /// place, and returns the places before.
     ///
     /// # Conditions
     ///
@@ -201,8 +201,8 @@ fn count_new(links: &Links) -> usize
     count
 }
 
-// Makes the place of each of the keys in this list, in the set with this index, its latest. Each
-// has one already.
+// Makes the position of each of the keys in this list, in the set with this index, its latest
+// place. Each has one already.
 fn write_each<C: PublicKey>(latest: &mut [(C, Place)], keys: &[C], set: u64)
     requires places { IsStrictlySortedBy C.cmp (keys_of latest.old) }
     requires keys { IsStrictlySortedBy C.cmp keys.now }

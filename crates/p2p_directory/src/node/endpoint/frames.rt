@@ -231,7 +231,7 @@ impl<C: PublicKey> Endpoint<C> {
         }
     }
 
-    // Verifies the info of a greeting, a frame that the endpoint received, and applies it.
+    // Verifies the info of a greeting frame that the endpoint received, and applies it.
     fn greet(&mut self, info: Info<C>, now: Duration) -> Received
         ensures unchanged { applies result ≡ false → self.new ≡ self.old }
         ensures seen { let o = greeted (wire_of C.verifies C.FixedBytes C.Signature.FixedBytes) info
@@ -245,8 +245,8 @@ impl<C: PublicKey> Endpoint<C> {
         self.apply_greeting(info)
     }
 
-    // Verifies the info of a greeting, a frame that the endpoint received, given whether its
-    // signature is valid, and applies it.
+    // Verifies the info of a greeting frame that the endpoint received, given whether its signature
+    // is valid, and applies it.
     fn greet_by(&mut self, info: Info<C>, now: Duration, right: bool) -> Received
         ensures unchanged { applies result ≡ false → self.new ≡ self.old }
         ensures seen { let o = greeted (wire_of C.verifies C.FixedBytes C.Signature.FixedBytes) info
@@ -260,7 +260,7 @@ impl<C: PublicKey> Endpoint<C> {
         self.apply_greeting(info)
     }
 
-    // Applies the info of a greeting, a frame that the endpoint received.
+    // Applies the info of a greeting frame that the endpoint received.
     fn apply_greeting(&mut self, info: Info<C>) -> Received
         ensures unchanged { applies result ≡ false → self.new ≡ self.old }
         ensures seen { let wire = wire_of C.verifies C.FixedBytes C.Signature.FixedBytes in
@@ -373,7 +373,7 @@ impl<C: PublicKey> Endpoint<C> {
     }
 }
 
-// How many infos the payload of a frame that an endpoint received has.
+// How many infos are in the payload of a frame that an endpoint received.
 fn count_infos<C: PublicKey>(payload: &Payload<C>) -> usize
     ensures { result ≡ length (infos_of_payload payload.now) }
 {

@@ -1,4 +1,4 @@
-//! The commands that change nothing.
+//! Questions to a server's directory: the commands that change nothing.
 
 ghost use Rattle.p2p_directory.specs.declared.run.commands.Command.{Command};
 ghost use Rattle.p2p_directory.specs.Private.Serving.{IsServed};

@@ -215,7 +215,7 @@ impl<C: PublicKey> Records<C> {
         Ok(())
     }
 
-    /// Counts a new set in the directory's records of all its peers and sets its bits. If an
+    /// Counts a new set in the directory's records of the set's peers and sets its bits. If an
     /// allocation fails, all records are as they were. A peer that has no record gets one, with its
     /// cooldown.
     pub fn join(
@@ -243,7 +243,7 @@ impl<C: PublicKey> Records<C> {
         joined
     }
 
-    /// Counts one set less in the directory's records of all its peers, when none of them must be
+    /// Counts one set less in the directory's records of the set's peers, when none of them must be
     /// disconnected by that.
     pub fn undo(&mut self, set: &PeerSet<C>)
         ensures map { IsOfMap C.cmp self.new }
@@ -280,7 +280,7 @@ impl<C: PublicKey> Records<C> {
         }
     }
 
-    /// Counts a dropped set in the directory's records of all its peers, and removes the records
+    /// Counts a dropped set in the directory's records of the set's peers, and removes the records
     /// that are deletable then. Returns the peers that must be disconnected, in the list that is
     /// passed in, which has capacity for all peers of the set.
     pub fn leave(&mut self, set: &PeerSet<C>, mut torn: Vec<C>) -> OrderedSet<C>
