@@ -118,8 +118,8 @@ impl<C: PublicKey> Session<C> {
         1
     }
 
-    /// The frame with which the session's node asks for the wanted infos of the set at a position,
-    /// or `None`.
+    /// The frame in which the session requests the wanted infos of the set at a position, or
+    /// `None`.
     pub fn ask(&mut self, place: u64, out: &mut [u8]) -> u64
         ensures { Asks (scheme C.PublicKey C.Signature.FixedBytes) place out.old out.new self.old
             self.new result }

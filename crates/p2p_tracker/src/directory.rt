@@ -66,7 +66,7 @@ pub struct TrackedPeers<C: PublicKey> {
 }
 
 impl<C: PublicKey> TrackedPeers<C> {
-    /// The peers that a directory tracks in a set, in both roles.
+    /// The peers of both roles, as a directory takes and returns them.
     pub fn new(primary: OrderedSet<C>, secondary: OrderedSet<C>) -> Self
         ensures { result ≡ record { primary = primary; secondary = secondary } }
     {
