@@ -32,8 +32,8 @@ pub fn max_message_size(payloads: &[usize]) -> u32
 }
 
 /// The size that a peer set drawn from the participants may have, if each set includes the local
-/// one: their number, and one more if the local one is not among them. A participant that occurs
-/// twice counts twice.
+/// one. It is their number, and one more if the local one is not among them. A participant that
+/// occurs twice counts twice.
 ///
 /// # Conditions
 ///

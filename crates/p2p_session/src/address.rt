@@ -22,9 +22,9 @@ pub fn is_global(address: &[u8]) -> u64
     }
 }
 
-/// Whether an ingress may be dialled under these settings, of which no session is asked, by the 4
-/// or 16 bytes of its address, or by none if it is a name: 1 or 0, or `BadInfo` for another number
-/// of bytes.
+/// Whether an ingress may be dialled under these settings, of which no session is asked: 1 or 0. It
+/// is given by the 4 or 16 bytes of its address, or by none if it is a name; for another number of
+/// bytes the result is `BadInfo`.
 pub fn is_valid(address: &[u8], allow_private_ips: bool, allow_dns: bool) -> u64
     ensures { TellsValid address.now allow_private_ips allow_dns result }
 {

@@ -130,10 +130,10 @@ impl<C: PublicKey> Session<C> {
         }
     }
 
-    /// What the session's host has to verify before [`Session::receive`]: how many infos the frame
-    /// has, and those whose signatures decide, each by the length of its signed bytes, its key, the
-    /// signed bytes and its signature. The list stops before the first info that is refused
-    /// whatever its signature is.
+    /// What the session's host has to verify before [`Session::receive`]. It is how many infos the
+    /// frame has, and those whose signatures decide, each by the length of its signed bytes, its
+    /// key, the signed bytes and its signature. The list stops before the first info that is
+    /// refused whatever its signature is.
     ///
     /// A frame that encodes a payload is kept decoded, in place of the one before, so that
     /// [`Session::receive`] needn't decode it again.

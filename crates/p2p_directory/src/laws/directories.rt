@@ -186,7 +186,7 @@ pub fn others_may_be_left_out<C: PublicKey>()
         SameFor p w w2 → SameFor p v v2 → is_torn_down s w v p ≡ is_torn_down s w2 v2 p }
 {}
 
-/// By a law of directories, each call keeps what is said of others: a call on another single peer
+/// By a law of directories, each call keeps what is said of others. A call on another single peer
 /// leaves all that is said of p as it was; an update changes it by p's infos alone.
 pub fn each_call_keeps_others<C: PublicKey>()
     ensures another { (s : Settings C C.Signature) → 1 ≤ s.max_sets →
@@ -197,7 +197,7 @@ pub fn each_call_keeps_others<C: PublicKey>()
         (c : Call C C.Signature) → SameFor p (step s w c) (step s w (narrowed s p c)) }
 {}
 
-/// By a law of directories, the effects of calls keep others, call by call: what `dial`, `listen`,
+/// By a law of directories, the effects of calls keep others, call by call. What `dial`, `listen`,
 /// `connect`, `release` and `block` do to one peer leaves the retained sets as they are. They also
 /// leave each other peer's record, block and cooldown as they are. Infos that are offered change a
 /// peer's record by those of its own key alone, and nothing else.
@@ -258,8 +258,8 @@ pub fn absent_are_forgotten<C: PublicKey>()
         ((world_at s (past s cs)).peer p).known ≡ new_known s p }
 {}
 
-/// By a law of directories, for two consecutive grants of a peer, if the first isn't forgotten in
-/// between: the second comes no earlier than the cooldown after the first, capped at
+/// By a law of directories, two consecutive grants of a peer are spaced if the first isn't
+/// forgotten in between. The second comes no earlier than the cooldown after the first, capped at
 /// `Duration::MAX`. This also holds if its record was deleted and made again in between. Times may
 /// go backwards.
 pub fn grants_are_spaced<C: PublicKey>()
@@ -285,9 +285,9 @@ pub fn blocks_hold<C: PublicKey>()
         KeepsBlocks s p (past s cs) }
 {}
 
-/// By a law of directories, dials of the peers that a result of `dialable` lists are all granted if
-/// they directly follow each other at the same time as it, with any draws. They may be dials of the
-/// whole list in its order, or of any of its peers in any order, each once.
+/// By a law of directories, dials of the peers that `dialable` lists are all granted if they
+/// directly follow each other at the same time, with any draws. They may be dials of the whole list
+/// in its order, or of any of its peers in any order, each once.
 pub fn dialable_are_granted<C: PublicKey>()
     ensures whole { (s : Settings C C.Signature) → s.cmp ≡ C.cmp → 1 ≤ s.max_sets →
         (cs : List (Call C C.Signature)) (t : ℕ) (xs : List (C × ℕ)) (next : Option ℕ) →
@@ -298,8 +298,8 @@ pub fn dialable_are_granted<C: PublicKey>()
         IsDialable s (world_at s (past s cs)) t ps next → AreChosen s ps xs → AreDialled s t xs cs }
 {}
 
-/// By a law of directories, if nothing is called in between, a result of `dialable` stays the same
-/// until its next query, or for ever if it has none: both the peers and the next query. Each time
+/// By a law of directories, a result of `dialable` stays the same until its next query, or for ever
+/// if it has none, if nothing is called in between. Both the peers and the next query do. Each time
 /// has one result.
 pub fn dialable_is_quiet<C: PublicKey>()
     ensures stays { (s : Settings C C.Signature) (w : World C C.Signature) (t u : ℕ) (ps : List C)

@@ -46,7 +46,7 @@ impl<C: PublicKey> fmt::Debug for Exchanged<C> {
     }
 }
 
-/// Lets two nodes exchange infos, and returns what they exchanged: the asker asks the replier for
+/// Lets two nodes exchange infos, and returns what they exchanged. The asker asks the replier for
 /// the wanted infos of the asker's retained set at a position, counted from 0 in order of index,
 /// and applies the reply. This is [`Node::ask`] of the asker, [`Node::receive`] of that frame by
 /// the replier, and of its reply by the asker: the result is read off theirs, and the asker is left

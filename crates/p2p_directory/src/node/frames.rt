@@ -82,9 +82,9 @@ impl<C: PublicKey> Node<C> {
         self.endpoint.answer(frame, now)
     }
 
-    /// Processes a frame that the node received at the time `now` as [`Node::receive`] does, given
-    /// whether the signature of each of its infos is valid, in the order of the frame. No signature
-    /// is verified here. A greeting has one info, bits and data have none. The result is the one of
+    /// Processes a frame that the node received at `now` as [`Node::receive`] does, given whether
+    /// the signature of each of its infos is valid, in the order of the frame. No signature is
+    /// verified here. A greeting has one info, bits and data have none. The result is the one of
     /// [`Node::receive`] if [`PublicKey::verify`] returned these values.
     ///
     /// # Errors

@@ -173,8 +173,8 @@ impl<C: PublicKey> InfoVerifier<C> {
     }
 
     /// How many of the infos have a signature that decides for this verifier whether they are valid
-    /// at a time: those before the first that is refused whatever its signature is, and none if
-    /// they are too many. It doesn't allocate.
+    /// at a time. They are those before the first that is refused whatever its signature is, and
+    /// none if they are too many. It doesn't allocate.
     pub fn count_to_verify(&self, now: Duration, infos: &[Info<C>]) -> usize
         ensures value { take result infos.now
             ≡ to_verify (judge_of C.cmp C.verifies self.now) (as_nanos now) infos.now }

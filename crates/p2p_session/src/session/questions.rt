@@ -87,8 +87,8 @@ impl<C: PublicKey> Session<C> {
         tell_index(node.latest_set_index(), out)
     }
 
-    /// Asks the session's node by `Directory::latest_update`: the index, the lengths of the first
-    /// three lists, and the primary and secondary peers of the latest set and of all sets, or
+    /// Asks the session's node by `Directory::latest_update`. Returns the index, the lengths of the
+    /// first three lists, and the primary and secondary peers of the latest set and of all sets, or
     /// `None`.
     pub fn latest_update(&mut self, out: &mut [u8]) -> u64
         ensures { TellsUpdate (scheme C.PublicKey C.Signature.FixedBytes) out.old out.new self.old
@@ -195,8 +195,8 @@ impl<C: PublicKey> Session<C> {
         tell_moment(node.directory().next_cooled(), out)
     }
 
-    /// Asks the session's node whom the reservation that is held of a peer is for: byte 0 for an
-    /// inbound peer, or byte 1 and the encoded ingress that is dialled. `None` if none is held. It
+    /// Asks the session's node whom the reservation held of a peer is for: byte 0 for an inbound
+    /// peer, or byte 1 and the encoded ingress that is dialled. `None` if none is held. It
     /// allocates nothing.
     pub fn reservation(&mut self, peer: &[u8], out: &mut [u8]) -> u64
         ensures { TellsReservation (scheme C.PublicKey C.Signature.FixedBytes) peer.now out.old

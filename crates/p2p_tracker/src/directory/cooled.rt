@@ -114,7 +114,7 @@ fn clear_each<C: PublicKey>(
 }
 
 // Clears this cooldown in the directory's record of the peer if it has cooled, by a dial time at or
-// before `now`, and returns how many that are: 0 or 1.
+// before `now`, and returns their number: 0 or 1.
 fn clear_one<C: PublicKey>(
     records: &mut Records<C>,
     peer: &C,

@@ -33,8 +33,8 @@ impl<C: PublicKey> Directory<C> {
     }
 
     /// Whether the peer is eligible and inert in the directory, so that an inbound connection of it
-    /// may be accepted at the time `now`, a duration since the epoch: it is not blocked, and its
-    /// record is acceptable. False if there is no record. It doesn't allocate.
+    /// may be accepted at the time `now`, a duration since the epoch. It is if it is not blocked,
+    /// and its record is acceptable. False if there is no record. It doesn't allocate.
     ///
     /// # Cost
     ///
@@ -49,7 +49,7 @@ impl<C: PublicKey> Directory<C> {
     }
 
     /// The eligible peers of the directory that may be dialled at the time `now`, a duration since
-    /// the epoch, in ascending order: those whose dial status is
+    /// the epoch, in ascending order. They are those whose dial status is
     /// [`Now`](crate::record::DialStatus::Now) and that are not blocked. `next_query_at` says from
     /// when asking again is useful. It is the earliest of the ends of the blocks of peers that have
     /// a record, and of the dial times of the others whose status is

@@ -158,8 +158,8 @@ impl<C: PublicKey> Directory<C> {
     }
 
     /// The bits of the directory's retained set at a position, counted from 0 in order of index,
-    /// with its index, by which infos are asked for: for each primary peer in order whether its
-    /// info is known and not wanted. `None` if there is no such position.
+    /// with its index, by which infos are asked for. They say for each primary peer in order
+    /// whether its info is known and not wanted. `None` if there is no such position.
     ///
     /// # Errors
     ///
