@@ -48,7 +48,7 @@ pub fn call(alloc: Global, line: &str) -> Result<Command<TestKey>, Fault> {
     Ok(command)
 }
 
-// The first word of a line that is parsed, and what follows it.
+// Splits a line that is to be parsed into its first word and the rest.
 fn first_word(text: &str) -> (&str, &str) {
     match text.trim_start().split_once(char::is_whitespace) {
         Some(parts) => parts,

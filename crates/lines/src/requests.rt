@@ -7,8 +7,7 @@ use p2p_discovery::codec::PublicKey;
 
 /// The nodes that lines name.
 pub trait Nodes {
-    /// The number of the node of which a line requests something by this name, or `None` if no node
-    /// has it.
+    /// The number of the node that a line's request names so, or `None` if no node has this name.
     fn node_of(&self, name: &str) -> Option<usize>;
 
     /// The number of the node of which a line without a name requests something.

@@ -130,7 +130,7 @@ pub fn run_rows<W: Write>(alloc: Global, words: &[String], out: &mut W) -> u8
     status_after(ended, out)
 }
 
-// Prints the rows of dials that fail; and again with a failure limit of 0.
+// Runs the row of dials that fail, once as it is and once with a failure limit of 0.
 fn failed_dials<W: Write>(alloc: Global, out: &mut W) -> Result<(), Stop> {
     directory::print_row(alloc, &examples::dialling::FAILED_DIALS, out)?;
     directory::print_row(alloc, &examples::dialling::NO_FAILURE_ALLOWED, out)

@@ -298,9 +298,9 @@ pub fn dialable_are_granted<C: PublicKey>()
         IsDialable s (world_at s (past s cs)) t ps next → AreChosen s ps xs → AreDialled s t xs cs }
 {}
 
-/// By a law of directories, a result of `dialable` stays the same until its next query, or for ever
-/// if it has none, if nothing is called in between. Both the peers and the next query do. Each time
-/// has one result.
+/// By a law of directories, a result of `dialable`, its peers and its next query, stays the same if
+/// nothing is called in between: until its next query, or for ever if it has none. Each time has
+/// one result.
 pub fn dialable_is_quiet<C: PublicKey>()
     ensures stays { (s : Settings C C.Signature) (w : World C C.Signature) (t u : ℕ) (ps : List C)
         (next : Option ℕ) →

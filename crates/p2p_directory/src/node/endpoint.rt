@@ -170,8 +170,8 @@ impl<C: PublicKey> Endpoint<C> {
         self.server.directory()
     }
 
-    /// The frame of the endpoint's bits of the set at a position, or `None` if there is no such
-    /// position.
+    /// What the endpoint asks with: a frame of its bits of the set at a position, or `None` if there
+    /// is no such position.
     pub fn ask(&self, place: usize) -> Result<Option<Bytes>, AllocError>
         ensures seen { AsksWith C.cmp (wire_of C.verifies C.FixedBytes C.Signature.FixedBytes)
             place result (node_of self.now) }

@@ -97,8 +97,8 @@ fn dialable_in<C: PublicKey>(
     Ok(answer)
 }
 
-// The dial status of a record's peer that may be listed, at this time; if it is blocked, after its
-// block.
+// The dial status by which a listing of the records takes a peer up, at this time; if the peer is
+// blocked, that after its block.
 fn status_of<C: PublicKey>(
     found: &Record<C>,
     unblock: Option<Duration>,
