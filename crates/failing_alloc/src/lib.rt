@@ -21,7 +21,7 @@ const CUT: usize = 2_040;
 // After this many sufficient budgets in a row, all larger ones are assumed to be sufficient.
 const SPARE: usize = 16;
 
-/// Allocates blocks of this size until an allocation fails, at most `PLACES`. Nothing is written to
+/// Allocates blocks of this size until the allocator fails, at most `PLACES`. Nothing is written to
 /// them.
 fn take_each(blocks: &mut Vec<Vec<u8>>, alloc: Global, size: usize) -> Result<(), AllocError>
     ensures { length blocks.old.items ≤ length blocks.new.items }
@@ -35,8 +35,8 @@ fn take_each(blocks: &mut Vec<Vec<u8>>, alloc: Global, size: usize) -> Result<()
     Ok(())
 }
 
-/// Allocates all blocks: first of sizes that halve down to 2 KiB, then of each smaller size that
-/// the C library keeps apart.
+/// Makes the allocator fail by allocating all blocks: first of sizes that halve down to 2 KiB, then
+/// of each smaller size that the C library keeps apart.
 fn take_all(blocks: &mut Vec<Vec<u8>>, alloc: Global, largest: usize) -> Result<(), AllocError>
     ensures { length blocks.old.items ≤ length blocks.new.items }
 {
@@ -74,7 +74,8 @@ impl Model for FailingAlloc {
 }
 
 impl FailingAlloc {
-    /// Allocates all memory except a reserve of 4 MiB, which is free until the first `limit`.
+    /// A failing allocator that has all memory allocated except a reserve of 4 MiB, which is free
+    /// until the first `limit`.
     ///
     /// # Errors
     ///
@@ -96,8 +97,9 @@ impl FailingAlloc {
         Ok(FailingAlloc { blocks, filler })
     }
 
-    /// Leaves one free piece of `budget` bytes. Each block allocated from it has a header of 8
-    /// bytes. With a budget of 0 every allocation fails. Blocks allocated before stay allocated.
+    /// Leaves the failing allocator one free piece of `budget` bytes. Each block allocated from it
+    /// has a header of 8 bytes. With a budget of 0 every allocation fails. Blocks allocated before
+    /// stay allocated.
     ///
     /// # Errors
     ///
@@ -115,7 +117,7 @@ impl FailingAlloc {
         Ok(())
     }
 
-    /// Frees the whole reserve.
+    /// Lets the allocator no longer fail, by freeing the whole reserve.
     pub fn lift(&mut self)
         ensures { self.new ≡ 0 }
     {
@@ -137,7 +139,8 @@ impl Tally {
         spare: 0,
     };
 
-    /// Counts the next budget. `refused` says whether an allocation failed at it.
+    /// Counts the next budget of the failing allocator. `refused` says whether an allocation failed
+    /// at it.
     pub fn count(&mut self, refused: bool) {
         self.spare = self.spare.saturating_add(1);
         if refused {
@@ -146,13 +149,14 @@ impl Tally {
         }
     }
 
-    /// Whether enough budgets in a row were sufficient that larger ones need not be tried.
+    /// Whether enough budgets of the failing allocator in a row were sufficient that larger ones
+    /// need not be tried.
     pub fn is_over(&self) -> bool {
         self.spare >= SPARE
     }
 
-    /// The minimum number of blocks of [`STEP`] bytes that was sufficient, as were all larger
-    /// numbers that were tried.
+    /// The minimum number of blocks of [`STEP`] bytes of the failing allocator that was sufficient,
+    /// as were all larger numbers that were tried.
     pub fn blocks(&self) -> usize {
         self.blocks
     }

@@ -34,7 +34,7 @@ pub struct Part {
     pub steps: &'static [&'static str],
 }
 
-/// The lines of a preparation, and then the steps.
+/// All lines of a worked example, those of its preparation, and then its steps.
 pub fn all_lines(
     alloc: Global,
     prepared: &[&'static str],

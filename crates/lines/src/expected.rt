@@ -20,7 +20,7 @@ impl Write for Rest<'_> {
     }
 }
 
-/// Whether the value's printed form is this text. It doesn't allocate.
+/// Whether the value's printed form is the expected text. It doesn't allocate.
 pub fn is_printed_as(value: &impl Display, text: &str) -> bool {
     let mut rest = Rest {
         text: text.as_bytes(),

@@ -29,7 +29,7 @@ impl Nodes for Sides {
     }
 }
 
-/// The command that the line requests of two nodes, `left` and `right`.
+/// The command that the line requests of a pair of nodes, `left` and `right`.
 pub fn command(alloc: Global, line: &str) -> Result<PairCommand<TestKey>, Fault> {
     match request(alloc, line, &Sides)? {
         Request::Command(command) => Ok(of_sides(command)),
@@ -37,7 +37,7 @@ pub fn command(alloc: Global, line: &str) -> Result<PairCommand<TestKey>, Fault>
     }
 }
 
-// The command, with the nodes by their sides.
+// The command of a line for a pair of nodes, with these by their sides.
 fn of_sides(command: NetworkCommand<TestKey>) -> PairCommand<TestKey> {
     match command {
         NetworkCommand::Call(node, command) => PairCommand::Call(side(node), command),

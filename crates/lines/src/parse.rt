@@ -1,4 +1,4 @@
-//! What a line requests.
+//! Parses a line as what it requests.
 
 ghost use Rattle.std.specs.Prelude.{◌<◌, ◌-◌, IfOk};
 ghost use Rattle.lines.specs.Requests.{CanServe};
@@ -24,7 +24,7 @@ mod nearest;
 mod settings;
 mod words;
 
-/// What the line requests of these nodes.
+/// Parses a line as what it requests of these nodes.
 pub fn request<N: Nodes>(alloc: Global, line: &str, nodes: &N) -> Result<Request<TestKey>, Fault>
     ensures { IfOk result CanServe }
 {
@@ -39,7 +39,7 @@ pub fn request<N: Nodes>(alloc: Global, line: &str, nodes: &N) -> Result<Request
     }
 }
 
-/// The command of the line, for the directory of a node without settings.
+/// Parses a line as a command, for the directory of a node without settings.
 pub fn call(alloc: Global, line: &str) -> Result<Command<TestKey>, Fault> {
     let (name, arguments) = first_word(line);
     let mut words = words_after(name, arguments)?;
@@ -48,7 +48,7 @@ pub fn call(alloc: Global, line: &str) -> Result<Command<TestKey>, Fault> {
     Ok(command)
 }
 
-// The first word, and what follows it.
+// Splits a line that is to be parsed into its first word and the rest.
 fn first_word(text: &str) -> (&str, &str) {
     match text.trim_start().split_once(char::is_whitespace) {
         Some(parts) => parts,
@@ -63,7 +63,7 @@ fn node_named<N: Nodes>(nodes: &N, name: &str) -> Result<usize, Fault> {
     }
 }
 
-// The arguments of the command of this name.
+// The words behind the name of this command in a line that is parsed, its arguments.
 fn words_after<'a>(name: &str, arguments: &'a str) -> Result<Words<'a>, Fault> {
     match usage_of(name) {
         Some(usage) => Ok(Words::new(arguments, usage)),
@@ -71,7 +71,8 @@ fn words_after<'a>(name: &str, arguments: &'a str) -> Result<Words<'a>, Fault> {
     }
 }
 
-// What the command of this name requests with the arguments; it is for this node if it names one.
+// Parses a line, behind the name of the command, as what it requests; it is for this node if it
+// names one.
 fn request_to<N: Nodes>(
     alloc: Global,
     name: &str,
@@ -91,7 +92,7 @@ fn request_to<N: Nodes>(
     Ok(request)
 }
 
-// A new node.
+// Parses a line, behind the name of the command, as a request for a new node.
 fn new_node(alloc: Global, words: &mut Words<'_>) -> Result<Request<TestKey>, Fault>
     ensures { IfOk result CanServe }
 {

@@ -7,13 +7,13 @@ use p2p_discovery::codec::PublicKey;
 
 /// The nodes that lines name.
 pub trait Nodes {
-    /// The number of the node of this name, or `None` if no node has it.
+    /// The number of the node that a line's request names so, or `None` if no node has this name.
     fn node_of(&self, name: &str) -> Option<usize>;
 
-    /// The number of the node that a line without a name is for.
+    /// The number of the node of which a line without a name requests something.
     fn latest_node(&self) -> usize;
 
-    /// The namespace in which infos for a node are signed.
+    /// The namespace in which infos are signed that a line requests for a node.
     fn namespace_of(&self, node: usize) -> &[u8];
 }
 

@@ -48,7 +48,7 @@ impl<T: Drop> From<AllocFailed<T>> for Unreadable {
     }
 }
 
-/// The command of a line, for one directory.
+/// The command of a line of a table, for one directory.
 pub fn command(alloc: Global, line: &'static str) -> Result<Command<TestKey>, Unreadable> {
     match call(alloc, line) {
         Ok(command) => Ok(command),
@@ -56,7 +56,7 @@ pub fn command(alloc: Global, line: &'static str) -> Result<Command<TestKey>, Un
     }
 }
 
-/// The commands of the lines, for one directory.
+/// The commands of the lines of a table, for one directory.
 pub fn commands(
     alloc: Global,
     lines: &[&'static str],
@@ -68,7 +68,7 @@ pub fn commands(
     Ok(commands)
 }
 
-/// The commands of the lines, for the nodes `left` and `right`.
+/// The commands of the lines of a table, for the nodes `left` and `right`.
 pub fn pair_commands(
     alloc: Global,
     lines: &[&'static str],
@@ -83,7 +83,7 @@ pub fn pair_commands(
     Ok(commands)
 }
 
-/// The setup of a node with the settings of a line, such as `own=8 max_sets=2`.
+/// The setup of a node with the settings of a line of a table, such as `own=8 max_sets=2`.
 pub fn setup(alloc: Global, settings: &'static str) -> Result<Setup<TestKey>, Unreadable>
     ensures sets { IfOk result (λ s. non_zero_usize_get s.cfg.max_sets < 2 ^ 64 - 1) }
     ensures bits { IfOk result (λ s. s.payload.max_bit_vec < 2 ^ 32) }
@@ -97,7 +97,7 @@ pub fn setup(alloc: Global, settings: &'static str) -> Result<Setup<TestKey>, Un
     }
 }
 
-/// The info of a word, such as `1@1000`.
+/// The info of a word of a table, such as `1@1000`.
 pub fn info(alloc: Global, word: &'static str) -> Result<Info<TestKey>, Unreadable> {
     match parse_info(alloc, word, NAMESPACE) {
         Ok(info) => Ok(info),

@@ -51,7 +51,7 @@ pub enum Value<C: PublicKey> {
 }
 
 impl<C: PublicKey> Value<C> {
-    /// The value that the bytes encode.
+    /// Decodes the bytes that a line has as a value of this kind.
     pub fn decode(alloc: Global, kind: Kind, bytes: Bytes) -> Result<Value<C>, CodecError> {
         Ok(match kind {
             Kind::Payload(limits) => Value::Payload(Payload::decode_cfg(alloc, bytes, &limits)?),
@@ -64,7 +64,7 @@ impl<C: PublicKey> Value<C> {
         })
     }
 
-    /// The encoding of the value.
+    /// Encodes the value of a line.
     pub fn encode(&self, alloc: Global) -> Result<Bytes, CodecError> {
         match self {
             Value::Payload(payload) => encoded_payload(alloc, payload),
@@ -116,7 +116,7 @@ fn encoded_payload<C: PublicKey>(alloc: Global, payload: &Payload<C>) -> Result<
     Ok(payload.encode(alloc)?)
 }
 
-// The length of the message or of the list in a payload, if it has one.
+// The length of the message or of the list in a line's value that is a payload, if it has one.
 fn length_of<C: PublicKey>(payload: &Payload<C>) -> usize
     ensures { result < 2 ^ 32 → CanSpell payload.now }
 {

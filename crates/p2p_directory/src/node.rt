@@ -51,7 +51,7 @@ impl<C: PublicKey> Model for Node<C> {
 }
 
 impl<C: PublicKey> Node<C> {
-    /// A node of this setup: its directory is new, it holds no reservation, and its verifier of
+    /// A new node of this setup: its directory is new, it holds no reservation, and its verifier of
     /// infos has the key of the local info.
     ///
     /// # Conditions
@@ -93,17 +93,18 @@ impl<C: PublicKey> Node<C> {
         })
     }
 
-    /// Does nothing. Its contract says what holds between calls: the node stands where the calls
-    /// lead that it accepted, for some setup that it was made from and some calls. What each call
-    /// returns follows from these two, so a function that is lent a node can say it, too.
+    /// Does nothing to the node. Its contract says what holds between calls: the node stands where
+    /// the calls lead that it accepted, for some setup that it was made from and some calls. What
+    /// each call returns follows from these two, so a function that is lent a node can say it, too.
     pub fn stands(&self)
         ensures { StandsSomewhere C.cmp self.now }
     {
         self.endpoint.stands();
     }
 
-    /// Serves one command, as [`run`](crate::run::run) does: a granted reservation is held, and a
-    /// command whose reply is `NotReserved`, `NotHeld` or `OutOfMemory` changes nothing.
+    /// Serves one command of the node, as [`run`](crate::run::run) does: a granted reservation is
+    /// held, and a command whose reply is `NotReserved`, `NotHeld` or `OutOfMemory` changes
+    /// nothing.
     ///
     /// Space for a reservation is allocated before a `Dial` or a `Listen`, so the reply to both may
     /// be `OutOfMemory` if that fails.
@@ -125,29 +126,29 @@ impl<C: PublicKey> Node<C> {
         self.endpoint.step(command)
     }
 
-    /// The directory.
+    /// The directory of the node.
     pub fn directory(&self) -> &Directory<C>
         ensures { result.now ≡ self.now.directory }
     {
         self.endpoint.server.directory()
     }
 
-    /// The verifier of infos.
+    /// The node's verifier of infos.
     pub fn verifier(&self) -> &InfoVerifier<C>
         ensures { result.now ≡ self.now.verifier }
     {
         &self.endpoint.verifier
     }
 
-    /// The limits under which frames are read.
+    /// The limits under which the node reads frames.
     pub fn limits(&self) -> PayloadConfig
         ensures { result ≡ self.now.limits }
     {
         self.endpoint.payload
     }
 
-    /// Whom the reservation of the peer is for, and who dials, or `None` if none is held. It
-    /// doesn't allocate.
+    /// Whom the reservation of the peer that the node holds is for, and who dials, or `None` if it
+    /// holds none. It doesn't allocate.
     ///
     /// # Cost
     ///
@@ -158,8 +159,9 @@ impl<C: PublicKey> Node<C> {
         self.endpoint.server.held(peer)
     }
 
-    /// The directory, and the reservations that it granted and that were not released. They are
-    /// those of exactly the peers that are reserved or connected. It doesn't allocate.
+    /// The parts of the node: its directory, and the reservations that it granted and that were not
+    /// released. They are those of exactly the peers that are reserved or connected. It doesn't
+    /// allocate.
     ///
     /// # Cost
     ///
@@ -174,7 +176,7 @@ impl<C: PublicKey> Node<C> {
         endpoint.into_parts()
     }
 
-    /// Releases all reservations, and returns the directory. It doesn't allocate.
+    /// Releases all reservations of the node, and returns its directory. It doesn't allocate.
     ///
     /// # Cost
     ///

@@ -29,9 +29,9 @@ mod outcome;
 pub(crate) mod server;
 pub(crate) mod slots;
 
-/// Makes a directory and serves the commands in turn. Each reply is that of the call, by what was
-/// called before it. A command whose reply is `NotReserved`, `NotHeld` or `OutOfMemory` has no
-/// effect.
+/// Makes a directory and runs the commands over it, one after the other. Each reply is that of the
+/// call, by what was called before it. A command whose reply is `NotReserved`, `NotHeld` or
+/// `OutOfMemory` has no effect.
 ///
 /// Space for all replies and all reservations is allocated before the first command, so only these
 /// may get `OutOfMemory`:
@@ -97,7 +97,8 @@ pub fn run<C: PublicKey>(
     Ok(server.into_run(replies))
 }
 
-// A slot for each peer of which the commands may be granted a reservation.
+// Makes, before a run starts, a slot for each peer of which its commands may be granted a
+// reservation.
 fn slots_for<C: PublicKey>(alloc: Global, commands: &[Command<C>]) -> Result<Slots<C>, AllocError>
     ensures room { IfOk result (λ slots. AllPass (has_slot_for C.cmp slots) commands.now) }
     ensures empty { IfOk result (λ slots. (q : C) → held_in C.cmp slots q ≡ None) }
@@ -107,7 +108,7 @@ fn slots_for<C: PublicKey>(alloc: Global, commands: &[Command<C>]) -> Result<Slo
     Slots::of_peers(alloc, peers)
 }
 
-// The peers of which the commands may be granted a reservation.
+// The peers, listed before a run starts, of which its commands may be granted a reservation.
 fn reserved_peers<C: PublicKey>(
     alloc: Global,
     commands: &[Command<C>],

@@ -40,9 +40,9 @@ struct Statuses {
     afterwards: Option<Status>,
 }
 
-// Makes a directory, registers the set at index 0, accepts a connection of the inbound peer, and
-// closes it. Returns the status of the peer while it is connected and afterwards, which are those
-// in the worlds of the calls made so far.
+// Makes the calls of a tested directory by hand: registers the set at index 0, accepts a connection
+// of the inbound peer, and closes it. Returns the status of the peer while it is connected and
+// afterwards, which are those in the worlds of the calls made so far.
 fn visit<C: PublicKey>(
     alloc: Global,
     myself: Info<C>,
@@ -80,7 +80,7 @@ fn visit<C: PublicKey>(
     })
 }
 
-// Lets the peer visit a node that tracks 1 and 2, at 100 s.
+// Makes calls by hand that let the peer visit a tested node that tracks 1 and 2, at 100 s.
 fn visited_by(alloc: Global, peer: u64) -> Result<Statuses, Refused> {
     let Ok(setup) = setup(alloc, "") else {
         return Err(Refused::OutOfMemory);

@@ -11,7 +11,8 @@ use std::alloc::Global;
 use std::test::Fail;
 use std::time::Duration;
 
-// Returns the frame to send in reply to a frame, if any.
+// A tested example of a directory's node, which returns the frame to send in reply to a frame, if
+// any.
 fn answer(node: &mut Node<TestKey>, frame: Bytes, now: Duration) -> Option<Bytes> {
     match node.receive(frame, now) {
         Received::Reply(infos) => Some(infos),
@@ -23,7 +24,8 @@ fn answer(node: &mut Node<TestKey>, frame: Bytes, now: Duration) -> Option<Bytes
     }
 }
 
-// Whether an inbound peer is accepted.
+// A tested example of a directory's node, which accepts an inbound peer, and returns whether it is
+// accepted.
 fn admit(node: &mut Node<TestKey>, peer: TestKey, now: Duration, draw: Duration) -> bool {
     match node.step(Command::Listen { peer, now, draw }) {
         Reply::Listen(true) => true,
@@ -32,7 +34,7 @@ fn admit(node: &mut Node<TestKey>, peer: TestKey, now: Duration, draw: Duration)
     }
 }
 
-// A greeting frame of peer 1.
+// A greeting frame of peer 1 for the tested examples of a directory's node.
 fn greeting(alloc: Global) -> Result<Bytes, Fail> {
     let mut bytes = [1].as_slice().to_vec(alloc)?;
     bytes.extend_from_slice(info(alloc, "1@5")?.encode(alloc)?.as_slice())?;

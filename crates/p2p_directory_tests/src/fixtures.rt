@@ -9,12 +9,12 @@ use p2p_discovery::codec::TestKey;
 use std::alloc::Global;
 use std::test::Fail;
 
-/// A node with these settings.
+/// A node with these settings, a fixture of the directory's tests.
 pub fn node(alloc: Global, settings: &'static str) -> Result<Node<TestKey>, Fail> {
     Ok(Node::new(alloc, setup(alloc, settings)?)?)
 }
 
-/// A node with these settings that served the lines.
+/// A node with these settings that served the lines, a fixture of the directory's tests.
 pub fn node_after(
     alloc: Global,
     settings: &'static str,
@@ -28,7 +28,8 @@ pub fn node_after(
     Ok(node)
 }
 
-/// The run of the commands over the directory of a node with these settings.
+/// The run of the commands over the directory of a node with these settings, a fixture of the
+/// directory's tests.
 pub fn run_from(
     alloc: Global,
     settings: &'static str,

@@ -13,8 +13,9 @@ use p2p_discovery::codec::{PublicKey, TestKey};
 use std::test::Fail;
 use std::time::Duration;
 
-// Dials a peer, and returns the reply and how the peer stands then: reserved if the dial was
-// granted. It is the status in the world to which the accepted calls lead, with the dial.
+// Dials a peer by a node that is lent to the test, and returns the reply and how the peer stands
+// then: reserved if the dial was granted. It is the status in the world to which the accepted calls
+// lead, with the dial.
 fn dial_and_look<C: PublicKey>(
     node: &mut Node<C>,
     peer: &C,

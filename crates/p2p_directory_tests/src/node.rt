@@ -16,7 +16,7 @@ mod network;
 
 const MEBIBYTE: usize = 1 << 20;
 
-/// 100 seconds.
+/// A time for the tests of a node, 100 seconds.
 pub fn hundred() -> Duration {
     Duration::from_secs(100)
 }
@@ -27,7 +27,8 @@ fn long_frame(alloc: Global) -> Result<Bytes, Fail> {
     Ok(Bytes::from_vec(bytes)?)
 }
 
-// Whether the message has all its bytes, and shares memory with the kept frame until it is dropped.
+// Whether a tested node's message has all its bytes, and shares memory with the kept frame until it
+// is dropped.
 fn is_cut(received: Received, kept: &Bytes) -> bool {
     match received {
         Received::Data(data) => {
@@ -59,7 +60,7 @@ pub const REPLIER: [&str; 4] = [
     "update 1@1000",
 ];
 
-// Whether an exchange returns exactly one info, that of peer 1.
+// Whether an exchange of the tested nodes returns exactly one info, that of peer 1.
 fn brings_one(asker: &mut Node<TestKey>, replier: &Node<TestKey>) -> bool {
     match exchange(asker, replier, 0, hundred(), hundred()) {
         Exchanged::Applied(infos) => match infos.as_slice() {

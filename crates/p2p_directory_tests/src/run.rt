@@ -12,7 +12,7 @@ mod slots;
 
 const ROUNDS: u64 = 2_500;
 
-// A set, then four commands in each round.
+// The commands of a tested run, a set and then four in each round.
 fn commands(alloc: Global) -> Result<Vec<Command<TestKey>>, Unreadable> {
     let mut commands = Vec::new(alloc);
     commands.push(command(alloc, "track 0 1")?)?;

@@ -8,7 +8,7 @@ use std::test::Fail;
 
 const FIRST: &str = "track 0 1,2 / 3";
 
-// A line of the command behind this one, so that none is left out.
+// A line in which the command behind this one is typed, so that the test leaves none out.
 fn next(command: &Command<TestKey>) -> Option<&'static str> {
     match command {
         Command::Track { .. } => Some("dial 1 100 4"),
@@ -37,7 +37,7 @@ fn next(command: &Command<TestKey>) -> Option<&'static str> {
     }
 }
 
-// How many commands follow each other.
+// How many commands are typed one after the other in the test.
 fn typed(alloc: Global) -> Result<usize, Unreadable> {
     let mut line = FIRST;
     let mut count = 0usize;
@@ -51,7 +51,8 @@ fn typed(alloc: Global) -> Result<usize, Unreadable> {
     Ok(count)
 }
 
-// How many names of the list are those of a command of one directory.
+// How many names under which commands are typed are those of a command of one directory in the
+// test.
 fn listed(alloc: Global) -> usize {
     let mut count = 0usize;
     for (name, _, _) in &COMMANDS {

@@ -90,7 +90,7 @@ pub trait Upgrader {
     const MAX_SIZE: u32;
 }
 
-/// The longest message that always fits a frame of this carrier.
+/// The longest message of data that always fits a frame of this carrier.
 ///
 /// # Conditions
 ///
@@ -112,8 +112,9 @@ pub struct EncodedData {
 }
 
 impl EncodedData {
-    /// Puts one header buffer before the buffers of the message, which are unchanged. Joined, the
-    /// frame is the payload of data. The bytes in the buffers are neither read nor copied.
+    /// Encodes a message as data, by one header buffer before the buffers of the message, which are
+    /// unchanged. Joined, the frame is the payload of data. The bytes in the buffers are neither
+    /// read nor copied.
     ///
     /// # Conditions
     ///
@@ -157,7 +158,7 @@ impl EncodedData {
     }
 }
 
-// The number of bytes in all of the buffers.
+// The number of bytes in all of the buffers of a data message.
 #[tactic(auto, using(crate::specs::Laws::Data::joined_len))]
 fn total_len(buffers: &VecDeque<Bytes>) -> u32
     requires { length (concat buffers.now.items) < 2 ^ 32 }
@@ -167,7 +168,7 @@ fn total_len(buffers: &VecDeque<Bytes>) -> u32
     total as u32
 }
 
-// The header of a frame whose message has so many bytes.
+// The header of a data frame whose message has so many bytes.
 fn encoded_header(alloc: Global, channel: u64, total: u32) -> Result<Bytes, AllocError>
     ensures { IfOk result (λ b. b ≡ header channel total) }
 {

@@ -49,7 +49,7 @@ pub enum SetError {
 }
 
 impl<P: PublicKey> OrderedSet<P> {
-    /// The set of the items, which may come in any order and may repeat.
+    /// The sorted set of the items, which may come in any order and may repeat.
     ///
     /// # Conditions
     ///
@@ -76,7 +76,7 @@ impl<P: PublicKey> OrderedSet<P> {
         Ok(OrderedSet::from_vec_dedup(items))
     }
 
-    /// The set of the items, which may come in any order and may repeat, sorted in place: it
+    /// The sorted set of the items, which may come in any order and may repeat, made in place: it
     /// doesn't allocate.
     ///
     /// # Cost
@@ -91,7 +91,7 @@ impl<P: PublicKey> OrderedSet<P> {
         OrderedSet { items }
     }
 
-    /// The set of the items, sorted in place: it doesn't allocate.
+    /// The sorted set of the items, made in place: it doesn't allocate.
     ///
     /// # Errors
     ///
@@ -114,22 +114,22 @@ impl<P: PublicKey> OrderedSet<P> {
         Ok(OrderedSet { items })
     }
 
-    /// The number of peers.
+    /// The number of peers of the sorted set.
     pub fn len(&self) -> usize
         ensures { result ≡ length self.now }
     {
         self.items.len()
     }
 
-    /// Whether there is no peer.
+    /// Whether the sorted set has no peer.
     pub fn is_empty(&self) -> bool
         ensures { IsTrue result ↔ (self.now ≡ []) }
     {
         self.items.is_empty()
     }
 
-    /// The position of the peer, counted from 0, or `None` if it is not in the set. It doesn't
-    /// allocate.
+    /// The position of the peer in the sorted set, counted from 0, or `None` if it is not in it. It
+    /// doesn't allocate.
     ///
     /// # Cost
     ///
@@ -145,7 +145,7 @@ impl<P: PublicKey> OrderedSet<P> {
         }
     }
 
-    /// The peers in ascending order.
+    /// The peers of the sorted set in ascending order.
     pub fn iter(&self) -> slice::Iter<'_, P>
         ensures all { iter_rest result ≡ self.now }
         ensures sorted { IsStrictlySortedBy P.cmp self.now }
@@ -153,7 +153,7 @@ impl<P: PublicKey> OrderedSet<P> {
         self.items.iter()
     }
 
-    /// The peers in ascending order, as a slice.
+    /// The peers of the sorted set in ascending order, as a slice.
     pub fn as_slice(&self) -> &[P]
         ensures all { result.now ≡ self.now }
         ensures sorted { IsStrictlySortedBy P.cmp self.now }
@@ -161,7 +161,7 @@ impl<P: PublicKey> OrderedSet<P> {
         &self.items
     }
 
-    /// The peers that are not in the other set.
+    /// The sorted set of the peers that are not in the other set.
     ///
     /// # Errors
     ///
@@ -178,7 +178,7 @@ impl<P: PublicKey> OrderedSet<P> {
         Ok(OrderedSet { items })
     }
 
-    /// An equal set. It doesn't allocate if the set is empty.
+    /// An equal sorted set. It doesn't allocate if the set is empty.
     ///
     /// # Errors
     ///
@@ -197,7 +197,7 @@ impl<P: PublicKey> OrderedSet<P> {
     }
 }
 
-// Whether the peer is in the set.
+// Whether the peer is in the sorted set.
 fn contains<P: PublicKey>(set: &OrderedSet<P>, peer: &P) -> bool
     ensures { result ≡ has_key P.cmp set.now peer.now }
 {
@@ -207,7 +207,7 @@ fn contains<P: PublicKey>(set: &OrderedSet<P>, peer: &P) -> bool
     }
 }
 
-// Those of the peers that are not in the set.
+// Those of the peers that are not in the sorted set.
 fn peers_outside<P: PublicKey>(
     alloc: Global,
     peers: &[P],

@@ -13,7 +13,8 @@ use crate::codec::PublicKey;
 use std::cmp::Ordering;
 use std::num::NonZeroUsize;
 
-/// The maximum of the sizes, or 0 if there are none: the smallest limit that allows each message.
+/// The maximum of the sizes of messages, or 0 if there are none: the smallest limit that allows
+/// each message.
 ///
 /// # Conditions
 ///
@@ -30,9 +31,9 @@ pub fn max_message_size(payloads: &[usize]) -> u32
     payloads.iter().copied().max().unwrap_or(0) as u32
 }
 
-/// How many peers a set drawn from the participants may have, if each set includes the local one:
-/// their number, and one more if the local one is not among them. A participant that occurs twice
-/// counts twice.
+/// The size that a peer set drawn from the participants may have, if each set includes the local
+/// one. It is their number, and one more if the local one is not among them. A participant that
+/// occurs twice counts twice.
 ///
 /// # Conditions
 ///
@@ -55,7 +56,8 @@ pub fn peer_set_limit<P: PublicKey>(participants: &[P], local: &P) -> NonZeroUsi
     }
 }
 
-/// A bound on the number of retained peers: so many sets of so many peers, and the persistent ones.
+/// A bound on the number of retained peers, for sizes in a configuration: so many sets of so many
+/// peers, and the persistent ones.
 ///
 /// # Conditions
 ///
@@ -75,7 +77,8 @@ pub fn max_retained_peers(
         .saturating_add(persistent_peers)
 }
 
-/// The number of peers in either role or in the extension, each counted once.
+/// The size of a peer set: the number of peers in either role or in the extension, each counted
+/// once.
 ///
 /// # Conditions
 ///
@@ -99,7 +102,8 @@ pub fn peer_set_size<P: PublicKey>(primary: &[P], secondary: &[P], extension: Op
     }
 }
 
-// The number of members of either list, counted in one pass over both at once.
+// The size of the union of two lists: the number of members of either, counted in one pass over
+// both at once.
 fn union_size<P: PublicKey>(primary: &[P], secondary: &[P]) -> usize
     requires primary { IsStrictlySortedBy P.cmp primary.now }
     requires secondary { IsStrictlySortedBy P.cmp secondary.now }

@@ -18,8 +18,8 @@ use std::test::Fail;
 /// Bytes that follow a value that is read.
 const REST: &[u8] = b"\xff\x00";
 
-/// Asserts that the value has this encoding, and that it is read again with and without bytes after
-/// it.
+/// Asserts that the codec gives the value this encoding, and reads it again with and without bytes
+/// after it.
 pub(crate) fn is_spelled<T: Write + Read<Cfg = ()> + PartialEq + Debug>(
     rt: &impl Abort,
     alloc: Global,
@@ -35,7 +35,7 @@ pub(crate) fn is_spelled<T: Write + Read<Cfg = ()> + PartialEq + Debug>(
     is_read_before_others(rt, alloc, value, spelling)
 }
 
-/// Asserts that the value is read again with bytes after it, which `decode` rejects.
+/// Asserts that the codec reads the value again with bytes after it, which `decode` rejects.
 fn is_read_before_others<T: Read<Cfg = ()> + PartialEq + Debug>(
     rt: &impl Abort,
     alloc: Global,
@@ -55,8 +55,8 @@ fn is_read_before_others<T: Read<Cfg = ()> + PartialEq + Debug>(
     Ok(())
 }
 
-/// Asserts that `decode` and `read_cfg` reject the bytes with this error, and that `read_cfg`
-/// leaves its buffer unchanged.
+/// Asserts that the codec's `decode` and `read_cfg` reject the bytes with this error, and that
+/// `read_cfg` leaves its buffer unchanged.
 pub(crate) fn is_refused<T: Read<Cfg = ()>>(
     rt: &impl Abort,
     alloc: Global,
@@ -187,9 +187,9 @@ fn spells_test_keys(rt: HostRuntime) -> Result<(), Fail> {
     Ok(())
 }
 
-/// For `ab`, key 1 gives `1 * 257 + 97 + 1` after `a`, and after `b` that times 257, plus 98 and 1.
-/// Key `u64::MAX` gives `257 * 2^64 - 257 + 256` for one byte 255, which is `2^64 - 1` modulo
-/// `2^64`.
+/// Tests the codec's test keys: for `ab`, key 1 gives `1 * 257 + 97 + 1` after `a`, and after `b`
+/// that times 257, plus 98 and 1. Key `u64::MAX` gives `257 * 2^64 - 257 + 256` for one byte 255,
+/// which is `2^64 - 1` modulo `2^64`.
 #[test]
 fn signs_by_the_bytes(rt: HostRuntime) {
     assert_eq!(rt; TestKey(0).sign(b"", b""), TestSignature(0));

@@ -27,7 +27,7 @@ fn hello() -> Data
     }
 }
 
-/// Repeats these buffers. Fails if they are too long for a frame together.
+/// Repeats these buffers for tests of data frames. Fails if they are too long for a frame together.
 pub(crate) fn repeated(
     alloc: Global,
     parts: &[&'static [u8]],
@@ -49,7 +49,7 @@ pub(crate) fn repeated(
     Ok(buffers)
 }
 
-/// The buffers of a message.
+/// The buffers of a message, for tests of data frames.
 pub(crate) fn buffers(alloc: Global, parts: &[&'static [u8]]) -> Result<VecDeque<Bytes>, Fail>
     ensures { IfOk result (λ v. length (concat v.items) < 2 ^ 32) }
 {
@@ -127,7 +127,8 @@ fn refuses_data(rt: HostRuntime) -> Result<(), Fail> {
     Ok(())
 }
 
-/// A message that was read shares the memory of its buffer, which therefore has two owners.
+/// Tests that a message of a data frame that was read shares the memory of its buffer, which
+/// therefore has two owners.
 #[test]
 fn cuts_messages_out_of_their_buffer(rt: HostRuntime) -> Result<(), Fail> {
     let mut longer = HELLO.to_vec(rt.alloc())?;
@@ -173,7 +174,7 @@ fn leaves_room_for_the_overhead(rt: HostRuntime) {
     assert_eq!(rt; max_size::<Wide>(), 1_048_560);
 }
 
-/// Asserts that the frame of a message on this channel has these buffers.
+/// Asserts that the data frame of a message on this channel has these buffers.
 fn assert_framed(
     rt: &impl Abort,
     alloc: Global,
@@ -210,8 +211,8 @@ fn puts_a_header_before_the_buffers(rt: HostRuntime) -> Result<(), Fail> {
 
 static LONG: [u8; 1_048_576] = [0; 1_048_576];
 
-/// The bytes in the buffers are neither read nor copied, so this takes no longer than with short
-/// ones.
+/// Tests that the bytes in the buffers of data are neither read nor copied, so this takes no longer
+/// than with short ones.
 #[test]
 fn puts_a_header_before_many_long_buffers(rt: HostRuntime) -> Result<(), Fail> {
     let alloc = rt.alloc();

@@ -25,7 +25,8 @@ fn socket(port: u16) -> Ingress {
     Ingress::Socket(SocketAddr::new(IpAddr::V4([1, 2, 3, 4]), port))
 }
 
-/// The info of a key at 1.2.3.4 and port 8000 plus the key, signed with the key in a namespace.
+/// The info of a key for tests of discovery, at 1.2.3.4 and port 8000 plus the key, signed with the
+/// key in a namespace.
 fn info_in(namespace: &[u8], key: u16, timestamp: u64) -> Info<TestKey> {
     let public_key = TestKey(key as u64);
     Info::sign(
@@ -137,7 +138,7 @@ fn refuses_bytes_that_spell_no_key(rt: HostRuntime) -> Result<(), Fail> {
     Ok(())
 }
 
-/// A key of 32 bytes with a signature of 64, as a user provides them.
+/// Tests discovery with a key of 32 bytes and a signature of 64, as a user provides them.
 #[test]
 fn carries_keys_that_are_arrays(rt: HostRuntime) -> Result<(), Fail> {
     let alloc = rt.alloc();
@@ -163,7 +164,7 @@ fn carries_keys_that_are_arrays(rt: HostRuntime) -> Result<(), Fail> {
     Ok(())
 }
 
-/// Seventy labels of one letter.
+/// A long name in an info of the tests of discovery, seventy labels of one letter.
 fn long_name(alloc: Global) -> Result<String, AllocError> {
     let mut text = String::new(alloc);
     for _ in 0..69 {
@@ -173,7 +174,8 @@ fn long_name(alloc: Global) -> Result<String, AllocError> {
     Ok(text)
 }
 
-/// The message that is signed for a name, port 80 and timestamp 2.
+/// The message that is signed for an info of the tests of discovery, of a name, port 80 and
+/// timestamp 2.
 fn named_message(alloc: Global, text: &str) -> Result<Vec<u8>, AllocError> {
     let mut message = b"\x01\x8b\x01".as_slice().to_vec(alloc)?;
     message.extend_from_slice(text.as_bytes())?;
@@ -218,7 +220,7 @@ fn signs_the_ingress_and_the_timestamp(rt: HostRuntime) -> Result<(), Fail> {
     signs_a_long_name(&rt, alloc)
 }
 
-/// Asserts the result of verifying an info at the epoch, alone and as a list of one.
+/// Asserts the result of verifying an info of discovery at the epoch, alone and as a list of one.
 fn assert_judged(
     rt: &impl Abort,
     verifier: &InfoVerifier<TestKey>,
@@ -230,7 +232,8 @@ fn assert_judged(
     assert_eq!(rt; verifier.validate(Duration::ZERO, &one), want);
 }
 
-/// Asserts that the timestamp `u64::MAX` is accepted at `Duration::MAX`, and not at the epoch.
+/// Asserts that the verifier of discovery accepts the timestamp `u64::MAX` at `Duration::MAX`, and
+/// not at the epoch.
 fn judges_the_greatest_timestamp(rt: &impl Abort, verifier: &InfoVerifier<TestKey>) {
     let last = info_in(ROWS, 1, u64::MAX);
     assert_eq!(rt; verifier.validate_info(Duration::MAX, &last), Ok(()));
@@ -240,7 +243,8 @@ fn judges_the_greatest_timestamp(rt: &impl Abort, verifier: &InfoVerifier<TestKe
     );
 }
 
-/// Lists for a verifier that accepts one info at most, and for one that accepts none.
+/// Tests lists for a verifier of discovery that accepts one info at most, and for one that accepts
+/// none.
 fn judges_lists(rt: &impl Abort, verifier: &InfoVerifier<TestKey>, none: &InfoVerifier<TestKey>) {
     let two = [info_in(ROWS, 1, 0), info_in(ROWS, 2, 0)];
     assert_eq!(rt;
@@ -342,8 +346,8 @@ const LIMITS: PayloadConfig = PayloadConfig {
     max_data_length: 5,
 };
 
-/// The position of a payload's variant, its channel, timestamp or index, and how many bytes, infos
-/// or bits it holds.
+/// What the tests of discovery compare of a payload: its variant's position, its channel, timestamp
+/// or index, and how many bytes, infos or bits it holds.
 fn parts(payload: &Payload<TestKey>) -> (usize, u64, u64) {
     match payload {
         Payload::Data(data) => (0, data.channel, data.message.len() as u64),

@@ -40,7 +40,7 @@ static FRAMES: [&'static [u8]; 18] = [
     b"\x03\x02\x00\x04\x01\x02\x03\x04\x1f\x42\xe8\x07\x00\x00\x00\x00\x00\x00\x00\x02\xe5\x5b\xee\x71\xd8\xdc\x14\x3b\x00\x04\x01\x02\x03\x04\x1f\x43\xe8\x07\x00\x00\x00\x00\x00\x00\x00\x03\x55\x1c\xc9\xa9\x85\xb6\x30\x3d",
 ];
 
-// Joins a prefix, a byte if one is given, and a suffix.
+// Joins a prefix, a byte if one is given, and a suffix, to mutate a frame at every byte.
 fn joined(
     alloc: Global,
     front: &[u8],
@@ -55,7 +55,7 @@ fn joined(
     Ok(bytes)
 }
 
-// Whether these bytes are the encoding of the payload.
+// Whether these bytes, mutated at one byte, are the encoding of the payload.
 fn is_spelled_by(
     alloc: Global,
     payload: &Payload<TestKey>,
@@ -66,8 +66,9 @@ fn is_spelled_by(
     Ok(payload.encode(alloc)?.as_slice() == bytes)
 }
 
-// Reads the bytes. Asserts that a value encodes to the bytes that were read, and that an error is
-// not `Memory` and leaves the buffer unchanged. Returns whether all bytes were read.
+// Reads bytes that were mutated at one byte. Asserts that a value encodes to the bytes that were
+// read, and that an error is not `Memory` and leaves the buffer unchanged. Returns whether all
+// bytes were read.
 fn assert_judged(rt: &impl Abort, alloc: Global, bytes: &[u8]) -> Result<bool, Fail> {
     let mut buf = Bytes::copy_from_slice(alloc, bytes)?;
     match Payload::<TestKey>::read_cfg(alloc, &mut buf, &LIMITS) {
@@ -86,7 +87,8 @@ fn assert_judged(rt: &impl Abort, alloc: Global, bytes: &[u8]) -> Result<bool, F
     }
 }
 
-// Asserts that `decode_cfg` succeeds exactly if all bytes were read.
+// Asserts of bytes that were mutated at one byte that `decode_cfg` succeeds exactly if all were
+// read.
 fn assert_decoded(rt: &impl Abort, alloc: Global, bytes: Vec<u8>) -> Result<(), Fail> {
     let whole = assert_judged(rt, alloc, &bytes)?;
     let frame = Bytes::from_vec(bytes)?;
@@ -95,7 +97,7 @@ fn assert_decoded(rt: &impl Abort, alloc: Global, bytes: Vec<u8>) -> Result<(), 
     Ok(())
 }
 
-// Each value at this position: inserted, and in place of the next byte.
+// Asserts the results for every byte at this position: inserted, and in place of the next byte.
 fn assert_each_value(
     rt: &impl Abort,
     alloc: Global,
@@ -212,7 +214,8 @@ static HOSTILE: [(&'static [u8], PayloadConfig, CodecError); 9] = [
     ),
 ];
 
-// Each is rejected with its error if memory is ample, and if every allocation fails.
+// Tests that each frame with hostile counts is rejected with its error if memory is ample, and if
+// every allocation fails.
 #[test]
 fn hostile_counts_ask_for_no_memory(rt: HostRuntime) -> Result<(), Fail> {
     let alloc = rt.alloc();

@@ -36,7 +36,7 @@ impl Tally {
         }
     }
 
-    /// Asserts that an allocation failed at some budget, and that another budget was sufficient.
+    /// Asserts that some budget ran out of memory, and that another was sufficient.
     pub(crate) fn is_mixed(&self, rt: &impl Abort) {
         assert!(rt; self.refused > 0, "nothing was refused");
         assert!(rt; self.done > 0, "each call was refused");
@@ -102,9 +102,9 @@ fn is_unencoded(
     }
 }
 
-/// Encodes, reads and decodes a value at a budget. Asserts that each result is right or out of
-/// memory, and that reading then leaves its buffer unchanged. Returns whether reading, decoding and
-/// encoding ran out of memory.
+/// Encodes, reads and decodes a value at a budget that may run out of memory. Asserts that each
+/// result is right or out of memory, and that reading then leaves its buffer unchanged. Returns
+/// whether reading, decoding and encoding ran out of memory.
 fn reads_within<T: Read<Cfg = ()> + Write + PartialEq>(
     rt: &impl Abort,
     alloc: Global,
@@ -128,8 +128,8 @@ fn reads_within<T: Read<Cfg = ()> + Write + PartialEq>(
     Ok((unread, undecoded, is_unencoded(rt, frame, encoded, step)))
 }
 
-/// Calls `reads_within` at each budget. Asserts that reading, decoding and encoding each run out of
-/// memory at some budget and succeed at another.
+/// Calls `reads_within` at each budget, to run out of memory at some. Asserts that reading,
+/// decoding and encoding each run out of memory at some budget and succeed at another.
 fn reads_at_each_budget<T: Read<Cfg = ()> + Write + PartialEq>(
     rt: &impl Abort,
     alloc: Global,
@@ -195,7 +195,8 @@ fn is_unnamed(
     }
 }
 
-/// Asserts that the copies that were made equal the address and its ingress.
+/// Asserts that the copies that were made equal the address and its ingress, unless they ran out of
+/// memory.
 fn assert_copies(
     rt: &impl Abort,
     address: &Address,
@@ -212,8 +213,8 @@ fn assert_copies(
     Ok(())
 }
 
-/// Makes host names and copies at a budget. Returns whether making the valid name ran out of
-/// memory.
+/// Makes host names and copies at a budget that may run out of memory. Returns whether making the
+/// valid name ran out of memory.
 fn names_within(
     rt: &impl Abort,
     alloc: Global,
@@ -248,7 +249,8 @@ fn names_and_copies_are_refused(rt: HostRuntime) -> Result<(), Fail> {
     Ok(())
 }
 
-/// Decoding an ingress without a host name allocates nothing.
+/// Tests that decoding an ingress without a host name allocates nothing, and so never runs out of
+/// memory.
 #[test]
 fn reads_sockets_with_no_memory(rt: HostRuntime) -> Result<(), Fail> {
     let alloc = rt.alloc();
@@ -264,8 +266,8 @@ fn reads_sockets_with_no_memory(rt: HostRuntime) -> Result<(), Fail> {
     Ok(())
 }
 
-/// Asserts that the message was read and the next byte is left. If an allocation failed, all bytes
-/// are left.
+/// Asserts that the message was read and the next byte is left, unless it ran out of memory. If an
+/// allocation failed, all bytes are left.
 fn assert_message(
     rt: &impl Abort,
     read: Result<Data, CodecError>,
@@ -285,7 +287,8 @@ fn assert_message(
     }
 }
 
-/// Reads and encodes messages at a budget. Returns whether encoding ran out of memory.
+/// Reads and encodes messages at a budget that may run out of memory. Returns whether encoding ran
+/// out of memory.
 fn messages_within(
     rt: &impl Abort,
     alloc: Global,
@@ -325,8 +328,8 @@ fn messages_are_refused(rt: HostRuntime) -> Result<(), Fail> {
     Ok(())
 }
 
-/// Signing and verifying allocate nothing, and nothing is allocated for infos that the bytes cannot
-/// hold.
+/// Tests that signing and verifying allocate nothing and never run out of memory, and nothing is
+/// allocated for infos that the bytes cannot hold.
 #[test]
 fn judges_with_no_memory(rt: HostRuntime) -> Result<(), Fail> {
     let alloc = rt.alloc();

@@ -34,7 +34,8 @@ fn bounds_retained_peers(rt: HostRuntime) -> Result<(), Fail> {
     Ok(())
 }
 
-/// The number of peers of the sets [1, 3] and [2, 3], and one more if it is given.
+/// The number of peers that sizing finds in the sets [1, 3] and [2, 3], and one more if it is
+/// given.
 fn size_with(extension: Option<&TestKey>) -> usize {
     peer_set_size(
         &[TestKey(1), TestKey(3)],

@@ -11,7 +11,8 @@ use crate::reply::truth_of;
 use p2p_discovery::codec::read_array;
 use p2p_discovery::types::{Ingress, IpAddr, SocketAddr};
 
-/// Whether an address of 4 or 16 bytes is global: 1 or 0, or `BadInfo` for another number of bytes.
+/// Whether an address of 4 or 16 bytes, of which no session is asked, is global: 1 or 0, or
+/// `BadInfo` for another number of bytes.
 pub fn is_global(address: &[u8]) -> u64
     ensures { TellsGlobal address.now result }
 {
@@ -21,8 +22,9 @@ pub fn is_global(address: &[u8]) -> u64
     }
 }
 
-/// Whether an ingress may be dialled under these settings, by the 4 or 16 bytes of its address, or
-/// by none if it is a name: 1 or 0, or `BadInfo` for another number of bytes.
+/// Whether an ingress may be dialled under these settings, of which no session is asked: 1 or 0. It
+/// is given by the 4 or 16 bytes of its address, or by none if it is a name; for another number of
+/// bytes the result is `BadInfo`.
 pub fn is_valid(address: &[u8], allow_private_ips: bool, allow_dns: bool) -> u64
     ensures { TellsValid address.now allow_private_ips allow_dns result }
 {
@@ -35,14 +37,14 @@ pub fn is_valid(address: &[u8], allow_private_ips: bool, allow_dns: bool) -> u64
     }
 }
 
-// Whether a socket of this address may be dialled.
+// Whether a socket of an address that a host asks about may be dialled.
 fn is_socket_valid(ip: IpAddr, allow_private_ips: bool, allow_dns: bool) -> bool
     ensures { result ≡ is_valid allow_private_ips allow_dns (Socket (socket_from ip 0)) }
 {
     Ingress::Socket(SocketAddr::new(ip, 0)).is_valid(allow_private_ips, allow_dns)
 }
 
-// The address of these bytes.
+// The address of the bytes that a host asks about.
 fn address_of(bytes: &[u8]) -> Option<IpAddr>
     ensures { result ≡ address_of bytes.now }
 {

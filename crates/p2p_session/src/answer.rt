@@ -22,19 +22,19 @@ pub trait Part: Copy {
     // Its bytes.
     ghost bytes: { Self → List ℕ };
 
-    /// How many bytes it is, at most `LONGEST`.
+    /// How many bytes the part of an answer is, at most `LONGEST`.
     fn size(&self) -> u64
         ensures { result ≡ min (length (bytes self.now)) (2 ^ 63) };
 
-    /// Writes it from a position on, and returns the position after it.
+    /// Writes the part of an answer from a position on, and returns the position after it.
     fn put(&self, out: &mut [u8], at: usize) -> usize
         requires { at + length (bytes self.now) ≤ length out.old }
         ensures written { out.new ≡ put_at at (bytes self.now) out.old }
         ensures end { result ≡ at + length (bytes self.now) };
 }
 
-/// Writes the parts at the start of the buffer if they fit. Returns how many bytes they are, at
-/// most `LONGEST`.
+/// Writes an answer of these parts at the start of the buffer if they fit. Returns how many bytes
+/// they are, at most `LONGEST`.
 pub fn answer<P: Part>(parts: &[P], out: &mut [u8]) -> u64
     ensures { IsAnswered (flat_map P.bytes parts.now) out.old out.new result }
 {
@@ -45,7 +45,7 @@ pub fn answer<P: Part>(parts: &[P], out: &mut [u8]) -> u64
     size
 }
 
-// How many bytes the parts are.
+// How many bytes the parts of an answer are.
 fn size_of_all<P: Part>(parts: &[P]) -> u64
     ensures { result ≡ min (length (flat_map P.bytes parts.now)) (2 ^ 63) }
 {
@@ -56,7 +56,7 @@ fn size_of_all<P: Part>(parts: &[P]) -> u64
     size
 }
 
-// Writes the parts one after the other.
+// Writes the parts of an answer one after the other.
 fn write_all<P: Part>(parts: &[P], out: &mut [u8])
     requires { length (flat_map P.bytes parts.now) ≤ length out.old }
     ensures { out.new ≡ put_at 0 (flat_map P.bytes parts.now) out.old }
@@ -83,7 +83,7 @@ impl Part for Plain<'_> {
     }
 }
 
-/// Writes these bytes.
+/// Writes an answer of these bytes.
 pub fn answer_bytes(bytes: &[u8], out: &mut [u8]) -> u64
     ensures { IsAnswered bytes.now out.old out.new result }
 {
@@ -141,7 +141,7 @@ impl<C: PublicKey> Part for Values<'_, C> {
     }
 }
 
-/// Writes one part.
+/// Writes an answer of one part.
 pub fn answer_one<C: PublicKey>(part: Values<'_, C>, out: &mut [u8]) -> u64
     ensures { IsAnswered (values_bytes (scheme C.PublicKey C.Signature.FixedBytes) part.entry)
         out.old out.new result }
@@ -149,14 +149,14 @@ pub fn answer_one<C: PublicKey>(part: Values<'_, C>, out: &mut [u8]) -> u64
     answer(&[part], out)
 }
 
-// How many bytes so many keys are.
+// How many bytes so many keys of an answer are.
 pub(crate) fn size_of_keys<C: PublicKey>(count: usize) -> u64
     ensures { result ≡ min (count * C.SIZE) (2 ^ 63) }
 {
     (count as u64).saturating_mul(C::SIZE as u64).min(LONGEST)
 }
 
-// How many bytes the infos are, encoded.
+// How many bytes the encoded infos of an answer are.
 fn size_of_infos<C: PublicKey>(infos: &[Info<C>]) -> u64
     ensures { result ≡ min (length (flat_map (info_bytes (scheme C.PublicKey
         C.Signature.FixedBytes)) infos.now)) (2 ^ 63) }
@@ -168,7 +168,7 @@ fn size_of_infos<C: PublicKey>(infos: &[Info<C>]) -> u64
     size
 }
 
-// How many bytes are to be verified of the infos.
+// How many bytes of an answer are what is to be verified of the infos.
 fn size_of_asked<C: PublicKey>(infos: &[Info<C>]) -> u64
     ensures { result ≡ min (length (flat_map (asked_bytes (scheme C.PublicKey
         C.Signature.FixedBytes)) infos.now)) (2 ^ 63) }
@@ -180,7 +180,7 @@ fn size_of_asked<C: PublicKey>(infos: &[Info<C>]) -> u64
     size
 }
 
-// How many bytes are to be verified of the info.
+// How many bytes of an answer are what is to be verified of the info.
 fn size_asked<C: PublicKey>(info: &Info<C>) -> u64
     ensures size { result ≡ length ((asked_bytes (scheme C.PublicKey C.Signature.FixedBytes))
         info.now) }
@@ -190,7 +190,7 @@ fn size_asked<C: PublicKey>(info: &Info<C>) -> u64
     (NUMBER_SIZE + C::SIZE + signed + C::Signature::SIZE) as u64
 }
 
-// Writes the keys from a position on, and returns the position after them.
+// Writes the keys of an answer from a position on, and returns the position after them.
 fn put_keys<C: PublicKey>(out: &mut [u8], start: usize, keys: &[C]) -> usize
     requires { start + length (keys_bytes (scheme C.PublicKey C.Signature.FixedBytes) keys.now) ≤
         length out.old }
@@ -206,7 +206,7 @@ fn put_keys<C: PublicKey>(out: &mut [u8], start: usize, keys: &[C]) -> usize
     at
 }
 
-// Writes a key or a signature from a position on, and returns the position after it.
+// Writes a key or a signature of an answer from a position on, and returns the position after it.
 fn put_fixed<T: FixedBytes>(out: &mut [u8], at: usize, value: &T) -> usize
     requires { at + length (T.spelled value.now) ≤ length out.old }
     ensures bytes { out.new ≡ put_at at (T.spelled value.now) out.old }
@@ -217,7 +217,7 @@ fn put_fixed<T: FixedBytes>(out: &mut [u8], at: usize, value: &T) -> usize
     end
 }
 
-// Writes the encoded infos from a position on, and returns the position after them.
+// Writes the encoded infos of an answer from a position on, and returns the position after them.
 fn put_infos<C: PublicKey>(out: &mut [u8], start: usize, infos: &[Info<C>]) -> usize
     requires { start + length (flat_map (info_bytes (scheme C.PublicKey C.Signature.FixedBytes))
         infos.now) ≤ length out.old }
@@ -233,7 +233,7 @@ fn put_infos<C: PublicKey>(out: &mut [u8], start: usize, infos: &[Info<C>]) -> u
     at
 }
 
-// Writes the encoded info from a position on, and returns the position after it.
+// Writes the encoded info of an answer from a position on, and returns the position after it.
 fn put_info<C: PublicKey>(out: &mut [u8], at: usize, info: &Info<C>) -> usize
     requires { at + length ((info_bytes (scheme C.PublicKey C.Signature.FixedBytes)) info.now) ≤
         length out.old }
@@ -249,7 +249,7 @@ fn put_info<C: PublicKey>(out: &mut [u8], at: usize, info: &Info<C>) -> usize
     put_fixed(out, signature_at, &info.signature)
 }
 
-// Writes the varint of a number from a position on, and returns the position after it.
+// Writes the varint of a number of an answer from a position on, and returns the position after it.
 fn put_varint(out: &mut [u8], at: usize, number: u64) -> usize
     requires { (most : ℕ) × (0 < most) × (number < 128 ^ most)
         × (at + length (groups most number) ≤ length out.old) }
@@ -264,7 +264,8 @@ fn put_varint(out: &mut [u8], at: usize, number: u64) -> usize
     put_varint(out, next, number / 128)
 }
 
-// Writes what is to be verified of the infos from a position on, and returns the position after it.
+// Writes into an answer what is to be verified of the infos, from a position on, and returns the
+// position after it.
 fn put_asked<C: PublicKey>(out: &mut [u8], start: usize, infos: &[Info<C>]) -> usize
     requires { start + length (flat_map (asked_bytes (scheme C.PublicKey C.Signature.FixedBytes))
         infos.now) ≤ length out.old }
@@ -280,7 +281,8 @@ fn put_asked<C: PublicKey>(out: &mut [u8], start: usize, infos: &[Info<C>]) -> u
     at
 }
 
-// Writes what is to be verified of the info from a position on, and returns the position after it.
+// Writes into an answer what is to be verified of the info, from a position on, and returns the
+// position after it.
 fn put_question<C: PublicKey>(out: &mut [u8], at: usize, info: &Info<C>) -> usize
     requires { at + length ((asked_bytes (scheme C.PublicKey C.Signature.FixedBytes)) info.now) ≤
         length out.old }
@@ -297,7 +299,7 @@ fn put_question<C: PublicKey>(out: &mut [u8], at: usize, info: &Info<C>) -> usiz
     put_fixed(out, signature_at, &info.signature)
 }
 
-// Writes the bytes from a position on, and returns the position after them.
+// Writes bytes of an answer from a position on, and returns the position after them.
 fn put(out: &mut [u8], at: usize, bytes: &[u8]) -> usize
     requires { at + length bytes.now ≤ length out.old }
     ensures bytes { out.new ≡ put_at at bytes.now out.old }

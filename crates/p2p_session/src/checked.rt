@@ -20,17 +20,17 @@ impl<C: PublicKey> Model for Checked<C> {
 }
 
 impl<C: PublicKey> Checked<C> {
-    /// No frame.
+    /// No frame was checked yet.
     pub fn new() -> Checked<C> {
         Checked { last: None }
     }
 
-    /// Keeps this frame in place of the one before.
+    /// Keeps this frame as the one that was checked last, in place of the one before.
     pub fn keep(&mut self, decoded: Decoded<C>) {
         self.last = Some(decoded);
     }
 
-    /// The frame, if it is this one. It isn't kept any longer.
+    /// The frame that was checked last, if it is this one. It isn't kept any longer.
     pub fn take(&mut self, frame: &[u8]) -> Option<Decoded<C>>
         ensures { IfSome result (λ d. d.frame ≡ frame.now) }
     {

@@ -52,8 +52,8 @@ use std::time::Duration;
 // The first byte of a frame with infos.
 const INFOS_PREFIX: u8 = 3;
 
-/// Processes a frame by verification results for the signatures of its infos, and writes the
-/// answer.
+/// By verification results for the signatures of its infos, processes a frame that the session
+/// received, and writes the answer.
 pub fn receive<C: PublicKey>(
     alloc: Global,
     node: &mut Node<C>,
@@ -73,7 +73,8 @@ pub fn receive<C: PublicKey>(
     }
 }
 
-// Processes a frame by verification results, if the buffer is long enough.
+// By verification results, processes a frame that the session received, if the buffer is long
+// enough.
 fn hear<C: PublicKey>(
     alloc: Global,
     node: &mut Node<C>,
@@ -111,7 +112,7 @@ fn hear<C: PublicKey>(
     process(alloc, node, checked, frame, now, &verdicts)
 }
 
-// Processes a frame, which is decoded already if it was checked last.
+// Processes a frame that the session received, which is decoded already if it was checked last.
 fn process<C: PublicKey>(
     alloc: Global,
     node: &mut Node<C>,
@@ -143,8 +144,8 @@ fn process<C: PublicKey>(
     }
 }
 
-/// Writes what has to be verified before a node processes a frame: how many infos it has, and those
-/// whose signatures decide. Keeps the frame decoded.
+/// Writes what has to be verified before the session's node processes a frame: how many infos it
+/// has, and those whose signatures decide. Keeps the frame decoded.
 pub fn check<C: PublicKey>(
     alloc: Global,
     node: &Node<C>,
@@ -174,7 +175,7 @@ pub fn check<C: PublicKey>(
     }
 }
 
-// Writes what of a payload has to be verified.
+// Writes for the session what of a frame's payload has to be verified.
 fn tell_asked<C: PublicKey>(
     verifier: &InfoVerifier<C>,
     payload: &Payload<C>,
@@ -200,7 +201,7 @@ fn tell_asked<C: PublicKey>(
     }
 }
 
-// Writes that there is one info, and what is to be verified of it.
+// Writes for the session that a frame has one info, and what is to be verified of it.
 fn tell_question<C: PublicKey>(info: &Info<C>, out: &mut [u8]) -> u64
     ensures { IsAnswered (number 1 ++ asked_bytes (scheme C.PublicKey C.Signature.FixedBytes)
         info.now) out.old out.new result }
@@ -209,7 +210,8 @@ fn tell_question<C: PublicKey>(info: &Info<C>, out: &mut [u8]) -> u64
     answer(&[Values::Bytes(&count), Values::Question(info)], out)
 }
 
-// Writes how many infos there are, and what is to be verified of the first `count` of them.
+// Writes for the session how many infos a frame has, and what is to be verified of the first
+// `count` of them.
 fn tell_first<C: PublicKey>(infos: &[Info<C>], count: usize, out: &mut [u8]) -> u64
     requires { count ≤ length infos.now }
     ensures { IsAnswered (number (length infos.now) ++ flat_map (asked_bytes (scheme C.PublicKey
@@ -225,12 +227,12 @@ fn tell_first<C: PublicKey>(infos: &[Info<C>], count: usize, out: &mut [u8]) -> 
     )
 }
 
-// What a slice holds are bytes.
+// What a slice for a session's frames holds are bytes.
 fn are_bytes(bytes: &[u8])
     ensures { IsBytes bytes.now }
 {}
 
-// The verification results that these bytes encode.
+// The verification results for a session's frame that these bytes encode.
 #[tactic(auto, using(crate::proofs::Puts::map_next))]
 fn verdicts_of(alloc: Global, bytes: &[u8]) -> Result<Vec<bool>, AllocError>
     ensures { IfOk result (λ v. v.items ≡ verdicts_in bytes.now) }
@@ -242,7 +244,8 @@ fn verdicts_of(alloc: Global, bytes: &[u8]) -> Result<Vec<bool>, AllocError>
     Ok(verdicts)
 }
 
-// Writes what a node returned for a frame. The infos of a reply are encoded where they are written.
+// Writes what the session's node returned for a frame. The infos of a reply are encoded where they
+// are written.
 fn tell_answer<C: PublicKey>(answer: Answer<C>, frame: &[u8], out: &mut [u8]) -> u64
     requires few { AreFew answer }
     requires has_key { HasKey (scheme C.PublicKey C.Signature.FixedBytes) (received_of (wire (scheme
@@ -257,7 +260,7 @@ fn tell_answer<C: PublicKey>(answer: Answer<C>, frame: &[u8], out: &mut [u8]) ->
     }
 }
 
-// Writes a reply with these infos.
+// Writes for the session the infos with which a frame is replied to.
 fn tell_reply<C: PublicKey>(infos: &[Info<C>], out: &mut [u8]) -> u64
     requires { length infos.now < 2 ^ 32 }
     ensures { IsAnswered (2 ∷ (wire (scheme C.PublicKey C.Signature.FixedBytes)).spelling (Peers
@@ -274,7 +277,7 @@ fn tell_reply<C: PublicKey>(infos: &[Info<C>], out: &mut [u8]) -> u64
     )
 }
 
-// Writes what else a node returned for a frame.
+// Writes what else the session's node returned for a frame.
 fn tell_received<C: PublicKey>(received: Received, frame: &[u8], out: &mut [u8]) -> u64
     requires { HasKey (scheme C.PublicKey C.Signature.FixedBytes) received frame.now }
     ensures { TellsReceived (key_at_end (scheme C.PublicKey C.Signature.FixedBytes) frame.now)
@@ -295,7 +298,7 @@ fn tell_received<C: PublicKey>(received: Received, frame: &[u8], out: &mut [u8])
     }
 }
 
-// Writes the channel of a message, and its length.
+// Writes for the session the channel of the message in a frame, and its length.
 fn tell_data(sent: &Data, out: &mut [u8]) -> u64
     ensures { IsAnswered (0 ∷ (number sent.now.channel ++ number (length sent.now.message)))
         out.old out.new result }
@@ -310,7 +313,8 @@ fn tell_data(sent: &Data, out: &mut [u8]) -> u64
     )
 }
 
-// Writes the key of a greeting, which is before the signature at the end of its frame.
+// Writes for the session the key of a greeting, which is before the signature at the end of its
+// frame.
 fn tell_greeter<C: PublicKey>(frame: &[u8], out: &mut [u8]) -> u64
     requires { C.SIZE + C.Signature.SIZE ≤ length frame.now }
     ensures { IsAnswered (1 ∷ key_at_end (scheme C.PublicKey C.Signature.FixedBytes) frame.now)
@@ -320,7 +324,7 @@ fn tell_greeter<C: PublicKey>(frame: &[u8], out: &mut [u8]) -> u64
     answer(&[Plain(&[1]), Plain(&frame[start..start + C::SIZE])], out)
 }
 
-// Writes the error of a frame.
+// Writes for the session the error of a frame.
 fn tell_fault(fault: CodecError, out: &mut [u8]) -> u64
     ensures { IsAnswered (4 ∷ fault_bytes fault) out.old out.new result }
 {
@@ -338,7 +342,7 @@ fn tell_fault(fault: CodecError, out: &mut [u8]) -> u64
     }
 }
 
-// Writes why infos are refused.
+// Writes for the session why the infos of a frame are refused.
 fn tell_error(error: Error, out: &mut [u8]) -> u64
     ensures { IsAnswered (6 ∷ error_bytes error) out.old out.new result }
 {
@@ -350,7 +354,7 @@ fn tell_error(error: Error, out: &mut [u8]) -> u64
     }
 }
 
-// Writes two bytes and a number.
+// Writes two bytes and a number of what the session's node returned for a frame.
 fn answer_three(byte: u8, kind: u8, count: u64, out: &mut [u8]) -> u64
     ensures { IsAnswered (byte ∷ (kind ∷ number count)) out.old out.new result }
 {

@@ -17,9 +17,9 @@ use std::time::Duration;
 
 const NANOS_PER_SECOND: u32 = 1_000_000_000;
 
-/// The key that these bytes are. A call whose key is `None` is refused as [`Refusal::BadKey`].
-// An option, since a refusal in the place of the key's first byte would have the key copied in
-// parts.
+/// The key that the bytes given to a session are. A call whose key is `None` is refused as
+/// [`Refusal::BadKey`]. An option, since a refusal in the place of the key's first byte would have
+/// the key copied in parts.
 pub fn key<C: PublicKey>(bytes: &[u8]) -> Option<C>
     ensures { or_bad result ≡ key_at (scheme C.PublicKey C.Signature.FixedBytes) bytes.now }
 {
@@ -29,7 +29,7 @@ pub fn key<C: PublicKey>(bytes: &[u8]) -> Option<C>
     C::read_fixed(bytes)
 }
 
-/// The time, or the duration, of so many seconds and nanoseconds.
+/// The time, or the duration, of so many seconds and nanoseconds that a session is given.
 pub fn moment(seconds: u64, nanos: u32) -> Result<Duration, Refusal>
     ensures { nanos_of result ≡ moment_at seconds nanos }
 {
@@ -39,7 +39,7 @@ pub fn moment(seconds: u64, nanos: u32) -> Result<Duration, Refusal>
     Ok(Duration::new(seconds, nanos))
 }
 
-/// Whether these bytes are keys, one after the other.
+/// Whether the bytes given to a session are keys, one after the other.
 pub fn are_keys<C: PublicKey>(bytes: &[u8]) -> bool
     ensures yes { result ≡ true → AreKeys (scheme C.PublicKey C.Signature.FixedBytes) bytes.now }
     ensures no { result ≡ false → ¬ AreKeys (scheme C.PublicKey C.Signature.FixedBytes) bytes.now }
@@ -57,7 +57,8 @@ pub fn are_keys<C: PublicKey>(bytes: &[u8]) -> bool
     true
 }
 
-/// The set of the keys in these bytes, which follow each other in any order and may repeat.
+/// The set of the keys in the bytes given to a session, which follow each other in any order and
+/// may repeat.
 ///
 /// # Conditions
 ///
@@ -70,7 +71,7 @@ pub fn set<C: PublicKey>(alloc: Global, bytes: &[u8]) -> Result<OrderedSet<C>, A
     Ok(OrderedSet::from_vec_dedup(keys(alloc, bytes)?))
 }
 
-// The keys in these bytes, one after the other.
+// The keys in the bytes given to a session, one after the other.
 fn keys<C: PublicKey>(alloc: Global, bytes: &[u8]) -> Result<Vec<C>, AllocError>
     requires { AreKeys (scheme C.PublicKey C.Signature.FixedBytes) bytes.now }
     ensures are { IfOk result (λ keys.
@@ -90,7 +91,7 @@ fn keys<C: PublicKey>(alloc: Global, bytes: &[u8]) -> Result<Vec<C>, AllocError>
     Ok(keys)
 }
 
-/// The key with which the bytes from a position on begin, or `None`.
+/// The key with which the bytes given to a session begin from a position on, or `None`.
 pub fn key_in<C: PublicKey>(bytes: &[u8], at: usize) -> Option<C>
     requires { at ≤ length bytes.now }
     ensures some { IfSome result (λ key. (at + C.SIZE ≤ length bytes.now) × C.IsValue key
@@ -106,12 +107,12 @@ pub fn key_in<C: PublicKey>(bytes: &[u8], at: usize) -> Option<C>
     C::read_fixed(front)
 }
 
-/// What a slice holds are bytes.
+/// What a slice that a session is given holds are bytes.
 pub fn are_bytes(bytes: &[u8])
     ensures { IsBytes bytes.now }
 {}
 
-/// The infos that these bytes encode.
+/// The infos that the bytes given to a session encode.
 #[tactic(auto, using(crate::proofs::Unread::refused_as))]
 pub fn infos<C: PublicKey>(alloc: Global, bytes: &[u8]) -> Result<Vec<Info<C>>, Refusal>
     ensures { IsRead (infos_of result) (infos_spelled (scheme C.PublicKey C.Signature.FixedBytes)
@@ -132,7 +133,7 @@ pub fn infos<C: PublicKey>(alloc: Global, bytes: &[u8]) -> Result<Vec<Info<C>>, 
 /// The maximum number of bits: a frame encodes no more.
 const GREATEST_BITS: u64 = 0xffff_ffff;
 
-/// The bits that these bytes encode, at most `u32::MAX` of them.
+/// The bits that the bytes given to a session encode, at most `u32::MAX` of them.
 #[tactic(auto, using(crate::proofs::Unread::refused_as))]
 pub fn bits(alloc: Global, bytes: &[u8]) -> Result<BitVec, Refusal>
     ensures { IsRead result (bits_spelled bytes.now) }

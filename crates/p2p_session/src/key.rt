@@ -38,15 +38,16 @@ impl Ord for Key {
 
     ghost matches_eq = { Prim.search (comparing, rules) };
 
-    // Always inlined: a search compares a key with dozens of others.
+    // The order of the session's keys, always inlined: a search compares a key with dozens of
+    // others.
     #[inline(always)]
     fn cmp(&self, other: &Key) -> Ordering {
         compare(&self.0, &other.0)
     }
 }
 
-/// The order of two keys by their bytes: that of the first bytes that differ. The first four bytes
-/// of each are compared as one number, since random keys rarely share them.
+/// The order of two of the session's keys by their bytes: that of the first bytes that differ. The
+/// first four bytes of each are compared as one number, since random keys rarely share them.
 ///
 /// # Conditions
 ///
@@ -64,8 +65,9 @@ pub fn compare<const N: usize>(a: &[u8; N], b: &[u8; N]) -> Ordering
     a.cmp(b)
 }
 
-/// [`compare`], of keys whose first byte stands before REST bytes: if the first four bytes are the
-/// same, the rest is compared, since the order of arrays is fastest for whole words.
+/// The order of two keys by their bytes, as [`compare`] has it, where one byte stands before REST
+/// others. If the first four bytes are the same, the order is that of the REST bytes: for arrays of
+/// whole words it is found fastest.
 ///
 /// # Conditions
 ///
@@ -84,7 +86,7 @@ pub fn compare_prefixed<const N: usize, const REST: usize>(a: &[u8; N], b: &[u8;
     }
 }
 
-// The bytes behind the first one.
+// The bytes of a key behind the first one.
 #[inline(always)]
 fn behind_first<const N: usize, const REST: usize>(bytes: &[u8; N]) -> &[u8; REST]
     requires { 1 + REST ≡ N }
@@ -96,7 +98,7 @@ fn behind_first<const N: usize, const REST: usize>(bytes: &[u8; N]) -> &[u8; RES
     }
 }
 
-// The first four bytes as a number, big-endian.
+// The first four bytes of a session's key as a number, big-endian.
 #[inline(always)]
 fn front<const N: usize>(bytes: &[u8; N]) -> u32
     requires { 4 ≤ N }
@@ -173,7 +175,7 @@ impl PublicKey for Key {
 
     ghost verifies = { λ _ _ _ _. false };
 
-    // No session asks: the host verifies signatures, and no scheme is in this library.
+    // No session asks its keys: the host verifies signatures, and no scheme is in this library.
     fn verify(&self, _namespace: &[u8], _message: &[u8], _signature: &Signature) -> bool {
         false
     }

@@ -17,11 +17,11 @@ ghost use Rattle.p2p_session.specs.declared.setup.Numbers.{Numbers};
 
 use p2p_discovery::codec::PublicKey;
 
-/// Whatever calls a session served, its node is at the point after the calls that were accepted
-/// since it was created. A call that is served, or a frame that is processed, leads from each point
-/// to the same or to the one after it, and `init` leads to the first. So all that is promised of a
-/// run holds of the node behind a host's pointer, call after call. All other calls leave it as it
-/// is.
+/// By a law of sessions, whatever calls one served, its node is at the point after the calls that
+/// were accepted since it was created. A call that is served, or a frame that is processed, leads
+/// from each point to the same or to the one after it, and `init` leads to the first. So all that
+/// is promised of a run holds of the node behind a host's pointer, call after call. All other calls
+/// leave it as it is.
 pub fn sessions_go_on<C: PublicKey>()
     ensures served { (given : Asked C C.Signature) (out out2 : List ℕ)
         (o o2 : Option (NodeView C C.Signature)) (n : ℕ) →
@@ -42,8 +42,9 @@ pub fn sessions_go_on<C: PublicKey>()
         StandsSomewhere C.cmp v }
 {}
 
-/// A frame that is accepted as a message ends with it, so a host finds it by its length. One that
-/// is accepted as a greeting encodes an info, and the key of this info is the one that is returned.
+/// By a law of sessions, a frame that is accepted as a message ends with it, so a host finds it by
+/// its length. One that is accepted as a greeting encodes an info, and the key of this info is the
+/// one that is returned.
 pub fn frames_hold_what_is_returned<C: PublicKey>()
     ensures message { (verdicts : List Bool) (frame : List ℕ) (now : ℕ)
         (v v2 : NodeView C C.Signature) (d : Data) → IsBytes frame →

@@ -39,7 +39,8 @@ pub enum Refusal {
 }
 
 impl Refusal {
-    /// The number that a call returns. These numbers are at the top of `u64`, above every length.
+    /// The number that a call returns for this refusal. These numbers are at the top of `u64`,
+    /// above every length.
     pub fn number(self) -> u64
         ensures { result ≡ number_of self }
     {

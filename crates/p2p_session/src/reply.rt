@@ -24,9 +24,9 @@ use p2p_discovery::types::{Ingress, IpAddr};
 use std::alloc::{AllocError, Global};
 use std::time::Duration;
 
-/// Writes a reply: returns a number, or how many bytes it has. They are at the start of the buffer,
-/// if they fit.
-// Always inlined, so that a reply, which is large, is matched where it lies and not moved first.
+/// Writes a reply of the session's node: returns a number, or how many bytes it has. They are at
+/// the start of the buffer, if they fit. Always inlined, so that a reply, which is large, is
+/// matched where it lies and not moved first.
 #[inline(always)]
 pub fn tell<C: PublicKey>(alloc: Global, reply: Reply<C>, out: &mut [u8]) -> u64
     ensures { TellsReply (scheme C.PublicKey C.Signature.FixedBytes) reply out.old out.new result }
@@ -57,7 +57,7 @@ pub fn tell<C: PublicKey>(alloc: Global, reply: Reply<C>, out: &mut [u8]) -> u64
     }
 }
 
-/// Writes the frame that a node asks with.
+/// Writes, as the session's reply, the frame that its node asks with.
 pub fn tell_frame(frame: Result<Option<Bytes>, AllocError>, out: &mut [u8]) -> u64
     ensures ok { IfOk frame (λ frame. Tells (optional (λ bytes. bytes) frame)
         out.old out.new result) }
@@ -70,7 +70,7 @@ pub fn tell_frame(frame: Result<Option<Bytes>, AllocError>, out: &mut [u8]) -> u
     }
 }
 
-/// Writes whom a reservation is for.
+/// Writes, as the session's reply, whom a reservation is for.
 pub fn tell_held<C: PublicKey>(held: Option<&Metadata<C>>, out: &mut [u8]) -> u64
     ensures { Tells (held_answer (option_map (λ m. m.now) held.entry)) out.old out.new result }
 {
@@ -81,7 +81,8 @@ pub fn tell_held<C: PublicKey>(held: Option<&Metadata<C>>, out: &mut [u8]) -> u6
     }
 }
 
-// Writes that an ingress is dialled. An address of version 4, the most frequent, is one part.
+// Writes, in the session's reply, that an ingress is dialled. An address of version 4, the most
+// frequent, is one part.
 fn tell_dialler(ingress: &Ingress, out: &mut [u8]) -> u64
     ensures { Tells (Spelled (1 ∷ ingress_spelling ingress.now)) out.old out.new result }
 {
@@ -104,7 +105,7 @@ fn tell_set<C: PublicKey>(set: Option<OrderedSet<C>>, out: &mut [u8]) -> u64
     }
 }
 
-/// Writes a time, if there is one.
+/// Writes, as the session's reply, a time, if there is one.
 pub fn tell_moment(moment: Option<Duration>, out: &mut [u8]) -> u64
     ensures { Tells (optional (λ t. moment_bytes (as_nanos t)) moment) out.old out.new result }
 {
@@ -120,7 +121,7 @@ pub fn tell_moment(moment: Option<Duration>, out: &mut [u8]) -> u64
     }
 }
 
-/// The number that encodes a status.
+/// The number in a reply of the session that encodes a status.
 pub fn status_of(status: Option<Status>) -> u64
     ensures { Is result ≡ status_number status }
 {
@@ -132,14 +133,14 @@ pub fn status_of(status: Option<Status>) -> u64
     }
 }
 
-/// The number that encodes a bool.
+/// The number in a reply of the session that encodes a bool.
 pub fn truth_of(is: bool) -> u64
     ensures { Is result ≡ truth is }
 {
     u64::from(is)
 }
 
-/// Writes an index, if there is one.
+/// Writes, as the session's reply, an index, if there is one.
 pub fn tell_index(index: Option<u64>, out: &mut [u8]) -> u64
     ensures { Tells (optional number index) out.old out.new result }
 {
@@ -219,8 +220,8 @@ fn tell_dialable<C: PublicKey>(dialable: &Dialable<C>, out: &mut [u8]) -> u64
     }
 }
 
-// Writes the encoded infos. They are no more than the bits that were given, so a number that can't
-// be encoded doesn't occur.
+// Writes, as the session's reply, the encoded infos. They are no more than the bits that were
+// given, so a number that can't be encoded doesn't occur.
 fn tell_infos<C: PublicKey>(infos: &[Info<C>], out: &mut [u8]) -> u64
     ensures { Refuses Refusal.Memory out.old out.new result
         ⊎ Tells (Spelled (infos_spelling C.spelled C.Signature.spelled infos.now))
@@ -232,7 +233,7 @@ fn tell_infos<C: PublicKey>(infos: &[Info<C>], out: &mut [u8]) -> u64
     }
 }
 
-// Writes an encoded value, for which it allocates.
+// Writes, as the session's reply, an encoded value, for which it allocates.
 fn tell_spelled<T: Write>(alloc: Global, value: &T, out: &mut [u8]) -> u64
     requires { T.CanSpell value.now }
     ensures { Refuses Refusal.Memory out.old out.new result

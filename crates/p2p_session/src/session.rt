@@ -100,7 +100,7 @@ impl<C: PublicKey> Session<C> {
         }
     }
 
-    // Creates the node.
+    // Creates the session's node.
     fn make(&mut self, alloc: Global, setup: Setup<C>) -> u64
         requires none { self.old.node ≡ None }
         requires sets { non_zero_usize_get setup.cfg.max_sets < 2 ^ 64 - 1 }
@@ -118,7 +118,8 @@ impl<C: PublicKey> Session<C> {
         1
     }
 
-    /// The frame that asks for the wanted infos of the set at a position, or `None`.
+    /// The frame in which the session requests the wanted infos of the set at a position, or
+    /// `None`.
     pub fn ask(&mut self, place: u64, out: &mut [u8]) -> u64
         ensures { Asks (scheme C.PublicKey C.Signature.FixedBytes) place out.old out.new self.old
             self.new result }
@@ -129,10 +130,10 @@ impl<C: PublicKey> Session<C> {
         }
     }
 
-    /// What has to be verified before [`Session::receive`]: how many infos the frame has, and those
-    /// whose signatures decide, each by the length of its signed bytes, its key, the signed bytes
-    /// and its signature. The list stops before the first info that is refused whatever its
-    /// signature is.
+    /// What the session's host has to verify before [`Session::receive`]. It is how many infos the
+    /// frame has, and those whose signatures decide, each by the length of its signed bytes, its
+    /// key, the signed bytes and its signature. The list stops before the first info that is
+    /// refused whatever its signature is.
     ///
     /// A frame that encodes a payload is kept decoded, in place of the one before, so that
     /// [`Session::receive`] needn't decode it again.
@@ -156,9 +157,9 @@ impl<C: PublicKey> Session<C> {
         }
     }
 
-    /// `Node::receive_with_verdicts`: processes a frame, and writes the answer. `verdicts` has a byte for each
-    /// of its infos, which says whether its signature is valid. A frame that was checked last is
-    /// decoded already.
+    /// `Node::receive_with_verdicts` of the session's node: processes a frame, and writes the
+    /// answer. `verdicts` has a byte for each of its infos, which says whether its signature is
+    /// valid. A frame that was checked last is decoded already.
     pub fn receive(
         &mut self,
         alloc: Global,
@@ -182,7 +183,7 @@ impl<C: PublicKey> Session<C> {
         }
     }
 
-    // Serves the command, if there is a node and the command was decoded. Writes its reply.
+    // Serves the command, if the session has a node and the command was decoded. Writes its reply.
     fn serve(&mut self, command: Result<Command<C>, Refusal>, out: &mut [u8]) -> u64
         ensures { Serves (scheme C.PublicKey C.Signature.FixedBytes) (asked command) out.old out.new
             self.old.node self.new.node result }

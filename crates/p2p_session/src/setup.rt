@@ -43,8 +43,8 @@ pub struct Numbers {
     pub bound: (u64, u32),
 }
 
-/// What a node is created from. Refused are, first, settings that no node may have, then durations,
-/// then bytes that encode no bootstrappers or no info.
+/// The setup that a session is given for its node. Refused are, first, settings that no node may
+/// have, then durations, then bytes that encode no bootstrappers or no info.
 pub fn setup<C: PublicKey>(
     alloc: Global,
     numbers: &Numbers,
@@ -75,7 +75,7 @@ pub fn setup<C: PublicKey>(
     })
 }
 
-// How a directory behaves.
+// The part of a session's setup that says how a directory behaves.
 fn config(numbers: &Numbers) -> Result<Config, Refusal>
     ensures settings { OnOk result (are_settings numbers.now ≡ true) }
     ensures private_ips { IfOk result (λ c.
@@ -105,7 +105,7 @@ fn config(numbers: &Numbers) -> Result<Config, Refusal>
     })
 }
 
-// The info that the bytes encode.
+// The info of a session's setup that the bytes encode.
 fn info<C: PublicKey>(alloc: Global, bytes: &[u8]) -> Result<Info<C>, Refusal>
     ensures is_info { IfOk result (IsInfoOfKeys (scheme C.PublicKey C.Signature.FixedBytes)) }
     ensures spelled { IfOk result (λ i. info_spelling C.spelled C.Signature.spelled i ≡ bytes.now) }
@@ -120,7 +120,7 @@ fn info<C: PublicKey>(alloc: Global, bytes: &[u8]) -> Result<Info<C>, Refusal>
     }
 }
 
-// Why bytes aren't decoded.
+// Why bytes of a session's setup aren't decoded.
 fn undecoded(error: CodecError) -> Refusal
     ensures { (result ≡ Memory) ⊎ ((result ≡ BadInfo) × (error ≢ fault.Memory)) }
 {
@@ -130,7 +130,8 @@ fn undecoded(error: CodecError) -> Refusal
     }
 }
 
-// The bootstrappers that the bytes encode: a key and an ingress each, one after the other.
+// The bootstrappers of a session's setup that the bytes encode: a key and an ingress each, one
+// after the other.
 fn bootstrappers_of<C: PublicKey>(alloc: Global, bytes: &[u8]) -> Result<Vec<(C, Ingress)>, Refusal>
     ensures are { IfOk result (λ bs. AllByRecursion
         (IsBootstrapper (scheme C.PublicKey C.Signature.FixedBytes)) bs.items) }
@@ -148,7 +149,7 @@ fn bootstrappers_of<C: PublicKey>(alloc: Global, bytes: &[u8]) -> Result<Vec<(C,
     Ok(read)
 }
 
-// A key, and an ingress.
+// A bootstrapper of a session's setup, a key and an ingress.
 fn bootstrapper<C: PublicKey>(alloc: Global, left: &mut Bytes) -> Result<(C, Ingress), Refusal>
     ensures is { IfOk result (IsBootstrapper (scheme C.PublicKey C.Signature.FixedBytes)) }
     ensures spelled { IfOk result (λ b. left.old
@@ -170,7 +171,7 @@ fn bootstrapper<C: PublicKey>(alloc: Global, left: &mut Bytes) -> Result<(C, Ing
     }
 }
 
-// The key with which the bytes begin. They then begin after it.
+// The key with which the bytes of a session's setup begin. They then begin after it.
 fn front_key<C: PublicKey>(left: &mut Bytes) -> Result<C, Refusal>
     ensures is { IfOk result C.IsValue }
     ensures spelled { IfOk result (λ key. left.old ≡ C.spelled key ++ left.new) }

@@ -66,7 +66,7 @@ pub struct TrackedPeers<C: PublicKey> {
 }
 
 impl<C: PublicKey> TrackedPeers<C> {
-    /// The peers of both roles.
+    /// The peers of both roles, as a directory takes and returns them.
     pub fn new(primary: OrderedSet<C>, secondary: OrderedSet<C>) -> Self
         ensures { result ≡ record { primary = primary; secondary = secondary } }
     {
@@ -97,7 +97,7 @@ pub enum Metadata<P: PublicKey> {
 impl<P: PublicKey> Metadata<P> {
     ghost use Rattle.p2p_tracker.specs.Seen.{key_of};
 
-    /// The key of the peer.
+    /// The key of the peer that the directory's reservation is for.
     pub fn public_key(&self) -> &P
         ensures { result.now ≡ key_of self.now }
     {
@@ -123,7 +123,7 @@ impl<P: PublicKey> Model for Reservation<P> {
 }
 
 impl<P: PublicKey> Reservation<P> {
-    /// Whom the reservation is for, and who dials.
+    /// Whom the directory's reservation is for, and who dials.
     pub fn metadata(&self) -> &Metadata<P>
         ensures { result.now ≡ self.now }
     {
@@ -218,9 +218,9 @@ impl<C: PublicKey> Directory<C> {
         })
     }
 
-    /// Registers a peer set if its index is above that of each set registered before. It is counted
-    /// for its peers; then the oldest retained set is dropped if there is one too many. A peer in
-    /// both roles is primary only.
+    /// Registers a peer set in the directory if its index is above that of each set registered
+    /// before. It is counted for its peers; then the oldest retained set is dropped if there is one
+    /// too many. A peer in both roles is primary only.
     ///
     /// If the index isn't above, it returns `None`, doesn't allocate and changes nothing. Otherwise
     /// it returns the peers that must be disconnected: those that are reserved or connected, were
@@ -277,8 +277,8 @@ impl<C: PublicKey> Directory<C> {
         Ok(Some(drop_oldest(&mut self.sets, &mut self.records, max_sets, torn)))
     }
 
-    /// Reserves the peer for a dial at the time `now`, a duration since the epoch, at its known
-    /// address.
+    /// Reserves the peer in the directory for a dial at the time `now`, a duration since the epoch,
+    /// at its known address.
     ///
     /// Returns `None`, doesn't allocate and changes nothing if the peer is blocked or has no
     /// record, its dial status is [`Unavailable`](crate::record::DialStatus::Unavailable), or `now`
@@ -340,7 +340,7 @@ impl<C: PublicKey> Directory<C> {
         }))
     }
 
-    /// Reserves the peer for an inbound connection at the time `now`, a duration since the epoch.
+    /// Reserves an inbound peer in the directory at the time `now`, a duration since the epoch.
     ///
     /// Returns `None`, doesn't allocate and changes nothing if the peer is blocked or has no
     /// record, it is not eligible, not inert, or `now` is before its reservable time. Otherwise the
@@ -400,10 +400,10 @@ impl<C: PublicKey> Directory<C> {
         Ok(None)
     }
 
-    /// Offers infos to the records of their peers. Of the known info of a peer and those in the
-    /// list, the record keeps the first with the greatest timestamp. A new one has no failures yet.
-    /// The local node's info stays, and an info of a peer that has no record is dropped. Whoever is
-    /// reserved or connected stays so. It doesn't allocate.
+    /// Offers infos to the directory for its records of their peers. Of the known info of a peer
+    /// and those in the list, the record keeps the first with the greatest timestamp. A new one has
+    /// no failures yet. The local node's info stays, and an info of a peer that has no record is
+    /// dropped. Whoever is reserved or connected stays so. It doesn't allocate.
     ///
     /// # Cost
     ///
@@ -419,7 +419,8 @@ impl<C: PublicKey> Directory<C> {
         update_each(&mut self.sets, &mut self.records, infos, limit);
     }
 
-    /// How many peers have a record, not counting the local node. It doesn't allocate.
+    /// How many peers have a record in the directory, not counting the local node. It doesn't
+    /// allocate.
     ///
     /// # Cost
     ///
@@ -431,7 +432,8 @@ impl<C: PublicKey> Directory<C> {
         self.records.len() - 1
     }
 
-    /// Whether the peer is connected, or `None` if there is no record of it. It doesn't allocate.
+    /// The status of the peer in the directory, or `None` if there is no record of it. It doesn't
+    /// allocate.
     ///
     /// # Cost
     ///
@@ -445,7 +447,7 @@ impl<C: PublicKey> Directory<C> {
         }
     }
 
-    /// The allocator of its collections, for what is built from its results.
+    /// The allocator of the directory's collections, for what is built from its results.
     pub fn allocator(&self) -> Global {
         self.alloc
     }

@@ -136,10 +136,10 @@ impl<C: PublicKey> Record<C> {
         record
     }
 
-    /// Updates a peer's info, and returns whether it was accepted. For the local node it never is.
-    /// If no info is known, it always is; otherwise it is if its timestamp is above that of the
-    /// known one. An accepted info has no failures yet. Keys are not compared, and nothing else
-    /// changes.
+    /// Updates the peer's info in its record, and returns whether it was accepted. For the local
+    /// node it never is. If no info is known, it always is; otherwise it is if its timestamp is
+    /// above that of the known one. An accepted info has no failures yet. Keys are not compared,
+    /// and nothing else changes.
     pub fn update(&mut self, info: Info<C>) -> bool
         ensures taken { result ≡ takes_info info self.old.address }
         ensures after { self.new ≡
@@ -156,7 +156,7 @@ impl<C: PublicKey> Record<C> {
         taken
     }
 
-    /// Requests a reservation at the time `now`.
+    /// Requests a reservation of the record's peer at the time `now`.
     ///
     /// Returns `Unavailable` for the local node or a peer that is not inert, else `RateLimited` if
     /// `now` is before the reservable time, else `Reserved`. In the last case the peer is reserved.
@@ -176,7 +176,7 @@ impl<C: PublicKey> Record<C> {
         answer
     }
 
-    // The result of a request for a reservation at the time `now`.
+    // The result of a request for a reservation of the record's peer at the time `now`.
     pub(crate) fn reserve_result(&self, now: Duration) -> ReserveResult
         ensures { result ≡ reserve_answer (as_nanos now) self.now }
     {
@@ -192,7 +192,7 @@ impl<C: PublicKey> Record<C> {
         ReserveResult::Reserved
     }
 
-    // Reserves the peer: it is reservable and dialable again from these times on.
+    // Reserves the record's peer: it is reservable and dialable again from these times on.
     pub(crate) fn set_reserved(&mut self, moments: (Duration, Duration))
         ensures { self.new ≡ record self.old {
           status = Status.Reserved;
@@ -205,7 +205,7 @@ impl<C: PublicKey> Record<C> {
         self.set_cooldown(reservable, dial);
     }
 
-    /// Connects the peer: it is active.
+    /// Connects the record's peer: it is active.
     ///
     /// # Conditions
     ///
@@ -217,7 +217,7 @@ impl<C: PublicKey> Record<C> {
         self.status = Status::Active;
     }
 
-    /// Ends the reservation or the connection: the peer is inert.
+    /// Ends the reservation or the connection of the record's peer: the peer is inert.
     ///
     /// # Conditions
     ///
@@ -229,8 +229,8 @@ impl<C: PublicKey> Record<C> {
         self.status = Status::Inert;
     }
 
-    /// Counts one more failure, capped at `usize::MAX`, if the peer's own info is known with this
-    /// ingress. Nothing else changes.
+    /// Counts one more failed dial in the record, capped at `usize::MAX`, if the peer's own info is
+    /// known with this ingress. Nothing else changes.
     pub fn dial_failure(&mut self, ingress: &Ingress)
         ensures { self.new ≡
             record self.old { address = after_failure ingress.now self.old.address } }
@@ -242,7 +242,8 @@ impl<C: PublicKey> Record<C> {
         }
     }
 
-    /// Resets the failure count if the peer's own info is known. Nothing else changes.
+    /// Resets the record's count of failed dials if the peer's own info is known. Nothing else
+    /// changes.
     pub fn dial_success(&mut self)
         ensures { self.new ≡ record self.old { address = after_success self.old.address } }
     {
@@ -251,8 +252,8 @@ impl<C: PublicKey> Record<C> {
         }
     }
 
-    /// Whether the peer's info is wanted: for the local node never; if none is known, always;
-    /// otherwise if the peer is not connected and at least `limit` dials failed.
+    /// Whether the info of the record's peer is wanted: for the local node never; if none is known,
+    /// always; otherwise if the peer is not connected and at least `limit` dials failed.
     pub fn want(&self, limit: usize) -> bool
         ensures { result ≡ wants_info limit self.now }
     {
@@ -263,8 +264,8 @@ impl<C: PublicKey> Record<C> {
         }
     }
 
-    /// The info that may be shared: that of the local node always, another peer's while it is
-    /// connected. It allocates only for an info whose ingress is a name.
+    /// The info of the record that may be shared: that of the local node always, another peer's
+    /// while it is connected. It allocates only for an info whose ingress is a name.
     ///
     /// # Errors
     ///
@@ -281,7 +282,7 @@ impl<C: PublicKey> Record<C> {
         }
     }
 
-    // A reference to the info that may be shared.
+    // A reference to the info of the record that may be shared.
     pub(crate) fn sharable_info(&self) -> Option<&Info<C>>
         ensures { option_copied result ≡ sharable_by self.now.status self.now.address }
     {
@@ -292,7 +293,7 @@ impl<C: PublicKey> Record<C> {
         }
     }
 
-    /// When the peer may be dialled, asked at the time `now`.
+    /// When the record's peer may be dialled, asked at the time `now`.
     ///
     /// `Unavailable` unless the peer is inert and an outbound target, is a bootstrapper or has a
     /// known info, and its ingress is valid under the two flags. Otherwise `After` its dial time if
@@ -319,7 +320,8 @@ impl<C: PublicKey> Record<C> {
         }
     }
 
-    /// Whether the peer may be connected: it is not the local node, and in a set or persistent.
+    /// Whether the record's peer may be connected: it is not the local node, and in a set or
+    /// persistent.
     pub fn eligible(&self) -> bool
         ensures { result ≡ is_eligible self.now }
     {
@@ -329,14 +331,15 @@ impl<C: PublicKey> Record<C> {
         }
     }
 
-    /// Whether an inbound connection of the peer may be accepted: it is eligible and inert.
+    /// Whether an inbound connection of the record's peer may be accepted: it is eligible and
+    /// inert.
     pub fn acceptable(&self) -> bool
         ensures { result ≡ is_acceptable self.now }
     {
         self.eligible() && self.status == Status::Inert
     }
 
-    /// Whether the peer must be disconnected: it is not inert and not eligible.
+    /// Whether the record's peer must be disconnected: it is not inert and not eligible.
     pub fn needs_teardown(&self) -> bool
         ensures { result ≡ needs_teardown self.now }
     {
@@ -353,21 +356,21 @@ impl<C: PublicKey> Record<C> {
             && self.status == Status::Inert
     }
 
-    /// Whether the peer is to be dialled: it is in a primary set or persistent.
+    /// Whether the record's peer is to be dialled: it is in a primary set or persistent.
     pub fn is_outbound_target(&self) -> bool
         ensures { result ≡ is_outbound_target self.now }
     {
         self.primary_sets > 0 || self.persistent
     }
 
-    /// Whether the peer may be blocked: it is not the local node.
+    /// Whether the record's peer may be blocked: it is not the local node.
     pub fn is_blockable(&self) -> bool
         ensures { result ≡ not (is_myself self.now.address) }
     {
         !matches!(&self.address, Address::Myself(_))
     }
 
-    /// The ingress at which the peer is reached, if it is known.
+    /// The ingress at which the record's peer is reached, if it is known.
     pub fn ingress(&self) -> Option<&Ingress>
         ensures { option_copied result ≡ ingress_of self.now.address }
     {
@@ -379,15 +382,15 @@ impl<C: PublicKey> Record<C> {
         }
     }
 
-    /// Whether the peer is connected.
+    /// Whether the record's peer is connected.
     pub fn status(&self) -> Status
         ensures { result ≡ self.now.status }
     {
         self.status
     }
 
-    /// From when the peer may be reserved again, and from when it may be dialled again: durations
-    /// since the epoch.
+    /// From when the record's peer may be reserved again, and from when it may be dialled again:
+    /// durations since the epoch.
     pub fn cooldown(&self) -> (Duration, Duration)
         ensures reservable { as_nanos result.0 ≡ self.now.next_reservable_at }
         ensures dial { as_nanos result.1 ≡ self.now.next_dial_at }
@@ -395,8 +398,8 @@ impl<C: PublicKey> Record<C> {
         (self.next_reservable_at, self.next_dial_at)
     }
 
-    /// Sets from when the peer may be reserved again, and from when it may be dialled again:
-    /// durations since the epoch. Nothing else changes.
+    /// Sets from when the record's peer may be reserved again, and from when it may be dialled
+    /// again: durations since the epoch. Nothing else changes.
     pub fn set_cooldown(&mut self, reservable: Duration, dial: Duration)
         ensures { self.new ≡ record self.old {
           next_reservable_at = as_nanos reservable;
@@ -407,7 +410,7 @@ impl<C: PublicKey> Record<C> {
         self.next_dial_at = dial;
     }
 
-    /// What is known of the peer's address.
+    /// What the record knows of the peer's address.
     pub fn address(&self) -> &Address<C>
         ensures { result.now ≡ self.now.address }
     {

@@ -8,7 +8,8 @@ use p2p_tracker::record::Status;
 use std::test::Fail;
 use std::time::Duration;
 
-// The first code that a caller writes. It needs no proof of its own.
+// Tests a reservation as a caller of a tracker's directory uses it first. It needs no proof of its
+// own.
 #[test]
 fn a_reservation_is_kept(rt: HostRuntime) -> Result<(), Fail> {
     let alloc = rt.alloc();
@@ -28,7 +29,8 @@ fn a_reservation_is_kept(rt: HostRuntime) -> Result<(), Fail> {
     Ok(())
 }
 
-// Whether the reservation is for this peer, dialled at this address.
+// Whether the reservation of the tracker's tested directory is for this peer, dialled at this
+// address.
 fn is_dialled_at(metadata: &Metadata<TestKey>, key: u64, at: &Ingress) -> bool {
     let dialled = match metadata {
         Metadata::Dialer(peer, ingress) => *peer == TestKey(key) && *ingress == *at,

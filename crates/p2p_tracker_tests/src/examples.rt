@@ -8,7 +8,8 @@ use std::alloc::AllocError;
 use std::test::Fail;
 use std::time::Duration;
 
-// Makes these the peers of the latest set, and returns how many connections must be closed.
+// A tested example of the tracker's `track`, which makes these the peers of the latest set, and
+// returns how many connections must be closed.
 fn track_set(
     directory: &mut Directory<TestKey>,
     index: u64,
@@ -22,7 +23,8 @@ fn track_set(
     }
 }
 
-// Accepts a connection of an inbound peer, if it may be accepted.
+// A tested example of the tracker's `listen`, which accepts a connection of an inbound peer, if it
+// may be accepted.
 fn accept(
     directory: &mut Directory<TestKey>,
     peer: &TestKey,
@@ -40,7 +42,8 @@ fn accept(
     }
 }
 
-// Dials a peer, if it may be dialled. The dial fails if the port is 0.
+// A tested example of the tracker's `dial`, which dials a peer, if it may be dialled. The dial
+// fails if the port is 0.
 fn dial(
     directory: &mut Directory<TestKey>,
     peer: &TestKey,

@@ -9,12 +9,12 @@ use std::alloc::{AllocError, Global};
 use std::num::NonZeroUsize;
 use std::time::Duration;
 
-/// The address 1.2.3.4 with a port.
+/// The address 1.2.3.4 with a port, a fixture of the tracker's tests.
 pub fn ingress(port: u16) -> Ingress {
     Ingress::Socket(SocketAddr::new(IpAddr::V4([1, 2, 3, 4]), port))
 }
 
-/// The info of a peer at 1.2.3.4 with a port.
+/// The info of a peer at 1.2.3.4 with a port, a fixture of the tracker's tests.
 pub fn info(key: u64, port: u16, timestamp: u64) -> Info<TestKey> {
     Info {
         ingress: ingress(port),
@@ -24,7 +24,7 @@ pub fn info(key: u64, port: u16, timestamp: u64) -> Info<TestKey> {
     }
 }
 
-/// A peer set with primary peers only.
+/// A peer set with primary peers only, a fixture of the tracker's tests.
 pub fn tracked(alloc: Global, numbers: &[u64]) -> Result<TrackedPeers<TestKey>, AllocError> {
     let primary = OrderedSet::from_iter_dedup(
         alloc,
@@ -34,8 +34,8 @@ pub fn tracked(alloc: Global, numbers: &[u64]) -> Result<TrackedPeers<TestKey>, 
     Ok(TrackedPeers::new(primary, secondary))
 }
 
-/// A directory that retains one set and requests an info again after one failed dial. Its
-/// bootstrappers are given as keys and ports.
+/// A directory that retains one set and requests an info again after one failed dial, a fixture of
+/// the tracker's tests. Its bootstrappers are given as keys and ports.
 pub fn directory_from(
     alloc: Global,
     peers: &[(u64, u16)],

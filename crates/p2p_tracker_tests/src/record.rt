@@ -19,7 +19,7 @@ fn is_same(info: &Info<TestKey>, other: &Info<TestKey>) -> bool {
         && info.signature == other.signature
 }
 
-// Reserves at 100 s, with a jitter of 4 s and a cooldown of 10 s.
+// Reserves the peer of the tested record at 100 s, with a jitter of 4 s and a cooldown of 10 s.
 fn reserve(record: &mut Record<TestKey>) -> ReserveResult {
     record.reserve(seconds(100), seconds(4), seconds(10))
 }
@@ -117,7 +117,7 @@ fn a_bootstrapper_is_dialable_from_its_dial_moment_on(rt: HostRuntime) {
     assert_eq!(rt; reserve(&mut record), ReserveResult::RateLimited);
 }
 
-// Whether the info of peer 1 is known, with this number of failed dials.
+// Whether the info of the tested record, of peer 1, is known, with this number of failed dials.
 fn has_failed(record: &Record<TestKey>, failed: usize) -> bool {
     match record.address() {
         Address::Discovered(known, fails) => {

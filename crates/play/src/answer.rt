@@ -42,8 +42,8 @@ impl fmt::Display for Answer<TestKey> {
     }
 }
 
-/// Serves a request: makes a node, or passes a command to the nodes that it names. Anything else
-/// leaves the session as it was.
+/// Answers a request of a line that is played: makes a node, or passes a command to the nodes that
+/// it names. Anything else leaves the session as it was.
 ///
 /// # Conditions
 ///

@@ -39,7 +39,7 @@ fn run(rt: &HostRuntime) -> Ended {
     }
 }
 
-// The words after the name of the program.
+// The words after the name of the program `play`.
 fn words(rt: &HostRuntime) -> Result<Vec<String>, Stop> {
     let Ok(words) = env::args(rt) else {
         return Err(Stop::Memory);

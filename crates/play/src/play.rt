@@ -49,7 +49,7 @@ pub struct Tally {
 }
 
 impl Tally {
-    /// Whether everything was as expected, and each line could be read.
+    /// Whether everything that was played was as expected, and each line could be read.
     pub fn is_good(&self) -> bool {
         self.otherwise == 0 && self.unreadable == 0
     }
@@ -103,8 +103,8 @@ fn print<W: Write>(out: &mut W, line: &impl Display) -> Result<(), Stop> {
     writeln!(out, "{line}").map_err(|_error: io::Error| Stop::Write)
 }
 
-/// Serves the lines of the input from a session with one node without a name and without settings,
-/// and writes the replies. A line gets its reply before the next one is waited for. At the end all
+/// Plays the lines of the input in a session with one node without a name and without settings, and
+/// writes the replies. A line gets its reply before the next one is waited for. At the end all
 /// reservations are released.
 pub fn play<R: Read + Drop, W: Write>(
     alloc: Global,
@@ -121,7 +121,7 @@ pub fn play<R: Read + Drop, W: Write>(
     ended
 }
 
-// Makes the first node.
+// Makes the first node with which lines are played.
 fn begin(alloc: Global, session: &mut Session<TestKey>) -> Result<(), Stop> {
     let made = match default_setup(alloc) {
         Ok(setup) => session.put(alloc, "", setup),
@@ -177,8 +177,8 @@ enum Unread {
     Stop,
 }
 
-// Reads the next line into the buffer, without its end; returns false at the end of the input. A
-// line that is too long is skipped, and so is one whose allocation fails.
+// Reads the next line to play into the buffer, without its end; returns false at the end of the
+// input. A line that is too long is skipped, and so is one whose allocation fails.
 fn next_line<R: BufRead + Drop>(input: &mut R, bytes: &mut Vec<u8>) -> Result<bool, Unread> {
     bytes.clear();
     let read = input
@@ -198,7 +198,7 @@ fn next_line<R: BufRead + Drop>(input: &mut R, bytes: &mut Vec<u8>) -> Result<bo
     }
 }
 
-// Skips the rest of a line.
+// Skips the rest of a line that cannot be played.
 fn pass_over<R: BufRead + Drop>(input: &mut R, fault: Fault) -> Result<bool, Unread> {
     match input.skip_until(b'\n') {
         Ok(_) => Err(Unread::Fault(fault)),
@@ -207,7 +207,7 @@ fn pass_over<R: BufRead + Drop>(input: &mut R, fault: Fault) -> Result<bool, Unr
 }
 
 impl Record {
-    // Serves one line, or compares the last reply with what is expected.
+    // Plays one line, or compares the last reply with what is expected.
     fn take_line<W: Write>(
         &mut self,
         alloc: Global,
@@ -235,7 +235,8 @@ impl Record {
         }
     }
 
-    // Counts and prints a reply, and keeps it for a comparison with what is expected.
+    // Counts and prints the reply to a line that was played, and keeps it for a comparison with
+    // what is expected.
     fn reply<W: Write>(&mut self, said: Said, out: &mut W) -> Result<(), Stop> {
         self.settle(out)?;
         if self.mode == Mode::Replies {
@@ -247,7 +248,7 @@ impl Record {
         Ok(())
     }
 
-    // Counts the last reply if it is a fault that was not expected.
+    // Counts the last reply to a line that was played if it is a fault that was not expected.
     fn settle<W: Write>(&mut self, out: &mut W) -> Result<(), Stop> {
         if !self.is_open {
             return Ok(());
@@ -260,7 +261,7 @@ impl Record {
         }
     }
 
-    // Compares the last reply with what is expected of it.
+    // Compares the last reply to a line that was played with what is expected of it.
     fn compare<W: Write>(&mut self, number: u64, expected: &str, out: &mut W) -> Result<(), Stop> {
         match &self.last {
             Some(said) if is_printed_as(said, expected) => {
@@ -277,7 +278,7 @@ impl Record {
     }
 }
 
-// Replies to a line. One that can't be read changes nothing.
+// Plays a line, and returns the reply. One that can't be read changes nothing.
 fn answer(
     alloc: Global,
     session: &mut Session<TestKey>,

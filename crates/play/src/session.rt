@@ -36,7 +36,7 @@ impl<C: PublicKey> Model for Session<C> {
 }
 
 impl<C: PublicKey> Session<C> {
-    /// A session without nodes.
+    /// A session of `play` without nodes.
     pub fn new(alloc: Global) -> Session<C>
         ensures { result ≡ record { labels = []; nodes = [] } }
     {
@@ -47,7 +47,7 @@ impl<C: PublicKey> Session<C> {
         }
     }
 
-    /// The number of the node of this name, or `None` if no node has it.
+    /// The number of the node of this name in the session of `play`, or `None` if no node has it.
     pub fn place_of(&self, name: &str) -> Option<usize>
         ensures found { IfSome result (λ i. i < length self.now.labels) }
         ensures called { IfSome result (λ i. (l : Label) →
@@ -58,8 +58,8 @@ impl<C: PublicKey> Session<C> {
         place_in(&self.labels, name)
     }
 
-    /// Adds a new node of this name and setup. If there is one of that name, it is replaced, and
-    /// all its reservations are released.
+    /// Adds a new node of this name and setup to the session of `play`. If there is one of that
+    /// name, it is replaced, and all its reservations are released.
     ///
     /// # Conditions
     ///
@@ -93,8 +93,9 @@ impl<C: PublicKey> Session<C> {
         }
     }
 
-    /// Passes the command to the node or the nodes that it names by their numbers. The reply to a
-    /// command to a node that doesn't exist, or to an exchange of a node with itself, is `NoNode`.
+    /// Passes the command to the node or the nodes of the session of `play` that it names by their
+    /// numbers. The reply to a command to a node that doesn't exist, or to an exchange of a node
+    /// with itself, is `NoNode`.
     pub fn serve(&mut self, command: NetworkCommand<C>) -> NetworkReply<C>
         ensures labels { self.new.labels ≡ self.old.labels }
         ensures served { let wire = wire_of C.verifies C.FixedBytes C.Signature.FixedBytes in
@@ -104,7 +105,7 @@ impl<C: PublicKey> Session<C> {
         self.nodes.serve(command)
     }
 
-    /// Releases all reservations.
+    /// Releases all reservations of the session of `play`.
     pub fn finish(self) {
         let Session {
             labels: _,
@@ -132,7 +133,7 @@ impl<C: PublicKey> Nodes for Session<C> {
     }
 }
 
-// The node that the command names first.
+// The node of the session of `play` that the command names first.
 fn named_by<C: PublicKey>(command: &NetworkCommand<C>) -> usize {
     match command {
         NetworkCommand::Call(node, _)
@@ -142,7 +143,7 @@ fn named_by<C: PublicKey>(command: &NetworkCommand<C>) -> usize {
     }
 }
 
-// The position of the label with this name.
+// The position of the label with this name in the session of `play`.
 fn place_in(labels: &[Label], name: &str) -> Option<usize>
     ensures found { IfSome result (λ i. i < length labels.now) }
     ensures called { IfSome result (λ i. (l : Label) →
@@ -152,7 +153,7 @@ fn place_in(labels: &[Label], name: &str) -> Option<usize>
     labels.iter().position(|label| label.name.as_str() == name)
 }
 
-// The label with this name and the namespace of the setup.
+// The label, in the session of `play`, with this name and the namespace of the setup.
 fn label_of<C: PublicKey>(alloc: Global, name: &str, setup: &Setup<C>) -> Result<Label, AllocError>
     ensures { IfOk result (IsCalled name.now setup.now) }
 {

@@ -10,7 +10,8 @@ use std::alloc::{AllocError, Global};
 use std::collections::VecDeque;
 use std::fmt::Write;
 
-// These buffers, repeated so many times; together they are not too long for a frame.
+// These buffers of a frame to which memory may be refused, repeated so many times; together they
+// are not too long for it.
 fn repeated(
     alloc: Global,
     parts: &[&'static [u8]],
@@ -32,14 +33,16 @@ fn repeated(
     Ok(buffers)
 }
 
-// Four buffers in a list that has no capacity for another.
+// Four buffers of a frame to which memory may be refused, in a list that has no capacity for
+// another.
 fn buffers(alloc: Global) -> Result<VecDeque<Bytes>, AllocError>
     ensures { IfOk result (λ v. length (concat v.items) < 2 ^ 32) }
 {
     repeated(alloc, &[b"hello ", b"!"], 2)
 }
 
-/// `EncodedData::new`: on failure it returns buffers that equal those passed in.
+/// Makes a frame by `EncodedData::new` while memory may be refused: on failure it returns buffers
+/// that equal those passed in.
 pub fn encoded(alloc: Global, text: &mut String) -> Result<bool, AllocError> {
     let message = buffers(alloc)?;
     let same = buffers(alloc)?;

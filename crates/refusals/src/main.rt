@@ -20,7 +20,7 @@ use std::env;
 use std::io::Write;
 use std::process::ExitCode;
 
-// The only word after the name of the program.
+// The only word after the name of the program `refusals`.
 fn word(rt: &HostRuntime) -> Option<String> {
     let Ok(mut words) = env::args(rt) else {
         return None;
@@ -28,8 +28,8 @@ fn word(rt: &HostRuntime) -> Option<String> {
     words.nth(1)
 }
 
-// Performs the operation of this name, and says in the text what comes of it. Returns whether
-// everything is as it should be.
+// Performs the one operation of the program `refusals`, by its name, and says in the text what
+// comes of it. Returns whether everything is as it should be.
 fn is_as_before(alloc: Global, name: &str, text: &mut String) -> Result<bool, Unreadable> {
     match name {
         "init" => starts::directory(alloc, text),

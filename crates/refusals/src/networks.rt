@@ -61,7 +61,8 @@ fn unless_refused(reply: &NetworkReply<TestKey>) -> Result<(), AllocError> {
     }
 }
 
-// Does what the line requests, or leaves the nodes as they were.
+// Does what the line requests of the network, or leaves its nodes as they were if memory is
+// refused.
 fn does(
     alloc: Global,
     nodes: &mut Network<TestKey>,
@@ -82,8 +83,8 @@ fn does(
     }
 }
 
-// Does all in turn, each between two marks or none, and returns whether an allocation failed. What
-// fails is done again.
+// Does all lines of the network in turn, each between two marks or none, and returns whether memory
+// was refused. What fails is done again.
 fn does_all(
     alloc: Global,
     nodes: &mut Network<TestKey>,
@@ -109,7 +110,8 @@ fn mark_if(alloc: Global, is_marked: bool) {
     }
 }
 
-// The results of all queries of the directories.
+// The results of all queries of the directories of the network to which memory may have been
+// refused.
 fn questions_of(alloc: Global, nodes: &Network<TestKey>) -> Result<String, AllocError> {
     let mut words = String::new(alloc);
     for node in 0..nodes.len() {
@@ -138,7 +140,7 @@ fn left_of(alloc: Global, is_marked: bool) -> Result<Left, Unreadable> {
     })
 }
 
-/// A network of three nodes, compared with one in which no allocation failed.
+/// A network of three nodes to which memory may be refused, compared with one to which none was.
 pub fn three(alloc: Global, text: &mut String) -> Result<bool, Unreadable> {
     let ample = left_of(alloc, false)?;
     let left = left_of(alloc, true)?;

@@ -22,7 +22,7 @@ fn is_out_of_memory(reply: &PairReply<TestKey>) -> bool {
     }
 }
 
-// A run of these lines, with ample memory.
+// A run of these lines of a pair, to which no memory is refused.
 fn run_over(alloc: Global, lines: &[&'static str]) -> Result<PairRun<TestKey>, Unreadable> {
     let commands = pair_commands(alloc, lines)?;
     let left = setup(alloc, PARTS[0].asker)?;
@@ -40,7 +40,7 @@ fn finish(ended: PairRun<TestKey>) {
     right.finish();
 }
 
-// The replies that are not out of memory.
+// The replies of a pair but those that say that memory was refused.
 fn replies_of(alloc: Global, replies: &[PairReply<TestKey>]) -> Result<String, AllocError> {
     let mut text = String::new(alloc);
     for reply in replies {
@@ -51,7 +51,7 @@ fn replies_of(alloc: Global, replies: &[PairReply<TestKey>]) -> Result<String, A
     Ok(text)
 }
 
-// The results of all queries of both directories.
+// The results of all queries of both directories of a pair to which memory may have been refused.
 fn questions_of(
     alloc: Global,
     left: &Directory<TestKey>,
@@ -83,7 +83,7 @@ fn words_over(alloc: Global, lines: &[&'static str]) -> Result<Words, Unreadable
     Ok(words?)
 }
 
-// The lines that didn't run out of memory.
+// The lines of a pair to which no memory was refused.
 fn accepted(
     alloc: Global,
     lines: &[&'static str],
@@ -120,7 +120,8 @@ fn tells_of_two(
     Ok(is_same && answers)
 }
 
-/// `run_pair` of the first part of worked example 16.
+/// Runs a pair to which memory may be refused, by `run_pair` of the first part of worked example
+/// 16.
 pub fn run_of_two(alloc: Global, text: &mut String) -> Result<bool, Unreadable> {
     let lines = all_lines(alloc, PARTS[0].prepared, PARTS[0].steps)?;
     let commands = pair_commands(alloc, lines.as_slice())?;
@@ -142,7 +143,7 @@ pub fn run_of_two(alloc: Global, text: &mut String) -> Result<bool, Unreadable> 
     }
 }
 
-// A node with these settings that served the lines.
+// A node for a pair, with these settings, that served the lines before memory is refused.
 fn prepared(
     alloc: Global,
     settings: &'static str,
@@ -162,8 +163,8 @@ fn asks(asker: &mut Node<TestKey>, replier: &Node<TestKey>) -> Exchanged<TestKey
     exchange(asker, replier, 0, hundred, hundred)
 }
 
-// Asks with whatever memory there is, and compares the resulting states. If an allocation fails, it
-// asks again.
+// Lets one of a pair of nodes ask the other with whatever memory isn't refused, and compares the
+// resulting states. If an allocation fails, it asks again.
 fn tells_of_exchange(
     alloc: Global,
     text: &mut String,
@@ -185,7 +186,8 @@ fn tells_of_exchange(
     Ok(is_same && matches!(again, Exchanged::Applied(_)))
 }
 
-/// `exchange` of an asker with a replier that knows of one peer.
+/// Lets a pair exchange infos while memory may be refused, by `exchange` of an asker with a replier
+/// that knows of one peer.
 pub fn exchanged(alloc: Global, text: &mut String) -> Result<bool, Unreadable> {
     let mut asker = prepared(alloc, "", &["track 0 1,2"])?;
     let lines = [

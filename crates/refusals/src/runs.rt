@@ -13,7 +13,7 @@ use p2p_discovery::codec::TestKey;
 use std::alloc::{AllocError, Global};
 use std::fmt::Write;
 
-// The run of the commands over the directory of such a node.
+// Runs the commands, to which memory may be refused, over the directory of such a node.
 fn run_from(
     alloc: Global,
     setup: Setup<TestKey>,
@@ -30,7 +30,7 @@ fn run_from(
     run(alloc, bootstrappers, myself, cfg, commands)
 }
 
-// Whether the reply is one of a call that may allocate.
+// Whether the reply of a run is one of a call to which memory may be refused.
 fn may_want_memory(reply: &Reply<TestKey>) -> bool {
     match reply {
         Reply::Track(torn) => torn.is_some(),
@@ -47,7 +47,7 @@ fn may_want_memory(reply: &Reply<TestKey>) -> bool {
     }
 }
 
-// The replies that are not out of memory.
+// The replies of a run but those that say that memory was refused.
 fn replies_of(alloc: Global, left: &Run<TestKey>) -> Result<String, AllocError> {
     let mut text = String::new(alloc);
     for reply in &left.replies {
@@ -72,7 +72,7 @@ fn read_words(alloc: Global, left: &Run<TestKey>) -> Result<Words, AllocError> {
     })
 }
 
-// A run of these lines over the directory of the example, with ample memory.
+// A run of these lines over the directory of the example, to which no memory is refused.
 fn run_over(alloc: Global, row: &Row, lines: &[&'static str]) -> Result<Run<TestKey>, Unreadable> {
     let setup = setup(alloc, row.settings)?;
     let commands = commands(alloc, lines)?;
@@ -86,7 +86,7 @@ fn words_over(alloc: Global, row: &Row, lines: &[&'static str]) -> Result<Words,
     Ok(words?)
 }
 
-// Whether the last of these lines may allocate after the others.
+// Whether memory may be refused to the last of these lines of a run, after the others.
 fn may_be_refused(alloc: Global, row: &Row, lines: &[&'static str]) -> Result<bool, Unreadable> {
     let left = run_over(alloc, row, lines)?;
     let wants = left.replies.last().is_some_and(may_want_memory);
@@ -94,7 +94,7 @@ fn may_be_refused(alloc: Global, row: &Row, lines: &[&'static str]) -> Result<bo
     Ok(wants)
 }
 
-// The lines that didn't run out of memory; `None` if one that never allocates did.
+// The lines of a run to which no memory was refused; `None` if it was to one that never allocates.
 fn accepted(
     alloc: Global,
     row: &Row,
@@ -114,7 +114,8 @@ fn accepted(
     Ok(Some(accepted))
 }
 
-// Prints the replies, and compares them with those that the other commands get by themselves.
+// Prints the replies of a run to which memory was refused, and compares them with those that the
+// other commands get by themselves.
 fn tells(
     alloc: Global,
     text: &mut String,
@@ -161,7 +162,7 @@ fn told(alloc: Global, text: &mut String, row: &Row) -> Result<bool, Unreadable>
     }
 }
 
-/// `run` of the worked example that has this number behind `run`.
+/// Runs, while memory may be refused, the worked example that has this number behind `run`.
 pub fn row_called(alloc: Global, name: &str, text: &mut String) -> Result<bool, Unreadable> {
     match name {
         "run7" => told(alloc, text, &examples::KNOWLEDGE),

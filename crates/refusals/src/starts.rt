@@ -1,4 +1,4 @@
-//! Directories and nodes that are made.
+//! Directories and nodes that are started while memory may be refused.
 
 ghost use Rattle.std.specs.Prelude.{◌<◌, ◌-◌, ◌^◌};
 ghost use Rattle.std.specs.Int.NonZero.{non_zero_usize_get};
@@ -18,7 +18,7 @@ const SETTINGS: &str = "boot=1@1.2.3.4:8001,2@1.2.3.4:8002,3@1.2.3.4:8003,4@1.2.
     10@1.2.3.4:8010,11@1.2.3.4:8011,12@1.2.3.4:8012,13@1.2.3.4:8013,14@1.2.3.4:8014,\
     15@1.2.3.4:8015,16@1.2.3.4:8016,17@1.2.3.4:8017,1@1.2.3.4:8018";
 
-// Says what was made, or that an allocation failed; then it is made again.
+// Tells what was started, or that memory was refused; then it is made again.
 fn compares_with(
     alloc: Global,
     text: &mut String,
@@ -46,7 +46,7 @@ fn compares_with(
     }
 }
 
-// The directory of a node with this setup.
+// Starts the directory of a node with this setup, to which memory may be refused.
 fn init(alloc: Global, setup: Setup<TestKey>) -> Result<Directory<TestKey>, AllocError>
     requires { non_zero_usize_get setup.cfg.max_sets < 2 ^ 64 - 1 }
 {
@@ -59,7 +59,7 @@ fn init(alloc: Global, setup: Setup<TestKey>) -> Result<Directory<TestKey>, Allo
     Directory::init(alloc, bootstrappers, myself, cfg)
 }
 
-/// `Directory::init`.
+/// Starts a directory by `Directory::init` while memory may be refused.
 pub fn directory(alloc: Global, text: &mut String) -> Result<bool, Unreadable> {
     let given = setup(alloc, SETTINGS)?;
     mark(alloc);
@@ -69,7 +69,7 @@ pub fn directory(alloc: Global, text: &mut String) -> Result<bool, Unreadable> {
     Ok(compares_with(alloc, text, made, again)?)
 }
 
-// The directory that remains of a node that was made.
+// The directory that remains of a node that was started unless memory was refused.
 fn finished(made: Result<Node<TestKey>, AllocError>) -> Result<Directory<TestKey>, AllocError> {
     match made {
         Ok(node) => Ok(node.finish()),
@@ -77,7 +77,7 @@ fn finished(made: Result<Node<TestKey>, AllocError>) -> Result<Directory<TestKey
     }
 }
 
-/// `Node::new`.
+/// Starts a node by `Node::new` while memory may be refused.
 pub fn node(alloc: Global, text: &mut String) -> Result<bool, Unreadable> {
     let given = setup(alloc, SETTINGS)?;
     mark(alloc);

@@ -11,7 +11,8 @@ use std::time::Duration;
 // A request of exactly so many bytes is a mark.
 const MARK: usize = 1_234_577;
 
-/// Requests a mark: from now on requests are counted, or no longer are.
+/// Requests a mark from the script that refuses memory: from now on requests are counted, or no
+/// longer are.
 pub fn mark(alloc: Global) {
     let _mark: Result<Vec<u8>, AllocError> = Vec::with_capacity(alloc, MARK);
 }
@@ -50,7 +51,8 @@ fn tells_of_moments(text: &mut String, directory: &Directory<TestKey>) -> Result
     Ok(())
 }
 
-// The set at a position, its bits, and what is shared with a peer that knows none of it.
+// Tells in the text the set at a position, its bits, and what is shared with a peer that knows none
+// of it.
 fn tells_of_set(
     text: &mut String,
     alloc: Global,
@@ -87,7 +89,7 @@ fn tells_of_sets(
     )
 }
 
-/// The results of all queries of a directory.
+/// Tells in the text the results of all queries of a directory.
 pub fn tells(
     text: &mut String,
     alloc: Global,
@@ -98,14 +100,14 @@ pub fn tells(
     tells_of_sets(text, alloc, directory)
 }
 
-/// The same as a new text.
+/// What a directory told by all its queries, as a new text.
 pub fn words_of(alloc: Global, directory: &Directory<TestKey>) -> Result<String, AllocError> {
     let mut words = String::new(alloc);
     tells(&mut words, alloc, directory)?;
     Ok(words)
 }
 
-/// Says whether two texts are the same.
+/// Tells whether two texts are the same after memory was refused.
 pub fn compares(
     text: &mut String,
     what: &'static str,

@@ -52,12 +52,13 @@ impl From<Unreadable> for Stop {
     }
 }
 
-// Writes one line.
+// Writes one line of a row.
 fn print<W: Write>(out: &mut W, line: &impl Display) -> Result<(), Stop> {
     writeln!(out, "{line}").map_err(|_error: io::Error| Stop::Write)
 }
 
-/// Prints that memory ran out, and returns the exit status: 3, or 1 if that could not be written.
+/// Prints that memory ran out for the row that is run, and returns the exit status: 3, or 1 if that
+/// could not be written.
 pub fn out_of_memory<W: Write>(out: &mut W) -> u8
     ensures status { ¬ (result ≡ 3) → result ≡ 1 }
     ensures printed { result ≡ 3
@@ -82,8 +83,8 @@ pub fn no_such_row<W: Write>(out: &mut W) -> u8
     }
 }
 
-/// Runs the worked example that the only word names, writes its lines to `out`, and returns the
-/// exit status of the program.
+/// Runs the row, or worked example, that the only word names, writes its lines to `out`, and
+/// returns the exit status of the program.
 ///
 /// The status is 0 if all lines were written. It is 2 after `no such row`, if there is not exactly
 /// one word or it is not the number of an example in decimal without leading zeros. It is 3 after
@@ -129,13 +130,13 @@ pub fn run_rows<W: Write>(alloc: Global, words: &[String], out: &mut W) -> u8
     status_after(ended, out)
 }
 
-// Dials that fail; and again with a failure limit of 0.
+// Runs the row of dials that fail, once as it is and once with a failure limit of 0.
 fn failed_dials<W: Write>(alloc: Global, out: &mut W) -> Result<(), Stop> {
     directory::print_row(alloc, &examples::dialling::FAILED_DIALS, out)?;
     directory::print_row(alloc, &examples::dialling::NO_FAILURE_ALLOWED, out)
 }
 
-// The exit status of an example that ended like this.
+// The exit status of a row that ended like this.
 fn status_after<W: Write>(ended: Result<(), Stop>, out: &mut W) -> u8
     ensures range { result ≤ 3 }
     ensures row { ¬ (result ≡ 2) }

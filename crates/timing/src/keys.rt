@@ -106,19 +106,19 @@ impl PublicKey for Key32 {
 }
 
 impl Key32 {
-    /// The key of a number.
+    /// The key for timing that has a number.
     pub(crate) fn numbered(number: u64) -> Key32 {
         let mut bytes = [0; 32];
         bytes[..8].copy_from_slice(&number.to_be_bytes());
         Key32(bytes)
     }
 
-    /// The last byte of the number.
+    /// The last byte of the number of a key for timing.
     pub(crate) fn last_byte(&self) -> u8 {
         self.0[7]
     }
 
-    /// The signature of this key.
+    /// The signature of this key for timing.
     pub(crate) fn sign(&self) -> Signature64 {
         let mut bytes = [0; 64];
         bytes[..32].copy_from_slice(&self.0);
@@ -126,7 +126,7 @@ impl Key32 {
     }
 }
 
-// A number whose bits depend on all bits of another.
+// A number for a key for timing whose bits depend on all bits of another.
 fn mixed(number: u64) -> u64 {
     let z = number
         .wrapping_add(1)
@@ -137,7 +137,7 @@ fn mixed(number: u64) -> u64 {
     z ^ (z >> 31)
 }
 
-/// As many keys, in no order.
+/// As many keys for timing, in no order.
 pub(crate) fn keys(alloc: Global, count: usize) -> Result<Vec<Key32>, AllocError>
     ensures { IfOk result (λ keys. length keys.items ≡ count) }
 {

@@ -19,7 +19,7 @@ pub(crate) const NAMESPACE: &[u8] = b"rows";
 /// How many sets are retained.
 pub(crate) const SETS: usize = 4;
 
-/// A configuration that retains four sets.
+/// Makes, for timing, a configuration that retains four sets.
 pub(crate) fn config() -> Config
     ensures { non_zero_usize_get result.max_sets ≡ 4 }
 {
@@ -33,18 +33,18 @@ pub(crate) fn config() -> Config
     }
 }
 
-/// An address at which peers can be dialled, with this last byte.
+/// Makes, for timing, an address at which peers can be dialled, with this last byte.
 pub(crate) fn ingress(last: u8) -> Ingress {
     Ingress::Socket(SocketAddr::new(IpAddr::V4([1, 2, 3, last]), 8000))
 }
 
-/// The info of a key, signed.
+/// Makes, for timing, the info of a key, signed.
 pub(crate) fn info_of(key: Key32, timestamp: u64) -> Info<Key32> {
     let ingress = ingress(key.last_byte());
     Info::sign(key, NAMESPACE, ingress, timestamp, |_, _| key.sign())
 }
 
-/// The infos of peers.
+/// Makes, for timing, the infos of peers.
 pub(crate) fn infos_of(
     alloc: Global,
     keys: &[Key32],
@@ -57,7 +57,7 @@ pub(crate) fn infos_of(
     Ok(infos)
 }
 
-/// A set of these primary peers alone.
+/// Makes, for timing, a set of these primary peers alone.
 pub(crate) fn tracked(alloc: Global, keys: &[Key32]) -> Result<TrackedPeers<Key32>, AllocError> {
     let primary = OrderedSet::from_iter_dedup(alloc, keys.iter().copied())?;
     let nobody: Vec<Key32> = Vec::new(alloc);
@@ -91,7 +91,7 @@ fn setup(
     })
 }
 
-/// A node of this number, which accepts so many infos at a time.
+/// Makes, for timing, a node of this number, which accepts so many infos at a time.
 pub(crate) fn node(
     alloc: Global,
     number: u64,

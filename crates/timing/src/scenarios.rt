@@ -71,8 +71,8 @@ fn of_calls(rt: &HostRuntime, name: &str, count: usize, samples: usize) -> Resul
     }
 }
 
-/// Times a scenario, and prints the minimum, the median, and how much was done. A dot before its
-/// name is ignored.
+/// Times one of the scenarios, and prints the minimum, the median, and how much was done. A dot
+/// before its name is ignored.
 pub(crate) fn measure(
     rt: &HostRuntime,
     name: &str,
@@ -89,7 +89,7 @@ pub(crate) fn measure(
     Ok(())
 }
 
-/// Makes the calls of each scenario with few peers, and prints what was done.
+/// Makes the calls of all timing scenarios with few peers, and prints what was done.
 pub(crate) fn measure_few(rt: &HostRuntime) -> Result<(), Stop> {
     for name in &NAMES {
         let done = of_bytes(rt, name, 10, 2)?.summary().done;

@@ -13,7 +13,7 @@ pub(crate) struct Times {
 }
 
 impl Times {
-    /// No time yet.
+    /// No times of calls yet.
     pub(crate) fn new(alloc: Global) -> Times {
         Times {
             nanos: Vec::new(alloc),
@@ -21,7 +21,7 @@ impl Times {
         }
     }
 
-    /// Adds one more time, of calls of which so many succeeded.
+    /// Adds one more to the times, of calls of which so many succeeded.
     pub(crate) fn add(&mut self, time: Duration, done: usize) -> Result<(), AllocError>
         ensures times { OnOk result (length self.new.nanos.items ≡
             length self.old.nanos.items + 1) }
@@ -32,7 +32,7 @@ impl Times {
         Ok(())
     }
 
-    /// The minimum, the median, and how many calls succeeded.
+    /// The summary of the times: the minimum, the median, and how many calls succeeded.
     pub(crate) fn summary(mut self) -> Summary {
         self.nanos.sort_unstable();
         Summary {
@@ -54,7 +54,7 @@ pub(crate) struct Summary {
     pub(crate) done: usize,
 }
 
-// A time in nanoseconds.
+// One of the times in nanoseconds.
 fn nanos_of(time: Duration) -> u64 {
     time.as_secs()
         .saturating_mul(1_000_000_000)

@@ -53,7 +53,7 @@ pub static COMMANDS: [(&'static str, &'static str, &'static str); 31] = [
     ("=", "TEXT", "none: the reply before has to be TEXT"),
 ];
 
-/// How the command of this name is typed.
+/// How the command of this name is typed in a line.
 pub fn usage_of(name: &str) -> Option<Usage> {
     COMMANDS
         .iter()
@@ -64,7 +64,7 @@ pub fn usage_of(name: &str) -> Option<Usage> {
         })
 }
 
-/// The command of this name with these arguments. Infos are signed in the namespace.
+/// Parses the words of the command of this name, its arguments. Infos are signed in the namespace.
 pub fn command(
     alloc: Global,
     name: &str,
@@ -90,7 +90,7 @@ pub fn command(
     })
 }
 
-/// An index and bits.
+/// Parses the words of a command that are an index and bits.
 pub fn bit_vec(alloc: Global, words: &mut Words<'_>) -> Result<BitVec, Fault> {
     Ok(BitVec {
         index: words.number()?,

@@ -1,4 +1,4 @@
-//! Values as bytes, and bytes as values.
+//! Words of frames: values as bytes, and bytes as values.
 
 use crate::fault::Fault;
 use crate::parse::commands::bit_vec;
@@ -11,7 +11,7 @@ use p2p_discovery::data::Data;
 use p2p_discovery::discovery::{Infos, Payload, PayloadConfig};
 use std::alloc::Global;
 
-/// A kind of value with its limits, and bytes.
+/// Parses the words of a frame, or of another kind of value with its limits, and bytes.
 pub fn kind_and_bytes(alloc: Global, words: &mut Words<'_>) -> Result<(Kind, Bytes), Fault> {
     let kind = kind(words)?;
     Ok((kind, unhex(alloc, words.word()?)?))
@@ -43,7 +43,7 @@ fn range(words: &mut Words<'_>) -> Result<RangeCfg, Fault> {
     })
 }
 
-/// A payload. Infos are signed in the namespace.
+/// Parses the words of a payload, the contents of a frame. Infos are signed in the namespace.
 pub fn payload(
     alloc: Global,
     words: &mut Words<'_>,

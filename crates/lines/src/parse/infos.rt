@@ -13,7 +13,7 @@ const ADDRESS: Fault = Fault::Form("an address as 1.2.3.4:80, [::1]:80 or ~host.
 
 const INFO: Fault = Fault::Form("an info as 1@1000, 1@1000:8001 or 1@1000@1.2.3.4:8001");
 
-/// Parses the word as a port.
+/// Parses a word of an info as a port.
 fn port(word: &str) -> Result<u16, Fault> {
     match word.parse::<u16>() {
         Ok(port) => Ok(port),
@@ -24,7 +24,7 @@ fn port(word: &str) -> Result<u16, Fault> {
     }
 }
 
-// Parses the word as the address of a machine.
+// Parses a word of an info as the address of a machine.
 fn machine(word: &str) -> Result<IpAddr, Fault> {
     match word.strip_prefix('[') {
         Some(rest) => match rest.strip_suffix(']') {
@@ -53,7 +53,7 @@ fn host_name(alloc: Global, word: &str) -> Result<Hostname, Fault> {
     }
 }
 
-/// Parses the word as an ingress: `1.2.3.4:80`, `[::1]:80` or `~host.name:80`.
+/// Parses a word of an info as an ingress: `1.2.3.4:80`, `[::1]:80` or `~host.name:80`.
 pub fn ingress(alloc: Global, word: &str) -> Result<Ingress, Fault> {
     let Some((host, end)) = word.rsplit_once(':') else {
         return Err(ADDRESS);
@@ -68,7 +68,7 @@ pub fn ingress(alloc: Global, word: &str) -> Result<Ingress, Fault> {
     }
 }
 
-/// The bootstrappers of a list, as `3@1.2.3.4:8003`.
+/// Parses the word as bootstrappers, typed like infos, as `3@1.2.3.4:8003`.
 pub fn bootstrappers(alloc: Global, word: &str) -> Result<Vec<(TestKey, Ingress)>, Fault> {
     let mut bootstrappers = Vec::new(alloc);
     if word != "-" {
@@ -82,19 +82,19 @@ pub fn bootstrappers(alloc: Global, word: &str) -> Result<Vec<(TestKey, Ingress)
     Ok(bootstrappers)
 }
 
-/// The info of these parts, signed by the key in the namespace.
+/// The info of these parsed parts, signed by the key in the namespace.
 pub fn signed(key: TestKey, namespace: &[u8], ingress: Ingress, timestamp: u64) -> Info<TestKey> {
     Info::sign(key, namespace, ingress, timestamp, |namespace, message| {
         key.sign(namespace, message)
     })
 }
 
-// An ingress at 1.2.3.4.
+// The ingress at 1.2.3.4 of a parsed info that names only a port.
 fn at_port(port: u16) -> Ingress {
     Ingress::Socket(SocketAddr::new(IpAddr::V4([1, 2, 3, 4]), port))
 }
 
-// The port of a peer whose info names none.
+// The port of a peer whose parsed info names none.
 fn port_of(peer: u64) -> Result<u16, Fault> {
     match u16::try_from(peer.saturating_add(8_000)) {
         Ok(port) => Ok(port),
@@ -102,7 +102,7 @@ fn port_of(peer: u64) -> Result<u16, Fault> {
     }
 }
 
-// The ingress of a peer and the timestamp, from what is typed after the key.
+// Parses what of an info is typed after the key, as the ingress of a peer and the timestamp.
 fn place_and_time(alloc: Global, peer: u64, rest: &str) -> Result<(Ingress, u64), Fault> {
     if let Some((timestamp, at)) = rest.split_once('@') {
         return Ok((ingress(alloc, at)?, number(timestamp)?));
@@ -127,7 +127,7 @@ pub fn info(alloc: Global, word: &str, namespace: &[u8]) -> Result<Info<TestKey>
     Ok(signed(TestKey(peer), namespace, ingress, timestamp))
 }
 
-/// The infos of a list.
+/// Parses the word as a list of infos.
 pub fn infos(alloc: Global, word: &str, namespace: &[u8]) -> Result<Vec<Info<TestKey>>, Fault> {
     let mut infos = Vec::new(alloc);
     if word != "-" {

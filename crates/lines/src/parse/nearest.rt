@@ -3,7 +3,8 @@
 use crate::parse::commands::COMMANDS;
 use crate::parse::settings::SETTINGS;
 
-/// The command that shares the longest prefix with the word, and of those the nearest in length.
+/// The nearest command to a mistyped word: that which shares the longest prefix with it, and of
+/// those the nearest in length.
 pub fn nearest_command(word: &str) -> &'static str {
     COMMANDS
         .iter()
@@ -12,7 +13,8 @@ pub fn nearest_command(word: &str) -> &'static str {
         .unwrap_or("node")
 }
 
-/// The setting that shares the longest prefix with the word, and of those the nearest in length.
+/// The nearest setting to a mistyped word: that which shares the longest prefix with it, and of
+/// those the nearest in length.
 pub fn nearest_setting(word: &str) -> &'static str {
     SETTINGS
         .iter()
@@ -21,7 +23,7 @@ pub fn nearest_setting(word: &str) -> &'static str {
         .unwrap_or("own")
 }
 
-// How many bytes the common prefix of two words has, and how near their lengths are.
+// How near two words are: how many bytes their common prefix has, and how near their lengths are.
 fn likeness(left: &str, right: &str) -> (usize, usize) {
     let alike = left
         .bytes()

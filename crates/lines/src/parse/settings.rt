@@ -40,7 +40,7 @@ pub static SETTINGS: [(&'static str, &'static str); 16] = [
     ("namespace", "rows"),
 ];
 
-/// The setup of a node without settings.
+/// The setup of a node for which a line has no settings.
 pub fn default_setup(alloc: Global) -> Result<Setup<TestKey>, AllocError>
     ensures sets { IfOk result (λ s. non_zero_usize_get s.cfg.max_sets < 2 ^ 64 - 1) }
     ensures bits { IfOk result (λ s. s.payload.max_bit_vec < 2 ^ 32) }
@@ -68,7 +68,7 @@ pub fn default_setup(alloc: Global) -> Result<Setup<TestKey>, AllocError>
     })
 }
 
-/// The setup of a node with these settings. Its local info is signed in its namespace.
+/// Parses the words of settings as the setup of a node. Its local info is signed in its namespace.
 pub fn setup_of(alloc: Global, settings: SplitWhitespace<'_>) -> Result<Setup<TestKey>, Fault>
     ensures sets { IfOk result (λ s. non_zero_usize_get s.cfg.max_sets < 2 ^ 64 - 1) }
     ensures bits { IfOk result (λ s. s.payload.max_bit_vec < 2 ^ 32) }
@@ -119,7 +119,7 @@ fn signed_anew(setup: Setup<TestKey>) -> Setup<TestKey>
     }
 }
 
-// Changes one setting.
+// Parses one setting of a node, and changes it in the setup.
 fn set(alloc: Global, setup: &mut Setup<TestKey>, name: &str, value: &str) -> Result<(), Fault> {
     match name {
         "max_sets" => setup.cfg.max_sets = max_sets(value)?,

@@ -20,7 +20,7 @@ pub struct Words<'a> {
 }
 
 impl<'a> Words<'a> {
-    /// The words of the text, which are typed after this command.
+    /// The words of the line's text, which are typed after this command.
     pub fn new(text: &'a str, usage: Usage) -> Words<'a> {
         Words {
             words: text.split_whitespace(),
@@ -28,12 +28,12 @@ impl<'a> Words<'a> {
         }
     }
 
-    /// All further words.
+    /// All further words of the line.
     pub fn rest(&mut self) -> SplitWhitespace<'a> {
         replace(&mut self.words, "".split_whitespace())
     }
 
-    /// The next word.
+    /// The next word of the line.
     pub fn word(&mut self) -> Result<&'a str, Fault> {
         match self.words.next() {
             Some(word) => Ok(word),
@@ -41,7 +41,7 @@ impl<'a> Words<'a> {
         }
     }
 
-    /// Fails if there is a further word.
+    /// Fails if there is a further word in the line.
     pub fn end(mut self) -> Result<(), Fault> {
         match self.words.next() {
             Some(_) => Err(Fault::Excess(self.usage)),
@@ -49,32 +49,32 @@ impl<'a> Words<'a> {
         }
     }
 
-    /// The next word, a whole number.
+    /// The next word of the line, a whole number.
     pub fn number(&mut self) -> Result<u64, Fault> {
         number(self.word()?)
     }
 
-    /// The next word, a position or a length.
+    /// The next word of the line, a position or a length.
     pub fn size(&mut self) -> Result<usize, Fault> {
         size(self.word()?)
     }
 
-    /// The next word, a peer.
+    /// The next word of the line, a peer.
     pub fn peer(&mut self) -> Result<TestKey, Fault> {
         Ok(TestKey(self.number()?))
     }
 
-    /// The next word, a bool.
+    /// The next word of the line, a bool.
     pub fn truth(&mut self) -> Result<bool, Fault> {
         truth(self.word()?)
     }
 
-    /// The next word, a time.
+    /// The next word of the line, a time.
     pub fn moment(&mut self) -> Result<Duration, Fault> {
         moment(self.word()?)
     }
 
-    /// The next word, a draw, or 0 without one.
+    /// The next word of the line, a draw, or 0 without one.
     pub fn draw(&mut self) -> Result<Duration, Fault> {
         match self.words.next() {
             Some(word) => moment(word),
@@ -82,7 +82,7 @@ impl<'a> Words<'a> {
         }
     }
 
-    /// The next words, lists of primary and of secondary peers.
+    /// The next words of the line, lists of primary and of secondary peers.
     pub fn tracked(&mut self, alloc: Global) -> Result<TrackedPeers<TestKey>, Fault> {
         let primary = peers(alloc, self.word()?)?;
         let secondary = match self.words.next() {
@@ -94,7 +94,7 @@ impl<'a> Words<'a> {
     }
 }
 
-/// Parses the word as a whole number.
+/// Parses the word of the line as a whole number.
 pub fn number(word: &str) -> Result<u64, Fault> {
     match word.parse::<u64>() {
         Ok(number) => Ok(number),
@@ -105,7 +105,7 @@ pub fn number(word: &str) -> Result<u64, Fault> {
     }
 }
 
-/// Parses the word as a position or a length.
+/// Parses the word of the line as a position or a length.
 pub fn size(word: &str) -> Result<usize, Fault> {
     match usize::try_from(number(word)?) {
         Ok(size) => Ok(size),
@@ -113,7 +113,7 @@ pub fn size(word: &str) -> Result<usize, Fault> {
     }
 }
 
-/// Parses the word as a bool.
+/// Parses the word of the line as a bool.
 pub fn truth(word: &str) -> Result<bool, Fault> {
     match word.parse::<bool>() {
         Ok(truth) => Ok(truth),
@@ -121,7 +121,7 @@ pub fn truth(word: &str) -> Result<bool, Fault> {
     }
 }
 
-/// Parses the word as a time: seconds with up to nine digits after a point, or `M`.
+/// Parses the word of the line as a time: seconds with up to nine digits after a point, or `M`.
 pub fn moment(word: &str) -> Result<Duration, Fault> {
     if word == "M" {
         return Ok(Duration::MAX);
@@ -135,7 +135,7 @@ pub fn moment(word: &str) -> Result<Duration, Fault> {
     }
 }
 
-// The nanoseconds of the digits after a point.
+// The nanoseconds of the digits after a point in a word.
 fn nanos(fraction: &str) -> Result<u64, Fault> {
     const SCALES: [u64; 10] = [
         1_000_000_000,
@@ -157,7 +157,7 @@ fn nanos(fraction: &str) -> Result<u64, Fault> {
     }
 }
 
-// The peers of a list.
+// Parses the word of the line as a list of peers.
 fn peers(alloc: Global, word: &str) -> Result<OrderedSet<TestKey>, Fault> {
     let mut keys = Vec::new(alloc);
     if word != "-" {
@@ -168,7 +168,7 @@ fn peers(alloc: Global, word: &str) -> Result<OrderedSet<TestKey>, Fault> {
     Ok(OrderedSet::from_vec_dedup(keys))
 }
 
-/// Parses the digits of the word as bits.
+/// Parses the digits of the word of the line as bits.
 pub fn bits(alloc: Global, word: &str) -> Result<BitMap, Fault> {
     let mut bits = Vec::new(alloc);
     if word != "-" {
@@ -183,7 +183,7 @@ pub fn bits(alloc: Global, word: &str) -> Result<BitMap, Fault> {
     Ok(BitMap::from_bools(alloc, bits.as_slice())?)
 }
 
-/// Parses the hexadecimal digits of the word as bytes.
+/// Parses the hexadecimal digits of the word of the line as bytes.
 pub fn unhex(alloc: Global, word: &str) -> Result<Bytes, Fault> {
     let digits = if word == "-" { "" } else { word };
     let mut bytes = Vec::with_capacity(alloc, digits.len() / 2)?;

@@ -39,19 +39,19 @@ ghost use Rattle.p2p_directory.specs.Laws.Refined.{AnswersAs};
 
 use p2p_discovery::codec::PublicKey;
 
-/// The main law, for every setup with at least one set, every list of accepted calls, the newest
-/// first, and one more call. The world recomputed from all these calls is one step from the world
-/// recomputed from the calls before.
+/// The main law of directories, for every setup with at least one set, every list of accepted
+/// calls, the newest first, and one more call. The world recomputed from all these calls is one
+/// step from the world recomputed from the calls before.
 pub fn recomputed_is_one_step<C: PublicKey>()
     ensures { (s : Settings C C.Signature) → s.cmp ≡ C.cmp → 1 ≤ s.max_sets →
         (cs : List (Call C C.Signature)) (c : Call C C.Signature) →
         world_at s (past s (c ∷ cs)) ≡ step s (world_at s (past s cs)) c }
 {}
 
-/// If a directory refines the world that the accepted calls make, its results are those of that
-/// world. By its clause `directory`, [`run`](crate::run::run) returns such a directory. So this law
-/// is for callers that go on with a directory that a run or a node leaves, or that make all calls
-/// by hand: [`effects_refine`]. The results are those of the calls of
+/// By a law of directories, if one refines the world that the accepted calls make, its results are
+/// those of that world. By its clause `directory`, [`run`](crate::run::run) returns such a
+/// directory. So this law is for callers that go on with a directory that a run or a node leaves,
+/// or that make all calls by hand: [`effects_refine`]. The results are those of the calls of
 /// [`Directory`](p2p_tracker::directory::Directory): of each query, who is granted, whether a block
 /// has ended, and how many cooldowns. The failure limit fits `usize`, as in each `Config`.
 pub fn refined_answers<C: PublicKey>()
@@ -60,11 +60,11 @@ pub fn refined_answers<C: PublicKey>()
         Refines s (world_after s cs) d → AnswersAs s (world_after s cs) d }
 {}
 
-/// Calls made by hand. A directory, with the reservations that its caller holds, stands at the
-/// point after some accepted calls if it refines the world that they make and these are the grants
-/// of that world. If it does before a call, it does after it: what a clause wants to know of the
-/// call is what the contract of the call says. By [`refined_answers`] each query then has the
-/// result of that world.
+/// By a law of directories, their calls may be made by hand. A directory, with the reservations
+/// that its caller holds, stands at the point after some accepted calls if it refines the world
+/// that they make and these are the grants of that world. If it does before a call, it does after
+/// it: what a clause wants to know of the call is what the contract of the call says. By
+/// [`refined_answers`] each query then has the result of that world.
 ///
 /// - A new directory, of which nothing is held, stands at the point before any call.
 /// - A track, a dial, a listen and a block are accepted whether or not they take effect. A track
@@ -155,8 +155,8 @@ pub fn effects_refine<C: PublicKey>()
         DirectoryStandsAt s cs d held → AreHeld C.cmp d held }
 {}
 
-/// A result that lists the keys with a property, gives the earliest time of some keys, or counts
-/// the tracked or the cooled keys of a world, is unique.
+/// By a law of directories, an answer that lists keys with a property, gives an earliest time, or
+/// counts the tracked or cooled keys is unique in its world.
 pub fn answers_are_determined<C: PublicKey>()
     ensures lists { (s : Settings C C.Signature) → s.cmp ≡ C.cmp →
         (test : C → Bool) (xs ys : List C) → Lists s.cmp test xs → Lists s.cmp test ys → xs ≡ ys }
@@ -170,9 +170,9 @@ pub fn answers_are_determined<C: PublicKey>()
         IsNumberCooled s w t m → IsNumberCooled s w t n → m ≡ n }
 {}
 
-/// Calls on other single peers, and the infos of others in updates, may be left out of the accepted
-/// calls. All that is said of p is the same, and so are the results on p and the effects of calls
-/// on p.
+/// By a law of directories, calls on other single peers, and the infos of others in updates, may be
+/// left out of the accepted calls. All that is said of p is the same, and so are the results on p
+/// and the effects of calls on p.
 pub fn others_may_be_left_out<C: PublicKey>()
     ensures same { (s : Settings C C.Signature) → s.cmp ≡ C.cmp → 1 ≤ s.max_sets →
         (p : C) (cs : List (Call C C.Signature)) →
@@ -183,8 +183,8 @@ pub fn others_may_be_left_out<C: PublicKey>()
         SameFor p w w2 → SameFor p v v2 → is_torn_down s w v p ≡ is_torn_down s w2 v2 p }
 {}
 
-/// Call by call: a call on another single peer leaves all that is said of p as it was; an update
-/// changes it by p's infos alone.
+/// By a law of directories, each call keeps what is said of others. A call on another single peer
+/// leaves all that is said of p as it was; an update changes it by p's infos alone.
 pub fn each_call_keeps_others<C: PublicKey>()
     ensures another { (s : Settings C C.Signature) → 1 ≤ s.max_sets →
         (p : C) (c : Call C C.Signature) (cs : List (Call C C.Signature)) →
@@ -194,10 +194,10 @@ pub fn each_call_keeps_others<C: PublicKey>()
         (c : Call C C.Signature) → SameFor p (step s w c) (step s w (narrowed s p c)) }
 {}
 
-/// Call by call, on a directory: what `dial`, `listen`, `connect`, `release` and `block` do to one
-/// peer leaves the retained sets as they are. They also leave each other peer's record, block and
-/// cooldown as they are. Infos that are offered change a peer's record by those of its own key
-/// alone, and nothing else.
+/// By a law of directories, the effects of calls keep others, call by call. What `dial`, `listen`,
+/// `connect`, `release` and `block` do to one peer leaves the retained sets as they are. They also
+/// leave each other peer's record, block and cooldown as they are. Infos that are offered change a
+/// peer's record by those of its own key alone, and nothing else.
 pub fn effects_keep_others<C: PublicKey>()
     ensures reserves { (old new : DirectoryView C C.Signature) (p : C) (now draw : ℕ) →
         Reserves C.cmp old new p now draw → LeavesOthers C.cmp old new p }
@@ -214,8 +214,8 @@ pub fn effects_keep_others<C: PublicKey>()
         (new.sets ≡ old.sets) × IsAsBefore C.cmp other new q }
 {}
 
-/// The order of infos in an update, or in several that follow each other directly, doesn't matter
-/// if no two infos of one key have the same timestamp.
+/// By a law of directories, the order of infos doesn't matter if no two of one key have the same
+/// timestamp. They may be in one update, or in several that follow each other directly.
 pub fn order_is_free<C: PublicKey>()
     ensures alike { (s : Settings C C.Signature) (w : World C C.Signature)
         (xs ys : List (Info C C.Signature)) → HaveSame xs ys → IsUnambiguous s xs →
@@ -232,10 +232,10 @@ pub fn order_is_free<C: PublicKey>()
         Updates C.cmp old new xs → Updates C.cmp old new ys }
 {}
 
-/// If each registered set names at most n distinct peers, the number of present keys is bounded.
-/// The bound is n for each set that may be retained, plus the persistent keys, plus the peers that
-/// are not inert and in no set. There are sorted lists of each of these keys, without repeats, and
-/// of the peers of each set: so the bound always says something.
+/// By a law of directories, if each registered set names at most n distinct peers, the number of
+/// present keys is bounded. The bound is n for each set that may be retained, plus the persistent
+/// keys, plus the peers that are not inert and in no set. There are sorted lists of each of these
+/// keys, without repeats, and of the peers of each set: so the bound always says something.
 pub fn presence_is_bounded<C: PublicKey>()
     ensures bounded { (s : Settings C C.Signature) → s.cmp ≡ C.cmp →
         (n : ℕ) (cs : List (Call C C.Signature)) →
@@ -247,42 +247,43 @@ pub fn presence_is_bounded<C: PublicKey>()
         (x : SetAt C) → IsNamingListed s x }
 {}
 
-/// The info and failures of an absent peer are forgotten: what is known of it is what is known of a
-/// new peer.
+/// By a law of directories, the info and failures of an absent peer are forgotten: what is known of
+/// it is what is known of a new peer.
 pub fn absent_are_forgotten<C: PublicKey>()
     ensures { (s : Settings C C.Signature) (cs : List (Call C C.Signature)) (p : C) →
         is_present_in s (world_at s (past s cs)) p ≡ false →
         ((world_at s (past s cs)).peer p).known ≡ new_known s p }
 {}
 
-/// For two consecutive grants of a peer, if the first isn't forgotten in between: the second comes
-/// no earlier than the cooldown after the first, capped at `Duration::MAX`. This also holds if its
-/// record was deleted and made again in between. Times may go backwards.
+/// By a law of directories, two consecutive grants of a peer are spaced if the first isn't
+/// forgotten in between. The second comes no earlier than the cooldown after the first, capped at
+/// `Duration::MAX`. This also holds if its record was deleted and made again in between. Times may
+/// go backwards.
 pub fn grants_are_spaced<C: PublicKey>()
     ensures { (s : Settings C C.Signature) → s.cmp ≡ C.cmp →
         (p : C) (cs : List (Call C C.Signature)) → KeepsCooldownUnlessForgotten s p (past s cs) }
 {}
 
-/// If the times of the calls never go backwards, two consecutive grants of a peer are at least the
-/// cooldown apart, capped at `Duration::MAX`. This holds whatever was forgotten, and also if its
-/// record was deleted and made again in between.
+/// By a law of directories, if the times of the calls never go backwards, two consecutive grants of
+/// a peer are at least the cooldown apart, capped at `Duration::MAX`. This holds whatever was
+/// forgotten, and also if its record was deleted and made again in between.
 pub fn cooldown_lasts<C: PublicKey>()
     ensures { (s : Settings C C.Signature) → s.cmp ≡ C.cmp →
         (p : C) (cs : List (Call C C.Signature)) (now : ℕ) → NeverGoBack s now cs →
         KeepsCooldown s p (past s cs) }
 {}
 
-/// If the times of the calls never go backwards, a peer whose block was accepted is granted by no
-/// later call before the block's end, capped at `Duration::MAX`. This also holds if its record was
-/// deleted and made again in between.
+/// By a law of directories, blocks hold if the times of the calls never go backwards. A peer whose
+/// block was accepted is granted by no later call before the block's end, capped at
+/// `Duration::MAX`. This also holds if its record was deleted and made again in between.
 pub fn blocks_hold<C: PublicKey>()
     ensures { (s : Settings C C.Signature) → s.cmp ≡ C.cmp →
         (p : C) (cs : List (Call C C.Signature)) (now : ℕ) → NeverGoBack s now cs →
         KeepsBlocks s p (past s cs) }
 {}
 
-/// Dials of the peers that a result of `dialable` lists are all granted if they are made at the
-/// same time and directly one after the other, with any draws. They may be dials of the whole list
+/// By a law of directories, dials of the peers that `dialable` lists are all granted if they
+/// directly follow each other at the same time, with any draws. They may be dials of the whole list
 /// in its order, or of any of its peers in any order, each once.
 pub fn dialable_are_granted<C: PublicKey>()
     ensures whole { (s : Settings C C.Signature) → s.cmp ≡ C.cmp → 1 ≤ s.max_sets →
@@ -294,8 +295,9 @@ pub fn dialable_are_granted<C: PublicKey>()
         IsDialable s (world_at s (past s cs)) t ps next → AreChosen s ps xs → AreDialled s t xs cs }
 {}
 
-/// If nothing is called in between, a result of `dialable` stays the same until its next query, or
-/// for ever if it has none: both the peers and the next query. Each time has one result.
+/// By a law of directories, a result of `dialable`, its peers and its next query, stays the same if
+/// nothing is called in between: until its next query, or for ever if it has none. Each time has
+/// one result.
 pub fn dialable_is_quiet<C: PublicKey>()
     ensures stays { (s : Settings C C.Signature) (w : World C C.Signature) (t u : ℕ) (ps : List C)
         (next : Option ℕ) →

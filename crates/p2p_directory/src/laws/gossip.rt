@@ -19,8 +19,8 @@ ghost use Rattle.p2p_directory.specs.Laws.Network.{TakesFrame, AreWritten, Repli
 
 use p2p_discovery::codec::PublicKey;
 
-/// Infos may come late: a frame of them is applied by a node, whatever was done to it before. The
-/// premises are in docs/PROOFS.md, below "Late and repeated frames".
+/// By a law of gossip, infos may come late: a frame of them is applied by a node, whatever was done
+/// to it before. The premises are in docs/PROOFS.md, below "Late and repeated frames".
 pub fn infos_may_come_late<C: PublicKey>()
     ensures { (m : Made C C.Signature) → IsMade C.cmp m →
         (calls : List (Call C C.Signature)) (frame : List ℕ) (now : ℕ) (r : Received)
@@ -30,8 +30,8 @@ pub fn infos_may_come_late<C: PublicKey>()
         TakesLateAt wire C.IsValue C.Signature.IsValue m calls frame now r }
 {}
 
-/// An exchange is carried as bytes: it comes to what its three frames come to, and they to nothing
-/// else. docs/PROOFS.md has this below "Exchanges".
+/// By a law of gossip, an exchange is carried as bytes: it comes to what its three frames come to,
+/// and they to nothing else. docs/PROOFS.md has this below "Exchanges".
 pub fn exchanges_are_carried<C: PublicKey>()
     ensures carried { let wire = wire_of C.verifies C.FixedBytes C.Signature.FixedBytes in
         (asker replier : Standing C C.Signature) (place s t : ℕ) →
@@ -44,10 +44,10 @@ pub fn exchanges_are_carried<C: PublicKey>()
         o ≡ exchanged_at asker replier place s t }
 {}
 
-/// Gossip of any number of nodes, by the replies to what is done to them from their start: what
-/// [`run_network`](crate::node::run_network) promises, in words in docs/PROOFS.md. Laws that have
-/// fewer premises than all at a point are said by themselves, too. Infos, newer, isolation, order
-/// and others are laws of the definitions: they hold whatever the replies.
+/// The laws of gossip of any number of nodes, by the replies to what is done to them from their
+/// start: what [`run_network`](crate::node::run_network) promises, in words in docs/PROOFS.md. Laws
+/// that have fewer premises than all at a point are said by themselves, too. Infos, newer,
+/// isolation, order and others are laws of the definitions: they hold whatever the replies.
 pub fn gossip_of_a_network<C: PublicKey>()
     ensures at_each_point { (wire : Wire C C.Signature) (size : ℕ) (node : ℕ → Made C C.Signature) →
         AreMade wire size node C.cmp → OfAnswers wire size node

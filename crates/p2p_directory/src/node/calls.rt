@@ -13,9 +13,9 @@ use p2p_tracker::directory::TrackedPeers;
 use std::time::Duration;
 
 impl<C: PublicKey> Node<C> {
-    /// Registers a peer set, as [`Node::step`] of `Command::Track` does. It returns no more peers
-    /// than there are records without that of the local node, so a buffer for so many keys is long
-    /// enough for the result.
+    /// Calls the node's directory to register a peer set, as [`Node::step`] of `Command::Track`
+    /// does. It returns no more peers than there are records without that of the local node, so a
+    /// buffer for so many keys is long enough for the result.
     ///
     /// # Cost
     ///
@@ -30,9 +30,10 @@ impl<C: PublicKey> Node<C> {
         self.endpoint.server.track(index, peers)
     }
 
-    /// Reserves the peer for a dial at the time `now`, a duration since the epoch, with `draw`, a
-    /// random duration, for the jitter, as [`Node::step`] of `Command::Dial` does. A granted
-    /// reservation is held. If an allocation fails, it returns `Reply::OutOfMemory`.
+    /// Calls the node's directory to reserve the peer for a dial at the time `now`, a duration
+    /// since the epoch, as [`Node::step`] of `Command::Dial` does. `draw` is a random duration, for
+    /// the jitter. A granted reservation is held. If an allocation fails, it returns
+    /// `Reply::OutOfMemory`.
     ///
     /// # Cost
     ///
@@ -48,9 +49,10 @@ impl<C: PublicKey> Node<C> {
         self.endpoint.server.dial_slot(peer, now, draw)
     }
 
-    /// Reserves an inbound peer at the time `now`, a duration since the epoch, with `draw`, a
-    /// random duration, for the jitter, as [`Node::step`] of `Command::Listen` does. A granted
-    /// reservation is held. If an allocation fails, it returns `Reply::OutOfMemory`.
+    /// Calls the node's directory to reserve an inbound peer at the time `now`, a duration since
+    /// the epoch, as [`Node::step`] of `Command::Listen` does. `draw` is a random duration, for the
+    /// jitter. A granted reservation is held. If an allocation fails, it returns
+    /// `Reply::OutOfMemory`.
     ///
     /// # Cost
     ///
@@ -66,8 +68,8 @@ impl<C: PublicKey> Node<C> {
         self.endpoint.server.listen_slot(peer, now, draw)
     }
 
-    /// Connects the peer if it is reserved, as [`Node::step`] of `Command::Connect` does. It
-    /// doesn't allocate.
+    /// Calls the node's directory to connect the peer if it is reserved, as [`Node::step`] of
+    /// `Command::Connect` does. It doesn't allocate.
     ///
     /// # Cost
     ///
@@ -82,8 +84,8 @@ impl<C: PublicKey> Node<C> {
         self.endpoint.server.connect(peer, dialer)
     }
 
-    /// Releases the reservation of the peer if one is held, as [`Node::step`] of `Command::Release`
-    /// does. It doesn't allocate.
+    /// Calls the node's directory to release the reservation of the peer if one is held, as
+    /// [`Node::step`] of `Command::Release` does. It doesn't allocate.
     ///
     /// # Cost
     ///
@@ -97,8 +99,9 @@ impl<C: PublicKey> Node<C> {
         self.endpoint.server.release_slot(peer)
     }
 
-    /// Blocks the peer at the time `now`, a duration since the epoch, as [`Node::step`] of
-    /// `Command::Block` does. If an allocation fails, it returns `Reply::OutOfMemory`.
+    /// Calls the node's directory to block the peer at the time `now`, a duration since the epoch,
+    /// as [`Node::step`] of `Command::Block` does. If an allocation fails, it returns
+    /// `Reply::OutOfMemory`.
     ///
     /// # Cost
     ///
@@ -112,9 +115,9 @@ impl<C: PublicKey> Node<C> {
         self.endpoint.server.block(peer, now)
     }
 
-    /// Ends the blocks that hold until the time `now`, a duration since the epoch, or until an
-    /// earlier time, and returns whether there were any, as [`Node::step`] replies to
-    /// `Command::UnblockExpired`. It doesn't allocate.
+    /// Calls the node's directory to end the blocks that hold until the time `now`, a duration
+    /// since the epoch, or until an earlier time. It returns whether there were any, as
+    /// [`Node::step`] replies to `Command::UnblockExpired`. It doesn't allocate.
     ///
     /// # Cost
     ///
@@ -128,9 +131,9 @@ impl<C: PublicKey> Node<C> {
         self.endpoint.server.unblock_expired(now)
     }
 
-    /// Forgets the cooldowns whose dial time is at or before the time `now`, a duration since the
-    /// epoch, and returns how many, as [`Node::step`] replies to `Command::ForgetCooled`. It
-    /// doesn't allocate.
+    /// Calls the node's directory to forget the cooldowns whose dial time is at or before the time
+    /// `now`, a duration since the epoch. It returns how many, as [`Node::step`] replies to
+    /// `Command::ForgetCooled`. It doesn't allocate.
     ///
     /// # Cost
     ///

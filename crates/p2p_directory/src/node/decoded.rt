@@ -43,7 +43,7 @@ impl<C: PublicKey> Model for Decoded<C> {
 }
 
 impl<C: PublicKey> Decoded<C> {
-    /// Decodes a frame under these limits.
+    /// Decodes a frame for a node under these limits, and keeps it with what was decoded.
     pub(crate) fn new(
         alloc: Global,
         frame: Bytes,
@@ -62,14 +62,14 @@ impl<C: PublicKey> Decoded<C> {
         })
     }
 
-    /// The bytes of the frame.
+    /// The bytes of the frame that was decoded for a node.
     pub fn frame(&self) -> &[u8]
         ensures { result.now ≡ self.now.frame }
     {
         self.frame.as_slice()
     }
 
-    /// The payload that the frame encodes under the limits.
+    /// The payload that was decoded for a node from the frame under its limits.
     pub fn payload(&self) -> &Payload<C>
         ensures value { result.now ≡ self.now.payload }
         ensures decoded { IsDecoded (payload_at C.SIZE C.value
@@ -78,7 +78,7 @@ impl<C: PublicKey> Decoded<C> {
         &self.payload
     }
 
-    // The frame, the payload, and the limits.
+    // The frame that was decoded for a node, its payload, and the limits.
     pub(crate) fn into_parts(self) -> (Bytes, Payload<C>, PayloadConfig)
         ensures parts { (result.0 ≡ self.frame) × (result.1 ≡ self.payload)
             × (result.2 ≡ self.limits) }
@@ -95,7 +95,7 @@ impl<C: PublicKey> Decoded<C> {
     }
 }
 
-/// Whether frames are decoded alike under both.
+/// Whether a frame that a node decoded under one of these limits is decoded alike under the other.
 pub(crate) fn are_equal(one: PayloadConfig, other: PayloadConfig) -> bool
     ensures { result ≡ true → one ≡ other }
 {

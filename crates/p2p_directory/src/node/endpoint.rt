@@ -87,7 +87,8 @@ impl<C: PublicKey> Endpoint<C> {
         }
     }
 
-    /// Serves one command, if there is a slot for the reservation that it may be granted.
+    /// Serves one command at the endpoint, if there is a slot for the reservation that it may be
+    /// granted.
     pub fn serve(&mut self, command: Command<C>) -> Reply<C>
         requires room { has_slot_for C.cmp self.old.slots command ≡ true }
         ensures served { IsServedBy C.cmp command result self.old self.new }
@@ -100,7 +101,8 @@ impl<C: PublicKey> Endpoint<C> {
         self.server.serve(command)
     }
 
-    /// Makes a slot for the reservation that the command may be granted, if there is none.
+    /// Makes a slot at the endpoint for the reservation that the command may be granted, if there
+    /// is none.
     pub fn make_room(&mut self, command: &Command<C>) -> Result<(), AllocError>
         ensures err { OnErr result (self.new ≡ self.old) }
         ensures reserves { OnErr result (may_reserve (call_of command.now) ≡ true) }
@@ -115,7 +117,7 @@ impl<C: PublicKey> Endpoint<C> {
         self.server.make_room(command)
     }
 
-    /// Removes the slot of the peer if it is empty. It doesn't allocate.
+    /// Removes the endpoint's slot of the peer if it is empty. It doesn't allocate.
     pub fn drop_room(&mut self, peer: Option<C>)
         ensures room { KeepsRoom C.cmp peer self.old.slots self.new.slots }
         ensures same { node_of self.new ≡ node_of self.old }
@@ -123,7 +125,8 @@ impl<C: PublicKey> Endpoint<C> {
         self.server.drop_room(peer);
     }
 
-    /// Serves one command, with a slot for the reservation that it may be granted while it does.
+    /// Serves one command at the endpoint, with a slot for the reservation that it may be granted
+    /// while it does.
     pub fn step(&mut self, command: Command<C>) -> Reply<C>
         ensures stepped { IsStepped C.cmp command result (node_of self.old) (node_of self.new) }
         ensures unchanged { was_made result ≡ false → node_of self.new ≡ node_of self.old }
@@ -140,21 +143,22 @@ impl<C: PublicKey> Endpoint<C> {
         reply
     }
 
-    /// Does nothing. Its contract says that the node stands somewhere.
+    /// Does nothing to the endpoint. Its contract says that the node stands somewhere.
     pub fn stands(&self)
         ensures { StandsSomewhere C.cmp (node_of self.now) }
     {
         let _limits = &self.payload;
     }
 
-    /// The directory.
+    /// The directory of the endpoint.
     pub fn directory(&self) -> &Directory<C>
         ensures { result.now ≡ self.now.directory }
     {
         self.server.directory()
     }
 
-    /// The frame of the bits of the set at a position, or `None` if there is no such position.
+    /// What the endpoint asks with: a frame of its bits of the set at a position, or `None` if there
+    /// is no such position.
     pub fn ask(&self, place: usize) -> Result<Option<Bytes>, AllocError>
         ensures seen { AsksWith C.cmp (wire_of C.verifies C.FixedBytes C.Signature.FixedBytes)
             place result (node_of self.now) }
@@ -173,7 +177,7 @@ impl<C: PublicKey> Endpoint<C> {
         }
     }
 
-    /// Releases all reservations, and returns the directory. It doesn't allocate.
+    /// Releases all reservations of the endpoint, and returns its directory. It doesn't allocate.
     pub fn finish(self) -> Directory<C>
         ensures { ReleasesAll C.cmp (contents self.slots) self.directory result }
     {
@@ -182,7 +186,7 @@ impl<C: PublicKey> Endpoint<C> {
         directory
     }
 
-    /// The directory, and the reservations. It doesn't allocate.
+    /// The directory of the endpoint, and its reservations. It doesn't allocate.
     pub fn into_parts(self) -> (Directory<C>, Held<C>)
         ensures directory { result.0 ≡ self.directory }
         ensures held { (q : C) →
@@ -198,7 +202,7 @@ impl<C: PublicKey> Endpoint<C> {
     }
 }
 
-// The encoding of a payload.
+// Encodes a payload as a frame of the endpoint.
 fn frame_of<C: PublicKey>(alloc: Global, payload: Payload<C>) -> Result<Bytes, AllocError>
     requires { CanSpell payload }
     ensures frame { IfOk result (λ frame.

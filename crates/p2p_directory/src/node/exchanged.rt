@@ -31,7 +31,7 @@ pub enum Exchanged<C: PublicKey> {
 }
 
 impl<C: PublicKey> fmt::Debug for Exchanged<C> {
-    /// Writes the name of the variant alone.
+    /// Writes what two nodes exchanged, by the name of the variant alone.
     fn fmt<W: fmt::Write>(&self, f: &mut fmt::Formatter<W>) -> fmt::Result {
         f.write_str(match self {
             Exchanged::NoSet => "NoSet",
@@ -45,11 +45,12 @@ impl<C: PublicKey> fmt::Debug for Exchanged<C> {
     }
 }
 
-/// The asker asks the replier for the wanted infos of the asker's retained set at a position,
-/// counted from 0 in order of index, and applies the reply. This is [`Node::ask`] of the asker,
-/// [`Node::receive`] of that frame by the replier, and of its reply by the asker: the result is
-/// read off theirs, and the asker is left as by the last. The replier replies at `replier_now`, and
-/// the asker verifies at `asker_now`, durations since the epoch. The replier stays as it was.
+/// Lets two nodes exchange infos, and returns what they exchanged. The asker asks the replier for
+/// the wanted infos of the asker's retained set at a position, counted from 0 in order of index,
+/// and applies the reply. This is [`Node::ask`] of the asker, [`Node::receive`] of that frame by
+/// the replier, and of its reply by the asker: the result is read off theirs, and the asker is left
+/// as by the last. The replier replies at `replier_now`, and the asker verifies at `asker_now`,
+/// durations since the epoch. The replier stays as it was.
 ///
 /// The result is the first of these that holds, unless an allocation fails:
 ///

@@ -20,8 +20,9 @@ use std::alloc::AllocError;
 use std::time::Duration;
 
 impl<C: PublicKey> Node<C> {
-    /// The frame that asks for the wanted infos of the retained set at a position, counted from 0
-    /// in order of index: the encoding of its bits. `None` if there is no such position.
+    /// The frame by which the node asks for the wanted infos of the retained set at a position,
+    /// counted from 0 in order of index: the encoding of its bits. `None` if there is no such
+    /// position.
     ///
     /// # Errors
     ///
@@ -39,7 +40,7 @@ impl<C: PublicKey> Node<C> {
         self.endpoint.ask(place)
     }
 
-    /// Processes a frame that was received at the time `now`, a duration since the epoch.
+    /// Processes a frame that the node received at the time `now`, a duration since the epoch.
     ///
     /// The frame is read under the limits of the node. The info of a greeting is verified by
     /// [`validate_info`](p2p_discovery::discovery::InfoVerifier::validate_info), and then applied.
@@ -81,9 +82,9 @@ impl<C: PublicKey> Node<C> {
         self.endpoint.answer(frame, now)
     }
 
-    /// Processes a frame that was received at the time `now` as [`Node::receive`] does, given
-    /// whether the signature of each of its infos is valid, in the order of the frame. No signature
-    /// is verified here. A greeting has one info, bits and data have none. The result is the one of
+    /// Processes a frame that the node received at `now` as [`Node::receive`] does, given whether
+    /// the signature of each of its infos is valid, in the order of the frame. No signature is
+    /// verified here. A greeting has one info, bits and data have none. The result is the one of
     /// [`Node::receive`] if [`PublicKey::verify`] returned these values.
     ///
     /// # Errors
@@ -119,8 +120,8 @@ impl<C: PublicKey> Node<C> {
         self.endpoint.answer_with_verdicts(frame, now, verdicts)
     }
 
-    /// Processes a frame that was received at the time `now` as [`Node::receive_with_verdicts`] does, but the
-    /// infos of a reply aren't encoded.
+    /// Processes a frame that the node received at the time `now` as
+    /// [`Node::receive_with_verdicts`] does, but the infos of a reply aren't encoded.
     ///
     /// # Errors
     ///
@@ -156,8 +157,8 @@ impl<C: PublicKey> Node<C> {
         self.endpoint.answer_frame(frame, now, verdicts)
     }
 
-    /// A frame with the payload that it encodes, as [`Node::receive`] decodes it: under the limits of
-    /// the node.
+    /// Decodes a frame that the node received, as [`Node::receive`] does: under the limits of the
+    /// node.
     ///
     /// # Errors
     ///
@@ -180,8 +181,9 @@ impl<C: PublicKey> Node<C> {
         )
     }
 
-    /// Processes a frame that was decoded, at the time `now`, as [`Node::answer_with_verdicts`] does. It is
-    /// decoded anew only if that was done under other limits.
+    /// Processes a frame that the node received and decoded, at the time `now`, as
+    /// [`Node::answer_with_verdicts`] does. It is decoded anew only if that was done under other
+    /// limits.
     ///
     /// # Errors
     ///

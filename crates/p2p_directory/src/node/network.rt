@@ -53,7 +53,7 @@ impl<C: PublicKey> Model for Network<C> {
 }
 
 impl<C: PublicKey> Network<C> {
-    /// A node of each setup, in their order, as [`Node::new`] makes it.
+    /// A network with a node of each setup, in their order, as [`Node::new`] makes it.
     ///
     /// # Conditions
     ///
@@ -98,7 +98,7 @@ impl<C: PublicKey> Network<C> {
         }
     }
 
-    /// Adds a node of this setup, after all others, as [`Node::new`] makes it.
+    /// Adds a node of this setup to the network, after all others, as [`Node::new`] makes it.
     ///
     /// # Conditions
     ///
@@ -126,9 +126,9 @@ impl<C: PublicKey> Network<C> {
         Ok(())
     }
 
-    /// Replaces a node by a new node of this setup, as [`Node::new`] makes it. All reservations of
-    /// the old one are released, and its directory is returned. `None` if there is no such node;
-    /// then none is made.
+    /// Replaces a node of the network by a new node of this setup, as [`Node::new`] makes it. All
+    /// reservations of the old one are released, and its directory is returned. `None` if there is
+    /// no such node; then none is made.
     ///
     /// # Conditions
     ///
@@ -162,9 +162,9 @@ impl<C: PublicKey> Network<C> {
         Ok(Some(old.finish()))
     }
 
-    /// Serves one command. The reply to a command to a node that doesn't exist, or to an exchange
-    /// of a node with itself, is `NoNode`. A command that runs out of memory, or whose reply is
-    /// `NoNode`, `NotReserved` or `NotHeld`, has no effect.
+    /// Serves one command to the network. The reply to a command to a node that doesn't exist, or
+    /// to an exchange of a node with itself, is `NoNode`. A command that runs out of memory, or
+    /// whose reply is `NoNode`, `NotReserved` or `NotHeld`, has no effect.
     ///
     /// A `Call` is served as [`Node::step`] does: space for a reservation is allocated before a
     /// `Dial` or a `Listen`, so the reply to both may be `OutOfMemory` if that fails.
@@ -208,14 +208,14 @@ impl<C: PublicKey> Network<C> {
         }
     }
 
-    /// How many nodes there are.
+    /// How many nodes the network has.
     pub fn len(&self) -> usize
         ensures { result ≡ length self.now }
     {
         self.endpoints.len()
     }
 
-    /// The directory of a node, or `None` if there is no such node.
+    /// The directory of a node of the network, or `None` if there is no such node.
     pub fn directory(&self, node: usize) -> Option<&Directory<C>>
         ensures { MatchOption result (length self.now ≤ node) (λ directory.
             (v : NodeView C C.Signature) → (node < length self.now)
@@ -227,8 +227,8 @@ impl<C: PublicKey> Network<C> {
         Some(self.endpoints[node].directory())
     }
 
-    /// Releases all reservations, and returns the directories, in the order of their nodes. It
-    /// doesn't allocate.
+    /// Releases all reservations of the network, and returns the directories, in the order of their
+    /// nodes. It doesn't allocate.
     ///
     /// # Cost
     ///
@@ -250,7 +250,7 @@ impl<C: PublicKey> Network<C> {
 }
 
 impl<C: PublicKey> Network<C> {
-    // The nodes, if there are two. It doesn't allocate.
+    // Both nodes of the network, if there are two. It doesn't allocate.
     pub(crate) fn into_both(self) -> (Node<C>, Node<C>)
         requires { length self ≡ 2 }
         ensures { self ≡ result.0 ∷ result.1 ∷ [] }
@@ -270,7 +270,7 @@ impl<C: PublicKey> Network<C> {
     }
 }
 
-// The endpoint of a new node.
+// Makes a new node for the network.
 fn end_of<C: PublicKey>(alloc: Global, setup: Setup<C>) -> Result<Endpoint<C>, AllocError>
     requires sets { non_zero_usize_get setup.cfg.max_sets < 2 ^ 64 - 1 }
     requires bits { setup.payload.max_bit_vec < 2 ^ 32 }
@@ -292,8 +292,8 @@ pub struct NetworkRun<C: PublicKey> {
 }
 
 impl<C: PublicKey> NetworkRun<C> {
-    /// Releases all reservations, and returns the directories, in the order of their nodes. It
-    /// doesn't allocate. The replies are dropped.
+    /// Releases all reservations of a network that was run, and returns the directories, in the
+    /// order of their nodes. It doesn't allocate. The replies are dropped.
     ///
     /// # Cost
     ///
@@ -306,9 +306,9 @@ impl<C: PublicKey> NetworkRun<C> {
     }
 }
 
-/// Makes the nodes and serves the commands in turn. Each reply is that of the call, by what was
-/// done before it. A command that runs out of memory, or whose reply is `NoNode`, `NotReserved` or
-/// `NotHeld`, has no effect.
+/// Makes the nodes of a network and serves the commands in turn. Each reply is that of the call, by
+/// what was done before it. A command that runs out of memory, or whose reply is `NoNode`,
+/// `NotReserved` or `NotHeld`, has no effect.
 ///
 /// Space for all replies, all reservations of all nodes and all directories is allocated before the
 /// first command. So a `Call` gets `OutOfMemory` only if [`run`](crate::run::run) may reply it, and

@@ -73,7 +73,7 @@ pub enum PairReply<C: PublicKey> {
 }
 
 impl<C: PublicKey> fmt::Debug for PairReply<C> {
-    /// Writes the name of the variant alone.
+    /// Writes the reply of a pair, by the name of the variant alone.
     fn fmt<W: fmt::Write>(&self, f: &mut fmt::Formatter<W>) -> fmt::Result {
         f.write_str(match self {
             PairReply::Call(_) => "Call",
@@ -95,9 +95,9 @@ pub struct PairRun<C: PublicKey> {
     pub replies: Vec<PairReply<C>>,
 }
 
-/// Makes two nodes and serves the commands in turn, as [`run_network`] of two. Each reply is that
-/// of the call, by what was done before it. A command that runs out of memory, or whose reply is
-/// `NotReserved` or `NotHeld`, has no effect.
+/// Makes a pair of nodes and serves the commands in turn, as [`run_network`] of two. Each reply is
+/// that of the call, by what was done before it. A command that runs out of memory, or whose reply
+/// is `NotReserved` or `NotHeld`, has no effect.
 ///
 /// Space for all replies and all reservations is allocated before the first command. So a `Call`
 /// gets `OutOfMemory` only if [`run`](crate::run::run) may reply it, and an `Ask` only if there is
@@ -160,7 +160,7 @@ pub fn run_pair<C: PublicKey>(
     })
 }
 
-// Both setups.
+// Both setups of a pair of nodes.
 fn both<C: PublicKey>(
     alloc: Global,
     left: Setup<C>,
@@ -174,7 +174,7 @@ fn both<C: PublicKey>(
     Ok(setups)
 }
 
-// The commands, as those to a network.
+// The commands to a pair of nodes, as those to a network.
 fn network_commands<C: PublicKey>(
     alloc: Global,
     commands: Vec<PairCommand<C>>,
@@ -188,7 +188,7 @@ fn network_commands<C: PublicKey>(
     Ok(given)
 }
 
-// The command, as one to a network.
+// The command to a pair of nodes, as one to a network.
 fn network_command<C: PublicKey>(command: PairCommand<C>) -> NetworkCommand<C>
     ensures { result ≡ command_in command }
 {
@@ -211,7 +211,7 @@ fn network_command<C: PublicKey>(command: PairCommand<C>) -> NetworkCommand<C>
     }
 }
 
-// The number of the node at a side.
+// The number of the node at a side of a pair of nodes.
 fn index(side: Side) -> usize
     ensures { result ≡ pairs.index side }
 {
@@ -221,7 +221,7 @@ fn index(side: Side) -> usize
     }
 }
 
-// The other side.
+// The other side of a pair of nodes.
 fn other(side: Side) -> Side
     ensures { result ≡ pairs.other side }
 {
@@ -248,7 +248,7 @@ fn pair_replies<C: PublicKey>(
     replies
 }
 
-// One reply.
+// One reply of a network, as that of a pair of nodes.
 fn pair_reply<C: PublicKey>(reply: NetworkReply<C>) -> PairReply<C>
     requires { is_of_node reply ≡ true }
     ensures { reply_in result ≡ reply }

@@ -10,8 +10,8 @@ use p2p_tracker::record::Status;
 use std::time::Duration;
 
 impl<C: PublicKey> Node<C> {
-    /// When the first block ends, a duration since the epoch, as [`Node::step`] replies to
-    /// `Command::NextUnblock`. It doesn't allocate, and changes nothing.
+    /// Asks the node's directory when the first block ends, a duration since the epoch, as
+    /// [`Node::step`] replies to `Command::NextUnblock`. It doesn't allocate, and changes nothing.
     ///
     /// # Cost
     ///
@@ -22,8 +22,8 @@ impl<C: PublicKey> Node<C> {
         self.endpoint.server.next_unblock()
     }
 
-    /// The index of the latest set, as [`Node::step`] replies to `Command::LatestSetIndex`. It
-    /// doesn't allocate, and changes nothing.
+    /// Asks the node's directory for the index of the latest set, as [`Node::step`] replies to
+    /// `Command::LatestSetIndex`. It doesn't allocate, and changes nothing.
     ///
     /// # Cost
     ///
@@ -35,8 +35,9 @@ impl<C: PublicKey> Node<C> {
         self.endpoint.server.latest_set_index()
     }
 
-    /// Whether the peer is connected, or `None` if there is no record of it, as [`Node::step`]
-    /// replies to `Command::Status`. It doesn't allocate, and changes nothing.
+    /// Asks the node's directory whether the peer is connected, as [`Node::step`] replies to
+    /// `Command::Status`. It returns `None` if there is no record of the peer. It doesn't allocate,
+    /// and changes nothing.
     ///
     /// # Cost
     ///
@@ -48,8 +49,9 @@ impl<C: PublicKey> Node<C> {
         self.endpoint.server.status(peer)
     }
 
-    /// Whether the peer may be connected at the time `now`, a duration since the epoch, as
-    /// [`Node::step`] replies to `Command::Eligible`. It doesn't allocate, and changes nothing.
+    /// Asks the node's directory whether the peer may be connected at the time `now`, a duration
+    /// since the epoch, as [`Node::step`] replies to `Command::Eligible`. It doesn't allocate, and
+    /// changes nothing.
     ///
     /// # Cost
     ///
@@ -61,9 +63,9 @@ impl<C: PublicKey> Node<C> {
         self.endpoint.server.eligible(peer, now)
     }
 
-    /// Whether an inbound connection of the peer may be accepted at the time `now`, a duration
-    /// since the epoch, as [`Node::step`] replies to `Command::Acceptable`. It doesn't allocate,
-    /// and changes nothing.
+    /// Asks the node's directory whether an inbound connection of the peer may be accepted at the
+    /// time `now`, as [`Node::step`] replies to `Command::Acceptable`. The time is a duration since
+    /// the epoch. It doesn't allocate, and changes nothing.
     ///
     /// # Cost
     ///
@@ -75,8 +77,8 @@ impl<C: PublicKey> Node<C> {
         self.endpoint.server.acceptable(peer, now)
     }
 
-    /// How many peers have a record, not counting the local node, as [`Node::step`] replies to
-    /// `Command::Tracked`. It doesn't allocate, and changes nothing.
+    /// Asks the node's directory how many peers have a record, not counting the local node, as
+    /// [`Node::step`] replies to `Command::Tracked`. It doesn't allocate, and changes nothing.
     ///
     /// # Cost
     ///

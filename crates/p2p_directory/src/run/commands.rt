@@ -109,7 +109,7 @@ pub enum Command<C: PublicKey> {
 }
 
 impl<C: PublicKey> Command<C> {
-    // The peer that the command may reserve, if there is one.
+    // The peer that the command of a run may reserve, if there is one.
     pub(crate) fn reserved_peer(&self) -> Option<C>
         ensures { result ≡ reserved_peer self.now }
     {
@@ -139,7 +139,7 @@ impl<C: PublicKey> Command<C> {
         }
     }
 
-    // The peer that the command may reserve or release, if there is one.
+    // The peer that the command of a run may reserve or release, if there is one.
     pub(crate) fn named_peer(&self) -> Option<C>
         ensures { result ≡ named_peer self.now }
     {
@@ -212,7 +212,7 @@ pub enum Reply<C: PublicKey> {
 }
 
 impl<C: PublicKey> fmt::Debug for Reply<C> {
-    /// Writes the name of the variant alone.
+    /// Writes the reply to a run's command, by the name of the variant alone.
     fn fmt<W: fmt::Write>(&self, f: &mut fmt::Formatter<W>) -> fmt::Result {
         f.write_str(variant_name(self))
     }

@@ -35,7 +35,7 @@ impl<C: PublicKey> Model for Held<C> {
 }
 
 impl<C: PublicKey> Held<C> {
-    // The reservations in these slots.
+    // The held reservations: those in these slots.
     pub(crate) fn new(mut slots: Slots<C>) -> Self
         requires { AreSlots C.cmp slots }
         ensures { (q : C) → held_of C.cmp result q ≡ held_in C.cmp slots q }
@@ -59,8 +59,9 @@ impl<C: PublicKey> Held<C> {
         self.slots.first()
     }
 
-    /// Removes and returns the reservation of the peer; all others stay. Returns `None`, and
-    /// changes nothing, if none of that peer is held. It doesn't allocate.
+    /// Removes the reservation of the peer from those that are held, and returns it; all others
+    /// stay. Returns `None`, and changes nothing, if none of that peer is held. It doesn't
+    /// allocate.
     ///
     /// # Cost
     ///
@@ -81,7 +82,8 @@ impl<C: PublicKey> Held<C> {
         taken
     }
 
-    /// Releases all reservations, in the directory that granted them. It doesn't allocate.
+    /// Releases all reservations that are held, in the directory that granted them. It doesn't
+    /// allocate.
     ///
     /// # Conditions
     ///
@@ -106,7 +108,8 @@ impl<C: PublicKey> Held<C> {
         slots.destroy_empty();
     }
 
-    /// Consumes it. It doesn't allocate. Release the reservations before, by [`Held::release_all`].
+    /// Consumes the held reservations, of which none is left. It doesn't allocate. Release the
+    /// reservations before, by [`Held::release_all`].
     ///
     /// # Conditions
     ///
@@ -119,7 +122,7 @@ impl<C: PublicKey> Held<C> {
     }
 }
 
-// Removes the first slots, as long as they are empty.
+// Removes the first slots of held reservations, as long as they are empty.
 fn drop_empty_first<C: PublicKey>(slots: &mut Slots<C>)
     requires { AreSlots C.cmp slots.old }
     ensures full { BeginFull C.cmp slots.new }

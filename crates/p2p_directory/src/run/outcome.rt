@@ -22,8 +22,8 @@ pub struct Run<C: PublicKey> {
 impl<C: PublicKey> Run<C> {
     ghost use Rattle.p2p_directory.specs.Held.{ReleasesAll};
 
-    /// Releases all reservations, and returns the directory. It doesn't allocate. The replies are
-    /// dropped.
+    /// Releases all reservations of a run's outcome, and returns its directory. It doesn't
+    /// allocate. The replies are dropped.
     ///
     /// # Cost
     ///

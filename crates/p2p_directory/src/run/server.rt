@@ -46,7 +46,7 @@ impl<C: PublicKey> Model for Server<C> {
 }
 
 impl<C: PublicKey> Server<C> {
-    /// A server with the reservations in the slots.
+    /// A server of this directory, with the reservations in the slots.
     pub fn new(directory: Directory<C>, slots: Slots<C>) -> Self
         requires held { AreHeld C.cmp directory (held_in C.cmp slots) }
         requires ordered { AreSlots C.cmp slots }
@@ -55,7 +55,8 @@ impl<C: PublicKey> Server<C> {
         Server { directory, slots }
     }
 
-    /// Serves one command, if there is a slot for the reservation that it may be granted.
+    /// Serves one command by the server's directory, if there is a slot for the reservation that it
+    /// may be granted.
     pub fn serve(&mut self, command: Command<C>) -> Reply<C>
         requires room { has_slot_for C.cmp self.old.slots command ≡ true }
         ensures served { IsServed C.cmp command result self.old self.new }
@@ -91,22 +92,23 @@ impl<C: PublicKey> Server<C> {
         }
     }
 
-    /// The directory.
+    /// The directory of the server.
     pub fn directory(&self) -> &Directory<C>
         ensures { result.now ≡ self.now.directory }
     {
         &self.directory
     }
 
-    /// Whom the reservation of the peer is for, if one is held. It doesn't allocate.
+    /// Whom the reservation of the peer that the server holds is for, if it holds one. It doesn't
+    /// allocate.
     pub fn held(&self, peer: &C) -> Option<&Metadata<C>>
         ensures { option_map (λ m. m.now) result ≡ held_in C.cmp self.now.slots peer.now }
     {
         self.slots.held(peer)
     }
 
-    /// The infos that [`Directory::infos`] returns. It looks only at who is reserved or connected,
-    /// if that is less work.
+    /// The infos that [`Directory::infos`] of the server's directory returns. It looks only at who
+    /// is reserved or connected, if that is less work.
     pub fn infos_for(
         &self,
         bit_vec: &BitVec,
@@ -121,7 +123,7 @@ impl<C: PublicKey> Server<C> {
         self.slots.infos(&self.directory, bit_vec, now)
     }
 
-    /// Offers infos to the records of their peers. It doesn't allocate.
+    /// Offers infos to the records of their peers in the server's directory. It doesn't allocate.
     pub fn update(&mut self, infos: Vec<Info<C>>)
         ensures updated { Updates C.cmp self.old.directory self.new.directory infos.items }
         ensures slots { self.new.slots ≡ self.old.slots }
@@ -129,7 +131,7 @@ impl<C: PublicKey> Server<C> {
         self.directory.update_peers(infos);
     }
 
-    /// The directory, and the reservations. It doesn't allocate.
+    /// The directory of the server, and its reservations. It doesn't allocate.
     pub fn into_parts(self) -> (Directory<C>, Held<C>)
         ensures directory { result.0 ≡ self.directory }
         ensures held { (q : C) → held_of C.cmp result.1 q ≡ held_in C.cmp self.slots q }
@@ -139,7 +141,7 @@ impl<C: PublicKey> Server<C> {
         (directory, slots.into_held())
     }
 
-    /// Registers a peer set.
+    /// Registers a peer set in the server's directory, and replies.
     pub fn track(&mut self, index: u64, peers: TrackedPeers<C>) -> Reply<C>
         ensures served { IsServed C.cmp (Command.Track index peers) result self.old self.new }
         ensures unchanged { was_made result ≡ false → self.new ≡ self.old }
@@ -152,7 +154,7 @@ impl<C: PublicKey> Server<C> {
         }
     }
 
-    /// Reserves the peer for a dial if that is granted.
+    /// Reserves the peer in the server's directory for a dial if that is granted, and replies.
     pub fn dial(&mut self, peer: &C, now: Duration, draw: Duration) -> Reply<C>
         requires room { has_slot C.cmp self.old.slots peer.now ≡ true }
         ensures served { IsServed C.cmp (Command.Dial peer.now now draw)
@@ -174,7 +176,7 @@ impl<C: PublicKey> Server<C> {
         }
     }
 
-    /// Reserves the inbound peer if that is granted.
+    /// Reserves the inbound peer in the server's directory if that is granted, and replies.
     pub fn listen(&mut self, peer: &C, now: Duration, draw: Duration) -> Reply<C>
         requires room { has_slot C.cmp self.old.slots peer.now ≡ true }
         ensures served { IsServed C.cmp (Command.Listen peer.now now draw)
@@ -196,7 +198,7 @@ impl<C: PublicKey> Server<C> {
         }
     }
 
-    /// Connects the peer if it is reserved.
+    /// Connects the peer in the server's directory if it is reserved, and replies.
     pub fn connect(&mut self, peer: &C, dialer: bool) -> Reply<C>
         ensures served { IsServed C.cmp (Command.Connect peer.now dialer)
             result self.old self.new }
@@ -209,7 +211,8 @@ impl<C: PublicKey> Server<C> {
         Reply::NotReserved
     }
 
-    /// Releases the reservation of the peer if one is held.
+    /// Releases the peer in the server's directory if the server holds its reservation, and
+    /// replies.
     pub fn release(&mut self, peer: &C) -> Reply<C>
         ensures served { IsServed C.cmp (Command.Release peer.now) result self.old self.new }
         ensures unchanged { was_made result ≡ false → self.new ≡ self.old }
@@ -226,7 +229,7 @@ impl<C: PublicKey> Server<C> {
         }
     }
 
-    // Offers the infos to the records of their peers.
+    // Offers the infos to the records of their peers in the server's directory, and replies.
     fn update_peers(&mut self, infos: Vec<Info<C>>) -> Reply<C>
         ensures served { IsServed C.cmp (Command.UpdatePeers infos) result self.old self.new }
         ensures unchanged { was_made result ≡ false → self.new ≡ self.old }
@@ -236,7 +239,7 @@ impl<C: PublicKey> Server<C> {
         Reply::UpdatePeers
     }
 
-    /// Blocks the peer.
+    /// Blocks the peer in the server's directory, and replies.
     pub fn block(&mut self, peer: &C, now: Duration) -> Reply<C>
         ensures served { IsServed C.cmp (Command.Block peer.now now) result self.old self.new }
         ensures unchanged { was_made result ≡ false → self.new ≡ self.old }
@@ -248,8 +251,8 @@ impl<C: PublicKey> Server<C> {
         }
     }
 
-    /// Ends the blocks that hold until this time, or until an earlier one, and returns whether
-    /// there were any.
+    /// Ends the blocks in the server's directory that hold until this time, or until an earlier
+    /// one, and returns whether there were any.
     pub fn unblock_expired(&mut self, now: Duration) -> bool
         ensures served { IsServed C.cmp (Command.UnblockExpired now) (Reply.UnblockExpired result)
             self.old self.new }
@@ -258,7 +261,8 @@ impl<C: PublicKey> Server<C> {
         self.directory.unblock_expired(now)
     }
 
-    /// Forgets the cooldowns whose dial time is at or before this time, and returns how many.
+    /// Forgets the cooldowns in the server's directory whose dial time is at or before this time,
+    /// and returns how many.
     pub fn forget_cooled(&mut self, now: Duration) -> usize
         ensures served { IsServed C.cmp (Command.ForgetCooled now) (Reply.ForgetCooled result)
             self.old self.new }
@@ -267,7 +271,8 @@ impl<C: PublicKey> Server<C> {
         self.directory.forget_cooled(now)
     }
 
-    /// The directory, the reservations, and these replies. It doesn't allocate.
+    /// The run that the server leaves: its directory, its reservations, and these replies. It
+    /// doesn't allocate.
     pub fn into_run(self, replies: Vec<Reply<C>>) -> Run<C>
         ensures directory { result.directory ≡ self.directory }
         ensures held { (q : C) → held_of C.cmp result.held q ≡ held_in C.cmp self.slots q }

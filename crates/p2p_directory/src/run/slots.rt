@@ -58,7 +58,7 @@ impl<C: PublicKey> Model for Slots<C> {
 }
 
 impl<C: PublicKey> Slots<C> {
-    /// No slots, to be made and removed one by one.
+    /// No slots yet for the reservations that may be granted: they are made and removed one by one.
     pub fn new(alloc: Global) -> Self
         ensures { result ≡ [] }
     {
@@ -67,7 +67,8 @@ impl<C: PublicKey> Slots<C> {
         }
     }
 
-    /// An empty slot for each of the peers, which may be in any order and repeat.
+    /// Slots for the reservations that may be granted, an empty one for each of the peers, which
+    /// may be in any order and repeat.
     ///
     /// # Cost
     ///
@@ -84,7 +85,7 @@ impl<C: PublicKey> Slots<C> {
         })
     }
 
-    /// Makes an empty slot for the peer if it has none.
+    /// Makes an empty slot for the peer, in the list or the tree of slots, if it has none.
     pub fn make(&mut self, peer: C) -> Result<(), AllocError>
         ensures err { OnErr result (self.new ≡ self.old) }
         ensures absent { OnErr result (has_slot C.cmp self.old peer ≡ false) }
@@ -99,7 +100,8 @@ impl<C: PublicKey> Slots<C> {
         }
     }
 
-    /// Makes an empty slot for the reservation that the command may be granted, if there is none.
+    /// Makes an empty slot, in the list or the tree of slots, for the reservation that the command
+    /// may be granted, if there is none.
     pub fn make_for(&mut self, command: &Command<C>) -> Result<(), AllocError>
         ensures err { OnErr result (self.new ≡ self.old) }
         ensures reserves { OnErr result (may_reserve (call_of command.now) ≡ true) }
@@ -118,7 +120,8 @@ impl<C: PublicKey> Slots<C> {
         }
     }
 
-    /// Puts a reservation into the slot of its peer. It doesn't allocate.
+    /// Puts a reservation into the slot of its peer, in the list or the tree of slots. It doesn't
+    /// allocate.
     pub fn put(&mut self, reservation: Reservation<C>)
         requires slot { has_slot C.cmp self.old (key_of reservation) ≡ true }
         requires empty { held_in C.cmp self.old (key_of reservation) ≡ None }
@@ -134,8 +137,8 @@ impl<C: PublicKey> Slots<C> {
         }
     }
 
-    /// Removes the reservation of the peer from its slot, which stays, and returns it. It doesn't
-    /// allocate.
+    /// Removes the reservation of the peer from its slot, which stays in the list or the tree of
+    /// slots, and returns it. It doesn't allocate.
     pub fn take(&mut self, peer: &C) -> Option<Reservation<C>>
         ensures taken { result ≡ held_in C.cmp self.old peer.now }
         ensures peer { IfSome result (λ metadata. key_of metadata ≡ peer.now) }
@@ -151,8 +154,8 @@ impl<C: PublicKey> Slots<C> {
         }
     }
 
-    /// Removes the reservation of the peer, and returns it. Its slot is removed from a tree, and
-    /// stays, empty, in a list. It doesn't allocate.
+    /// Removes the reservation of the peer from the list or the tree of slots, and returns it. Its
+    /// slot is removed from a tree, and stays, empty, in a list. It doesn't allocate.
     ///
     /// # Cost
     ///
@@ -170,8 +173,8 @@ impl<C: PublicKey> Slots<C> {
         }
     }
 
-    /// Removes the slot of the peer, and returns the reservation that is in it, if there is one. It
-    /// doesn't allocate.
+    /// Removes the slot of the peer from the list or the tree of slots, and returns the reservation
+    /// that is in it, if there is one. It doesn't allocate.
     ///
     /// # Cost
     ///
@@ -192,7 +195,8 @@ impl<C: PublicKey> Slots<C> {
         }
     }
 
-    /// Whom the reservation of the peer is for, if one is held. It doesn't allocate.
+    /// Whom the reservation of the peer in the list or the tree of slots is for, if one is held. It
+    /// doesn't allocate.
     pub fn held(&self, peer: &C) -> Option<&Metadata<C>>
         ensures { option_map (λ m. m.now) result ≡ held_in C.cmp self.now peer.now }
     {
@@ -202,8 +206,8 @@ impl<C: PublicKey> Slots<C> {
         }
     }
 
-    /// The infos that [`Directory::infos`] returns. In a tree they are found by a search for each
-    /// peer that has a slot, if that is less work.
+    /// The infos that [`Directory::infos`] returns, found by the list or the tree of slots. In a
+    /// tree they are found by a search for each peer that has a slot, if that is less work.
     pub fn infos(
         &self,
         directory: &Directory<C>,
@@ -223,7 +227,8 @@ impl<C: PublicKey> Slots<C> {
         }
     }
 
-    /// Removes the slot of the peer if it is empty. It doesn't allocate.
+    /// Removes the slot of the peer from the list or the tree of slots if it is empty. It doesn't
+    /// allocate.
     ///
     /// # Cost
     ///
@@ -242,7 +247,8 @@ impl<C: PublicKey> Slots<C> {
         }
     }
 
-    /// The peer of the first slot, or `None` if there is no slot. It doesn't allocate.
+    /// The peer of the first slot in the list or the tree of slots, or `None` if there is no slot.
+    /// It doesn't allocate.
     pub fn first(&self) -> Option<C>
         ensures some { IfSome result (λ peer. (slot : Option (Metadata C C.Signature))
             × (slice_get self.now 0 ≡ Some (peer, slot))) }
@@ -254,7 +260,8 @@ impl<C: PublicKey> Slots<C> {
         }
     }
 
-    /// Whether there is a first slot, and it is empty. It doesn't allocate.
+    /// Whether there is a first slot in the list or the tree of slots, and it is empty. It doesn't
+    /// allocate.
     pub fn begins_empty(&self) -> bool
         ensures { result ≡ not (begins_full self.now) }
     {
@@ -264,7 +271,8 @@ impl<C: PublicKey> Slots<C> {
         }
     }
 
-    /// Removes the first slot, and returns it with its contents. It doesn't allocate.
+    /// Removes the first slot of the list or the tree of slots, and returns it with its contents.
+    /// It doesn't allocate.
     pub fn pop_first(&mut self) -> Option<(C, Option<Reservation<C>>)>
         ensures first { IfSome result (λ slot. self.old ≡ slot ∷ self.new) }
         ensures none { IfNone result (self.old ≡ []) }
@@ -277,7 +285,7 @@ impl<C: PublicKey> Slots<C> {
         }
     }
 
-    /// Consumes it, if there is no slot.
+    /// Consumes the list or the tree of slots, if there is no slot.
     pub fn destroy_empty(self)
         requires { self ≡ [] }
     {
@@ -288,7 +296,7 @@ impl<C: PublicKey> Slots<C> {
         }
     }
 
-    /// The reservations in the slots. It doesn't allocate.
+    /// The reservations that are held in the list or the tree of slots. It doesn't allocate.
     pub fn into_held(self) -> Held<C>
         requires { AreSlots C.cmp self }
         ensures { (q : C) → held_of C.cmp result q ≡ held_in C.cmp self q }
@@ -296,7 +304,7 @@ impl<C: PublicKey> Slots<C> {
         Held::new(self)
     }
 
-    /// Consumes the slots, if no reservation is in them.
+    /// Consumes the list or the tree of slots, if no reservation is in it.
     pub fn close(self)
         requires ordered { AreSlots C.cmp self }
         requires empty { (q : C) → held_in C.cmp self q ≡ None }
@@ -305,7 +313,7 @@ impl<C: PublicKey> Slots<C> {
     }
 }
 
-// An empty slot needs no release.
+// Consumes the contents of an empty slot, which need no release.
 pub(super) fn spend_empty<C: PublicKey>(slot: Option<Reservation<C>>)
     requires { slot ≡ None }
 {

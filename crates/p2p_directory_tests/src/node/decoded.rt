@@ -16,7 +16,7 @@ const QUESTION: [u8; 4] = [2, 0, 2, 0];
 // A message of two bytes on channel 3.
 const MESSAGE: [u8; 5] = [0, 3, 2, 7, 7];
 
-// Whether the infos are that of peer 1.
+// Whether the infos in a tested answer to a decoded frame are that of peer 1.
 fn is_of_peer_one(answer: Result<Answer<TestKey>, Miscounted>) -> bool {
     match answer {
         Ok(Answer::Infos(infos)) => match infos.as_slice() {
@@ -27,7 +27,7 @@ fn is_of_peer_one(answer: Result<Answer<TestKey>, Miscounted>) -> bool {
     }
 }
 
-// Whether the question is decoded as it is, and answered so.
+// Whether the tested node decodes the question as it is, and answers the decoded frame.
 fn decodes_and_answers(replier: &mut Node<TestKey>, question: Bytes) -> bool {
     match replier.decode(question) {
         Ok(decoded) => {
@@ -65,7 +65,7 @@ fn a_question_is_answered_with_infos_before_they_are_encoded(rt: HostRuntime) ->
     Ok(())
 }
 
-// Whether a message that one node decodes is too long for the other one.
+// Whether a decoded message of one tested node is too long for the other one.
 fn is_too_long(decoder: &Node<TestKey>, receiver: &mut Node<TestKey>, message: Bytes) -> bool {
     match decoder.decode(message) {
         Ok(decoded) => matches!(

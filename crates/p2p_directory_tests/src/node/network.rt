@@ -26,7 +26,7 @@ fn exchange(asker: usize, replier: usize) -> NetworkCommand<TestKey> {
     }
 }
 
-// The setups of nodes with these settings.
+// The setups of a tested network, of nodes with these settings.
 fn setups(alloc: Global, lines: &[&'static str]) -> Result<Vec<Setup<TestKey>>, Unreadable>
     ensures sets { IfOk result (λ setups.
         All (λ s. non_zero_usize_get s.cfg.max_sets < 2 ^ 64 - 1) setups.items) }
@@ -41,7 +41,8 @@ fn setups(alloc: Global, lines: &[&'static str]) -> Result<Vec<Setup<TestKey>>, 
     Ok(setups)
 }
 
-// Commands for nodes that do not exist, for a node with itself, and for both nodes.
+// Commands to a tested network, for nodes that do not exist, for a node with itself, and for both
+// nodes.
 fn commands(alloc: Global) -> Result<Vec<NetworkCommand<TestKey>>, Unreadable> {
     let mut commands = Vec::new(alloc);
     commands.push(exchange(0, 1))?;
@@ -84,8 +85,8 @@ fn a_run_of_a_network_replies_to_each_command(rt: HostRuntime) -> Result<(), Fai
     Ok(())
 }
 
-// Asserts that replacing a node releases its reservation of peer 8, and that replacing a node that
-// does not exist returns `None`.
+// Asserts of a tested network that replacing a node releases its reservation of peer 8, and that
+// replacing a node that does not exist returns `None`.
 fn is_replaced(
     rt: &impl Abort,
     alloc: Global,

@@ -50,8 +50,8 @@ fn is_dialled_at<C: PublicKey>(metadata: &Metadata<C>, at: &Ingress) -> bool {
     }
 }
 
-// Releases the reservation of the peer, if it is held, and returns whether the peer was dialled at
-// this address.
+// In a test of held reservations, releases that of the peer if there is one, and returns whether
+// the peer was dialled at this address.
 fn release_dialled<C: PublicKey>(
     directory: &mut Directory<C>,
     held: &mut Held<C>,

@@ -15,7 +15,8 @@ const ROUNDS: u64 = 10_000;
 // Memory for a few slots.
 const FEW: usize = 32_768;
 
-// An inbound stranger and a dialled one are refused by commands.
+// Whether an inbound stranger and a dialled one are refused by commands, for which the tested node
+// should keep no slots.
 fn refused_by_commands(node: &mut Node<TestKey>, peer: TestKey) -> bool {
     let (now, draw) = (hundred(), Duration::ZERO);
     let listened = node.step(Command::Listen { peer, now, draw });
@@ -26,7 +27,8 @@ fn refused_by_commands(node: &mut Node<TestKey>, peer: TestKey) -> bool {
     )
 }
 
-// They are refused by calls.
+// Whether an inbound stranger and a dialled one are refused by calls, for which the tested node
+// should keep no slots.
 fn refused_by_calls(node: &mut Node<TestKey>, peer: TestKey) -> bool {
     let listened = node.listen(&peer, hundred(), Duration::ZERO);
     let dialled = node.dial(&peer, hundred(), Duration::ZERO);
@@ -36,7 +38,7 @@ fn refused_by_calls(node: &mut Node<TestKey>, peer: TestKey) -> bool {
     )
 }
 
-// In each round another stranger is refused.
+// Counts the rounds of the test of slots in which a stranger is refused, another one in each.
 fn refuses(node: &mut Node<TestKey>) -> u64 {
     let mut done = 0u64;
     for round in 0..ROUNDS {

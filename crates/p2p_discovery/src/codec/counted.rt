@@ -8,7 +8,7 @@ use crate::codec::{CodecError, EncodeSize, RangeCfg, Read, Reader, Write};
 use bytes::BytesMut;
 use std::alloc::Global;
 
-// Reads a length, which must be within the limit.
+// Reads the length of counted bytes, which must be within the limit.
 #[inline(always)]
 #[tactic(auto, unfolding(crate::specs::Counted::length_at))]
 pub(crate) fn read_length(
@@ -26,7 +26,7 @@ pub(crate) fn read_length(
     Ok(length)
 }
 
-// The number of the bytes and of those of their length.
+// The size of counted bytes: the number of the bytes and of those of their length.
 pub(crate) fn counted_size(bytes: &[u8]) -> usize
     requires { length bytes.now < 2 ^ 32 }
     ensures size { result ≡ length (counted_spelling bytes.now) }
@@ -36,7 +36,7 @@ pub(crate) fn counted_size(bytes: &[u8]) -> usize
     (length as u32).encode_size() + length
 }
 
-// Appends the length of the bytes, and the bytes.
+// Appends counted bytes: their length, and the bytes.
 pub(crate) fn write_counted(bytes: &[u8], buf: &mut BytesMut)
     requires small { length bytes.now < 2 ^ 32 }
     requires room { length (counted_spelling bytes.now) ≤ buf.old.spare }

@@ -20,7 +20,7 @@ pub trait EncodeSize {
 
     ghost spelling: { Self → List ℕ };
 
-    /// The number of bytes of the encoding.
+    /// The number of bytes that the value's encoding has.
     ///
     /// # Conditions
     ///
@@ -52,7 +52,7 @@ pub trait Write: EncodeSize {
     // are values of their types.
     ghost HoldsValues: { Self → Type 0 } = { λ _. Unit {0} };
 
-    /// Appends the encoding. It doesn't allocate.
+    /// Encodes the value at the end of the buffer. It doesn't allocate.
     ///
     /// # Conditions
     ///

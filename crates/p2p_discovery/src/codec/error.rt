@@ -73,7 +73,7 @@ pub struct RangeCfg {
 }
 
 impl RangeCfg {
-    /// Whether this length is allowed.
+    /// Whether a length is in the range, so that decoding it is no error.
     pub fn contains(&self, length: usize) -> bool
         ensures { result ≡ is_within self.now length }
     {

@@ -30,7 +30,7 @@ pub trait FixedBytes: Copy + Eq {
 
     ghost value: { List ℕ → Option Self };
 
-    /// Writes the bytes of the value over `out`.
+    /// Writes the fixed number of bytes of the value over `out`.
     ///
     /// # Conditions
     ///
@@ -40,7 +40,7 @@ pub trait FixedBytes: Copy + Eq {
         ensures bytes { out.new ≡ spelled self.now }
         ensures value { IsValue self.now };
 
-    /// The value that the bytes encode, or `None` if they encode none.
+    /// The value that the fixed number of bytes encode, or `None` if they encode none.
     ///
     /// # Conditions
     ///
@@ -67,7 +67,8 @@ pub trait PublicKey: FixedBytes + Ord {
     // Whether a signature is valid, as a fixed predicate of the key, the namespace and the message.
     ghost verifies: { Self → List ℕ → List ℕ → Self.Signature → Bool };
 
-    /// Whether the signature is one of this key over the namespace and the message.
+    /// Whether the signature, of a fixed number of bytes, is one of this key over the namespace and
+    /// the message.
     fn verify(&self, namespace: &[u8], message: &[u8], signature: &Self::Signature) -> bool
         ensures { result ≡ verifies self.now namespace.now message.now signature.now };
 
@@ -75,7 +76,7 @@ pub trait PublicKey: FixedBytes + Ord {
     ghost exact: { (x y : Self) → Self.cmp x y ≡ Equal → x ≡ y };
 }
 
-/// Writes an array over `out`, for keys and signatures that are arrays of bytes.
+/// Writes an array over `out`, for keys and signatures that are arrays of a fixed number of bytes.
 ///
 /// # Conditions
 ///
@@ -89,7 +90,7 @@ pub fn write_array<const N: usize>(bytes: &[u8; N], out: &mut [u8])
     out.copy_from_slice(bytes);
 }
 
-/// The array of these bytes, for keys and signatures that are arrays of bytes.
+/// The array of these bytes, for keys and signatures that are arrays of a fixed number of bytes.
 ///
 /// # Conditions
 ///
@@ -104,7 +105,7 @@ pub fn read_array<const N: usize>(bytes: &[u8]) -> [u8; N]
     }
 }
 
-// Appends the bytes of a value.
+// Appends the fixed number of bytes of a value.
 pub(crate) fn write_value<K: FixedBytes>(value: &K, buf: &mut BytesMut)
     requires { K.SIZE ≤ buf.old.spare }
     ensures items { buf.new.items ≡ buf.old.items ++ K.spelled value.now }

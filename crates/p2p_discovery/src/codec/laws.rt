@@ -13,15 +13,15 @@ use crate::codec::{CodecError, MaxEncodeSize, Read, TestKey, Write};
 use bytes::Bytes;
 use std::alloc::Global;
 
-/// The encoding is prefix-free and injective: no encoding of a value is a prefix of another one's,
-/// and only equal values share an encoding.
+/// By a law of the codec, the encoding is prefix-free and injective: no encoding of a value is a
+/// prefix of another one's, and only equal values share an encoding.
 pub fn one_spelling<T: Read>(cfg: &T::Cfg)
     ensures { (v w : T) (x y : List ℕ) → T.IsValue v → T.Admits cfg.now v
         → T.IsValue w → T.Admits cfg.now w
         → T.spelling v ++ x ≡ T.spelling w ++ y → (v ≡ w) × (x ≡ y) }
 {}
 
-/// No truncated encoding is decoded.
+/// By a law of the codec, no truncated encoding is decoded.
 ///
 /// # Errors
 ///
@@ -36,7 +36,8 @@ pub fn cut_short<T: Read>(alloc: Global, front: Bytes, cfg: &T::Cfg) -> Result<T
     T::decode_cfg(alloc, front, cfg)
 }
 
-/// What was encoded decodes to the same value, under limits that it is within.
+/// By a law of the codec, what was encoded decodes to the same value, under limits that it is
+/// within.
 ///
 /// # Conditions
 ///
@@ -54,7 +55,7 @@ pub fn read_back<T: Write + Read>(alloc: Global, value: &T, cfg: &T::Cfg) -> Res
     T::decode_cfg(alloc, bytes, cfg)
 }
 
-/// The number of bytes of the encoding, which is at most the type's maximum.
+/// The number of bytes of the encoding, which is at most the type's maximum by a law of the codec.
 ///
 /// # Conditions
 ///
@@ -67,7 +68,8 @@ pub fn bounded_size<T: MaxEncodeSize>(value: &T) -> usize
     value.encode_size()
 }
 
-/// Bytes match the grammar of varints for an integer if, and only if, they are its one encoding.
+/// By a law of the codec, bytes match the grammar of varints for an integer if, and only if, they
+/// are its one encoding.
 pub fn varint_grammar()
     ensures long { (bytes : List ℕ) (n : ℕ)
         → SpellsU64 bytes n ↔ ((n < 2 ^ 64) × (bytes ≡ varint64 n)) }
@@ -75,7 +77,7 @@ pub fn varint_grammar()
         → SpellsU32 bytes n ↔ ((n < 2 ^ 32) × (bytes ≡ varint32 n)) }
 {}
 
-/// Test keys are ordered by their numbers.
+/// By a law of the codec, test keys are ordered by their numbers.
 pub fn test_key_order()
     ensures { (a b : TestKey) → ⟦<TestKey as Ord>⟧.cmp a b ≡ nat_cmp a.0 b.0 }
 {}

@@ -7,7 +7,7 @@ ghost use Rattle.p2p_discovery.specs.Lists.{spellings};
 use crate::codec::Write;
 use bytes::BytesMut;
 
-// Appends the encodings of these values.
+// Appends the encodings of these values of a list, one after the other.
 pub(crate) fn write_items<T: Write>(items: &[T], buf: &mut BytesMut)
     requires can { (x : T) → T.CanSpell x }
     requires room { length (spellings T.spelling items.now) ≤ buf.old.spare }

@@ -36,21 +36,21 @@ impl<'a> Reader<'a> {
         Reader { whole, at: 0 }
     }
 
-    /// How many bytes are left.
+    /// How many bytes are left to the reader.
     pub fn len(&self) -> usize
         ensures { result ≡ length self.now }
     {
         self.whole.len() - self.at
     }
 
-    /// Whether no byte is left.
+    /// Whether no byte is left to the reader.
     pub fn is_empty(&self) -> bool
         ensures { result ≡ (length self.now == 0) }
     {
         self.len() == 0
     }
 
-    /// The bytes that are left.
+    /// The bytes that are left to the reader.
     pub fn rest(&self) -> &[u8]
         ensures rest { result.now ≡ self.now }
         ensures bytes { IsBytes self.now }
@@ -60,7 +60,7 @@ impl<'a> Reader<'a> {
         rest
     }
 
-    /// Reads the next byte.
+    /// Reads the reader's next byte.
     ///
     /// # Errors
     ///
@@ -76,7 +76,7 @@ impl<'a> Reader<'a> {
         Ok(byte)
     }
 
-    /// Reads so many bytes, which are not copied. It doesn't allocate.
+    /// Reads so many of the reader's bytes, which are not copied. It doesn't allocate.
     ///
     /// # Errors
     ///
@@ -93,7 +93,8 @@ impl<'a> Reader<'a> {
         Ok(&self.whole.as_slice()[start..start + count])
     }
 
-    /// Reads so many bytes, which are not copied, and shares ownership of the buffer's memory.
+    /// Reads so many of the reader's bytes, which are not copied, and shares ownership of the
+    /// buffer's memory.
     ///
     /// # Errors
     ///
@@ -112,7 +113,7 @@ impl<'a> Reader<'a> {
     }
 }
 
-// What a slice holds are bytes.
+// What a slice of a reader holds are bytes.
 pub(crate) fn are_bytes(bytes: &[u8])
     ensures { IsBytes bytes.now }
 {}

@@ -70,8 +70,8 @@ impl FixedBytes for TestSignature {
 }
 
 impl TestKey {
-    /// The signature of this key over the namespace and the message. It is computed from the bytes
-    /// of both, one after the other, and the key's number. It doesn't allocate.
+    /// The signature of this test key over the namespace and the message. It is computed from the
+    /// bytes of both, one after the other, and the key's number. It doesn't allocate.
     ///
     /// # Cost
     ///

@@ -13,7 +13,7 @@ use crate::codec::{CodecError, EncodeSize, MaxEncodeSize, Read, Reader, Write};
 use bytes::BytesMut;
 use std::alloc::Global;
 
-// How many groups a number has.
+// How many groups the varint of a number has.
 fn group_count(n: u64) -> usize
     ensures size { (most : ℕ) → 0 < most → n < 128 ^ most → result ≡ length (groups most n) }
     ensures bound { result ≤ n + 1 }
@@ -22,7 +22,7 @@ fn group_count(n: u64) -> usize
     if n < 128 { 1 } else { 1 + group_count(n / 128) }
 }
 
-// Appends the groups of a number, two at a time.
+// Appends the groups of a varint, two at a time.
 fn write_groups(n: u64, buf: &mut BytesMut)
     requires { (most : ℕ) × (0 < most) × (n < 128 ^ most)
         × (length (groups most n) ≤ buf.old.spare) }
@@ -42,7 +42,7 @@ fn write_groups(n: u64, buf: &mut BytesMut)
     }
 }
 
-// Reads the groups of a number that has at most `most`. At most `left` bytes may follow the first
+// Reads the groups of a varint that has at most `most`. At most `left` bytes may follow the first
 // one, of which the last possible one is at most `top`.
 #[inline(always)]
 fn read_groups(reader: &mut Reader<'_>, most: usize, top: u8, left: u32) -> Result<u64, CodecError>
@@ -58,7 +58,7 @@ fn read_groups(reader: &mut Reader<'_>, most: usize, top: u8, left: u32) -> Resu
     read_more(reader, most, top, left - 1, byte)
 }
 
-// Reads the groups behind the first one, as `read_groups` does.
+// Reads the groups of a varint behind the first one, as `read_groups` does.
 fn read_more(
     reader: &mut Reader<'_>,
     most: usize,
@@ -86,7 +86,7 @@ fn read_more(
     Ok(sum + unit * checked_last(byte, most, top)?)
 }
 
-// The last group of several, which is at most `top`, and not 0.
+// The last group of a varint of several, which is at most `top`, and not 0.
 #[inline(always)]
 fn checked_last(byte: u8, most: usize, top: u8) -> Result<u64, CodecError>
     ensures exact { (rest : List ℕ) → Gives result rest (last_group most top true byte rest) }

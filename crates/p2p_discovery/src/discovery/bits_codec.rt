@@ -55,7 +55,7 @@ impl Read for BitVec {
     ghost lawful = { lawful_bit_vec };
 }
 
-// Reads the number of bits, and as many of them: at most so many.
+// Reads the number of encoded bits, and as many of them: at most so many.
 #[tactic(auto, unfolding(crate::specs::BitVec::bits_read_at))]
 fn read_bits(alloc: Global, reader: &mut Reader<'_>, limit: u64) -> Result<BitMap, CodecError>
     ensures { Gives result reader.new (bits_read_at limit reader.old) }

@@ -15,8 +15,8 @@ use bytes::BytesMut;
 use std::alloc::Global;
 
 impl<C: PublicKey> Info<C> {
-    /// The maximum number of bytes of an encoding: those of an ingress, of a timestamp, of a key
-    /// and of a signature.
+    /// The maximum number of bytes of an encoded info: those of an ingress, of a timestamp, of a
+    /// key and of a signature.
     pub fn max_encode_size() -> usize
         ensures value { result ≡ 261 + 10 + C.SIZE + C.Signature.SIZE }
         ensures bound { (i : Info C C.Signature) → IsInfo i

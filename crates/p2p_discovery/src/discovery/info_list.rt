@@ -46,14 +46,14 @@ impl<C: PublicKey> Infos<C> {
         Infos { items }
     }
 
-    /// The vector of the infos, in their order.
+    /// The vector of the infos of the list, in their order.
     pub fn into_vec(self) -> Vec<Info<C>>
         ensures { result.items ≡ self }
     {
         self.items
     }
 
-    /// The infos, in their order.
+    /// The infos of the list, in their order.
     pub fn as_slice(&self) -> &[Info<C>]
         ensures { result.now ≡ self.now }
     {
@@ -78,7 +78,7 @@ impl<C: PublicKey> EncodeSize for Infos<C> {
     }
 }
 
-// The number of bytes of these infos, one after the other.
+// The number of bytes of the infos of a list, one after the other.
 fn infos_size<C: PublicKey>(infos: &[Info<C>]) -> usize
     requires { length infos.now < 2 ^ 32 }
     ensures size { result
@@ -123,7 +123,7 @@ impl<C: PublicKey> Read for Infos<C> {
     ghost lawful = { lawful_infos C.fixed C.Signature.fixed };
 }
 
-// Reads so many infos, each of which has at least `least` bytes.
+// Reads a list of so many infos, each of which has at least `least` bytes.
 fn read_infos<C: PublicKey>(
     alloc: Global,
     reader: &mut Reader<'_>,
@@ -144,8 +144,8 @@ fn read_infos<C: PublicKey>(
     Ok(infos)
 }
 
-// A vector with capacity for so many infos, but for no more than so many bytes can hold, if each
-// info has at least `least` bytes.
+// A vector with capacity for a list of so many infos, but for no more than so many bytes can hold,
+// if each info has at least `least` bytes.
 fn reserve_infos<C: PublicKey>(
     alloc: Global,
     count: usize,
@@ -161,7 +161,7 @@ fn reserve_infos<C: PublicKey>(
     Vec::with_capacity(alloc, count.min(bytes / least))
 }
 
-// Reads an info onto the end of a vector, which has room for it. It is put there part by part, and
+// Reads an info onto the end of a list, which has room for it. It is put there part by part, and
 // not moved.
 #[tactic(auto, unfolding(crate::specs::Info::info_at))]
 fn push_info<C: PublicKey>(

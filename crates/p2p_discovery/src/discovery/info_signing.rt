@@ -16,9 +16,9 @@ use crate::types::{Hostname, Ingress, IpAddr, SocketAddr};
 use std::marker::Model;
 
 impl<C: PublicKey> Info<C> {
-    /// The info of these parts, with the closure's result as its signature. The closure is called
-    /// once, with the namespace and what is signed: the encoded ingress, then the timestamp in
-    /// eight bytes, big-endian. If its result verifies, the info does. It doesn't allocate.
+    /// Signs the info of these parts, with the closure's result as its signature. The closure is
+    /// called once, with the namespace and what is signed: the encoded ingress, then the timestamp
+    /// in eight bytes, big-endian. If its result verifies, the info does. It doesn't allocate.
     ///
     /// # Conditions
     ///
@@ -53,8 +53,8 @@ impl<C: PublicKey> Info<C> {
         }
     }
 
-    /// What is signed: the encoded ingress, then the timestamp in eight bytes, big-endian. It
-    /// doesn't allocate.
+    /// What is signed of the info: the encoded ingress, then the timestamp in eight bytes,
+    /// big-endian. It doesn't allocate.
     ///
     /// # Cost
     ///
@@ -65,7 +65,7 @@ impl<C: PublicKey> Info<C> {
         SignedBytes::of(&self.ingress, self.timestamp)
     }
 
-    /// Whether the signature is one of the info's key over the namespace and what is signed. It
+    /// Whether the info's signature is one of its key over the namespace and what is signed. It
     /// doesn't allocate.
     ///
     /// # Cost
@@ -84,8 +84,9 @@ impl<C: PublicKey> Info<C> {
 const SIGNED_SIZE: usize = 269;
 
 impl Ingress {
-    /// The encoding, as [`Write::encode`](crate::codec::Write::encode) returns it, in an array. It
-    /// needs no allocation.
+    /// The encoding of the ingress that is signed in an info, as
+    /// [`Write::encode`](crate::codec::Write::encode) returns it, in an array. It needs no
+    /// allocation.
     ///
     /// # Cost
     ///
@@ -116,7 +117,7 @@ impl Model for SignedBytes {
 }
 
 impl SignedBytes {
-    // What is signed of an info.
+    // The bytes that are signed of an info.
     #[tactic(auto, unfolding(crate::specs::Judgement::signed_bytes))]
     fn of(ingress: &Ingress, timestamp: u64) -> SignedBytes
         ensures { result ≡ signed_bytes ingress.now timestamp }
@@ -126,7 +127,7 @@ impl SignedBytes {
         signed
     }
 
-    // The encoding of an ingress.
+    // The encoding of an ingress, as it is signed in an info.
     fn of_ingress(ingress: &Ingress) -> SignedBytes
         ensures items { result ≡ ingress_spelling ingress.now }
         ensures bound { length result ≤ 261 }
@@ -198,7 +199,7 @@ impl SignedBytes {
         self.len = end;
     }
 
-    /// The bytes.
+    /// The bytes that are signed, as a slice.
     pub fn as_slice(&self) -> &[u8]
         ensures { result.now ≡ self.now }
     {

@@ -13,7 +13,8 @@ use crate::discovery::{BitVec, Infos, Payload, PayloadConfig};
 use bytes::Bytes;
 use std::alloc::Global;
 
-/// A data frame is at most [`MAX_PAYLOAD_OVERHEAD`] bytes longer than its message.
+/// By a law of discovery, a data frame is at most [`MAX_PAYLOAD_OVERHEAD`] bytes longer than its
+/// message.
 ///
 /// [`MAX_PAYLOAD_OVERHEAD`]: crate::data::MAX_PAYLOAD_OVERHEAD
 pub fn short_data_frames<C: PublicKey>()
@@ -22,8 +23,8 @@ pub fn short_data_frames<C: PublicKey>()
         ≤ length message.message + 16 }
 {}
 
-/// Decodes infos, as [`Read::read_cfg`]: no more than the bytes that were read can hold, at the
-/// minimum size of an info.
+/// Decodes infos, as [`Read::read_cfg`], by a law of discovery: no more than the bytes that were
+/// read can hold, at the minimum size of an info.
 ///
 /// # Errors
 ///
@@ -42,8 +43,8 @@ pub fn bounded_infos<C: PublicKey>(
     Infos::read_cfg(alloc, buf, limit)
 }
 
-/// Decodes bits and their index, as [`Read::read_cfg`]: no more bits than the bytes that were read
-/// have.
+/// Decodes bits and their index, as [`Read::read_cfg`], by a law of discovery: no more bits than
+/// the bytes that were read have.
 ///
 /// # Errors
 ///
@@ -56,8 +57,9 @@ pub fn bounded_bits(alloc: Global, buf: &mut Bytes, limit: &u64) -> Result<BitVe
     BitVec::read_cfg(alloc, buf, limit)
 }
 
-/// Decodes the payload of a frame, as [`Read::decode_cfg`]. What it holds, a message, bits or
-/// infos, is no more than the bytes of the frame can hold, whatever the limits are.
+/// Decodes the payload of a frame, as [`Read::decode_cfg`], by a law of discovery. What it holds, a
+/// message, bits or infos, is no more than the bytes of the frame can hold, whatever the limits
+/// are.
 ///
 /// # Errors
 ///

@@ -23,8 +23,8 @@ const BIT_VEC_PREFIX: u8 = 2;
 
 const PEERS_PREFIX: u8 = 3;
 
-/// The maximum number of bytes of a payload that isn't data, under these limits for the number of
-/// bits and of infos. It doesn't allocate.
+/// The maximum number of bytes of an encoded payload that isn't data, under these limits for the
+/// number of bits and of infos. It doesn't allocate.
 ///
 /// # Conditions
 ///

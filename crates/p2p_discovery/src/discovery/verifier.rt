@@ -35,9 +35,9 @@ impl<C: PublicKey> Model for InfoVerifier<C> {
 }
 
 impl<C: PublicKey> Info<C> {
-    /// A verifier for the peer with this key. It accepts at most so many infos at once, timestamps
-    /// that are at most the synchrony bound ahead, and signatures in this namespace. It doesn't
-    /// allocate.
+    /// A verifier of infos for the peer with this key. It accepts at most so many infos at once,
+    /// timestamps that are at most the synchrony bound ahead, and signatures in this namespace. It
+    /// doesn't allocate.
     pub fn verifier(
         me: C,
         peer_gossip_max_count: usize,
@@ -61,7 +61,7 @@ impl<C: PublicKey> Info<C> {
 }
 
 impl<C: PublicKey> InfoVerifier<C> {
-    /// Whether the info is valid at a time. It doesn't allocate.
+    /// Whether the info is valid at a time, by this verifier. It doesn't allocate.
     ///
     /// # Errors
     ///
@@ -85,8 +85,8 @@ impl<C: PublicKey> InfoVerifier<C> {
         Ok(())
     }
 
-    /// Whether the info is valid at a time, given whether its signature is valid. It doesn't
-    /// allocate.
+    /// Whether the info is valid at a time, by this verifier, given whether its signature is valid.
+    /// It doesn't allocate.
     ///
     /// # Errors
     ///
@@ -107,7 +107,7 @@ impl<C: PublicKey> InfoVerifier<C> {
         Ok(())
     }
 
-    // Whether the info is valid at a time, if its signature is.
+    // Whether the info is valid at a time, by this verifier, if its signature is.
     fn validate_unsigned(&self, now: Duration, info: &Info<C>) -> Result<(), Error>
         ensures { result ≡ judged
             (refusal_if (judge_of C.cmp C.verifies self.now) true (as_nanos now) info.now) }
@@ -122,7 +122,7 @@ impl<C: PublicKey> InfoVerifier<C> {
         Ok(())
     }
 
-    /// Whether all of the infos are valid at a time. It doesn't allocate.
+    /// Whether all of the infos are valid at a time, by this verifier. It doesn't allocate.
     ///
     /// # Errors
     ///
@@ -146,8 +146,9 @@ impl<C: PublicKey> InfoVerifier<C> {
         Ok(())
     }
 
-    /// Whether all of the infos are valid at a time, given whether the signature of each is, in the
-    /// order of the list. A signature without a result counts as invalid. It doesn't allocate.
+    /// Whether all of the infos are valid at a time, by this verifier, given whether the signature
+    /// of each is, in the order of the list. A signature without a result counts as invalid. It
+    /// doesn't allocate.
     ///
     /// # Errors
     ///
@@ -170,9 +171,9 @@ impl<C: PublicKey> InfoVerifier<C> {
         Ok(())
     }
 
-    /// How many of the infos have a signature that decides whether they are valid at a time: those
-    /// before the first that is refused whatever its signature is, and none if they are too many.
-    /// It doesn't allocate.
+    /// How many of the infos have a signature that decides for this verifier whether they are valid
+    /// at a time. They are those before the first that is refused whatever its signature is, and
+    /// none if they are too many. It doesn't allocate.
     pub fn count_to_verify(&self, now: Duration, infos: &[Info<C>]) -> usize
         ensures value { take result infos.now
             ≡ to_verify (judge_of C.cmp C.verifies self.now) (as_nanos now) infos.now }
@@ -189,7 +190,7 @@ impl<C: PublicKey> InfoVerifier<C> {
         infos.len()
     }
 
-    // Whether they are more than the verifier accepts at once.
+    // Whether the infos are more than the verifier accepts at once.
     fn are_too_many(&self, infos: &[Info<C>]) -> bool
         ensures { result ≡ nat_lt self.now.greatest_count (length infos.now) }
     {
@@ -197,7 +198,8 @@ impl<C: PublicKey> InfoVerifier<C> {
     }
 }
 
-// Whether a signature is valid by its verification result; it isn't if there is none.
+// Whether a signature is valid by the verification result that a verifier is given; it isn't if
+// there is none.
 fn is_right(verdicts: &[bool], place: usize) -> bool
     ensures { result ≡ get_or verdicts.now place false }
 {

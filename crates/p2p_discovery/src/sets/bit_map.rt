@@ -41,7 +41,7 @@ impl Model for BitMap {
 }
 
 impl BitMap {
-    /// So many values, all of them `false`.
+    /// A bit map of so many values, all of them `false`.
     ///
     /// # Errors
     ///
@@ -53,7 +53,7 @@ impl BitMap {
         Ok(BitMap { bytes, len: n })
     }
 
-    /// So many values, all of them `true`.
+    /// A bit map of so many values, all of them `true`.
     ///
     /// # Errors
     ///
@@ -69,7 +69,7 @@ impl BitMap {
         Ok(BitMap { bytes, len: n })
     }
 
-    /// These values, in their order.
+    /// A bit map of these values, in their order.
     ///
     /// # Errors
     ///
@@ -88,14 +88,14 @@ impl BitMap {
         Ok(bits)
     }
 
-    /// The number of values.
+    /// The number of values of the bit map.
     pub fn len(&self) -> u64
         ensures { result ≡ length self.now }
     {
         self.len
     }
 
-    /// The value at a position, counted from 0. It doesn't allocate.
+    /// The value of the bit map at a position, counted from 0. It doesn't allocate.
     ///
     /// # Conditions
     ///
@@ -107,7 +107,8 @@ impl BitMap {
         (self.bytes[(place / 8) as usize] >> (place % 8)) & 1 == 1
     }
 
-    /// Sets the value at a position, counted from 0; the others are unchanged. It doesn't allocate.
+    /// Sets the value of the bit map at a position, counted from 0; the others are unchanged. It
+    /// doesn't allocate.
     ///
     /// # Conditions
     ///
@@ -139,7 +140,7 @@ impl BitMap {
         })
     }
 
-    // The bytes that encode the values.
+    // The bytes that encode the values of the bit map.
     pub(crate) fn as_bytes(&self) -> &[u8]
         ensures { result.now ≡ packed self.now }
     {
@@ -147,7 +148,8 @@ impl BitMap {
         &self.bytes
     }
 
-    // The first n values that the bytes hold, as many bytes as n need. Padding is checked first.
+    // A bit map of the first n values that the bytes hold, as many bytes as n need. Padding is
+    // checked first.
     pub(crate) fn from_bytes(alloc: Global, bytes: &[u8], n: u64) -> Result<BitMap, CodecError>
         requires { length bytes.now ≡ byte_count n }
         ensures { (rest : List ℕ) → Gives result rest (unpacked n bytes.now rest) }
@@ -164,14 +166,14 @@ impl BitMap {
     }
 }
 
-// How many bytes hold so many bits.
+// How many bytes hold a bit map of so many bits.
 pub(crate) fn bytes_for(n: u64) -> usize
     ensures { result ≡ byte_count n }
 {
     n.div_ceil(8) as usize
 }
 
-// What is behind the first n bits in the byte of the last of them.
+// What is behind the first n bits of a bit map in the byte of the last of them.
 fn padding_in(bytes: &[u8], n: u64) -> u8
     ensures { result ≡ padding_of n bytes.now }
 {

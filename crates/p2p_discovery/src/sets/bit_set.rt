@@ -34,7 +34,7 @@ impl<P: PublicKey> Model for BitSet<P> {
 }
 
 impl<P: PublicKey> BitSet<P> {
-    /// The peers of the set, none of which is known.
+    /// The bit set of the peers of the set, none of which is known.
     ///
     /// # Errors
     ///
@@ -50,15 +50,15 @@ impl<P: PublicKey> BitSet<P> {
         Ok(BitSet { ordered, knowledge })
     }
 
-    /// The number of peers.
+    /// The number of peers of the bit set.
     pub fn len(&self) -> usize
         ensures { result ≡ length self.now }
     {
         self.ordered.len()
     }
 
-    /// Changes the bit of a peer, and returns whether the peer is in the set. All else is
-    /// unchanged. It doesn't allocate.
+    /// Changes the bit of a peer of the bit set, and returns whether the peer is in the set. All
+    /// else is unchanged. It doesn't allocate.
     ///
     /// # Cost
     ///
@@ -76,8 +76,8 @@ impl<P: PublicKey> BitSet<P> {
         }
     }
 
-    /// Changes the bit of the peer at a position, counted from 0, and returns whether there is such
-    /// a position. All else is unchanged. It doesn't allocate.
+    /// Changes the bit of the peer at a position of the bit set, counted from 0, and returns
+    /// whether there is such a position. All else is unchanged. It doesn't allocate.
     pub fn update_at(&mut self, place: usize, known: bool) -> bool
         ensures answer { result ≡ nat_lt place (length self.old) }
         ensures after { self.new ≡ with_bit self.old place known }
@@ -90,7 +90,7 @@ impl<P: PublicKey> BitSet<P> {
         }
     }
 
-    /// The bits, in the order of the peers.
+    /// The bits of the bit set, in the order of the peers.
     ///
     /// # Errors
     ///
@@ -105,14 +105,14 @@ impl<P: PublicKey> BitSet<P> {
         self.knowledge.clone()
     }
 
-    /// The set of the peers.
+    /// The set of the peers of the bit set.
     pub fn ordered(&self) -> &OrderedSet<P>
         ensures { result.now ≡ keys_of self.now }
     {
         &self.ordered
     }
 
-    /// An equal set with equal bits.
+    /// An equal bit set, with equal bits.
     ///
     /// # Errors
     ///

@@ -30,7 +30,8 @@ pub enum Address {
 }
 
 impl Address {
-    /// What is dialled to reach the peer. It doesn't allocate if that is a socket.
+    /// The ingress of the address, which is dialled to reach the peer. It doesn't allocate if that
+    /// is a socket.
     ///
     /// # Errors
     ///
@@ -45,14 +46,14 @@ impl Address {
         }
     }
 
-    /// The address that connections come from.
+    /// The IP of the address that connections come from.
     pub fn egress_ip(&self) -> IpAddr
         ensures { result ≡ socket_ip (egress_of self.now) }
     {
         self.egress().ip()
     }
 
-    /// The address and the port that connections come from.
+    /// The egress of the address, with the port that connections come from.
     pub fn egress(&self) -> SocketAddr
         ensures { result ≡ egress_of self.now }
     {
@@ -62,7 +63,7 @@ impl Address {
         }
     }
 
-    /// An equal value. It doesn't allocate if what is dialled is a socket.
+    /// An equal address. It doesn't allocate if what is dialled is a socket.
     ///
     /// # Errors
     ///

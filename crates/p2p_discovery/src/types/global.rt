@@ -41,7 +41,7 @@ const NOT_GLOBAL_V6: [([u8; 16], u32); 10] = [
     ([0xfe, 0x80, 0, 0, 0, 0, 0, 0, 0, 0, 0, 0, 0, 0, 0, 0], 10),
 ];
 
-// Whether the address lies in a range of version 4.
+// Whether the address lies in a range of version 4 that isn't global.
 pub(crate) fn is_listed_v4(address: [u8; 4]) -> bool
     ensures { result ≡ list_any (lies_in w32 address) not_global_v4 }
 {
@@ -51,7 +51,7 @@ pub(crate) fn is_listed_v4(address: [u8; 4]) -> bool
     })
 }
 
-// Whether the address lies in a range of version 6.
+// Whether the address lies in a range of version 6 that isn't global.
 pub(crate) fn is_listed_v6(address: [u8; 16]) -> bool
     ensures { result ≡ list_any (lies_in w128 address) not_global_v6 }
 {

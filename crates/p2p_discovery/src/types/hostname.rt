@@ -50,7 +50,7 @@ const LENGTHS: RangeCfg = RangeCfg {
 };
 
 impl Hostname {
-    /// The name that the text is.
+    /// The host name that the text is.
     ///
     /// # Errors
     ///
@@ -72,7 +72,7 @@ impl Hostname {
         Hostname::from_bytes(alloc, text.as_bytes())
     }
 
-    /// The text of the name.
+    /// The text of the host name.
     pub fn as_str(&self) -> &str
         ensures text { result.now ≡ self.now }
         ensures is { IsHostname self.now }
@@ -80,7 +80,7 @@ impl Hostname {
         self.text.as_str()
     }
 
-    /// An equal name.
+    /// An equal host name.
     ///
     /// # Errors
     ///
@@ -97,7 +97,7 @@ impl Hostname {
         })
     }
 
-    // A name of these bytes, whose number is one that a name may have.
+    // A host name of these bytes, whose number is one that a name may have.
     #[tactic(auto, unfolding(crate::specs::Hostname::formed))]
     fn from_bytes(alloc: Global, text: &[u8]) -> Result<Hostname, CodecError>
         requires { is_within host_limit (length text.now) ≡ true }
@@ -115,8 +115,8 @@ impl Hostname {
     }
 }
 
-// Whether the bytes are labels joined by single dots. A label ends before the first byte that none
-// has, as a dot is.
+// Whether the bytes are a host name, labels joined by single dots. A label ends before the first
+// byte that none has, as a dot is.
 fn is_name(text: &[u8]) -> bool
     ensures { result ≡ is_hostname text.now }
 {
@@ -127,14 +127,14 @@ fn is_name(text: &[u8]) -> bool
     }
 }
 
-// The position of the first byte that no label has.
+// The position of the first byte that no label of a host name has.
 fn label_end(text: &[u8]) -> Option<usize>
     ensures { result ≡ position (λ b. not (is_name_byte b)) text.now }
 {
     text.iter().position(|b| !is_name_part(*b))
 }
 
-// Whether letters, digits and hyphens are a label.
+// Whether letters, digits and hyphens are a label of a host name.
 #[tactic(auto, unfolding(crate::specs::Hostname::is_label))]
 fn is_label_of(l: &[u8]) -> bool
     requires { are_name_bytes l.now ≡ true }
@@ -225,7 +225,8 @@ impl Read for Hostname {
 
     ghost reading = { λ _. hostname_at };
 
-    // A call of its own keeps the reading of an address without a name short.
+    // Reads a host name by a call of its own, which keeps the reading of an address without a name
+    // short.
     #[inline(never)]
     #[tactic(auto, unfolding(crate::specs::Hostname::hostname_at))]
     fn read(alloc: Global, reader: &mut Reader<'_>, _cfg: &()) -> Result<Hostname, CodecError> {

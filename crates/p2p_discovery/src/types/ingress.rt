@@ -29,7 +29,7 @@ pub enum Ingress {
 }
 
 impl Ingress {
-    /// The port to connect to.
+    /// The port of the ingress to connect to.
     pub fn port(&self) -> u16
         ensures { result ≡ port_of self.now }
     {
@@ -39,7 +39,7 @@ impl Ingress {
         }
     }
 
-    /// The address of a socket, or `None` for a name.
+    /// The address of an ingress that is a socket, or `None` for a name.
     pub fn ip(&self) -> Option<IpAddr>
         ensures { result ≡ ip_of self.now }
     {
@@ -49,8 +49,8 @@ impl Ingress {
         }
     }
 
-    /// Whether it may be dialled. A socket may if private addresses are allowed or its address is
-    /// global, a name exactly if names are allowed.
+    /// Whether the ingress may be dialled. A socket may if private addresses are allowed or its
+    /// address is global, a name exactly if names are allowed.
     #[tactic(auto, unfolding(crate::specs::Ingress::is_valid))]
     pub fn is_valid(&self, allow_private_ips: bool, allow_dns: bool) -> bool
         ensures { result ≡ is_valid allow_private_ips allow_dns self.now }
@@ -61,7 +61,7 @@ impl Ingress {
         }
     }
 
-    /// An equal value. It doesn't allocate if it is a socket.
+    /// An equal ingress. It doesn't allocate if it is a socket.
     ///
     /// # Errors
     ///

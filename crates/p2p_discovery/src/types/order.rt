@@ -11,7 +11,7 @@ ghost use Rattle.p2p_discovery.specs.declared.types.address.Address.{Address};
 
 use crate::types::{Address, Hostname, Ingress, IpAddr, SocketAddr};
 
-/// How addresses compare; this contract is all that the function has.
+/// States the order of addresses; this contract is all that the function has.
 ///
 /// Version 4 sorts before version 6, then bytes decide, then ports. Sockets sort before names, and
 /// symmetric addresses before asymmetric ones.

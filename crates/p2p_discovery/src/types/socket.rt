@@ -27,8 +27,8 @@ pub enum IpAddr {
 }
 
 impl IpAddr {
-    /// Whether the address is global: it is in none of the ranges that docs/FORMATS.md lists for
-    /// its version.
+    /// Whether the address of a socket is global: it is in none of the ranges that docs/FORMATS.md
+    /// lists for its version.
     #[tactic(auto, unfolding(crate::specs::Global::is_global))]
     pub fn is_global(&self) -> bool
         ensures { result ≡ is_global self.now }
@@ -48,28 +48,28 @@ pub struct SocketAddr {
 }
 
 impl SocketAddr {
-    /// The port of a machine.
+    /// The socket address of a port of a machine.
     pub fn new(ip: IpAddr, port: u16) -> SocketAddr
         ensures { result ≡ socket_from ip port }
     {
         SocketAddr { ip, port }
     }
 
-    /// The address of the machine.
+    /// The IP address of the socket's machine.
     pub fn ip(&self) -> IpAddr
         ensures { result ≡ socket_ip self.now }
     {
         self.ip
     }
 
-    /// The port.
+    /// The port of the socket.
     pub fn port(&self) -> u16
         ensures { result ≡ socket_port self.now }
     {
         self.port
     }
 
-    // Appends a byte and the encoding.
+    // Appends a byte and the encoding of the socket address.
     #[inline(always)]
     pub(crate) fn write_behind(&self, prefix: u8, buf: &mut BytesMut)
         requires { 1 + length (socket_spelling self.now) ≤ buf.old.spare }
@@ -140,7 +140,8 @@ impl Read for SocketAddr {
     ghost reading = { λ _. socket_at };
 
     #[inline(always)]
-    // The port is read in each arm, so that an address isn't moved through a result of its own.
+    // Reads a socket address, with the port in each arm, so that an address isn't moved through a
+    // result of its own.
     #[tactic(auto, unfolding(crate::specs::Socket::socket_at, crate::specs::Socket::ip_at))]
     fn read(_alloc: Global, reader: &mut Reader<'_>, _cfg: &()) -> Result<SocketAddr, CodecError> {
         match reader.byte()? {
@@ -165,7 +166,7 @@ pub(crate) const VERSION_4: u8 = 4;
 
 pub(crate) const VERSION_6: u8 = 6;
 
-// The number of bytes of the encoding of an address without a port.
+// The number of bytes of the encoding of a socket's address without its port.
 fn ip_size(ip: &IpAddr) -> usize
     ensures size { result ≡ length (ip_spelling ip.now) }
     ensures value { IsIp ip.now }
@@ -186,7 +187,7 @@ fn array_len<const N: usize>(bytes: &[u8; N]) -> usize
     N
 }
 
-// Reads a port: two bytes, big-endian.
+// Reads the port of a socket: two bytes, big-endian.
 pub(crate) fn read_port(reader: &mut Reader<'_>) -> Result<u16, CodecError>
     ensures { Gives result reader.new (port_at reader.old) }
 {

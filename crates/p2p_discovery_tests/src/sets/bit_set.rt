@@ -5,7 +5,7 @@ use p2p_discovery::sets::{BitMap, BitSet, OrderedSet};
 use std::alloc::{AllocError, Global};
 use std::test::Fail;
 
-/// The peers 1, 2 and 3, none of them known.
+/// The bit set of the tests, of the peers 1, 2 and 3, none of them known.
 fn three(alloc: Global) -> Result<BitSet<TestKey>, AllocError> {
     let peers = OrderedSet::from_iter_dedup(alloc, [3, 1, 2].into_iter().map(TestKey))?;
     BitSet::new(alloc, peers)

@@ -117,7 +117,7 @@ fn gives_the_parts_of_the_asymmetric(
     Ok(())
 }
 
-/// A host name as ingress, with another address as egress.
+/// The address of the tests with a host name as ingress, and another address as egress.
 fn asymmetric(alloc: Global) -> Result<Address, CodecError> {
     Ok(Address::Asymmetric {
         ingress: dns(alloc, "example.com", 443)?,

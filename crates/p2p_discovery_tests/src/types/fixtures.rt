@@ -18,7 +18,7 @@ pub fn dns(alloc: Global, host: &str, port: u16) -> Result<Ingress, CodecError> 
     })
 }
 
-/// Labels of these lengths, joined by dots.
+/// Labels of these lengths, joined by dots, a fixture of the tests of addresses.
 pub fn labels(alloc: Global, lengths: &[usize]) -> Result<String, Fail> {
     let mut text = String::new(alloc);
     for (i, length) in lengths.iter().enumerate() {

@@ -5,7 +5,7 @@ use p2p_discovery::types::{Address, Ingress, SocketAddr};
 use std::alloc::Global;
 use std::test::Fail;
 
-/// Ingresses in ascending order.
+/// Ingresses in ascending order, for the test of the order of addresses.
 fn rising(alloc: Global) -> Result<Vec<Ingress>, Fail> {
     let mut rising = Vec::new(alloc);
     for socket in [

@@ -1,4 +1,4 @@
-//! The calls that may change the node.
+//! The calls of a session that may change its node.
 
 ghost use Rattle.std.specs.Prelude.{◌≡◌};
 ghost use Rattle.p2p_session.specs.Schemes.{scheme};
@@ -17,9 +17,9 @@ use p2p_discovery::codec::PublicKey;
 use std::alloc::Global;
 
 impl<C: PublicKey> Session<C> {
-    /// `Directory::track` of the sets of these keys. Returns the keys of the peers that must be
-    /// disconnected, or `None` if the set isn't accepted. The buffer must have
-    /// [`Session::track_room`] bytes.
+    /// Calls `Directory::track` of the session's node, with the sets of these keys. Returns the
+    /// keys of the peers that must be disconnected, or `None` if the set isn't accepted. The buffer
+    /// must have [`Session::track_room`] bytes.
     pub fn track(
         &mut self,
         alloc: Global,
@@ -43,8 +43,8 @@ impl<C: PublicKey> Session<C> {
         )
     }
 
-    // Registers the set, if there is a node and the peers were decoded. Writes who must be
-    // disconnected.
+    // Calls the session's node to register the set, if there is a node and the peers were decoded.
+    // Writes who must be disconnected.
     fn take_set(
         &mut self,
         alloc: Global,
@@ -70,7 +70,8 @@ impl<C: PublicKey> Session<C> {
         }
     }
 
-    /// How long the buffer of `track` must be: the size of the keys of all peers with a record.
+    /// How long the buffer of the session's call `track` must be: the size of the keys of all peers
+    /// with a record.
     pub fn track_room(&mut self) -> u64
         ensures { TellsRoom (scheme C.PublicKey C.Signature.FixedBytes) self.old self.new result }
     {
@@ -80,7 +81,7 @@ impl<C: PublicKey> Session<C> {
         }
     }
 
-    // Why a call with too short a buffer isn't made.
+    // Why a call of a session with too short a buffer isn't made.
     fn without_room(&self) -> u64
         ensures { result ≡ room_refusal self.now.node }
     {
@@ -90,7 +91,8 @@ impl<C: PublicKey> Session<C> {
         }
     }
 
-    /// `Directory::dial`. Returns 1 if the peer is reserved to be dialled, 0 if that isn't granted.
+    /// Calls `Directory::dial` of the session's node. Returns 1 if the peer is reserved to be
+    /// dialled, 0 if that isn't granted.
     pub fn dial(
         &mut self,
         peer: &[u8],
@@ -118,7 +120,8 @@ impl<C: PublicKey> Session<C> {
         }
     }
 
-    /// `Directory::listen`. Returns 1 if the inbound peer is reserved, 0 if that isn't granted.
+    /// Calls `Directory::listen` of the session's node. Returns 1 if the inbound peer is reserved,
+    /// 0 if that isn't granted.
     pub fn listen(
         &mut self,
         peer: &[u8],
@@ -146,7 +149,7 @@ impl<C: PublicKey> Session<C> {
         }
     }
 
-    /// `Directory::connect`. Returns 1, or `NotReserved`.
+    /// Calls `Directory::connect` of the session's node. Returns 1, or `NotReserved`.
     pub fn connect(&mut self, peer: &[u8], dialer: bool) -> u64
         ensures { TellsConnect (scheme C.PublicKey C.Signature.FixedBytes) peer.now dialer self.old
             self.new result }
@@ -164,7 +167,8 @@ impl<C: PublicKey> Session<C> {
         }
     }
 
-    /// `Directory::release` of what is held of the peer. Returns 1, or `NotHeld`.
+    /// Calls `Directory::release` of the session's node, for what is held of the peer. Returns 1,
+    /// or `NotHeld`.
     pub fn release(&mut self, peer: &[u8]) -> u64
         ensures { TellsRelease (scheme C.PublicKey C.Signature.FixedBytes) peer.now self.old
             self.new result }
@@ -182,8 +186,8 @@ impl<C: PublicKey> Session<C> {
         }
     }
 
-    /// `Directory::update_peers` with the infos that these bytes encode as a list. Returns 1. The
-    /// host must have made or verified the infos itself.
+    /// Calls `Directory::update_peers` of the session's node, with the infos that these bytes
+    /// encode as a list. Returns 1. The host must have made or verified the infos itself.
     pub fn update_peers(&mut self, alloc: Global, infos: &[u8]) -> u64
         ensures { UpdatesPeers (scheme C.PublicKey C.Signature.FixedBytes) infos.now self.old
             self.new result }
@@ -191,7 +195,7 @@ impl<C: PublicKey> Session<C> {
         self.serve(commands::update_peers(alloc, infos), &mut [])
     }
 
-    /// `Directory::block`. Returns 1 if the block takes effect, else 0.
+    /// Calls `Directory::block` of the session's node. Returns 1 if the block takes effect, else 0.
     pub fn block(&mut self, peer: &[u8], seconds: u64, nanos: u32) -> u64
         ensures { Blocks (scheme C.PublicKey C.Signature.FixedBytes) peer.now seconds nanos self.old
             self.new result }
@@ -210,7 +214,8 @@ impl<C: PublicKey> Session<C> {
         }
     }
 
-    /// `Directory::unblock_expired`. Returns 1 if a block ended, else 0.
+    /// Calls `Directory::unblock_expired` of the session's node. Returns 1 if a block ended, else
+    /// 0.
     pub fn unblock_expired(&mut self, seconds: u64, nanos: u32) -> u64
         ensures { Unblocks (scheme C.PublicKey C.Signature.FixedBytes) seconds nanos self.old
             self.new result }
@@ -224,7 +229,8 @@ impl<C: PublicKey> Session<C> {
         }
     }
 
-    /// `Directory::forget_cooled`. Returns how many cooldowns were forgotten.
+    /// Calls `Directory::forget_cooled` of the session's node. Returns how many cooldowns were
+    /// forgotten.
     pub fn forget_cooled(&mut self, seconds: u64, nanos: u32) -> u64
         ensures { Forgets (scheme C.PublicKey C.Signature.FixedBytes) seconds nanos self.old
             self.new result }

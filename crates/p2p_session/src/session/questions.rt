@@ -1,4 +1,4 @@
-//! The calls that change nothing.
+//! Questions to a session's node: the calls that change nothing.
 
 ghost use Rattle.p2p_session.specs.Schemes.{scheme};
 ghost use Rattle.p2p_session.specs.Sessions.{TellsUnblock, TellsBlocked, TellsStatus, TellsPeerSet};
@@ -17,8 +17,8 @@ use p2p_discovery::codec::PublicKey;
 use std::alloc::Global;
 
 impl<C: PublicKey> Session<C> {
-    /// `Directory::infos` for the encoded bits and their index. Returns the encoded list, or
-    /// `None`.
+    /// Asks the session's node by `Directory::infos`, for the encoded bits and their index. Returns
+    /// the encoded list, or `None`.
     pub fn infos(
         &mut self,
         alloc: Global,
@@ -33,7 +33,7 @@ impl<C: PublicKey> Session<C> {
         self.serve(commands::infos_for(alloc, bits, seconds, nanos), out)
     }
 
-    /// `Directory::next_unblock`: the time, or `None`.
+    /// Asks the session's node by `Directory::next_unblock`: the time, or `None`.
     pub fn next_unblock(&mut self, out: &mut [u8]) -> u64
         ensures { TellsUnblock (scheme C.PublicKey C.Signature.FixedBytes) out.old out.new self.old
             self.new result }
@@ -44,7 +44,7 @@ impl<C: PublicKey> Session<C> {
         tell_moment(node.next_unblock(), out)
     }
 
-    /// `Directory::blocked_peers`: their keys.
+    /// Asks the session's node by `Directory::blocked_peers`: their keys.
     pub fn blocked_peers(&mut self, seconds: u64, nanos: u32, out: &mut [u8]) -> u64
         ensures { TellsBlocked (scheme C.PublicKey C.Signature.FixedBytes) seconds nanos out.old
             out.new self.old self.new result }
@@ -52,7 +52,8 @@ impl<C: PublicKey> Session<C> {
         self.serve(commands::blocked_peers(seconds, nanos), out)
     }
 
-    /// `Directory::status`: 0 for `Inert`, 1 for `Reserved`, 2 for `Active`, or `None`.
+    /// Asks the session's node by `Directory::status`: 0 for `Inert`, 1 for `Reserved`, 2 for
+    /// `Active`, or `None`.
     pub fn status(&mut self, peer: &[u8]) -> u64
         ensures { TellsStatus (scheme C.PublicKey C.Signature.FixedBytes) peer.now self.old self.new
             result }
@@ -66,8 +67,8 @@ impl<C: PublicKey> Session<C> {
         }
     }
 
-    /// `Directory::get_peer_set`: the number of primary peers, their keys, and the keys of the
-    /// secondary peers, or `None`.
+    /// Asks the session's node by `Directory::get_peer_set`: the number of primary peers, their
+    /// keys, and the keys of the secondary peers, or `None`.
     pub fn get_peer_set(&mut self, index: u64, out: &mut [u8]) -> u64
         ensures { TellsPeerSet (scheme C.PublicKey C.Signature.FixedBytes) index out.old out.new
             self.old self.new result }
@@ -75,7 +76,7 @@ impl<C: PublicKey> Session<C> {
         self.serve(Ok(Command::GetPeerSet(index)), out)
     }
 
-    /// `Directory::latest_set_index`: the index, or `None`.
+    /// Asks the session's node by `Directory::latest_set_index`: the index, or `None`.
     pub fn latest_set_index(&mut self, out: &mut [u8]) -> u64
         ensures { TellsLatestIndex (scheme C.PublicKey C.Signature.FixedBytes) out.old out.new
             self.old self.new result }
@@ -86,8 +87,9 @@ impl<C: PublicKey> Session<C> {
         tell_index(node.latest_set_index(), out)
     }
 
-    /// `Directory::latest_update`: the index, the lengths of the first three lists, and the primary
-    /// and secondary peers of the latest set and of all sets, or `None`.
+    /// Asks the session's node by `Directory::latest_update`. Returns the index, the lengths of the
+    /// first three lists, and the primary and secondary peers of the latest set and of all sets, or
+    /// `None`.
     pub fn latest_update(&mut self, out: &mut [u8]) -> u64
         ensures { TellsUpdate (scheme C.PublicKey C.Signature.FixedBytes) out.old out.new self.old
             self.new result }
@@ -95,8 +97,8 @@ impl<C: PublicKey> Session<C> {
         self.serve(Ok(Command::LatestUpdate), out)
     }
 
-    /// `Directory::all`: the number of primary peers, their keys, and the keys of the secondary
-    /// peers.
+    /// Asks the session's node by `Directory::all`: the number of primary peers, their keys, and
+    /// the keys of the secondary peers.
     pub fn all(&mut self, out: &mut [u8]) -> u64
         ensures { TellsAll (scheme C.PublicKey C.Signature.FixedBytes) out.old out.new self.old
             self.new result }
@@ -104,7 +106,7 @@ impl<C: PublicKey> Session<C> {
         self.serve(Ok(Command::All), out)
     }
 
-    /// `Directory::info`: the encoded info, or `None`.
+    /// Asks the session's node by `Directory::info`: the encoded info, or `None`.
     pub fn info(&mut self, _alloc: Global, peer: &[u8], out: &mut [u8]) -> u64
         ensures { TellsInfo (scheme C.PublicKey C.Signature.FixedBytes) peer.now out.old out.new
             self.old self.new result }
@@ -112,7 +114,8 @@ impl<C: PublicKey> Session<C> {
         self.serve(commands::info(peer), out)
     }
 
-    /// `Directory::get_random_bit_vec`: the encoded bits with their index, or `None`.
+    /// Asks the session's node by `Directory::get_random_bit_vec`: the encoded bits with their
+    /// index, or `None`.
     pub fn get_random_bit_vec(&mut self, _alloc: Global, place: u64, out: &mut [u8]) -> u64
         ensures { TellsBits (scheme C.PublicKey C.Signature.FixedBytes) place out.old out.new
             self.old self.new result }
@@ -120,7 +123,7 @@ impl<C: PublicKey> Session<C> {
         self.serve(Ok(Command::GetRandomBitVec(place as usize)), out)
     }
 
-    /// `Directory::eligible`: 1 or 0.
+    /// Asks the session's node by `Directory::eligible`: 1 or 0.
     pub fn eligible(&mut self, peer: &[u8], seconds: u64, nanos: u32) -> u64
         ensures { TellsEligible (scheme C.PublicKey C.Signature.FixedBytes) peer.now seconds nanos
             self.old self.new result }
@@ -135,7 +138,7 @@ impl<C: PublicKey> Session<C> {
         }
     }
 
-    /// `Directory::acceptable`: 1 or 0.
+    /// Asks the session's node by `Directory::acceptable`: 1 or 0.
     pub fn acceptable(&mut self, peer: &[u8], seconds: u64, nanos: u32) -> u64
         ensures { TellsAcceptable (scheme C.PublicKey C.Signature.FixedBytes) peer.now seconds nanos
             self.old self.new result }
@@ -150,7 +153,8 @@ impl<C: PublicKey> Session<C> {
         }
     }
 
-    /// `Directory::dialable`: whether a time to ask again follows, that time, and the keys.
+    /// Asks the session's node by `Directory::dialable`: whether a time to ask again follows, that
+    /// time, and the keys.
     pub fn dialable(&mut self, seconds: u64, nanos: u32, out: &mut [u8]) -> u64
         ensures { TellsDialable (scheme C.PublicKey C.Signature.FixedBytes) seconds nanos out.old
             out.new self.old self.new result }
@@ -158,7 +162,8 @@ impl<C: PublicKey> Session<C> {
         self.serve(commands::dialable(seconds, nanos), out)
     }
 
-    /// `Directory::tracked`: how many peers have a record, except the local node.
+    /// Asks the session's node by `Directory::tracked`: how many peers have a record, except the
+    /// local node.
     pub fn tracked(&mut self) -> u64
         ensures { TellsTracked (scheme C.PublicKey C.Signature.FixedBytes) self.old self.new result }
     {
@@ -168,7 +173,7 @@ impl<C: PublicKey> Session<C> {
         node.tracked() as u64
     }
 
-    /// `Directory::retained`. Returns the number of retained sets.
+    /// Asks the session's node by `Directory::retained`. Returns the number of retained sets.
     pub fn retained(&mut self) -> u64
         ensures { TellsRetained (scheme C.PublicKey C.Signature.FixedBytes)
             self.old self.new result }
@@ -179,7 +184,7 @@ impl<C: PublicKey> Session<C> {
         node.directory().retained() as u64
     }
 
-    /// `Directory::next_cooled`: the time, or `None`.
+    /// Asks the session's node by `Directory::next_cooled`: the time, or `None`.
     pub fn next_cooled(&mut self, out: &mut [u8]) -> u64
         ensures { TellsNextCooled (scheme C.PublicKey C.Signature.FixedBytes) out.old out.new
             self.old self.new result }
@@ -190,8 +195,9 @@ impl<C: PublicKey> Session<C> {
         tell_moment(node.directory().next_cooled(), out)
     }
 
-    /// Whom the reservation that is held of a peer is for: byte 0 for an inbound peer, or byte 1
-    /// and the encoded ingress that is dialled. `None` if none is held. It allocates nothing.
+    /// Asks the session's node whom the reservation held of a peer is for: byte 0 for an inbound
+    /// peer, or byte 1 and the encoded ingress that is dialled. `None` if none is held. It
+    /// allocates nothing.
     pub fn reservation(&mut self, peer: &[u8], out: &mut [u8]) -> u64
         ensures { TellsReservation (scheme C.PublicKey C.Signature.FixedBytes) peer.now out.old
             out.new self.old self.new result }

@@ -18,7 +18,8 @@ impl<C: PublicKey> Directory<C> {
     ghost use Rattle.p2p_tracker.specs.declared.record.Role.TheVariants as Role;
     ghost use Rattle.p2p_tracker.specs.PeerSets.{set_count};
 
-    /// Does nothing. Its contract says what holds between calls:
+    /// States the agreement of what the directory keeps, and does nothing. Its contract says what
+    /// holds between calls:
     ///
     /// - each record's two counts are the numbers of retained sets that name its peer in that role;
     /// - each peer of a set has a record;

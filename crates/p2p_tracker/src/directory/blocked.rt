@@ -27,8 +27,8 @@ impl<C: PublicKey> Directory<C> {
     ghost use Rattle.p2p_tracker.specs.Lists.{IsLeastOf};
     ghost use Rattle.p2p_tracker.specs.Moments.{cap};
 
-    /// Blocks the peer from the time `now` on, a duration since the epoch, for the configured
-    /// duration, whether or not it has a record. The sum is capped at `Duration::MAX`.
+    /// Blocks the peer in the directory from the time `now` on, a duration since the epoch, for the
+    /// configured duration, whether or not it has a record. The sum is capped at `Duration::MAX`.
     ///
     /// Returns false, doesn't allocate and changes nothing for the local node, or a peer that is
     /// blocked at `now`. Otherwise it returns true, and the peer is blocked until then; an earlier
@@ -62,8 +62,9 @@ impl<C: PublicKey> Directory<C> {
         self.blocks.block(*peer, now, until)
     }
 
-    /// Ends the blocks that hold until the time `now`, a duration since the epoch, or until an
-    /// earlier time, and returns whether there were any. Nothing else changes. It doesn't allocate.
+    /// Ends the directory's blocks that hold until the time `now`, a duration since the epoch, or
+    /// until an earlier time, and returns whether there were any. Nothing else changes. It doesn't
+    /// allocate.
     ///
     /// # Cost
     ///
@@ -78,9 +79,9 @@ impl<C: PublicKey> Directory<C> {
         self.blocks.drop_until(now) > 0
     }
 
-    /// When the first block ends, as a duration since the epoch, or `None` if there is no block. A
-    /// block that has ended counts until [`Directory::unblock_expired`] removes it. It doesn't
-    /// allocate.
+    /// When the first block of the directory's blocked peers ends, as a duration since the epoch,
+    /// or `None` if there is no block. A block that has ended counts until
+    /// [`Directory::unblock_expired`] removes it. It doesn't allocate.
     ///
     /// # Cost
     ///
@@ -94,8 +95,8 @@ impl<C: PublicKey> Directory<C> {
         }
     }
 
-    /// The peers that are blocked at the time `now`, a duration since the epoch: those whose block
-    /// ends later.
+    /// The peers that are blocked in the directory at the time `now`, a duration since the epoch:
+    /// those whose block ends later.
     ///
     /// # Errors
     ///
@@ -111,7 +112,7 @@ impl<C: PublicKey> Directory<C> {
         blocked_at(self.alloc, &self.blocks, now)
     }
 
-    // Whether the peer is the local node.
+    // Whether the peer is the directory's local node, which is never blocked.
     fn is_own(&self, peer: &C) -> bool
         ensures { result ≡ option_map_or (λ r. is_myself r.address)
             (record_of C.cmp self.now peer.now) false }
@@ -119,7 +120,7 @@ impl<C: PublicKey> Directory<C> {
         self.own.cmp(peer) == Ordering::Equal
     }
 
-    // Whether the peer is blocked at this time.
+    // Whether the peer is blocked in the directory at this time.
     pub(super) fn is_blocked(&self, peer: &C, now: Duration) -> bool
         ensures { result ≡ is_blocked_in C.cmp self.now (as_nanos now) peer.now }
     {
@@ -130,7 +131,8 @@ impl<C: PublicKey> Directory<C> {
     }
 }
 
-/// The peers whose blocks hold at the time `now`, a duration since the epoch.
+/// The peers that are blocked in a directory by these blocks at the time `now`, a duration since
+/// the epoch.
 ///
 /// # Errors
 ///
@@ -153,7 +155,8 @@ pub fn blocked_at<C: PublicKey>(
     Ok(ordered(peers))
 }
 
-// Those of the peers whose blocks end after `now`, in their order.
+// Those of the directory's peers that are still blocked at `now`, as their blocks end later, in
+// their order.
 fn peers_after<C: PublicKey>(
     alloc: Global,
     blocks: btree_map::Iter<'_, C, Duration>,

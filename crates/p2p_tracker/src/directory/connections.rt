@@ -12,9 +12,10 @@ impl<C: PublicKey> Directory<C> {
     ghost use Rattle.p2p_tracker.specs.Directory.{IsBusy, IsReserved, StayBusy, has_status};
     ghost use Rattle.p2p_tracker.specs.Directory.{Releases, Connects};
 
-    /// Releases a reservation: its peer is inert. If it was for a dial, this counts one failure at
-    /// the address that was dialled. If the record is deletable then, it is removed; the cooldown
-    /// stays. Every other peer that is reserved or connected stays so. It doesn't allocate.
+    /// Releases a reservation in the directory or the connection that was made of it: its peer is
+    /// inert. If it was for a dial, this counts one failure at the address that was dialled. If the
+    /// record is deletable then, it is removed; the cooldown stays. Every other peer that is
+    /// reserved or connected stays so. It doesn't allocate.
     ///
     /// # Conditions
     ///
@@ -40,8 +41,9 @@ impl<C: PublicKey> Directory<C> {
         self.sets.renew(metadata.public_key(), known);
     }
 
-    /// Connects a reserved peer: it is active. If the local node dialled it, its failure count is
-    /// reset. Every other peer that is reserved or connected stays so. It doesn't allocate.
+    /// Connects a peer that is reserved in the directory by making its reservation a connection: it
+    /// is active. If the local node dialled it, its failure count is reset. Every other peer that
+    /// is reserved or connected stays so. It doesn't allocate.
     ///
     /// # Conditions
     ///
@@ -60,8 +62,9 @@ impl<C: PublicKey> Directory<C> {
         let _connected = self.try_connect(peer, dialer);
     }
 
-    /// Connects the peer as [`Directory::connect`] does, if it is reserved, and returns whether it
-    /// was. If it wasn't, nothing changes. It doesn't allocate.
+    /// Connects the peer as [`Directory::connect`] does, by making its reservation a connection, if
+    /// it is reserved, and returns whether it was. If it wasn't, nothing changes. It doesn't
+    /// allocate.
     ///
     /// # Cost
     ///

@@ -23,9 +23,10 @@ impl<C: PublicKey> Directory<C> {
     ghost use Rattle.p2p_tracker.specs.Directory.{IsNumberCooledIn, ForgetsCooled, dial_moment_in};
     ghost use Rattle.p2p_tracker.specs.Lists.{IsLeastOf};
 
-    /// Forgets the cooldown of each peer whose dial time is at or before `now`, a duration since
-    /// the epoch, and returns how many there were. Such a peer is reservable and dialable from the
-    /// epoch on, also in its record if it has one. Nothing else changes. It doesn't allocate.
+    /// Forgets the cooldown of each of the directory's peers that has cooled, by a dial time at or
+    /// before `now`, and returns how many there were. The time is a duration since the epoch. Such
+    /// a peer is reservable and dialable from the epoch on, also in its record if it has one.
+    /// Nothing else changes. It doesn't allocate.
     ///
     /// # Cost
     ///
@@ -42,9 +43,9 @@ impl<C: PublicKey> Directory<C> {
         forget_each(&mut self.records, &mut self.cooldowns, now)
     }
 
-    /// The earliest time, a duration since the epoch, at which [`Directory::forget_cooled`] forgets
-    /// something: the earliest of the dial times. `None` if there are no cooldowns. It doesn't
-    /// allocate.
+    /// The earliest time, a duration since the epoch, at which a peer has cooled and
+    /// [`Directory::forget_cooled`] forgets something: the earliest of the dial times. `None` if
+    /// there are no cooldowns. It doesn't allocate.
     ///
     /// # Cost
     ///
@@ -58,7 +59,7 @@ impl<C: PublicKey> Directory<C> {
     }
 }
 
-// The earliest of the dial times.
+// The earliest of the dial times at which one of the directory's peers has cooled.
 fn next_dial<C: PublicKey>(cooldowns: &Cooldowns<C>) -> Option<Duration>
     ensures { option_map as_nanos result ≡ least_by (λ e. Some e.1.dial_at) cooldowns.now }
 {
@@ -69,8 +70,8 @@ fn next_dial<C: PublicKey>(cooldowns: &Cooldowns<C>) -> Option<Duration>
     next
 }
 
-// Forgets the cooldown of each peer whose dial time is at or before `now`, in its record too, and
-// returns how many there were.
+// Forgets the cooldown of each of the directory's peers that has cooled, by a dial time at or
+// before `now`, in its record too, and returns how many there were.
 fn forget_each<C: PublicKey>(
     records: &mut Records<C>,
     cooldowns: &mut Cooldowns<C>,
@@ -93,8 +94,8 @@ fn forget_each<C: PublicKey>(
     count
 }
 
-// Clears the cooldown in the record of each peer whose dial time is at or before `now`, and returns
-// how many such peers there are.
+// Clears the cooldown in the directory's record of each peer that has cooled, by a dial time at or
+// before `now`, and returns how many such peers there are.
 fn clear_each<C: PublicKey>(
     records: &mut Records<C>,
     cooldowns: &Cooldowns<C>,
@@ -112,8 +113,8 @@ fn clear_each<C: PublicKey>(
     count
 }
 
-// Clears this cooldown in the record of the peer if its dial time is at or before `now`, and
-// returns how many that are: 0 or 1.
+// Clears this cooldown in the directory's record of the peer if it has cooled, by a dial time at or
+// before `now`, and returns their number: 0 or 1.
 fn clear_one<C: PublicKey>(
     records: &mut Records<C>,
     peer: &C,

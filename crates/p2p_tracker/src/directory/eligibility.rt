@@ -16,8 +16,9 @@ impl<C: PublicKey> Directory<C> {
     ghost use Rattle.p2p_tracker.specs.Lists.{Somebody};
     ghost use Rattle.p2p_tracker.specs.Record.{is_eligible, is_acceptable};
 
-    /// Whether the peer may be connected at the time `now`, a duration since the epoch: it is not
-    /// blocked, and its record is eligible. False if there is no record. It doesn't allocate.
+    /// Whether the peer is eligible in the directory, and may be connected at the time `now`, a
+    /// duration since the epoch: it is not blocked, and its record is eligible. False if there is
+    /// no record. It doesn't allocate.
     ///
     /// # Cost
     ///
@@ -31,9 +32,9 @@ impl<C: PublicKey> Directory<C> {
         }
     }
 
-    /// Whether an inbound connection of the peer may be accepted at the time `now`, a duration
-    /// since the epoch: it is not blocked, and its record is acceptable. False if there is no
-    /// record. It doesn't allocate.
+    /// Whether the peer is eligible and inert in the directory, so that an inbound connection of it
+    /// may be accepted at the time `now`, a duration since the epoch. It is if it is not blocked,
+    /// and its record is acceptable. False if there is no record. It doesn't allocate.
     ///
     /// # Cost
     ///
@@ -47,12 +48,13 @@ impl<C: PublicKey> Directory<C> {
         }
     }
 
-    /// The peers that may be dialled at the time `now`, a duration since the epoch, in ascending
-    /// order: those whose dial status is [`Now`](crate::record::DialStatus::Now) and that are not
-    /// blocked. `next_query_at` says from when asking again is useful. It is the earliest of the
-    /// ends of the blocks of peers that have a record, and of the dial times of the others whose
-    /// status is [`After`](crate::record::DialStatus::After). While nothing is called in between,
-    /// the result stays the same before that time, or for ever if there is none.
+    /// The eligible peers of the directory that may be dialled at the time `now`, a duration since
+    /// the epoch, in ascending order. They are those whose dial status is
+    /// [`Now`](crate::record::DialStatus::Now) and that are not blocked. `next_query_at` says from
+    /// when asking again is useful. It is the earliest of the ends of the blocks of peers that have
+    /// a record, and of the dial times of the others whose status is
+    /// [`After`](crate::record::DialStatus::After). While nothing is called in between, the result
+    /// stays the same before that time, or for ever if there is none.
     ///
     /// # Errors
     ///

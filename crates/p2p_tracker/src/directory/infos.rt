@@ -38,8 +38,8 @@ const FIRST: usize = 32;
 impl<C: PublicKey> Directory<C> {
     ghost use Rattle.p2p_tracker.specs.Directory.{IsBusy, sharable_in, infos_in, bit_vec_at};
 
-    /// The info of the peer that may be shared: that of the local node, and that of a connected
-    /// peer. It allocates only for an info whose ingress is a name.
+    /// The info of the peer that the directory may share: that of the local node, and that of a
+    /// connected peer. It allocates only for an info whose ingress is a name.
     ///
     /// # Errors
     ///
@@ -60,10 +60,10 @@ impl<C: PublicKey> Directory<C> {
         }
     }
 
-    /// The infos to send to a peer that sent these bits, at the time `now`, a duration since the
-    /// epoch. They are those of the primary peers whose bit is false, in order, of the retained set
-    /// with the index. An info is left out if it may not be shared, or its timestamp is above the
-    /// whole milliseconds of `now`.
+    /// The directory's infos to send to a peer that sent these bits, at the time `now`, a duration
+    /// since the epoch. They are those of the primary peers whose bit is false, in order, of the
+    /// retained set with the index. An info is left out if it may not be shared, or its timestamp
+    /// is above the whole milliseconds of `now`.
     ///
     /// Returns an empty list if no retained set has the index, and `None` if the number of bits
     /// differs from the number of its primary peers. It allocates only if an info is shared: for
@@ -102,8 +102,8 @@ impl<C: PublicKey> Directory<C> {
         }
     }
 
-    /// The infos that [`Directory::infos`] returns, by a search for each key of a map, if that is
-    /// less work. It allocates as that does.
+    /// The infos that [`Directory::infos`] returns, by a search for each key of a map of busy
+    /// peers, if that is less work. It allocates as that does.
     ///
     /// # Conditions
     ///
@@ -155,9 +155,9 @@ impl<C: PublicKey> Directory<C> {
         }
     }
 
-    /// The bits of the retained set at a position, counted from 0 in order of index, with its
-    /// index: for each primary peer in order whether its info is known and not wanted. `None` if
-    /// there is no such position.
+    /// The bits of the directory's retained set at a position, counted from 0 in order of index,
+    /// with its index, by which infos are asked for. They say for each primary peer in order
+    /// whether its info is known and not wanted. `None` if there is no such position.
     ///
     /// # Errors
     ///
@@ -180,15 +180,16 @@ impl<C: PublicKey> Directory<C> {
     }
 }
 
-/// The whole milliseconds of a time, at most `u64::MAX`.
+/// The whole milliseconds of a time, at most `u64::MAX`, with which a directory compares timestamps
+/// of infos.
 pub fn epoch_millis(now: Duration) -> u64
     ensures { result ≡ epoch_millis (as_nanos now) }
 {
     u64::try_from(now.as_millis()).unwrap_or(u64::MAX)
 }
 
-/// The infos of these peers that are shared with a peer that sent the bits, or `None` if the number
-/// of bits differs. Those with a timestamp above the milliseconds are left out.
+/// The infos of these peers that the directory shares with a peer that sent the bits, or `None` if
+/// the number of bits differs. Those with a timestamp above the milliseconds are left out.
 ///
 /// # Errors
 ///
@@ -217,7 +218,8 @@ pub fn shared_for<C: PublicKey>(
     Ok(Some(infos))
 }
 
-// Whether at least so many bits are false.
+// Whether at least so many infos are unknown to a peer that asks the directory, by the bits that
+// are false.
 fn are_unknown(bits: &BitMap, count: usize) -> bool {
     let mut left = count;
     for place in 0..bits.len() {
@@ -231,8 +233,8 @@ fn are_unknown(bits: &BitMap, count: usize) -> bool {
     left == 0
 }
 
-// Appends copies of the infos of these peers that are shared, by one walk along the records and the
-// peers together, which are both in order.
+// Appends copies of the infos of these peers that the directory shares, by one walk along the
+// records and the peers together, which are both in order.
 fn copy_walked<C: PublicKey>(
     infos: &mut Vec<Info<C>>,
     records: &Records<C>,
@@ -261,7 +263,8 @@ fn copy_walked<C: PublicKey>(
     Ok(())
 }
 
-// The first position, from that one on, of a peer whose bit is false and that is not below the key.
+// The first position, from that one on, of a peer whose info the directory is asked for, as its bit
+// is false, and that is not below the key.
 fn first_from<C: PublicKey>(peers: &[C], bits: &BitMap, place: usize, key: &C) -> usize
     requires same { length bits.now ≡ length peers.now }
     requires within { place ≤ length peers.now }
@@ -277,7 +280,8 @@ fn first_from<C: PublicKey>(peers: &[C], bits: &BitMap, place: usize, key: &C) -
     peers.len()
 }
 
-// The same by one search among the records for each peer whose bit is false.
+// Appends copies of the infos of these peers that the directory shares, by one search among the
+// records for each peer whose bit is false.
 fn copy_shared<C: PublicKey>(
     infos: &mut Vec<Info<C>>,
     records: &Records<C>,
@@ -299,7 +303,7 @@ fn copy_shared<C: PublicKey>(
     Ok(())
 }
 
-// The info of the peer that is shared if this is its bit.
+// The info of the peer that the directory shares if this is its bit.
 fn shared<'a, C: PublicKey>(
     records: &'a Records<C>,
     peer: &C,
@@ -314,7 +318,7 @@ fn shared<'a, C: PublicKey>(
     shared_by(records.get(peer)?, millis)
 }
 
-// The record's info, if it is shared.
+// The record's info, if the directory shares it.
 fn shared_by<C: PublicKey>(found: &Record<C>, millis: u64) -> Option<&Info<C>>
     ensures { option_copied result ≡ shared_of_record millis found.now }
 {
@@ -326,8 +330,8 @@ fn shared_by<C: PublicKey>(found: &Record<C>, millis: u64) -> Option<&Info<C>>
     }
 }
 
-// The infos of these peers that are shared, if each that may be is the own one or that of a key of
-// the map.
+// The infos of these peers that the directory shares, if each that may be shared is the own one or
+// that of a key of the map.
 fn shared_among<C: PublicKey, V>(
     alloc: Global,
     records: &Records<C>,
@@ -355,8 +359,8 @@ fn shared_among<C: PublicKey, V>(
     Ok(Some(found))
 }
 
-// Appends copies of the infos of these peers that are shared, of the own key and of these keys
-// alone, in order.
+// Appends copies of the infos of these peers that the directory shares, of the own key and of these
+// keys alone, in order.
 fn copy_among<C: PublicKey, V>(
     infos: &mut Vec<Info<C>>,
     records: &Records<C>,
@@ -385,8 +389,8 @@ fn copy_among<C: PublicKey, V>(
     Ok(())
 }
 
-// Appends a copy of the own info, if it is left and its place is before this key. Returns whether
-// it is left then.
+// Appends a copy of the directory's own info, if it is left and its place is before this key.
+// Returns whether it is left then.
 fn copy_own_before<C: PublicKey>(
     infos: &mut Vec<Info<C>>,
     records: &Records<C>,
@@ -422,7 +426,7 @@ fn copy_own_before<C: PublicKey>(
     }
 }
 
-// Appends a copy of the info of the peer, if it is one of these and its info is shared.
+// Appends a copy of the info of the peer, if it is one of these and the directory shares its info.
 fn copy_asked<C: PublicKey>(
     infos: &mut Vec<Info<C>>,
     records: &Records<C>,
@@ -444,8 +448,8 @@ fn copy_asked<C: PublicKey>(
     copy_info(infos, info, peers.len() - place)
 }
 
-// Appends a copy of the info, if there is one. There is capacity for some of the infos that may be
-// left once the first is appended.
+// Appends a copy of the info that the directory shares, if there is one. There is capacity for some
+// of the infos that may be left once the first is appended.
 fn copy_info<C: PublicKey>(
     infos: &mut Vec<Info<C>>,
     info: Option<&Info<C>>,

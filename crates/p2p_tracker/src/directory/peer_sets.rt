@@ -15,7 +15,8 @@ impl<C: PublicKey> Directory<C> {
     ghost use Rattle.p2p_tracker.specs.Directory.{peer_set_in, is_named_of, AreAllOf, IsUpdateOf};
     ghost use Rattle.p2p_tracker.specs.Lists.{Somebody};
 
-    /// The peers of the retained set with this index, by role, or `None` if there is no such set.
+    /// The peers of the directory's retained peer set with this index, by role, or `None` if there
+    /// is no such set.
     ///
     /// # Errors
     ///
@@ -35,8 +36,8 @@ impl<C: PublicKey> Directory<C> {
         }
     }
 
-    /// The latest set with its index, and the peers of all retained sets, or `None` if no set was
-    /// registered.
+    /// The directory's latest peer set with its index, and the peers of all retained sets, or
+    /// `None` if no set was registered.
     ///
     /// # Errors
     ///
@@ -59,7 +60,8 @@ impl<C: PublicKey> Directory<C> {
         }
     }
 
-    /// The index of the latest peer set, or `None` if none was registered. It doesn't allocate.
+    /// The index of the directory's latest peer set, or `None` if none was registered. It doesn't
+    /// allocate.
     ///
     /// # Cost
     ///
@@ -70,8 +72,8 @@ impl<C: PublicKey> Directory<C> {
         self.sets.latest_index()
     }
 
-    /// How many peer sets are retained: at most [`Config::max_sets`](crate::directory::Config). It
-    /// doesn't allocate.
+    /// How many peer sets the directory retains: at most
+    /// [`Config::max_sets`](crate::directory::Config). It doesn't allocate.
     ///
     /// # Cost
     ///
@@ -82,7 +84,8 @@ impl<C: PublicKey> Directory<C> {
         self.sets.len()
     }
 
-    /// The peers of all retained sets, by role: one that is primary in some set is primary only.
+    /// The peers of all peer sets that the directory retains, by role: one that is primary in some
+    /// set is primary only.
     ///
     /// # Errors
     ///
@@ -99,7 +102,7 @@ impl<C: PublicKey> Directory<C> {
     }
 }
 
-// The peers of a set, by role.
+// The peers of one of the directory's retained peer sets, by role.
 fn peers_in<C: PublicKey>(set: &PeerSet<C>) -> Result<TrackedPeers<C>, AllocError>
     ensures peers { IfOk result (λ peers. peers ≡ peers_of (plain_set set.now)) }
     ensures err { OnErr result (has_peers (plain_set set.now) ≡ true) }

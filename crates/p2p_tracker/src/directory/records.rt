@@ -68,16 +68,16 @@ impl<C: PublicKey> Records<C> {
         Ok(Records { map })
     }
 
-    /// The record of the peer.
+    /// The record of the peer among the directory's records.
     pub fn get(&self, peer: &C) -> Option<&Record<C>>
         ensures { option_copied result ≡ record_at C.cmp self.now peer.now }
     {
         self.map.get(peer)
     }
 
-    /// Reserves the inbound peer at the time `now` if that may be granted, and stores the times of
-    /// its cooldown. One search serves both. Returns whether it was reserved; if not, nothing has
-    /// changed.
+    /// Reserves the inbound peer among the directory's records at the time `now` if that may be
+    /// granted, and stores the times of its cooldown. One search serves both. Returns whether it
+    /// was reserved; if not, nothing has changed.
     pub fn reserve_coming(
         &mut self,
         cooldowns: &mut Cooldowns<C>,
@@ -107,9 +107,9 @@ impl<C: PublicKey> Records<C> {
         Ok(true)
     }
 
-    /// Reserves the peer at the time `now` if it may be dialled then, and stores the times of its
-    /// cooldown. One search serves both. Returns the ingress to dial; if there is none, nothing has
-    /// changed.
+    /// Reserves the peer among the directory's records at the time `now` if it may be dialled then,
+    /// and stores the times of its cooldown. One search serves both. Returns the ingress to dial;
+    /// if there is none, nothing has changed.
     pub fn reserve_dialled(
         &mut self,
         cooldowns: &mut Cooldowns<C>,
@@ -140,7 +140,8 @@ impl<C: PublicKey> Records<C> {
         Ok(Some(ingress))
     }
 
-    /// Lets the peer be reserved and dialled from the epoch on.
+    /// Lets the peer be reserved and dialled from the epoch on, by its record among the directory's
+    /// records.
     pub fn forget_cooldown(&mut self, peer: &C)
         ensures { ChangesAt C.cmp self.old self.new peer.now (option_map (with_cooldown None)) }
     {
@@ -149,8 +150,9 @@ impl<C: PublicKey> Records<C> {
         }
     }
 
-    /// Ends the reservation of its peer, and removes the record if it is deletable then. Returns
-    /// whether the peer's info is known and not wanted, before and after.
+    /// Ends the reservation of its peer among the directory's records, and removes the record if it
+    /// is deletable then. Returns whether the peer's info is known and not wanted, before and
+    /// after.
     pub fn release(&mut self, metadata: &Metadata<C>, limit: usize) -> BitChange
         requires { is_busy (record_at C.cmp self.old (key_of metadata.now)) ≡ true }
         ensures change { ChangesAt C.cmp self.old self.new (key_of metadata.now)
@@ -177,8 +179,9 @@ impl<C: PublicKey> Records<C> {
         known
     }
 
-    /// Marks the peer as connected if it is reserved, and returns whether its info is known and not
-    /// wanted, before and after. Returns `None`, and changes nothing, if it isn't reserved.
+    /// Marks the peer as connected among the directory's records if it is reserved, and returns
+    /// whether its info is known and not wanted, before and after. Returns `None`, and changes
+    /// nothing, if it isn't reserved.
     pub fn connect(&mut self, peer: &C, dialer: bool, limit: usize) -> Option<BitChange>
         ensures none { IfNone result (self.new ≡ self.old) }
         ensures unreserved { IfNone result
@@ -204,8 +207,9 @@ impl<C: PublicKey> Records<C> {
         })
     }
 
-    /// Offers an info to the record of its peer. If it is accepted, returns whether the peer's info
-    /// is known and not wanted, before and after; if not, nothing has changed.
+    /// Offers an info to the record of its peer among the directory's records. If it is accepted,
+    /// returns whether the peer's info is known and not wanted, before and after; if not, nothing
+    /// has changed.
     pub fn update(&mut self, info: Info<C>, limit: usize) -> Option<BitChange>
         ensures change { ChangesAt C.cmp self.old self.new info.public_key
             (option_map (updated_record (info ∷ []))) }
@@ -229,7 +233,7 @@ impl<C: PublicKey> Records<C> {
         None
     }
 
-    /// The records in ascending order of their keys. It doesn't allocate.
+    /// The directory's records in ascending order of their keys. It doesn't allocate.
     pub fn iter(&self) -> btree_map::Iter<'_, C, Record<C>>
         ensures all { result ≡ self.now }
         ensures sorted { IsStrictlySortedBy C.cmp (keys_of self.now) }
@@ -237,7 +241,7 @@ impl<C: PublicKey> Records<C> {
         self.map.iter()
     }
 
-    /// How many records there are.
+    /// How many records the directory has.
     pub fn len(&self) -> usize
         ensures count { result ≡ length self.now }
         ensures sorted { IsStrictlySortedBy C.cmp (keys_of self.now) }
@@ -246,15 +250,16 @@ impl<C: PublicKey> Records<C> {
     }
 }
 
-// Whether an inbound connection of the record's peer may be granted at the time `now`.
+// Whether an inbound connection of the peer of one of the directory's records may be granted at the
+// time `now`.
 fn comes<C: PublicKey>(found: &Record<C>, now: Duration) -> bool
     ensures { result ≡ may_come (as_nanos now) found.now }
 {
     found.eligible() && found.reserve_result(now) == ReserveResult::Reserved
 }
 
-// Reserves the peer of the record at the time `now`, and stores its times. It allocates for these
-// before the record changes.
+// Reserves the peer of one of the directory's records at the time `now`, and stores its times. It
+// allocates for these before the record changes.
 fn keep_reserved<C: PublicKey>(
     found: &mut Record<C>,
     cooldowns: &mut Cooldowns<C>,
@@ -277,7 +282,8 @@ fn keep_reserved<C: PublicKey>(
     Ok(())
 }
 
-// Connects the peer of the record; `dialer` says whether the local node dialled it.
+// Connects the peer of one of the directory's records; `dialer` says whether the local node dialled
+// it.
 fn connect_record<C: PublicKey>(found: &mut Record<C>, dialer: bool)
     requires { is_reserved found.old.status ≡ true }
     ensures { found.new ≡ connected_record dialer found.old }
@@ -288,7 +294,8 @@ fn connect_record<C: PublicKey>(found: &mut Record<C>, dialer: bool)
     }
 }
 
-// The ingress to dial if a dial of the record's peer is granted at the time `now`.
+// The ingress to dial if a dial of the peer of one of the directory's records is granted at the
+// time `now`.
 fn dialled_by<C: PublicKey>(
     found: &Record<C>,
     now: Duration,

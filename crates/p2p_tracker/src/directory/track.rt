@@ -21,8 +21,8 @@ use p2p_discovery::codec::PublicKey;
 use p2p_discovery::sets::OrderedSet;
 use std::alloc::AllocError;
 
-/// Counts a set for its peers, sets its bits, and adds it as the latest. If an allocation fails,
-/// nothing has changed.
+/// Adds the set that the directory is to track as the latest, counts it for its peers, and sets its
+/// bits. If an allocation fails, nothing has changed.
 pub fn add<C: PublicKey>(
     sets: &mut Window<C>,
     records: &mut Records<C>,
@@ -54,8 +54,8 @@ pub fn add<C: PublicKey>(
     }
 }
 
-/// Drops the oldest set if there is one too many, and counts one set less for its peers. Returns
-/// the peers that must be disconnected, in the list that is passed in.
+/// Drops the oldest set that the directory tracks if there is one too many, and counts one set less
+/// for its peers. Returns the peers that must be disconnected, in the list that is passed in.
 pub fn drop_oldest<C: PublicKey>(
     sets: &mut Window<C>,
     records: &mut Records<C>,

@@ -12,7 +12,8 @@ use crate::kept::window::Window;
 use p2p_discovery::codec::PublicKey;
 use p2p_discovery::discovery::Info;
 
-/// Offers each info to the record of its peer, and updates the peer's bits if it is accepted.
+/// Updates the directory's record of each info's peer with the info, and the peer's bits if it is
+/// accepted.
 pub fn update_each<C: PublicKey>(
     sets: &mut Window<C>,
     records: &mut Records<C>,
@@ -30,7 +31,8 @@ pub fn update_each<C: PublicKey>(
     }
 }
 
-// Offers one info.
+// Updates the directory's record of one info's peer with the info, and the peer's bits if it is
+// accepted.
 fn update_one<C: PublicKey>(
     sets: &mut Window<C>,
     records: &mut Records<C>,

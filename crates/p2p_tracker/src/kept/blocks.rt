@@ -48,7 +48,7 @@ impl<C: PublicKey> Model for Blocks<C> {
 }
 
 impl<C: PublicKey> Blocks<C> {
-    /// No block. It doesn't allocate.
+    /// No blocks. It doesn't allocate.
     pub fn new(alloc: Global) -> Self
         ensures { result ≡ [] }
     {
@@ -59,9 +59,9 @@ impl<C: PublicKey> Blocks<C> {
         }
     }
 
-    /// Blocks the peer until `until`, a duration since the epoch, and returns true. If it is blocked
-    /// at `now`, since it has a block that ends later, nothing changes, and it returns false and
-    /// doesn't allocate. A block that had ended is replaced. Other peers keep theirs.
+    /// Keeps a block of the peer until `until`, a duration since the epoch, and returns true. If it
+    /// is blocked at `now`, since it has a block that ends later, nothing changes, and it returns
+    /// false and doesn't allocate. A block that had ended is replaced. Other peers keep theirs.
     ///
     /// # Errors
     ///
@@ -92,7 +92,8 @@ impl<C: PublicKey> Blocks<C> {
         )
     }
 
-    /// The end of the peer's block, or `None` if it has none. It doesn't allocate.
+    /// The end of the block that is kept of the peer, or `None` if it has none. It doesn't
+    /// allocate.
     ///
     /// # Cost
     ///
@@ -103,8 +104,8 @@ impl<C: PublicKey> Blocks<C> {
         self.moments.get(key).copied()
     }
 
-    /// The earliest end, with the least key of those that have it, or `None` if there is no block.
-    /// It doesn't allocate.
+    /// The earliest end of the blocks that are kept, with the least key of those that have it, or
+    /// `None` if there is no block. It doesn't allocate.
     ///
     /// # Cost
     ///
@@ -115,8 +116,9 @@ impl<C: PublicKey> Blocks<C> {
         self.first
     }
 
-    /// Removes each peer whose block ends at or before `now`, a duration since the epoch, and
-    /// returns how many there were. Other peers keep theirs. It doesn't allocate.
+    /// Removes each peer whose block ends at or before `now`, a duration since the epoch, from the
+    /// blocks that are kept, and returns how many there were. Other peers keep theirs. It doesn't
+    /// allocate.
     ///
     /// # Cost
     ///
@@ -146,8 +148,8 @@ impl<C: PublicKey> Blocks<C> {
     }
 }
 
-// Blocks the key until this time unless it is blocked at `now`, and finds the first to end again if
-// it may have changed.
+// Keeps a block of the key until this time unless it is blocked at `now`, and finds the first to
+// end again if it may have changed.
 fn put_block<C: PublicKey>(
     moments: &mut BTreeMap<C, Duration>,
     expirations: &mut BTreeSet<(u128, C)>,
@@ -178,8 +180,8 @@ fn put_block<C: PublicKey>(
     Ok(true)
 }
 
-// Whether the first of the ends belongs to another key, and isn't after that of this key at this
-// time.
+// Whether the block that ends first is of another key, and doesn't end after that of this key at
+// this time.
 fn stays_first<C: PublicKey>(first: &Option<(Duration, C)>, key: &C, moment: Duration) -> bool
     ensures behind { result ≡ true → IfSome (end_in_nanos first.now)
         (λ e. (is_at (C.cmp key.now) e.1 ≡ false)
@@ -196,8 +198,8 @@ fn stays_first<C: PublicKey>(first: &Option<(Duration, C)>, key: &C, moment: Dur
     }
 }
 
-// Sets this end for the key in both, unless the key is blocked at `now`. If an allocation fails,
-// both have the same pairs as before.
+// Sets the end of the key's block in both collections, unless the key is blocked at `now`. If an
+// allocation fails, both have the same pairs as before.
 fn put_end<C: PublicKey>(
     moments: &mut BTreeMap<C, Duration>,
     expirations: &mut BTreeSet<(u128, C)>,
@@ -245,7 +247,7 @@ fn put_end<C: PublicKey>(
     }
 }
 
-// Adds this end of the key.
+// Adds this end of the key's block to those that are kept.
 fn add_end<C: PublicKey>(
     expirations: &mut BTreeSet<(u128, C)>,
     key: C,
@@ -265,7 +267,7 @@ fn add_end<C: PublicKey>(
     }
 }
 
-// Puts an end of the key in the place of the one that it has: `before`.
+// Puts an end of the key's block in the place of the one that it has: `before`.
 fn move_end<C: PublicKey>(
     expirations: &mut BTreeSet<(u128, C)>,
     key: C,
@@ -287,7 +289,7 @@ fn move_end<C: PublicKey>(
     Ok(())
 }
 
-// The first of the ends, with its time as it was passed in.
+// The block that ends first, with its time as it was passed in.
 fn first_to_end<C: PublicKey>(
     moments: &BTreeMap<C, Duration>,
     expirations: &BTreeSet<(u128, C)>,
@@ -301,7 +303,7 @@ fn first_to_end<C: PublicKey>(
     Some((*moment, *key))
 }
 
-// Removes the first of the ends if it is at or before `now`.
+// Removes the first of the blocks' ends if it is at or before `now`.
 fn take_ended<C: PublicKey>(
     expirations: &mut BTreeSet<(u128, C)>,
     now: Duration,
@@ -321,7 +323,7 @@ fn take_ended<C: PublicKey>(
     }
 }
 
-// Removes each block that ends at or before `now`, and returns how many there were.
+// Removes each block that is kept and ends at or before `now`, and returns how many there were.
 fn drop_ended<C: PublicKey>(
     moments: &mut BTreeMap<C, Duration>,
     expirations: &mut BTreeSet<(u128, C)>,
@@ -346,7 +348,7 @@ fn drop_ended<C: PublicKey>(
     count
 }
 
-// Whether there is a first end, and it is at or before `now`.
+// Whether there is a block that ends first, and it ends at or before `now`.
 fn has_ended<C: PublicKey>(first: &Option<(Duration, C)>, now: Duration) -> bool
     ensures { result ≡
         option_map_or (λ e. nat_le e.0 (as_nanos now)) (end_in_nanos first.now) false }
@@ -357,7 +359,8 @@ fn has_ended<C: PublicKey>(first: &Option<(Duration, C)>, now: Duration) -> bool
     }
 }
 
-// Removes each pair whose end is at or before `now`, and returns how many there were.
+// Removes each block that is kept and ends at or before `now`, from both collections, and returns
+// how many there were.
 fn take_each<C: PublicKey>(
     moments: &mut BTreeMap<C, Duration>,
     expirations: &mut BTreeSet<(u128, C)>,

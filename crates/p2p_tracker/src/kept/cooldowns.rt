@@ -45,7 +45,7 @@ impl<C: PublicKey> Model for Cooldowns<C> {
 }
 
 impl<C: PublicKey> Cooldowns<C> {
-    /// No peer. It doesn't allocate.
+    /// No cooldowns. It doesn't allocate.
     pub fn new(alloc: Global) -> Self
         ensures { result ≡ [] }
     {
@@ -55,7 +55,7 @@ impl<C: PublicKey> Cooldowns<C> {
         }
     }
 
-    /// Sets the peer's cooldown, replacing any that it had. Other peers keep theirs.
+    /// Keeps the peer's cooldown, replacing any that it had. Other peers keep theirs.
     ///
     /// # Errors
     ///
@@ -73,7 +73,7 @@ impl<C: PublicKey> Cooldowns<C> {
         put_cooldown(&mut self.moments, &mut self.bound, key, moments)
     }
 
-    /// The cooldown of the peer, or `None` if it has none. It doesn't allocate.
+    /// The cooldown that is kept of the peer, or `None` if it has none. It doesn't allocate.
     ///
     /// # Cost
     ///
@@ -84,7 +84,7 @@ impl<C: PublicKey> Cooldowns<C> {
         self.moments.get(key).copied()
     }
 
-    /// How many peers there are. It doesn't allocate.
+    /// Of how many peers cooldowns are kept. It doesn't allocate.
     pub fn len(&self) -> usize
         ensures count { result ≡ length self.now }
         ensures sorted { IsStrictlySortedBy C.cmp (keys_of self.now) }
@@ -92,8 +92,8 @@ impl<C: PublicKey> Cooldowns<C> {
         self.moments.len()
     }
 
-    /// False only if no dial time is at or before `now`, a duration since the epoch. It doesn't
-    /// allocate.
+    /// False only if no dial time of the cooldowns that are kept is at or before `now`, a duration
+    /// since the epoch. It doesn't allocate.
     ///
     /// # Cost
     ///
@@ -112,8 +112,8 @@ impl<C: PublicKey> Cooldowns<C> {
         self.moments.iter()
     }
 
-    /// Removes each peer whose dial time is at or before `now`, a duration since the epoch. Other
-    /// peers keep theirs. It doesn't allocate.
+    /// Removes from the cooldowns that are kept each peer whose dial time is at or before `now`, a
+    /// duration since the epoch. Other peers keep theirs. It doesn't allocate.
     ///
     /// # Cost
     ///
@@ -126,7 +126,7 @@ impl<C: PublicKey> Cooldowns<C> {
     }
 }
 
-// Sets the key's cooldown, and lowers the bound if its dial time is less.
+// Keeps the key's cooldown, and lowers the bound if its dial time is less.
 fn put_cooldown<C: PublicKey>(
     moments: &mut BTreeMap<C, (Duration, Duration)>,
     bound: &mut u128,
@@ -152,7 +152,7 @@ fn put_cooldown<C: PublicKey>(
     }
 }
 
-// Removes each peer whose dial time is at or before `now`.
+// Keeps only the cooldowns whose dial time is later than `now`.
 fn keep_later<C: PublicKey>(moments: &mut BTreeMap<C, (Duration, Duration)>, now: Duration)
     ensures { cooldowns_view moments.new.entries ≡
         filter (λ e. not (has_cooled (as_nanos now) e)) (cooldowns_view moments.old.entries) }
@@ -160,7 +160,7 @@ fn keep_later<C: PublicKey>(moments: &mut BTreeMap<C, (Duration, Duration)>, now
     moments.retain(|_, cooldown| now.as_nanos() < cooldown.1.as_nanos());
 }
 
-// The earliest dial time in nanoseconds, or `u128::MAX` if there is none.
+// The earliest dial time of the cooldowns, in nanoseconds, or `u128::MAX` if there is none.
 fn least_dial<C: PublicKey>(moments: &BTreeMap<C, (Duration, Duration)>) -> u128
     ensures { All (λ m. result ≤ as_nanos m.1) (values_of moments.now.entries) }
 {

@@ -7,11 +7,12 @@ use p2p_discovery::codec::PublicKey;
 use std::alloc::AllocError;
 use std::collections::BTreeMap;
 
-/// Drops a value. Its drop, which branches on the contents, is here and not in the caller.
+/// Drops a value that was in a map. Its drop, which branches on the contents, is here and not in
+/// the caller.
 pub fn drop_value<T: Drop>(_value: T) {}
 
-/// Sets the value of the key, replacing any that it had. If an allocation fails, nothing has
-/// changed.
+/// Sets the value of the key in a map, replacing any that it had. If an allocation fails, nothing
+/// has changed.
 pub fn put<C: PublicKey, V: Drop>(
     map: &mut BTreeMap<C, V>,
     key: C,

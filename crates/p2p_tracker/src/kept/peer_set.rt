@@ -41,7 +41,8 @@ impl<C: PublicKey> Model for PeerSet<C> {
 }
 
 impl<C: PublicKey> PeerSet<C> {
-    /// The set of these peers, with no bit set; a peer in both roles is primary only.
+    /// The peer set to be kept of these peers, with no bit set; a peer in both roles is primary
+    /// only.
     pub fn new(
         alloc: Global,
         index: u64,
@@ -60,14 +61,14 @@ impl<C: PublicKey> PeerSet<C> {
         })
     }
 
-    /// Its index.
+    /// The index of the kept peer set.
     pub fn index(&self) -> u64
         ensures { result ≡ self.now.index }
     {
         self.index
     }
 
-    /// Its primary peers with their bits.
+    /// The primary peers of the kept peer set with their bits.
     pub fn primary(&self) -> &BitSet<C>
         ensures bits { result.now ≡ self.now.primary }
         ensures disjoint { AreRolesDisjoint C.cmp (plain_set self.now) }
@@ -75,14 +76,14 @@ impl<C: PublicKey> PeerSet<C> {
         &self.primary
     }
 
-    /// Its secondary peers.
+    /// The secondary peers of the kept peer set.
     pub fn secondary(&self) -> &OrderedSet<C>
         ensures { result.now ≡ self.now.secondary }
     {
         &self.secondary
     }
 
-    /// Sets the bit of the primary peer at a position, if there is one.
+    /// Sets the bit of the kept peer set's primary peer at a position, if there is one.
     pub fn set_bit(&mut self, place: usize, known: bool)
         ensures { self.new ≡
             record self.old { primary = with_bit self.old.primary place known } }

@@ -43,7 +43,7 @@ impl Model for Links {
 }
 
 impl Links {
-    /// The link of the peer at a position, if it has one.
+    /// The place that is linked from the peer at a position, if it has a link.
     pub fn get(&self, at: usize) -> Option<Place>
         ensures { result ≡ get_or self.now at None }
     {
@@ -75,7 +75,7 @@ impl<C: PublicKey> Model for Places<C> {
 }
 
 impl<C: PublicKey> Places<C> {
-    /// No key. It doesn't allocate.
+    /// No places of keys. It doesn't allocate.
     pub fn new(alloc: Global) -> Self
         ensures { result ≡ [] }
     {
@@ -84,7 +84,7 @@ impl<C: PublicKey> Places<C> {
         }
     }
 
-    /// The latest position of the key.
+    /// The latest place of the key, which is a position in a set.
     ///
     /// # Cost
     ///
@@ -98,8 +98,8 @@ impl<C: PublicKey> Places<C> {
         }
     }
 
-    /// Makes the position of each of the keys in this list, in the set with this index, its latest,
-    /// and returns the positions before.
+    /// Makes the position of each of the keys in this list, in the set with this index, its latest
+    /// place, and returns the places before.
     ///
     /// # Conditions
     ///
@@ -135,7 +135,7 @@ impl<C: PublicKey> Places<C> {
         Ok(links)
     }
 
-    /// Removes the keys whose latest position is in the set with this index. It doesn't allocate.
+    /// Removes the keys whose latest place is in the set with this index. It doesn't allocate.
     ///
     /// # Cost
     ///
@@ -148,7 +148,7 @@ impl<C: PublicKey> Places<C> {
     }
 }
 
-// The latest position of each of the keys: the links of the set with this index.
+// The latest place of each of the keys: the links of the set with this index.
 fn links_of<C: PublicKey>(
     alloc: Global,
     latest: &[(C, Place)],
@@ -170,7 +170,8 @@ fn links_of<C: PublicKey>(
     Ok(Links { set, older })
 }
 
-// From a position of the list on: the position after the key, and what is stored for the key.
+// Looks up a key's place from a position of the list of places on: the position after the key, and
+// what is stored for the key.
 fn place_from<C: PublicKey>(latest: &[(C, Place)], from: usize, key: &C) -> (usize, Option<Place>)
     requires { IsStrictlySortedBy C.cmp (keys_of latest.now) }
     ensures rest { drop result.0 latest.now ≡ behind_key C.cmp key.now (drop from latest.now) }
@@ -187,7 +188,7 @@ fn place_from<C: PublicKey>(latest: &[(C, Place)], from: usize, key: &C) -> (usi
     (latest.len(), None)
 }
 
-// How many keys had no position.
+// How many keys had no place.
 fn count_new(links: &Links) -> usize
     ensures { result ≡ count_by (λ place. not (is_some place)) links.now }
 {
@@ -200,8 +201,8 @@ fn count_new(links: &Links) -> usize
     count
 }
 
-// Makes the position of each of the keys in this list, in the set with this index, its latest. Each
-// has one already.
+// Makes the position of each of the keys in this list, in the set with this index, its latest
+// place. Each has one already.
 fn write_each<C: PublicKey>(latest: &mut [(C, Place)], keys: &[C], set: u64)
     requires places { IsStrictlySortedBy C.cmp (keys_of latest.old) }
     requires keys { IsStrictlySortedBy C.cmp keys.now }
@@ -219,7 +220,7 @@ fn write_each<C: PublicKey>(latest: &mut [(C, Place)], keys: &[C], set: u64)
     }
 }
 
-// The position in the list of a key, which is one of those from a position on.
+// The position of a key in the list of places, which is one of those from a position on.
 fn find_from<C: PublicKey>(latest: &[(C, Place)], from: usize, key: &C) -> usize
     requires sorted { IsStrictlySortedBy C.cmp (keys_of latest.now) }
     requires met { has_key C.cmp (drop from (keys_of latest.now)) key.now ≡ true }
@@ -238,8 +239,8 @@ fn find_from<C: PublicKey>(latest: &[(C, Place)], from: usize, key: &C) -> usize
     unreachable!()
 }
 
-// Writes the keys with their latest positions, after the set with this index has been added with
-// its keys, to a list that has capacity for them.
+// Writes the keys with their latest places, after the set with this index has been added with its
+// keys, to a list that has capacity for them.
 fn merge<C: PublicKey>(latest: &[(C, Place)], keys: &[C], set: u64, merged: &mut Vec<(C, Place)>)
     requires places { IsStrictlySortedBy C.cmp (keys_of latest.now) }
     requires keys { IsStrictlySortedBy C.cmp keys.now }
@@ -259,7 +260,8 @@ fn merge<C: PublicKey>(latest: &[(C, Place)], keys: &[C], set: u64, merged: &mut
     copy_rest(latest, from, merged);
 }
 
-// Copies what is before the key, from a position on, and returns the position after the key.
+// Copies the places before the key, from a position of the list on, and returns the position after
+// the key.
 fn copy_before<C: PublicKey>(
     latest: &[(C, Place)],
     from: usize,
@@ -285,7 +287,7 @@ fn copy_before<C: PublicKey>(
     latest.len()
 }
 
-// Copies everything from a position on.
+// Copies all places from a position of the list on.
 fn copy_rest<C: PublicKey>(latest: &[(C, Place)], from: usize, copied: &mut Vec<(C, Place)>)
     requires { length copied.old.items + length (drop from latest.now) ≤ vec_capacity copied.old }
     ensures { copied.new.items ≡ copied.old.items ++ drop from latest.now }

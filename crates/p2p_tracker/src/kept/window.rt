@@ -49,7 +49,7 @@ impl<C: PublicKey> Model for Window<C> {
 }
 
 impl<C: PublicKey> Window<C> {
-    /// A window with no set.
+    /// A window with no retained set.
     pub fn new(alloc: Global) -> Self
         ensures { result ≡ [] }
     {
@@ -60,42 +60,43 @@ impl<C: PublicKey> Window<C> {
         }
     }
 
-    /// How many sets there are.
+    /// How many retained sets the window has.
     pub fn len(&self) -> usize
         ensures { result ≡ length self.now }
     {
         self.sets.len()
     }
 
-    /// Does nothing. Its contract says that the indices of the sets ascend.
+    /// Does nothing to the window of retained sets. Its contract says that the indices of the sets
+    /// ascend.
     pub fn agrees(&self)
         ensures { IsAscending self.now }
     {
         let _count = self.sets.len();
     }
 
-    /// The set at a position, counted from 0 in order of index.
+    /// The set at a position of the window, counted from 0 in order of index.
     pub fn at(&self, place: usize) -> Option<&PeerSet<C>>
         ensures { option_copied result ≡ slice_get self.now place }
     {
         self.sets.get(place)
     }
 
-    /// The set with an index.
+    /// The set of the window with an index.
     pub fn get(&self, index: u64) -> Option<&PeerSet<C>>
         ensures { option_copied result ≡ set_at self.now index }
     {
         set_with_index(&self.sets, index)
     }
 
-    /// The latest set.
+    /// The latest set of the window.
     pub fn last(&self) -> Option<&PeerSet<C>>
         ensures { option_copied result ≡ last_or None self.now }
     {
         self.sets.back()
     }
 
-    /// The index of the latest set.
+    /// The index of the latest set of the window.
     pub fn latest_index(&self) -> Option<u64>
         ensures { result ≡ latest_index (plain_sets self.now) }
     {
@@ -105,7 +106,7 @@ impl<C: PublicKey> Window<C> {
         }
     }
 
-    /// Whether the index is above that of the latest set, if there is one.
+    /// Whether the index is above that of the window's latest set, if there is one.
     pub fn is_next(&self, index: u64) -> bool
         ensures { result ≡ is_above index (latest_index (plain_sets self.now)) }
     {
@@ -115,8 +116,8 @@ impl<C: PublicKey> Window<C> {
         }
     }
 
-    /// How many peers the oldest set has if adding one more drops it, that is, if there are `max`
-    /// sets.
+    /// How many peers the oldest set of the window has if adding one more drops it, that is, if
+    /// there are `max` sets.
     ///
     /// # Errors
     ///
@@ -135,8 +136,8 @@ impl<C: PublicKey> Window<C> {
         }
     }
 
-    /// Adds a set as the latest. If an allocation fails, nothing has changed, and the set is
-    /// returned.
+    /// Adds a set to the window as the latest. If an allocation fails, nothing has changed, and the
+    /// set is returned.
     ///
     /// # Conditions
     ///
@@ -155,7 +156,7 @@ impl<C: PublicKey> Window<C> {
         push_set(&mut self.sets, &mut self.links, &mut self.places, set)
     }
 
-    /// Removes the set with the lowest index. It doesn't allocate.
+    /// Removes the set with the lowest index from the window. It doesn't allocate.
     ///
     /// # Cost
     ///
@@ -167,8 +168,8 @@ impl<C: PublicKey> Window<C> {
         pop_set(&mut self.sets, &mut self.links, &mut self.places)
     }
 
-    /// Sets the peer's bit in every set that has it as primary, and returns in how many. It doesn't
-    /// allocate.
+    /// Sets the peer's bit in every set of the window that has it as primary, and returns in how
+    /// many. It doesn't allocate.
     ///
     /// # Cost
     ///
@@ -182,8 +183,8 @@ impl<C: PublicKey> Window<C> {
         refresh_places(&mut self.sets, &self.links, &self.places, peer, known)
     }
 
-    /// Sets the peer's bit in every set that has it as primary if it was another before. It doesn't
-    /// allocate.
+    /// Sets the peer's bit in every set of the window that has it as primary if it was another
+    /// before. It doesn't allocate.
     ///
     /// # Conditions
     ///
@@ -202,7 +203,7 @@ impl<C: PublicKey> Window<C> {
     }
 }
 
-// The first set with an index.
+// The first set of the window with an index.
 fn set_with_index<C: PublicKey>(sets: &VecDeque<PeerSet<C>>, index: u64) -> Option<&PeerSet<C>>
     ensures { option_copied result ≡ set_at sets.now.items index }
 {
@@ -215,7 +216,8 @@ fn set_with_index<C: PublicKey>(sets: &VecDeque<PeerSet<C>>, index: u64) -> Opti
     None
 }
 
-// Adds a set as the latest with the positions of its primary peers, or leaves everything as it was.
+// Adds a set to the window as the latest with the positions of its primary peers, or leaves
+// everything as it was.
 fn push_set<C: PublicKey>(
     sets: &mut VecDeque<PeerSet<C>>,
     links: &mut VecDeque<Links>,
@@ -245,7 +247,7 @@ fn push_set<C: PublicKey>(
     }
 }
 
-// Removes the first set with the positions of its primary peers.
+// Removes the first set of the window with the positions of its primary peers.
 fn pop_set<C: PublicKey>(
     sets: &mut VecDeque<PeerSet<C>>,
     links: &mut VecDeque<Links>,
@@ -262,7 +264,7 @@ fn pop_set<C: PublicKey>(
     Some(oldest)
 }
 
-// Sets the bit at each position of the peer, and returns how many there are.
+// Sets the bit at each position that the peer has in the window, and returns how many there are.
 fn refresh_places<C: PublicKey>(
     sets: &mut VecDeque<PeerSet<C>>,
     links: &VecDeque<Links>,
@@ -277,7 +279,7 @@ fn refresh_places<C: PublicKey>(
     set_bits(sets, links, places.get(peer), known)
 }
 
-// Sets the bit at each position that a walk visits, and returns how many there are.
+// Sets the bit at each position of the window that a walk visits, and returns how many there are.
 fn set_bits<C: PublicKey>(
     sets: &mut VecDeque<PeerSet<C>>,
     links: &VecDeque<Links>,
@@ -303,7 +305,7 @@ fn set_bits<C: PublicKey>(
     sets.len()
 }
 
-// The link stored for a peer of one of the sets.
+// The link stored in the window for a peer of one of its sets.
 fn link_at(links: &VecDeque<Links>, found: usize, at: usize) -> Option<Place>
     ensures { result ≡ get_or (get_or links.now.items found []) at None }
 {
@@ -313,7 +315,8 @@ fn link_at(links: &VecDeque<Links>, found: usize, at: usize) -> Option<Place>
     }
 }
 
-// Sets the bit at a position, in the set with its index, and returns which set that is.
+// Sets the bit at a position of the window, in the set with its index, and returns which set that
+// is.
 fn set_bit_at<C: PublicKey>(
     sets: &mut VecDeque<PeerSet<C>>,
     place: &Place,

@@ -8,21 +8,21 @@ use crate::record::{Record, Role, Status};
 use p2p_discovery::codec::PublicKey;
 
 impl<C: PublicKey> Record<C> {
-    /// In how many primary sets the peer is.
+    /// The record's count of primary sets in which the peer is.
     pub fn primary_sets(&self) -> usize
         ensures { result ≡ self.now.primary_sets }
     {
         self.primary_sets
     }
 
-    /// In how many secondary sets the peer is.
+    /// The record's count of secondary sets in which the peer is.
     pub fn secondary_sets(&self) -> usize
         ensures { result ≡ self.now.secondary_sets }
     {
         self.secondary_sets
     }
 
-    /// Counts one more primary set.
+    /// Adds one to the record's count of primary sets.
     ///
     /// # Conditions
     ///
@@ -34,7 +34,7 @@ impl<C: PublicKey> Record<C> {
         self.primary_sets += 1;
     }
 
-    /// Counts one primary set less.
+    /// Takes one from the record's count of primary sets.
     ///
     /// # Conditions
     ///
@@ -46,7 +46,7 @@ impl<C: PublicKey> Record<C> {
         self.primary_sets -= 1;
     }
 
-    /// Counts one more secondary set.
+    /// Adds one to the record's count of secondary sets.
     ///
     /// # Conditions
     ///
@@ -58,7 +58,7 @@ impl<C: PublicKey> Record<C> {
         self.secondary_sets += 1;
     }
 
-    /// Counts one secondary set less.
+    /// Takes one from the record's count of secondary sets.
     ///
     /// # Conditions
     ///
@@ -70,7 +70,7 @@ impl<C: PublicKey> Record<C> {
         self.secondary_sets -= 1;
     }
 
-    // Counts one more set of the role, up to `usize::MAX`.
+    // Adds one to the record's count of sets of the role, up to `usize::MAX`.
     pub(crate) fn count_more(&mut self, role: Role)
         ensures { self.new ≡ with_one_more role self.old }
     {
@@ -80,7 +80,7 @@ impl<C: PublicKey> Record<C> {
         }
     }
 
-    // Counts one set less of the role, if there is one.
+    // Takes one from the record's count of sets of the role, if it is above 0.
     pub(crate) fn count_less(&mut self, role: Role)
         ensures { self.new ≡ with_one_less role self.old }
     {
@@ -90,8 +90,8 @@ impl<C: PublicKey> Record<C> {
         }
     }
 
-    // Whether the peer must be disconnected once one set less of the role has it: it is not inert,
-    // is eligible, and would no longer be.
+    // Whether the record's peer must be disconnected once the count of sets of the role is one
+    // less: it is not inert, is eligible, and would no longer be.
     #[tactic(auto, unfolding(crate::specs::Private::Counts::is_torn_down_without))]
     pub(crate) fn is_torn_down_without(&self, role: Role) -> bool
         ensures { result ≡ is_torn_down_without role self.now }

@@ -39,7 +39,8 @@ pub struct Dialable<C: PublicKey> {
 }
 
 impl<C: PublicKey> Dialable<C> {
-    /// No peer may be dialled, and no time is known at which one may. It doesn't allocate.
+    /// An empty answer to a query about dialling, by which no peer may be dialled, and no time is
+    /// known at which one may. It doesn't allocate.
     pub fn new(alloc: Global) -> Self
         ensures peers { result.peers.items ≡ [] }
         ensures moment { result.next_query_at ≡ None }

@@ -7,8 +7,8 @@ ghost use Rattle.p2p_tracker.specs.Cooldowns.{cooldown_view};
 
 use std::time::Duration;
 
-/// From when a peer may be reserved again, and from when it may be dialled again, after a grant at
-/// the time `now`.
+/// The moments that follow for a record from a grant at the time `now`: from when a peer may be
+/// reserved again, and from when it may be dialled again.
 pub(crate) fn next_moments(
     now: Duration,
     draw: Duration,
@@ -21,7 +21,7 @@ pub(crate) fn next_moments(
     (reservable, jittered(reservable, draw, interval))
 }
 
-// The time with the jitter added.
+// The moment for a record with the jitter added.
 fn jittered(moment: Duration, draw: Duration, cooldown: Duration) -> Duration
     ensures { as_nanos result ≡ cap (as_nanos moment + jitter (as_nanos draw) (as_nanos cooldown)) }
 {

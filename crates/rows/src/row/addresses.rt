@@ -31,7 +31,7 @@ fn socket(address: [u8; 4]) -> Ingress {
     Ingress::Socket(SocketAddr::new(IpAddr::V4(address), 8080))
 }
 
-/// Which addresses are valid under the configuration.
+/// Prints the row of addresses: which are valid under the configuration.
 pub fn valid_addresses<W: Write>(alloc: Global, out: &mut W) -> Result<(), Stop> {
     let host = match Hostname::new(alloc, "example.com") {
         Ok(host) => host,

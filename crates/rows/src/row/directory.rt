@@ -13,7 +13,8 @@ use std::alloc::{AllocError, Global};
 use std::io::Write;
 use std::mem::replace;
 
-/// Does the preparation and then the steps, and prints a line for the reply to each step.
+/// Prints a row of a directory's calls: does the preparation and then the steps, and prints a line
+/// for the reply to each step.
 pub fn print_row<W: Write>(alloc: Global, row: &Row, out: &mut W) -> Result<(), Stop> {
     let setup = setup(alloc, row.settings)?;
     let lines = all_lines(alloc, row.prepared, row.steps)?;
@@ -22,7 +23,7 @@ pub fn print_row<W: Write>(alloc: Global, row: &Row, out: &mut W) -> Result<(), 
     print_replies(row.prepared.len(), replies.as_slice(), out)
 }
 
-// Prints a line for each reply from a position on.
+// Prints, for a row of a directory's calls, a line for each reply from a position on.
 fn print_replies<W: Write>(
     first: usize,
     replies: &[Reply<TestKey>],
@@ -39,7 +40,8 @@ fn print_replies<W: Write>(
     Ok(())
 }
 
-// The replies to the commands. At the end all reservations are released.
+// The replies to the commands in a row of a directory's calls. At the end all reservations are
+// released.
 fn replies(
     alloc: Global,
     setup: Setup<TestKey>,

@@ -31,7 +31,7 @@ impl fmt::Display for Refused {
     }
 }
 
-// Prints what was decoded, or ends the example if an allocation failed.
+// Prints what was decoded from the frame of a row, or ends the row if an allocation failed.
 fn print_decoded<W: Write>(out: &mut W, decoded: Result<Data, CodecError>) -> Result<(), Stop> {
     match decoded {
         Ok(data) => print(out, &Line(&data)),
@@ -39,7 +39,7 @@ fn print_decoded<W: Write>(out: &mut W, decoded: Result<Data, CodecError>) -> Re
     }
 }
 
-// Prints why nothing was decoded, or ends the example if an allocation failed.
+// Prints why nothing was decoded from the frame of a row, or ends the row if an allocation failed.
 fn print_refused<W: Write>(out: &mut W, error: CodecError) -> Result<(), Stop> {
     match error {
         CodecError::Memory => Err(Stop::Memory),
@@ -47,7 +47,7 @@ fn print_refused<W: Write>(out: &mut W, error: CodecError) -> Result<(), Stop> {
     }
 }
 
-/// A data frame, decoded under several limits on its message.
+/// Prints the row of a data frame, decoded under several limits on its message.
 pub fn data_frame<W: Write>(alloc: Global, out: &mut W) -> Result<(), Stop> {
     let data = Data {
         channel: 12_345,
@@ -62,7 +62,7 @@ pub fn data_frame<W: Write>(alloc: Global, out: &mut W) -> Result<(), Stop> {
     Ok(())
 }
 
-/// What remains after a frame.
+/// Prints the row of what remains after a frame.
 pub fn rest_of_a_frame<W: Write>(alloc: Global, out: &mut W) -> Result<(), Stop> {
     let frame: Bytes = Bytes::from_static(b"\x03\0\x01\x02\x03\x04\x05\x06\x07\x08\x09");
     let mut rest = frame.clone()?;
@@ -71,7 +71,7 @@ pub fn rest_of_a_frame<W: Write>(alloc: Global, out: &mut W) -> Result<(), Stop>
     print_decoded(out, Data::decode_cfg(alloc, frame, &ANY_LENGTH))
 }
 
-/// The buffers of encoded data.
+/// Prints the row of a frame's buffers in encoded data.
 pub fn encoded_data<W: Write>(alloc: Global, out: &mut W) -> Result<(), Stop> {
     let mut message = VecDeque::new(alloc);
     message.push_back(Bytes::from_static(b"hello "))?;
@@ -93,7 +93,8 @@ fn print_buffers<W: Write>(alloc: Global, message: VecDeque<Bytes>, out: &mut W)
     Ok(())
 }
 
-/// Payloads of bits under a limit, bits that are padded wrongly, and a prefix that doesn't exist.
+/// Prints the row of frames of bits under a limit, of bits that are padded wrongly, and of a prefix
+/// that doesn't exist.
 pub fn payloads<W: Write>(alloc: Global, out: &mut W) -> Result<(), Stop> {
     for (frame, max_bit_vec) in [
         (b"\x02\x05\x09\xff\x01".as_slice(), 8),
@@ -115,7 +116,8 @@ pub fn payloads<W: Write>(alloc: Global, out: &mut W) -> Result<(), Stop> {
     Ok(())
 }
 
-/// Numbers in non-canonical encodings, the longest name, and one too long.
+/// Prints the row of frames with numbers in non-canonical encodings, with the longest name, and
+/// with one too long.
 pub fn odd_numbers<W: Write>(alloc: Global, out: &mut W) -> Result<(), Stop> {
     for frame in [
         b"\x80\0\0".as_slice(),
@@ -134,7 +136,7 @@ pub fn odd_numbers<W: Write>(alloc: Global, out: &mut W) -> Result<(), Stop> {
     print_ingress_size(alloc, Bytes::copy_from_slice(alloc, &long)?, out)
 }
 
-// A name of 253 bytes, with its port.
+// A frame of a row, of a name of 253 bytes, with its port.
 fn longest_name(alloc: Global) -> Result<Bytes, AllocError> {
     let mut frame = Vec::new(alloc);
     frame.extend_from_slice(b"\x01\xfd\x01")?;
@@ -154,7 +156,7 @@ fn extend(frame: &mut Vec<u8>, byte: u8, count: usize) -> Result<(), AllocError>
     Ok(())
 }
 
-// Prints the size of the encoded ingress, or why it isn't one.
+// Prints the size of the ingress that the frame of a row encodes, or why it isn't one.
 fn print_ingress_size<W: Write>(alloc: Global, frame: Bytes, out: &mut W) -> Result<(), Stop> {
     match Ingress::decode(alloc, frame) {
         Ok(ingress) => print(out, &ingress.encode_size()),

@@ -22,14 +22,15 @@ impl fmt::Display for Judged {
     }
 }
 
-// The verifier of peer 9, which accepts so many infos at a time, up to half a minute ahead.
+// The verifier by which the infos of a row are judged, of peer 9, which accepts so many at a time,
+// up to half a minute ahead.
 fn verifier(alloc: Global, greatest: usize) -> Result<InfoVerifier<TestKey>, AllocError> {
     let namespace = NAMESPACE.to_vec(alloc)?;
     let bound = Duration::from_secs(30);
     Ok(Info::verifier(TestKey(9), greatest, bound, namespace))
 }
 
-/// Which infos are valid at time 0, and why others are rejected.
+/// Prints the row of how infos are judged: which are valid at time 0, and why others are rejected.
 pub fn judged_infos<W: Write>(alloc: Global, out: &mut W) -> Result<(), Stop> {
     let now = Duration::ZERO;
     let two = [info(alloc, "1@0")?, info(alloc, "2@0")?];

@@ -9,8 +9,8 @@ use std::test::Fail;
 
 const ROW_STEPS: usize = 2_048;
 
-/// Whether all lines are printed with status 0, or they end after one of them, with `out of memory`
-/// and status 3.
+/// Whether all lines of a row are printed with status 0, or they end for lack of memory after one
+/// of them, with `out of memory` and status 3.
 fn is_whole_or_cut(printed: &[u8], lines: &[u8], status: u8) -> bool {
     let Some(before) = printed.strip_suffix(b"out of memory\n") else {
         return status == 0 && printed == lines;
@@ -18,7 +18,7 @@ fn is_whole_or_cut(printed: &[u8], lines: &[u8], status: u8) -> bool {
     status == 3 && lines.starts_with(before) && (before.is_empty() || before.ends_with(b"\n"))
 }
 
-/// Runs an example with each budget.
+/// Runs a row with each budget of memory.
 fn runs_at_each_budget(
     rt: &impl Abort,
     alloc: Global,

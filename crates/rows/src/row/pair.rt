@@ -13,7 +13,8 @@ use p2p_discovery::codec::TestKey;
 use std::alloc::{AllocError, Global};
 use std::io::Write;
 
-/// Exchanges between two nodes, each part with new ones: each result of an exchange.
+/// Prints the row of exchanges of a pair of nodes, each part with new ones: each result of an
+/// exchange.
 pub fn exchanges<W: Write>(alloc: Global, out: &mut W) -> Result<(), Stop> {
     for part in &PARTS {
         print_part(alloc, part, out)?;
@@ -30,7 +31,7 @@ fn print_part<W: Write>(alloc: Global, part: &Part, out: &mut W) -> Result<(), S
     print_replies(part.prepared.len(), replies.as_slice(), out)
 }
 
-// Prints a line for each reply from a position on.
+// Prints, for a row of a pair of nodes, a line for each reply from a position on.
 fn print_replies<W: Write>(
     first: usize,
     replies: &[PairReply<TestKey>],
@@ -55,7 +56,8 @@ fn is_out_of_memory(reply: &PairReply<TestKey>) -> bool {
     }
 }
 
-// The replies to the commands. At the end all reservations are released.
+// The replies to the commands in a row of a pair of nodes. At the end all reservations are
+// released.
 fn replies(
     alloc: Global,
     left: Setup<TestKey>,

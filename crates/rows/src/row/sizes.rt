@@ -7,14 +7,14 @@ use p2p_discovery::sizing::{max_message_size, max_retained_peers, peer_set_limit
 use std::io::Write;
 use std::num::NonZeroUsize;
 
-/// Maximum sizes of gossip, and of an info.
+/// Prints the row of maximum sizes of gossip, and of an info.
 pub fn gossip_sizes<W: Write>(out: &mut W) -> Result<(), Stop> {
     print(out, &max_gossip_size::<TestKey>(1_000, 32))?;
     print(out, &max_gossip_size::<TestKey>(100_000, 0))?;
     print(out, &Info::<TestKey>::max_encode_size())
 }
 
-/// Sizes of messages and of sets of peers.
+/// Prints the row of sizes of messages and of sets of peers.
 pub fn sizes<W: Write>(out: &mut W) -> Result<(), Stop> {
     message_sizes(out)?;
     retained_peers(out)?;
@@ -42,7 +42,7 @@ fn set_sizes<W: Write>(out: &mut W) -> Result<(), Stop> {
     print(out, &set_size(Some(&TestKey(4))))
 }
 
-// The number of peers of the sets [1, 3] and [2, 3] and one more.
+// The size of a set in a row, the number of peers of the sets [1, 3] and [2, 3] and one more.
 fn set_size(extension: Option<&TestKey>) -> usize {
     peer_set_size(
         &[TestKey(1), TestKey(3)],

@@ -170,7 +170,7 @@ fn refuses_other_words(rt: HostRuntime) -> Result<(), Fail> {
     Ok(())
 }
 
-// Runs the words with a writer that fails after each number of bytes.
+// Tests a row by running the words with a writer that fails after each number of bytes.
 fn fails_at_each_byte(
     rt: &impl Abort,
     alloc: Global,

@@ -82,7 +82,7 @@ impl Tracker {
         self.done = self.done.saturating_add(more);
     }
 
-    // Releases what is held in a slot, and returns whether anything was.
+    // Releases what is held in a slot during the timed hour, and returns whether anything was.
     fn release(&mut self, place: usize) -> bool {
         let Some(slot) = self.slots.get_mut(place) else {
             return false;
@@ -98,7 +98,7 @@ impl Tracker {
         self.slots.get(place).copied()?
     }
 
-    // Releases the peers of a set.
+    // Releases the peers of a set that must be disconnected during the timed hour.
     fn release_torn(&mut self, torn: &OrderedSet<Key32>) {
         for place in 0..CONNECTIONS {
             let Some(peer) = self.held(place) else {
@@ -119,7 +119,8 @@ impl Tracker {
         CONNECTIONS
     }
 
-    // Connects a peer that was reserved if it may stay and a slot is free, and else releases it.
+    // Connects a peer that was reserved during the timed hour if it may stay and a slot is free,
+    // and else releases it.
     fn keep(&mut self, peer: Key32, is_dialer: bool, may_stay: bool) {
         self.count(1);
         let place = self.free_slot();
@@ -259,7 +260,7 @@ fn inbound_of(
     Ok(inbound)
 }
 
-// What happens in a tick among the peers that are in the set.
+// What happens in a tick of the timed hour among the peers that are in the set.
 fn tick_of(
     alloc: Global,
     number: usize,
@@ -288,7 +289,8 @@ fn tick_of(
     })
 }
 
-// A frame with infos of those in the set, whose timestamps begin at a position: one in ten is newer than before.
+// A frame of the timed hour with infos of those in the set, whose timestamps begin at a position:
+// one in ten is newer than before.
 fn infos_of(
     alloc: Global,
     here: &[Key32],
@@ -329,7 +331,7 @@ fn question_of(
     Ok(question.encode(alloc)?)
 }
 
-// The frames of each connection.
+// The frames that each connection receives during the timed hour.
 fn frames_of(
     alloc: Global,
     minute: usize,
@@ -353,7 +355,7 @@ fn frames_of(
     Ok(frames)
 }
 
-// The time of all ticks.
+// The time of all ticks of the timed hour.
 fn time_ticks(rt: &HostRuntime, tracker: &mut Tracker, count: usize) -> Result<Duration, Stop> {
     let mut random = Random(count as u64);
     let all = keys(rt.alloc(), count.saturating_mul(2))?;
@@ -423,10 +425,10 @@ fn hour(rt: &HostRuntime, count: usize) -> Result<(Duration, usize), Stop> {
     Ok((time?, done))
 }
 
-/// So many hours of a tracker with so many peers in a set: each minute a set of whom a sixteenth
-/// are new; each tick of ten seconds blocks that end, eight connections that end, four dials of
-/// which half fail, eight inbound peers, eight that are asked about, one block; and of each
-/// connection a frame of infos, a question, and a question to it.
+/// Times so many hours of a tracker with so many peers in a set: each minute a set of whom a
+/// sixteenth are new; each tick of ten seconds blocks that end, eight connections that end, four
+/// dials of which half fail, eight inbound peers, eight that are asked about, one block; and of
+/// each connection a frame of infos, a question, and a question to it.
 pub(crate) fn hours(rt: &HostRuntime, count: usize, samples: usize) -> Result<Times, Stop> {
     let mut times = Times::new(rt.alloc());
     for _ in 0..samples {

@@ -49,7 +49,7 @@ struct Nodes {
     replier: Node<Key32>,
 }
 
-// The frame of these infos.
+// The frame of these infos that a timed node receives.
 fn frame_of(alloc: Global, keys: &[Key32], timestamp: u64) -> Result<Bytes, Stop> {
     let infos = infos_of(alloc, keys, timestamp)?;
     if infos.len() >= 4_294_967_296 {
@@ -59,7 +59,8 @@ fn frame_of(alloc: Global, keys: &[Key32], timestamp: u64) -> Result<Bytes, Stop
     Ok(payload.encode(alloc)?)
 }
 
-// The set at an index, of which a quarter is new; of all keys there are 64 times as many as in a set.
+// The set at an index that a timed node tracks, of which a quarter is new; of all keys there are 64
+// times as many as in a set.
 fn set_at(alloc: Global, keys: &[Key32], index: usize) -> Result<TrackedPeers<Key32>, AllocError> {
     let count = keys.len() / 64;
     let span = keys.len().saturating_sub(count).max(1);
@@ -70,7 +71,7 @@ fn set_at(alloc: Global, keys: &[Key32], index: usize) -> Result<TrackedPeers<Ke
     )
 }
 
-// Prepares a call.
+// Prepares a call of a node that is timed.
 fn make_ready(
     alloc: Global,
     replier: &mut Node<Key32>,
@@ -116,7 +117,7 @@ fn cycles(node: &mut Node<Key32>, keys: &[Key32], now: Duration) -> usize {
     done
 }
 
-// Exchanges the infos of the last set, and returns how many were received.
+// Lets two timed nodes exchange the infos of the last set, and returns how many were received.
 fn exchanged(asker: &mut Node<Key32>, replier: &mut Node<Key32>) -> usize {
     let now = Duration::from_secs(1_000_000);
     match exchange(asker, replier, 3, now, now) {
@@ -132,7 +133,7 @@ fn dialable(node: &mut Node<Key32>) -> usize {
     }
 }
 
-// Makes a call, and returns how much it did.
+// Makes a timed call of a node, and returns how much it did.
 fn make(nodes: &mut Nodes, keys: &[Key32], ready: Ready) -> usize {
     let Nodes { asker, replier } = nodes;
     match ready {
@@ -150,8 +151,8 @@ fn make(nodes: &mut Nodes, keys: &[Key32], ready: Ready) -> usize {
     }
 }
 
-// Sets of all these peers on both sides, as many as are retained; the replier is connected with
-// each.
+// Fills two timed nodes with sets of all these peers, as many as are retained; the replier is
+// connected with each.
 fn fill(alloc: Global, nodes: &mut Nodes, keys: &[Key32]) -> Result<(), Stop> {
     let Nodes { asker, replier } = nodes;
     for index in 0..SETS {
@@ -165,7 +166,7 @@ fn fill(alloc: Global, nodes: &mut Nodes, keys: &[Key32]) -> Result<(), Stop> {
     Ok(())
 }
 
-// Makes the call so many times.
+// Times a call of nodes so many times.
 fn time_each(
     rt: &HostRuntime,
     nodes: &mut Nodes,
@@ -203,7 +204,7 @@ fn time(
     time_each(rt, nodes, &all, samples, call)
 }
 
-/// Calls of nodes with so many peers in four sets.
+/// Times calls of nodes with so many peers in four sets.
 pub(crate) fn of_nodes(
     rt: &HostRuntime,
     count: usize,

@@ -45,7 +45,7 @@ fn commands(alloc: Global, keys: &[Key32], kind: Kind) -> Result<Vec<Command<Key
     Ok(commands)
 }
 
-// Serves the commands; `Kind::Whole` includes the end of the run.
+// Times a run that serves the commands; `Kind::Whole` includes the end of the run.
 fn serve(
     rt: &HostRuntime,
     commands: Vec<Command<Key32>>,
@@ -67,7 +67,7 @@ fn serve(
     Ok(())
 }
 
-/// Runs of commands.
+/// Times runs of commands.
 pub(crate) fn runs(
     rt: &HostRuntime,
     count: usize,

@@ -23,7 +23,7 @@ pub(crate) enum Way {
     Decode,
 }
 
-// As many addresses, by number or by name.
+// As many addresses, by number or by name, whose encoding for the wire is timed.
 fn addresses(alloc: Global, count: usize, are_names: bool) -> Result<Vec<Ingress>, Stop> {
     let mut all = Vec::with_capacity(alloc, count)?;
     for place in 0..count {
@@ -66,7 +66,7 @@ fn decode_each<T: Read<Cfg = ()> + Drop>(alloc: Global, frames: &[Bytes]) -> Res
     Ok(all)
 }
 
-// Decodes these values, each by itself.
+// Times the decoding of these values from the wire, each by itself.
 fn decodings<T: Read<Cfg = ()> + Drop>(
     rt: &HostRuntime,
     frames: &[Bytes],
@@ -81,7 +81,7 @@ fn decodings<T: Read<Cfg = ()> + Drop>(
     Ok(times)
 }
 
-/// Addresses, each by itself.
+/// Times the encoding of addresses for the wire, or the decoding, each by itself.
 pub(crate) fn ingresses(
     rt: &HostRuntime,
     count: usize,
@@ -103,7 +103,7 @@ pub(crate) fn ingresses(
     Ok(times)
 }
 
-/// Infos, each by itself.
+/// Times the encoding of infos for the wire, or the decoding, each by itself.
 pub(crate) fn infos(
     rt: &HostRuntime,
     count: usize,
@@ -131,7 +131,7 @@ const WIDE: PayloadConfig = PayloadConfig {
     max_data_length: 1_000_000,
 };
 
-// One payload.
+// Times the encoding of one payload for the wire, or the decoding.
 fn payload(
     rt: &HostRuntime,
     payload: Payload<Key32>,
@@ -159,7 +159,7 @@ fn payload(
     Ok(times)
 }
 
-/// A payload of infos.
+/// Times the encoding of a payload of infos for the wire, or the decoding.
 pub(crate) fn peers(
     rt: &HostRuntime,
     count: usize,
@@ -174,7 +174,7 @@ pub(crate) fn peers(
     payload(rt, Payload::Peers(Infos::from_vec(infos)), samples, way)
 }
 
-/// A payload of bits.
+/// Times the encoding of a payload of bits for the wire, or the decoding.
 pub(crate) fn bits(
     rt: &HostRuntime,
     count: usize,
@@ -185,7 +185,7 @@ pub(crate) fn bits(
     payload(rt, Payload::BitVec(BitVec { index: 3, bits }), samples, way)
 }
 
-/// Verification of a list of infos.
+/// Times the verification of a list of infos that came over the wire.
 pub(crate) fn judgements(rt: &HostRuntime, count: usize, samples: usize) -> Result<Times, Stop> {
     let alloc = rt.alloc();
     let infos = infos_of(alloc, &keys(alloc, count)?, 1000)?;

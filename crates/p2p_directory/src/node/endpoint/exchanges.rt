@@ -28,7 +28,8 @@ use std::alloc::{AllocError, Global};
 use std::time::Duration;
 
 impl<C: PublicKey> Endpoint<C> {
-    /// Asks the replier for the wanted infos of the set at a position, and applies its reply.
+    /// Exchanges infos with the replier's endpoint: asks it for the wanted infos of the set at a
+    /// position, and applies its reply.
     pub fn exchange_with(
         &mut self,
         replier: &Endpoint<C>,
@@ -53,7 +54,8 @@ impl<C: PublicKey> Endpoint<C> {
         }
     }
 
-    // Passes a frame of bits to the replier, and accepts its reply.
+    // In an exchange of two endpoints, passes a frame of bits to the replier, and accepts its
+    // reply.
     fn hand_to(
         &mut self,
         replier: &Endpoint<C>,
@@ -83,7 +85,7 @@ impl<C: PublicKey> Endpoint<C> {
         }
     }
 
-    // The replier's part: reads a frame of bits, and replies.
+    // The replier's part of an exchange of two endpoints: reads a frame of bits, and replies.
     fn reply_to(&self, frame: Bytes, now: Duration) -> Result<Bytes, Exchanged<C>>
         requires { SpellsBits (payload_spelling C.spelled C.Signature.spelled) frame }
         ensures replies { let wire = wire_of C.verifies C.FixedBytes C.Signature.FixedBytes in
@@ -103,7 +105,7 @@ impl<C: PublicKey> Endpoint<C> {
         }
     }
 
-    // Replies to bits with a frame of the infos for them.
+    // In an exchange, replies to bits with a frame of the endpoint's infos for them.
     fn reply_with(&self, bits: &BitVec, now: Duration) -> Result<Bytes, Exchanged<C>>
         requires { length bits.now.bits < 2 ^ 32 }
         ensures replies { RepliesToBits C.IsValue C.Signature.IsValue
@@ -122,7 +124,7 @@ impl<C: PublicKey> Endpoint<C> {
         }
     }
 
-    // The asker's part: reads a frame of infos, and applies them.
+    // The asker's part of an exchange of two endpoints: reads a frame of infos, and applies them.
     fn take_reply(&mut self, reply: Bytes, now: Duration) -> Exchanged<C>
         requires { SpellsInfos C.IsValue C.Signature.IsValue
             (payload_spelling C.spelled C.Signature.spelled) reply }
@@ -143,7 +145,8 @@ impl<C: PublicKey> Endpoint<C> {
         }
     }
 
-    // Verifies infos, all of them, and applies them. A copy of them is returned.
+    // Verifies the infos that the endpoint got in an exchange, all of them, and applies them. A
+    // copy of them is returned.
     fn take_infos(&mut self, infos: Infos<C>, now: Duration) -> Exchanged<C>
         ensures answer { IsExchangeAnswer true (judged_at infos (list_refusal
             (judge_of C.cmp C.verifies self.old.verifier) (as_nanos now) infos)) result }
@@ -164,7 +167,7 @@ impl<C: PublicKey> Endpoint<C> {
         }
     }
 
-    // Reads a frame under the limits.
+    // Reads a frame of an exchange under the limits of the endpoint.
     fn read(&self, frame: Bytes) -> Result<Payload<C>, CodecError>
         ensures bits { (v : BitVec) → HasSpelling v →
             frame ≡ payload_spelling C.spelled C.Signature.spelled (said.BitVec v) →
@@ -183,7 +186,7 @@ impl<C: PublicKey> Endpoint<C> {
     }
 }
 
-// Equal infos, in their order.
+// Copies of the infos that an endpoint got in an exchange, in their order.
 fn copied<C: PublicKey>(alloc: Global, infos: &[Info<C>]) -> Result<Vec<Info<C>>, AllocError>
     ensures { IfOk result (λ copy. copy.items ≡ infos.now) }
 {
@@ -194,7 +197,8 @@ fn copied<C: PublicKey>(alloc: Global, infos: &[Info<C>]) -> Result<Vec<Info<C>>
     Ok(copy)
 }
 
-// The bits cannot be read, or an allocation failed.
+// The result of an exchange in which the replier's endpoint cannot read the bits, or an allocation
+// failed.
 fn ask_refused<C: PublicKey>(fault: CodecError) -> Exchanged<C>
     ensures { result ≡ ask_fault fault }
 {
@@ -204,7 +208,8 @@ fn ask_refused<C: PublicKey>(fault: CodecError) -> Exchanged<C>
     }
 }
 
-// The infos cannot be read, or an allocation failed.
+// The result of an exchange in which the asker's endpoint cannot read the infos, or an allocation
+// failed.
 fn reply_refused<C: PublicKey>(fault: CodecError) -> Exchanged<C>
     ensures { result ≡ reply_fault fault }
 {

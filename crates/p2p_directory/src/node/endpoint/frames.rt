@@ -27,7 +27,7 @@ use std::alloc::AllocError;
 use std::time::Duration;
 
 impl<C: PublicKey> Endpoint<C> {
-    /// Processes a frame that was received at this time.
+    /// Processes a frame that the endpoint received at this time.
     pub fn answer(&mut self, frame: Bytes, now: Duration) -> Received
         ensures seen { AnswersFrame C.cmp (wire_of C.verifies C.FixedBytes C.Signature.FixedBytes)
             frame (as_nanos now) result (node_of self.old) (node_of self.new) }
@@ -46,9 +46,9 @@ impl<C: PublicKey> Endpoint<C> {
         }
     }
 
-    /// Processes a frame that was received at this time, given whether the signatures of its infos
-    /// are valid. There must be as many verification results as infos in the frame, if it encodes a
-    /// payload.
+    /// Processes a frame that the endpoint received at this time, given whether the signatures of
+    /// its infos are valid. There must be as many verification results as infos in the frame, if it
+    /// encodes a payload.
     pub fn answer_with_verdicts(
         &mut self,
         frame: Bytes,
@@ -76,7 +76,8 @@ impl<C: PublicKey> Endpoint<C> {
         }
     }
 
-    /// Processes a frame as [`Endpoint::answer_with_verdicts`] does, but the infos of a reply aren't encoded.
+    /// Processes a frame that the endpoint received as [`Endpoint::answer_with_verdicts`] does, but
+    /// the infos of a reply aren't encoded.
     pub fn answer_frame(
         &mut self,
         frame: Bytes,
@@ -106,8 +107,8 @@ impl<C: PublicKey> Endpoint<C> {
         }
     }
 
-    /// Processes a frame that was decoded, as [`Endpoint::answer_frame`] does. It is decoded anew if
-    /// that was done under other limits.
+    /// Processes a frame that the endpoint received and that was decoded, as
+    /// [`Endpoint::answer_frame`] does. It is decoded anew if that was done under other limits.
     pub fn answer_decoded(
         &mut self,
         decoded: Decoded<C>,
@@ -138,7 +139,8 @@ impl<C: PublicKey> Endpoint<C> {
         self.answer_frame(frame, now, verdicts)
     }
 
-    // Processes a payload, given whether the signatures of its infos are valid.
+    // Processes the payload of a frame that the endpoint received, given whether the signatures of
+    // its infos are valid.
     fn answer_payload_by(
         &mut self,
         payload: Payload<C>,
@@ -170,8 +172,8 @@ impl<C: PublicKey> Endpoint<C> {
         })
     }
 
-    // Processes a payload, given whether the signatures of its infos are valid. The infos of a reply
-    // aren't encoded.
+    // Processes the payload of a frame that the endpoint received, given whether the signatures of
+    // its infos are valid. The infos of a reply aren't encoded.
     fn answer_payload(
         &mut self,
         payload: Payload<C>,
@@ -201,7 +203,7 @@ impl<C: PublicKey> Endpoint<C> {
         }
     }
 
-    // The infos with which bits are answered.
+    // The infos with which the endpoint answers a frame of bits.
     fn infos_for(&self, bits: &BitVec, now: Duration) -> Answer<C>
         requires { length bits.now.bits < 2 ^ 32 }
         ensures seen { let wire = wire_of C.verifies C.FixedBytes C.Signature.FixedBytes in
@@ -218,7 +220,7 @@ impl<C: PublicKey> Endpoint<C> {
         }
     }
 
-    // Verifies the info of a greeting, and applies it.
+    // Verifies the info of a greeting frame that the endpoint received, and applies it.
     fn greet(&mut self, info: Info<C>, now: Duration) -> Received
         ensures unchanged { applies result ≡ false → self.new ≡ self.old }
         ensures seen { let o = greeted (wire_of C.verifies C.FixedBytes C.Signature.FixedBytes) info
@@ -232,7 +234,8 @@ impl<C: PublicKey> Endpoint<C> {
         self.apply_greeting(info)
     }
 
-    // Verifies the info of a greeting, given whether its signature is valid, and applies it.
+    // Verifies the info of a greeting frame that the endpoint received, given whether its signature
+    // is valid, and applies it.
     fn greet_by(&mut self, info: Info<C>, now: Duration, right: bool) -> Received
         ensures unchanged { applies result ≡ false → self.new ≡ self.old }
         ensures seen { let o = greeted (wire_of C.verifies C.FixedBytes C.Signature.FixedBytes) info
@@ -246,7 +249,7 @@ impl<C: PublicKey> Endpoint<C> {
         self.apply_greeting(info)
     }
 
-    // Applies the info of a greeting.
+    // Applies the info of a greeting frame that the endpoint received.
     fn apply_greeting(&mut self, info: Info<C>) -> Received
         ensures unchanged { applies result ≡ false → self.new ≡ self.old }
         ensures seen { let wire = wire_of C.verifies C.FixedBytes C.Signature.FixedBytes in
@@ -264,7 +267,7 @@ impl<C: PublicKey> Endpoint<C> {
         }
     }
 
-    // Replies to bits with the infos for them.
+    // Replies to a frame of bits that the endpoint received with the infos for them.
     fn reply(&self, bits: &BitVec, now: Duration) -> Received
         requires { length bits.now.bits < 2 ^ 32 }
         ensures seen { let o = replied (wire_of C.verifies C.FixedBytes C.Signature.FixedBytes)
@@ -281,7 +284,8 @@ impl<C: PublicKey> Endpoint<C> {
         }
     }
 
-    // The frame of the infos for bits, or `None` if their number differs from that of the peers.
+    // The frame of the infos with which the endpoint replies to bits, or `None` if their number
+    // differs from that of the peers.
     pub(super) fn reply_frame(
         &self,
         bits: &BitVec,
@@ -309,7 +313,7 @@ impl<C: PublicKey> Endpoint<C> {
         }
     }
 
-    // Verifies infos, all of them, and applies them.
+    // Verifies the infos of a frame that the endpoint received, all of them, and applies them.
     fn take(&mut self, infos: Infos<C>, now: Duration) -> Received
         ensures unchanged { applies result ≡ false → self.new ≡ self.old }
         ensures seen { let wire = wire_of C.verifies C.FixedBytes C.Signature.FixedBytes in
@@ -324,7 +328,8 @@ impl<C: PublicKey> Endpoint<C> {
         self.apply(infos)
     }
 
-    // Verifies infos, all of them, given whether their signatures are valid, and applies them.
+    // Verifies the infos of a frame that the endpoint received, all of them, given whether their
+    // signatures are valid, and applies them.
     fn take_by(&mut self, infos: Infos<C>, now: Duration, verdicts: &[bool]) -> Received
         ensures unchanged { applies result ≡ false → self.new ≡ self.old }
         ensures seen { let wire = wire_of C.verifies C.FixedBytes C.Signature.FixedBytes in
@@ -342,7 +347,7 @@ impl<C: PublicKey> Endpoint<C> {
         self.apply(infos)
     }
 
-    // Applies infos.
+    // Applies the infos of a frame that the endpoint received.
     fn apply(&mut self, infos: Infos<C>) -> Received
         ensures unchanged { applies result ≡ false → self.new ≡ self.old }
         ensures seen { let wire = wire_of C.verifies C.FixedBytes C.Signature.FixedBytes in
@@ -357,7 +362,7 @@ impl<C: PublicKey> Endpoint<C> {
     }
 }
 
-// How many infos a payload has.
+// How many infos are in the payload of a frame that an endpoint received.
 fn count_infos<C: PublicKey>(payload: &Payload<C>) -> usize
     ensures { result ≡ length (infos_of_payload payload.now) }
 {
@@ -368,7 +373,8 @@ fn count_infos<C: PublicKey>(payload: &Payload<C>) -> usize
     }
 }
 
-// Whether the first verification result says that a signature is valid.
+// Whether the first verification result for a frame that an endpoint received says that a signature
+// is valid.
 fn is_first_right(verdicts: &[bool]) -> bool
     ensures { result ≡ first_verdict verdicts.now }
 {
@@ -378,7 +384,7 @@ fn is_first_right(verdicts: &[bool]) -> bool
     }
 }
 
-// The error of a frame, or out of memory.
+// What the endpoint returns for a received frame that isn't decoded, its error or out of memory.
 fn refused(fault: CodecError) -> Received
     ensures { result ≡ fault_answer fault }
 {

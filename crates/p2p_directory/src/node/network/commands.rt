@@ -50,7 +50,7 @@ pub enum NetworkReply<C: PublicKey> {
 }
 
 impl<C: PublicKey> fmt::Debug for NetworkReply<C> {
-    /// Writes the name of the variant alone.
+    /// Writes the reply to a network's command, by the name of the variant alone.
     fn fmt<W: fmt::Write>(&self, f: &mut fmt::Formatter<W>) -> fmt::Result {
         f.write_str(match self {
             NetworkReply::Call(_) => "Call",

@@ -20,7 +20,7 @@ use std::alloc::AllocError;
 use std::mem::replace;
 use std::time::Duration;
 
-/// Makes slots for the reservations that the commands may be granted.
+/// Makes slots at the network's endpoints for the reservations that the commands may be granted.
 pub fn make_room<C: PublicKey>(
     endpoints: &mut [Endpoint<C>],
     commands: &[NetworkCommand<C>],
@@ -34,7 +34,8 @@ pub fn make_room<C: PublicKey>(
     Ok(())
 }
 
-// Makes a slot for the reservation that the command may be granted, if it may be.
+// Makes a slot at one of the network's endpoints for the reservation that the command may be
+// granted, if it may be.
 fn make_one<C: PublicKey>(
     endpoints: &mut [Endpoint<C>],
     command: &NetworkCommand<C>,
@@ -51,7 +52,8 @@ fn make_one<C: PublicKey>(
     }
 }
 
-// Makes a slot at the node for the reservation that its command may be granted, if it may be.
+// Makes a slot at the network's endpoint of this number for the reservation that its command may be
+// granted, if it may be.
 fn room_at<C: PublicKey>(
     endpoints: &mut [Endpoint<C>],
     node: usize,
@@ -68,7 +70,7 @@ fn room_at<C: PublicKey>(
     endpoints[node].make_room(command)
 }
 
-/// Replaces an endpoint by another, and returns the old one.
+/// Replaces one of the network's endpoints by another, and returns the old one.
 pub fn swap_at<C: PublicKey>(
     endpoints: &mut [Endpoint<C>],
     node: usize,
@@ -81,8 +83,8 @@ pub fn swap_at<C: PublicKey>(
     replace(&mut endpoints[node], end)
 }
 
-/// Serves one command among the endpoints, if there is a slot for the reservation that it may be
-/// granted.
+/// Serves one command among the network's endpoints, if there is a slot for the reservation that it
+/// may be granted.
 pub fn serve<C: PublicKey>(
     endpoints: &mut [Endpoint<C>],
     command: NetworkCommand<C>,
@@ -112,7 +114,7 @@ pub fn serve<C: PublicKey>(
     }
 }
 
-// The node serves a command of a run.
+// One of the network's endpoints serves a command of a run.
 fn call<C: PublicKey>(
     endpoints: &mut [Endpoint<C>],
     node: usize,
@@ -130,7 +132,8 @@ fn call<C: PublicKey>(
     NetworkReply::Call(endpoints[node].serve(command))
 }
 
-/// The node serves a command, with a slot for the reservation that it may be granted while it does.
+/// One of the network's endpoints serves a command, with a slot for the reservation that it may be
+/// granted while it does.
 pub fn step<C: PublicKey>(
     endpoints: &mut [Endpoint<C>],
     node: usize,
@@ -150,7 +153,7 @@ pub fn step<C: PublicKey>(
     NetworkReply::Call(endpoints[node].step(command))
 }
 
-/// The node is asked for the frame of the bits at a position.
+/// Asks one of the network's endpoints for the frame of the bits at a position.
 pub fn ask<C: PublicKey>(endpoints: &[Endpoint<C>], node: usize, place: usize) -> NetworkReply<C>
     ensures answered { let wire = wire_of C.verifies C.FixedBytes C.Signature.FixedBytes in
         IsNetworkAnswered C.cmp wire (NetworkCommand.Ask node place) result (nodes_of endpoints.now)
@@ -167,7 +170,7 @@ pub fn ask<C: PublicKey>(endpoints: &[Endpoint<C>], node: usize, place: usize) -
     reply_to_ask(endpoints[node].ask(place))
 }
 
-// The reply for a result of `ask`.
+// The network's reply for what one of its endpoints returns for `ask`.
 fn reply_to_ask<C: PublicKey>(frame: Result<Option<Bytes>, AllocError>) -> NetworkReply<C>
     ensures { result ≡ networks.reply_to_ask frame }
 {
@@ -177,7 +180,7 @@ fn reply_to_ask<C: PublicKey>(frame: Result<Option<Bytes>, AllocError>) -> Netwo
     }
 }
 
-/// The node receives a frame.
+/// One of the network's endpoints receives a frame.
 pub fn receive<C: PublicKey>(
     endpoints: &mut [Endpoint<C>],
     node: usize,
@@ -202,7 +205,7 @@ pub fn receive<C: PublicKey>(
     NetworkReply::Frame(endpoints[node].answer(frame, now))
 }
 
-/// A node exchanges infos with another.
+/// One of the network's endpoints exchanges infos with another.
 pub fn exchange<C: PublicKey>(
     endpoints: &mut [Endpoint<C>],
     asker: usize,
@@ -238,7 +241,7 @@ pub fn exchange<C: PublicKey>(
     ))
 }
 
-// Two nodes exchange infos.
+// Two of the network's endpoints exchange infos.
 fn exchange_between<C: PublicKey>(
     endpoints: &mut [Endpoint<C>],
     asker: usize,

@@ -1,4 +1,4 @@
-//! The commands that change nothing.
+//! Questions to a server's directory: the commands that change nothing.
 
 ghost use Rattle.p2p_directory.specs.declared.run.commands.Command.{Command};
 ghost use Rattle.p2p_directory.specs.Private.Serving.{IsServed};
@@ -12,7 +12,7 @@ use std::alloc::AllocError;
 use std::time::Duration;
 
 impl<C: PublicKey> Server<C> {
-    /// When the first block ends.
+    /// Asks the server's directory when the first block ends.
     pub fn next_unblock(&self) -> Option<Duration>
         ensures { IsServed C.cmp Command.NextUnblock (Reply.NextUnblock result)
             self.now self.now }
@@ -20,7 +20,7 @@ impl<C: PublicKey> Server<C> {
         self.directory.next_unblock()
     }
 
-    // The peers that are blocked at this time.
+    // Asks the server's directory for the peers that are blocked at this time.
     pub(super) fn blocked_peers(&self, now: Duration) -> Reply<C>
         ensures { IsServed C.cmp (Command.BlockedPeers now) result self.now self.now }
     {
@@ -30,7 +30,8 @@ impl<C: PublicKey> Server<C> {
         }
     }
 
-    /// Whether the peer is connected, or `None` if there is no record of it.
+    /// Asks the server's directory whether the peer is connected. It returns `None` if there is no
+    /// record of the peer.
     pub fn status(&self, peer: &C) -> Option<Status>
         ensures { IsServed C.cmp (Command.Status peer.now) (Reply.Status result)
             self.now self.now }
@@ -38,7 +39,7 @@ impl<C: PublicKey> Server<C> {
         self.directory.status(peer)
     }
 
-    // The peers of the retained set with this index.
+    // Asks the server's directory for the peers of the retained set with this index.
     pub(super) fn get_peer_set(&self, index: u64) -> Reply<C>
         ensures { IsServed C.cmp (Command.GetPeerSet index) result self.now self.now }
     {
@@ -48,7 +49,7 @@ impl<C: PublicKey> Server<C> {
         }
     }
 
-    /// The index of the latest set.
+    /// Asks the server's directory for the index of the latest set.
     pub fn latest_set_index(&self) -> Option<u64>
         ensures { IsServed C.cmp Command.LatestSetIndex (Reply.LatestSetIndex result)
             self.now self.now }
@@ -56,7 +57,7 @@ impl<C: PublicKey> Server<C> {
         self.directory.latest_set_index()
     }
 
-    // The latest set, and all peers of the retained sets.
+    // Asks the server's directory for the latest set, and all peers of the retained sets.
     pub(super) fn latest_update(&self) -> Reply<C>
         ensures { IsServed C.cmp Command.LatestUpdate result self.now self.now }
     {
@@ -66,7 +67,7 @@ impl<C: PublicKey> Server<C> {
         }
     }
 
-    // All peers of the retained sets.
+    // Asks the server's directory for all peers of the retained sets.
     pub(super) fn all(&self) -> Reply<C>
         ensures { IsServed C.cmp Command.All result self.now self.now }
     {
@@ -76,7 +77,7 @@ impl<C: PublicKey> Server<C> {
         }
     }
 
-    // The info of the peer that may be shared.
+    // Asks the server's directory for the info of the peer that may be shared.
     pub(super) fn info(&self, peer: &C) -> Reply<C>
         ensures { IsServed C.cmp (Command.Info peer.now) result self.now self.now }
     {
@@ -86,7 +87,7 @@ impl<C: PublicKey> Server<C> {
         }
     }
 
-    // The infos for a peer that sent the bits.
+    // Asks the server's directory for the infos for a peer that sent the bits.
     pub(super) fn infos(&self, bit_vec: &BitVec, now: Duration) -> Reply<C>
         ensures { IsServed C.cmp (Command.Infos bit_vec.now now) result self.now self.now }
     {
@@ -96,7 +97,7 @@ impl<C: PublicKey> Server<C> {
         }
     }
 
-    // The bits of the retained set at the position.
+    // Asks the server's directory for the bits of the retained set at the position.
     pub(super) fn get_random_bit_vec(&self, place: usize) -> Reply<C>
         ensures { IsServed C.cmp (Command.GetRandomBitVec place) result self.now self.now }
     {
@@ -106,7 +107,7 @@ impl<C: PublicKey> Server<C> {
         }
     }
 
-    /// Whether the peer may be connected.
+    /// Asks the server's directory whether the peer may be connected.
     pub fn eligible(&self, peer: &C, now: Duration) -> bool
         ensures { IsServed C.cmp (Command.Eligible peer.now now) (Reply.Eligible result)
             self.now self.now }
@@ -114,7 +115,7 @@ impl<C: PublicKey> Server<C> {
         self.directory.eligible(peer, now)
     }
 
-    /// Whether an inbound connection of the peer may be accepted.
+    /// Asks the server's directory whether an inbound connection of the peer may be accepted.
     pub fn acceptable(&self, peer: &C, now: Duration) -> bool
         ensures { IsServed C.cmp (Command.Acceptable peer.now now) (Reply.Acceptable result)
             self.now self.now }
@@ -122,7 +123,8 @@ impl<C: PublicKey> Server<C> {
         self.directory.acceptable(peer, now)
     }
 
-    // The peers that may be dialled at this time, and when to ask again.
+    // Asks the server's directory for the peers that may be dialled at this time, and when to ask
+    // again.
     pub(super) fn dialable(&self, now: Duration) -> Reply<C>
         ensures { IsServed C.cmp (Command.Dialable now) result self.now self.now }
     {
@@ -132,7 +134,7 @@ impl<C: PublicKey> Server<C> {
         }
     }
 
-    /// How many peers have a record, not counting the local node.
+    /// Asks the server's directory how many peers have a record, not counting the local node.
     pub fn tracked(&self) -> usize
         ensures { IsServed C.cmp Command.Tracked (Reply.Tracked result) self.now self.now }
     {

@@ -15,7 +15,8 @@ use std::alloc::AllocError;
 use std::time::Duration;
 
 impl<C: PublicKey> Server<C> {
-    /// Makes a slot for the reservation that the command may be granted, if there is none.
+    /// Makes a slot in the server for the reservation that the command may be granted, if there is
+    /// none.
     pub fn make_room(&mut self, command: &Command<C>) -> Result<(), AllocError>
         ensures err { OnErr result (self.new ≡ self.old) }
         ensures reserves { OnErr result (may_reserve (call_of command.now) ≡ true) }
@@ -33,7 +34,8 @@ impl<C: PublicKey> Server<C> {
         self.slots.make_for(command)
     }
 
-    /// Removes the slot of the peer if it is empty. It doesn't allocate.
+    /// Removes the slot that the server made for the reservation of the peer if it is empty. It
+    /// doesn't allocate.
     pub fn drop_room(&mut self, peer: Option<C>)
         ensures room { KeepsRoom C.cmp peer self.old.slots self.new.slots }
         ensures directory { self.new.directory ≡ self.old.directory }
@@ -46,7 +48,8 @@ impl<C: PublicKey> Server<C> {
         }
     }
 
-    /// Reserves the peer for a dial if that is granted, with a slot made for the reservation.
+    /// Reserves the peer in the server's directory for a dial if that is granted, with a slot made
+    /// for the reservation.
     pub fn dial_slot(&mut self, peer: &C, now: Duration, draw: Duration) -> Reply<C>
         ensures stepped { IsSteppedAlone C.cmp (Command.Dial peer.now now draw)
             result self.old self.new }
@@ -71,7 +74,8 @@ impl<C: PublicKey> Server<C> {
         refusal
     }
 
-    /// Reserves the inbound peer if that is granted, with a slot made for the reservation.
+    /// Reserves the inbound peer in the server's directory if that is granted, with a slot made for
+    /// the reservation.
     pub fn listen_slot(&mut self, peer: &C, now: Duration, draw: Duration) -> Reply<C>
         ensures stepped { IsSteppedAlone C.cmp (Command.Listen peer.now now draw)
             result self.old self.new }
@@ -96,7 +100,7 @@ impl<C: PublicKey> Server<C> {
         refusal
     }
 
-    /// Releases the reservation of the peer if one is held, and removes its slot.
+    /// Releases the server's reservation of the peer if one is held, and removes its slot.
     pub fn release_slot(&mut self, peer: &C) -> Reply<C>
         ensures served { IsServed C.cmp (Command.Release peer.now) result self.old self.new }
         ensures directory { was_made result ≡ false → self.new.directory ≡ self.old.directory }

@@ -41,7 +41,7 @@ impl<C: PublicKey> Model for Listed<C> {
 }
 
 impl<C: PublicKey> Listed<C> {
-    /// An empty slot for each of the peers, which may be in any order and repeat.
+    /// A list of slots, an empty one for each of the peers, which may be in any order and repeat.
     ///
     /// # Cost
     ///
@@ -61,7 +61,7 @@ impl<C: PublicKey> Listed<C> {
         Ok(Listed { rows })
     }
 
-    /// Makes an empty slot for the peer if it has none.
+    /// Makes an empty slot for the peer in the list of slots if it has none.
     ///
     /// # Cost
     ///
@@ -86,7 +86,7 @@ impl<C: PublicKey> Listed<C> {
         }
     }
 
-    /// Puts a reservation into the slot of its peer. It doesn't allocate.
+    /// Puts a reservation into the slot of its peer in the list of slots. It doesn't allocate.
     pub fn put(&mut self, reservation: Reservation<C>)
         requires slot { has_slot C.cmp self.old (key_of reservation) ≡ true }
         requires empty { held_in C.cmp self.old (key_of reservation) ≡ None }
@@ -103,8 +103,8 @@ impl<C: PublicKey> Listed<C> {
         }
     }
 
-    /// Removes the reservation of the peer from its slot, which stays, and returns it. It doesn't
-    /// allocate.
+    /// Removes the reservation of the peer from its slot, which stays in the list of slots, and
+    /// returns it. It doesn't allocate.
     pub fn take(&mut self, peer: &C) -> Option<Reservation<C>>
         ensures taken { result ≡ held_in C.cmp self.old peer.now }
         ensures peer { IfSome result (λ metadata. key_of metadata ≡ peer.now) }
@@ -123,8 +123,8 @@ impl<C: PublicKey> Listed<C> {
         }
     }
 
-    /// Removes the slot of the peer, and returns the reservation that is in it, if there is one. It
-    /// doesn't allocate.
+    /// Removes the slot of the peer from the list of slots, and returns the reservation that is in
+    /// it, if there is one. It doesn't allocate.
     ///
     /// # Cost
     ///
@@ -148,7 +148,8 @@ impl<C: PublicKey> Listed<C> {
         }
     }
 
-    /// Whom the reservation of the peer is for, if one is held. It doesn't allocate.
+    /// Whom the reservation of the peer in the list of slots is for, if one is held. It doesn't
+    /// allocate.
     pub fn held(&self, peer: &C) -> Option<&Metadata<C>>
         ensures { option_map (λ m. m.now) result ≡ held_in C.cmp self.now peer.now }
     {
@@ -161,7 +162,7 @@ impl<C: PublicKey> Listed<C> {
         }
     }
 
-    /// Removes the slot of the peer if it is empty. It doesn't allocate.
+    /// Removes the slot of the peer from the list of slots if it is empty. It doesn't allocate.
     ///
     /// # Cost
     ///
@@ -179,7 +180,8 @@ impl<C: PublicKey> Listed<C> {
         }
     }
 
-    /// The peer of the first slot, or `None` if there is no slot. It doesn't allocate.
+    /// The peer of the first slot that is listed, or `None` if there is no slot. It doesn't
+    /// allocate.
     pub fn first(&self) -> Option<C>
         ensures some { IfSome result (λ peer. (slot : Option (Metadata C C.Signature))
             × (slice_get self.now 0 ≡ Some (peer, slot))) }
@@ -191,7 +193,7 @@ impl<C: PublicKey> Listed<C> {
         }
     }
 
-    /// Whether there is a first slot, and it is empty. It doesn't allocate.
+    /// Whether there is a first slot in the list of slots, and it is empty. It doesn't allocate.
     pub fn begins_empty(&self) -> bool
         ensures { result ≡ not (begins_full self.now) }
     {
@@ -201,7 +203,8 @@ impl<C: PublicKey> Listed<C> {
         }
     }
 
-    /// Removes the first slot, and returns it with its contents. It doesn't allocate.
+    /// Removes the first slot that is listed, and returns it with its contents. It doesn't
+    /// allocate.
     pub fn pop_first(&mut self) -> Option<(C, Option<Reservation<C>>)>
         ensures first { IfSome result (λ slot. self.old ≡ slot ∷ self.new) }
         ensures none { IfNone result (self.old ≡ []) }
@@ -211,7 +214,7 @@ impl<C: PublicKey> Listed<C> {
         self.rows.pop_front()
     }
 
-    /// Consumes it, if there is no slot.
+    /// Consumes the list of slots, if there is no slot in it.
     pub fn destroy_empty(self)
         requires { self ≡ [] }
     {
@@ -220,7 +223,7 @@ impl<C: PublicKey> Listed<C> {
     }
 }
 
-// The position of the peer's slot, or the one at which it would be inserted.
+// The position of the peer's slot in the list of slots, or the one at which it would be inserted.
 fn place_of<C: PublicKey>(
     rows: &VecDeque<(C, Option<Reservation<C>>)>,
     peer: &C,
@@ -231,8 +234,8 @@ fn place_of<C: PublicKey>(
     rows.binary_search_by(|row| row.0.cmp(peer))
 }
 
-// Puts this into the slot of the peer, and returns what was in it; or returns it as an error if the
-// peer has no slot.
+// Puts this into the peer's slot in the list of slots, and returns what was in it; or returns it as
+// an error if the peer has no slot.
 fn exchange<C: PublicKey>(
     rows: &mut VecDeque<(C, Option<Reservation<C>>)>,
     peer: &C,

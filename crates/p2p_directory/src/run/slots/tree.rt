@@ -42,7 +42,7 @@ impl<C: PublicKey> Model for Tree<C> {
 }
 
 impl<C: PublicKey> Tree<C> {
-    /// No slots.
+    /// A tree without slots.
     pub fn new(alloc: Global) -> Self
         ensures { result ≡ [] }
     {
@@ -51,7 +51,7 @@ impl<C: PublicKey> Tree<C> {
         }
     }
 
-    /// Makes an empty slot for the peer if it has none.
+    /// Makes an empty slot for the peer in the tree of slots if it has none.
     pub fn make(&mut self, peer: C) -> Result<(), AllocError>
         ensures err { OnErr result (self.new ≡ self.old) }
         ensures absent { OnErr result (has_slot C.cmp self.old peer ≡ false) }
@@ -63,7 +63,7 @@ impl<C: PublicKey> Tree<C> {
         add_empty(&mut self.reservations, peer)
     }
 
-    /// Puts a reservation into the slot of its peer. It doesn't allocate.
+    /// Puts a reservation into the slot of its peer in the tree of slots. It doesn't allocate.
     pub fn put(&mut self, reservation: Reservation<C>)
         requires slot { has_slot C.cmp self.old (key_of reservation) ≡ true }
         requires empty { held_in C.cmp self.old (key_of reservation) ≡ None }
@@ -82,8 +82,8 @@ impl<C: PublicKey> Tree<C> {
         }
     }
 
-    /// Removes the reservation of the peer from its slot, which stays, and returns it. It doesn't
-    /// allocate.
+    /// Removes the reservation of the peer from its slot, which stays in the tree, and returns it.
+    /// It doesn't allocate.
     pub fn take(&mut self, peer: &C) -> Option<Reservation<C>>
         ensures taken { result ≡ held_in C.cmp self.old peer.now }
         ensures peer { IfSome result (λ metadata. key_of metadata ≡ peer.now) }
@@ -99,8 +99,8 @@ impl<C: PublicKey> Tree<C> {
         slot.take()
     }
 
-    /// Removes the slot of the peer, and returns the reservation that is in it, if there is one. It
-    /// doesn't allocate.
+    /// Removes the slot of the peer from the tree of slots, and returns the reservation that is in
+    /// it, if there is one. It doesn't allocate.
     ///
     /// # Cost
     ///
@@ -118,7 +118,8 @@ impl<C: PublicKey> Tree<C> {
         self.reservations.remove(peer).flatten()
     }
 
-    /// Whom the reservation of the peer is for, if one is held. It doesn't allocate.
+    /// Whom the reservation of the peer in the tree of slots is for, if one is held. It doesn't
+    /// allocate.
     pub fn held(&self, peer: &C) -> Option<&Metadata<C>>
         ensures { option_map (λ m. m.now) result ≡ held_in C.cmp self.now peer.now }
     {
@@ -128,8 +129,8 @@ impl<C: PublicKey> Tree<C> {
         }
     }
 
-    /// The infos that [`Directory::infos`] returns, by a search for each peer that has a slot, if
-    /// that is less work.
+    /// The infos that [`Directory::infos`] returns, by a search for each peer that has a slot in
+    /// the tree, if that is less work.
     pub fn infos(
         &self,
         directory: &Directory<C>,
@@ -146,7 +147,7 @@ impl<C: PublicKey> Tree<C> {
         directory.infos_among(bit_vec, now, &self.reservations)
     }
 
-    /// Removes the slot of the peer if it is empty. It doesn't allocate.
+    /// Removes the slot of the peer from the tree of slots if it is empty. It doesn't allocate.
     ///
     /// # Cost
     ///
@@ -162,7 +163,8 @@ impl<C: PublicKey> Tree<C> {
         remove_empty(&mut self.reservations, peer);
     }
 
-    /// The peer of the first slot, or `None` if there is no slot. It doesn't allocate.
+    /// The peer of the first slot in the tree of slots, or `None` if there is no slot. It doesn't
+    /// allocate.
     pub fn first(&self) -> Option<C>
         ensures some { IfSome result (λ peer. (slot : Option (Metadata C C.Signature))
             × (slice_get self.now 0 ≡ Some (peer, slot))) }
@@ -174,7 +176,7 @@ impl<C: PublicKey> Tree<C> {
         }
     }
 
-    /// Whether there is a first slot, and it is empty. It doesn't allocate.
+    /// Whether there is a first slot in the tree of slots, and it is empty. It doesn't allocate.
     pub fn begins_empty(&self) -> bool
         ensures { result ≡ not (begins_full self.now) }
     {
@@ -184,7 +186,7 @@ impl<C: PublicKey> Tree<C> {
         }
     }
 
-    /// Removes the first slot, and returns it with its contents. It doesn't allocate.
+    /// Removes the first slot of the tree, and returns it with its contents. It doesn't allocate.
     pub fn pop_first(&mut self) -> Option<(C, Option<Reservation<C>>)>
         ensures first { IfSome result (λ slot. self.old ≡ slot ∷ self.new) }
         ensures none { IfNone result (self.old ≡ []) }
@@ -194,7 +196,7 @@ impl<C: PublicKey> Tree<C> {
         self.reservations.pop_first()
     }
 
-    /// Consumes it, if there is no slot.
+    /// Consumes the tree of slots, if there is no slot in it.
     pub fn destroy_empty(self)
         requires { self ≡ [] }
     {
@@ -203,7 +205,7 @@ impl<C: PublicKey> Tree<C> {
     }
 }
 
-// Adds an empty slot of the peer if it has none.
+// Adds an empty slot of the peer to the tree of slots if it has none.
 fn add_empty<C: PublicKey>(
     slots: &mut BTreeMap<C, Option<Reservation<C>>>,
     peer: C,
@@ -227,7 +229,7 @@ fn add_empty<C: PublicKey>(
     }
 }
 
-// Removes the slot of the peer if it is empty.
+// Removes the slot of the peer from the tree of slots if it is empty.
 fn remove_empty<C: PublicKey>(slots: &mut BTreeMap<C, Option<Reservation<C>>>, peer: &C)
     requires { AreSlots C.cmp slots.old.entries }
     ensures slots { AreSlots C.cmp slots.new.entries }

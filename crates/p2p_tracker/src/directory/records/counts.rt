@@ -34,8 +34,8 @@ use std::collections::btree_map::Entry;
 const SPARSE: usize = 5;
 
 impl<C: PublicKey> Records<C> {
-    // Counts one more set of the peer, in a new record with its cooldown if it has none. Returns
-    // whether the peer's info is known and not wanted.
+    // Counts one more set of the peer among the directory's records, in a new one with its cooldown
+    // if it has none. Returns whether the peer's info is known and not wanted.
     fn join_one(
         &mut self,
         peer: &C,
@@ -68,8 +68,8 @@ impl<C: PublicKey> Records<C> {
         }
     }
 
-    // Counts one set less of the peer, and removes its record if that is deletable then. Returns
-    // whether the peer must be disconnected.
+    // Counts one set less of the peer among the directory's records, and removes its record if that
+    // is deletable then. Returns whether the peer must be disconnected.
     fn leave_one(&mut self, peer: &C, role: Role) -> bool
         ensures records { ChangesAt C.cmp self.old self.new peer.now (one_set_less role) }
         ensures torn { result ≡ option_map_or (is_torn_down_without role)
@@ -86,7 +86,8 @@ impl<C: PublicKey> Records<C> {
         torn
     }
 
-    // Counts one set less of each peer, and adds to a list those that must be disconnected.
+    // Counts one set less in the directory's records of these peers, and adds to a list the peers
+    // that must be disconnected.
     fn leave_each(&mut self, peers: &[C], role: Role, torn: &mut Vec<C>)
         requires sorted { IsStrictlySortedBy C.cmp peers.now }
         requires room { length torn.old.items + length peers.now ≤ vec_capacity torn.old }
@@ -105,7 +106,8 @@ impl<C: PublicKey> Records<C> {
         }
     }
 
-    // Counts one set less of each peer, when no peer must be disconnected by that.
+    // Counts one set less in the directory's records of these peers, when none of them must be
+    // disconnected by that.
     fn undo_each(&mut self, peers: &[C], role: Role)
         requires { IsStrictlySortedBy C.cmp peers.now }
         ensures { (q : C) → record_at C.cmp self.new q ≡
@@ -117,7 +119,8 @@ impl<C: PublicKey> Records<C> {
         }
     }
 
-    // Counts one more set of each peer, or leaves everything as it was.
+    // Counts one more secondary set in the directory's records of these peers, or leaves everything
+    // as it was.
     fn join_secondary(
         &mut self,
         peers: &[C],
@@ -145,8 +148,8 @@ impl<C: PublicKey> Records<C> {
         Ok(())
     }
 
-    // Counts one more set of each primary peer and sets its bit, or leaves all records as they
-    // were.
+    // Counts one more primary set in the directory's records of these peers and sets their bits, or
+    // leaves all records as they were.
     fn join_primary(
         &mut self,
         set: &mut PeerSet<C>,
@@ -182,8 +185,8 @@ impl<C: PublicKey> Records<C> {
         Ok(())
     }
 
-    // Counts one more set for the peers of each role and sets its bits, or leaves what is known of
-    // each peer as it was.
+    // Counts one more set in the directory's records of the peers of each role and sets its bits,
+    // or leaves what is known of each peer as it was.
     fn join_roles(
         &mut self,
         set: &mut PeerSet<C>,
@@ -212,8 +215,9 @@ impl<C: PublicKey> Records<C> {
         Ok(())
     }
 
-    /// Counts a new set for each of its peers and sets its bits. If an allocation fails, all
-    /// records are as they were. A peer that has no record gets one, with its cooldown.
+    /// Counts a new set in the directory's records of the set's peers and sets its bits. If an
+    /// allocation fails, all records are as they were. A peer that has no record gets one, with its
+    /// cooldown.
     pub fn join(
         &mut self,
         set: &mut PeerSet<C>,
@@ -239,7 +243,8 @@ impl<C: PublicKey> Records<C> {
         joined
     }
 
-    /// Counts one set less for each of its peers, when no peer must be disconnected by that.
+    /// Counts one set less in the directory's records of the set's peers, when none of them must be
+    /// disconnected by that.
     pub fn undo(&mut self, set: &PeerSet<C>)
         ensures map { IsOfMap C.cmp self.new }
         ensures records { (q : C) → record_at C.cmp self.new q ≡
@@ -251,9 +256,9 @@ impl<C: PublicKey> Records<C> {
         let _after = self.map.len();
     }
 
-    // Counts one set less of each peer, removes the records that are deletable then, and adds to a
-    // list the peers that must be disconnected. It walks along the records and the peers, or
-    // searches for each peer if there are few.
+    // Counts one set less in the directory's records of these peers, removes those that are
+    // deletable then, and adds to a list the peers that must be disconnected. It walks along the
+    // records and the peers, or searches for each peer if there are few.
     fn leave_role(&mut self, peers: &OrderedSet<C>, role: Role, torn: &mut Vec<C>)
         requires room { length torn.old.items + length peers.now ≤ vec_capacity torn.old }
         ensures records { (q : C) → record_at C.cmp self.new q ≡
@@ -275,9 +280,9 @@ impl<C: PublicKey> Records<C> {
         }
     }
 
-    /// Counts a dropped set for each of its peers, and removes the records that are deletable then.
-    /// Returns the peers that must be disconnected, in the list that is passed in, which has
-    /// capacity for all peers of the set.
+    /// Counts a dropped set in the directory's records of the set's peers, and removes the records
+    /// that are deletable then. Returns the peers that must be disconnected, in the list that is
+    /// passed in, which has capacity for all peers of the set.
     pub fn leave(&mut self, set: &PeerSet<C>, mut torn: Vec<C>) -> OrderedSet<C>
         requires empty { torn.items ≡ [] }
         requires room { length set.now.primary + length set.now.secondary ≤ vec_capacity torn }
@@ -294,7 +299,8 @@ impl<C: PublicKey> Records<C> {
     }
 }
 
-// Adds the peer to a list that has capacity for it, if `is_added` is true.
+// Adds the peer, whose sets were counted in the directory's records, to a list that has capacity
+// for it, if `is_added` is true.
 fn push_if<C: PublicKey>(list: &mut Vec<C>, peer: C, is_added: bool)
     requires { length list.old.items < vec_capacity list.old }
     ensures items { list.new.items ≡ list.old.items ++ (if is_added then peer ∷ [] else []) }
@@ -306,7 +312,7 @@ fn push_if<C: PublicKey>(list: &mut Vec<C>, peer: C, is_added: bool)
     }
 }
 
-/// The set of these peers, which are distinct.
+/// The set of these peers of the records, which are distinct.
 pub fn ordered<C: PublicKey>(peers: Vec<C>) -> OrderedSet<C>
     requires { IsDistinct (eq_by_cmp C.cmp) peers.items }
     ensures sorted { IsStrictlySortedBy C.cmp result }

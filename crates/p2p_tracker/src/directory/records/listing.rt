@@ -24,7 +24,8 @@ use std::collections::BTreeMap;
 use std::time::Duration;
 
 impl<C: PublicKey> Records<C> {
-    /// The peers that may be dialled at this time, with these blocks, and when to ask again.
+    /// Lists, by one pass over the directory's records, the peers that may be dialled at this time,
+    /// with these blocks, and when to ask again.
     pub fn dialable(
         &self,
         alloc: Global,
@@ -47,7 +48,8 @@ impl<C: PublicKey> Records<C> {
         dialable_in(alloc, &self.map, blocks, now, cfg)
     }
 
-    /// The peers of the retained sets by role: one that is primary in some is primary only.
+    /// Lists, by one pass over the directory's records, the peers of the retained sets by role: one
+    /// that is primary in some is primary only.
     pub fn all(&self, alloc: Global) -> Result<TrackedPeers<C>, AllocError>
         ensures primary { IfOk result (λ all. Lists C.cmp (λ q.
             option_map_or is_primary_record (record_at C.cmp self.now q) false) all.primary) }
@@ -66,7 +68,8 @@ impl<C: PublicKey> Records<C> {
     }
 }
 
-// The peers that may be dialled at this time, and when to ask again.
+// Lists, by one pass over the directory's records in their map, the peers that may be dialled at
+// this time, and when to ask again.
 fn dialable_in<C: PublicKey>(
     alloc: Global,
     map: &BTreeMap<C, Record<C>>,
@@ -94,7 +97,8 @@ fn dialable_in<C: PublicKey>(
     Ok(answer)
 }
 
-// The dial status of the record's peer at this time; if it is blocked, after its block.
+// The dial status by which a listing of the records takes a peer up, at this time; if the peer is
+// blocked, that after its block.
 fn status_of<C: PublicKey>(
     found: &Record<C>,
     unblock: Option<Duration>,
@@ -110,8 +114,8 @@ fn status_of<C: PublicKey>(
     }
 }
 
-// Adds the peer if it may be dialled now; otherwise notes the time from which it may be, if there
-// is one.
+// Lists the record's peer if it may be dialled now; otherwise notes the time from which it may be,
+// if there is one.
 fn note<C: PublicKey>(
     answer: &mut Dialable<C>,
     peer: C,
@@ -133,7 +137,7 @@ fn note<C: PublicKey>(
     Ok(())
 }
 
-/// The earlier of two times.
+/// The earlier of two times, in a pass that lists peers or their cooldowns.
 pub fn earliest(known: Option<Duration>, moment: Duration) -> Duration
     ensures { Some (as_nanos result) ≡
         earliest (option_map as_nanos known) (Some (as_nanos moment)) }
@@ -144,7 +148,8 @@ pub fn earliest(known: Option<Duration>, moment: Duration) -> Duration
     }
 }
 
-// The primary peers, and those that are secondary only.
+// Lists, by one pass over the directory's records, the primary peers, and those that are secondary
+// only.
 fn by_role<C: PublicKey>(
     alloc: Global,
     map: &BTreeMap<C, Record<C>>,
@@ -163,7 +168,7 @@ fn by_role<C: PublicKey>(
     Ok((primary, secondary))
 }
 
-// Adds the peer to the list of its role if it is in a set.
+// Lists the record's peer under its role if it is in a set.
 fn push_by_role<C: PublicKey>(
     primary: &mut Vec<C>,
     secondary: &mut Vec<C>,

@@ -25,7 +25,8 @@ pub trait Membership: Drop {
     // What is left of it after one set less of the role has its peer.
     ghost left: { Role → Self → Option Self };
 
-    /// Counts one set less of the role, and returns whether the value stays.
+    /// Counts one set less of the role in one of the directory's records that a walk meets, and
+    /// returns whether it stays.
     fn leave(&mut self, role: Role) -> bool
         ensures { (if result then Some self.new else None) ≡ Self.left role self.old };
 }
@@ -42,8 +43,8 @@ impl<C: PublicKey> Membership for Record<C> {
     }
 }
 
-/// Adds to a list the peers that must be disconnected once one set less of the role has them. The
-/// list has capacity for all of them.
+/// Adds to a list, by a walk along the directory's records and the peers, the peers that must be
+/// disconnected once one set less of the role has them. The list has capacity for all of them.
 pub fn list_torn<C: PublicKey>(
     map: &BTreeMap<C, Record<C>>,
     peers: &OrderedSet<C>,
@@ -65,7 +66,8 @@ pub fn list_torn<C: PublicKey>(
     }
 }
 
-/// Counts one set less of each peer, and removes what doesn't stay.
+/// Counts one set less of each peer, by a walk along the directory's records and the peers, and
+/// removes what doesn't stay.
 pub fn leave_walked<C: PublicKey, V: Membership>(
     map: &mut BTreeMap<C, V>,
     peers: &OrderedSet<C>,
@@ -87,8 +89,8 @@ pub fn leave_walked<C: PublicKey, V: Membership>(
     );
 }
 
-// Counts one set less if the key is one of the peers from a position on, and returns whether its
-// value stays. The position moves past the key.
+// Counts one set less if a walk along the records meets the key among the peers from a position on,
+// and returns whether its value stays. The position moves past the key.
 fn stays<C: PublicKey, V: Membership>(
     peers: &OrderedSet<C>,
     at: &mut usize,
@@ -108,7 +110,8 @@ fn stays<C: PublicKey, V: Membership>(
     }
 }
 
-// Returns whether the key is one of the peers from a position on. The position moves past the key.
+// Returns whether a walk along the records meets the key among the peers from a position on. The
+// position moves past the key.
 fn meet<C: PublicKey>(peers: &OrderedSet<C>, at: &mut usize, key: &C) -> bool
     ensures rest { drop at.new peers.now ≡ above C.cmp key.now (drop at.old peers.now) }
     ensures met { result ≡ has_key C.cmp (drop at.old peers.now) key.now }
@@ -119,7 +122,8 @@ fn meet<C: PublicKey>(peers: &OrderedSet<C>, at: &mut usize, key: &C) -> bool
     met
 }
 
-// The position after the key, and whether the key itself is before it.
+// The position after the key of a walk along the records and the peers, and whether the key itself
+// is before it.
 fn met_from<C: PublicKey>(peers: &[C], from: usize, key: &C) -> (usize, bool)
     requires { IsStrictlySortedBy C.cmp peers.now }
     ensures rest { drop result.0 peers.now ≡ above C.cmp key.now (drop from peers.now) }
