@@ -1,7 +1,7 @@
 -- Writing the groups of a number two at a time.
-use Rattle.std.proofs.Common.{◌≡◌, ℕ, ◌+◌, ◌/◌, ◌%◌, ◌^◌, ◌≤◌, ◌<◌, List, [], ◌∷◌, ap, ◌∙◌, arith}
+use Rattle.std.proofs.Common.{◌≡◌, ℕ, suc, ◌+◌, ◌-◌, ◌*◌, ◌/◌, ◌%◌, ◌^◌, ◌≤◌, ◌<◌, List, [], ◌∷◌, ap, ◌∙◌, arith}
 use Rattle.p2p_discovery.specs.Varint.{groups}
-use Rattle.p2p_discovery.specs.Laws.Varint.{groups_small, groups_more}
+use Rattle.p2p_discovery.specs.Laws.Varint.{groups_small, groups_more, groups_step}
 
 pub one_group : (most n : ℕ) → 0 < most → n / 128 ≡ 0 → groups most n ≡ (n % 128) ∷ []
 one_group most n some e =
@@ -30,3 +30,10 @@ more_groups most n h le =
       fits = k.fits;
       is = m.is ∙ ap (λ (bytes : List ℕ). (n % 128 + 128) ∷ bytes) k.is;
     }
+
+-- a number of two groups, of which the second is 1
+pub groups_two : (left n : ℕ) → 128 ≤ n → n < 256 → groups (suc (suc left)) n ≡ n ∷ 1 ∷ []
+groups_two left n le lt =
+    let e : n ≡ n - 128 + 128 * 1 = omega arith in
+    ap (groups (suc (suc left))) e ∙ groups_step left n 1 le lt (omega arith)
+    ∙ ap (λ (w : List ℕ). n ∷ w) (groups_small (suc left) 1 (omega arith) (omega arith))

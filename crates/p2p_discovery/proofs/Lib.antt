@@ -1,8 +1,10 @@
 pub mod BitLists
 pub mod BitMaps
+pub mod Grammar
 pub mod GroupReads
 pub mod GroupWrites
 pub mod InfoReads
+pub mod Lengths
 pub mod ListReads
 pub mod Names
 pub mod Naming

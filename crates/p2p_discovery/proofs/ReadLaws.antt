@@ -1,10 +1,11 @@
 -- What the law of a reader says of one call.
-use Rattle.std.proofs.Common.{◌≡◌, ℕ, ◌-◌, ◌≤◌, ◌<◌, false, List, [], ◌++◌, length, drop, Ok, refl, sym, ap, subst, ◌∙◌, arith, eqb, ◌≢◌, ◌⊎◌, inl, inr}
+use Rattle.std.proofs.Common.{◌≡◌, ℕ, ◌-◌, ◌≤◌, ◌<◌, false, List, [], ◌++◌, length, drop, Result, Ok, Err, refl, sym, ap, subst, ◌∙◌, arith, eqb, ◌≢◌, ◌⊎◌, inl, inr}
 use Rattle.std.proofs.lemmas.List.{drop_at, length-append}
 use Rattle.std.proofs.lemmas.Bool.Decides.{nat_tests}
 use Rattle.p2p_discovery.specs.declared.codec.error.CodecError.{CodecError}
 use Rattle.p2p_discovery.specs.declared.codec.error.CodecError.TheVariants.{EndOfBuffer, ExtraData, InvalidLength, InvalidVarint, InvalidEnum, Invalid, Memory}
-use Rattle.p2p_discovery.specs.Reading.{Reading, Lawful, Fails, IsBytes, whole}
+use Rattle.p2p_discovery.specs.Reading.{Reading, ◌>>=◌, grows_then, Lawful, Fails, Gives, IsBytes, whole}
+use Rattle.p2p_discovery.specs.Laws.Reading.{or_left, or_right}
 
 is_memory : (e : CodecError) → (e ≡ Memory) ⊎ (e ≢ Memory)
 is_memory EndOfBuffer = inr (λ h. cc)
@@ -72,3 +73,27 @@ ends_extra r bytes x new n o e p = (λ _. rw (o, ← e, some_left n p) refl, λ 
 pub one_value : {A : Type 0} {r : List ℕ → Reading A} {sp : A → List ℕ} {Admits : A → Type 0} →
     Lawful r sp Admits → (v w : A) (x y : List ℕ) → Admits v → Admits w → sp v ++ x ≡ sp w ++ y → (v ≡ w) × (x ≡ y)
 one_value {sp = sp} law v w x y a b e = only_ok law (sp v ++ x) (sp w ++ y) e v x w y (law.again v x a) b refl
+
+-- TWO FIELDS, one behind the other
+
+-- A fault of the first field is the fault.
+pub fails_first : {A B : Type 0} (e : CodecError) (r : List ℕ → Reading A)
+    (f : A → List ℕ → Reading B) (bytes : List ℕ) → Fails e (r bytes) → Fails e ((r >>= f) bytes)
+fails_first e r f bytes h =
+    (λ n. rw (h.0 n) refl, λ m. or_left (r bytes).grows (grows_then (r bytes).outcome f) (h.1 m))
+
+-- Behind the first field comes what follows it.
+pub fails_next : {A B : Type 0} (e : CodecError) (r : List ℕ → Reading A)
+    (f : A → List ℕ → Reading B) (bytes : List ℕ) (x : A) (rest : List ℕ)
+    → (r bytes).outcome ≡ Ok (x, rest) → Fails e (f x rest) → Fails e ((r >>= f) bytes)
+fails_next e r f bytes x rest o h = (
+  λ n. rw o (h.0 n),
+  λ m. or_right (r bytes).grows (grows_then (r bytes).outcome f) (rw o (h.1 m)),
+)
+
+pub gives_next : {A B : Type 0} (result : Result B CodecError) (new : List ℕ)
+    (r : List ℕ → Reading A) (f : A → List ℕ → Reading B) (bytes : List ℕ) (x : A) (rest : List ℕ)
+    → (r bytes).outcome ≡ Ok (x, rest) → Gives result new (f x rest)
+    → Gives result new ((r >>= f) bytes)
+gives_next (Ok y) new r f bytes x rest o h = rw o h
+gives_next (Err e) new r f bytes x rest o h = fails_next e r f bytes x rest o h

@@ -13,35 +13,7 @@ use Rattle.p2p_tracker.specs.Answers.{is_torn_down, is_tracked, set_with_index, 
 use Rattle.p2p_tracker.specs.Answers.{is_primary_in, is_secondary_in, bits_at, is_dialable, query_moment, sharable_info}
 use Rattle.p2p_tracker.specs.Answers.{infos_for, is_eligible_at, is_blocked_at}
 use Rattle.p2p_directory.proofs.Definitions.Setting.{sec, info_at, info, own, setup, after_calls, track, listen, dial, update}
-
-abbrev keys : List ℕ
-keys = 1 ∷ 2 ∷ 3 ∷ 9 ∷ []
-
--- which of the keys have a property
-abbrev those : (ℕ → Bool) → List ℕ
-those test = filter test keys
-
--- the moments that the keys have
-abbrev moments : (ℕ → Option ℕ) → List ℕ
-moments moment = filter_map moment keys
-
--- what a call does after a past
-abbrev did : Settings ℕ ℕ → List (Event ℕ ℕ) → Call ℕ ℕ → Event ℕ ℕ
-did s h c = event_in s (History.taken_sets s h) (world_at s h) c
-
--- whether a dial or listen is granted, a track or block taken
-abbrev granted : Settings ℕ ℕ → List (Event ℕ ℕ) → Call ℕ ℕ → Bool
-granted s h c = was_granted (did s h c)
-
-abbrev taken : Settings ℕ ℕ → List (Event ℕ ℕ) → Call ℕ ℕ → Bool
-taken s h c = was_taken (did s h c)
-
-abbrev blocks : Settings ℕ ℕ → List (Event ℕ ℕ) → Call ℕ ℕ → Bool
-blocks s h c = was_blocked (did s h c)
-
--- whom a track tears down
-abbrev torn : Settings ℕ ℕ → List (Event ℕ ℕ) → Call ℕ ℕ → List ℕ
-torn s h c = those (is_torn_down s (world_at s h) (world_at s (past_after s h c)))
+use Rattle.p2p_directory.proofs.Definitions.Setting.{those, moments, granted, taken, blocks, torn}
 
 -- ROW 6: a set that leaves tears down its peer, whose record goes at the release, and its cooldown
 -- stays

@@ -12,35 +12,11 @@ use Rattle.p2p_tracker.specs.History
 use Rattle.p2p_tracker.specs.World.{world_at, event_in, past_after}
 use Rattle.p2p_tracker.specs.Answers.{was_granted, was_taken, status_in, is_torn_down, is_tracked, is_dialable, query_moment, is_cooled_at}
 use Rattle.p2p_directory.proofs.Definitions.Setting.{sec, setup, after_calls, track, listen, dial, update}
+use Rattle.p2p_directory.proofs.Definitions.Setting.{those, moments, granted, taken, blocks, torn}
 
-abbrev keys : List ℕ
-keys = 1 ∷ 2 ∷ 3 ∷ 9 ∷ []
-
--- which of the keys have a property, and how many
-abbrev those : (ℕ → Bool) → List ℕ
-those test = filter test keys
-
+-- how many keys have a property
 abbrev number : (ℕ → Bool) → ℕ
 number test = length (those test)
-
--- the moments that the keys have
-abbrev moments : (ℕ → Option ℕ) → List ℕ
-moments moment = filter_map moment keys
-
--- what a call does after a past
-abbrev did : Settings ℕ ℕ → List (Event ℕ ℕ) → Call ℕ ℕ → Event ℕ ℕ
-did s h c = event_in s (History.taken_sets s h) (world_at s h) c
-
--- whether a dial or listen is granted, and a track taken
-abbrev granted : Settings ℕ ℕ → List (Event ℕ ℕ) → Call ℕ ℕ → Bool
-granted s h c = was_granted (did s h c)
-
-abbrev taken : Settings ℕ ℕ → List (Event ℕ ℕ) → Call ℕ ℕ → Bool
-taken s h c = was_taken (did s h c)
-
--- whom a track tears down
-abbrev torn : Settings ℕ ℕ → List (Event ℕ ℕ) → Call ℕ ℕ → List ℕ
-torn s h c = those (is_torn_down s (world_at s h) (world_at s (past_after s h c)))
 
 -- how many cooldowns a call to forget at t finds
 abbrev forgets : Settings ℕ ℕ → List (Event ℕ ℕ) → ℕ → ℕ

@@ -1,12 +1,15 @@
 -- The setting of the worked examples.
-use Rattle.std.proofs.Common.{◌≡◌, ℕ, ◌+◌, ◌*◌, ◌^◌, true, List, [], ◌∷◌, refl}
+use Rattle.std.proofs.Common.{◌≡◌, ℕ, ◌+◌, ◌*◌, ◌^◌, Bool, true, List, [], ◌∷◌, Option, refl}
+use Rattle.std.specs.Prelude.{filter, filter_map}
 use Rattle.std.specs.Ordering.{nat_cmp}
 use Rattle.p2p_discovery.specs.declared.discovery.Info.{Info}
 use Rattle.p2p_discovery.specs.declared.types.ingress.Ingress.TheVariants.{Socket}
 use Rattle.p2p_discovery.specs.declared.types.socket.IpAddr.TheVariants.{V4}
 use Rattle.p2p_tracker.specs.Calls.{Settings, Call, Event}
 use Rattle.p2p_tracker.specs.Calls.Call.{Track, Dial, Listen, Update}
-use Rattle.p2p_tracker.specs.World.{past_after, past}
+use Rattle.p2p_tracker.specs.History
+use Rattle.p2p_tracker.specs.World.{past_after, past, world_at, event_in}
+use Rattle.p2p_tracker.specs.Answers.{was_granted, was_taken, was_blocked, is_torn_down}
 
 -- so many seconds
 abbrev pub sec : ℕ → ℕ
@@ -73,3 +76,34 @@ dial p t = Dial p (sec t) 0
 
 abbrev pub update : ℕ → ℕ → Call ℕ ℕ
 update p timestamp = Update (info p timestamp ∷ [])
+
+-- WHAT THE EXAMPLES ASK after a past
+
+-- which of the keys have a property
+abbrev keys : List ℕ
+keys = 1 ∷ 2 ∷ 3 ∷ 4 ∷ 7 ∷ 9 ∷ []
+
+abbrev pub those : (ℕ → Bool) → List ℕ
+those test = filter test keys
+
+-- the moments that the keys have
+abbrev pub moments : (ℕ → Option ℕ) → List ℕ
+moments moment = filter_map moment keys
+
+-- what a call does
+abbrev pub did : Settings ℕ ℕ → List (Event ℕ ℕ) → Call ℕ ℕ → Event ℕ ℕ
+did s h c = event_in s (History.taken_sets s h) (world_at s h) c
+
+-- whether a dial or listen is granted, a track or block taken
+abbrev pub granted : Settings ℕ ℕ → List (Event ℕ ℕ) → Call ℕ ℕ → Bool
+granted s h c = was_granted (did s h c)
+
+abbrev pub taken : Settings ℕ ℕ → List (Event ℕ ℕ) → Call ℕ ℕ → Bool
+taken s h c = was_taken (did s h c)
+
+abbrev pub blocks : Settings ℕ ℕ → List (Event ℕ ℕ) → Call ℕ ℕ → Bool
+blocks s h c = was_blocked (did s h c)
+
+-- whom a track tears down
+abbrev pub torn : Settings ℕ ℕ → List (Event ℕ ℕ) → Call ℕ ℕ → List ℕ
+torn s h c = those (is_torn_down s (world_at s h) (world_at s (past_after s h c)))

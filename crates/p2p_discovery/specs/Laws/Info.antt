@@ -1,28 +1,15 @@
 -- Infos and lists of them are read by their spelling, which has the bounds that are said of it.
-use Rattle.std.proofs.Common.{◌≡◌, ℕ, suc, ◌+◌, ◌≤◌, List, [], ◌∷◌, length, Option, refl, lit<}
-use Rattle.std.proofs.Common.{arith, inl, inr}
-use Rattle.std.specs.Int.{w16, to_be_bytes}
+use Rattle.std.proofs.Common.{ℕ, ◌+◌, List, [], ◌∷◌, Option, refl, lit<}
 use Rattle.std.specs.List.{AllByRecursion}
-use Rattle.std.proofs.lemmas.Bool.{cases_lt, lt-ltb, le-ltb}
-use Rattle.std.proofs.lemmas.List.{length-append}
 use Rattle.p2p_discovery.specs.declared.codec.error.RangeCfg.{RangeCfg}
 use Rattle.p2p_discovery.specs.declared.codec.error.What.TheVariants as what
-use Rattle.p2p_discovery.specs.declared.types.socket.IpAddr.{IpAddr}
-use Rattle.p2p_discovery.specs.declared.types.socket.IpAddr.TheVariants.{V4, V6}
-use Rattle.p2p_discovery.specs.declared.types.ingress.Ingress.{Ingress}
-use Rattle.p2p_discovery.specs.declared.types.ingress.Ingress.TheVariants.{Socket, Dns}
-use Rattle.p2p_discovery.specs.declared.discovery.Info.{Info}
 use Rattle.p2p_discovery.specs.Reading.{Lawful}
 use Rattle.p2p_discovery.specs.Laws.Fields.{lawful_both, lawful_as, lawful_same}
 use Rattle.p2p_discovery.specs.Fixed.{IsFixed}
 use Rattle.p2p_discovery.specs.Laws.Fixed.{lawful_fixed}
-use Rattle.p2p_discovery.specs.Counted.{counted_spelling}
-use Rattle.p2p_discovery.specs.Socket.{IsIp, ip_spelling}
-use Rattle.p2p_discovery.specs.Ingress.{IsIngress, ingress_spelling}
-use Rattle.p2p_discovery.specs.Laws.Ingress.{lawful_ingress, ingress_short}
+use Rattle.p2p_discovery.specs.Laws.Ingress.{lawful_ingress}
 use Rattle.p2p_discovery.specs.Laws.Lists.{lawful_list}
-use Rattle.p2p_discovery.specs.Varint.{groups, varint32, varint64}
-use Rattle.p2p_discovery.specs.Laws.Varint.{groups_lawful, groups_short}
+use Rattle.p2p_discovery.specs.Laws.Varint.{groups_lawful}
 use Rattle.p2p_discovery.specs.Info.{IsInfo, IsKeyed, info_spelling, info_at, infos_spelling}
 use Rattle.p2p_discovery.specs.Info.{AreAllowed, infos_at}
 
@@ -43,69 +30,11 @@ each_both : {A : Type 0} (P Q : A → Type 0) (xs : List A) → AllByRecursion P
 each_both P Q [] h k = tt
 each_both P Q (x ∷ xs) h k = ((h.0, k.0), each_both P Q xs h.1 k.1)
 
--- ---- sizes
-
-pub length-info : {C S : Type 0} (key : C → List ℕ) (signature : S → List ℕ) (i : Info C S)
-    → length (info_spelling key signature i)
-    ≡ length (ingress_spelling i.ingress)
-    + (length (varint64 i.timestamp) + (length (key i.public_key) + length (signature i.signature)))
-length-info key signature i = simp length-append
-
-some_group : (most n : ℕ) → 1 ≤ length (groups (suc most) n)
-unfolding groups
-some_group most n =
-    elim (cases_lt n 128) [
-      | inl low ↦ rw (lt-ltb n 128 low) (omega arith)
-      | inr high ↦ rw (le-ltb n 128 high) (omega arith)
-    ]
-
-some_ip : (ip : IpAddr) → IsIp ip → 5 ≤ length (ip_spelling ip)
-some_ip (V4 b) h = omega (arith, h.0)
-some_ip (V6 b) h = omega (arith, h.0)
-
-some_ingress : (i : Ingress) → IsIngress i → 5 ≤ length (ingress_spelling i)
-some_ingress (Socket s) h =
-    omega (arith, some_ip s.ip h.0, length-append (ip_spelling s.ip) (to_be_bytes w16 s.port))
-some_ingress (Dns host port) h =
-    omega (
-      arith,
-      some_group 4 (length host),
-      h.0.some,
-      length-append (varint32 (length host)) host,
-      length-append (counted_spelling host) (to_be_bytes w16 port),
-    )
-
 module _ {C S : Type 0} {key_size signature_size : ℕ} {spell_key : C → List ℕ}
     {spell_signature : S → List ℕ} {key : List ℕ → Option C} {signature : List ℕ → Option S}
     {IsKey : C → Type 0} {IsSignature : S → Type 0}
     (k : IsFixed key_size spell_key key IsKey)
     (s : IsFixed signature_size spell_signature signature IsSignature) where
-  pub info_short : (i : Info C S) → IsInfo i
-      → length (info_spelling spell_key spell_signature i) ≤ 261 + 10 + key_size + signature_size
-  info_short i h =
-      rw (length-info spell_key spell_signature i)
-      (omega (
-        arith,
-        ingress_short i.ingress h.ingress,
-        groups_short 10 i.timestamp,
-        k.len i.public_key,
-        s.len i.signature,
-      ))
-
-  pub info_long : (i : Info C S) → IsInfo i
-      → 6 + key_size + signature_size ≤ length (info_spelling spell_key spell_signature i)
-  info_long i h =
-      rw (length-info spell_key spell_signature i)
-      (omega (
-        arith,
-        some_ingress i.ingress h.ingress,
-        some_group 9 i.timestamp,
-        k.len i.public_key,
-        s.len i.signature,
-      ))
-
-  -- ---- reading
-
   pub lawful_info : Lawful (info_at key_size key signature_size signature)
       (info_spelling spell_key spell_signature) (λ i. IsInfo i × IsKeyed IsKey IsSignature i)
   unfolding info_at

@@ -1,5 +1,5 @@
 -- Lists are read by their spelling.
-use Rattle.std.proofs.Common.{◌≡◌, ℕ, zero, suc, ◌+◌, ◌*◌, ◌≤◌, ◌<◌, ◌^◌, true, List, [], ◌∷◌, ◌++◌}
+use Rattle.std.proofs.Common.{◌≡◌, ℕ, zero, suc, ◌<◌, ◌^◌, true, List, [], ◌∷◌, ◌++◌}
 use Rattle.std.proofs.Common.{length, Ok, Err, refl, sym, ap, subst, ◌∙◌, append_assoc, arith, inl}
 use Rattle.std.proofs.Common.{inr}
 use Rattle.std.specs.List.{AllByRecursion}
@@ -83,35 +83,3 @@ pub lawful_list : {A : Type 0} {r : List ℕ → Reading A} {sp : A → List ℕ
 unfolding list_at
 lawful_list limit least law =
     lawful_sized length (lawful_length limit) (λ n _. lawful_items least n law)
-
--- spellings of at most so many bytes each
-pub spellings_short : {A : Type 0} (sp : A → List ℕ) (P : A → Type 0) (most : ℕ)
-    → ((x : A) → P x → length (sp x) ≤ most) → (xs : List A) → AllByRecursion P xs
-    → length (spellings sp xs) ≤ length xs * most
-unfolding spellings
-spellings_short sp P most each [] h = omega arith
-spellings_short sp P most each (x ∷ xs) h =
-    let one : suc (length xs) * most ≡ most + length xs * most = omega arith in
-    omega (
-      arith,
-      one,
-      each x h.0,
-      spellings_short sp P most each xs h.1,
-      length-append (sp x) (spellings sp xs),
-    )
-
--- spellings of at least so many bytes each
-pub spellings_long : {A : Type 0} (sp : A → List ℕ) (P : A → Type 0) (least : ℕ)
-    → ((x : A) → P x → least ≤ length (sp x)) → (xs : List A) → AllByRecursion P xs
-    → length xs * least ≤ length (spellings sp xs)
-unfolding spellings
-spellings_long sp P least each [] h = omega arith
-spellings_long sp P least each (x ∷ xs) h =
-    let one : suc (length xs) * least ≡ least + length xs * least = omega arith in
-    omega (
-      arith,
-      one,
-      each x h.0,
-      spellings_long sp P least each xs h.1,
-      length-append (sp x) (spellings sp xs),
-    )

@@ -1,50 +1,23 @@
 -- Payloads are read by their spelling, and those that aren't data are short.
-use Rattle.std.proofs.Common.{◌≡◌, ℕ, ◌+◌, ◌*◌, ◌≤◌, ◌<◌, eqb, true, false, List, ◌++◌, length}
+use Rattle.std.proofs.Common.{◌≡◌, ℕ, ◌<◌, eqb, true, false, List}
 use Rattle.std.proofs.Common.{Option, refl, sym, arith}
-use Rattle.std.proofs.Math.Nat.{mul-le-mul_right}
 use Rattle.std.proofs.lemmas.Bool.{eqb-true, eqb-false}
-use Rattle.std.proofs.lemmas.Bool.Decides.{nat_tests}
-use Rattle.std.proofs.lemmas.List.{length-append}
 use Rattle.p2p_discovery.specs.declared.codec.error.CodecError.TheVariants.{InvalidEnum}
 use Rattle.p2p_discovery.specs.declared.discovery.Payload.{Payload}
 use Rattle.p2p_discovery.specs.declared.discovery.Payload.TheVariants as said
 use Rattle.p2p_discovery.specs.declared.discovery.PayloadConfig.{PayloadConfig}
-use Rattle.p2p_discovery.specs.Reading.{◌>>=◌, reads, is_within, Lawful}
+use Rattle.p2p_discovery.specs.Reading.{◌>>=◌, reads, Lawful}
 use Rattle.p2p_discovery.specs.Laws.Fields.{lawful_sized, lawful_byte, lawful_if, lawful_made}
 use Rattle.p2p_discovery.specs.Laws.Fields.{lawful_none, lawful_same}
 use Rattle.p2p_discovery.specs.Fixed.{IsFixed}
-use Rattle.p2p_discovery.specs.Varint.{varint32, varint64}
-use Rattle.p2p_discovery.specs.Laws.Varint.{groups_short, groups_less}
 use Rattle.p2p_discovery.specs.Data as messages
 use Rattle.p2p_discovery.specs.Laws.Data.{lawful_data}
-use Rattle.p2p_discovery.specs.Info.{IsInfo, info_spelling, infos_spelling, info_at, infos_at}
-use Rattle.p2p_discovery.specs.Laws.Info.{lawful_info, lawful_infos, info_short, info_long}
-use Rattle.p2p_discovery.specs.Lists.{spellings}
-use Rattle.p2p_discovery.specs.Laws.Lists.{spellings_short, spellings_long}
-use Rattle.p2p_discovery.specs.Bits.{packed}
-use Rattle.p2p_discovery.specs.Laws.Bits.{length-packed}
+use Rattle.p2p_discovery.specs.Info.{info_at, infos_at}
+use Rattle.p2p_discovery.specs.Laws.Info.{lawful_info, lawful_infos}
 use Rattle.p2p_discovery.specs.BitVec as bits
 use Rattle.p2p_discovery.specs.Laws.BitVec.{lawful_bit_vec}
 use Rattle.p2p_discovery.specs.Payload.{up_to, prefix_of, IsPayload, IsAdmitted, body_spelling}
-use Rattle.p2p_discovery.specs.Payload.{payload_spelling, body_at, payload_at, gossip_size}
-use Rattle.p2p_discovery.specs.Payload.{IsBoundedBy}
-use Rattle.p2p_discovery.specs.Counted.{counted_spelling}
-use Rattle.p2p_discovery.specs.declared.discovery.BitVec.{BitVec}
-use Rattle.p2p_discovery.specs.declared.discovery.Info.{Info}
-use Rattle.std.specs.List.{AllByRecursion}
-
-within_up_to : (n greatest : ℕ) → is_within (up_to greatest) n ≡ true → n ≤ greatest
-within_up_to n greatest h = grind (arith, nat_tests)
-
--- bits need no more than the bytes of their spelling
-pub bits_bounded : (v : BitVec) → length v.bits ≤ 8 * length (bits.bit_vec_spelling v)
-bits_bounded v =
-    omega (
-      arith,
-      length-packed v.bits,
-      length-append (varint64 v.index) (varint64 (length v.bits) ++ packed v.bits),
-      length-append (varint64 (length v.bits)) (packed v.bits),
-    )
+use Rattle.p2p_discovery.specs.Payload.{payload_spelling, body_at, payload_at}
 
 module _ {C S : Type 0} {key_size signature_size : ℕ} {spell_key : C → List ℕ}
     {spell_signature : S → List ℕ} {key : List ℕ → Option C} {signature : List ℕ → Option S}
@@ -145,65 +118,3 @@ module _ {C S : Type 0} {key_size signature_size : ℕ} {spell_key : C → List 
   lawful_payload limits =
       lawful_same (λ p h. h.0) (λ p h. (h, prefix_small p))
       (lawful_sized prefix_of lawful_byte (λ t _. lawful_body limits t))
-
-  -- ---- sizes
-
-  pub gossip_short : (limits : PayloadConfig) (p : Payload C S) → IsPayload p
-      → IsAdmitted IsKey IsSignature limits p → 0 < prefix_of p
-      → length (payload_spelling spell_key spell_signature p)
-      ≤ gossip_size (261 + 10 + key_size + signature_size) limits.max_bit_vec limits.max_peers
-  gossip_short limits (said.Data d) h a other = absurd (omega arith)
-  gossip_short limits (said.Greeting i) h a other = omega (arith, info_short k s i h)
-  gossip_short limits (said.BitVec v) h a other =
-      omega (
-        arith,
-        groups_short 10 v.index,
-        groups_less 10 (length v.bits) limits.max_bit_vec a.within,
-        a.within,
-        length-packed v.bits,
-        length-append (varint64 v.index) (varint64 (length v.bits) ++ packed v.bits),
-        length-append (varint64 (length v.bits)) (packed v.bits),
-      )
-  gossip_short limits (said.Peers is) h a other =
-      let info = 261 + 10 + key_size + signature_size in
-      let all =
-      spellings_short (info_spelling spell_key spell_signature) IsInfo
-      (261 + 10 + key_size + signature_size) (info_short k s) is h in
-      let few : length is ≤ limits.max_peers = within_up_to (length is) limits.max_peers a.within in
-      let less : length is * (261 + 10 + key_size + signature_size)
-      ≤ limits.max_peers * (261 + 10 + key_size + signature_size) =
-      mul-le-mul_right (261 + 10 + key_size + signature_size) few in
-      omega (
-        arith,
-        all,
-        less,
-        groups_short 5 (length is),
-        length-append (varint32 (length is))
-            (spellings (info_spelling spell_key spell_signature) is),
-      )
-
-  -- what is spelled needs no more than the bytes of its spelling
-  pub infos_bounded : (is : List (Info C S)) → AllByRecursion IsInfo is
-      → length is * (6 + key_size + signature_size)
-      ≤ length (infos_spelling spell_key spell_signature is)
-  infos_bounded is h =
-      omega (
-        arith,
-        spellings_long (info_spelling spell_key spell_signature) IsInfo
-            (6 + key_size + signature_size) (info_long k s) is h,
-        length-append (varint32 (length is))
-            (spellings (info_spelling spell_key spell_signature) is),
-      )
-
-  pub payload_bounded : (p : Payload C S) → IsPayload p
-      → IsBoundedBy (6 + key_size + signature_size)
-      (length (payload_spelling spell_key spell_signature p)) p
-  payload_bounded (said.Data d) h =
-      omega (
-        arith,
-        length-append (varint64 d.channel) (counted_spelling d.message),
-        length-append (varint32 (length d.message)) d.message,
-      )
-  payload_bounded (said.Greeting i) h = omega (arith, info_long k s i h)
-  payload_bounded (said.BitVec v) h = omega (arith, bits_bounded v)
-  payload_bounded (said.Peers is) h = omega (arith, infos_bounded is h)

@@ -3,8 +3,7 @@ use Rattle.std.proofs.Common.{◌≡◌, ℕ, ◌<◌, Bool, true, false, cond, 
 use Rattle.std.proofs.Common.{length, Result, Ok, Err, refl, sym, ap, arith, ◌⊎◌, inl, inr}
 use Rattle.std.proofs.lemmas.List.{length-append}
 use Rattle.p2p_discovery.specs.declared.codec.error.CodecError.{CodecError}
-use Rattle.p2p_discovery.specs.Reading.{Reading, ◌>>=◌, reads, refuses, outcome_then, grows_then}
-use Rattle.p2p_discovery.specs.Reading.{Fails, Gives}
+use Rattle.p2p_discovery.specs.Reading.{Reading, reads, refuses, outcome_then}
 
 pub or_left : (a b : Bool) → a ≡ true → a || b ≡ true
 or_left a b e = rw e refl
@@ -12,28 +11,6 @@ or_left a b e = rw e refl
 pub or_right : (a b : Bool) → b ≡ true → a || b ≡ true
 or_right true b e = refl
 or_right false b e = e
-
--- A fault of the first field is the fault.
-pub fails_first : {A B : Type 0} (e : CodecError) (r : List ℕ → Reading A)
-    (f : A → List ℕ → Reading B) (bytes : List ℕ) → Fails e (r bytes) → Fails e ((r >>= f) bytes)
-fails_first e r f bytes h =
-    (λ n. rw (h.0 n) refl, λ m. or_left (r bytes).grows (grows_then (r bytes).outcome f) (h.1 m))
-
--- Behind the first field comes what follows it.
-pub fails_next : {A B : Type 0} (e : CodecError) (r : List ℕ → Reading A)
-    (f : A → List ℕ → Reading B) (bytes : List ℕ) (x : A) (rest : List ℕ)
-    → (r bytes).outcome ≡ Ok (x, rest) → Fails e (f x rest) → Fails e ((r >>= f) bytes)
-fails_next e r f bytes x rest o h = (
-  λ n. rw o (h.0 n),
-  λ m. or_right (r bytes).grows (grows_then (r bytes).outcome f) (rw o (h.1 m)),
-)
-
-pub gives_next : {A B : Type 0} (result : Result B CodecError) (new : List ℕ)
-    (r : List ℕ → Reading A) (f : A → List ℕ → Reading B) (bytes : List ℕ) (x : A) (rest : List ℕ)
-    → (r bytes).outcome ≡ Ok (x, rest) → Gives result new (f x rest)
-    → Gives result new ((r >>= f) bytes)
-gives_next (Ok y) new r f bytes x rest o h = rw o h
-gives_next (Err e) new r f bytes x rest o h = fails_next e r f bytes x rest o h
 
 -- ---- what was read
 

@@ -1,16 +1,15 @@
 -- A number's groups are read again, and what is read are a number's groups.
-use Rattle.std.proofs.Common.{◌≡◌, ◌↔◌, ℕ, zero, suc, ◌+◌, ◌-◌, ◌*◌, ◌/◌, ◌%◌, ◌^◌, ◌≤◌, ◌<◌, Bool}
-use Rattle.std.proofs.Common.{true, false, cond, ◌&&◌, ◌||◌, List, [], ◌∷◌, ◌++◌, length, Result}
+use Rattle.std.proofs.Common.{◌≡◌, ℕ, zero, suc, ◌+◌, ◌-◌, ◌*◌, ◌/◌, ◌%◌, ◌^◌, ◌≤◌, ◌<◌, Bool}
+use Rattle.std.proofs.Common.{true, false, cond, ◌&&◌, ◌||◌, List, [], ◌∷◌, ◌++◌, length}
 use Rattle.std.proofs.Common.{Ok, Err, refl, sym, ap, subst, ◌∙◌, arith, eqb, ltb, inl, inr}
 use Rattle.std.proofs.Math.Nat.{pow-suc, mul-le-mul_left}
 use Rattle.std.proofs.Math.Dec.{eqb-suc-zero}
 use Rattle.std.proofs.lemmas.Bool.{cases_lt, ltb-false, le-ltb, lt-ltb}
-use Rattle.p2p_discovery.specs.declared.codec.error.CodecError.{CodecError}
 use Rattle.p2p_discovery.specs.declared.codec.error.CodecError.TheVariants.{EndOfBuffer}
 use Rattle.p2p_discovery.specs.declared.codec.error.CodecError.TheVariants.{InvalidVarint}
-use Rattle.p2p_discovery.specs.Reading.{◌>>=◌, reads, byte_at, Fails, Gives, Lawful, IsBytes}
-use Rattle.p2p_discovery.specs.Varint.{SpellsFrom, groups, groups_at, last_group}
-use Rattle.p2p_discovery.specs.Laws.Reading.{fails_first, gives_next, guard_ok, done, ok_is, bind_ok}
+use Rattle.p2p_discovery.specs.Reading.{◌>>=◌, reads, byte_at, Lawful, IsBytes}
+use Rattle.p2p_discovery.specs.Varint.{groups, groups_at, last_group}
+use Rattle.p2p_discovery.specs.Laws.Reading.{guard_ok, done, ok_is, bind_ok}
 use Rattle.p2p_discovery.specs.Laws.Reading.{head_is, tail_is, one_byte_front}
 
 pub groups_small : (most n : ℕ) → 0 < most → n < 128 → groups most n ≡ n ∷ []
@@ -25,7 +24,7 @@ pub record Shorter (most n : ℕ) : Type 0 where
   pub fits : n / 128 < 128 ^ less
   pub is : groups most n ≡ (n % 128 + 128) ∷ groups less (n / 128)
 
-div_fits : (n p : ℕ) → n < p * 128 → n / 128 < p
+pub div_fits : (n p : ℕ) → n < p * 128 → n / 128 < p
 div_fits n p h = omega arith
 
 pub groups_more : (most n : ℕ) → n < 128 ^ most → 128 ≤ n → Shorter most n
@@ -55,39 +54,6 @@ at_more most top started left less bytes e = rw e refl
 
 -- ---- the steps of the reader
 
-pub first_fails : (e : CodecError) (most top : ℕ) (started : Bool) (left : ℕ) (bytes : List ℕ)
-    → Fails e (byte_at bytes) → Fails e (groups_at most top started left bytes)
-unfolding groups_at
-first_fails e most top started zero bytes h = fails_first e byte_at _ bytes h
-first_fails e most top started (suc left) bytes h = fails_first e byte_at _ bytes h
-
-pub last_gives : (most top : ℕ) (started : Bool) (left : ℕ) (bytes : List ℕ) (b : ℕ) (rest : List ℕ)
-    (result : Result ℕ CodecError) → left ≡ 0 → (byte_at bytes).outcome ≡ Ok (b, rest)
-    → Gives result rest (last_group most top started b rest)
-    → Gives result rest (groups_at most top started left bytes)
-last_gives most top started left bytes b rest result z o h =
-    rw (at_zero most top started left bytes z)
-    (gives_next result rest byte_at (last_group most top started) bytes b rest o h)
-
-pub low_gives : (most top : ℕ) (started : Bool) (left less : ℕ) (bytes : List ℕ) (b : ℕ)
-    (rest : List ℕ) (result : Result ℕ CodecError) → left ≡ suc less
-    → (byte_at bytes).outcome ≡ Ok (b, rest) → b < 128
-    → Gives result rest (last_group most 127 started b rest)
-    → Gives result rest (groups_at most top started left bytes)
-low_gives most top started left less bytes b rest result z o lt h =
-    rw (at_more most top started left less bytes z)
-    (gives_next result rest byte_at _ bytes b rest o (rw (lt-ltb b 128 lt) h))
-
-pub high_gives : (most top : ℕ) (started : Bool) (left less : ℕ) (bytes : List ℕ) (b : ℕ)
-    (rest new : List ℕ) (result : Result ℕ CodecError) → left ≡ suc less
-    → (byte_at bytes).outcome ≡ Ok (b, rest) → 128 ≤ b
-    → Gives result new
-    ((groups_at most top true less >>= λ high. reads (b - 128 + 128 * high)) rest)
-    → Gives result new (groups_at most top started left bytes)
-high_gives most top started left less bytes b rest new result z o le h =
-    rw (at_more most top started left less bytes z)
-    (gives_next result new byte_at _ bytes b rest o (rw (le-ltb b 128 le) h))
-
 -- ---- how large a number is
 
 some_power : (k : ℕ) → 0 < 128 ^ k
@@ -100,12 +66,6 @@ bound_step b high p lt h = omega arith
 pub bound_more : (b high top left less : ℕ) → left ≡ suc less → b < 256
     → high < (top + 1) * 128 ^ less → b - 128 + 128 * high < (top + 1) * 128 ^ left
 bound_more b high top left less e lt h = rw (e, pow-suc 128 less) (omega arith)
-
-pub bound_less : (top left less : ℕ) → left ≡ suc less → (top + 1) * 128 ^ left ≤ 2 ^ 64
-    → (top + 1) * 128 ^ less ≤ 2 ^ 57
-bound_less top left less e h =
-    let k : (top + 1) * (128 ^ less * 128) ≤ 2 ^ 64 = rw (e, pow-suc 128 less) at h in
-    omega arith
 
 pub bound_low : (n top left less : ℕ) → left ≡ suc less → n ≤ 127 → n < (top + 1) * 128 ^ left
 bound_low n top left less e h =
@@ -151,7 +111,7 @@ pub record Took (top left : ℕ) (started : Bool) (bytes : List ℕ) (n : ℕ)
   pub some : started ≡ true → 0 < n
   pub parts : bytes ≡ groups (suc left) n ++ rest
 
-bound_split : (top left n : ℕ) → n < (top + 1) * 128 ^ suc left → n < ((top + 1) * 128 ^ left) * 128
+pub bound_split : (top left n : ℕ) → n < (top + 1) * 128 ^ suc left → n < ((top + 1) * 128 ^ left) * 128
 bound_split top left n h =
     let k : n < (top + 1) * (128 ^ left * 128) = rw (pow-suc 128 left) at h in omega arith
 
@@ -160,19 +120,12 @@ value_is : (b high : ℕ) → 128 ≤ b → b < 256 → 0 < high
     × ((b - 128 + 128 * high) / 128 ≡ high)
 value_is b high le lt some = (omega arith, omega arith, omega arith)
 
-groups_step : (left b high : ℕ) → 128 ≤ b → b < 256 → 0 < high
+pub groups_step : (left b high : ℕ) → 128 ≤ b → b < 256 → 0 < high
     → groups (suc (suc left)) (b - 128 + 128 * high) ≡ b ∷ groups (suc left) high
 unfolding groups
 groups_step left b high le lt some =
     let v = value_is b high le lt some in
     rw (le-ltb (b - 128 + 128 * high) 128 v.0, v.1, v.2) refl
-
--- a number of two groups, of which the second is 1
-pub groups_two : (left n : ℕ) → 128 ≤ n → n < 256 → groups (suc (suc left)) n ≡ n ∷ 1 ∷ []
-groups_two left n le lt =
-    let e : n ≡ n - 128 + 128 * 1 = omega arith in
-    ap (groups (suc (suc left))) e ∙ groups_step left n 1 le lt (omega arith)
-    ∙ ap (λ (w : List ℕ). n ∷ w) (groups_small (suc left) 1 (omega arith) (omega arith))
 
 pub groups_take : (most top : ℕ) (started : Bool) (left : ℕ) (bytes : List ℕ) (n : ℕ)
     (rest : List ℕ) → top < 128 → IsBytes bytes
@@ -325,104 +278,3 @@ groups_short (suc most) n =
       | inl low ↦ rw (lt-ltb n 128 low) (omega arith)
       | inr high ↦ rw (le-ltb n 128 high) (omega (arith, groups_short most (n / 128)))
     ]
-
--- a lesser number has no more groups
-pub groups_less : (most n m : ℕ) → n ≤ m → length (groups most n) ≤ length (groups most m)
-unfolding groups
-groups_less zero n m h = omega arith
-groups_less (suc most) n m h =
-    elim (cases_lt n 128) [
-      | inl low ↦ elim (cases_lt m 128) [
-        | inl also ↦ rw (lt-ltb n 128 low, lt-ltb m 128 also) (omega arith)
-        | inr high ↦ rw (lt-ltb n 128 low, le-ltb m 128 high) (omega arith)
-      ]
-      | inr high ↦
-          rw (le-ltb n 128 high, le-ltb m 128 (omega arith))
-          (omega (arith, groups_less most (n / 128) (m / 128) (omega arith)))
-    ]
-
--- ---- the grammar
-
--- what follows from bytes that spell n behind the bytes that there were
-pub record Spelled (more : Bool) (top left : ℕ) (bytes : List ℕ) (n : ℕ) : Type 0 where
-  pub small : n < (top + 1) * 128 ^ left
-  pub some : more ≡ true → 0 < n
-  pub is : bytes ≡ groups (suc left) n
-
-above_zero : (n : ℕ) → (n ≡ 0 → ⊥) → 0 < n
-above_zero zero h = absurd (h refl)
-above_zero (suc n) h = omega arith
-
-pub spelled_is : (more : Bool) (top left : ℕ) (bytes : List ℕ) (n : ℕ) → top < 128
-    → SpellsFrom more top left bytes n → Spelled more top left bytes n
-unfolding SpellsFrom
-spelled_is more top left [] n lt h = absurd h
-spelled_is more top zero (b ∷ []) n lt h = record {
-  small = omega (arith, h.0, h.2 refl);
-  some = λ m. rw h.0 (above_zero b (h.3 m));
-  is = rw (h.0, groups_small 1 b (omega arith) h.1) refl;
-}
-spelled_is more top (suc left) (b ∷ []) n lt h = record {
-  small = bound_low n top (suc left) left refl (omega (arith, h.0, h.1));
-  some = λ m. rw h.0 (above_zero b (h.3 m));
-  is = rw (h.0, groups_small (suc (suc left)) b (omega arith) h.1) refl;
-}
-spelled_is more top zero (b ∷ c ∷ bytes) n lt h = absurd h
-spelled_is more top (suc left) (b ∷ c ∷ bytes) n lt h =
-    let high = h.2.0 in
-    let s = spelled_is true top left (c ∷ bytes) high lt h.2.2 in
-    record {
-      small = rw h.2.1 (bound_more b high top (suc left) left refl h.1 s.small);
-      some = λ m. omega (arith, h.2.1, s.some refl);
-      is =
-          rw (h.2.1, groups_step left b high h.0 h.1 (s.some refl))
-          (ap (λ (w : List ℕ). b ∷ w) s.is);
-    }
-
-spells_behind : (more : Bool) (top left b high : ℕ) (tail : List ℕ) (n : ℕ) → 128 ≤ b → b < 256
-    → n ≡ b - 128 + 128 * high → SpellsFrom true top left tail high
-    → SpellsFrom more top (suc left) (b ∷ tail) n
-unfolding SpellsFrom
-spells_behind more top left b high [] n p q e h = absurd h
-spells_behind more top left b high (c ∷ bytes) n p q e h = (p, q, (high, e, h))
-
-spells_last : (more : Bool) (top left n : ℕ) → n < 128 → (left ≡ 0 → n ≤ top)
-    → (more ≡ true → 0 < n) → SpellsFrom more top left (n ∷ []) n
-unfolding SpellsFrom
-spells_last more top left n p q some =
-    (refl, p, q, λ m z. let k : 0 < n = some m in absurd (omega (arith, z)))
-
-pub spells_again : (more : Bool) (top left n : ℕ) → top < 128 → n < (top + 1) * 128 ^ left
-    → (more ≡ true → 0 < n) → SpellsFrom more top left (groups (suc left) n) n
-spells_again more top zero n lt small some =
-    rw (groups_small 1 n (omega arith) (omega arith))
-    (spells_last more top zero n (omega arith) (λ _. omega arith) some)
-spells_again more top (suc left) n lt small some =
-    elim (cases_lt n 128) [
-      | inl low ↦
-          rw (groups_small (suc (suc left)) n (omega arith) low)
-          (spells_last more top (suc left) n low (λ z. absurd (omega (arith, z))) some)
-      | inr high ↦
-          let w = (n % 128 + 128) in
-          let v : n % 128 + 128 - 128 + 128 * (n / 128) ≡ n = omega arith in
-          let g : groups (suc (suc left)) n ≡ w ∷ groups (suc left) (n / 128) =
-          ap (groups (suc (suc left))) (sym v)
-          ∙ groups_step left w (n / 128) (omega arith) (omega arith) (omega arith) in
-          let again =
-          spells_again true top left (n / 128) lt
-          (div_fits n ((top + 1) * 128 ^ left) (bound_split top left n small))
-          (λ _. omega arith) in
-          rw g
-          (spells_behind more top left w (n / 128) (groups (suc left) (n / 128)) n (omega arith)
-          (omega arith) (sym v) again)
-    ]
-
--- Bytes spell n by the grammar exactly where they are its groups.
-pub grammar_is : (top left : ℕ) (bytes : List ℕ) (n : ℕ) → top < 128
-    → SpellsFrom false top left bytes n
-    ↔ ((n < (top + 1) * 128 ^ left) × (bytes ≡ groups (suc left) n))
-grammar_is top left bytes n lt = (
-  λ h. let s = spelled_is false top left bytes n lt h in (s.small, s.is),
-  λ h. subst (λ (w : List ℕ). SpellsFrom false top left w n) (sym h.1)
-      (spells_again false top left n lt h.0 (λ e. absurd cc)),
-)

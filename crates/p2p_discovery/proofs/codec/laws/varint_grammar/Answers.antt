@@ -1,5 +1,5 @@
 use Rattle.std.proofs.Common.{lit<}
-use Rattle.p2p_discovery.specs.Laws.Varint.{grammar_is}
+use Rattle.p2p_discovery.proofs.Grammar.{grammar_is}
 use Rattle.p2p_discovery.proofs.codec.laws.varint_grammar.Goals as goal
 
 pub returns-clause-long : goal.returns-clause-long

@@ -1,6 +1,7 @@
 use Rattle.std.proofs.Common.{◌≡◌, ◌<◌, suc, ◌-◌, false, arith}
 use Rattle.std.proofs.lemmas.Result.{err_from_is_err_and}
-use Rattle.p2p_discovery.specs.Laws.Varint.{first_fails, bound_low}
+use Rattle.p2p_discovery.specs.Laws.Varint.{bound_low}
+use Rattle.p2p_discovery.proofs.GroupReads.{first_fails}
 use Rattle.p2p_discovery.proofs.GroupReads.{one_group}
 use Rattle.p2p_discovery.proofs.codec.varint.read_groups.Goals as goal
 

@@ -1,4 +1,4 @@
-use Rattle.p2p_discovery.specs.Laws.Info.{info_short}
+use Rattle.p2p_discovery.proofs.Lengths.{info_short}
 use Rattle.p2p_discovery.proofs.discovery.Info.max_encode_size.Goals as goal
 
 pub returns-clause-bound : goal.returns-clause-bound

@@ -2,7 +2,7 @@ use Rattle.std.proofs.Common.{◌+◌, ◌*◌, ◌≤◌, length, ap, arith}
 use Rattle.std.proofs.lemmas.List.{length-append}
 use Rattle.std.proofs.lemmas.Result.{IfOk-weaker}
 use Rattle.p2p_discovery.specs.Info.{infos_spelling}
-use Rattle.p2p_discovery.specs.Laws.Payload.{infos_bounded}
+use Rattle.p2p_discovery.proofs.Lengths.{infos_bounded}
 use Rattle.p2p_discovery.proofs.discovery.laws.bounded_infos.Goals as goal
 
 pub returns-clause-bounded : goal.returns-clause-bounded

@@ -1,7 +1,7 @@
 use Rattle.std.proofs.Common.{◌+◌, length, ap, sym, subst}
 use Rattle.std.proofs.lemmas.Result.{IfOk-weaker}
 use Rattle.p2p_discovery.specs.Payload.{IsBoundedBy}
-use Rattle.p2p_discovery.specs.Laws.Payload.{payload_bounded}
+use Rattle.p2p_discovery.proofs.Lengths.{payload_bounded}
 use Rattle.p2p_discovery.proofs.discovery.laws.bounded_payload.Goals as goal
 
 pub returns-clause-bounded : goal.returns-clause-bounded

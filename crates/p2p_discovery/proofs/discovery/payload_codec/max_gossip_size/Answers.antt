@@ -1,5 +1,5 @@
 use Rattle.std.proofs.Common.{rules}
-use Rattle.p2p_discovery.specs.Laws.Payload.{gossip_short}
+use Rattle.p2p_discovery.proofs.Lengths.{gossip_short}
 use Rattle.p2p_discovery.proofs.discovery.payload_codec.max_gossip_size.Goals as goal
 
 pub returns-clause-value : goal.returns-clause-value

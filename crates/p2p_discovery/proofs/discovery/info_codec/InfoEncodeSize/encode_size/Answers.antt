@@ -1,5 +1,5 @@
 use Rattle.std.proofs.Common.{arith}
-use Rattle.p2p_discovery.specs.Laws.Info.{length-info}
+use Rattle.p2p_discovery.proofs.Lengths.{length-info}
 use Rattle.p2p_discovery.proofs.discovery.info_codec.InfoEncodeSize.encode_size.Goals as goal
 
 pub returns-clause-size : goal.returns-clause-size

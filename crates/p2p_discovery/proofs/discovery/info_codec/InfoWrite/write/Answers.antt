@@ -1,5 +1,5 @@
 use Rattle.std.proofs.Common.{arith}
-use Rattle.p2p_discovery.specs.Laws.Info.{length-info}
+use Rattle.p2p_discovery.proofs.Lengths.{length-info}
 use Rattle.p2p_discovery.proofs.discovery.info_codec.InfoWrite.write.Goals as goal
 
 pub write_value-requires : goal.write_value-requires

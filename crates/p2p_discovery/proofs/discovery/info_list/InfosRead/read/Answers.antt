@@ -1,4 +1,4 @@
-use Rattle.p2p_discovery.specs.Laws.Info.{info_long}
+use Rattle.p2p_discovery.proofs.Lengths.{info_long}
 use Rattle.p2p_discovery.proofs.discovery.info_list.InfosRead.read.Goals as goal
 
 pub read_infos-requires-clause-least : goal.read_infos-requires-clause-least

@@ -1,5 +1,6 @@
 use Rattle.std.proofs.Common.{◌++◌, ap, arith, ◌∙◌, sym}
-use Rattle.p2p_discovery.specs.Laws.Varint.{groups_small, groups_two}
+use Rattle.p2p_discovery.specs.Laws.Varint.{groups_small}
+use Rattle.p2p_discovery.proofs.GroupWrites.{groups_two}
 use Rattle.p2p_discovery.proofs.discovery.info_signing.SignedBytes.push_length.Goals as goal
 
 pub returns-then-count-lt128-clause-items : goal.returns-then-count-lt128-clause-items
