@@ -412,7 +412,7 @@ def pair_names(names, place):
     """The names for the pair of sizes at a place of the table. The first has the names of before, and its keys stand in
     the library."""
     key, signature, firsts, _ = names['pairs'][place]
-    own = {'key': key, 'rest': str(int(key) - 1), 'signature': signature, 'keys': f'keys{key}_{signature}',
+    own = {'key': key, 'less': str(int(key) - 1), 'signature': signature, 'keys': f'keys{key}_{signature}',
            'keytype': 'Key', 'module': f'keys{key}_{signature}',
            'all_firsts': firsts, 'firsts': ' or '.join(firsts)}
     if place == 0:

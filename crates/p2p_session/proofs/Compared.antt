@@ -1,7 +1,8 @@
--- The order of two lists of bytes is that of the numbers that their first four spell, where these differ.
-use Rattle.std.proofs.Common.{◌≡◌, ℕ, ◌+◌, ◌*◌, ◌<◌, ◌≤◌, inl, inr, List, [], ◌∷◌, length, refl, sym, ◌∙◌, ap, arith}
+-- The order of two lists of bytes is that of the numbers that their first four spell, where these differ; it is that of
+-- all but the last byte, where these differ.
+use Rattle.std.proofs.Common.{◌≡◌, ℕ, zero, suc, ◌+◌, ◌*◌, ◌<◌, ◌≤◌, inl, inr, List, [], ◌∷◌, length, refl, sym, ◌∙◌, ap, arith}
 use Rattle.std.specs.Int.{w32, from_be_bytes}
-use Rattle.std.specs.Prelude.{◌⊎◌, slice_index}
+use Rattle.std.specs.Prelude.{◌⊎◌, slice_index, take}
 use Rattle.std.specs.Ordering.{nat_cmp, ordering_then}
 use Rattle.std.specs.Cmp.{nat_cmp_is}
 use Rattle.std.specs.Cmp.Lexicographic.{slice_cmp}
@@ -11,7 +12,7 @@ use Rattle.std.proofs.lemmas.Bool.{cases_order}
 use Rattle.std.proofs.lemmas.Map.Lookups.{exact_unsigned}
 
 -- what isn't equal decides
-decides : (o rest : Ordering) → (o ≡ Equal → ⊥) → ordering_then o rest ≡ o
+pub decides : (o rest : Ordering) → (o ≡ Equal → ⊥) → ordering_then o rest ≡ o
 decides Less rest not_equal = refl
 decides Equal rest not_equal = absurd (not_equal refl)
 decides Greater rest not_equal = refl
@@ -75,3 +76,37 @@ fronted (a ∷ b ∷ c ∷ d ∷ xs) [] _ four small little other = absurd (omeg
 fronted (a ∷ b ∷ c ∷ d ∷ xs) (e ∷ []) _ four small little other = absurd (omega (arith, four))
 fronted (a ∷ b ∷ c ∷ d ∷ xs) (e ∷ f ∷ []) _ four small little other = absurd (omega (arith, four))
 fronted (a ∷ b ∷ c ∷ d ∷ xs) (e ∷ f ∷ g ∷ []) _ four small little other = absurd (omega (arith, four))
+
+-- ALL BUT THE LAST BYTE, and then the last one
+
+no_more : (o : Ordering) → ordering_then o Equal ≡ o
+no_more Less = refl
+no_more Equal = refl
+no_more Greater = refl
+
+then_then : (o p q : Ordering) → ordering_then o (ordering_then p q) ≡ ordering_then (ordering_then o p) q
+then_then Less p q = refl
+then_then Equal p q = refl
+then_then Greater p q = refl
+
+ended : (n : ℕ) (xs ys : List ℕ) → length xs ≡ n + 1 → length ys ≡ n + 1 →
+    slice_cmp nat_cmp xs ys
+    ≡ ordering_then (slice_cmp nat_cmp (take n xs) (take n ys)) (nat_cmp (slice_index xs n) (slice_index ys n))
+ended n [] ys e f = absurd (omega (arith, e))
+ended n (x ∷ xs) [] e f = absurd (omega (arith, f))
+ended zero (x ∷ []) (y ∷ []) e f = no_more (nat_cmp x y)
+ended zero (x ∷ a ∷ xs) (y ∷ ys) e f = absurd (omega (arith, e))
+ended zero (x ∷ []) (y ∷ b ∷ ys) e f = absurd (omega (arith, f))
+ended (suc n) (x ∷ xs) (y ∷ ys) e f =
+    ap (ordering_then (nat_cmp x y)) (ended n xs ys (omega (arith, e)) (omega (arith, f)))
+    ∙ then_then (nat_cmp x y) (slice_cmp nat_cmp (take n xs) (take n ys))
+    (nat_cmp (slice_index xs n) (slice_index ys n))
+
+-- .. by the order of what all but the last byte are
+pub ended_by : (n : ℕ) (xs ys vs ws : List ℕ) (o : Ordering) → length xs ≡ n + 1 → length ys ≡ n + 1 →
+    vs ≡ take n xs → ws ≡ take n ys → o ≡ slice_cmp nat_cmp vs ws →
+    slice_cmp nat_cmp xs ys ≡ ordering_then o (nat_cmp (slice_index xs n) (slice_index ys n))
+ended_by n xs ys vs ws o e f v w is =
+    ended n xs ys e f
+    ∙ ap (λ o. ordering_then o (nat_cmp (slice_index xs n) (slice_index ys n)))
+    (sym (is ∙ ap (λ v. slice_cmp nat_cmp v ws) v ∙ ap (slice_cmp nat_cmp (take n xs)) w))
