@@ -9,6 +9,7 @@ mod broken;
 mod checks;
 mod clock;
 mod ledger;
+mod loss;
 mod network;
 mod phases;
 mod process;
