@@ -6,6 +6,7 @@ use crate::checks::{self, Check, Verdict};
 use crate::ledger::Ledger;
 use crate::network::{Network, Options};
 use crate::phases::{self, Settled};
+use crate::place::Place;
 use crate::process::said;
 use p2p_node::identity::Identity;
 use p2p_node::sodium::Sodium;
@@ -150,6 +151,7 @@ fn run(flags: &Flags, scenario: Scenario) -> Result<Vec<Verdict>, String> {
         attackers: attacks.len(),
         // The bound of a run that has to fail is waited for.
         load: flags.load.min(2.0),
+        place: Place::Loopback,
         broken: scenario
             .rule()
             .map(|(first, last, rule)| (first, last, rule.to_owned())),

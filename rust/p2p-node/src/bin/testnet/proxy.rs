@@ -8,7 +8,7 @@ use crate::weather::{Fault, Passage, Side, Weather};
 use p2p_directory::Key;
 use p2p_node::simulate::Random;
 use std::io::{self, Read, Write};
-use std::net::{Ipv4Addr, Shutdown, SocketAddr, TcpListener, TcpStream};
+use std::net::{IpAddr, Shutdown, SocketAddr, TcpListener, TcpStream};
 use std::sync::atomic::{AtomicBool, AtomicU64, Ordering};
 use std::sync::{Arc, Mutex, MutexGuard, PoisonError};
 use std::thread;
@@ -32,6 +32,7 @@ struct Open {
 
 /// What the proxies of a network share.
 pub struct Proxies {
+    address: IpAddr,
     traffic: Mutex<Traffic>,
     weather: Mutex<Weather>,
     open: Mutex<Vec<Open>>,
@@ -62,9 +63,10 @@ impl Proxy {
 }
 
 impl Proxies {
-    /// Proxies that report to a log of traffic.
-    pub fn new(traffic: Traffic) -> Arc<Proxies> {
+    /// Proxies at this address that report to a log of traffic.
+    pub fn new(traffic: Traffic, address: IpAddr) -> Arc<Proxies> {
         Arc::new(Proxies {
+            address,
             traffic: Mutex::new(traffic),
             weather: Mutex::new(Weather::Clear),
             open: Mutex::new(Vec::new()),
@@ -114,7 +116,7 @@ impl Proxies {
     ///
     /// That of the system.
     pub fn start(self: &Arc<Self>, owner: Key) -> io::Result<Arc<Proxy>> {
-        let listener = TcpListener::bind((Ipv4Addr::LOCALHOST, 0))?;
+        let listener = TcpListener::bind((self.address, 0))?;
         let proxy = Arc::new(Proxy {
             address: listener.local_addr()?,
             owner,
@@ -343,6 +345,7 @@ impl Pipe {
 #[cfg(test)]
 mod tests {
     use super::*;
+    use std::net::Ipv4Addr;
 
     /// How long a test waits for what has to arrive.
     const WITHIN: Duration = Duration::from_secs(60);
@@ -353,7 +356,7 @@ mod tests {
     /// The ends of a connection through a proxy under this loss, of which the dialer has sent its
     /// claim.
     fn connected(loss: Loss) -> (Arc<Proxies>, [TcpStream; 2]) {
-        let proxies = Proxies::new(Traffic::default());
+        let proxies = Proxies::new(Traffic::default(), Ipv4Addr::LOCALHOST.into());
         proxies.set_weather(Weather::Lossy(loss));
         let proxy = proxies.start(Key([1; 32])).unwrap();
         let node = TcpListener::bind((Ipv4Addr::LOCALHOST, 0)).unwrap();

@@ -92,6 +92,7 @@ fn network(flags: &Flags, nodes: usize, attackers: usize) -> Result<Network, Str
         nodes,
         attackers,
         load: flags.load,
+        place: flags.place.clone(),
         broken: None,
     };
     let sodium = Sodium::new().map_err(|error| error.to_string())?;
