@@ -110,6 +110,24 @@ fn forge(stream: &TcpStream, attack: &Attack) {
     stream.write_all((attack.sign)(&parties).as_ref()).unwrap();
 }
 
+/// Claims a key to the first one, and returns the nonce and the signature that it answers with.
+fn claim(stream: &TcpStream, nonce: &Nonce, claimed: &Key) -> (Nonce, Signature) {
+    let mut stream = timed(stream);
+    stream
+        .write_all(&[nonce, claimed.as_ref()].concat())
+        .unwrap();
+    let nonce = read(&mut stream);
+    assert_eq!(Key(read(&mut stream)), key(1));
+    (nonce, Signature(read(&mut stream)))
+}
+
+/// Sends this signature to a node, which closes the stream and sends nothing more.
+fn is_closed_after(stream: &TcpStream, signature: &Signature) {
+    let mut stream = timed(stream);
+    stream.write_all(signature.as_ref()).unwrap();
+    assert_eq!(stream.read(&mut [0]).unwrap(), 0);
+}
+
 fn is_refused_by_dialer(sign: fn(&Parties) -> Signature) {
     let result = dial(Attack {
         nonce: own_nonce,
@@ -156,6 +174,22 @@ fn a_reflected_nonce_is_refused() {
         matches!(result, Err(HandshakeError::Reflected)),
         "{result:?}"
     );
+}
+
+#[test]
+fn the_signature_of_the_listener_is_refused_if_it_comes_back() {
+    let (dialer, listener) = pair();
+    let attacker = thread::spawn(move || {
+        let (_, signature) = claim(&dialer, &[7; NONCE_SIZE], &key(2));
+        (&dialer).write_all(signature.as_ref()).unwrap();
+        dialer
+    });
+    let result = own(&identity(1), NAMESPACE).listen(&mut timed(&listener), |_| true);
+    assert!(
+        matches!(result, Err(HandshakeError::Signature(peer)) if peer == key(2)),
+        "{result:?}"
+    );
+    attacker.join().unwrap();
 }
 
 #[test]
@@ -266,6 +300,39 @@ fn a_node_counts_the_forged_handshakes_that_it_refuses() {
     // None of them used up a grant, nor is the peer whose key was claimed blocked.
     assert!(node.events("grant").is_empty());
     node.until_count("blocked", 0);
+    let _stream = node.dial(2);
+    node.until_event("connected", &key(2));
+}
+
+#[test]
+fn a_node_refuses_what_it_sent_itself() {
+    let folder = Folder::new();
+    folder.set(0, &[1, 2]);
+    let node = Running::start(&folder, 1, QUICK);
+    // The nonce of the node in one handshake is that of the dialer in another, and each gets the
+    // signature that the node made in the other one.
+    let (one, other) = (node.stream(), node.stream());
+    let (nonce, first) = claim(&one, &[7; NONCE_SIZE], &key(2));
+    let (_, second) = claim(&other, &nonce, &key(2));
+    is_closed_after(&one, &second);
+    is_closed_after(&other, &first);
+    // The signature of the same handshake.
+    let same = node.stream();
+    let (nonce, signature) = claim(&same, &nonce, &key(2));
+    is_closed_after(&same, &signature);
+    node.until_count("handshake_signature", 3);
+    // The own key gets no answer.
+    let own_key = node.stream();
+    (&own_key)
+        .write_all(&[&nonce, key(1).as_ref()].concat())
+        .unwrap();
+    assert_eq!(timed(&own_key).read(&mut [0]).unwrap(), 0);
+    node.until_count("reflected", 1);
+    for count in ["handshakes", "connections", "connected", "blocked"] {
+        node.until_count(count, 0);
+    }
+    assert!(node.events("grant").is_empty());
+    // No reservation is left, which would refuse the peer.
     let _stream = node.dial(2);
     node.until_event("connected", &key(2));
 }

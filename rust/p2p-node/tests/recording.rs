@@ -4,9 +4,10 @@ mod common;
 
 use common::{Folder, QUICK, Running, key, member, until};
 use p2p_directory::Replay;
-use p2p_directory::record::Log;
+use p2p_directory::record::{Argument, Call, Log};
 use std::fs;
 use std::path::Path;
+use std::time::Duration;
 
 /// The log of a file.
 fn log(path: &Path) -> Log {
@@ -58,4 +59,48 @@ fn a_record_ends_at_its_limit() {
     drop(node);
     assert!(log(&path).is_full());
     assert!(fs::metadata(&path).unwrap().len() <= 1000);
+}
+
+/// The time that two arguments of a call tell.
+fn time(call: &Call<'_>, seconds: &str, nanos: &str) -> Duration {
+    match [seconds, nanos].map(|name| call.argument(name)) {
+        [
+            Some(Argument::Number(seconds)),
+            Some(Argument::Number(nanos)),
+        ] => Duration::new(seconds, nanos as u32),
+        others => panic!("{others:?}"),
+    }
+}
+
+#[test]
+fn a_cooldown_is_forgotten_at_its_moment() {
+    let folder = Folder::new();
+    folder.set(0, &[1, 2, 3]);
+    let path = folder.path("record");
+    let words = format!(
+        "--tick 0.2 --silence 60 --cooldown 1 --max-sets 1 --record {}",
+        path.display()
+    );
+    let node = Running::start(&folder, 1, &words);
+    let stream = node.dial(2);
+    node.until_event("connected", &key(2));
+    drop(stream);
+    node.until_event("disconnected", &key(2));
+    // No set has the peer any more: nothing is due but the end of its cooldown.
+    folder.set(1, &[1, 3]);
+    let (granted, forgotten) = until("a cooldown that is forgotten", || {
+        let log = Log::read(fs::read(&path).unwrap()).ok()?;
+        let granted = log.calls().find(|call| call.name() == "listen")?;
+        let draw = time(&granted, "draw_seconds", "draw_nanos");
+        let granted = time(&granted, "seconds", "nanos") + draw;
+        let mut calls = log.calls();
+        let forgotten =
+            calls.find(|call| call.name() == "forget_cooled" && call.answer.number == 1)?;
+        Some((granted, time(&forgotten, "seconds", "nanos")))
+    });
+    let moment = granted + Duration::from_secs(1);
+    assert!(forgotten >= moment, "{forgotten:?}, before {moment:?}");
+    // Without the moment of the cooldown a round would come after ten seconds.
+    let late = forgotten - moment;
+    assert!(late < Duration::from_secs(4), "{late:?} late");
 }

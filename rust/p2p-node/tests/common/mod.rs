@@ -9,7 +9,7 @@ use p2p_node::sodium::Sodium;
 use p2p_node::wire::{Timed, read_frame, write_frame};
 use std::env;
 use std::fs;
-use std::io::{BufRead, BufReader};
+use std::io::{BufRead, BufReader, PipeReader, PipeWriter, Write};
 use std::net::{SocketAddr, TcpStream};
 use std::os::unix::fs::PermissionsExt;
 use std::path::{Path, PathBuf};
@@ -159,25 +159,38 @@ pub struct Running {
     pub key: Key,
 }
 
+/// Writes to a pipe until it takes no more for some time.
+fn fill(mut writer: PipeWriter) {
+    let written = Arc::new(AtomicUsize::new(0));
+    let count = Arc::clone(&written);
+    // The thread ends when the reader does.
+    thread::spawn(move || {
+        while let Ok(length) = writer.write(&[b'\n'; 512]) {
+            count.fetch_add(length, Ordering::Relaxed);
+        }
+    });
+    let mut last = (0, Instant::now());
+    until("a full pipe", || {
+        let written = written.load(Ordering::Relaxed);
+        if written != last.0 {
+            last = (written, Instant::now());
+        }
+        (written > 0 && last.1.elapsed() > Duration::from_millis(500)).then_some(())
+    });
+}
+
+/// The address that the first line of a node tells.
+fn address(line: &str) -> SocketAddr {
+    line.strip_prefix("listening ").unwrap().parse().unwrap()
+}
+
 /// Settings with which a network comes together in a second.
 pub const QUICK: &str = "--tick 0.2 --silence 5 --cooldown 1 --dial-fail-limit 1";
 
 impl Running {
     /// Starts the node of a number with these further words. Its set is the file `set`.
     pub fn start(folder: &Folder, number: u8, words: &str) -> Running {
-        let (own, set) = (folder.key(number), folder.path("set"));
-        let ledger = folder.path(&format!("ledger{number}"));
-        let path = |path: &Path| path.to_str().unwrap().to_owned();
-        let mut command = program(&["run", "--namespace", "test", "--allow-private-ips", "true"]);
-        command.args([
-            "--key",
-            &path(&own),
-            "--sets",
-            &path(&set),
-            "--ledger",
-            &path(&ledger),
-        ]);
-        command.args(words.split_whitespace());
+        let mut command = Running::command(folder, number, words);
         let mut child = command.stdout(Stdio::piped()).spawn().unwrap();
         let output = Arc::new(Mutex::new(Vec::new()));
         let (lines, kept) = (
@@ -189,17 +202,58 @@ impl Running {
                 kept.lock().unwrap().push(line);
             }
         });
-        let address = until("the address", || {
-            let output = output.lock().unwrap();
-            output.first()?.strip_prefix("listening ")?.parse().ok()
-        });
+        let first = until("the address", || output.lock().unwrap().first().cloned());
         Running {
             child,
             output,
-            ledger,
-            address,
+            ledger: Running::ledger(folder, number),
+            address: address(&first),
             key: key(number),
         }
+    }
+
+    /// Starts a node whose output isn't read beyond its first line: its pipe is full, and lasts as
+    /// long as the reader.
+    pub fn start_unread(folder: &Folder, number: u8, words: &str) -> (Running, PipeReader) {
+        let (reader, writer) = std::io::pipe().unwrap();
+        let mut command = Running::command(folder, number, words);
+        let child = command.stdout(writer.try_clone().unwrap()).spawn().unwrap();
+        // The command holds a writer of its own.
+        drop(command);
+        let mut first = String::new();
+        BufReader::with_capacity(1, &reader)
+            .read_line(&mut first)
+            .unwrap();
+        fill(writer);
+        let node = Running {
+            child,
+            output: Arc::default(),
+            ledger: Running::ledger(folder, number),
+            address: address(first.trim_end()),
+            key: key(number),
+        };
+        (node, reader)
+    }
+
+    fn ledger(folder: &Folder, number: u8) -> PathBuf {
+        folder.path(&format!("ledger{number}"))
+    }
+
+    fn command(folder: &Folder, number: u8, words: &str) -> Command {
+        let (own, set) = (folder.key(number), folder.path("set"));
+        let ledger = Running::ledger(folder, number);
+        let path = |path: &Path| path.to_str().unwrap().to_owned();
+        let mut command = program(&["run", "--namespace", "test", "--allow-private-ips", "true"]);
+        command.args([
+            "--key",
+            &path(&own),
+            "--sets",
+            &path(&set),
+            "--ledger",
+            &path(&ledger),
+        ]);
+        command.args(words.split_whitespace());
+        command
     }
 
     /// The words that tell another node of this one.

@@ -50,6 +50,8 @@ impl Bounds {
         // A dial that fails begins a cooldown, to which a draw of up to as much is added. Of two
         // nodes that want to connect each round parts the draws.
         let round = 2 * COOLDOWN + TICK;
+        // Loss needs no term: it ends with its weather, and a segment that was lost last either comes
+        // within the silence, or its connection ends as a held one does.
         let knowledge = SILENCE + HANDSHAKE + ROUNDS * round;
         let [node, each, frames] = MEMORY;
         Bounds {

@@ -6,6 +6,7 @@ use crate::checks::{self, Check, Verdict};
 use crate::ledger::Ledger;
 use crate::network::{Network, Options};
 use crate::phases::{self, Settled};
+use crate::place::Place;
 use crate::process::said;
 use p2p_node::identity::Identity;
 use p2p_node::sodium::Sodium;
@@ -150,6 +151,7 @@ fn run(flags: &Flags, scenario: Scenario) -> Result<Vec<Verdict>, String> {
         attackers: attacks.len(),
         // The bound of a run that has to fail is waited for.
         load: flags.load.min(2.0),
+        place: Place::Loopback,
         broken: scenario
             .rule()
             .map(|(first, last, rule)| (first, last, rule.to_owned())),
@@ -187,12 +189,15 @@ fn act(network: &mut Network, scenario: Scenario, sodium: Sodium) -> Result<Vec<
             }
             phases::attack(network, attacks, NODES, None)?
         }
-        Scenario::KeepsDropped => phases::leave_out(network, &[NODES - 1])?,
+        Scenario::KeepsDropped => {
+            // Two nodes that dial each other at once meet later: nothing is there to be kept.
+            wait_for_connection(network, BROKEN, NODES - 1);
+            phases::leave_out(network, &[NODES - 1])?
+        }
         Scenario::NoLimit | Scenario::Leaks => phases::attack(network, attacks, NODES, None)?,
         Scenario::StolenKey => {
             // What a node knows of a peer is told while they are connected.
-            let owner = network.members[0].key;
-            wait_for(network, 1, |ledger| ledger.is_connected(&owner));
+            wait_for_connection(network, 1, 0);
             let stolen = Identity::read(sodium, &network.options.folder.join("key-0"))?;
             phases::attack(network, attacks, 1, Some(&stolen))?
         }
@@ -214,6 +219,19 @@ fn wait_for(network: &mut Network, number: usize, holds: impl Fn(&Ledger) -> boo
     let within = network.bounds.knowledge;
     network.wait_for(within, |network| {
         network.members[number].ledger().is_some_and(&holds)
+    });
+}
+
+/// Waits until two nodes have a connection by the ledgers of both, at most for the bound on knowledge.
+fn wait_for_connection(network: &mut Network, one: usize, other: usize) {
+    let within = network.bounds.knowledge;
+    network.wait_for(within, |network| {
+        [(one, other), (other, one)]
+            .into_iter()
+            .all(|(node, peer)| {
+                let ledger = network.members[node].ledger();
+                ledger.is_some_and(|ledger| ledger.is_connected(&network.members[peer].key))
+            })
     });
 }
 

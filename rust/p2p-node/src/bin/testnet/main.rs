@@ -9,8 +9,11 @@ mod broken;
 mod checks;
 mod clock;
 mod ledger;
+mod loss;
+mod namespaces;
 mod network;
 mod phases;
+mod place;
 mod process;
 mod proxy;
 mod runs;
@@ -19,6 +22,7 @@ mod traffic;
 mod weather;
 
 use broken::Scenario;
+use place::Place;
 use std::env;
 use std::path::PathBuf;
 use std::process::ExitCode;
@@ -36,6 +40,8 @@ testnet: breaks a network of real nodes on purpose, and checks their promises
   --replay FILE       the program p2p-replay
   --folder FOLDER     where files are written                    [in /tmp]
   --nodes COUNT       honest nodes of the long form                   [30]
+  --namespaces        each node of the long form has a network namespace:
+                      needs root, ip and tc
   --load FACTOR       by which bounds on times are longer       [measured]
   --keep              keeps the files
   --only NUMBER       of the broken runs this one alone, counted from 1
@@ -62,6 +68,10 @@ pub struct Flags {
     pub is_kept: bool,
     /// The number of the broken run that is made alone.
     pub only: Option<usize>,
+    /// Whether namespaces are made for the nodes.
+    pub makes_namespaces: bool,
+    /// Where the nodes run.
+    pub place: Place,
 }
 
 /// What is run.
@@ -87,6 +97,8 @@ fn parse(words: &[String]) -> Result<Option<Flags>, String> {
         load: bounds::measured_load(),
         is_kept: false,
         only: None,
+        makes_namespaces: false,
+        place: Place::Loopback,
     };
     let mut words = words.iter();
     while let Some(word) = words.next() {
@@ -100,6 +112,9 @@ fn parse(words: &[String]) -> Result<Option<Flags>, String> {
             "--short" => flags.form = Form::Short,
             "--broken" => flags.form = Form::Broken,
             "--keep" => flags.is_kept = true,
+            "--namespaces" => flags.makes_namespaces = true,
+            // The program is run so by itself, in namespaces that it has made.
+            "--within" => flags.place = Place::Namespaces(value()?.clone()),
             "--node" => flags.node = value()?.into(),
             "--broken-node" => flags.broken_node = value()?.into(),
             "--replay" => flags.replay = value()?.into(),
@@ -109,6 +124,9 @@ fn parse(words: &[String]) -> Result<Option<Flags>, String> {
             "--load" => flags.load = number(word, value()?)?,
             _ => return Err(format!("{word}: no such flag: see testnet --help")),
         }
+    }
+    if flags.makes_namespaces && flags.form != Form::Long {
+        return Err("--namespaces: the long form alone has them".to_owned());
     }
     match flags.nodes {
         6..=200 if flags.load > 0.0 && flags.load.is_finite() => Ok(Some(flags)),
@@ -137,16 +155,19 @@ fn run() -> Result<bool, String> {
         print!("{HELP}");
         return Ok(true);
     };
+    // The run in them is one of this program, too.
+    let is_outside = flags.makes_namespaces && flags.place == Place::Loopback;
     let held = match flags.form {
+        Form::Long if is_outside => namespaces::run(&flags, &words),
         Form::Long => runs::long(&flags),
         Form::Short => runs::short(&flags),
         Form::Broken => broken::all(&flags, scenarios(flags.only)?),
     };
-    if flags.is_kept {
-        println!("files: {}", flags.folder.display());
-    } else {
+    if !flags.is_kept {
         // What isn't there needn't be removed.
         let _ = std::fs::remove_dir_all(&flags.folder);
+    } else if !is_outside {
+        println!("files: {}", flags.folder.display());
     }
     held
 }

@@ -3,6 +3,7 @@
 use crate::bounds::Bounds;
 use crate::clock::now;
 use crate::ledger::Ledger;
+use crate::place::Place;
 use crate::process::{Memory, Process, Start, said};
 use crate::proxy::{Proxies, Proxy};
 use crate::traffic::Traffic;
@@ -34,6 +35,8 @@ pub struct Options {
     pub attackers: usize,
     /// By how much the bounds on times are longer.
     pub load: f64,
+    /// Where the nodes run.
+    pub place: Place,
     /// The nodes that break a rule, from the first one to the last, and its name.
     pub broken: Option<(usize, usize, String)>,
 }
@@ -119,7 +122,7 @@ impl Network {
             (0..options.attackers).map(|_| Identity::from_seed(sodium, &sodium.bytes()));
         let attackers: Vec<_> = attackers.collect();
         let traffic = Traffic::new(attackers.iter().map(Identity::public_key));
-        let proxies = Proxies::new(traffic);
+        let proxies = Proxies::new(traffic, options.place.of_proxies());
         let mut members = Vec::new();
         for number in 0..options.nodes {
             let identity = Identity::create(sodium, &folder.join(format!("key-{number}")))?;
@@ -199,6 +202,8 @@ impl Network {
         let broken = self.options.broken.as_ref();
         let broken = broken.filter(|(first, last, _)| (*first..=*last).contains(&number));
         Some(Start {
+            number,
+            place: self.options.place.clone(),
             program: self.options.node.clone(),
             key: self.options.folder.join(format!("key-{number}")),
             sets: self.set_file(),

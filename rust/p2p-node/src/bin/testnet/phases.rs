@@ -18,7 +18,7 @@ use std::time::Duration;
 pub struct Lengths {
     /// While it is cut in two.
     pub parted: Duration,
-    /// While connections are slow, held, refused or cut, each.
+    /// While connections are slow, held or refused, are cut, or lose segments, each.
     pub rough: Duration,
     /// How many nodes each attacker attacks.
     pub targets: usize,
@@ -124,15 +124,19 @@ pub fn part(network: &mut Network, time: Duration, joins: bool) -> Result<Settle
     Ok(settle(network, "(c) halves"))
 }
 
-/// Makes connections slow, half-open, refused, and cut at each byte. Meanwhile every fifth node is
+/// Lets the network have each of these kinds of weather for so long. In each one every fifth node is
 /// started anew, so that there are newer infos.
 ///
 /// # Errors
 ///
 /// Says which node doesn't start.
-pub fn disturb(network: &mut Network, time: Duration) -> Result<Settled, String> {
-    for (step, weather) in [Weather::Rough, Weather::Cuts].into_iter().enumerate() {
-        network.proxies.set_weather(weather);
+pub fn disturb(
+    network: &mut Network,
+    weathers: &[Weather],
+    time: Duration,
+) -> Result<Settled, String> {
+    for (step, weather) in weathers.iter().enumerate() {
+        network.proxies.set_weather(weather.clone());
         let keys: Vec<Key> = network.members.iter().map(|member| member.key).collect();
         // What is connected has no faults, so it is made to connect anew.
         keys.iter().for_each(|key| network.proxies.disconnect(key));
@@ -148,6 +152,7 @@ pub fn disturb(network: &mut Network, time: Duration) -> Result<Settled, String>
     network.proxies.set_weather(Weather::Clear);
     let faults = network.proxies.faults();
     println!("    {faults} connections were refused, slowed, held or cut");
+    println!("    {}", network.proxies.losses());
     Ok(settle(network, "(d) bad connections"))
 }
 

@@ -1,6 +1,7 @@
 //! Processes of nodes.
 
 use crate::bounds::{COOLDOWN, FRAMES, HANDSHAKE, HANDSHAKES, SILENCE, TICK};
+use crate::place::Place;
 use std::fmt::Display;
 use std::fs::{self, File};
 use std::io;
@@ -24,6 +25,10 @@ pub fn said(path: &Path, error: &dyn Display) -> String {
 /// With what a node is started.
 #[derive(Clone, Debug)]
 pub struct Start {
+    /// The number of the node.
+    pub number: usize,
+    /// Where it runs.
+    pub place: Place,
     /// The program.
     pub program: PathBuf,
     /// The file of its key.
@@ -60,6 +65,10 @@ impl Start {
             ("ledger", path(&self.ledger)),
             ("record", path(&self.record)),
             ("record-limit", RECORD_LIMIT.to_string()),
+            (
+                "listen",
+                SocketAddr::new(self.place.of_node(self.number), 0).to_string(),
+            ),
             ("address", self.address.to_string()),
             ("allow-private-ips", "true".to_owned()),
             ("tick", seconds(TICK)),
@@ -84,12 +93,12 @@ impl Start {
     fn command(&self) -> Command {
         let words = self.words();
         let Some(kibibytes) = self.memory else {
-            let mut command = Command::new(&self.program);
+            let mut command = self.place.command(self.number, &self.program);
             command.args(words);
             return command;
         };
         let script = format!("ulimit -v {kibibytes}; exec \"$@\"");
-        let mut command = Command::new("sh");
+        let mut command = self.place.command(self.number, "sh");
         command
             .args(["-c", &script, "sh"])
             .arg(&self.program)
@@ -114,6 +123,14 @@ impl Start {
             output: self.output.clone(),
         })
     }
+}
+
+/// Sends SIGTERM to the process of a number.
+pub fn terminate(id: u32) {
+    let _ = Command::new("sh")
+        .args(["-c", &format!("kill -TERM {id}")])
+        .stderr(Stdio::null())
+        .status();
 }
 
 /// A process that is killed when it is dropped.
@@ -166,11 +183,7 @@ impl Process {
 
     /// Sends SIGTERM.
     pub fn terminate(&self) {
-        let id = self.id();
-        let _ = Command::new("sh")
-            .args(["-c", &format!("kill -TERM {id}")])
-            .stderr(Stdio::null())
-            .status();
+        terminate(self.id());
     }
 
     /// The memory that it has, and the most that it had, in KiB.

@@ -1,16 +1,18 @@
 //! Proxies: each node is reached by others through one alone.
 
 use crate::clock::now;
+use crate::loss::{Loss, Losses, SEGMENT};
 use crate::scan::{CLAIM, Scanner};
 use crate::traffic::Traffic;
 use crate::weather::{Fault, Passage, Side, Weather};
 use p2p_directory::Key;
+use p2p_node::simulate::Random;
 use std::io::{self, Read, Write};
-use std::net::{Ipv4Addr, Shutdown, SocketAddr, TcpListener, TcpStream};
+use std::net::{IpAddr, Shutdown, SocketAddr, TcpListener, TcpStream};
 use std::sync::atomic::{AtomicBool, AtomicU64, Ordering};
 use std::sync::{Arc, Mutex, MutexGuard, PoisonError};
 use std::thread;
-use std::time::Duration;
+use std::time::{Duration, Instant};
 
 /// The stack of a thread, in bytes.
 const STACK: usize = 256 << 10;
@@ -30,11 +32,13 @@ struct Open {
 
 /// What the proxies of a network share.
 pub struct Proxies {
+    address: IpAddr,
     traffic: Mutex<Traffic>,
     weather: Mutex<Weather>,
     open: Mutex<Vec<Open>>,
     numbers: AtomicU64,
     faults: AtomicU64,
+    losses: Losses,
     is_over: AtomicBool,
 }
 
@@ -59,14 +63,16 @@ impl Proxy {
 }
 
 impl Proxies {
-    /// Proxies that report to a log of traffic.
-    pub fn new(traffic: Traffic) -> Arc<Proxies> {
+    /// Proxies at this address that report to a log of traffic.
+    pub fn new(traffic: Traffic, address: IpAddr) -> Arc<Proxies> {
         Arc::new(Proxies {
+            address,
             traffic: Mutex::new(traffic),
             weather: Mutex::new(Weather::Clear),
             open: Mutex::new(Vec::new()),
             numbers: AtomicU64::new(0),
             faults: AtomicU64::new(0),
+            losses: Losses::default(),
             is_over: AtomicBool::new(false),
         })
     }
@@ -79,6 +85,11 @@ impl Proxies {
     /// How many connections were refused, slowed, held or cut.
     pub fn faults(&self) -> u64 {
         self.faults.load(Ordering::Relaxed)
+    }
+
+    /// How many segments were lost.
+    pub fn losses(&self) -> &Losses {
+        &self.losses
     }
 
     /// Changes the weather. Open connections between halves end.
@@ -105,7 +116,7 @@ impl Proxies {
     ///
     /// That of the system.
     pub fn start(self: &Arc<Self>, owner: Key) -> io::Result<Arc<Proxy>> {
-        let listener = TcpListener::bind((Ipv4Addr::LOCALHOST, 0))?;
+        let listener = TcpListener::bind((self.address, 0))?;
         let proxy = Arc::new(Proxy {
             address: listener.local_addr()?,
             owner,
@@ -203,6 +214,8 @@ fn serve(proxies: &Arc<Proxies>, proxy: &Proxy, mut dialer: TcpStream) -> io::Re
         fault,
         passed: 0,
         scanner: Scanner::default(),
+        // Each direction of each connection has a seed of its own.
+        random: Random::new(2 * number + u64::from(side == Side::Listener)),
     };
     let carried = carry_both(pipe, &claim, dialer, listener);
     let mut all = locked(&proxies.open);
@@ -250,6 +263,7 @@ struct Pipe {
     fault: Fault,
     passed: usize,
     scanner: Scanner,
+    random: Random,
 }
 
 impl Pipe {
@@ -267,7 +281,7 @@ impl Pipe {
 
     /// Carries these bytes as the fault permits, and returns whether the connection goes on.
     fn carry(&mut self, bytes: &[u8], to: &mut impl Write) -> io::Result<bool> {
-        let arrived = now();
+        let (arrived, sent) = (now(), Instant::now());
         let passage = self.fault.passage(self.side, self.passed, bytes.len());
         let (count, goes_on) = match passage {
             Passage::Pass(count) => (count, true),
@@ -281,6 +295,30 @@ impl Pipe {
         if let Fault::Slow(time) = self.fault {
             thread::sleep(time);
         }
+        let loss = locked(&self.proxies.weather).loss();
+        let Some(loss) = loss else {
+            self.deliver(bytes, arrived, to)?;
+            return Ok(goes_on);
+        };
+        for segment in bytes.chunks(SEGMENT) {
+            if !self.receive(&loss, sent) {
+                return Ok(false);
+            }
+            self.deliver(segment, arrived, to)?;
+        }
+        Ok(goes_on)
+    }
+
+    /// Waits for a segment that was sent at this time, and returns whether it arrives.
+    fn receive(&mut self, loss: &Loss, sent: Instant) -> bool {
+        let arrival = loss.arrival(&mut self.random);
+        self.proxies.losses.count(&arrival);
+        thread::sleep(arrival.after.saturating_sub(sent.elapsed()));
+        arrival.is_whole
+    }
+
+    /// Delivers these bytes, and reports what ends in them.
+    fn deliver(&mut self, bytes: &[u8], arrived: Duration, to: &mut impl Write) -> io::Result<()> {
         let had_signed = self.scanner.has_signed();
         let frames = self.scanner.take(bytes);
         self.report_handshake(had_signed, arrived);
@@ -291,7 +329,7 @@ impl Pipe {
                 traffic.deliver(self.place, self.side, frame);
             }
         }
-        Ok(goes_on)
+        Ok(())
     }
 
     fn report_handshake(&self, had_signed: bool, arrived: Duration) {
@@ -301,5 +339,108 @@ impl Pipe {
         } else if self.scanner.has_signed() {
             self.proxies.traffic().sign(place, side, now());
         }
+    }
+}
+
+#[cfg(test)]
+mod tests {
+    use super::*;
+    use std::net::Ipv4Addr;
+
+    /// How long a test waits for what has to arrive.
+    const WITHIN: Duration = Duration::from_secs(60);
+
+    /// What a dialer claims.
+    const CLAIMED: [u8; CLAIM] = [7; CLAIM];
+
+    /// The ends of a connection through a proxy under this loss, of which the dialer has sent its
+    /// claim.
+    fn connected(loss: Loss) -> (Arc<Proxies>, [TcpStream; 2]) {
+        let proxies = Proxies::new(Traffic::default(), Ipv4Addr::LOCALHOST.into());
+        proxies.set_weather(Weather::Lossy(loss));
+        let proxy = proxies.start(Key([1; 32])).unwrap();
+        let node = TcpListener::bind((Ipv4Addr::LOCALHOST, 0)).unwrap();
+        proxy.lead_to(Some((node.local_addr().unwrap(), 0)));
+        let mut dialer = TcpStream::connect(proxy.address).unwrap();
+        dialer.write_all(&CLAIMED).unwrap();
+        let (listener, _) = node.accept().unwrap();
+        for stream in [&dialer, &listener] {
+            stream.set_read_timeout(Some(WITHIN)).unwrap();
+        }
+        (proxies, [dialer, listener])
+    }
+
+    /// A megabyte of which no part is like another.
+    fn megabyte() -> Vec<u8> {
+        let mut random = Random::new(5);
+        let numbers = (0..1 << 17).map(|_| random.number());
+        numbers.flat_map(u64::to_be_bytes).collect()
+    }
+
+    #[test]
+    fn under_loss_all_bytes_arrive_in_order() {
+        let third = Loss {
+            probability: 1.0 / 3.0,
+            timeout: Duration::from_micros(100),
+            most: 40,
+        };
+        let (proxies, [mut dialer, mut listener]) = connected(third);
+        let bytes = megabyte();
+        let expected = [&CLAIMED, bytes.as_slice()].concat();
+        let sending = thread::spawn(move || {
+            dialer.write_all(&bytes).unwrap();
+            dialer
+        });
+        let mut arrived = vec![0; expected.len()];
+        listener.read_exact(&mut arrived).unwrap();
+        assert!(arrived == expected);
+        let [segments, lost, broken] = proxies.losses().counts();
+        assert!(segments >= (expected.len() / SEGMENT) as u64, "{segments}");
+        // 1/3 + 1/9 + 1/27 .. of each segment.
+        let half = segments / 2;
+        assert!(lost.abs_diff(half) < segments / 8, "{lost} of {segments}");
+        assert_eq!(broken, 0);
+        drop(sending.join().unwrap());
+    }
+
+    #[test]
+    fn certain_loss_breaks_the_connection() {
+        let certain = Loss {
+            probability: 1.0,
+            timeout: Duration::from_millis(10),
+            most: 6,
+        };
+        let begin = Instant::now();
+        let (proxies, ends) = connected(certain);
+        for mut end in ends {
+            // The end of the stream, or an error if what was sent wasn't read.
+            let read = end.read(&mut [0]);
+            assert!(
+                !matches!(&read, Ok(1..))
+                    && !matches!(&read, Err(error) if error.kind() == io::ErrorKind::WouldBlock),
+                "{read:?}"
+            );
+        }
+        // 10 * (1 + 2 + 4 + 8 + 16) milliseconds.
+        let passed = begin.elapsed();
+        assert!(passed >= Duration::from_millis(310), "{passed:?}");
+        assert_eq!(proxies.losses().counts(), [1, 6, 1]);
+    }
+
+    #[test]
+    fn without_loss_no_segment_is_counted() {
+        let (proxies, [mut dialer, mut listener]) = connected(Loss {
+            probability: 0.0,
+            ..Loss::FIFTH
+        });
+        proxies.set_weather(Weather::Clear);
+        listener.read_exact(&mut [0; CLAIM]).unwrap();
+        let [before, lost, _] = proxies.losses().counts();
+        assert_eq!(lost, 0);
+        dialer.write_all(b"hello").unwrap();
+        let mut hello = [0; 5];
+        listener.read_exact(&mut hello).unwrap();
+        assert_eq!(&hello, b"hello");
+        assert_eq!(proxies.losses().counts(), [before, 0, 0]);
     }
 }

@@ -3,14 +3,19 @@
 use crate::attack::Attack;
 use crate::broken::{self, Scenario};
 use crate::checks;
+use crate::loss::Loss;
 use crate::network::{Network, Options};
 use crate::phases::{self, Lengths, Settled};
+use crate::weather::Weather;
 use crate::{Flags, Form};
 use p2p_node::sodium::Sodium;
 use std::time::{Duration, Instant};
 
 /// The number of honest nodes of the short form.
 const FEW: usize = 6;
+
+/// The weather in which segments are lost.
+const LOSSY: Weather = Weather::Lossy(Loss::FIFTH);
 
 impl Lengths {
     /// How long the phases of a form are.
@@ -44,7 +49,8 @@ pub fn long(flags: &Flags) -> Result<bool, String> {
     let lengths = Lengths::of(Form::Long);
     let mut network = network(flags, flags.nodes, Attack::ALL.len())?;
     let mut settled = common(&mut network, &lengths)?;
-    settled.push(phases::disturb(&mut network, lengths.rough)?);
+    let weathers = [Weather::Rough, Weather::Cuts, LOSSY];
+    settled.push(phases::disturb(&mut network, &weathers, lengths.rough)?);
     settled.push(phases::attack(
         &mut network,
         &Attack::ALL,
@@ -65,6 +71,7 @@ pub fn short(flags: &Flags) -> Result<bool, String> {
     let lengths = Lengths::of(Form::Short);
     let mut network = network(flags, FEW, Attack::ALL.len())?;
     let mut settled = common(&mut network, &lengths)?;
+    settled.push(phases::disturb(&mut network, &[LOSSY], lengths.rough)?);
     settled.push(phases::attack(
         &mut network,
         &Attack::ALL,
@@ -85,6 +92,7 @@ fn network(flags: &Flags, nodes: usize, attackers: usize) -> Result<Network, Str
         nodes,
         attackers,
         load: flags.load,
+        place: flags.place.clone(),
         broken: None,
     };
     let sodium = Sodium::new().map_err(|error| error.to_string())?;
@@ -110,6 +118,10 @@ fn finish(mut network: Network, settled: &[Settled]) -> Result<bool, String> {
     for verdict in &verdicts {
         println!("{verdict}");
     }
-    println!("checked in {:.1} s", begin.elapsed().as_secs_f64());
+    println!(
+        "{}; checked in {:.1} s",
+        network.proxies.losses(),
+        begin.elapsed().as_secs_f64()
+    );
     Ok(verdicts.iter().all(|verdict| verdict.faults.is_empty()))
 }

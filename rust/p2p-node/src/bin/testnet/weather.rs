@@ -1,5 +1,6 @@
 //! What a proxy does to connections.
 
+use crate::loss::Loss;
 use crate::scan::HANDSHAKE;
 use p2p_directory::Key;
 use std::collections::BTreeSet;
@@ -21,6 +22,8 @@ pub enum Weather {
     Rough,
     /// Each connection breaks at a byte after its handshake, one later than the one before.
     Cuts,
+    /// Segments are lost on all connections, those that are open included.
+    Lossy(Loss),
 }
 
 /// A side of a connection, which sends.
@@ -64,7 +67,7 @@ impl Weather {
             _ => Side::Listener,
         };
         match self {
-            Weather::Clear | Weather::Halves(_) => Fault::None,
+            Weather::Clear | Weather::Halves(_) | Weather::Lossy(_) => Fault::None,
             Weather::Cuts => Fault::Cut(side, HANDSHAKE + (number / 2 % CUTS) as usize),
             Weather::Rough => match number % 5 {
                 0 => Fault::Refused,
@@ -80,7 +83,15 @@ impl Weather {
     pub fn parts(&self, one: &Key, other: &Key) -> bool {
         match self {
             Weather::Halves(half) => half.contains(one) != half.contains(other),
-            Weather::Clear | Weather::Rough | Weather::Cuts => false,
+            Weather::Clear | Weather::Rough | Weather::Cuts | Weather::Lossy(_) => false,
+        }
+    }
+
+    /// How segments are lost, if they are.
+    pub fn loss(&self) -> Option<Loss> {
+        match self {
+            Weather::Lossy(loss) => Some(*loss),
+            Weather::Clear | Weather::Halves(_) | Weather::Rough | Weather::Cuts => None,
         }
     }
 }
