@@ -26,6 +26,9 @@ if [ -z "$checks" ] && grep ': no verdict$' "$from/PROVED" >&2; then
     exit 1
 fi
 (cd "$made" && ar x "$from/libp2p_session_c.a" p2p_session_c.o && ar x "$from/liblibc_c.a" heap.pic.o)
+# The loop of `status` takes up to a third longer where it begins at a cache line. The first pair's doesn't if the function
+# does, and then that of keys of 33 bytes, which follows it, doesn't either.
+tools/aligned.py "$made/p2p_session_c.o" .text.p2p_session_status 64
 (cd "$made" && ar rcsD libp2p_session.a p2p_session_c.o heap.pic.o)
 { cat "$from/PROVED" && (cd "$made" && sha256sum libp2p_session.a); } > "$made/PROVED"
 
