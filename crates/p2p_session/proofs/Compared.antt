@@ -1,5 +1,5 @@
 -- The order of two lists of bytes is that of the numbers that their first four spell, where these differ; it is that of
--- all but the last byte, where these differ.
+-- all but the last byte, if the last ones are the same.
 use Rattle.std.proofs.Common.{◌≡◌, ℕ, zero, suc, ◌+◌, ◌*◌, ◌<◌, ◌≤◌, inl, inr, List, [], ◌∷◌, length, refl, sym, ◌∙◌, ap, arith}
 use Rattle.std.specs.Int.{w32, from_be_bytes}
 use Rattle.std.specs.Prelude.{◌⊎◌, slice_index, take}
@@ -12,7 +12,7 @@ use Rattle.std.proofs.lemmas.Bool.{cases_order}
 use Rattle.std.proofs.lemmas.Map.Lookups.{exact_unsigned}
 
 -- what isn't equal decides
-pub decides : (o rest : Ordering) → (o ≡ Equal → ⊥) → ordering_then o rest ≡ o
+decides : (o rest : Ordering) → (o ≡ Equal → ⊥) → ordering_then o rest ≡ o
 decides Less rest not_equal = refl
 decides Equal rest not_equal = absurd (not_equal refl)
 decides Greater rest not_equal = refl
@@ -102,11 +102,11 @@ ended (suc n) (x ∷ xs) (y ∷ ys) e f =
     ∙ then_then (nat_cmp x y) (slice_cmp nat_cmp (take n xs) (take n ys))
     (nat_cmp (slice_index xs n) (slice_index ys n))
 
--- .. by the order of what all but the last byte are
-pub ended_by : (n : ℕ) (xs ys vs ws : List ℕ) (o : Ordering) → length xs ≡ n + 1 → length ys ≡ n + 1 →
-    vs ≡ take n xs → ws ≡ take n ys → o ≡ slice_cmp nat_cmp vs ws →
-    slice_cmp nat_cmp xs ys ≡ ordering_then o (nat_cmp (slice_index xs n) (slice_index ys n))
-ended_by n xs ys vs ws o e f v w is =
-    ended n xs ys e f
-    ∙ ap (λ o. ordering_then o (nat_cmp (slice_index xs n) (slice_index ys n)))
-    (sym (is ∙ ap (λ v. slice_cmp nat_cmp v ws) v ∙ ap (slice_cmp nat_cmp (take n xs)) w))
+-- .. where the last bytes are the same
+pub ended_alike : (n : ℕ) (xs ys vs ws : List ℕ) (o : Ordering) → length xs ≡ n + 1 → length ys ≡ n + 1 →
+    vs ≡ take n xs → ws ≡ take n ys → o ≡ slice_cmp nat_cmp vs ws → slice_index xs n ≡ slice_index ys n →
+    slice_cmp nat_cmp xs ys ≡ o
+ended_alike n xs ys vs ws o e f v w is same =
+    let front = is ∙ ap (λ v. slice_cmp nat_cmp v ws) v ∙ ap (slice_cmp nat_cmp (take n xs)) w in
+    ended n xs ys e f ∙ ap (λ o. ordering_then o (nat_cmp (slice_index xs n) (slice_index ys n))) (sym front)
+    ∙ ap (ordering_then o) (sym (nat_cmp_is (slice_index xs n) (slice_index ys n) Equal same)) ∙ no_more o

@@ -66,7 +66,8 @@ pub fn compare<const N: usize>(a: &[u8; N], b: &[u8; N]) -> Ordering
 }
 
 /// The order of two keys by their bytes, as [`compare`] has it, where WORDS bytes stand before a
-/// last one. Arrays of whole words are compared fastest, so the last byte is compared by itself.
+/// last one. If the last bytes are the same, those before it are compared: for arrays of whole
+/// words that is fastest, and of two keys with the same front the second is mostly the first.
 ///
 /// # Conditions
 ///
@@ -79,10 +80,10 @@ pub fn compare_ended<const N: usize, const WORDS: usize>(a: &[u8; N], b: &[u8; N
 {
     let (x, y) = (front(a), front(b));
     if x == y {
-        return match words_of::<N, WORDS>(a).cmp(words_of(b)) {
-            Ordering::Equal => a[WORDS].cmp(&b[WORDS]),
-            order => order,
-        };
+        if a[WORDS] == b[WORDS] {
+            return words_of::<N, WORDS>(a).cmp(words_of(b));
+        }
+        return a.cmp(b);
     }
     x.cmp(&y)
 }
