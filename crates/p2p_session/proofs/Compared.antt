@@ -1,8 +1,7 @@
--- The order of two lists of bytes is that of the numbers that their first four spell, where these differ; it is that of
--- all but the last byte, if the last ones are the same.
-use Rattle.std.proofs.Common.{◌≡◌, ℕ, zero, suc, ◌+◌, ◌*◌, ◌<◌, ◌≤◌, inl, inr, List, [], ◌∷◌, length, refl, sym, ◌∙◌, ap, arith}
+-- The order of two lists of bytes is that of the numbers that their first four spell, where these differ.
+use Rattle.std.proofs.Common.{◌≡◌, ℕ, ◌+◌, ◌*◌, ◌<◌, ◌≤◌, inl, inr, List, [], ◌∷◌, length, refl, sym, ◌∙◌, ap, arith}
 use Rattle.std.specs.Int.{w32, from_be_bytes}
-use Rattle.std.specs.Prelude.{◌⊎◌, slice_index, take}
+use Rattle.std.specs.Prelude.{◌⊎◌, slice_index}
 use Rattle.std.specs.Ordering.{nat_cmp, ordering_then}
 use Rattle.std.specs.Cmp.{nat_cmp_is}
 use Rattle.std.specs.Cmp.Lexicographic.{slice_cmp}
@@ -76,37 +75,3 @@ fronted (a ∷ b ∷ c ∷ d ∷ xs) [] _ four small little other = absurd (omeg
 fronted (a ∷ b ∷ c ∷ d ∷ xs) (e ∷ []) _ four small little other = absurd (omega (arith, four))
 fronted (a ∷ b ∷ c ∷ d ∷ xs) (e ∷ f ∷ []) _ four small little other = absurd (omega (arith, four))
 fronted (a ∷ b ∷ c ∷ d ∷ xs) (e ∷ f ∷ g ∷ []) _ four small little other = absurd (omega (arith, four))
-
--- ALL BUT THE LAST BYTE, and then the last one
-
-no_more : (o : Ordering) → ordering_then o Equal ≡ o
-no_more Less = refl
-no_more Equal = refl
-no_more Greater = refl
-
-then_then : (o p q : Ordering) → ordering_then o (ordering_then p q) ≡ ordering_then (ordering_then o p) q
-then_then Less p q = refl
-then_then Equal p q = refl
-then_then Greater p q = refl
-
-ended : (n : ℕ) (xs ys : List ℕ) → length xs ≡ n + 1 → length ys ≡ n + 1 →
-    slice_cmp nat_cmp xs ys
-    ≡ ordering_then (slice_cmp nat_cmp (take n xs) (take n ys)) (nat_cmp (slice_index xs n) (slice_index ys n))
-ended n [] ys e f = absurd (omega (arith, e))
-ended n (x ∷ xs) [] e f = absurd (omega (arith, f))
-ended zero (x ∷ []) (y ∷ []) e f = no_more (nat_cmp x y)
-ended zero (x ∷ a ∷ xs) (y ∷ ys) e f = absurd (omega (arith, e))
-ended zero (x ∷ []) (y ∷ b ∷ ys) e f = absurd (omega (arith, f))
-ended (suc n) (x ∷ xs) (y ∷ ys) e f =
-    ap (ordering_then (nat_cmp x y)) (ended n xs ys (omega (arith, e)) (omega (arith, f)))
-    ∙ then_then (nat_cmp x y) (slice_cmp nat_cmp (take n xs) (take n ys))
-    (nat_cmp (slice_index xs n) (slice_index ys n))
-
--- .. where the last bytes are the same
-pub ended_alike : (n : ℕ) (xs ys vs ws : List ℕ) (o : Ordering) → length xs ≡ n + 1 → length ys ≡ n + 1 →
-    vs ≡ take n xs → ws ≡ take n ys → o ≡ slice_cmp nat_cmp vs ws → slice_index xs n ≡ slice_index ys n →
-    slice_cmp nat_cmp xs ys ≡ o
-ended_alike n xs ys vs ws o e f v w is same =
-    let front = is ∙ ap (λ v. slice_cmp nat_cmp v ws) v ∙ ap (slice_cmp nat_cmp (take n xs)) w in
-    ended n xs ys e f ∙ ap (λ o. ordering_then o (nat_cmp (slice_index xs n) (slice_index ys n))) (sym front)
-    ∙ ap (ordering_then o) (sym (nat_cmp_is (slice_index xs n) (slice_index ys n) Equal same)) ∙ no_more o

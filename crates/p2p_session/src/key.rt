@@ -1,6 +1,6 @@
 //! Keys and signatures, as bytes.
 
-ghost use Rattle.std.specs.Prelude.{◌≡◌, ◌≤◌, ◌+◌, refl, false, Some, length, take};
+ghost use Rattle.std.specs.Prelude.{◌≡◌, ◌≤◌, ◌+◌, refl, false, Some, length, drop};
 ghost use Rattle.std.specs.Int.{w32, from_be_bytes};
 ghost use Rattle.std.specs.Cmp.Lexicographic.{slice_cmp};
 ghost use Rattle.std.specs.Ordering.{nat_cmp};
@@ -65,37 +65,35 @@ pub fn compare<const N: usize>(a: &[u8; N], b: &[u8; N]) -> Ordering
     a.cmp(b)
 }
 
-/// The order of two keys by their bytes, as [`compare`] has it, where WORDS bytes stand before a
-/// last one. If the last bytes are the same, those before it are compared: for arrays of whole
-/// words that is fastest, and of two keys with the same front the second is mostly the first.
+/// The order of two keys by their bytes, as [`compare`] has it, where one byte stands before REST
+/// others. If the first four bytes are the same, the order is that of the REST bytes: for arrays of
+/// whole words it is found fastest.
 ///
 /// # Conditions
 ///
-/// A key has at least four bytes, one more than WORDS.
+/// A key has at least four bytes, one more than REST.
 #[inline(always)]
-pub fn compare_ended<const N: usize, const WORDS: usize>(a: &[u8; N], b: &[u8; N]) -> Ordering
+pub fn compare_prefixed<const N: usize, const REST: usize>(a: &[u8; N], b: &[u8; N]) -> Ordering
     requires front { 4 ≤ N }
-    requires end { WORDS + 1 ≡ N }
+    requires rest { 1 + REST ≡ N }
     ensures { result ≡ slice_cmp nat_cmp a.now b.now }
 {
     let (x, y) = (front(a), front(b));
-    if x == y {
-        if a[WORDS] == b[WORDS] {
-            return words_of::<N, WORDS>(a).cmp(words_of(b));
-        }
-        return a.cmp(b);
+    if x != y {
+        x.cmp(&y)
+    } else {
+        behind_first::<N, REST>(a).cmp(behind_first(b))
     }
-    x.cmp(&y)
 }
 
-// The bytes of a key before its last one.
+// The bytes of a key behind the first one.
 #[inline(always)]
-fn words_of<const N: usize, const WORDS: usize>(bytes: &[u8; N]) -> &[u8; WORDS]
-    requires { WORDS + 1 ≡ N }
-    ensures { result.now ≡ take WORDS bytes.now }
+fn behind_first<const N: usize, const REST: usize>(bytes: &[u8; N]) -> &[u8; REST]
+    requires { 1 + REST ≡ N }
+    ensures { result.now ≡ drop 1 bytes.now }
 {
-    match bytes.split_first_chunk::<WORDS>() {
-        Some((words, _last)) => words,
+    match bytes.split_last_chunk::<REST>() {
+        Some((_first, rest)) => rest,
         None => unreachable!(),
     }
 }

@@ -9,7 +9,7 @@ ghost use Rattle.p2p_discovery.specs.Fields.{IsSized};
 ghost use Rattle.p2p_session.specs.Firsts.{IsBegun, begun, fixed_begun};
 
 use p2p_discovery::codec::{FixedBytes, PublicKey, read_array, write_array};
-use p2p_session::key::compare_ended;
+use p2p_session::key::compare_prefixed;
 use std::cmp::Ordering;
 use std::marker::Model;
 
@@ -46,7 +46,7 @@ impl Ord for Key {
 
     #[inline(always)]
     fn cmp(&self, other: &Key) -> Ordering {
-        compare_ended::<33, 32>(&self.0, &other.0)
+        compare_prefixed::<33, 32>(&self.0, &other.0)
     }
 }
 
