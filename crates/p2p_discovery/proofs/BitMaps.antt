@@ -10,7 +10,7 @@ use Rattle.std.specs.Cmp.Lexicographic.{pointwise, pointwise_decides, bytes_deci
 use Rattle.std.proofs.Math.Seq.{set-append_seam}
 use Rattle.std.proofs.lemmas.Bool.{cases_lt, cases_eq, eq-eqb, ne_eqb}
 use Rattle.std.proofs.lemmas.List.{length-replicate, get_or-set_same, get_or-set_other, get_or-replicate, get_or_past}
-use Rattle.std.proofs.lemmas.List.{length-set, length-append, length-take, take_all, take_more, append-nil}
+use Rattle.std.proofs.lemmas.List.{length-set, length-take, take_more}
 use Rattle.std.proofs.lemmas.Nat.Bits.{shr_and_one, bit_at-zero, bit_at_ones, bit_at_ones_above, bit_at_set_same}
 use Rattle.std.proofs.lemmas.Nat.Bits.{bit_at_set_other, bit_at_clear_same, bit_at_clear_other}
 use Rattle.std.proofs.lemmas.Option.{slice_get-get_or}
@@ -195,14 +195,6 @@ cut_ones bytes count n e c some =
     rw last (few_ones bytes count n e c some)
 
 -- ---- values, one after the other
-
-pub length-filled : (xs : List Bool) (i : ℕ) → i ≤ length xs → length (take i xs ++ replicate (length xs - i) false) ≡ length xs
-length-filled xs i h = omega (arith, length-append (take i xs) (replicate (length xs - i) false), length-take i xs, length-replicate (length xs - i) false)
-
-pub filled_whole : (xs : List Bool) (i : ℕ) → length xs ≤ i → take i xs ++ replicate (length xs - i) false ≡ xs
-filled_whole xs i h =
-    let none : length xs - i ≡ 0 = omega arith in
-    rw (take_all i xs h, none) (append-nil xs)
 
 pub next_value : (xs : List Bool) (i : ℕ) (x : Bool) → i < length xs → x ≡ get_or xs i false →
     set (take i xs ++ replicate (length xs - i) false) i x ≡ take (i + 1) xs ++ replicate (length xs - (i + 1))

@@ -18,14 +18,6 @@ unfolding groups_at
 first_fails e most top started zero bytes h = fails_first e byte_at _ bytes h
 first_fails e most top started (suc left) bytes h = fails_first e byte_at _ bytes h
 
-pub last_gives : (most top : ℕ) (started : Bool) (left : ℕ) (bytes : List ℕ) (b : ℕ) (rest : List ℕ)
-    (result : Result ℕ CodecError) → left ≡ 0 → (byte_at bytes).outcome ≡ Ok (b, rest)
-    → Gives result rest (last_group most top started b rest)
-    → Gives result rest (groups_at most top started left bytes)
-last_gives most top started left bytes b rest result z o h =
-    rw (at_zero most top started left bytes z)
-    (gives_next result rest byte_at (last_group most top started) bytes b rest o h)
-
 pub low_gives : (most top : ℕ) (started : Bool) (left less : ℕ) (bytes : List ℕ) (b : ℕ)
     (rest : List ℕ) (result : Result ℕ CodecError) → left ≡ suc less
     → (byte_at bytes).outcome ≡ Ok (b, rest) → b < 128
@@ -34,16 +26,6 @@ pub low_gives : (most top : ℕ) (started : Bool) (left less : ℕ) (bytes : Lis
 low_gives most top started left less bytes b rest result z o lt h =
     rw (at_more most top started left less bytes z)
     (gives_next result rest byte_at _ bytes b rest o (rw (lt-ltb b 128 lt) h))
-
-pub high_gives : (most top : ℕ) (started : Bool) (left less : ℕ) (bytes : List ℕ) (b : ℕ)
-    (rest new : List ℕ) (result : Result ℕ CodecError) → left ≡ suc less
-    → (byte_at bytes).outcome ≡ Ok (b, rest) → 128 ≤ b
-    → Gives result new
-    ((groups_at most top true less >>= λ high. reads (b - 128 + 128 * high)) rest)
-    → Gives result new (groups_at most top started left bytes)
-high_gives most top started left less bytes b rest new result z o le h =
-    rw (at_more most top started left less bytes z)
-    (gives_next result new byte_at _ bytes b rest o (rw (le-ltb b 128 le) h))
 
 -- A LOOP
 

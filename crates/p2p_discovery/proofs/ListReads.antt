@@ -119,6 +119,3 @@ none_left sp xs i le = rw (nil_from_length (drop i xs) (omega (arith, length-dro
 pub each_next : {A : Type 0} (P : A → Type 0) (xs : List A) (i : ℕ) (x : A) → i < length xs → x ≡ get_or xs i x →
     P x → AllByRecursion P (drop (i + 1) xs) → AllByRecursion P (drop i xs)
 each_next P xs i x lt e here later = rw (drop-cons xs i x lt, ← e) (here, rw add-one at later)
-
-pub each_none : {A : Type 0} (P : A → Type 0) (xs : List A) (i : ℕ) → length xs ≤ i → AllByRecursion P (drop i xs)
-each_none P xs i le = rw (nil_from_length (drop i xs) (omega (arith, length-drop i xs))) tt

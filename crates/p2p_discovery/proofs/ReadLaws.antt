@@ -1,10 +1,10 @@
 -- What the law of a reader says of one call.
-use Rattle.std.proofs.Common.{◌≡◌, ℕ, ◌-◌, ◌≤◌, ◌<◌, false, List, [], ◌++◌, length, drop, Result, Ok, Err, refl, sym, ap, subst, ◌∙◌, arith, eqb, ◌≢◌, ◌⊎◌, inl, inr}
+use Rattle.std.proofs.Common.{◌≡◌, ℕ, ◌-◌, ◌≤◌, ◌<◌, false, List, ◌++◌, length, drop, Result, Ok, Err, refl, sym, ap, subst, ◌∙◌, arith, eqb, ◌≢◌, ◌⊎◌, inl, inr}
 use Rattle.std.proofs.lemmas.List.{drop_at, length-append}
 use Rattle.std.proofs.lemmas.Bool.Decides.{nat_tests}
 use Rattle.p2p_discovery.specs.declared.codec.error.CodecError.{CodecError}
 use Rattle.p2p_discovery.specs.declared.codec.error.CodecError.TheVariants.{EndOfBuffer, ExtraData, InvalidLength, InvalidVarint, InvalidEnum, Invalid, Memory}
-use Rattle.p2p_discovery.specs.Reading.{Reading, ◌>>=◌, grows_then, Lawful, Fails, Gives, IsBytes, whole}
+use Rattle.p2p_discovery.specs.Reading.{Reading, ◌>>=◌, grows_then, Lawful, Fails, Gives, IsBytes}
 use Rattle.p2p_discovery.specs.Laws.Reading.{or_left, or_right}
 
 is_memory : (e : CodecError) → (e ≡ Memory) ⊎ (e ≢ Memory)
@@ -23,9 +23,6 @@ fails_memory e read x f o =
       | inl m ↦ m
       | inr n ↦ let g = sym o ∙ f.0 n in cc
     ]
-
-pub fails_whole : {A : Type 0} (e : CodecError) (r : List ℕ → Reading A) (bytes : List ℕ) → Fails e (r bytes) → Fails e (whole r bytes)
-fails_whole e r bytes f = (λ n. rw (f.0 n) refl, f.1)
 
 pub rest_fits : (old front new : List ℕ) → old ≡ front ++ new → length new ≤ length old
 rest_fits old front new e = omega (arith, ap length e, length-append front new)
@@ -58,16 +55,8 @@ module _ {A : Type 0} {r : List ℕ → Reading A} {sp : A → List ℕ} {Admits
   pub left_is : (x : A) (new : List ℕ) → IsBytes old → (r bytes).outcome ≡ Ok (x, new) → drop (length old - length new) old ≡ new
   left_is x new fits o = rest_is old (sp x) new (found_at x new fits o).1
 
-pub ends_ok : {A : Type 0} (r : List ℕ → Reading A) (bytes : List ℕ) (x : A) (new : List ℕ) →
-    (r bytes).outcome ≡ Ok (x, new) → new ≡ [] → (whole r bytes).outcome ≡ Ok (x, [])
-ends_ok r bytes x new o e = rw (o, e) refl
-
 some_left : (n : ℕ) → 0 < n → eqb n 0 ≡ false
 some_left n p = grind (arith, nat_tests)
-
-pub ends_extra : {A : Type 0} (r : List ℕ → Reading A) (bytes : List ℕ) (x : A) (new : List ℕ) (n : ℕ) →
-    (r bytes).outcome ≡ Ok (x, new) → n ≡ length new → 0 < n → Fails (ExtraData n) (whole r bytes)
-ends_extra r bytes x new n o e p = (λ _. rw (o, ← e, some_left n p) refl, λ m. absurd cc)
 
 -- What begins with two spellings was spelled from one value.
 pub one_value : {A : Type 0} {r : List ℕ → Reading A} {sp : A → List ℕ} {Admits : A → Type 0} →

@@ -1,5 +1,5 @@
 -- How a list of infos is judged from each place on.
-use Rattle.std.proofs.Common.{◌≡◌, ℕ, zero, suc, ◌+◌, ◌<◌, Bool, true, false, List, [], ◌∷◌}
+use Rattle.std.proofs.Common.{◌≡◌, ℕ, zero, suc, ◌<◌, Bool, true, false, List, [], ◌∷◌}
 use Rattle.std.proofs.Common.{length, drop, get_or, refl, arith, is_some, if◌then◌else◌}
 use Rattle.std.proofs.Math.Seq.{drop-nil}
 use Rattle.p2p_discovery.specs.declared.discovery.Info.{Info}
@@ -18,27 +18,9 @@ module _ {C S : Type 0} (j : Judge C S) (now : ℕ) where
       rw none at (judges k [] is i (omega (arith, h)) e)
   judges (suc k) (v ∷ vs) (x ∷ is) i h e = judges k vs is i (omega (arith, h)) e
 
-  -- the info at a place by its verdict, and then the rest
-  pub judges_next : (k : ℕ) (vs : List Bool) (is : List (Info C S)) (i : Info C S) → k < length is →
-      get_or is k i ≡ i → first_refusal_by j (drop k vs) now (drop k is)
-      ≡ first_of (refusal_if j (get_or vs k false) now i)
-      (first_refusal_by j (drop (k + 1) vs) now (drop (k + 1) is))
-  judges_next k vs is i h e =
-      let next : k + 1 ≡ suc k = omega arith in
-      rw next (judges k vs is i h e)
-
   asks : (k : ℕ) (is : List (Info C S)) (i : Info C S) → k < length is → get_or is k i ≡ i →
       judged_before j now (drop k is) ≡ (if is_some (refusal_if j true now i) then []
       else i ∷ judged_before j now (drop (suc k) is))
   asks k [] i h e = absurd (omega (arith, h))
   asks zero (x ∷ is) i h e = rw e refl
   asks (suc k) (x ∷ is) i h e = asks k is i (omega (arith, h)) e
-
-  -- the info at a place is asked about, or it and all behind it aren't
-  pub asks_next : (k : ℕ) (is : List (Info C S)) (i : Info C S) → k < length is →
-      get_or is k i ≡ i →
-      judged_before j now (drop k is) ≡ (if is_some (refusal_if j true now i) then []
-      else i ∷ judged_before j now (drop (k + 1) is))
-  asks_next k is i h e =
-      let next : k + 1 ≡ suc k = omega arith in
-      rw next (asks k is i h e)

@@ -99,13 +99,3 @@ module _ {C S : Type 0} (k : Scheme C S)
     key_read (Some key) e =
         let it = key_laws.only front key (sized, are_bytes) (sym e) in
         (long, it.0, both ∙ ap (λ l. l ++ drop (at + k.key.SIZE) bytes) (sym it.1))
-
-    pub no_key_read : (o : Option C) → o ≡ k.key.value front → o ≡ None → (key : C) (rest : List ℕ) → k.key.IsValue key →
-        ¬ (drop at bytes ≡ k.key.spelled key ++ rest)
-    no_key_read o e none key rest is begins =
-        let same : front ≡ k.key.spelled key =
-        is_front ∙ ap (λ l. take k.key.SIZE l) begins
-        ∙ ap (λ n. take n (k.key.spelled key ++ rest)) (sym (key_laws.len key))
-        ∙ take-append_seam (k.key.spelled key) rest in
-        let some : None ≡ Some key = sym none ∙ e ∙ ap k.key.value same ∙ (key_laws.again key is).1 in
-        cc

@@ -143,11 +143,6 @@ unfolding spellings
 spellings_are f [] = refl
 spellings_are f (x ∷ xs) = ap (λ l. f x ++ l) (spellings_are f xs)
 
--- the size of one part more, at most the greatest
-pub size_next : (greatest top n m a b whole : ℕ) → greatest ≤ top → n ≡ min a greatest → m ≡ min b greatest →
-    whole ≡ a + b → min (min (n + m) top) greatest ≡ min whole greatest
-size_next greatest top n m a b whole h is also sum = omega (arith, h, is, also, sum)
-
 pub map_next : {X Y : Type 0} (f : X → Y) (xs : List X) (i : ℕ) (d : X) → i < length xs →
     map f (take (i + 1) xs) ≡ map f (take i xs) ++ f (get_or xs i d) ∷ []
 map_next f xs i d h =

@@ -1,6 +1,5 @@
 -- Corners, computed by the definitions.
-use Rattle.std.proofs.Common.{◌≡◌, ℕ, ◌-◌, Bool, true, false, List, [], ◌∷◌, Option, Some, None, refl}
-use Rattle.std.specs.Prelude.{filter, filter_map}
+use Rattle.std.proofs.Common.{◌≡◌, ℕ, ◌-◌, true, false, List, [], ◌∷◌, Option, Some, None, refl}
 use Rattle.std.specs.Duration.{max_nanos}
 use Rattle.p2p_discovery.specs.declared.discovery.Info.{Info}
 use Rattle.p2p_discovery.specs.declared.types.ingress.Ingress.TheVariants.{Socket}
@@ -13,10 +12,10 @@ use Rattle.p2p_tracker.specs.declared.record.Status.TheVariants.{Inert, Reserved
 use Rattle.p2p_tracker.specs.Calls.Direction.{Dialer}
 use Rattle.p2p_discovery.specs.declared.types.ingress.Ingress.{Ingress}
 use Rattle.p2p_tracker.specs.History
-use Rattle.p2p_tracker.specs.World.{world_at, event_in, past_after}
+use Rattle.p2p_tracker.specs.World.{world_at}
 use Rattle.p2p_tracker.specs.Cooldowns.{reservable_from, dialable_from}
-use Rattle.p2p_tracker.specs.Answers.{was_granted, was_taken, was_blocked, status_in, may_connect, may_release}
-use Rattle.p2p_tracker.specs.Answers.{is_torn_down, is_tracked, set_with_index, is_primary_in, is_secondary_in, bits_at}
+use Rattle.p2p_tracker.specs.Answers.{status_in, may_connect, may_release}
+use Rattle.p2p_tracker.specs.Answers.{is_tracked, set_with_index, is_primary_in, is_secondary_in, bits_at}
 use Rattle.p2p_tracker.specs.Answers.{is_dialable, query_moment, sharable_info, infos_for, is_eligible_at}
 use Rattle.p2p_tracker.specs.Answers.{is_acceptable_at, granted_direction, is_blocked_at}
 use Rattle.p2p_directory.proofs.Definitions.Setting.{sec, info_at, info, own, setup, after_calls, track, listen, dial, update}

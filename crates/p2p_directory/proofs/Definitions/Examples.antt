@@ -1,15 +1,14 @@
 -- Worked rows, computed by the definitions.
-use Rattle.std.proofs.Common.{◌≡◌, ℕ, ◌+◌, ◌-◌, ◌^◌, Bool, true, false, List, [], ◌∷◌, Option, Some, None, refl}
-use Rattle.std.specs.Prelude.{filter, filter_map}
+use Rattle.std.proofs.Common.{◌≡◌, ℕ, ◌+◌, ◌-◌, ◌^◌, true, false, List, [], ◌∷◌, Some, None, refl}
 use Rattle.std.specs.Duration.{max_nanos}
 use Rattle.p2p_discovery.specs.Ingress.{is_valid}
-use Rattle.p2p_tracker.specs.Calls.{Settings, Call, Event}
+use Rattle.p2p_tracker.specs.Calls.{Settings, Event}
 use Rattle.p2p_tracker.specs.Calls.Call.{Track, Dial, Listen, Connect, Release, Update, Block, UnblockExpired}
 use Rattle.p2p_tracker.specs.declared.record.Status.TheVariants.{Reserved}
 use Rattle.p2p_tracker.specs.History
-use Rattle.p2p_tracker.specs.World.{world_at, event_in, past_after}
-use Rattle.p2p_tracker.specs.Answers.{was_granted, was_taken, was_blocked, status_in, may_connect, may_release}
-use Rattle.p2p_tracker.specs.Answers.{is_torn_down, is_tracked, set_with_index, latest_index_in, latest_set}
+use Rattle.p2p_tracker.specs.World.{world_at}
+use Rattle.p2p_tracker.specs.Answers.{status_in, may_connect, may_release}
+use Rattle.p2p_tracker.specs.Answers.{is_tracked, set_with_index, latest_index_in, latest_set}
 use Rattle.p2p_tracker.specs.Answers.{is_primary_in, is_secondary_in, bits_at, is_dialable, query_moment, sharable_info}
 use Rattle.p2p_tracker.specs.Answers.{infos_for, is_eligible_at, is_blocked_at}
 use Rattle.p2p_directory.proofs.Definitions.Setting.{sec, info_at, info, own, setup, after_calls, track, listen, dial, update}

@@ -1,6 +1,6 @@
 -- Cooldowns that outlive the record, and are forgotten, computed by the definitions.
 use Rattle.std.proofs.Common.{◌≡◌, ℕ, ◌-◌, Bool, true, false, List, [], ◌∷◌, Option, Some, None, refl}
-use Rattle.std.specs.Prelude.{filter, filter_map, length}
+use Rattle.std.specs.Prelude.{length}
 use Rattle.std.specs.Duration.{max_nanos}
 use Rattle.p2p_discovery.specs.declared.types.ingress.Ingress.TheVariants.{Socket}
 use Rattle.p2p_discovery.specs.declared.types.socket.IpAddr.TheVariants.{V4}
@@ -9,10 +9,10 @@ use Rattle.p2p_tracker.specs.Calls.{Settings, Call, Cooldown, Event}
 use Rattle.p2p_tracker.specs.Calls.Call.{Dial, Listen, Connect, Release, Block, UnblockExpired, ForgetCooled}
 use Rattle.p2p_tracker.specs.declared.record.Status.TheVariants.{Reserved, Active}
 use Rattle.p2p_tracker.specs.History
-use Rattle.p2p_tracker.specs.World.{world_at, event_in, past_after}
-use Rattle.p2p_tracker.specs.Answers.{was_granted, was_taken, status_in, is_torn_down, is_tracked, is_dialable, query_moment, is_cooled_at}
+use Rattle.p2p_tracker.specs.World.{world_at}
+use Rattle.p2p_tracker.specs.Answers.{status_in, is_tracked, is_dialable, query_moment, is_cooled_at}
 use Rattle.p2p_directory.proofs.Definitions.Setting.{sec, setup, after_calls, track, listen, dial, update}
-use Rattle.p2p_directory.proofs.Definitions.Setting.{those, moments, granted, taken, blocks, torn}
+use Rattle.p2p_directory.proofs.Definitions.Setting.{those, moments, granted, taken, torn}
 
 -- how many keys have a property
 abbrev number : (ℕ → Bool) → ℕ

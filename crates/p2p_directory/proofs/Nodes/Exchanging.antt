@@ -1,35 +1,19 @@
 -- The replier's part of an exchange, by what it read.
-use Rattle.std.proofs.Common.{◌≡◌, ℕ, true, false, List, length, Option, Some, None, Result, Ok, Err, sym, ◌∙◌, ap, subst, inl, inr}
-use Rattle.std.specs.Prelude.{nat_lt, if◌then◌else◌, option_map, is_some, IfSome}
-use Rattle.p2p_discovery.specs.declared.codec.error.CodecError.TheVariants.{InvalidLength}
+use Rattle.std.proofs.Common.{◌≡◌, ℕ, true, List, Option, Some, None, sym, subst, inl, inr}
+use Rattle.std.specs.Prelude.{option_map, is_some, IfSome}
 use Rattle.p2p_discovery.specs.declared.discovery.BitVec.{BitVec}
 use Rattle.p2p_discovery.specs.declared.discovery.Payload.{Payload}
 use Rattle.p2p_discovery.specs.declared.discovery.Payload.TheVariants as said
 use Rattle.p2p_directory.specs.declared.node.exchanged.Exchanged.{Exchanged}
 use Rattle.p2p_directory.specs.Received.{Standing}
-use Rattle.p2p_directory.specs.Exchange.ExchangeOutcome.{AskRefused}
-use Rattle.p2p_directory.specs.Exchange.{ExchangeOutcome, asked_at, replied_at, exchanged_at, exchange_may_want_memory, IsExchangeAnswer}
-use Rattle.p2p_directory.specs.Private.Exchanging.{RepliesToBits, UnlessRefused, UnlessReplyRefused}
+use Rattle.p2p_directory.specs.Exchange.{asked_at, exchanged_at, exchange_may_want_memory, IsExchangeAnswer}
+use Rattle.p2p_directory.specs.Private.Exchanging.{UnlessRefused}
 use Rattle.p2p_directory.specs.Exchange.{HasSpelling, CanBeReplied, CanBeSpelled}
 
 pub bits_are : {C S : Type 0} (x y : BitVec) → ◌≡◌ {A = Payload C S} (said.BitVec x) (said.BitVec y) → x ≡ y
 bits_are x y h = cc
 
 module _ {C S : Type 0} (IsKey : C → Type 0) (IsSignature : S → Type 0) (spelling : Payload C S → List ℕ) where
-  -- a part of an exchange that comes to the same
-  pub replies_alike : (comes comes2 : Standing C S → ℕ → ExchangeOutcome C S) →
-      ((asker : Standing C S) (now : ℕ) → comes2 asker now ≡ comes asker now) →
-      (r : Result (List ℕ) (Exchanged C S)) →
-      RepliesToBits IsKey IsSignature spelling comes r → RepliesToBits IsKey IsSignature spelling comes2 r
-  replies_alike comes comes2 same (Ok frame) h = (h.0, h.1, h.2, λ asker now. same asker now ∙ h.3 asker now)
-  replies_alike comes comes2 same (Err ended) h = (h.0, λ asker now. subst (λ o. IsExchangeAnswer true o ended) (sym (same asker now)) (h.1 asker now))
-
-  -- what is told has a spelling, where what follows from it has one
-  pub spelled_alike : {P Q : Type 0} (r : Result (List ℕ) (Exchanged C S)) → (P → Q) → UnlessReplyRefused P r → UnlessReplyRefused Q r
-  spelled_alike (Ok frame) f h = f h
-  spelled_alike (Err ended) f (inl h) = inl h
-  spelled_alike (Err ended) f (inr h) = inr (f h)
-
   -- all that is told has a spelling, where the bits have one and the infos for them
   pub all_spelled : (asker replier : Standing C S) (place now : ℕ) (frame : List ℕ) (r : Exchanged C S) (o : Option BitVec) → asker.bits place ≡ o →
       Some frame ≡ option_map (λ v. spelling (said.BitVec v)) o → IfSome o HasSpelling →
@@ -44,14 +28,6 @@ module _ {C S : Type 0} (IsKey : C → Type 0) (IsSignature : S → Type 0) (spe
         bits = subst (λ o. IfSome o HasSpelling) (sym is) fits;
         infos = subst (λ o. IfSome o (CanBeReplied IsKey IsSignature replier now)) (sym is) can;
       })
-
--- bits that the replier read, no more than its limit
-pub asked_read : {C S : Type 0} (asker replier : Standing C S) (asker_now now : ℕ) (v bits : BitVec) →
-    nat_lt replier.limits.max_bit_vec (length v.bits) ≡ false → bits ≡ v →
-    asked_at asker replier asker_now now (Some v) ≡ replied_at asker asker_now (replier.infos bits.index bits.bits now)
-asked_read asker replier asker_now now v bits below same =
-    ap (λ above. if above then AskRefused (InvalidLength (length v.bits)) else replied_at asker asker_now (replier.infos v.index v.bits now)) below
-    ∙ ap (λ (x : BitVec). replied_at asker asker_now (replier.infos x.index x.bits now)) (sym same)
 
 -- a frame that was asked with, and what came of handing it on
 pub handed : {C S : Type 0} (spelling : Payload C S → List ℕ) (asker replier : Standing C S)

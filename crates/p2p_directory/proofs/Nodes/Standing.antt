@@ -1,11 +1,10 @@
 -- A node stands where its server does.
-use Rattle.std.proofs.Common.{◌≡◌, true, List, Option, is_some, inl, inr, refl, sym, ◌∙◌, ap, subst}
+use Rattle.std.proofs.Common.{◌≡◌, List, Option, is_some, inl, refl, sym, ◌∙◌, ap, subst}
 use Rattle.std.specs.declared.cmp.Ordering.{Ordering}
 use Rattle.p2p_tracker.specs.declared.directory.Metadata.{Metadata}
 use Rattle.p2p_directory.specs.declared.run.commands.Command.{Command}
 use Rattle.p2p_directory.specs.declared.run.commands.Reply.{Reply}
-use Rattle.p2p_directory.specs.declared.run.commands.Reply.TheVariants as reply
-use Rattle.p2p_tracker.specs.Calls.{Settings, Call, may_reserve}
+use Rattle.p2p_tracker.specs.Calls.{Settings, Call}
 use Rattle.p2p_tracker.specs.World.{World}
 use Rattle.p2p_directory.specs.Held.{held_of}
 use Rattle.p2p_directory.specs.Refinement.{Refines}
@@ -80,11 +79,6 @@ stepped_by cmp x r n n2 v v2 directory held directory2 held2 limits verifier ser
     (served m calls n n2 v v2 (call_of x) r directory held directory2 held2 limits verifier
     (serves given.bootstrappers.items given.myself given.cfg calls)) at
 
--- room for what a command may be granted was refused
-pub no_room : {C S : Type 0} (m : Made C S) (calls : List (Call C S)) (n n2 : NodeView C S) (c : Call C S) →
-    n2 ≡ n → may_reserve c ≡ true → NodeStandsAt m calls n → IsSteppedAt m calls c reply.OutOfMemory n2
-no_room m calls n n2 c same reserves at = record { answer = inr (reserves, refl); left = subst (NodeStandsAt m calls) (sym same) at }
-
 -- IT STANDS SOMEWHERE after each step
 
 pub still : {C S : Type 0} (cmp : C → C → Ordering) (x : Command C S) (r : Reply C S) (n n2 : NodeView C S) →
@@ -96,15 +90,6 @@ still cmp x r n n2 somewhere steps =
       calls = next m.directory somewhere.calls (call_of x) r;
       stands = (steps somewhere.given somewhere.calls somewhere.stands).left;
     }
-
--- .. after a command that a server served: n is the node before it, n2 after it
-pub still_by : {C S : Type 0} (cmp : C → C → Ordering) (x : Command C S) (r : Reply C S) (n n2 : NodeView C S) (v v2 : ServerView C S) →
-    n.directory ≡ v.directory → ((q : C) → held_of cmp n.held q ≡ held_in cmp v.slots q) →
-    n2.directory ≡ v2.directory →
-    ((q : C) → held_of cmp n2.held q ≡ held_in cmp v2.slots q) → n2.limits ≡ n.limits →
-    n2.verifier ≡ n.verifier → serving.IsServed cmp x r v v2 → StandsSomewhere cmp n → StandsSomewhere cmp n2
-still_by cmp x r n n2 v v2 directory held directory2 held2 limits verifier serves somewhere =
-    still cmp x r n n2 somewhere (stepped_by cmp x r n n2 v v2 directory held directory2 held2 limits verifier serves)
 
 -- .. where nothing is seen to change
 pub still_same : {C S : Type 0} (cmp : C → C → Ordering) (n n2 : NodeView C S) → n2 ≡ n → StandsSomewhere cmp n → StandsSomewhere cmp n2

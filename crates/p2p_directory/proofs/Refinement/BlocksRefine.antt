@@ -17,9 +17,9 @@ use Rattle.p2p_tracker.specs.World.{World}
 use Rattle.p2p_tracker.specs.Step.{unblock_after, world_with}
 use Rattle.p2p_tracker.specs.Answers.{is_present_in, AreAll, IsLatestUpdate, is_blocked_at, AreBlocked, IsNextUnblock}
 use Rattle.p2p_tracker.specs.Answers.{IsAnyExpired, is_eligible_at, is_acceptable_at}
-use Rattle.p2p_tracker.specs.Lists.{Lists, IsLeastOf, Somebody}
+use Rattle.p2p_tracker.specs.Lists.{Lists, IsLeastOf}
 use Rattle.p2p_tracker.specs.Record.{is_myself, is_eligible, is_acceptable}
-use Rattle.p2p_tracker.specs.Directory.{is_blocked_in, may_block, if_later, is_free_and, is_named_of, AreAllOf}
+use Rattle.p2p_tracker.specs.Directory.{is_blocked_in, may_block, if_later, is_free_and, AreAllOf}
 use Rattle.p2p_tracker.specs.Directory.{IsUpdateOf, BlocksUntil, EndsBlocks}
 use Rattle.p2p_tracker.specs.Seen.{DirectoryView, record_of, unblock_of}
 use Rattle.p2p_directory.specs.Refinement.{Refines}
@@ -50,10 +50,6 @@ module _ {C S : Type 0} (s : Settings C S) where
   pub tie_blocked : (w : World C S) (d : DirectoryView C S) (t : ℕ) (ps : List C) → Refines s w d →
       Lists s.cmp (is_blocked_in s.cmp d t) ps → AreBlocked s w t ps
   tie_blocked w d t ps stands listed = lists_alike s.cmp (is_blocked_in s.cmp d t) (is_blocked_at s w t) ps (blocked_alike w d t stands) listed
-
-  pub tie_somebody_blocked : (w : World C S) (d : DirectoryView C S) (t : ℕ) → Refines s w d →
-      Somebody (is_blocked_in s.cmp d t) → Somebody (is_blocked_at s w t)
-  tie_somebody_blocked w d t stands some = somebody_alike (is_blocked_in s.cmp d t) (is_blocked_at s w t) (blocked_alike w d t stands) some
 
   pub tie_next_unblock : (w : World C S) (d : DirectoryView C S) (moment : Option ℕ) → Refines s w d →
       IsLeastOf (unblock_of s.cmp d) moment → IsNextUnblock s w moment
@@ -144,9 +140,6 @@ module _ {C S : Type 0} (s : Settings C S) where
 
   pub tie_all : (w : World C S) (d : DirectoryView C S) (all : TrackedPeers C S) → Refines s w d → AreAllOf s.cmp d all → AreAll s w all.primary all.secondary
   tie_all w d all stands told = subst (λ sets. AreAllOf s.cmp (record d { sets = sets }) all) stands.sets told
-
-  pub tie_named : (w : World C S) (d : DirectoryView C S) → Refines s w d → Somebody (is_named_of s.cmp d) → Somebody (λ p. is_named s p w.sets)
-  tie_named w d stands some = subst (λ sets. Somebody (is_named_of s.cmp (record d { sets = sets }))) stands.sets some
 
   pub tie_update : (w : World C S) (d : DirectoryView C S) (update : Option (PeerSetUpdate C S)) → Refines s w d →
       IsUpdateOf s.cmp d update → IsLatestUpdate s w (option_map update_in update)

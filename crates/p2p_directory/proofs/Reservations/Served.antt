@@ -10,7 +10,7 @@ use Rattle.p2p_discovery.specs.declared.discovery.Info.{Info}
 use Rattle.p2p_tracker.specs.declared.directory.Metadata.{Metadata}
 use Rattle.p2p_tracker.specs.declared.directory.Metadata.TheVariants as metadata
 use Rattle.p2p_directory.specs.declared.run.commands.Reply.TheVariants as reply
-use Rattle.p2p_tracker.specs.Calls.{Settings, Call, Event, may_reserve}
+use Rattle.p2p_tracker.specs.Calls.{Settings, Call, Event}
 use Rattle.p2p_tracker.specs.Calls.Call.{Track, Dial, Listen, Connect, Release, Update, Block, UnblockExpired, ForgetCooled}
 use Rattle.p2p_tracker.specs.Calls.Direction.{Listener, Dialer}
 use Rattle.p2p_tracker.specs.Calls.Event.{Nothing, SetTaken, Granted, Connected, Released, Updated, Blocked, Expired, Forgot}
@@ -242,13 +242,6 @@ module _ {C S : Type 0} (s : Settings C S) where
                 (Effects.connects s some exact cs v.directory v2.directory (held_in s.cmp v.slots) before p dialer may change);
           }
 
-      pub served_not_reserved : (p : C) (dialer : Bool) → has_status is_reserved (record_of s.cmp v.directory p) ≡ false →
-          v2.directory ≡ v.directory → v2.slots ≡ v.slots → IsCallServedAt s cs (Connect p dialer) reply.NotReserved v2
-      served_not_reserved p dialer unreserved directory slots = record {
-        answer = inr (ap (λ b. if b then reply.Connect else reply.NotReserved) (sym (reserved_is p false unreserved)));
-        left = same_views cs v v2 directory (same_slots slots) at;
-      }
-
       pub served_updated : (infos : List (Info C S)) → Updates s.cmp v.directory v2.directory infos →
           v2.slots ≡ v.slots → IsCallServedAt s cs (Update infos) reply.UpdatePeers v2
       served_updated infos change slots = record {
@@ -287,11 +280,6 @@ module _ {C S : Type 0} (s : Settings C S) where
   -- .. and that is served then
   pub alone : (cs : List (Call C S)) (c : Call C S) (r : Reply C S) (v : ServerView C S) → IsCallServedAt s cs c r v → IsCallSteppedAt s cs c r v
   alone cs c r v served = record { answer = inl served.answer; left = served.left }
-
-  -- .. where the allocation for it fails
-  pub no_slot : (cs : List (Call C S)) (c : Call C S) (v : ServerView C S) → may_reserve c ≡ true → StandsAt s cs v →
-      IsCallSteppedAt s cs c reply.OutOfMemory v
-  no_slot cs c v may at = record { answer = inr (may, refl); left = at }
 
   -- before any command nothing is held
   pub stands_at_start : (v : ServerView C S) → s.dial_fail_limit < 2 ^ 64 → v.directory.config ≡ config_of s →

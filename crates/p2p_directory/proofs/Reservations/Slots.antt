@@ -116,12 +116,6 @@ module _ {C S : Type 0} {cmp : C → C → Ordering} (total : IsTotalOrder cmp) 
       later q false e = subst (λ b. IfSome (cond b (Some slot.1) (slot_of cmp slots q)) (λ o. IfSome o (λ m. key_of m ≡ q)))
           e (are.keyed q)
 
-  -- the first goes, where it is empty
-  pub first_gone : (slots slots2 : List (C × Option (Metadata C S))) (slot : C × Option (Metadata C S)) →
-      slots ≡ slot ∷ slots2 → begins_full slots ≡ false → contents slots2 ≡ contents slots
-  first_gone slots slots2 (k, None) e empty = sym (ap contents e)
-  first_gone slots slots2 (k, Some m) e empty = absurd (let f = sym (ap begins_full e) ∙ empty in cc)
-
   -- what is left when the slot of p goes
   pub slots_without : (slots slots2 : List (C × Option (Metadata C S))) (p : C) → AreSlots cmp slots →
       IsStrictlySortedBy cmp (keys_of slots2) →
@@ -166,11 +160,6 @@ module _ {C S : Type 0} {cmp : C → C → Ordering} (total : IsTotalOrder cmp) 
           go false None e rest = rest e
           go false (Some x) e rest = let one = rest e in omega (arith, one)
 
-  pub none_full : (slots : List (C × Option (Metadata C S))) → BeginFull cmp slots → contents slots ≡ [] → slots ≡ []
-  none_full [] full none = refl
-  none_full ((k, None) ∷ slots) full none = absurd (let f = full.first in cc)
-  none_full ((k, Some m) ∷ slots) full none = absurd cc
-
   -- the first slot is that of the least peer of whom a reservation is held
   pub least_is : (slots : List (C × Option (Metadata C S))) (k : C) (o : Option (Metadata C S)) → BeginFull cmp slots →
       slice_get slots 0 ≡ Some (k, o) → Some k ≡ option_map key_of (slice_get (contents slots) 0)
@@ -213,11 +202,6 @@ module _ {C S : Type 0} {cmp : C → C → Ordering} (total : IsTotalOrder cmp) 
           let f : x ≡ (k, some.0) = cc in
           ap (λ (y : C × Option (Metadata C S)). cond (is_at (cmp k) y.0) (Some y.1) (slot_of cmp xs k)) f
           ∙ ap (λ r. cond (is_eq r) (Some some.0) (slot_of cmp xs k)) (tied_itself total k)
-
-  pub first_none : (slots : List (C × Option (Metadata C S))) (o : Option C) → IfNone o (slots ≡ []) →
-      IfNone o (contents slots ≡ [])
-  first_none slots None none = ap contents none
-  first_none slots (Some k) none = tt
 
   -- WHAT IS HELD, AS A LIST
 

@@ -1,6 +1,5 @@
 -- Serving a question answers by the calls accepted before.
-use Rattle.std.proofs.Common.{false, Vec, Global, ◌≡◌, ℕ, ◌≤◌, ◌<◌, Bool, true, List, Option, Some, None, inl, inr, refl, sym, ◌∙◌, ap, subst, length}
-use Rattle.std.specs.Prelude.{is_some, slice_get}
+use Rattle.std.proofs.Common.{false, Vec, Global, ◌≡◌, ℕ, ◌≤◌, ◌<◌, Bool, List, Option, inl, inr, refl, sym, ◌∙◌, ap, subst, length}
 use Rattle.std.specs.Option.{option_map}
 use Rattle.std.specs.Cmp.{IsTotalOrder}
 use Rattle.std.specs.List.Sorted.{IsStrictlySortedBy}
@@ -34,11 +33,11 @@ use Rattle.p2p_tracker.specs.Calls.Question.{StatusOf, NumberTracked, NextUnbloc
 use Rattle.p2p_tracker.specs.Calls.Question.{PeerSet, LatestIndex, AllPeers, LatestUpdate, InfoOf}
 use Rattle.p2p_tracker.specs.Calls.Question.{InfosFor, BitsAt, IsEligible, IsAcceptable, DialableAt}
 use Rattle.p2p_tracker.specs.Answers.{IsNumberTracked, is_dialable}
-use Rattle.p2p_tracker.specs.PeerSets.{set_with, has_peers}
+use Rattle.p2p_tracker.specs.PeerSets.{set_with}
 use Rattle.p2p_tracker.specs.Lists.{Lists, IsLeastOf, Somebody}
 use Rattle.p2p_tracker.specs.Record.{is_eligible, is_acceptable}
 use Rattle.p2p_tracker.specs.Directory.{peer_set_in, sharable_in, infos_in, bit_vec_at, other_keys, is_blocked_in}
-use Rattle.p2p_tracker.specs.Directory.{is_free_and, is_named_of, AreAllOf, IsUpdateOf, is_dialable_in, AreDialableIn}
+use Rattle.p2p_tracker.specs.Directory.{is_free_and, AreAllOf, IsUpdateOf, is_dialable_in, AreDialableIn}
 use Rattle.p2p_tracker.specs.Seen.{peers_of}
 use Rattle.p2p_directory.specs.Run.{MayWantToTell}
 use Rattle.p2p_tracker.proofs.Definitions.Listed.{somebody_alike}
@@ -46,9 +45,6 @@ use Rattle.p2p_directory.proofs.Reservations.Served.{same_views, idle}
 
 module _ {C S : Type 0} (s : Settings C S) where
   module _ (some : 1 ≤ s.max_sets) (exact : (p q : C) → s.cmp p q ≡ Equal → p ≡ q) where
-    some_unless : {A : Type 0} (o : Option A) → (o ≡ None → ⊥) → is_some o ≡ true
-    some_unless None none = absurd (none refl)
-    some_unless (Some a) none = refl
 
     -- ONE QUESTION: v before it, v2 after it
     module _ (cs : List (Call C S)) (v v2 : ServerView C S) (at : StandsAt s cs v) where
@@ -131,15 +127,6 @@ module _ {C S : Type 0} (s : Settings C S) where
         left = idle s some exact cs (Ask (BitsAt place)) v v2 refl directory slots at;
       }
 
-      -- .. refused memory
-      pub served_no_bits : (place : ℕ) → (slice_get v.directory.sets place ≡ None → ⊥) →
-          v2.directory ≡ v.directory → v2.slots ≡ v.slots →
-          IsCallServedAt s cs (Ask (BitsAt place)) reply.OutOfMemory v2
-      served_no_bits place some_set directory slots = record {
-        answer = inl (refl, sym (ap (λ sets. is_some (slice_get sets place)) at.refines.sets) ∙ some_unless (slice_get v.directory.sets place) some_set);
-        left = same_views s some exact cs v v2 directory (λ q. ap (λ slots. held_in s.cmp slots q) slots) at;
-      }
-
       pub served_tracked : IsTotalOrder s.cmp → (n : ℕ) → n ≡ length (other_keys v.directory.records) →
           IsStrictlySortedBy s.cmp (keys_of v.directory.records) → v2.directory ≡ v.directory →
           v2.slots ≡ v.slots → IsCallServedAt s cs (Ask NumberTracked) (reply.Tracked n) v2
@@ -170,13 +157,6 @@ module _ {C S : Type 0} (s : Settings C S) where
             left = idle s some exact cs (Ask (BlockedAt now)) v v2 refl directory slots at;
           }
 
-      pub served_no_blocked_peers : (now : ℕ) → Somebody (is_blocked_in s.cmp v.directory now) →
-          v2.directory ≡ v.directory → v2.slots ≡ v.slots →
-          IsCallServedAt s cs (Ask (BlockedAt now)) reply.OutOfMemory v2
-      served_no_blocked_peers now some directory slots =
-          unserved (BlockedAt now)
-          (BlocksRefine.tie_somebody_blocked s (world_after s cs) v.directory now at.refines some) directory slots
-
       pub served_peer_set : (index : ℕ) (peers : Option (TrackedPeers C S)) →
           peers ≡ peer_set_in v.directory index → v2.directory ≡ v.directory → v2.slots ≡ v.slots →
           IsCallServedAt s cs (Ask (PeerSet index)) (reply.GetPeerSet peers) v2
@@ -184,14 +164,6 @@ module _ {C S : Type 0} (s : Settings C S) where
         answer = inr (ap reply.GetPeerSet (is ∙ ap (λ sets. option_map peers_of (set_with index sets)) at.refines.sets));
         left = idle s some exact cs (Ask (PeerSet index)) v v2 refl directory slots at;
       }
-
-      pub served_no_peer_set : (index : ℕ) →
-          IsSomeAnd (set_with index v.directory.sets) (λ set. has_peers set ≡ true) → v2.directory ≡ v.directory →
-          v2.slots ≡ v.slots → IsCallServedAt s cs (Ask (PeerSet index)) reply.OutOfMemory v2
-      served_no_peer_set index some directory slots =
-          unserved (PeerSet index)
-          (subst (λ sets. IsSomeAnd (set_with index sets) (λ set. has_peers set ≡ true)) at.refines.sets some)
-          directory slots
 
       pub served_all : (all : TrackedPeers C S) → AreAllOf s.cmp v.directory all → v2.directory ≡ v.directory →
           v2.slots ≡ v.slots → IsCallServedAt s cs (Ask AllPeers) (reply.All all) v2
@@ -202,10 +174,6 @@ module _ {C S : Type 0} (s : Settings C S) where
                 idle s some exact cs (Ask AllPeers) v v2 refl directory slots at;
           }
 
-      pub served_no_all : Somebody (is_named_of s.cmp v.directory) → v2.directory ≡ v.directory →
-          v2.slots ≡ v.slots → IsCallServedAt s cs (Ask AllPeers) reply.OutOfMemory v2
-      served_no_all named directory slots = unserved AllPeers (BlocksRefine.tie_named s (world_after s cs) v.directory at.refines named) directory slots
-
       pub served_update : (update : Option (PeerSetUpdate C S)) → IsUpdateOf s.cmp v.directory update →
           v2.directory ≡ v.directory → v2.slots ≡ v.slots →
           IsCallServedAt s cs (Ask LatestUpdate) (reply.LatestUpdate update) v2
@@ -215,10 +183,6 @@ module _ {C S : Type 0} (s : Settings C S) where
             left =
                 idle s some exact cs (Ask LatestUpdate) v v2 refl directory slots at;
           }
-
-      pub served_no_update : Somebody (is_named_of s.cmp v.directory) → v2.directory ≡ v.directory →
-          v2.slots ≡ v.slots → IsCallServedAt s cs (Ask LatestUpdate) reply.OutOfMemory v2
-      served_no_update named directory slots = unserved LatestUpdate (BlocksRefine.tie_named s (world_after s cs) v.directory at.refines named) directory slots
 
       pub served_eligible : (p : C) (now : ℕ) (b : Bool) → b ≡ is_free_and s.cmp is_eligible v.directory now p →
           v2.directory ≡ v.directory → v2.slots ≡ v.slots →

@@ -108,14 +108,6 @@ eight_small bits j =
           (omega (arith, length-take 8 (drop (8 * j) bits))),
     )
 
-pub packed_bytes : (bits : List Bool) → IsBytes (packed bits)
-packed_bytes bits j =
-    elim (cases_lt j (byte_count (length bits))) [
-      | inl lt ↦ rw (byte_is bits j 0 lt) (eight_small bits j)
-      | inr le ↦
-          rw (get_or_past (packed bits) j 0 (omega (arith, length-packed bits))) (omega arith)
-    ]
-
 pub bit_in-packed : (bits : List Bool) (i : ℕ) → bit_in (packed bits) i ≡ get_or bits i false
 bit_in-packed bits i =
     let at : 8 * (i / 8) + i % 8 ≡ i = omega arith in
@@ -130,12 +122,6 @@ bit_in-packed bits i =
           ∙ ap (λ n. eqb n 1) (bit_at-zero (i % 8))
           ∙ sym (get_or_past bits i false (omega arith))
     ]
-
-pub is_packed : (bits : List Bool) → IsPacked (length bits) (packed bits)
-is_packed bits = record {
-  len = length-packed bits;
-  rest = λ i h. bit_in-packed bits i ∙ get_or_past bits i false h;
-}
 
 -- bits are unpacked from the bytes that they are packed into
 pub bits_in-packed : (bits : List Bool) → bits_in (packed bits) (length bits) ≡ bits

@@ -1,13 +1,13 @@
 -- What is shared of peers with their bits is found by a search for each key that may have something to share.
 use Rattle.std.proofs.Common.{◌≡◌, Bool, true, false, ◌||◌, cond, ℕ, zero, suc, ◌<◌, List, [], ◌∷◌, length, Option, Some, None}
-use Rattle.std.proofs.Common.{refl, sym, ◌∙◌, ap, subst, not, zip, filter_map, slice_get, arith}
+use Rattle.std.proofs.Common.{refl, sym, ◌∙◌, ap, subst, zip, filter_map, slice_get, arith}
 use Rattle.std.specs.Prelude.{◌==◌, nat_le, slice_index_or, if◌then◌else◌}
 use Rattle.std.specs.BTreeMap.{is_at}
 use Rattle.std.specs.Cmp.{IsTotalOrder}
 use Rattle.std.specs.List.{AllByRecursion, cons_option}
 use Rattle.std.specs.List.Sorted.{IsStrictlySortedBy}
 use Rattle.std.specs.Map.{lookup, keys_of}
-use Rattle.std.specs.Option.{option_and_then, option_map_or}
+use Rattle.std.specs.Option.{option_and_then}
 use Rattle.std.specs.Ordering.{is_eq, match_ordering, ordering_reverse}
 use Rattle.std.specs.declared.cmp.Ordering.{Ordering}
 use Rattle.std.specs.declared.cmp.Ordering.TheVariants.{Less, Equal, Greater}
@@ -20,14 +20,8 @@ use Rattle.std.proofs.lemmas.Map.Lookups.{CmpEqualImpliesEq}
 use Rattle.std.proofs.lemmas.Bool.{or_parts, or_from}
 use Rattle.p2p_discovery.specs.Ordered.{has_key, IsPlaceOf}
 use Rattle.p2p_discovery.proofs.Truth.{Equal-from_is_eq}
-use Rattle.p2p_tracker.specs.declared.record.Address.{Address}
-use Rattle.p2p_tracker.specs.declared.record.Address.TheVariants.{Unknown, Myself, Bootstrapper, Discovered}
-use Rattle.p2p_tracker.specs.declared.record.Status.{Status}
-use Rattle.p2p_tracker.specs.declared.record.Status.TheVariants.{Inert, Reserved, Active}
-use Rattle.p2p_tracker.specs.Status.{is_inert}
-use Rattle.p2p_tracker.specs.Record.{is_myself, sharable_by}
 use Rattle.p2p_tracker.specs.Seen.{RecordView, record_at}
-use Rattle.p2p_tracker.specs.Directory.{is_busy, shared_at, shared_of, shared_for, sharable_of_record}
+use Rattle.p2p_tracker.specs.Directory.{shared_at, shared_of, shared_for, sharable_of_record}
 use Rattle.p2p_tracker.specs.Private.Among.{shared_with, with_key}
 use Rattle.p2p_tracker.proofs.SetsAndRecords.Asked.{sorted_zip}
 use Rattle.p2p_tracker.proofs.SetsAndRecords.Walked.{behind_equal, behind_greater}
@@ -234,32 +228,3 @@ module _ {C : Type 0} {cmp : C → C → Ordering} (total : IsTotalOrder cmp) wh
         at_place = sym (exact q p (Equal-from_is_eq (cmp q p) e));
       }))
       go false e rest = rest
-
--- WHO HAS NOTHING TO SHARE
-
-idle_if : (busy has : Bool) → (busy ≡ true → has ≡ true) → has ≡ false → busy ≡ false
-idle_if true has held none = absurd (let f = sym none ∙ held refl in cc)
-idle_if false has held none = refl
-
-module _ {C S : Type 0} where
-  unshared : (o : Option (RecordView C S)) → option_map_or (λ r. is_myself r.address) o false ≡ false → is_busy o ≡ false →
-      option_and_then sharable_of_record o ≡ None
-  unshared None other idle = refl
-  unshared (Some r) other idle = go r.status r.address other idle
-    where
-      go : (status : Status) (address : Address C S) → is_myself address ≡ false → not (is_inert status) ≡ false →
-          sharable_by status address ≡ None
-      go Inert (Myself info) other idle = absurd cc
-      go Inert Unknown other idle = refl
-      go Inert (Bootstrapper ingress) other idle = refl
-      go Inert (Discovered info fails) other idle = refl
-      go Reserved address other idle = absurd cc
-      go Active address other idle = absurd cc
-
-  -- whoever is neither the local node nor reserved or connected
-  pub nobody_shares : (own : C → Bool) (record_at : C → Option (RecordView C S)) (has : C → Bool) →
-      ((q : C) → option_map_or (λ r. is_myself r.address) (record_at q) false ≡ own q) →
-      ((q : C) → is_busy (record_at q) ≡ true → has q ≡ true) →
-      (q : C) → own q ≡ false → has q ≡ false → option_and_then sharable_of_record (record_at q) ≡ None
-  nobody_shares own record_at has mine busy q other none =
-      unshared (record_at q) (mine q ∙ other) (idle_if (is_busy (record_at q)) (has q) (busy q) none)

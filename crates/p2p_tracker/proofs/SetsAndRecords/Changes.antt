@@ -25,14 +25,12 @@ use Rattle.p2p_tracker.specs.Record.{is_myself, is_named_or_persistent, is_outbo
 use Rattle.p2p_tracker.specs.Record.{has_valid_ingress, ingress_of, may_be_dialled, reserve_answer, is_eligible}
 use Rattle.p2p_tracker.specs.Record.{is_grant, may_come, wants_by, is_deletable, reserved_record, unless_deletable}
 use Rattle.p2p_tracker.specs.Record.{after_failure, after_success, address_after_update, address_after_offer}
-use Rattle.p2p_tracker.specs.Seen.{RecordView, ConfigView, DirectoryView, record_of}
+use Rattle.p2p_tracker.specs.Seen.{RecordView, ConfigView, DirectoryView}
 use Rattle.p2p_tracker.specs.Status.{is_active, is_inert}
-use Rattle.p2p_tracker.specs.Directory.{has_status, ChangesAt, ChangesRecord}
+use Rattle.p2p_tracker.specs.Directory.{ChangesAt, ChangesRecord}
 use Rattle.p2p_tracker.specs.Directory.{is_known, released_record, address_after_release, kept_after_release, connected_record, updated_record}
 use Rattle.p2p_tracker.specs.Private.Window.{SetWithBits, plain_sets, sets_with_bits, bits_with, with_bit_of}
-use Rattle.p2p_tracker.specs.declared.record.Role.TheVariants.{Primary, Secondary}
-use Rattle.p2p_tracker.specs.PeerSets.{set_count}
-use Rattle.p2p_tracker.specs.Private.Dialling.{dialled_of, is_primary_record, is_secondary_record, is_record_in_set}
+use Rattle.p2p_tracker.specs.Private.Dialling.{dialled_of}
 use Rattle.p2p_tracker.specs.Private.Counts.{IsConsistent, HasOwn, AreMarked, IsInvariant}
 use Rattle.p2p_tracker.proofs.SetsAndRecords.Counting
 use Rattle.p2p_tracker.proofs.SetsAndRecords.Counting.{one}
@@ -128,11 +126,6 @@ module _ {C S : Type 0} where
       wants (Bootstrapper ingress) e = refl
       wants (Discovered info fails) e = ap (λ b. not b && nat_le limit fails) (sym e)
 
-  -- no infos change no record
-  pub updated_none : (o : Option (RecordView C S)) → o ≡ option_map (updated_record []) o
-  updated_none None = refl
-  updated_none (Some r) = refl
-
   -- one more info is offered after those before, where it is of the record's peer
   pub updated_more : (here : Bool) (infos : List (Info C S)) (i : Info C S)
       (old now new : Option (RecordView C S)) → now ≡ option_map (updated_record infos) old →
@@ -210,42 +203,6 @@ module _ {C S : Type 0} (cmp : C → C → Ordering) where
       go : (o : Option (RecordView C S)) → IfSome o (λ r. is_deletable r ≡ false) → IfSome o (λ r. is_myself r.address ≡ true → r.persistent ≡ true) → IsSound o
       go None e f = tt
       go (Some r) e f = (e, f)
-
-  -- whether a record is in a set, by the sets
-  pub primary_by_sets : (max : ℕ) (sets : List (SetAt C)) (old : C → Option (RecordView C S)) →
-      IsConsistent cmp max sets old → (q : C) →
-      option_map_or is_primary_record (old q) false ≡ nat_lt 0 (set_count cmp Primary q sets)
-  primary_by_sets max sets old was q = go (old q) ∙ ap (nat_lt 0) (was.counts q).0
-    where
-      go : (o : Option (RecordView C S)) → option_map_or is_primary_record o false ≡ nat_lt 0 (option_map_or (λ r. r.primary_sets) o 0)
-      go None = refl
-      go (Some r) = refl
-
-  pub secondary_by_sets : (max : ℕ) (sets : List (SetAt C)) (old : C → Option (RecordView C S)) → IsConsistent cmp max sets old → (q : C) →
-      option_map_or is_secondary_record (old q) false ≡ (nat_lt 0 (set_count cmp Secondary q sets) && not (nat_lt 0 (set_count cmp Primary q sets)))
-  secondary_by_sets max sets old was q = go (old q) ∙ (λ i. nat_lt 0 ((was.counts q).1 i) && not (nat_lt 0 ((was.counts q).0 i)))
-    where
-      go : (o : Option (RecordView C S)) →
-          option_map_or is_secondary_record o false
-          ≡ (nat_lt 0 (option_map_or (λ r. r.secondary_sets) o 0) && not
-          (nat_lt 0 (option_map_or (λ r. r.primary_sets) o 0)))
-      go None = refl
-      go (Some r) = refl
-
-  pub named_by_sets : (max : ℕ) (sets : List (SetAt C)) (old : C → Option (RecordView C S)) → IsConsistent cmp max sets old → (q : C) →
-      option_map_or is_record_in_set (old q) false ≡ true → (nat_lt 0 (set_count cmp Primary q sets) || nat_lt 0 (set_count cmp Secondary q sets)) ≡ true
-  named_by_sets max sets old was q e = (λ i. nat_lt 0 (sym (was.counts q).0 i) || nat_lt 0 (sym (was.counts q).1 i)) ∙ go (old q) e
-    where
-      either : (p q : Bool) → (p || (q && not p)) ≡ true → (p || q) ≡ true
-      either true q e = refl
-      either false true e = refl
-      either false false e = e
-
-      go : (o : Option (RecordView C S)) → option_map_or is_record_in_set o false ≡ true →
-          (nat_lt 0 (option_map_or (λ r. r.primary_sets) o 0) || nat_lt 0
-          (option_map_or (λ r. r.secondary_sets) o 0)) ≡ true
-      go None e = absurd cc
-      go (Some r) e = either (nat_lt 0 r.primary_sets) (nat_lt 0 r.secondary_sets) e
 
   pub counts_kept : (max : ℕ) (sets : List (SetAt C)) (old new : C → Option (RecordView C S)) →
       IsConsistent cmp max sets old → ((q : C) → IsKept (old q) (new q)) → IsConsistent cmp max sets new
@@ -432,22 +389,3 @@ module _ {C S : Type 0} (cmp : C → C → Ordering) where
             cooldowns;
       }) p f) view
       (record { config = refl; sets = ap plain_sets anew ∙ plain_with_bit cmp p b window; blocks = refl; cooldowns = refl; records = change })
-
-  -- whose status passes a test does so again, where the one record that changes does
-  pub status_after_change : (test : Status → Bool) (d d2 : DirectoryView C S) (p : C)
-      (f : Option (RecordView C S) → Option (RecordView C S)) → ChangesRecord cmp d d2 p f →
-      ((o : Option (RecordView C S)) → has_status test o ≡ true → has_status test (f o) ≡ true) → (q : C) →
-      has_status test (record_of cmp d q) ≡ true → has_status test (record_of cmp d2 q) ≡ true
-  status_after_change test d d2 p f change stays q before = ap (has_status test) (change.records q) ∙ go (is_at (cmp p) q)
-    where
-      go : (here : Bool) → has_status test (if here then f (record_of cmp d q) else record_of cmp d q) ≡ true
-      go true = stays (record_of cmp d q) before
-      go false = before
-
-  -- .. and where it is another's
-  pub others_status : (test : Status → Bool) (d d2 : DirectoryView C S) (p : C) (f : Option (RecordView C S) →
-      Option (RecordView C S)) → ChangesRecord cmp d d2 p f →
-      (q : C) → is_at (cmp p) q ≡ false → has_status test (record_of cmp d q) ≡ true → has_status test (record_of cmp d2 q) ≡ true
-  others_status test d d2 p f change q other before =
-      ap (has_status test) (change.records q ∙ (λ i. if other i then f (record_of cmp d q) else record_of cmp d q))
-      ∙ before

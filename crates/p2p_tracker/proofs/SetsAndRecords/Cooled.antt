@@ -1,6 +1,6 @@
 -- The moments of records are those that are kept of their peers: calls keep it so.
 use Rattle.std.proofs.Common.{◌≡◌, ℕ, Bool, true, false, ◌||◌, cond, List, [], ◌∷◌, filter, Option, Some, None}
-use Rattle.std.proofs.Common.{IfSome, sym, ap, subst, refl, ◌∙◌}
+use Rattle.std.proofs.Common.{IfSome, sym, ap, refl, ◌∙◌}
 use Rattle.std.specs.Prelude.{if◌then◌else◌, nat_le}
 use Rattle.std.specs.declared.cmp.Ordering.{Ordering}
 use Rattle.std.specs.Option.{option_map}
@@ -9,7 +9,6 @@ use Rattle.std.specs.Map.{keys_of}
 use Rattle.p2p_discovery.specs.declared.discovery.Info.{Info}
 use Rattle.p2p_discovery.specs.declared.types.ingress.Ingress.{Ingress}
 use Rattle.p2p_tracker.specs.declared.record.Address.TheVariants.{Myself, Bootstrapper}
-use Rattle.p2p_tracker.specs.declared.record.Status.{Status}
 use Rattle.p2p_tracker.specs.declared.directory.Metadata.{Metadata}
 use Rattle.p2p_tracker.specs.Calls.{SetAt, Cooldown}
 use Rattle.p2p_tracker.specs.Lists.{last_ingress_by}
@@ -20,13 +19,10 @@ use Rattle.p2p_tracker.specs.Seen.{RecordView}
 use Rattle.p2p_tracker.specs.Moments.{moments_after}
 use Rattle.p2p_tracker.specs.PeerSets.{set_count}
 use Rattle.p2p_tracker.specs.declared.record.Role.TheVariants.{Primary, Secondary}
-use Rattle.p2p_tracker.specs.Directory.{first_record, is_known, has_status, released_record, kept_after_release}
+use Rattle.p2p_tracker.specs.Directory.{first_record, released_record, kept_after_release}
 use Rattle.p2p_tracker.specs.Directory.{connected_record, updated_record, record_with_sets}
 use Rattle.p2p_discovery.specs.Ordered.{has_key}
-use Rattle.p2p_tracker.specs.Private.Window.{SetWithBits}
-use Rattle.p2p_tracker.specs.Private.Counts.{AreCooled, IsDirectoryInvariant, changed_if, cleared_at}
-use Rattle.p2p_tracker.proofs.SetsAndRecords.Changes.{IsSound, IsKept, kept_same, each_sound, bits_same}
-use Rattle.p2p_tracker.proofs.SetsAndRecords.Changes.{changed_with_bits}
+use Rattle.p2p_tracker.specs.Private.Counts.{AreCooled, changed_if, cleared_at}
 
 module _ {C S : Type 0} where
   -- what is kept has these moments
@@ -87,22 +83,6 @@ module _ {C S : Type 0} where
           ≡ (if b then option_map (with_cooldown None) old else old)
       go true = refl
       go false = sym has
-
-  kept_cooled : (k : Option Cooldown) (o : Option (RecordView C S)) → IsSound o →
-      IsKept o (option_map (with_cooldown k) o)
-  kept_cooled k None sound = kept_same None sound
-  kept_cooled k (Some r) sound = record { sound = sound; primary = refl; secondary = refl; own = refl }
-
-  known_cooled : (limit : ℕ) (k : Option Cooldown) (o : Option (RecordView C S)) →
-      is_known limit (option_map (with_cooldown k) o) ≡ is_known limit o
-  known_cooled limit k None = refl
-  known_cooled limit k (Some r) = refl
-
-  -- moments leave each status
-  pub status_with_moments : (test : Status → Bool) (k : Option Cooldown) (o : Option (RecordView C S)) →
-      has_status test (option_map (with_cooldown k) o) ≡ has_status test o
-  status_with_moments test k None = refl
-  status_with_moments test k (Some r) = refl
 
 module _ {C S : Type 0} (cmp : C → C → Ordering) where
   -- moments that have cooled are cleared, of one peer and of the others
@@ -189,23 +169,6 @@ module _ {C S : Type 0} (cmp : C → C → Ordering) where
           (if b then option_map (reserved_record now draw cooldown) (old q) else old q)
       go true = granted (old q)
       go false = was q
-
-  -- each record is given the moments that are kept
-  pub cooled_anew : {me : C} (max limit : ℕ) (window : List (SetWithBits C)) (old new : C →
-      Option (RecordView C S)) (cooldowns cooldowns2 : C → Option Cooldown) →
-      IsDirectoryInvariant cmp max limit me window old cooldowns →
-      ((q : C) → new q ≡ option_map (with_cooldown (cooldowns2 q)) (old q)) →
-      IsDirectoryInvariant cmp max limit me window new cooldowns2
-  cooled_anew max limit window old new cooldowns cooldowns2 was change = record {
-    whole =
-        changed_with_bits cmp max limit window window old new was.whole
-        (λ q. subst (IsKept (old q)) (sym (change q)) (kept_cooled (cooldowns2 q) (old q)
-        (each_sound cmp max limit window old was.whole q))) refl
-        (bits_same cmp limit window old new was.whole.bits (λ q. ap (is_known limit) (change q)
-        ∙ known_cooled limit (cooldowns2 q) (old q)));
-    cooled = λ q. change q ∙ given (cooldowns2 q) (old q)
-        ∙ ap (option_map (with_cooldown (cooldowns2 q))) (sym (change q));
-  }
 
   -- these are the sets
   pub cooled_with_sets : (sets : List (SetAt C)) (k : Option Cooldown) (q : C) (o : Option (RecordView C S)) →

@@ -230,10 +230,6 @@ unblock_gone cmp old new key gone q =
     ∙ gone-in_nanos (is_at (cmp key) q) (lookup (is_at (cmp q)) old)
     ∙ ap (cond (is_at (cmp key) q) None) (sym (lookup-in_nanos (is_at (cmp q)) old))
 
-pub none_in_nanos : {C : Type 0} (es : List (C × Duration)) → in_nanos es ≡ [] → es ≡ []
-none_in_nanos [] e = refl
-none_in_nanos (x ∷ es) e = absurd cc
-
 pub removed-in_nanos : {C : Type 0} (test : C → Bool) (es : List (C × Duration)) →
     in_nanos (remove_entry test es) ≡ remove_entry test (in_nanos es)
 removed-in_nanos test [] = refl
@@ -327,9 +323,6 @@ module _ {C : Type 0} (now : ℕ) where
 
 pub same_or_none : {m : ℕ} {o : Option ℕ} → o ≡ None → (n : ℕ) → until n o ≡ true → n ≡ m
 same_or_none e n f = absurd (let g = sym (ap (until n) e) ∙ f in cc)
-
-pub same_or_other : {m : ℕ} {o : Option ℕ} → o ≡ Some m → (n : ℕ) → until n o ≡ true → n ≡ m
-same_or_other {m} e n f = let g : nat_eq n m ≡ true = sym (ap (until n) e) ∙ f in grind (arith, nat_tests)
 
 -- who is first where a list may be empty
 pub none_first : {A B : Type 0} (o : Option B) (xs : List A) → o ≡ None → IsSome o ↔ (0 < length xs) → xs ≡ []

@@ -134,11 +134,6 @@ left_step test all e left left2 is whole any = whole (ap (list_any test) is ∙ 
     go true = refl
     go false = any
 
--- .. and so is the next one
-pub left_here : {A : Type 0} (test : A → Bool) (all : Bool) (e : A) (left left2 : List A) → left ≡ e ∷ left2 →
-    (list_any test left ≡ true → all ≡ true) → test e ≡ true → all ≡ true
-left_here test all e left left2 is whole here = whole (ap (list_any test) is ∙ ap (λ b. b || list_any test left2) here)
-
 -- LEAST MOMENTS
 
 pub earliest_assoc : (a b c : Option ℕ) → earliest (earliest a b) c ≡ earliest a (earliest b c)

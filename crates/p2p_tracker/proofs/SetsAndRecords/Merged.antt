@@ -56,12 +56,6 @@ module _ {C : Type 0} {cmp : C → C → Ordering} (total : IsTotalOrder cmp) (k
     less_before less = ap (before_key cmp key) here
         ∙ ap (λ o. cond (is_lt o) (e ∷ before_key cmp key (drop (i + 1) es)) (before_key cmp key (drop (i + 1) es))) less
 
-    pub less_behind : cmp e.0 key ≡ Less →
-        behind_key cmp key (drop i es) ≡ behind_key cmp key (drop (i + 1) es)
-    less_behind less = ap (behind_key cmp key) here
-        ∙ ap (λ o. cond (is_lt o) (e ∷ behind_key cmp key (drop (i + 1) es)) (behind_key cmp key (drop (i + 1) es)))
-        (total.antisymm key e.0 ∙ ap ordering_reverse less)
-
     pub less_met : cmp e.0 key ≡ Less →
         place_of cmp (drop i es) key ≡ place_of cmp (drop (i + 1) es) key
     less_met less = ap (λ l. place_of cmp l key) here

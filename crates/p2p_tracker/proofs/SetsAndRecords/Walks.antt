@@ -69,13 +69,6 @@ met_at before (n ∷ ns) (l ∷ ls) zero p up e low is =
 met_at before (n ∷ ns) (l ∷ ls) (suc i) p up e low is =
     met_at (met_in before n l) ns ls i p up.1 e.1 (omega (arith, low)) is
 
--- a place in the first set is all that a walk from it meets
-pub only_first : (n : ℕ) (l : List (Option Place)) (ns : List ℕ) (ls : List (List (Option Place))) (p : Place) →
-    has_index ns n ≡ false → (n == p.set) ≡ true → walk (n ∷ ns) (l ∷ ls) (Some p) ≡ p ∷ []
-only_first n l ns ls p none here =
-    passed (met_in (λ o. []) n l) ns ls (Some p) (ap (has_index ns) (sym (eqb-true n p.set here)) ∙ none)
-    ∙ ap (λ b. cond b ([] ++ p ∷ []) []) here
-
 -- as many lists as sets
 pub as_many : (ns : List ℕ) (ls : List (List (Option Place))) → AreEarlier ns ls → length ns ≡ length ls
 as_many [] [] e = refl

@@ -1,10 +1,8 @@
-use Rattle.std.proofs.Common.{Ok, ◌+◌, ◌≤◌, ◌∙◌, arith, subst, ℕ}
-use Rattle.std.proofs.lemmas.Result.{IfOk-weaker, IfErr-weaker}
+use Rattle.std.proofs.lemmas.Result.{IfOk-weaker}
 use Rattle.std.specs.Duration.{as_nanos}
 use Rattle.p2p_discovery.specs.Reading.{whole}
 use Rattle.p2p_directory.specs.Received.{received_of}
-use Rattle.p2p_session.specs.Frames.{greeter_in, HasKey, Hears, IsNamedAtEnd, MayRefuse, verdicts_in}
-use Rattle.p2p_session.specs.Given.{moment_at}
+use Rattle.p2p_session.specs.Frames.{greeter_in, HasKey, Hears, IsNamedAtEnd}
 use Rattle.p2p_session.proofs.Greeters.{named}
 use Rattle.p2p_session.proofs.frames.hear.Goals as goal
 use Rattle.p2p_session.specs.Schemes.{wire, scheme_by}
@@ -30,18 +28,3 @@ returns-clause-named g c =
     (λ a h. (named (scheme_by g.C.PartialOrd g.C.Ord g.C.PartialEq g.C.FixedBytes g.C.PublicKey g.C.Signature.PartialEq g.C.Signature.FixedBytes) g.met.C.FixedBytes.fixed g.met.C.Signature.FixedBytes.fixed c.deref.result.now c.args.frame.now now c.args.node.now c.process.new.node (received_of (wire (scheme_by g.C.PartialOrd g.C.Ord g.C.PartialEq g.C.FixedBytes g.C.PublicKey g.C.Signature.PartialEq g.C.Signature.FixedBytes)) a)
     c.are_bytes.ensures h.seen).1)
     c.process.ensures.heard
-
-pub returns-clause-refused : goal.returns-clause-refused
-returns-clause-refused g c =
-    let node = c.args.node.now in
-    let frame = c.args.frame.now in
-    let verdicts = verdicts_in c.args.verdicts.now in
-    let now = as_nanos c.in_ok-now.now in
-    let room = c.args.room in
-    IfErr-weaker c.process.result
-    (λ why. (t room : ℕ) → 1 + g.C.FixedBytes.SIZE ≤ room → MayRefuse (scheme_by g.C.PartialOrd g.C.Ord g.C.PartialEq g.C.FixedBytes g.C.PublicKey g.C.Signature.PartialEq g.C.Signature.FixedBytes) node c.deref.result.now frame (Ok t) room why)
-    (λ why. MayRefuse (scheme_by g.C.PartialOrd g.C.Ord g.C.PartialEq g.C.FixedBytes g.C.PublicKey g.C.Signature.PartialEq g.C.Signature.FixedBytes) node verdicts frame (moment_at c.args.time.0 c.args.time.1) room why)
-    (λ why h. subst (λ m. MayRefuse (scheme_by g.C.PartialOrd g.C.Ord g.C.PartialEq g.C.FixedBytes g.C.PublicKey g.C.Signature.PartialEq g.C.Signature.FixedBytes) node verdicts frame m room why) c.in_ok-now.ensures
-    (subst (λ vs. MayRefuse (scheme_by g.C.PartialOrd g.C.Ord g.C.PartialEq g.C.FixedBytes g.C.PublicKey g.C.Signature.PartialEq g.C.Signature.FixedBytes) node vs frame (Ok now) room why) (c.deref.ensures.value ∙ c.in_ok-verdicts.ensures)
-    (h now room (omega (arith, c.if-room-SIZE.false)))))
-    c.process.ensures.refused

@@ -1,6 +1,6 @@
 use Rattle.std.proofs.Common.{ℕ, List, ap, take, drop, ◌≡◌, ◌-◌, arith, length, ◌+◌, ◌≤◌}
 use Rattle.std.proofs.lemmas.List.{length-append, length-drop}
-use Rattle.p2p_session.proofs.Keys.{key_read, no_key_read}
+use Rattle.p2p_session.proofs.Keys.{key_read}
 use Rattle.p2p_session.specs.Schemes.{scheme_by}
 use Rattle.p2p_session.proofs.given.key_in.Goals as goal
 
@@ -20,11 +20,4 @@ returns-clause-some g c =
     let long : c.args.at + g.C.FixedBytes.SIZE ≤ length c.args.bytes.now = omega (arith, c.if-bytes-at.false, c.requires, c.SIZE.ensures) in
     let size : c.args.at + c.SIZE-2.result - c.args.at ≡ g.C.FixedBytes.SIZE = omega (arith, c.SIZE-2.ensures) in
     key_read (scheme_by g.C.PartialOrd g.C.Ord g.C.PartialEq g.C.FixedBytes g.C.PublicKey g.C.Signature.PartialEq g.C.Signature.FixedBytes) g.met.C.FixedBytes.fixed
-    c.args.bytes.now _ c.args.at long (ap (λ n. take n (drop c.args.at c.args.bytes.now)) size) c.are_bytes.ensures c.read_fixed.result c.read_fixed.ensures
-
-pub returns-clause-none : goal.returns-clause-none
-returns-clause-none g c =
-    let long : c.args.at + g.C.FixedBytes.SIZE ≤ length c.args.bytes.now = omega (arith, c.if-bytes-at.false, c.requires, c.SIZE.ensures) in
-    let size : c.args.at + c.SIZE-2.result - c.args.at ≡ g.C.FixedBytes.SIZE = omega (arith, c.SIZE-2.ensures) in
-    no_key_read (scheme_by g.C.PartialOrd g.C.Ord g.C.PartialEq g.C.FixedBytes g.C.PublicKey g.C.Signature.PartialEq g.C.Signature.FixedBytes) g.met.C.FixedBytes.fixed
     c.args.bytes.now _ c.args.at long (ap (λ n. take n (drop c.args.at c.args.bytes.now)) size) c.are_bytes.ensures c.read_fixed.result c.read_fixed.ensures

@@ -8,9 +8,6 @@ pub returns-clause-lists : goal.returns-clause-lists
 returns-clause-lists g c = λ s order test xs ys.
     Listed.one_list s (subst IsTotalOrder (sym order) g.met.C.Ord.total) (exact_from s g.C.Ord.cmp order g.met.C.PublicKey.exact) test xs ys
 
-pub returns-clause-moments : goal.returns-clause-moments
-returns-clause-moments g c = λ s moment a b. Listed.one_least s moment a b
-
 pub returns-clause-numbers : goal.returns-clause-numbers
 returns-clause-numbers g c = λ s order w m n.
     Listed.one_number s (subst IsTotalOrder (sym order) g.met.C.Ord.total) (exact_from s g.C.Ord.cmp order g.met.C.PublicKey.exact) w m n

@@ -12,7 +12,6 @@ use Rattle.p2p_tracker.specs.Seen.{RecordView, record_of, key_of}
 use Rattle.p2p_tracker.specs.Directory.{first_record, may_block, may_listen_in, may_dial_in, ingress_in}
 use Rattle.p2p_tracker.specs.Directory.{IsReserved, Reserves, Connects, Releases, Updates, TakesSet}
 use Rattle.p2p_tracker.specs.Directory.{AreTornDown, BlocksUntil, EndsBlocks, ForgetsCooled}
-use Rattle.p2p_directory.specs.Held.{AreHeld}
 use Rattle.p2p_directory.specs.Run.{world_after, event_of}
 use Rattle.p2p_directory.specs.Laws.Effects.{AddsHeld, DropsHeld, DirectoryStandsAt, granted_after}
 use Rattle.p2p_directory.proofs.Refinement.KnowledgeRefines.{tie_reserved}
@@ -92,7 +91,3 @@ returns-clause-forgets g c = λ s order some cs old new held now at.
 pub returns-clause-asks : goal.returns-clause-asks
 returns-clause-asks g c = λ s order some cs d held question at.
     Effects.idle s some (subst CmpEqualImpliesEq (sym order) g.met.C.PublicKey.exact) cs d d held at (Ask question) held refl refl (λ q. refl)
-
-pub returns-clause-agree : goal.returns-clause-agree
-returns-clause-agree g c = λ s order cs d held at.
-    subst (λ cmp. AreHeld cmp d held) order (Effects.are_held s (world_after s cs) d held at.refines at.holds)

@@ -1,7 +1,7 @@
 use Rattle.std.proofs.Common.{arith, ap, length, ◌∙◌, sym, append_assoc, drop, ◌+◌}
 use Rattle.std.proofs.lemmas.List.{length-append, append-nil}
 use Rattle.p2p_discovery.specs.Lists.{spellings}
-use Rattle.p2p_discovery.proofs.ListReads.{next_is, none_left, each_next, each_none}
+use Rattle.p2p_discovery.proofs.ListReads.{next_is, none_left, each_next}
 use Rattle.p2p_discovery.proofs.codec.lists.write_items.Goals as goal
 
 pub write-requires-clause-room : goal.write-requires-clause-room
@@ -32,6 +32,3 @@ pub returns-clause-spare : goal.returns-clause-spare
 returns-clause-spare g c =
     let n = none_left g.T.EncodeSize.spelling c.args.items.now c.loop-item.item-index c.loop-item-test.false in
     omega (arith, ap length n, c.loop-item.invariant.spare)
-
-pub returns-clause-holds : goal.returns-clause-holds
-returns-clause-holds g c = c.loop-item.invariant.holds (each_none g.T.Write.HoldsValues c.args.items.now c.loop-item.item-index c.loop-item-test.false)

@@ -10,9 +10,6 @@ returns-else-n-lt128-clause-size t c = λ most p h.
     let m = groups_more most _ h c.if-n-lt128.false in
     rw m.is (omega (arith, c.group_count.ensures.size m.less m.some m.fits))
 
-pub returns-then-n-lt128-clause-short : goal.returns-then-n-lt128-clause-short
-returns-then-n-lt128-clause-short t c = λ most p h. omega arith
-
 pub returns-else-n-lt128-clause-short : goal.returns-else-n-lt128-clause-short
 returns-else-n-lt128-clause-short t c = λ most p h.
     let m = groups_more most _ h c.if-n-lt128.false in

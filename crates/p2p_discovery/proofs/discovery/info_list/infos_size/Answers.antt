@@ -1,14 +1,8 @@
 use Rattle.std.proofs.Common.{arith, ap, length}
 use Rattle.std.proofs.lemmas.List.{length-append}
 use Rattle.p2p_discovery.specs.Info.{IsInfo, info_spelling}
-use Rattle.p2p_discovery.proofs.ListReads.{next_is, none_left, each_next, each_none}
+use Rattle.p2p_discovery.proofs.ListReads.{next_is, none_left, each_next}
 use Rattle.p2p_discovery.proofs.discovery.info_list.infos_size.Goals as goal
-
-pub overflow_add-size : goal.overflow_add-size
-overflow_add-size g c =
-    let k = g.met.C.FixedBytes.fixed.small in
-    let s = g.met.C.Signature.FixedBytes.fixed.small in
-    omega (arith, k, s, c.encode_size-size.ensures.bound, c.loop-info.invariant.bound)
 
 pub loop-info-preserved : goal.loop-info-preserved
 loop-info-preserved g c =
@@ -28,6 +22,3 @@ pub returns-clause-size : goal.returns-clause-size
 returns-clause-size g c =
     let n = none_left (info_spelling g.C.FixedBytes.spelled g.C.Signature.FixedBytes.spelled) c.args.infos.now c.loop-info.info-index c.loop-info-test.false in
     omega (arith, ap length n, c.loop-info.invariant.size)
-
-pub returns-clause-value : goal.returns-clause-value
-returns-clause-value g c = c.loop-info.invariant.value (each_none IsInfo c.args.infos.now c.loop-info.info-index c.loop-info-test.false)

@@ -1,9 +1,9 @@
-use Rattle.std.proofs.Common.{◌≡◌, ◌+◌, ◌-◌, get_or, refl, sym, arith, ◌∙◌}
+use Rattle.std.proofs.Common.{◌≡◌, ◌+◌, ◌-◌, get_or, refl, sym, arith}
 use mathlib.Core.Bool.{false≢true}
 use Rattle.std.proofs.lemmas.Cmp.{eq_by_cmp_equiv}
 use Rattle.std.proofs.lemmas.List.Sorted.{IsPermutation-sym}
 use Rattle.std.proofs.lemmas.Map.Keys.{IsDistinct-IsPermutation, IsDistinct-from_sorted}
-use Rattle.p2p_discovery.proofs.Sorting.{repeated, below_next, sorted_neighbours, grown}
+use Rattle.p2p_discovery.proofs.Sorting.{repeated, sorted_neighbours}
 use Rattle.p2p_discovery.proofs.sets.OrderedSet.try_from.Goals as goal
 
 -- two neighbours are equal
@@ -18,17 +18,6 @@ returns-then-eq-clause-ok g c =
           (repeated g.met.P.Ord.total g.met.P.Ord.matches_eq _ ys c.sort_unstable.ensures.permutation (k - 1) _ _
           (omega arith) (sym c.index.ensures) next (sym (c.if-eq.ensures)) distinct),
     )
-
--- the next neighbours differ
-pub loop-k-preserved : goal.loop-k-preserved
-loop-k-preserved g c =
-    let k = c.loop-k.k in
-    let e : k - 1 + 1 ≡ k = omega arith in
-    let ys = c.sort_unstable.new.self.items in
-    let next : get_or ys (k - 1 + 1) c.index-in-loop-k.result.now ≡ c.index-in-loop-k.result.now = rw e (sym c.index-in-loop-k.ensures) in
-    grown g.met.P.Ord.total ys k (omega arith) c.loop-k.invariant
-    (λ d. below_next g.met.P.Ord.total g.met.P.Ord.matches_eq ys c.sort_unstable.ensures.sorted (k - 1) d _ _
-    (omega arith) (sym c.index.ensures) next (sym c.eq.ensures ∙ c.if-eq.false))
 
 pub invariant_of-result : goal.invariant_of-result
 invariant_of-result g c = sorted_neighbours g.met.P.Ord.total _ _ (omega arith) c.loop-k.invariant

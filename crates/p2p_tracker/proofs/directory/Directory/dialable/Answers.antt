@@ -1,10 +1,9 @@
-use Rattle.std.proofs.Common.{refl, ◌∙◌}
+use Rattle.std.proofs.Common.{refl}
 use Rattle.std.specs.Duration.{as_nanos}
-use Rattle.std.proofs.lemmas.Result.{on_err_weaker}
 use Rattle.p2p_discovery.proofs.Results.{IfOk-both}
 use Rattle.p2p_tracker.specs.Seen.{config_view}
 use Rattle.p2p_tracker.specs.Private.Window.{plain_sets}
-use Rattle.p2p_tracker.proofs.SetsAndRecords.Dialables.{are_dialable, stay_dialable, is_dialable_by}
+use Rattle.p2p_tracker.proofs.SetsAndRecords.Dialables.{are_dialable, stay_dialable}
 use Rattle.p2p_tracker.proofs.directory.Directory.dialable.Goals as goal
 
 pub returns-clause-dialable : goal.returns-clause-dialable
@@ -32,13 +31,3 @@ returns-clause-quiet g c = rw (← c.self.view_is)
     c.self.inside.records c.self.inside.blocks c.self.inside.cooldowns c.self.inside.config
     (as_nanos c.args.now) refl refl _ _ listed least) later before) c.dialable.ensures.peers
     c.dialable.ensures.next)
-
-pub returns-clause-err : goal.returns-clause-err
-returns-clause-err g c = rw (← c.self.view_is)
-    (on_err_weaker c.dialable.result
-    (λ some. (
-      some.0,
-      is_dialable_by g.C.Ord.cmp (config_view c.self.inside.config) (plain_sets c.self.inside.sets)
-          c.self.inside.records c.self.inside.blocks c.self.inside.cooldowns c.self.inside.config
-          (as_nanos c.args.now) refl refl some.0 ∙ some.1,
-    )) c.dialable.ensures.err)

@@ -1,13 +1,12 @@
-use Rattle.std.proofs.Common.{◌≡◌, map, not, ◌∙◌, ap, sym, subst}
+use Rattle.std.proofs.Common.{◌≡◌, map, ◌∙◌, ap, sym, subst}
 use Rattle.std.specs.Int.NonZero.{non_zero_usize_get}
-use Rattle.p2p_tracker.specs.Status.{is_inert, is_reserved}
 use Rattle.p2p_tracker.specs.Directory.{kept_after_release}
 use Rattle.p2p_tracker.specs.Seen.{config_view, record_at, key_of}
 use Rattle.p2p_tracker.specs.Private.Window.{with_bit_of}
 use Rattle.p2p_tracker.specs.Cooldowns.{cooldown_in}
 use Rattle.p2p_tracker.proofs.SetsAndRecords.Cooled.{cooled_at, release_keeps}
 use Rattle.p2p_tracker.proofs.SetsAndRecords.Changes.{changed_at, kept_released, changes_view}
-use Rattle.p2p_tracker.proofs.SetsAndRecords.Changes.{others_status, marked_again}
+use Rattle.p2p_tracker.proofs.SetsAndRecords.Changes.{marked_again}
 use Rattle.p2p_tracker.proofs.directory.Directory.release.Goals as goal
 
 -- the peer whose bits are set anew is that of the reservation
@@ -54,13 +53,3 @@ returns-clause-released g c =
     (key_of m) (kept_after_release m) c.release-known.result.after c.self.view_is
     (of_peer (λ key. map (with_bit_of cmp key c.release-known.result.after) c.self.inside.sets)
     c.renew.ensures c.public_key.ensures) c.release-known.ensures.change)
-
-pub returns-clause-others : goal.returns-clause-others
-returns-clause-others g c = λ q other busy.
-    others_status g.C.Ord.cmp (λ status. not (is_inert status)) c.args.self.now _ (key_of c.args.reservation)
-    (kept_after_release c.args.reservation) (returns-clause-released g c) q other busy
-
-pub returns-clause-reserved : goal.returns-clause-reserved
-returns-clause-reserved g c = λ q other reserved.
-    others_status g.C.Ord.cmp is_reserved c.args.self.now _ (key_of c.args.reservation)
-    (kept_after_release c.args.reservation) (returns-clause-released g c) q other reserved

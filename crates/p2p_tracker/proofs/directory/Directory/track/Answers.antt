@@ -1,7 +1,6 @@
-use Rattle.std.proofs.Common.{◌≡◌, Bool, refl, ◌++◌, ◌∷◌, [], ◌&&◌, not, false, sym, ◌∙◌, ap, subst, arith}
+use Rattle.std.proofs.Common.{◌≡◌, Bool, refl, ◌++◌, ◌∷◌, [], ◌&&◌, not, false, sym, ◌∙◌, ap, subst}
 use Rattle.std.specs.Option.{option_map_or}
 use Rattle.std.specs.Int.NonZero.{non_zero_usize_get}
-use Rattle.std.proofs.lemmas.List.{map-append}
 use Rattle.p2p_discovery.proofs.Results.{OnErr-from}
 use Rattle.p2p_tracker.specs.declared.record.Status.{Status}
 use Rattle.p2p_tracker.specs.declared.record.Status.TheVariants.{Inert}
@@ -9,28 +8,15 @@ use Rattle.p2p_tracker.specs.PeerSets.{set_of}
 use Rattle.p2p_tracker.specs.Lists.{last_of}
 use Rattle.p2p_tracker.specs.Status.{is_inert, is_reserved}
 use Rattle.p2p_tracker.specs.Record.{is_eligible}
-use Rattle.p2p_tracker.specs.Directory.{record_with_sets, is_connectable, has_status, is_known}
+use Rattle.p2p_tracker.specs.Directory.{record_with_sets, is_connectable, has_status}
 use Rattle.p2p_tracker.specs.Seen.{DirectoryView, config_view, record_at, record_of}
-use Rattle.p2p_tracker.specs.Private.Window.{plain_set, plain_sets, set_with_bits}
+use Rattle.p2p_tracker.specs.Private.Window.{plain_sets}
 use Rattle.p2p_tracker.specs.Cooldowns.{cooldown_in}
 use Rattle.p2p_tracker.specs.Private.Counts.{IsDirectoryInvariant}
 use Rattle.p2p_tracker.proofs.SetsAndRecords.Cooled.{cooled_each, cooled_with_sets}
-use Rattle.p2p_tracker.proofs.SetsAndRecords.Consistent.{room_left, all_restored, status_with_sets}
+use Rattle.p2p_tracker.proofs.SetsAndRecords.Consistent.{all_restored, status_with_sets}
 use Rattle.p2p_tracker.proofs.SetsAndRecords.Taken.{IsTaken, taken_window}
 use Rattle.p2p_tracker.proofs.directory.Directory.track.Goals as goal
-
-pub drop_oldest-requires-clause-room : goal.drop_oldest-requires-clause-room
-drop_oldest-requires-clause-room g c =
-    let cmp = g.C.Ord.cmp in
-    let window = c.self.inside.sets in
-    let set = plain_set c.in_ok-set.set in
-    let added = set_with_bits (λ q. is_known c.self.inside.config.dial_fail_limit (record_at cmp c.self.inside.records q)) set in
-    let came = ap plain_sets c.in_ok-add.ensures.ok ∙ map-append plain_set window (added ∷ []) in
-    room_left (non_zero_usize_get c.self.inside.config.max_sets) c.get-max_sets.result _
-    c.in_ok-leaving_count.field-0 (plain_sets window) (plain_sets c.add.new.sets) (plain_set added)
-    c.get-max_sets.ensures.value came
-    c.self.invariant.whole.counts.max_positive c.self.invariant.whole.counts.at_most_max
-    c.in_ok-leaving_count.ensures (omega (arith, c.in_ok-torn.ensures.exact))
 
 -- where memory was refused, all is as it was
 same : (g : _) (c : goal.After-drop-torn g) → c.add.new.records ≡ c.self.inside.records

@@ -1,13 +1,11 @@
-use Rattle.std.proofs.Common.{◌≡◌, Bool, Option, not, true, Some, None, refl}
 use Rattle.std.specs.Option.{option_map}
 use Rattle.std.specs.Int.NonZero.{non_zero_usize_get}
-use Rattle.p2p_tracker.specs.Status.{is_inert, is_reserved}
-use Rattle.p2p_tracker.specs.Seen.{RecordView, config_view, record_at}
-use Rattle.p2p_tracker.specs.Directory.{is_busy, connected_record}
+use Rattle.p2p_tracker.specs.Seen.{config_view, record_at}
+use Rattle.p2p_tracker.specs.Directory.{connected_record}
 use Rattle.p2p_tracker.specs.Cooldowns.{cooldown_in}
 use Rattle.p2p_tracker.proofs.SetsAndRecords.Cooled.{cooled_at, connect_keeps}
 use Rattle.p2p_tracker.proofs.SetsAndRecords.Changes.{changed_at, kept_connected, changes_view}
-use Rattle.p2p_tracker.proofs.SetsAndRecords.Changes.{status_after_change, others_status, marked_again}
+use Rattle.p2p_tracker.proofs.SetsAndRecords.Changes.{marked_again}
 use Rattle.p2p_tracker.proofs.directory.Directory.try_connect.Goals as goal
 
 pub renew-requires : goal.renew-requires
@@ -41,17 +39,3 @@ returns-clause-connected g c = λ _.
     c.renew.new.self c.self.inside.records c.connect.new.self c.self.inside.blocks
     c.self.inside.cooldowns
     c.args.peer.now (option_map (connected_record c.args.dialer)) c.in-Some.known.after c.self.view_is c.renew.ensures c.in-Some.ensures.change
-
-busy : {C S : Type 0} (dialer : Bool) (o : Option (RecordView C S)) → is_busy o ≡ true → is_busy (option_map (connected_record dialer) o) ≡ true
-busy dialer None e = absurd cc
-busy dialer (Some r) e = refl
-
-pub returns-clause-busy : goal.returns-clause-busy
-returns-clause-busy g c =
-    status_after_change g.C.Ord.cmp (λ status. not (is_inert status)) c.args.self.now _ c.args.peer.now
-    (option_map (connected_record c.args.dialer)) (returns-clause-connected g c refl) (busy c.args.dialer)
-
-pub returns-clause-reserved : goal.returns-clause-reserved
-returns-clause-reserved g c = λ q other reserved.
-    others_status g.C.Ord.cmp is_reserved c.args.self.now _ c.args.peer.now
-    (option_map (connected_record c.args.dialer)) (returns-clause-connected g c refl) q other reserved

@@ -1,24 +1,13 @@
-use Rattle.std.proofs.Common.{◌∷◌, [], sym, ◌∙◌, ap, refl}
+use Rattle.std.proofs.Common.{◌∷◌, [], sym, ◌∙◌, ap}
 use Rattle.std.specs.Option.{option_map}
 use Rattle.std.specs.BTreeMap.{is_at}
 use Rattle.std.proofs.lemmas.List.Elements.{filter-append}
 use Rattle.p2p_discovery.specs.declared.discovery.Info.{Info}
 use Rattle.p2p_tracker.specs.Directory.{infos_of, updated_record}
 use Rattle.p2p_tracker.specs.Seen.{record_at}
-use Rattle.p2p_tracker.proofs.SetsAndRecords.Changes.{updated_more, updated_none}
-use Rattle.p2p_tracker.proofs.SetsAndRecords.Moved.{item_moved, all_moved}
+use Rattle.p2p_tracker.proofs.SetsAndRecords.Changes.{updated_more}
+use Rattle.p2p_tracker.proofs.SetsAndRecords.Moved.{item_moved}
 use Rattle.p2p_tracker.proofs.directory.update.update_each.Goals as goal
-
-pub loop-info-init : goal.loop-info-init
-loop-info-init g c = record {
-  rest = c.into_iter-info-iterator.ensures.into_iter_gives.0;
-  sets = refl;
-  records = λ q. updated_none (record_at g.C.Ord.cmp c.args.records.now q);
-  bits = c.requires;
-}
-
-pub update_one-requires : goal.update_one-requires
-update_one-requires g c = c.loop-info.invariant.bits
 
 pub loop-info-preserved : goal.loop-info-preserved
 loop-info-preserved g c =
@@ -38,10 +27,3 @@ loop-info-preserved g c =
           before (info ∷ [])));
       bits = c.update_one.ensures.bits;
     }
-
-pub returns-clause-records : goal.returns-clause-records
-returns-clause-records g c = λ q.
-    let cmp = g.C.Ord.cmp in
-    let rest = c.loop-info.info-iterator.rest in
-    let all = all_moved c.loop-info.yielded rest.items c.args.infos.items c.loop-info.invariant.rest (sym rest.ok.0 ∙ c.in-None.ensures.steps.0) in
-    c.loop-info.invariant.records q ∙ ap (λ infos. option_map (updated_record (infos_of cmp infos q)) (record_at cmp c.args.records.now q)) all

@@ -1,9 +1,9 @@
 use Rattle.std.proofs.Common.{◌∙◌, ap, ◌∷◌, []}
 use Rattle.std.specs.Option.{option_map}
-use Rattle.p2p_tracker.specs.Directory.{is_known, updated_record}
+use Rattle.p2p_tracker.specs.Directory.{updated_record}
 use Rattle.p2p_tracker.specs.Seen.{record_at}
 use Rattle.p2p_tracker.specs.Private.Window.{plain_sets}
-use Rattle.p2p_tracker.proofs.SetsAndRecords.Changes.{bits_anew, bits_same, known_anew, marked_again}
+use Rattle.p2p_tracker.proofs.SetsAndRecords.Changes.{bits_anew, known_anew, marked_again}
 use Rattle.p2p_tracker.proofs.SetsAndRecords.Windows.{plain_with_bit}
 use Rattle.p2p_tracker.proofs.directory.update.update_one.Goals as goal
 
@@ -30,10 +30,3 @@ returns-in-Some-clause-bits g c =
     (known_anew cmp g.met.C.PublicKey.exact c.args.limit old new p
     (option_map (updated_record (c.args.info ∷ []))) c.in-Some.known.after c.update.ensures.change
     c.in-Some.ensures.after) c.renew.ensures
-
-pub returns-in_default-clause-bits : goal.returns-in_default-clause-bits
-returns-in_default-clause-bits g c =
-    let cmp = g.C.Ord.cmp in
-    bits_same cmp c.args.limit c.args.sets.now (record_at cmp c.args.records.now)
-    (record_at cmp c.update.new.self) c.requires
-    (λ q. ap (is_known c.args.limit) (c.in_default.ensures.none q))

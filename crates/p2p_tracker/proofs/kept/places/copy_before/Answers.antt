@@ -1,6 +1,6 @@
-use Rattle.std.proofs.Common.{◌++◌, ◌+◌, ◌∷◌, [], drop, length-append, length, append_assoc, append-nil, sym, ◌∙◌, ap, arith}
+use Rattle.std.proofs.Common.{◌++◌, drop, length-append, length, append-nil, sym, ◌∙◌, ap, arith}
 use Rattle.p2p_tracker.specs.Private.Places.{before_key}
-use Rattle.p2p_tracker.proofs.SetsAndRecords.Merged.{less_before, less_behind, equal_before, equal_behind, greater_before, greater_behind}
+use Rattle.p2p_tracker.proofs.SetsAndRecords.Merged.{less_before, equal_before, equal_behind, greater_before, greater_behind}
 use Rattle.p2p_tracker.proofs.kept.places.copy_before.Goals as goal
 
 pub push_reserved-requires : goal.push_reserved-requires
@@ -46,20 +46,3 @@ returns-in-Greater-clause-rest g c =
     greater_behind g.met.C.Ord.total c.args.key.now c.args.latest.now c.loop-at.at c.index-latest-at.result
     c.loop-at-test.true c.index-latest-at.is c.requires.sorted (sym c.cmp.ensures ∙ c.in-Greater.is)
     ∙ c.loop-at.invariant.rest
-
-pub loop-at-preserved : goal.loop-at-preserved
-loop-at-preserved g c =
-    let before = before_key g.C.Ord.cmp c.args.key.now in
-    let es = c.args.latest.now in
-    let kept = c.index-latest-at.result in
-    let less = sym c.cmp.ensures ∙ c.in-Less.is in
-    record {
-      copied = ap (λ l. l ++ before (drop (c.loop-at.at + 1) es)) c.push_reserved.ensures.items
-          ∙ append_assoc c.loop-at.copied.items (kept ∷ []) (before (drop (c.loop-at.at + 1) es))
-          ∙ ap (λ l. c.loop-at.copied.items ++ l) (sym (less_before g.met.C.Ord.total c.args.key.now es c.loop-at.at kept
-          c.loop-at-test.true c.index-latest-at.is less))
-          ∙ c.loop-at.invariant.copied;
-      rest = sym (less_behind g.met.C.Ord.total c.args.key.now es c.loop-at.at kept
-          c.loop-at-test.true c.index-latest-at.is less) ∙ c.loop-at.invariant.rest;
-      capacity = c.push_reserved.ensures.capacity ∙ c.loop-at.invariant.capacity;
-    }

@@ -1,10 +1,10 @@
-use Rattle.std.proofs.Common.{◌++◌, ◌+◌, ◌∷◌, [], ◌||◌, take, drop, map, length, refl, sym, ◌∙◌, ap, subst, arith}
+use Rattle.std.proofs.Common.{◌++◌, ◌+◌, ◌∷◌, [], ◌||◌, take, drop, map, refl, sym, ◌∙◌, ap, subst, arith}
 use Rattle.std.specs.Prelude.{unwrap_or}
 use Rattle.std.specs.BTreeMap.{is_at}
 use Rattle.std.specs.List.Sorted.{IsStrictlySortedBy}
 use Rattle.std.specs.Ordering.{is_eq}
 use Rattle.std.proofs.lemmas.Cmp.{tied_itself}
-use Rattle.std.proofs.lemmas.List.{length-map, length-take, map_more, map-append}
+use Rattle.std.proofs.lemmas.List.{map_more, map-append}
 use Rattle.std.proofs.lemmas.Map.Keys.{sorted_head}
 use Rattle.std.proofs.lemmas.Bool.{or_right}
 use Rattle.p2p_discovery.specs.Ordered.{has_key}
@@ -13,21 +13,6 @@ use Rattle.p2p_tracker.specs.Private.Places.{place_of, link_of}
 use Rattle.p2p_tracker.proofs.SetsAndRecords.Merged.{linked, place_behind, above_all}
 use Rattle.p2p_tracker.proofs.SetsAndRecords.Naming.{first_left, sorted_drop}
 use Rattle.p2p_tracker.proofs.kept.places.links_of.Goals as goal
-
-pub push_reserved-requires : goal.push_reserved-requires
-push_reserved-requires g c =
-    let keys = c.args.keys.now in
-    let f = place_of g.C.Ord.cmp c.args.latest.now in
-    omega (
-      arith,
-      ap length c.loop-at.invariant.older,
-      length-map c.loop-at.older.items (link_of c.args.set),
-      length-map (take c.loop-at.at keys) f,
-      length-take c.loop-at.at keys,
-      c.loop-at-test.true,
-      c.loop-at.invariant.room,
-      c.loop-at.older.ok.0,
-    )
 
 pub loop-at-preserved : goal.loop-at-preserved
 loop-at-preserved g c =

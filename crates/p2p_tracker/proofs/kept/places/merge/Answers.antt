@@ -1,4 +1,4 @@
-use Rattle.std.proofs.Common.{◌≡◌, ◌++◌, ◌+◌, ◌∷◌, [], suc, drop, length, length-append, append_assoc, refl, sym, ◌∙◌, ap, subst, arith}
+use Rattle.std.proofs.Common.{◌≡◌, ◌++◌, ◌+◌, ◌∷◌, [], suc, drop, length, length-append, append_assoc, sym, ◌∙◌, ap, subst, arith}
 use Rattle.std.specs.List.Sorted.{IsStrictlySortedBy}
 use Rattle.std.specs.Map.{keys_of}
 use Rattle.std.proofs.lemmas.List.{drop_all}
@@ -7,12 +7,6 @@ use Rattle.p2p_tracker.specs.Private.Places.{place_of, before_key}
 use Rattle.p2p_tracker.proofs.SetsAndRecords.Merged.{merged, merged_places, merged_sorted, merged_length, few_written}
 use Rattle.p2p_tracker.proofs.SetsAndRecords.Naming.{first_left}
 use Rattle.p2p_tracker.proofs.kept.places.merge.Goals as goal
-
-pub loop-at-init : goal.loop-at-init
-loop-at-init g c = record {
-  merged = ap (λ es. es ++ merged g.C.Ord.cmp c.args.set 0 c.args.latest.now c.args.keys.now) c.requires.empty;
-  capacity = refl;
-}
 
 pub copy_before-from-requires-clause-room : goal.copy_before-from-requires-clause-room
 copy_before-from-requires-clause-room g c =

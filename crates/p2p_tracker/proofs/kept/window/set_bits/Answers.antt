@@ -1,16 +1,11 @@
 use Rattle.std.proofs.Common.{◌≡◌, ◌<◌, ◌++◌, ◌∷◌, [], false, Some, None, length, ap, sym, ◌∙◌}
-use Rattle.std.proofs.Common.{refl, subst, arith, length-append, get_or}
-use Rattle.std.specs.List.Sorted.{IsStrictlySortedBy}
-use Rattle.std.specs.Ordering.{nat_cmp}
-use Rattle.std.proofs.lemmas.List.{length-map, nil_from_length}
+use Rattle.std.proofs.Common.{arith, length-append, get_or}
+use Rattle.std.proofs.lemmas.List.{length-map}
 use Rattle.p2p_tracker.specs.Private.Window.{SetWithBits}
 use Rattle.p2p_tracker.specs.Private.Places.{with_bits_at, walk, indices, has_index}
 use Rattle.p2p_tracker.proofs.SetsAndRecords.Indexed.{bits_last, bit_past, indices_with_bit}
 use Rattle.p2p_tracker.proofs.SetsAndRecords.Walks.{passed, met_at}
 use Rattle.p2p_tracker.proofs.kept.window.set_bits.Goals as goal
-
-pub loop-count-init : goal.loop-count-init
-loop-count-init g c = (refl, omega arith, refl)
 
 pub returns-in_default-clause-sets : goal.returns-in_default-clause-sets
 returns-in_default-clause-sets g c =
@@ -25,10 +20,6 @@ returns-in_default-clause-count g c =
     let none = ap (walk ns c.args.links.now.items) c.in_default.is
     ∙ passed (λ o. []) ns c.args.links.now.items None tt in
     omega (arith, c.loop-count.invariant.1, ap length none)
-
-pub set_bit_at-requires : goal.set_bit_at-requires
-set_bit_at-requires g c =
-    subst (IsStrictlySortedBy nat_cmp) (sym c.loop-count.invariant.2) c.requires.ascending
 
 pub returns-in_default-set_bit_at-clause-sets : goal.returns-in_default-set_bit_at-clause-sets
 returns-in_default-set_bit_at-clause-sets g c =
@@ -74,39 +65,4 @@ loop-count-preserved g c =
           ∙ sym (ap (λ ps. with_bits_at c.args.known ps sets) step) ∙ c.loop-count.invariant.0,
       omega (arith, c.loop-count.invariant.1, ap length step, length-append (walk ns links next) (place ∷ [])),
       ap indices c.set_bit_at.ensures.sets ∙ indices_with_bit c.args.known place sets ∙ same,
-    )
-
-pub returns-clause-sets : goal.returns-clause-sets
-returns-clause-sets g c =
-    let met = walk (indices c.args.sets.now.items) c.args.links.now.items c.loop-count.next in
-    let none = nil_from_length met (omega (
-      arith,
-      c.loop-count.invariant.1,
-      c.requires.few,
-      c.loop-count-test.false,
-      c.len-count-end.ensures,
-      c.args.sets.now.ok.0,
-    )) in
-    sym (ap (λ ps. with_bits_at c.args.known ps c.loop-count.sets.items) none) ∙ c.loop-count.invariant.0
-
-pub returns-clause-count : goal.returns-clause-count
-returns-clause-count g c =
-    let index = λ (set : SetWithBits g.row.C.Denot). set.index in
-    let now : length (indices c.loop-count.sets.items) ≡ length c.loop-count.sets.items
-    = length-map c.loop-count.sets.items index in
-    let old : length (indices c.args.sets.now.items) ≡ length c.args.sets.now.items
-    = length-map c.args.sets.now.items index in
-    omega (
-      arith,
-      now,
-      old,
-      ap length c.loop-count.invariant.2,
-      c.loop-count.invariant.1,
-      c.requires.few,
-      c.loop-count-test.false,
-      c.loop-count.auto.count-end,
-      c.len-count-end.ensures,
-      c.len.ensures,
-      c.loop-count.sets.ok.0,
-      c.args.sets.now.ok.0,
     )

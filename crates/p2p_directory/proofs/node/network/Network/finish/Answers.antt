@@ -22,9 +22,6 @@ push_reserved-requires g c =
     c.into_iter-left.result.rest.items c.in-Some.end kept.rest c.in-Some.ensures.items in
     omega (arith, more, c.loop-end.directories.ok, kept.count, kept.room)
 
-pub loop-end-smaller : goal.loop-end-smaller
-loop-end-smaller g c = omega (arith, ap length c.in-Some.ensures.items)
-
 pub loop-end-preserved : goal.loop-end-preserved
 loop-end-preserved g c =
     let kept = c.loop-end.invariant in

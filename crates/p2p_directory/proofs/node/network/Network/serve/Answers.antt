@@ -4,7 +4,7 @@ use Rattle.std.specs.Prelude.{length, ◌≡◌}
 use Rattle.std.specs.Vec.{with_items}
 use Rattle.p2p_directory.specs.declared.node.network.commands.NetworkCommand.{NetworkCommand}
 use Rattle.p2p_directory.specs.declared.node.network.commands.NetworkCommand.TheVariants as command
-use Rattle.p2p_directory.specs.Network.{node_made, StandAfter, IsNetworkServedAt, IsServedAmong}
+use Rattle.p2p_directory.specs.Network.{node_made, StandAfter, IsNetworkServedAt}
 use Rattle.p2p_directory.specs.Private.Networks.{nodes_of}
 use Rattle.p2p_directory.proofs.Nodes.Among.{among, so_many}
 use Rattle.p2p_directory.proofs.Nodes.Networks.{answered_served}
@@ -110,14 +110,6 @@ pub returns-in-Exchange-clause-count : goal.returns-in-Exchange-clause-count
 returns-in-Exchange-clause-count g c = rw (← c.self.view_is) (
     so_many _ _ (ap length (same-exchange g c)
     ∙ omega (arith, c.exchange.auto.endpoints, c.deref_mut-in-Exchange.ensures.len)))
-
-pub returns-in-Ask-clause-seen : goal.returns-in-Ask-clause-seen
-returns-in-Ask-clause-seen g c = rw (← c.self.view_is, c.in-Ask.is) (
-    let wire = wire_in g.C.PublicKey.verifies g.C.FixedBytes g.C.Signature.FixedBytes in
-    let x : NetworkCommand g.row.C.Denot g.row.C-Signature.Denot =
-    command.Ask c.in-Ask.node c.in-Ask.place in
-    subst (λ es. IsServedAmong g.C.Ord.cmp wire x c.ask.result (nodes_of es) (nodes_of es))
-    c.deref.ensures.value c.ask.ensures.seen)
 
 pub invariant_of-self : goal.invariant_of-self
 invariant_of-self g c = (

@@ -14,11 +14,6 @@ returns-then-node-endpoints-clause-answered g c = λ setups done other at.
     none_more wire size node done es at (command.Call c.args.node c.args.command)
     (is_absent wire size node done es at c.args.node c.if-node-endpoints.true)
 
-pub serve-requires : goal.serve-requires
-serve-requires g c = record {
-  room = c.requires.room c.index-endpoints-node.result c.if-node-endpoints.false;
-}
-
 pub returns-clause-answered : goal.returns-clause-answered
 returns-clause-answered g c = λ setups done other at.
     let wire = wire_in g.C.PublicKey.verifies g.C.FixedBytes g.C.Signature.FixedBytes in

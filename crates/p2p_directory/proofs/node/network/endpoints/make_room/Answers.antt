@@ -1,14 +1,8 @@
-use Rattle.std.proofs.Common.{refl, ◌∙◌, subst, get_or, below_more, arith}
+use Rattle.std.proofs.Common.{◌∙◌, subst, get_or, below_more}
 use Rattle.std.proofs.lemmas.List.{get_or_default}
 use Rattle.p2p_directory.specs.Private.Networks.{HasRoomFor}
 use Rattle.p2p_directory.proofs.Nodes.Networks.{room_for_grows, same_count}
 use Rattle.p2p_directory.proofs.node.network.endpoints.make_room.Goals as goal
-
-pub loop-command-init : goal.loop-command-init
-loop-command-init g c = record { room = λ k d lt. absurd (omega (arith, lt)); same = refl }
-
-pub returns-in_err-make_one-clause-same : goal.returns-in_err-make_one-clause-same
-returns-in_err-make_one-clause-same g c = c.make_one.ensures.same ∙ c.loop-command.invariant.same
 
 pub loop-command-preserved : goal.loop-command-preserved
 loop-command-preserved g c =
@@ -26,10 +20,3 @@ loop-command-preserved g c =
           c.in_ok-make_one.ensures.room) k lt;
       same = same ∙ c.loop-command.invariant.same;
     }
-
-pub returns-clause-same : goal.returns-clause-same
-returns-clause-same g c = c.loop-command.invariant.same
-
-pub returns-clause-room : goal.returns-clause-room
-returns-clause-room g c = λ k d lt. c.loop-command.invariant.room k d
-    (omega (arith, lt, c.loop-command-test.false, c.loop-command.auto.command-index-end))

@@ -1,4 +1,4 @@
-use Rattle.p2p_directory.proofs.Reservations.Slots.{first_least, first_held, first_none, contents_ascend}
+use Rattle.p2p_directory.proofs.Reservations.Slots.{first_least, first_held, contents_ascend}
 use Rattle.p2p_directory.proofs.run.held.Held.first.Goals as goal
 
 pub returns-clause-least : goal.returns-clause-least
@@ -17,8 +17,3 @@ returns-clause-held g c =
     rw (← c.self.view_is)
     (first_held g.met.C.Ord.total g.met.C.PublicKey.exact c.self.inside.slots c.first.result c.self.invariant
     c.first.ensures.some)
-
-pub returns-clause-none : goal.returns-clause-none
-returns-clause-none g c =
-    rw (← c.self.view_is)
-    (first_none g.met.C.Ord.total g.met.C.PublicKey.exact c.self.inside.slots c.first.result c.first.ensures.none)

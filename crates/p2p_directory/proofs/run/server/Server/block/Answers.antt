@@ -1,34 +1,10 @@
-use Rattle.std.proofs.Common.{◌≡◌, Bool, true, false, Ok, sym, ◌∙◌, ap, refl}
+use Rattle.std.proofs.Common.{Ok, sym, ◌∙◌, ap, refl}
 use Rattle.std.specs.Duration.{as_nanos}
 use Rattle.std.proofs.lemmas.Bool.{true_from_ne_false}
 use Rattle.p2p_directory.specs.Run.{settings}
 use Rattle.p2p_directory.proofs.Reservations.Served
-use Rattle.p2p_directory.proofs.Reservations.Holding.{held_by_records}
 use Rattle.p2p_directory.proofs.run.server.Server.block.Goals as goal
 use Rattle.p2p_directory.proofs.run.server.Server.block.Goals.{in-Ok, in-Err}
-use Rattle.p2p_directory.specs.Private.Slots.{held_in}
-use Rattle.p2p_tracker.specs.Seen.{DirectoryView}
-
--- the records stay
-records_same : (g : _) (c : goal.Joined-block g) → c.block.new.self.records ≡ c.self.inside.directory.records
-records_same g c = elim c.match-block.branch [
-  | in-Ok w ↦ answered w.in-Ok.taken
-      (λ h. ap (λ (d : DirectoryView g.row.C.Denot g.row.C-Signature.Denot). d.records)
-      (c.block.ensures.refused (w.in-Ok.is ∙ ap Ok h)))
-      (λ h. (c.block.ensures.taken (w.in-Ok.is ∙ ap Ok h)).records)
-  | in-Err w ↦ ap (λ (d : DirectoryView g.row.C.Denot g.row.C-Signature.Denot). d.records) w.in-Err.ensures.err
-]
-  where
-    answered : {P : Type 0} (b : Bool) → (b ≡ false → P) → (b ≡ true → P) → P
-    answered false untaken taken = untaken refl
-    answered true untaken taken = taken refl
-
-pub invariant_of-self : goal.invariant_of-self
-invariant_of-self g c = (
-  held_by_records g.C.Ord.cmp c.self.inside.directory c.block.new.self (held_in g.C.Ord.cmp c.self.inside.slots)
-      (records_same g c) c.self.invariant.0,
-  c.self.invariant.1,
-)
 
 pub returns-clause-served : goal.returns-clause-served
 returns-clause-served g c = rw (← c.self.view_is) (λ bootstrappers myself cfg calls at.

@@ -8,8 +8,3 @@ pub returns-in-Ok : goal.returns-in-Ok
 returns-in-Ok g c = rw (← c.self.view_is) (λ bootstrappers myself cfg calls at.
     Told.served_blocked_peers (settings g.C.Ord.cmp bootstrappers myself cfg) cfg.max_sets.ok
     g.met.C.PublicKey.exact calls _ _ at (as_nanos c.args.now) c.in-Ok.peers c.in-Ok.ensures.peers refl refl)
-
-pub returns-in-Err : goal.returns-in-Err
-returns-in-Err g c = rw (← c.self.view_is) (λ bootstrappers myself cfg calls at.
-    Told.served_no_blocked_peers (settings g.C.Ord.cmp bootstrappers myself cfg) cfg.max_sets.ok
-    g.met.C.PublicKey.exact calls _ _ at (as_nanos c.args.now) c.in-Err.ensures.err refl refl)

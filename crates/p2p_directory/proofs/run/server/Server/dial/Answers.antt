@@ -1,17 +1,13 @@
-use Rattle.std.proofs.Common.{◌≡◌, Some, sym, subst, ap, ◌∙◌, refl}
+use Rattle.std.proofs.Common.{◌≡◌, Some, sym, ap, ◌∙◌, refl}
 use Rattle.std.specs.Prelude.{if◌then◌else◌}
-use Rattle.std.specs.Option.{option_map}
 use Rattle.std.specs.BTreeMap.{is_at}
-use Rattle.p2p_tracker.specs.Record.{reserved_record}
-use Rattle.p2p_tracker.specs.Directory.{ingress_in, IsBusy}
+use Rattle.p2p_tracker.specs.Directory.{ingress_in}
 use Rattle.p2p_tracker.specs.Seen.{key_of}
 use Rattle.p2p_directory.specs.Private.Slots.{held_in}
-use Rattle.p2p_directory.proofs.Reservations.Holding.{held_by_grant, dialled_key}
+use Rattle.p2p_directory.proofs.Reservations.Holding.{dialled_key}
 use Rattle.std.specs.Duration.{as_nanos}
 use Rattle.std.proofs.lemmas.Bool.{true_from_ne_false}
 use Rattle.p2p_directory.specs.Run.{settings}
-use Rattle.p2p_tracker.proofs.SetsAndRecords.Searches.{itself}
-use Rattle.p2p_directory.proofs.Reservations.Rooms.{full_at}
 use Rattle.p2p_directory.proofs.Reservations.Served
 use Rattle.p2p_directory.proofs.run.server.Server.dial.Goals as goal
 
@@ -26,19 +22,6 @@ held : (g : _) (c : goal.After-put g) (q : g.row.C.Denot) →
     c.self.inside.slots q)
 held g c q =
     c.put.ensures.held q ∙ ap (λ p. if is_at (g.C.Ord.cmp p) q then Some c.in-Ok-Some.reservation else held_in g.C.Ord.cmp c.self.inside.slots q) (of_peer g c)
-
-pub invariant_of-self : goal.invariant_of-self
-invariant_of-self g c =
-    let cmp = g.C.Ord.cmp in
-    let facts = rw c.in-Ok-Some.field-0-is at c.in-Ok-Some.ensures in (
-      held_by_grant cmp g.met.C.PublicKey.exact c.self.inside.directory c.dial.new.self c.args.peer.now
-          c.in-Ok-Some.reservation
-          (option_map (reserved_record (as_nanos c.args.now) (as_nanos c.args.draw)
-          c.self.inside.directory.config.cooldown)) (held_in cmp c.self.inside.slots) (held_in cmp c.put.new.self)
-          c.self.invariant.0
-          facts.granted.records (subst (IsBusy cmp c.dial.new.self) (of_peer g c) facts.is_busy) (held g c),
-      c.put.ensures.ordered,
-    )
 
 pub returns-in-Ok-Some-clause-served : goal.returns-in-Ok-Some-clause-served
 returns-in-Ok-Some-clause-served g c = rw (← c.self.view_is) (λ bootstrappers myself cfg calls at.
@@ -59,7 +42,3 @@ returns-in-Err-clause-served g c = rw (← c.self.view_is) (λ bootstrappers mys
     Served.served_no_dial (settings g.C.Ord.cmp bootstrappers myself cfg) cfg.max_sets.ok g.met.C.PublicKey.exact
     calls _ _ at c.args.peer.now (as_nanos c.args.now) (as_nanos c.args.draw)
     (true_from_ne_false _ (λ no. let f = sym c.in-Err.is ∙ c.dial.ensures.none no in cc)) c.in-Err.ensures.err (λ q. refl))
-
-pub returns-in-Ok-Some-clause-granted : goal.returns-in-Ok-Some-clause-granted
-returns-in-Ok-Some-clause-granted g c = λ is.
-    let p = c.args.peer.now in full_at _ _ _ _ (held g c p) (itself g.met.C.Ord.total p p refl)

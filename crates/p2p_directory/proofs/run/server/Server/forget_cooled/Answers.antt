@@ -1,8 +1,6 @@
 use Rattle.std.proofs.Common.{refl}
 use Rattle.std.specs.Duration.{as_nanos}
 use Rattle.p2p_directory.specs.Run.{settings}
-use Rattle.p2p_directory.specs.Private.Slots.{held_in}
-use Rattle.p2p_directory.proofs.Reservations.Holding.{held_by_forgetting}
 use Rattle.p2p_directory.proofs.Reservations.Served
 use Rattle.p2p_directory.proofs.run.server.Server.forget_cooled.Goals as goal
 
@@ -11,10 +9,3 @@ returns-clause-served g c = rw (← c.self.view_is) (λ bootstrappers myself cfg
     Served.served_forgotten (settings g.C.Ord.cmp bootstrappers myself cfg) cfg.max_sets.ok g.met.C.PublicKey.exact
     calls _ _ at (as_nanos c.args.now) c.forget_cooled.result c.forget_cooled.ensures.answer
     c.forget_cooled.ensures.forgotten refl)
-
-pub invariant_of-self : goal.invariant_of-self
-invariant_of-self g c = (
-  held_by_forgetting g.C.Ord.cmp c.self.inside.directory c.forget_cooled.new.self (as_nanos c.args.now)
-      (held_in g.C.Ord.cmp c.self.inside.slots) c.self.invariant.0 c.forget_cooled.ensures.forgotten,
-  c.self.invariant.1,
-)

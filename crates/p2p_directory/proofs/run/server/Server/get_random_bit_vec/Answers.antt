@@ -7,8 +7,3 @@ pub returns-in-Ok : goal.returns-in-Ok
 returns-in-Ok g c = rw (← c.self.view_is) (λ bootstrappers myself cfg calls at.
     Told.served_bits (settings g.C.Ord.cmp bootstrappers myself cfg) cfg.max_sets.ok g.met.C.PublicKey.exact calls
     _ _ at c.args.place c.in-Ok.bits c.in-Ok.ensures.bits refl refl)
-
-pub returns-in-Err : goal.returns-in-Err
-returns-in-Err g c = rw (← c.self.view_is) (λ bootstrappers myself cfg calls at.
-    Told.served_no_bits (settings g.C.Ord.cmp bootstrappers myself cfg) cfg.max_sets.ok g.met.C.PublicKey.exact
-    calls _ _ at c.args.place (λ none. let f = c.in-Err.ensures.none none in cc) refl refl)

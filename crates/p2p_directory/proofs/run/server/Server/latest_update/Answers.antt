@@ -7,7 +7,3 @@ pub returns-in-Ok : goal.returns-in-Ok
 returns-in-Ok g c = rw (← c.self.view_is) (λ bootstrappers myself cfg calls at.
     Told.served_update (settings g.C.Ord.cmp bootstrappers myself cfg) cfg.max_sets.ok g.met.C.PublicKey.exact
     calls _ _ at c.in-Ok.update c.in-Ok.ensures.update refl refl)
-
-pub returns-in-Err : goal.returns-in-Err
-returns-in-Err g c = rw (← c.self.view_is) (λ bootstrappers myself cfg calls at.
-    Told.served_no_update (settings g.C.Ord.cmp bootstrappers myself cfg) cfg.max_sets.ok g.met.C.PublicKey.exact calls _ _ at c.in-Err.ensures.err refl refl)

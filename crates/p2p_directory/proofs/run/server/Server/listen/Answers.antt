@@ -2,8 +2,6 @@ use Rattle.std.proofs.Common.{sym, ◌∙◌, refl}
 use Rattle.std.specs.Duration.{as_nanos}
 use Rattle.std.proofs.lemmas.Bool.{true_from_ne_false}
 use Rattle.p2p_directory.specs.Run.{settings}
-use Rattle.p2p_tracker.proofs.SetsAndRecords.Searches.{itself}
-use Rattle.p2p_directory.proofs.Reservations.Rooms.{full_at}
 use Rattle.p2p_directory.proofs.Reservations.Served
 use Rattle.p2p_directory.proofs.run.server.Server.listen.Goals as goal
 
@@ -26,10 +24,3 @@ returns-in-Err-clause-served g c = rw (← c.self.view_is) (λ bootstrappers mys
     Served.served_no_listen (settings g.C.Ord.cmp bootstrappers myself cfg) cfg.max_sets.ok g.met.C.PublicKey.exact
     calls _ _ at c.args.peer.now (as_nanos c.args.now) (as_nanos c.args.draw)
     (true_from_ne_false _ (λ no. let f = sym c.in-Err.is ∙ c.listen.ensures.none no in cc)) c.in-Err.ensures.err (λ q. refl))
-
-pub returns-in-Ok-Some-clause-granted : goal.returns-in-Ok-Some-clause-granted
-returns-in-Ok-Some-clause-granted g c = λ is.
-    let p = c.args.peer.now in
-    let facts = rw c.in-Ok-Some.field-0-is at c.in-Ok-Some.ensures in
-    let held = rw facts.reservation at c.put.ensures.held in
-    full_at _ _ _ _ (held p) (itself g.met.C.Ord.total p p refl)

@@ -1,16 +1,11 @@
-use Rattle.std.proofs.Common.{◌≡◌, Some, sym, subst, ap, ◌∙◌}
+use Rattle.std.proofs.Common.{◌≡◌, Some, sym, ap, ◌∙◌}
 use Rattle.std.specs.Prelude.{if◌then◌else◌}
-use Rattle.std.specs.Option.{option_map}
 use Rattle.std.specs.BTreeMap.{is_at}
 use Rattle.std.specs.Duration.{as_nanos}
 use Rattle.std.proofs.lemmas.Bool.{true_from_ne_false}
 use Rattle.p2p_tracker.specs.declared.directory.Metadata.TheVariants as metadata
-use Rattle.p2p_tracker.specs.Record.{reserved_record}
-use Rattle.p2p_tracker.specs.Directory.{IsBusy}
-use Rattle.p2p_tracker.specs.Seen.{key_of}
 use Rattle.p2p_directory.specs.Run.{settings}
 use Rattle.p2p_directory.specs.Private.Slots.{held_in}
-use Rattle.p2p_directory.proofs.Reservations.Holding.{held_by_grant}
 use Rattle.p2p_directory.proofs.Reservations.Served
 use Rattle.p2p_directory.proofs.run.server.Server.listen_slot.Goals as goal
 use Rattle.p2p_directory.proofs.run.server.Server.listen_slot.Goals.{in-Ok-None, in-Err-listen}
@@ -23,19 +18,6 @@ held g c q =
     let facts = rw c.in-Ok-Some.field-0-is at c.in-Ok-Some.ensures in
     (rw facts.reservation at c.put.ensures.held) q
     ∙ ap (λ o. if is_at (g.C.Ord.cmp c.args.peer.now) q then Some (metadata.Listener c.args.peer.now) else o) (c.make.ensures.held q)
-
-pub invariant_of-self-in-Ok-Some : goal.invariant_of-self-in-Ok-Some
-invariant_of-self-in-Ok-Some g c =
-    let cmp = g.C.Ord.cmp in
-    let facts = rw c.in-Ok-Some.field-0-is at c.in-Ok-Some.ensures in (
-      held_by_grant cmp g.met.C.PublicKey.exact c.self.inside.directory c.listen.new.self c.args.peer.now
-          (metadata.Listener c.args.peer.now)
-          (option_map (reserved_record (as_nanos c.args.now) (as_nanos c.args.draw)
-          c.self.inside.directory.config.cooldown)) (held_in cmp c.self.inside.slots) (held_in cmp c.put.new.self)
-          c.self.invariant.0
-          facts.granted.records (subst (IsBusy cmp c.listen.new.self) (ap key_of facts.reservation) facts.is_busy) (held g c),
-      c.put.ensures.ordered,
-    )
 
 pub returns-in-Ok-Some-clause-stepped : goal.returns-in-Ok-Some-clause-stepped
 returns-in-Ok-Some-clause-stepped g c = rw (← c.self.view_is) (λ bootstrappers myself cfg calls at.

@@ -1,4 +1,4 @@
-use Rattle.std.proofs.Common.{refl, sym}
+use Rattle.std.proofs.Common.{sym}
 use Rattle.p2p_directory.specs.Run.{settings}
 use Rattle.p2p_directory.proofs.Reservations.Served
 use Rattle.p2p_directory.proofs.run.server.Server.release.Goals as goal
@@ -9,8 +9,3 @@ returns-in-Some-clause-served g c = rw (← c.self.view_is) (λ bootstrappers my
     Served.served_release (settings g.C.Ord.cmp bootstrappers myself cfg) cfg.max_sets.ok g.met.C.PublicKey.exact
     calls _ _ at c.args.peer.now c.in-Some.reservation
     (sym facts.taken) (rw facts.peer at c.release.ensures.released) facts.held)
-
-pub returns-in-None-clause-served : goal.returns-in-None-clause-served
-returns-in-None-clause-served g c = rw (← c.self.view_is) (λ bootstrappers myself cfg calls at.
-    Served.served_not_held (settings g.C.Ord.cmp bootstrappers myself cfg) cfg.max_sets.ok g.met.C.PublicKey.exact calls _ _ at c.args.peer.now
-    (sym c.in-None.ensures.taken) refl c.in-None.ensures.held)

@@ -1,40 +1,15 @@
-use Rattle.std.proofs.Common.{◌≡◌, List, Option, Some, None, sym, subst, ◌∙◌, refl, inl, inr, ◌≤◌, length}
-use Rattle.std.specs.Prelude.{IfSome, IfNone}
+use Rattle.std.proofs.Common.{List, Option, Some, None, sym, ◌∙◌, refl, inl, inr, ◌≤◌, length}
+use Rattle.std.specs.Prelude.{IfSome}
 use Rattle.std.specs.declared.cmp.Ordering.{Ordering}
-use Rattle.p2p_tracker.specs.declared.directory.Metadata.{Metadata}
-use Rattle.p2p_tracker.specs.Calls.{SetAt}
-use Rattle.p2p_tracker.specs.PeerSets.{set_of}
-use Rattle.p2p_tracker.specs.Directory.{TakesSet, AreTornDown, other_keys}
+use Rattle.p2p_tracker.specs.Directory.{AreTornDown, other_keys}
 use Rattle.std.specs.Cmp.{IsTotalOrder}
 use Rattle.std.proofs.lemmas.Bool.{true_from_ne_false}
 use Rattle.p2p_tracker.specs.Seen.{DirectoryView}
-use Rattle.p2p_directory.specs.Held.{AreHeld}
-use Rattle.p2p_directory.specs.Private.Slots.{held_in}
 use Rattle.p2p_directory.specs.Run.{settings}
-use Rattle.p2p_directory.proofs.Reservations.Holding.{held_by_track}
 use Rattle.p2p_directory.proofs.Reservations.Served
 use Rattle.p2p_directory.proofs.Reservations.Torn.{few_torn}
 use Rattle.p2p_directory.proofs.run.server.Server.track.Goals as goal
 use Rattle.p2p_directory.proofs.run.server.Server.track.Goals.{in-Ok, in-Err}
-
--- whether the set was taken or not, the same reservations are held
-held_after : {C S : Type 0} (cmp : C → C → Ordering) (d d2 : DirectoryView C S) (set : SetAt C) (held : C → Option (Metadata C S)) (torn : Option (List C)) →
-    AreHeld cmp d held → IfSome torn (λ _. TakesSet cmp d d2 set) → IfNone torn (d2 ≡ d) → AreHeld cmp d2 held
-held_after cmp d d2 set held None agree taken same = subst (λ d. AreHeld cmp d held) (sym same) agree
-held_after cmp d d2 set held (Some torn) agree taken same = held_by_track cmp d d2 set held agree taken
-
-pub invariant_of-self : goal.invariant_of-self
-invariant_of-self g c =
-    let cmp = g.C.Ord.cmp in
-    let d = c.self.inside.directory in
-    let held = held_in cmp c.self.inside.slots in
-    let after : AreHeld cmp c.track.new.self held = elim c.match-track.branch [
-      | in-Ok w ↦
-          held_after cmp d c.track.new.self (set_of cmp c.args.index c.args.peers.primary c.args.peers.secondary)
-          held w.in-Ok.torn c.self.invariant.0 w.in-Ok.ensures.taken w.in-Ok.ensures.refused
-      | in-Err w ↦ subst (λ d. AreHeld cmp d held) (sym w.in-Err.ensures.err) c.self.invariant.0
-    ] in
-    (after, c.self.invariant.1)
 
 pub returns-clause-served : goal.returns-clause-served
 returns-clause-served g c = rw (← c.self.view_is) (λ bootstrappers myself cfg calls at.

@@ -1,7 +1,7 @@
 use Rattle.std.proofs.Common.{arith, length, [], ap, sym, ◌∙◌, refl}
 use Rattle.std.proofs.lemmas.List.{nil_from_length, append-nil}
 use Rattle.std.proofs.lemmas.Result.{err_from_is_err_and}
-use Rattle.p2p_discovery.proofs.ReadLaws.{only_err, only_ok, found_at, fails_whole, ends_ok, ends_extra}
+use Rattle.p2p_discovery.proofs.ReadLaws.{only_err, only_ok, found_at}
 use Rattle.p2p_discovery.proofs.codec.decode.Read.decode_from.Goals as goal
 
 pub returns-in_err-value-clause-only : goal.returns-in_err-value-clause-only
@@ -10,11 +10,6 @@ returns-in_err-value-clause-only g c = λ v is a s.
     rw (p.1, p.2)
     (only_err (g.met.Self.Read.lawful c.args.cfg.now) c.new-reader.result c.args.bytes.now c.new-reader.ensures.value
     _ v [] c.in_err-value.ensures (is, a) (s ∙ sym (append-nil _)))
-
-pub returns-in_err-value-clause-exact : goal.returns-in_err-value-clause-exact
-returns-in_err-value-clause-exact g c =
-    let p = err_from_is_err_and c.from_residual.result c.from_residual.ensures.1 in
-    rw (p.1, p.2, ← c.new-reader.ensures.value) (fails_whole _ (g.Self.Read.reading c.args.cfg.now) c.new-reader.result c.in_err-value.ensures)
 
 pub returns-clause-found : goal.returns-clause-found
 returns-clause-found g c =
@@ -30,11 +25,6 @@ returns-clause-only g c = λ v is a s. (
   refl,
 )
 
-pub returns-clause-exact : goal.returns-clause-exact
-returns-clause-exact g c =
-    let nothing = nil_from_length c.read.new.reader (sym c.len-rest.ensures ∙ c.if-rest-ne0.false) in
-    ends_ok (g.Self.Read.reading c.args.cfg.now) c.args.bytes.now _ c.read.new.reader (rw c.new-reader.ensures.value at c.in_ok-value.ensures) nothing
-
 pub returns-then-rest-ne0-clause-only : goal.returns-then-rest-ne0-clause-only
 returns-then-rest-ne0-clause-only g c = λ v is a s.
     let nothing =
@@ -42,9 +32,3 @@ returns-then-rest-ne0-clause-only g c = λ v is a s.
     c.new-reader.ensures.value _ c.read.new.reader v [] c.in_ok-value.ensures (is, a)
     (s ∙ sym (append-nil _))).1 in
     absurd (omega (arith, c.if-rest-ne0.true, c.len-rest.ensures, ap length nothing))
-
-pub returns-then-rest-ne0-clause-exact : goal.returns-then-rest-ne0-clause-exact
-returns-then-rest-ne0-clause-exact g c =
-    ends_extra (g.Self.Read.reading c.args.cfg.now) c.args.bytes.now _ c.read.new.reader c.len-rest.result
-    (rw c.new-reader.ensures.value at c.in_ok-value.ensures) c.len-rest.ensures
-    (omega (arith, c.if-rest-ne0.true))

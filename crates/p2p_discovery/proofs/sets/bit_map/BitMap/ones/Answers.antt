@@ -2,11 +2,6 @@ use Rattle.std.proofs.Common.{rules, arith}
 use Rattle.p2p_discovery.proofs.BitMaps.{whole_ones, cut_ones}
 use Rattle.p2p_discovery.proofs.sets.bit_map.BitMap.ones.Goals as goal
 
-pub invariant_of-result : goal.invariant_of-result
-invariant_of-result c =
-    (whole_ones c.in_ok-bytes.bytes.items c.bytes_for.result c.args.n
-    (c.in_ok-bytes.ensures.items_if_clones_equal (search rules)) c.bytes_for.ensures (omega arith)).packed
-
 pub returns-then-n-eq0 : goal.returns-then-n-eq0
 returns-then-n-eq0 c =
     (whole_ones c.in_ok-bytes.bytes.items c.bytes_for.result c.args.n

@@ -9,6 +9,3 @@ returns-clause-err g c =
     c.len-after.ensures.ordered c.len-before.ensures.ordered c.join_roles-joined.new.self c.args.self.now
     c.self-2.view_is c.self.view_is (restored back))
     c.join_roles-joined.ensures.err
-
-pub returns-clause-map : goal.returns-clause-map
-returns-clause-map g c = (c.self.inside.map, c.len-before.ensures.ordered, c.self.view_is)

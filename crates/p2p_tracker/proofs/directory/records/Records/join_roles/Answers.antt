@@ -48,16 +48,3 @@ returns-in-Err-joined-clause-err g c = λ back q.
     (record_at cmp c.join_secondary-joined.new.self q)) primary)
     (c.in-Err-joined.ensures.err q (λ h. ap (λ o. one_set_less Secondary (one_set_more Secondary k o)) (same h) ∙ back q Secondary ∙ sym (same h)))
     mid_is
-
-pub returns-clause-ok : goal.returns-clause-ok
-returns-clause-ok g c = λ q.
-    let cmp = g.C.Ord.cmp in
-    let secondary : c.as_slice.result.now ≡ c.args.set.now.secondary = c.as_slice.ensures.all ∙ c.secondary.ensures
-    ∙ ap (λ (s : SetWithBits g.row.C.Denot). s.secondary) c.in_default.ensures.bits in
-    c.in_default-joined.ensures.ok q
-    ∙ (λ i. cond (has_key cmp (secondary i) q)
-    (one_set_more Secondary (cooldown_in cmp c.args.cooldowns.now q) (c.in_default.ensures.ok q i))
-    (c.in_default.ensures.ok q i))
-
-pub returns-clause-bits : goal.returns-clause-bits
-returns-clause-bits g c = c.in_default.ensures.bits

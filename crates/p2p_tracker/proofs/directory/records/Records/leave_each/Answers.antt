@@ -7,9 +7,6 @@ use Rattle.p2p_tracker.specs.Seen.{record_at}
 use Rattle.p2p_tracker.proofs.SetsAndRecords.Naming.{one_changed, not_yet}
 use Rattle.p2p_tracker.proofs.directory.records.Records.leave_each.Goals as goal
 
-pub push_if-requires : goal.push_if-requires
-push_if-requires g c = omega (arith, c.requires.room, c.loop-peer.invariant.length, c.loop-peer.invariant.capacity, c.loop-peer-test.true)
-
 -- one peer more
 added : {A : Type 0} (test : A → Bool) (b : Bool) (x : A) (xs before now new : List A) (i : ℕ) → i < length xs → x ≡ get_or xs i x → b ≡ test x →
     now ≡ before ++ filter test (take i xs) → new ≡ now ++ cond b (x ∷ []) [] → new ≡ before ++ filter test (take (i + 1) xs)

@@ -15,6 +15,3 @@ invariant_of-result g c = λ q named.
     ap (λ keys. has_key cmp keys q) c.in_ok-secondary.ensures
     ∙ names-filter g.met.C.PublicKey.exact (λ p. not (has_key cmp c.args.primary p)) c.args.secondary q
     ∙ ap (λ b. not b && has_key cmp c.args.secondary q) (ap (λ keys. has_key cmp keys q) (sym peers) ∙ named)
-
-pub returns : goal.returns
-returns g c = λ i. record { index = c.args.index; primary = (c.in_ok-primary.ensures ∙ unset_is c.args.primary) i; secondary = c.in_ok-secondary.ensures i }

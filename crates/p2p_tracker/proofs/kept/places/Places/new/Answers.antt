@@ -1,7 +1,6 @@
-use Rattle.std.proofs.Common.{[], sym, subst}
+use Rattle.std.proofs.Common.{sym, subst}
 use Rattle.std.specs.List.Sorted.{IsStrictlySortedBy}
 use Rattle.std.specs.Map.{keys_of}
-use Rattle.std.specs.declared.cmp.Ordering.{Ordering}
 use Rattle.p2p_discovery.proofs.Sorting.{sorted_nil}
 use Rattle.p2p_tracker.proofs.kept.places.Places.new.Goals as goal
 
