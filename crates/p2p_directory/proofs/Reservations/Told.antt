@@ -45,7 +45,6 @@ use Rattle.p2p_directory.proofs.Reservations.Served.{same_views, idle}
 
 module _ {C S : Type 0} (s : Settings C S) where
   module _ (some : 1 ≤ s.max_sets) (exact : (p q : C) → s.cmp p q ≡ Equal → p ≡ q) where
-
     -- ONE QUESTION: v before it, v2 after it
     module _ (cs : List (Call C S)) (v v2 : ServerView C S) (at : StandsAt s cs v) where
       -- one that is refused memory leaves all as it was
