@@ -1,6 +1,5 @@
 -- What the definitions imply: the main law, and what each answer is determined by.
 pub mod Steps
-pub mod Makes
 pub mod Law
 pub mod Latest
 pub mod Start

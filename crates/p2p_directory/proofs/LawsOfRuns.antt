@@ -8,7 +8,6 @@ pub mod Dialled
 pub mod GrantRuns
 pub mod BlockRuns
 pub mod DialRuns
-pub mod IsolationRuns
 pub mod OrderRuns
 pub mod BoundRuns
 pub mod Laws

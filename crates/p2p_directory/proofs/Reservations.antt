@@ -4,6 +4,5 @@ pub mod Listed
 pub mod Holding
 pub mod Effects
 pub mod Served
-pub mod Told
 pub mod Replies
 pub mod Torn

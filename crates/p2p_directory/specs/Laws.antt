@@ -6,7 +6,6 @@ pub mod Grants
 pub mod GrantRuns
 pub mod BlockRuns
 pub mod DialRuns
-pub mod IsolationRuns
 pub mod OrderRuns
 pub mod BoundRuns
 pub mod Run

@@ -16,8 +16,7 @@ use Rattle.p2p_tracker.specs.Calls.Call.{Ask}
 use Rattle.p2p_tracker.specs.Calls.Question.{StatusOf}
 use Rattle.p2p_tracker.specs.History.{is_persistent, is_named}
 use Rattle.p2p_tracker.specs.Status.{is_inert}
-use Rattle.p2p_tracker.specs.Step.{world_with}
-use Rattle.p2p_tracker.specs.World.{World, dial_event, may_dial, address_with}
+use Rattle.p2p_tracker.specs.World.{world_with, World, dial_event, may_dial, address_with}
 use Rattle.p2p_directory.specs.declared.run.commands.Command.TheVariants as command
 use Rattle.p2p_directory.specs.declared.run.commands.Reply.{Reply}
 use Rattle.p2p_directory.specs.declared.run.commands.Reply.TheVariants as reply

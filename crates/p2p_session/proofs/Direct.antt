@@ -4,9 +4,9 @@ use Rattle.p2p_tracker.specs.Calls.{Call}
 use Rattle.p2p_directory.specs.Run.{was_made}
 use Rattle.p2p_directory.specs.Nodes.{AtEach, IsSteppedAt, NodeView}
 use Rattle.p2p_directory.specs.declared.run.commands.Reply.{Reply}
-use Rattle.p2p_session.specs.Answers.{Tells, TellsReply, answer_to}
+use Rattle.p2p_session.specs.Answers.{Tells}
+use Rattle.p2p_session.specs.Sessions.{TellsReply, answer_to, Serves}
 use Rattle.p2p_session.specs.Answers.Answer.{Is}
-use Rattle.p2p_session.specs.Sessions.{Serves}
 use Rattle.p2p_session.specs.Schemes.{Scheme}
 
 module _ {C S : Type 0} (k : Scheme C S) where

@@ -1,6 +1,5 @@
 -- What a track answers fits a room that has the keys of all peers with a record.
-use Rattle.std.proofs.Common.{◌≡◌, ℕ, ◌*◌, ◌≤◌, ◌<◌, ◌^◌, min, List, length, Option, Some, None}
-use Rattle.std.proofs.Common.{sym, subst, inl, inr, arith, lit<}
+use Rattle.std.proofs.Common.{◌≡◌, ℕ, ◌*◌, ◌≤◌, ◌<◌, ◌^◌, min, List, length, Option, Some, None, sym, subst, inl, inr, arith, lit<}
 use Rattle.std.proofs.Math.Nat.{mul-le-mul_right}
 use Rattle.std.specs.Prelude.{IfSome}
 use Rattle.p2p_tracker.specs.Seen.{DirectoryView}
@@ -10,9 +9,9 @@ use Rattle.p2p_directory.specs.declared.run.commands.Reply.{Reply}
 use Rattle.p2p_directory.specs.declared.run.commands.Reply.TheVariants as reply
 use Rattle.p2p_session.specs.declared.refusal.Refusal.{Refusal}
 use Rattle.p2p_session.specs.declared.refusal.Refusal.TheVariants as refusal
-use Rattle.p2p_session.specs.Answers.{TellsReply, Tells, IsAnswered, optional, keys_bytes}
+use Rattle.p2p_session.specs.Answers.{Tells, IsAnswered, optional, keys_bytes}
+use Rattle.p2p_session.specs.Sessions.{TellsReply, Fits}
 use Rattle.p2p_session.specs.Refusals.{number_of}
-use Rattle.p2p_session.specs.Sessions.{Fits}
 use Rattle.p2p_discovery.specs.Fixed.{IsFixed}
 use Rattle.p2p_session.proofs.Puts.{length_keys}
 use Rattle.p2p_session.specs.Schemes.{Scheme}

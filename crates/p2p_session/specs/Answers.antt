@@ -57,12 +57,6 @@ status_number (Some Inert) = Is 0
 status_number (Some Reserved) = Is 1
 status_number (Some Active) = Is 2
 
--- an answer that may be spelled in memory of its own, before it is written
-abbrev pub is_spelled : {C S : Type 0} → Reply C S → Bool
-is_spelled (reply.Infos (Some infos)) = true
-is_spelled (reply.GetRandomBitVec (Some bits)) = true
-is_spelled _ = false
-
 -- the bytes stand in the room from a place on
 abbrev pub put_at : ℕ → List ℕ → List ℕ → List ℕ
 put_at at bytes out = take at out ++ (bytes ++ drop (at + length bytes) out)
@@ -130,39 +124,3 @@ module _ {C S : Type 0} (k : Scheme C S) where
   dialable_bytes (Some t) peers = joined (
       (1 ∷ []) ∷ number (t / 1_000_000_000) ∷ to_be_bytes w32 (t % 1_000_000_000)
       ∷ keys_bytes peers ∷ [])
-
-  -- what is answered to each reply
-  abbrev pub answer_to : Reply C S → Answer
-  answer_to (reply.Track torn) = optional keys_bytes torn
-  answer_to (reply.Dial granted) = truth granted
-  answer_to (reply.Listen granted) = truth granted
-  answer_to reply.Connect = Is 1
-  answer_to reply.Release = Is 1
-  answer_to reply.UpdatePeers = Is 1
-  answer_to (reply.Block taken) = truth taken
-  answer_to (reply.UnblockExpired some) = truth some
-  answer_to (reply.ForgetCooled n) = Is n
-  answer_to (reply.NextUnblock moment) = optional (λ t. moment_bytes (as_nanos t)) moment
-  answer_to (reply.BlockedPeers peers) = Bytes (keys_bytes peers)
-  answer_to (reply.Status status) = status_number status
-  answer_to (reply.GetPeerSet peers) = optional peers_bytes peers
-  answer_to (reply.LatestSetIndex index) = optional number index
-  answer_to (reply.LatestUpdate update) = optional update_bytes update
-  answer_to (reply.All peers) = Bytes (peers_bytes peers)
-  answer_to (reply.Info info) = optional info_bytes info
-  answer_to (reply.Infos infos) =
-      optional (λ v. infos_spelling k.key.spelled k.signature.spelled v.items) infos
-  answer_to (reply.GetRandomBitVec bits) = optional bit_vec_spelling bits
-  answer_to (reply.Eligible is) = truth is
-  answer_to (reply.Acceptable is) = truth is
-  answer_to (reply.Dialable d) =
-      Bytes (dialable_bytes (option_map as_nanos d.next_query_at) d.peers.items)
-  answer_to (reply.Tracked n) = Is n
-  answer_to reply.NotReserved = refused refusal.NotReserved
-  answer_to reply.NotHeld = refused refusal.NotHeld
-  answer_to reply.OutOfMemory = refused refusal.Memory
-
-  -- the answer to a reply, or want of memory where it has to be spelled
-  abbrev pub TellsReply : Reply C S → List ℕ → List ℕ → ℕ → Type 0
-  TellsReply r out out2 n =
-      ((is_spelled r ≡ true) × Refuses refusal.Memory out out2 n) ⊎ Tells (answer_to r) out out2 n

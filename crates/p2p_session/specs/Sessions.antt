@@ -1,6 +1,9 @@
 -- What the calls of a session do.
-use Rattle.std.specs.Prelude.{◌≡◌, ◌⊎◌, ℕ, ◌*◌, ◌<◌, ◌≤◌, ◌^◌, min, Bool, List, [], length}
-use Rattle.std.specs.Prelude.{Option, Some, None, Ok, Err, true, false, is_some}
+use Rattle.std.specs.Prelude.{◌≡◌, ◌⊎◌, ℕ, ◌*◌, ◌<◌, ◌≤◌, ◌^◌, min, Bool, List, [], length, Option}
+use Rattle.std.specs.Prelude.{Some, None, Ok, Err, true, false, is_some, option_map}
+use Rattle.std.specs.Duration.{as_nanos}
+use Rattle.p2p_discovery.specs.BitVec.{bit_vec_spelling}
+use Rattle.p2p_discovery.specs.Info.{infos_spelling}
 use Rattle.p2p_tracker.specs.Calls.{Call}
 use Rattle.p2p_tracker.specs.Calls.Call.{Dial, Listen, Connect, Release, Update, Block}
 use Rattle.p2p_tracker.specs.Calls.Call.{UnblockExpired, ForgetCooled, Ask}
@@ -10,21 +13,26 @@ use Rattle.p2p_tracker.specs.Calls.Question.{InfosFor, BitsAt, IsEligible, IsAcc
 use Rattle.p2p_tracker.specs.Directory.{other_keys, dial_moment_in}
 use Rattle.p2p_tracker.specs.Lists.{IsLeastOf}
 use Rattle.p2p_directory.specs.Run.{was_made}
-use Rattle.p2p_directory.specs.Nodes.{AtEach, IsSteppedAt, standing_of}
-use Rattle.p2p_directory.specs.Nodes.{NodeView, NodeStandsAt, made_of}
+use Rattle.p2p_directory.specs.Nodes.{AtEach, IsSteppedAt, standing_of, NodeView, NodeStandsAt}
+use Rattle.p2p_directory.specs.Nodes.{made_of}
 use Rattle.p2p_directory.specs.declared.node.setup.Setup.{Setup}
 use Rattle.p2p_session.specs.declared.setup.Numbers.{Numbers}
 use Rattle.p2p_directory.specs.declared.run.commands.Reply.{Reply}
+use Rattle.p2p_directory.specs.declared.run.commands.Reply.TheVariants as reply
 use Rattle.p2p_session.specs.declared.refusal.Refusal.{Refusal}
 use Rattle.p2p_session.specs.declared.refusal.Refusal.TheVariants as refusal
 use Rattle.p2p_session.specs.declared.session.Session.{Session}
 use Rattle.p2p_session.specs.Schemes.{Scheme, wire}
 use Rattle.p2p_session.specs.Views.{HasNone}
 use Rattle.p2p_session.specs.Frames.{TellsHeldOf, ReceivesOf, ChecksAt}
-use Rattle.p2p_session.specs.Answers.{Tells, TellsReply, Refuses, optional, moment_bytes}
+use Rattle.p2p_session.specs.Answers.{Answer, Tells, Refuses, optional, moment_bytes, keys_bytes}
+use Rattle.p2p_session.specs.Answers.{truth, refused, number, peers_bytes, update_bytes, info_bytes}
+use Rattle.p2p_session.specs.Answers.{dialable_bytes, status_number}
+use Rattle.p2p_session.specs.Answers.Answer.{Is, Bytes}
 use Rattle.p2p_session.specs.Refusals.{number_of}
 use Rattle.p2p_session.specs.Given.{Asked, and_then, key_at, moment_at, IsTrackRead, IsRead}
-use Rattle.p2p_session.specs.Given.{infos_spelled, bits_spelled, IsSetup, IsSetupRefusal, numbers_at}
+use Rattle.p2p_session.specs.Given.{infos_spelled, bits_spelled, IsSetup, IsSetupRefusal}
+use Rattle.p2p_session.specs.Given.{numbers_at}
 use Rattle.p2p_directory.specs.Received.{ask_frame_at}
 
 -- no node has been made
@@ -44,7 +52,49 @@ Fits out n = (n ≤ length out) ⊎ (2 ^ 63 < n)
 abbrev pub at_moment : {C S : Type 0} → ℕ → ℕ → (ℕ → Call C S) → Asked C S
 at_moment seconds nanos f = and_then (moment_at seconds nanos) (λ now. Ok (f now))
 
+-- an answer that may be spelled in memory of its own, before it is written
+abbrev pub is_spelled : {C S : Type 0} → Reply C S → Bool
+is_spelled (reply.Infos (Some infos)) = true
+is_spelled (reply.GetRandomBitVec (Some bits)) = true
+is_spelled _ = false
+
 module _ {C S : Type 0} (k : Scheme C S) where
+  -- what is answered to each reply
+  abbrev pub answer_to : Reply C S → Answer
+  answer_to (reply.Track torn) = optional (keys_bytes k) torn
+  answer_to (reply.Dial granted) = truth granted
+  answer_to (reply.Listen granted) = truth granted
+  answer_to reply.Connect = Is 1
+  answer_to reply.Release = Is 1
+  answer_to reply.UpdatePeers = Is 1
+  answer_to (reply.Block taken) = truth taken
+  answer_to (reply.UnblockExpired some) = truth some
+  answer_to (reply.ForgetCooled n) = Is n
+  answer_to (reply.NextUnblock moment) = optional (λ t. moment_bytes (as_nanos t)) moment
+  answer_to (reply.BlockedPeers peers) = Bytes (keys_bytes k peers)
+  answer_to (reply.Status status) = status_number status
+  answer_to (reply.GetPeerSet peers) = optional (peers_bytes k) peers
+  answer_to (reply.LatestSetIndex index) = optional number index
+  answer_to (reply.LatestUpdate update) = optional (update_bytes k) update
+  answer_to (reply.All peers) = Bytes (peers_bytes k peers)
+  answer_to (reply.Info info) = optional (info_bytes k) info
+  answer_to (reply.Infos infos) =
+      optional (λ v. infos_spelling k.key.spelled k.signature.spelled v.items) infos
+  answer_to (reply.GetRandomBitVec bits) = optional bit_vec_spelling bits
+  answer_to (reply.Eligible is) = truth is
+  answer_to (reply.Acceptable is) = truth is
+  answer_to (reply.Dialable d) =
+      Bytes (dialable_bytes k (option_map as_nanos d.next_query_at) d.peers.items)
+  answer_to (reply.Tracked n) = Is n
+  answer_to reply.NotReserved = refused refusal.NotReserved
+  answer_to reply.NotHeld = refused refusal.NotHeld
+  answer_to reply.OutOfMemory = refused refusal.Memory
+
+  -- the answer to a reply, or want of memory where it has to be spelled
+  abbrev pub TellsReply : Reply C S → List ℕ → List ℕ → ℕ → Type 0
+  TellsReply r out out2 n =
+      ((is_spelled r ≡ true) × Refuses refusal.Memory out out2 n) ⊎ Tells (answer_to r) out out2 n
+
   -- ---- one call
 
   -- the node made this call, wherever the calls accepted before led: the reply is that of a run, the
@@ -53,7 +103,7 @@ module _ {C S : Type 0} (k : Scheme C S) where
       (out out2 : List ℕ) (n : ℕ) : Type 0 where
     pub stepped : AtEach k.key.cmp v (λ m calls. IsSteppedAt m calls call r v2)
     pub unchanged : was_made r ≡ false → v2 ≡ v
-    pub told : TellsReply k r out out2 n
+    pub told : TellsReply r out out2 n
 
   -- the call that was asked for is made, or why it can't be read is answered
   abbrev pub Serves : Asked C S → List ℕ → List ℕ → Option (NodeView C S) → Option (NodeView C S) →

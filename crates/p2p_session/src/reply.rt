@@ -5,9 +5,10 @@ ghost use Rattle.p2p_discovery.specs.Ingress.{ingress_spelling};
 ghost use Rattle.std.specs.Duration.{as_nanos};
 ghost use Rattle.p2p_session.specs.Schemes.{scheme};
 ghost use Rattle.p2p_session.specs.Frames.{held_answer};
-ghost use Rattle.p2p_session.specs.Answers.{TellsReply, Tells, Refuses, IsAnswered, truth};
+ghost use Rattle.p2p_session.specs.Answers.{Tells, Refuses, IsAnswered, truth};
 ghost use Rattle.p2p_session.specs.Answers.{status_number, peers_bytes, update_bytes, optional};
-ghost use Rattle.p2p_session.specs.Answers.{keys_bytes, moment_bytes, answer_to, number};
+ghost use Rattle.p2p_session.specs.Answers.{keys_bytes, moment_bytes, number};
+ghost use Rattle.p2p_session.specs.Sessions.{TellsReply, answer_to};
 ghost use Rattle.p2p_session.specs.Answers.Answer.{Is, Bytes as Spelled};
 ghost use Rattle.p2p_discovery.specs.Info.{infos_spelling};
 

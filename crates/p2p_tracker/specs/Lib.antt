@@ -12,8 +12,6 @@ pub mod Answers
 pub mod Seen
 pub mod Record
 pub mod Directory
--- The step of one accepted call: the main law and other laws alone speak of it.
-pub mod Step
 -- Dials of the peers that an answer of `dialable` names.
 pub mod Dials
 pub mod Private

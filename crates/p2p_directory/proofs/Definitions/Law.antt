@@ -13,10 +13,9 @@ use Rattle.p2p_tracker.specs.PeerSets.{set_of}
 use Rattle.p2p_tracker.specs.History
 use Rattle.p2p_tracker.specs.Lists.{last_of}
 use Rattle.p2p_tracker.specs.World
-use Rattle.p2p_tracker.specs.Step
 use Rattle.p2p_tracker.specs.World.{World}
 use Rattle.p2p_directory.proofs.Definitions.Steps
-use Rattle.p2p_directory.proofs.Definitions.Makes.{Makes, makes, at_call}
+use Rattle.p2p_directory.proofs.Definitions.Steps.{Makes, makes, at_call}
 use Rattle.p2p_tracker.proofs.Definitions.Knowledge
 
 -- INDEXES: what lies above each retained set lies above each set that was ever taken
@@ -98,18 +97,18 @@ module _ {C S : Type 0} (s : Settings C S) where
   -- ONE EVENT, ANY PAST
 
   pub peer_step : (p : C) (e : Event C S) (h : List (Event C S)) →
-      World.peer_at s p (e ∷ h) ≡ Step.peer_after s p e (Step.sets_after s e (History.retained_sets s h)) (World.peer_at s p h)
+      World.peer_at s p (e ∷ h) ≡ World.peer_after s p e (World.sets_after s e (History.retained_sets s h)) (World.peer_at s p h)
   peer_step p e h = λ i. record {
     status = Steps.status_step s p e h i;
     known = (Knowledge.known_life s p e h
-        ∙ ap (λ sets. if History.is_present_with s p sets (History.status_at s p (e ∷ h)) then Step.known_after s p
-        e (World.known_in s p (History.life s p h)) else Step.new_known s p) (Steps.retained_step s e h)
-        ∙ ap (λ st. if History.is_present_with s p (Step.sets_after s e (History.retained_sets s h)) st
-        then Step.known_after s p e (World.known_in s p (History.life s p h)) else Step.new_known s p)
+        ∙ ap (λ sets. if History.is_present_with s p sets (History.status_at s p (e ∷ h)) then World.known_after s p
+        e (World.known_in s p (History.life s p h)) else World.new_known s p) (Steps.retained_step s e h)
+        ∙ ap (λ st. if History.is_present_with s p (World.sets_after s e (History.retained_sets s h)) st
+        then World.known_after s p e (World.known_in s p (History.life s p h)) else World.new_known s p)
         (Steps.status_step s p e h)) i;
   }
 
-  pub world_step : (e : Event C S) (h : List (Event C S)) → World.world_at s (e ∷ h) ≡ Step.world_with s e (World.world_at s h)
+  pub world_step : (e : Event C S) (h : List (Event C S)) → World.world_at s (e ∷ h) ≡ World.world_with s e (World.world_at s h)
   world_step e h = λ i. record {
     state = record {
       sets = Steps.retained_step s e h i;
@@ -123,7 +122,7 @@ module _ {C S : Type 0} (s : Settings C S) where
   -- THE LAW
 
   pub recomputed_is_one_step : 1 ≤ s.max_sets → (cs : List (Call C S)) (c : Call C S) →
-      World.world_at s (World.past s (c ∷ cs)) ≡ Step.step s (World.world_at s (World.past s cs)) c
+      World.world_at s (World.past s (c ∷ cs)) ≡ World.step s (World.world_at s (World.past s cs)) c
   recomputed_is_one_step some cs c =
       world_step (World.event_in s (History.taken_sets s (World.past s cs)) (World.world_at s (World.past s cs)) c) (World.past s cs)
-      ∙ ap (λ e. Step.world_with s e (World.world_at s (World.past s cs))) (does_same cs c some)
+      ∙ ap (λ e. World.world_with s e (World.world_at s (World.past s cs))) (does_same cs c some)

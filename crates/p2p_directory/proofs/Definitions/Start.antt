@@ -4,7 +4,6 @@ use Rattle.p2p_tracker.specs.Calls.{Settings, SetAt}
 use Rattle.p2p_tracker.specs.declared.record.Status.TheVariants.{Inert}
 use Rattle.p2p_tracker.specs.History
 use Rattle.p2p_tracker.specs.World
-use Rattle.p2p_tracker.specs.Step
 use Rattle.p2p_tracker.specs.World.{World}
 use Rattle.p2p_tracker.proofs.Definitions.Knowledge
 
@@ -14,7 +13,7 @@ module _ {C S : Type 0} (s : Settings C S) where
   new_world = record {
     state = record {
       sets = [];
-      peer = λ p. record { status = Inert; known = Step.new_known s p };
+      peer = λ p. record { status = Inert; known = World.new_known s p };
       unblock = λ p. None;
       cooldown = λ p. None;
     };

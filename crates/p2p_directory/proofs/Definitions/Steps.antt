@@ -1,16 +1,21 @@
--- What one more event changes of what the past says.
-use Rattle.std.proofs.Common.{◌≡◌, ℕ, ◌+◌, ◌-◌, Bool, true, false, ◌||◌, List, [], ◌∷◌, ◌++◌, length, drop, Option, Some, None, refl, sym, ◌∙◌, ap, arith}
-use Rattle.std.specs.Prelude.{if◌then◌else◌, nat_le, option_map}
+-- What one more event changes of what the past says, and which events a call may make, in whatever world: so a law of
+-- events needs no look inside the calls.
+use Rattle.std.proofs.Common.{◌≡◌, ℕ, ◌+◌, ◌-◌, Bool, true, false, ◌||◌, List, [], ◌∷◌, ◌++◌, length, drop, Option, Some, None, refl, sym, ◌∙◌, ap, arith, inl, inr, subst}
+use Rattle.std.specs.Prelude.{if◌then◌else◌, nat_le, option_map, ◌⊎◌}
 use Rattle.std.specs.List.{list_any}
 use Rattle.std.proofs.lemmas.List.{append-nil, drop-append-le, drop-drop, length-append, length-drop}
-use Rattle.p2p_tracker.specs.Calls.{Settings, Grant, Event}
+use Rattle.p2p_tracker.specs.Calls.{Settings, Grant, Event, Call, SetAt}
 use Rattle.p2p_tracker.specs.declared.record.Status.TheVariants.{Inert, Reserved, Active}
 use Rattle.p2p_tracker.specs.Calls.Event.{Nothing, SetTaken, Granted, Connected, Released, Updated, Blocked, Expired, Forgot}
 use Rattle.p2p_tracker.specs.Moments.{cap}
 use Rattle.p2p_tracker.specs.History
 use Rattle.p2p_tracker.specs.History.{last_with, found_with, last_unless_ended, unless_ended}
 use Rattle.p2p_tracker.specs.Lists.{last_of}
-use Rattle.p2p_tracker.specs.Step
+use Rattle.p2p_tracker.specs.World
+use Rattle.p2p_discovery.specs.declared.types.ingress.Ingress.{Ingress}
+use Rattle.p2p_tracker.specs.declared.record.Status.{Status}
+use Rattle.p2p_tracker.specs.Calls.Call.{Track, Dial, Listen, Connect, Release, Update, Block, UnblockExpired, ForgetCooled, Ask}
+use Rattle.p2p_tracker.specs.World.{World}
 
 -- RETAINED SETS
 
@@ -49,7 +54,7 @@ lasting_step {E} {A} gives ends e h = go (gives e) (last_with gives h)
         ended a false = elim (ends a e) as (λ b. (if b || false then None else Some a) ≡ (if b then None else Some a)) [ true ↦ refl | false ↦ refl ]
 
 module _ {C S : Type 0} (s : Settings C S) where
-  pub retained_step : (e : Event C S) (h : List (Event C S)) → History.retained_sets s (e ∷ h) ≡ Step.sets_after s e (History.retained_sets s h)
+  pub retained_step : (e : Event C S) (h : List (Event C S)) → History.retained_sets s (e ∷ h) ≡ World.sets_after s e (History.retained_sets s h)
   retained_step (SetTaken taken) h = last_of-push s.max_sets (History.taken_sets s h) taken
   retained_step Nothing h = ap (last_of s.max_sets) (append-nil (History.taken_sets s h))
   retained_step (Granted q grant) h = ap (last_of s.max_sets) (append-nil (History.taken_sets s h))
@@ -65,7 +70,7 @@ module _ {C S : Type 0} (s : Settings C S) where
   -- an event that is no grant
   other_status : (p : C) (e : Event C S) (found : Option (Grant × List (Event C S))) →
       History.status_since s p (found_with None e found)
-      ≡ (if History.is_release s p e then Inert else if History.is_connect s p e then Step.status_connected s
+      ≡ (if History.is_release s p e then Inert else if History.is_connect s p e then World.status_connected s
       (History.status_since s p found) else History.status_since s p found)
   other_status p e None = none (History.is_release s p e) (History.is_connect s p e)
     where
@@ -78,7 +83,7 @@ module _ {C S : Type 0} (s : Settings C S) where
       (list_any (History.is_connect s p) found.1)
     where
       some : (r c rs cs : Bool) → (if r || rs then Inert else if c || cs then Active else Reserved)
-          ≡ (if r then Inert else if c then Step.status_connected s
+          ≡ (if r then Inert else if c then World.status_connected s
           (if rs then Inert else if cs then Active else Reserved) else if rs then Inert else if cs then Active
           else Reserved)
       some true c rs cs = refl
@@ -87,7 +92,7 @@ module _ {C S : Type 0} (s : Settings C S) where
       some false true false false = refl
       some false false rs cs = refl
 
-  pub status_step : (p : C) (e : Event C S) (h : List (Event C S)) → History.status_at s p (e ∷ h) ≡ Step.status_after s p e (History.status_at s p h)
+  pub status_step : (p : C) (e : Event C S) (h : List (Event C S)) → History.status_at s p (e ∷ h) ≡ World.status_after s p e (History.status_at s p h)
   status_step p (Granted q grant) h = go (History.same s q p)
     where
       go : (b : Bool) →
@@ -111,7 +116,7 @@ module _ {C S : Type 0} (s : Settings C S) where
       History.held_at s p (e ∷ h) ≡ lasted (History.grant_by s p e) (λ grant. History.is_release s p e) (History.held_at s p h)
   held_step_of p e h = lasting_step (History.grant_by s p) (λ grant. History.is_release s p) e h
 
-  pub held_step : (p : C) (e : Event C S) (h : List (Event C S)) → History.held_at s p (e ∷ h) ≡ Step.held_after s p e (History.held_at s p h)
+  pub held_step : (p : C) (e : Event C S) (h : List (Event C S)) → History.held_at s p (e ∷ h) ≡ World.held_after s p e (History.held_at s p h)
   held_step p (Granted q grant) h = held_step_of p (Granted q grant) h ∙ go (History.same s q p) (History.held_at s p h)
     where
       go : (b : Bool) (held : Option Grant) → lasted (if b then Some grant else None) (λ g. false) held ≡ (if b then Some grant else held)
@@ -135,7 +140,7 @@ module _ {C S : Type 0} (s : Settings C S) where
       History.unblock_at s p (e ∷ h) ≡ lasted (History.block_by s p e) (λ m. History.is_expiry s m e) (History.unblock_at s p h)
   unblock_step_of p e h = lasting_step (History.block_by s p) (History.is_expiry s) e h
 
-  pub unblock_step : (p : C) (e : Event C S) (h : List (Event C S)) → History.unblock_at s p (e ∷ h) ≡ Step.unblock_after s p e (History.unblock_at s p h)
+  pub unblock_step : (p : C) (e : Event C S) (h : List (Event C S)) → History.unblock_at s p (e ∷ h) ≡ World.unblock_after s p e (History.unblock_at s p h)
   unblock_step p (Blocked q t) h = unblock_step_of p (Blocked q t) h ∙ go (History.same s q p) (History.unblock_at s p h)
     where
       go : (b : Bool) (moment : Option ℕ) →
@@ -145,7 +150,7 @@ module _ {C S : Type 0} (s : Settings C S) where
       go false moment = lasted_none moment
   unblock_step p (Expired t) h = unblock_step_of p (Expired t) h ∙ go (History.unblock_at s p h)
     where
-      go : (moment : Option ℕ) → lasted None (λ m. nat_le m t) moment ≡ Step.unblock_after s p (Expired t) moment
+      go : (moment : Option ℕ) → lasted None (λ m. nat_le m t) moment ≡ World.unblock_after s p (Expired t) moment
       go None = refl
       go (Some m) = refl
   unblock_step p Nothing h = unblock_step_of p Nothing h ∙ lasted_none (History.unblock_at s p h)
@@ -167,7 +172,7 @@ module _ {C S : Type 0} (s : Settings C S) where
   kept_same : (kept : Option Grant) → option_map (History.moments_of s) (lasted None (λ g. false) kept) ≡ option_map (History.moments_of s) kept
   kept_same kept = ap (option_map (History.moments_of s)) (lasted_none kept)
 
-  pub cooldown_step : (p : C) (e : Event C S) (h : List (Event C S)) → History.cooldown_at s p (e ∷ h) ≡ Step.cooldown_after s p e (History.cooldown_at s p h)
+  pub cooldown_step : (p : C) (e : Event C S) (h : List (Event C S)) → History.cooldown_at s p (e ∷ h) ≡ World.cooldown_after s p e (History.cooldown_at s p h)
   cooldown_step p (Granted q grant) h =
       kept_step p (Granted q grant) h
       ∙ go (History.same s q p) (last_unless_ended (History.grant_by s p) (History.is_forgetting s) h)
@@ -179,7 +184,7 @@ module _ {C S : Type 0} (s : Settings C S) where
   cooldown_step p (Forgot t) h = kept_step p (Forgot t) h ∙ go (last_unless_ended (History.grant_by s p) (History.is_forgetting s) h)
     where
       go : (kept : Option Grant) → option_map (History.moments_of s) (lasted None (λ g. nat_le (History.moments_of s g).dial_at t) kept)
-          ≡ Step.cooldown_after s p (Forgot t) (option_map (History.moments_of s) kept)
+          ≡ World.cooldown_after s p (Forgot t) (option_map (History.moments_of s) kept)
       go None = refl
       go (Some g) =
           elim (nat_le (History.moments_of s g).dial_at t) as
@@ -194,3 +199,62 @@ module _ {C S : Type 0} (s : Settings C S) where
   cooldown_step p (Updated infos) h = kept_step p (Updated infos) h ∙ kept_same (last_unless_ended (History.grant_by s p) (History.is_forgetting s) h)
   cooldown_step p (Blocked q t) h = kept_step p (Blocked q t) h ∙ kept_same (last_unless_ended (History.grant_by s p) (History.is_forgetting s) h)
   cooldown_step p (Expired t) h = kept_step p (Expired t) h ∙ kept_same (last_unless_ended (History.grant_by s p) (History.is_forgetting s) h)
+
+-- WHAT A CALL MAY MAKE: a question makes no event
+
+module _ {C S : Type 0} where
+  -- the call may make this event
+  abbrev pub Makes : Call C S → Event C S → Type 0
+  Makes c Nothing = Unit {0}
+  Makes c (SetTaken taken) = (index : ℕ) × (primary : List C) × (secondary : List C) × (c ≡ Track index primary secondary)
+  Makes c (Granted p grant) = (c ≡ Dial p grant.t grant.draw) ⊎ (c ≡ Listen p grant.t grant.draw)
+  Makes c (Connected p dialer) = c ≡ Connect p dialer
+  Makes c (Released p direction) = c ≡ Release p
+  Makes c (Updated infos) = c ≡ Update infos
+  Makes c (Blocked p t) = c ≡ Block p t
+  Makes c (Expired t) = c ≡ UnblockExpired t
+  Makes c (Forgot t) = c ≡ ForgetCooled t
+
+-- each call makes such an event
+pub makes : {C S : Type 0} (s : Settings C S) (sets : List (SetAt C)) (w : World C S) (c : Call C S) → Makes c (World.event_in s sets w c)
+makes {C} {S} s sets w (Track index primary secondary) = go _ _
+  where
+    go : (b : Bool) (taken : SetAt C) → Makes {S = S} (Track index primary secondary) (if b then SetTaken taken else Nothing)
+    go true taken = (index, primary, secondary, refl)
+    go false taken = tt
+makes {C} {S} s sets w (Dial p t draw) = go _ _
+  where
+    go : (granted : Bool) (address : Option Ingress) → Makes (Dial p t draw) (World.dial_event s p t draw granted address)
+    go granted None = tt
+    go true (Some a) = inl refl
+    go false (Some a) = tt
+makes {C} {S} s sets w (Listen p t draw) = go _
+  where
+    go : (granted : Bool) → Makes (Listen p t draw) (World.listen_event s p t draw granted)
+    go true = inr refl
+    go false = tt
+makes {C} {S} s sets w (Connect p dialer) = go _
+  where
+    go : (status : Status) → Makes (Connect p dialer) (World.connect_event s p dialer status)
+    go Inert = tt
+    go Reserved = refl
+    go Active = tt
+makes {C} {S} s sets w (Release p) = go _
+  where
+    go : (held : Option Grant) → Makes (Release p) (World.release_event s p held)
+    go None = tt
+    go (Some grant) = refl
+makes {C} {S} s sets w (Update infos) = refl
+makes {C} {S} s sets w (Block p t) = go _
+  where
+    go : (b : Bool) → Makes {S = S} (Block p t) (if b then Blocked p t else Nothing)
+    go true = refl
+    go false = tt
+makes {C} {S} s sets w (UnblockExpired t) = refl
+makes {C} {S} s sets w (ForgetCooled t) = refl
+makes {C} {S} s sets w (Ask question) = tt
+
+-- what holds of a call and what it does holds of an equal call and its event
+pub at_call : {C S : Type 0} (s : Settings C S) (sets : List (SetAt C)) (w : World C S) {c d : Call C S} {e : Event C S} (F : Call C S → Event C S → Type 0) →
+    c ≡ d → World.event_in s sets w c ≡ e → F d (World.event_in s sets w d) → F c e
+at_call s sets w {c = c} F same is f = subst (F c) is (subst (λ x. F x (World.event_in s sets w x)) (sym same) f)

@@ -5,8 +5,7 @@ use Rattle.std.proofs.lemmas.Bool.{and_parts, and_from}
 use Rattle.p2p_tracker.specs.Calls.{Settings, SetAt, Cooldown}
 use Rattle.p2p_tracker.specs.History.{is_entitled}
 use Rattle.p2p_tracker.specs.Status.{is_inert}
-use Rattle.p2p_tracker.specs.World.{Peer, may_dial, may_listen, is_target, is_valid_address}
-use Rattle.p2p_tracker.specs.World.{address_with, is_dial_target}
+use Rattle.p2p_tracker.specs.World.{Peer, may_dial, may_listen, is_target, is_valid_address, address_with, is_dial_target}
 use Rattle.p2p_tracker.specs.Blocks.{is_blocked}
 use Rattle.p2p_tracker.specs.Cooldowns.{reservable_from}
 

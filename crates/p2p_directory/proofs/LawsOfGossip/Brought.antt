@@ -10,7 +10,7 @@ use Rattle.p2p_tracker.specs.Calls.{Settings, Call, SetAt}
 use Rattle.p2p_tracker.specs.Calls.Call.{Update}
 use Rattle.p2p_tracker.specs.History
 use Rattle.p2p_tracker.specs.World.{World}
-use Rattle.p2p_tracker.specs.Step
+use Rattle.p2p_tracker.specs.World
 use Rattle.p2p_tracker.specs.Answers.{set_at_place, set_with_index}
 use Rattle.p2p_directory.specs.Run.{world_after}
 use Rattle.p2p_directory.specs.Received.{Wire}
@@ -84,7 +84,7 @@ module _ {C S : Type 0} (wire : Wire C S) (asker replier : Made C S)
     pub known : AllByRecursion (IsUpToDate u) (infos_of w)
     -- it is applied again, which changes nothing
     pub again : coming u ≡ Applied (infos_of u)
-    pub unchanged : Step.step asker.directory u (Update (infos_of u)) ≡ u
+    pub unchanged : World.step asker.directory u (Update (infos_of u)) ≡ u
 
   module _ (at : set_at_place asker.directory w place ≡ Some x)
       (retained : set_with_index replier.directory v x.index ≡ Some y) (one : y.primary ≡ x.primary)
@@ -96,9 +96,9 @@ module _ {C S : Type 0} (wire : Wire C S) (asker replier : Made C S)
     applied = Exchanges.exchange_applied wire asker replier asker_now replier_now ds exact signed me
         moments w place x y at retained one bits peers count
 
-    brings_step : Brings (Step.step asker.directory w (Update (infos_of w)))
+    brings_step : Brings (World.step asker.directory w (Update (infos_of w)))
     brings_step = record {
-      known = from_members (IsUpToDate (Step.step asker.directory w (Update (infos_of w))))
+      known = from_members (IsUpToDate (World.step asker.directory w (Update (infos_of w))))
           (infos_of w)
           (Exchanges.brought_are_known wire asker replier asker_now replier_now ds exact signed me
           moments itself w place x at);

@@ -12,7 +12,7 @@ use Rattle.p2p_tracker.specs.Calls.{Call, SetAt}
 use Rattle.p2p_tracker.specs.Calls.Call.{Update}
 use Rattle.p2p_tracker.specs.History
 use Rattle.p2p_tracker.specs.World.{World}
-use Rattle.p2p_tracker.specs.Step
+use Rattle.p2p_tracker.specs.World
 use Rattle.p2p_tracker.specs.Answers.{is_present_in, bits_of, set_at_place, set_with_index}
 use Rattle.p2p_tracker.specs.Answers.{infos_for, shared_infos, wants, wants_with}
 use Rattle.p2p_tracker.specs.Moments.{epoch_millis}
@@ -138,7 +138,7 @@ module _ {C S : Type 0} (wire : Wire C S) (asker replier : Made C S) where
     pub brought_are_known : ((p : C) → History.same asker.directory p p ≡ true) →
         (w : World C S) (place : ℕ) (x : SetAt C) → set_at_place asker.directory w place ≡ Some x →
         (i : Info C S) → Member (infos_of w x.primary) i →
-        IsUpToDate (Step.step asker.directory w (Update (infos_of w x.primary))) i
+        IsUpToDate (World.step asker.directory w (Update (infos_of w x.primary))) i
     brought_are_known itself w place x at i m =
         let found = member_filter_map (wanted_info asker w replier v (epoch_millis replier_now))
         x.primary i m in

@@ -14,7 +14,7 @@ use Rattle.p2p_tracker.specs.World
 use Rattle.p2p_tracker.specs.World.{World}
 use Rattle.p2p_tracker.specs.Answers
 use Rattle.p2p_directory.specs.Laws.Gossip.{GivesOnly}
-use Rattle.p2p_directory.proofs.Definitions.Makes.{Makes, makes}
+use Rattle.p2p_directory.proofs.Definitions.Steps.{Makes, makes}
 use Rattle.p2p_directory.proofs.LawsOfGossip.Lists.{inside, all_append, all_filter, from_members, member_filter_map}
 
 module _ {C S : Type 0} (s : Settings C S) (P : Info C S → Type 0) where

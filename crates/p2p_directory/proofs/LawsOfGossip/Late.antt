@@ -19,7 +19,7 @@ use Rattle.p2p_tracker.specs.Calls.{Call}
 use Rattle.p2p_tracker.specs.Calls.Call.{Update}
 use Rattle.p2p_tracker.specs.History
 use Rattle.p2p_tracker.specs.World.{World}
-use Rattle.p2p_tracker.specs.Step
+use Rattle.p2p_tracker.specs.World
 use Rattle.p2p_tracker.specs.Answers.{is_present_in}
 use Rattle.p2p_directory.specs.Run.{world_after}
 use Rattle.p2p_directory.specs.Received as frames
@@ -92,8 +92,8 @@ module _ {C S : Type 0} {key_size signature_size : ℕ} {key : C → List ℕ} {
           subst (λ u. AreKnown m u infos)
           (sym (Law.recomputed_is_one_step m.directory made.sets calls (Update infos)))
           (from_members (λ i.
-          is_present_in m.directory (Step.step m.directory (world calls) (Update infos)) i.public_key
-          ≡ true → IsUpToDate (Step.step m.directory (world calls) (Update infos)) i) infos
+          is_present_in m.directory (World.step m.directory (world calls) (Update infos)) i.public_key
+          ≡ true → IsUpToDate (World.step m.directory (world calls) (Update infos)) i) infos
           (λ i member present. Updates.update_is_since m.directory itself (world calls) infos i
           member (at_member (IsFor wire m t) infos h.each i member).of_another present))
 

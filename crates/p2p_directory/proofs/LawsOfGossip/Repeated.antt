@@ -11,7 +11,7 @@ use Rattle.p2p_tracker.specs.Calls.{Settings, Call, SetAt}
 use Rattle.p2p_tracker.specs.Calls.Call.{Update}
 use Rattle.p2p_tracker.specs.History
 use Rattle.p2p_tracker.specs.World.{World, Known}
-use Rattle.p2p_tracker.specs.Step
+use Rattle.p2p_tracker.specs.World
 use Rattle.p2p_tracker.specs.Answers.{is_present_in, set_at_place, set_with_index, wants, wants_with}
 use Rattle.p2p_tracker.specs.Moments.{epoch_millis}
 use Rattle.p2p_directory.specs.Run.{world_after}
@@ -61,7 +61,7 @@ module _ {C S : Type 0} (s : Settings C S) where
       go false f = wants_some status fails newer i i f
 
   wants_known : (p : C) (status : Status) (k : Known C S) (xs : List (Info C S)) →
-      wants s p (record { status = status; known = Step.known_with_infos s k xs }) ≡ true →
+      wants s p (record { status = status; known = World.known_with_infos s k xs }) ≡ true →
       wants s p (record { status = status; known = k }) ≡ true
   wants_known p status k xs e = go (History.is_own s p)
       (subst (λ (x : Known C S). wants s p (record { status = status; known = x }) ≡ true)
@@ -78,7 +78,7 @@ module _ {C S : Type 0} (s : Settings C S) where
 
   -- after an update
   pub wants_less : (w : World C S) → Updates.AreForgotten s w → (infos : List (Info C S)) (p : C) →
-      wants s p ((Step.step s w (Update infos)).peer p) ≡ true → wants s p (w.peer p) ≡ true
+      wants s p ((World.step s w (Update infos)).peer p) ≡ true → wants s p (w.peer p) ≡ true
   wants_less w gone infos p e = go (is_present_in s w p) refl (History.is_own s p) e
     where
       mine : List (Info C S)
@@ -89,8 +89,8 @@ module _ {C S : Type 0} (s : Settings C S) where
             status = (w.peer p).status;
             known = if b
                 then (if own then (w.peer p).known
-                else Step.known_with_infos s (w.peer p).known mine)
-                else Step.new_known s p;
+                else World.known_with_infos s (w.peer p).known mine)
+                else World.new_known s p;
           }) ≡ true →
           wants s p (w.peer p) ≡ true
       go true present true f = f
@@ -118,7 +118,7 @@ module _ {C S : Type 0} (wire : Wire C S) (asker replier : Made C S) (asker_now 
 
   -- the asker's world after the exchange
   abbrev after : SetAt C → World C S
-  after x = Step.step asker.directory w (Update (infos_of w x))
+  after x = World.step asker.directory w (Update (infos_of w x))
 
   gone_after : (x : SetAt C) → Updates.AreForgotten asker.directory (after x)
   gone_after x = subst (Updates.AreForgotten asker.directory)
@@ -138,7 +138,7 @@ module _ {C S : Type 0} (wire : Wire C S) (asker replier : Made C S) (asker_now 
   -- the infos of the repeated exchange are known already
   pub repeated_changes_nothing : (place : ℕ) (x : SetAt C) →
       set_at_place asker.directory w place ≡ Some x →
-      Step.step asker.directory (after x) (Update (infos_of (after x) x)) ≡ after x
+      World.step asker.directory (after x) (Update (infos_of (after x) x)) ≡ after x
   repeated_changes_nothing place x at = Updates.update_is_known asker.directory exact_asker
       (after x) (gone_after x) (infos_of (after x) x) (λ i m present.
       Exchanges.brought_are_known wire asker replier asker_now replier_now ds exact given me past

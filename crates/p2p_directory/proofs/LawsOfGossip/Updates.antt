@@ -12,7 +12,6 @@ use Rattle.p2p_tracker.specs.Calls.Call.{Update}
 use Rattle.p2p_tracker.specs.History
 use Rattle.p2p_tracker.specs.World
 use Rattle.p2p_tracker.specs.World.{World, Known}
-use Rattle.p2p_tracker.specs.Step
 use Rattle.p2p_tracker.specs.Answers
 use Rattle.p2p_directory.specs.Laws.Gossip.{IsSince, IsUpToDate}
 use Rattle.p2p_tracker.proofs.Definitions.Knowledge
@@ -72,14 +71,14 @@ module _ {C S : Type 0} (s : Settings C S) where
   known_since : (w : World C S) (infos : List (Info C S)) (p : C) (i : Info C S) → Member infos i →
       History.same s i.public_key p ≡ true → History.is_own s p ≡ false →
       Answers.is_present_in s w p ≡ true →
-      IsSince i.timestamp ((Step.step s w (Update infos)).peer p).known.info
+      IsSince i.timestamp ((World.step s w (Update infos)).peer p).known.info
   known_since w infos p i m e other present =
       let k = (w.peer p).known in
       let mine = filter (λ j. History.same s j.public_key p) infos in
       subst (λ b. IsSince i.timestamp
-      (if b then (if History.is_own s p then k else Step.known_with_infos s k mine)
-      else Step.new_known s p).info) (sym present)
-      (subst (λ b. IsSince i.timestamp (if b then k else Step.known_with_infos s k mine).info)
+      (if b then (if History.is_own s p then k else World.known_with_infos s k mine)
+      else World.new_known s p).info) (sym present)
+      (subst (λ b. IsSince i.timestamp (if b then k else World.known_with_infos s k mine).info)
       (sym other)
       (subst (λ (x : Known C S). IsSince i.timestamp x.info)
       (sym (Knowledge.updated_all_with_best s k mine))
@@ -90,28 +89,28 @@ module _ {C S : Type 0} (s : Settings C S) where
   pub update_is_since : ((p : C) → History.same s p p ≡ true) →
       (w : World C S) (infos : List (Info C S)) (i : Info C S) → Member infos i →
       History.is_own s i.public_key ≡ false → Answers.is_present_in s w i.public_key ≡ true →
-      IsUpToDate (Step.step s w (Update infos)) i
+      IsUpToDate (World.step s w (Update infos)) i
   update_is_since itself w infos i m other present = known_since w infos i.public_key i m
       (itself i.public_key) other present
 
   -- NOTHING NEW
 
   not_updated : (k : Known C S) (i : Info C S) (o : Option (Info C S)) → IsSince i.timestamp o →
-      Step.known_with_info s k i o ≡ k
+      World.known_with_info s k i o ≡ k
   not_updated k i None h = absurd h
   not_updated k i (Some j) h = ap (λ b. if b then record k { info = Some i; fails = 0 } else k)
       (le-ltb j.timestamp i.timestamp h)
 
   none_updated : (k : Known C S) (xs : List (Info C S)) →
-      AllByRecursion (λ i. IsSince i.timestamp k.info) xs → Step.known_with_infos s k xs ≡ k
+      AllByRecursion (λ i. IsSince i.timestamp k.info) xs → World.known_with_infos s k xs ≡ k
   none_updated k [] h = refl
-  none_updated k (i ∷ is) h = ap (λ x. Step.known_with_infos s x is) (not_updated k i k.info h.0)
+  none_updated k (i ∷ is) h = ap (λ x. World.known_with_infos s x is) (not_updated k i k.info h.0)
       ∙ none_updated k is h.1
 
   -- an absent peer is as a new one
   abbrev pub AreForgotten : World C S → Type 0
   AreForgotten w = (p : C) → Answers.is_present_in s w p ≡ false →
-      (w.peer p).known ≡ Step.new_known s p
+      (w.peer p).known ≡ World.new_known s p
 
   pub forgotten : (cs : List (Call C S)) → AreForgotten (World.world_at s (World.past s cs))
   forgotten cs = λ p absent. Forgotten.absent s cs p absent
@@ -121,7 +120,7 @@ module _ {C S : Type 0} (s : Settings C S) where
       (infos : List (Info C S)) →
       ((i : Info C S) → Member infos i → Answers.is_present_in s w i.public_key ≡ true →
       IsUpToDate w i) →
-      Step.step s w (Update infos) ≡ w
+      World.step s w (Update infos) ≡ w
   update_is_known exact w gone infos known = λ i. record {
     state = record {
       sets = w.sets;
@@ -147,15 +146,15 @@ module _ {C S : Type 0} (s : Settings C S) where
       same_known : (p : C) →
           (if Answers.is_present_in s w p
           then (if History.is_own s p then (w.peer p).known
-          else Step.known_with_infos s (w.peer p).known (mine p))
-          else Step.new_known s p) ≡ (w.peer p).known
+          else World.known_with_infos s (w.peer p).known (mine p))
+          else World.new_known s p) ≡ (w.peer p).known
       same_known p = go (Answers.is_present_in s w p) refl (History.is_own s p)
         where
           go : (b : Bool) → Answers.is_present_in s w p ≡ b → (own : Bool) →
               (if b
               then (if own then (w.peer p).known
-              else Step.known_with_infos s (w.peer p).known (mine p))
-              else Step.new_known s p) ≡ (w.peer p).known
+              else World.known_with_infos s (w.peer p).known (mine p))
+              else World.new_known s p) ≡ (w.peer p).known
           go true present true = refl
           go true present false = none_updated (w.peer p).known (mine p) (in_filter p present)
           go false absent own = sym (gone p absent)

@@ -14,7 +14,6 @@ use Rattle.p2p_tracker.specs.Calls.Event.{Connected, Released, Updated}
 use Rattle.p2p_tracker.specs.History
 use Rattle.p2p_tracker.specs.World
 use Rattle.p2p_tracker.specs.World.{World, Known}
-use Rattle.p2p_tracker.specs.Step
 use Rattle.p2p_tracker.specs.Answers.{is_present_in}
 use Rattle.p2p_directory.specs.Run.{call_of, was_made, world_after}
 use Rattle.p2p_directory.specs.Received.{Wire, applies}
@@ -36,13 +35,13 @@ module _ {C S : Type 0} (s : Settings C S) (n : ℕ) where
   since_later_left (Some i) b h = since_first s n i b h
 
   after_event : (p : C) (e : Event C S) (k : Known C S) → IsSince n k.info →
-      IsSince n (Step.known_after s p e k).info
+      IsSince n (World.known_after s p e k).info
   after_event p (Updated infos) k h = go (History.is_own s p)
     where
       mine : List (Info C S)
       mine = filter (λ i. History.same s i.public_key p) infos
 
-      go : (b : Bool) → IsSince n (if b then k else Step.known_with_infos s k mine).info
+      go : (b : Bool) → IsSince n (if b then k else World.known_with_infos s k mine).info
       go true = h
       go false = subst (λ (x : Known C S). IsSince n x.info)
           (sym (Knowledge.updated_all_with_best s k mine))
@@ -53,7 +52,7 @@ module _ {C S : Type 0} (s : Settings C S) (n : ℕ) where
       go true x f = f
       go false x f = h
   after_event p (Released q direction) k h =
-      go (History.same s q p && Step.is_failed_dial s k.info direction) _ h
+      go (History.same s q p && World.is_failed_dial s k.info direction) _ h
     where
       go : (b : Bool) (x : Known C S) → IsSince n x.info → IsSince n (if b then x else k).info
       go true x f = f
@@ -61,12 +60,12 @@ module _ {C S : Type 0} (s : Settings C S) (n : ℕ) where
   after_event p e k h = h
 
   after_step : (w : World C S) (c : Call C S) (p : C) →
-      is_present_in s (Step.step s w c) p ≡ true → IsSince n (w.peer p).known.info →
-      IsSince n ((Step.step s w c).peer p).known.info
+      is_present_in s (World.step s w c) p ≡ true → IsSince n (w.peer p).known.info →
+      IsSince n ((World.step s w c).peer p).known.info
   after_step w c p present h =
       let e = World.event_in s w.sets w c in
       subst (λ b. IsSince n
-      (if b then Step.known_after s p e (w.peer p).known else Step.new_known s p).info)
+      (if b then World.known_after s p e (w.peer p).known else World.new_known s p).info)
       (sym present) (after_event p e (w.peer p).known h)
 
   pub after_call : 1 ≤ s.max_sets → (cs : List (Call C S)) (c : Call C S) (p : C) →

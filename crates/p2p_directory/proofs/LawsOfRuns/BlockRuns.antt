@@ -12,7 +12,6 @@ use Rattle.p2p_tracker.specs.Moments.{cap}
 use Rattle.p2p_tracker.specs.History
 use Rattle.p2p_tracker.specs.World
 use Rattle.p2p_tracker.specs.World.{World}
-use Rattle.p2p_tracker.specs.Step
 use Rattle.p2p_tracker.specs.Answers.{was_blocked}
 use Rattle.p2p_directory.specs.Run
 use Rattle.p2p_directory.specs.declared.run.commands.Reply.{Reply}
@@ -21,7 +20,7 @@ use Rattle.p2p_directory.specs.Laws.Grants.{moment_or, AreOver}
 use Rattle.p2p_directory.specs.Laws.GrantRuns.{granted_by, blocked_by, IsAfter, RunKeepsBlocks}
 use Rattle.p2p_directory.specs.Laws.BlockRuns.{expired_by, unless_expired, IsNotBefore, block_taken_by, block_left, KeepLastBlock}
 use Rattle.p2p_directory.proofs.Definitions.Steps
-use Rattle.p2p_directory.proofs.Definitions.Makes.{Makes, makes}
+use Rattle.p2p_directory.proofs.Definitions.Steps.{Makes, makes}
 use Rattle.p2p_directory.proofs.LawsOfRuns.Spacing
 use Rattle.p2p_directory.proofs.LawsOfRuns.Spacing.{GrantFits, limit, over_more}
 use Rattle.p2p_directory.proofs.LawsOfRuns.GrantRuns.{told_after, made, if_accepted, moment_by}
@@ -65,7 +64,7 @@ module _ {C S : Type 0} (s : Settings C S) where
   left_is None expiry end = refl
   left_is (Some t) expiry end = refl
 
-  after_is : (p : C) (e : Event C S) (end : Option ℕ) → kept_by (History.block_by s p e) (expiry_of e) end ≡ Step.unblock_after s p e end
+  after_is : (p : C) (e : Event C S) (end : Option ℕ) → kept_by (History.block_by s p e) (expiry_of e) end ≡ World.unblock_after s p e end
   after_is p (Blocked q t) end = go (History.same s q p)
     where
       go : (b : Bool) → kept_by (if b then Some (cap (t + s.block_duration)) else None) None end ≡ (if b then Some (cap (t + s.block_duration)) else end)

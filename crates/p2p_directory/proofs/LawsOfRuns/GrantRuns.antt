@@ -18,7 +18,7 @@ use Rattle.p2p_directory.specs.declared.run.commands.Reply.TheVariants as reply
 use Rattle.p2p_directory.specs.Laws.GrantRuns.{granted_by, forgets_by, blocked_by, IsGrantCooledAfter, last_after}
 use Rattle.p2p_directory.specs.Laws.GrantRuns.{kept_after, RunKeepsCooldownUnlessForgotten, RunKeepsCooldown}
 use Rattle.p2p_directory.proofs.Definitions.Steps
-use Rattle.p2p_directory.proofs.Definitions.Makes.{Makes, makes}
+use Rattle.p2p_directory.proofs.Definitions.Steps.{Makes, makes}
 use Rattle.p2p_directory.proofs.LawsOfRuns.Spacing
 
 module _ {C S : Type 0} (s : Settings C S) where

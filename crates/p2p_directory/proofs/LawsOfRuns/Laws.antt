@@ -9,7 +9,7 @@ use Rattle.p2p_directory.specs.Laws.Run.{LawsOfGrants, LawsOfRun}
 use Rattle.p2p_directory.proofs.LawsOfRuns.GrantRuns.{keep_unless_forgotten, keep_cooldown}
 use Rattle.p2p_directory.proofs.LawsOfRuns.BlockRuns.{keep_last_block, keep_blocks}
 use Rattle.p2p_directory.proofs.LawsOfRuns.DialRuns.{keep_dialable}
-use Rattle.p2p_directory.proofs.LawsOfRuns.IsolationRuns.{keep_alone}
+use Rattle.p2p_directory.proofs.LawsOfRuns.Isolation.{keep_alone}
 use Rattle.p2p_directory.proofs.LawsOfRuns.OrderRuns.{keep_order}
 use Rattle.p2p_directory.proofs.LawsOfRuns.BoundRuns.{keep_bound}
 

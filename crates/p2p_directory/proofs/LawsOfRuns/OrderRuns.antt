@@ -7,7 +7,6 @@ use Rattle.p2p_tracker.specs.Calls.{Settings, Call}
 use Rattle.p2p_tracker.specs.Calls.Call.{Update}
 use Rattle.p2p_tracker.specs.World
 use Rattle.p2p_tracker.specs.World.{World}
-use Rattle.p2p_tracker.specs.Step
 use Rattle.p2p_directory.specs.Run
 use Rattle.p2p_directory.specs.declared.run.commands.Reply.{Reply}
 use Rattle.p2p_directory.specs.declared.run.commands.Reply.TheVariants as reply
@@ -51,24 +50,24 @@ module _ {C S : Type 0} (s : Settings C S) (least : 1 ≤ s.max_sets) where
 
   -- updates one after the other are one
   one_update : (first before : List (Call C S)) (infos given : List (Info C S)) →
-      Run.world_after s before ≡ Step.step s (Run.world_after s first) (Update infos) →
-      Run.world_after s (Update given ∷ before) ≡ Step.step s (Run.world_after s first) (Update (infos ++ given))
+      Run.world_after s before ≡ World.step s (Run.world_after s first) (Update infos) →
+      Run.world_after s (Update given ∷ before) ≡ World.step s (Run.world_after s first) (Update (infos ++ given))
   one_update first before infos given at =
       Law.recomputed_is_one_step s least before (Update given)
-      ∙ ap (λ w. Step.step s w (Update given)) at
+      ∙ ap (λ w. World.step s w (Update given)) at
       ∙ Ordered.updates_join s (Run.world_after s first) infos given
 
   updates_are_one : (first before : List (Call C S)) (infos : List (Info C S)) (more : List (List (Info C S))) →
-      Run.world_after s before ≡ Step.step s (Run.world_after s first) (Update infos) →
-      Run.world_after s (with_updates s more before) ≡ Step.step s (Run.world_after s first) (Update (infos ++ infos_together s more))
-  updates_are_one first before infos [] at = at ∙ ap (λ xs. Step.step s (Run.world_after s first) (Update xs)) (sym (append-nil infos))
+      Run.world_after s before ≡ World.step s (Run.world_after s first) (Update infos) →
+      Run.world_after s (with_updates s more before) ≡ World.step s (Run.world_after s first) (Update (infos ++ infos_together s more))
+  updates_are_one first before infos [] at = at ∙ ap (λ xs. World.step s (Run.world_after s first) (Update xs)) (sym (append-nil infos))
   updates_are_one first before infos (given ∷ more) at =
       updates_are_one first (Update given ∷ before) (infos ++ given) more (one_update first before infos given at)
-      ∙ ap (λ xs. Step.step s (Run.world_after s first) (Update xs)) (append_assoc infos given (infos_together s more))
+      ∙ ap (λ xs. World.step s (Run.world_after s first) (Update xs)) (append_assoc infos given (infos_together s more))
 
   -- whatever updates give the infos
   rearranged : (first before : List (Call C S)) (infos some : List (Info C S)) (more : List (List (Info C S))) →
-      Run.world_after s before ≡ Step.step s (Run.world_after s first) (Update infos) →
+      Run.world_after s before ≡ World.step s (Run.world_after s first) (Update infos) →
       IsUnambiguous s infos → HaveSame infos (infos_together s (some ∷ more)) → Alike before (with_updates s (some ∷ more) first)
   rearranged first before infos some more at one have =
       at ∙ Ordered.updates_alike s (Run.world_after s first) infos (infos_together s (some ∷ more)) have one
@@ -96,7 +95,7 @@ module _ {C S : Type 0} (s : Settings C S) (least : 1 ≤ s.max_sets) where
   -- what holds before an update, if infos were given by updates directly after `first`
   abbrev IsFrom : List (Call C S) → List (Info C S) → List (Call C S) → Type 0
   IsFrom first infos before = (given : List (Info C S)) →
-      Run.world_after s (Update given ∷ before) ≡ Step.step s (Run.world_after s first) (Update (infos ++ given))
+      Run.world_after s (Update given ∷ before) ≡ World.step s (Run.world_after s first) (Update (infos ++ given))
 
   free_from : (first : List (Call C S)) (infos : List (Info C S)) (before cs : List (Call C S))
       (rs : List (Reply C S)) → IsFrom first infos before → Run.AreAnswers s before cs rs →

@@ -8,7 +8,6 @@ use Rattle.p2p_tracker.specs.Calls.Call.{Update}
 use Rattle.p2p_tracker.specs.History
 use Rattle.p2p_tracker.specs.Lists.{first_greatest, earlier_best}
 use Rattle.p2p_tracker.specs.World
-use Rattle.p2p_tracker.specs.Step
 use Rattle.p2p_tracker.specs.World.{World, Known}
 use Rattle.p2p_directory.specs.Laws.Order.{Member, HaveSame, IsUnambiguous}
 use Rattle.p2p_tracker.proofs.Definitions.Knowledge
@@ -93,14 +92,14 @@ module _ {C S : Type 0} (s : Settings C S) where
           ap Some (one p i j x.0 y.0 x.1 y.1 (omega (arith, h.1 i (over i g.0), g.1 j (back j h.0))))
 
   -- an update with the same infos, in any order
-  pub updates_alike : (w : World C S) (xs ys : List (Info C S)) → HaveSame xs ys → IsUnambiguous s xs → Step.step s w (Update xs) ≡ Step.step s w (Update ys)
+  pub updates_alike : (w : World C S) (xs ys : List (Info C S)) → HaveSame xs ys → IsUnambiguous s xs → World.step s w (Update xs) ≡ World.step s w (Update ys)
   updates_alike w xs ys have one = λ i. record {
     state = record {
       sets = w.sets;
       peer = λ p. record {
         status = (w.peer p).status;
         known = if History.is_present_with s p w.sets (w.peer p).status
-            then (if History.is_own s p then (w.peer p).known else taught p i) else Step.new_known s p;
+            then (if History.is_own s p then (w.peer p).known else taught p i) else World.new_known s p;
       };
       unblock = w.unblock;
       cooldown = w.cooldown;
@@ -108,16 +107,16 @@ module _ {C S : Type 0} (s : Settings C S) where
     held = w.held;
   }
     where
-      taught : (p : C) → Step.known_with_infos s (w.peer p).known (filter (λ i. History.same s i.public_key p) xs)
-          ≡ Step.known_with_infos s (w.peer p).known (filter (λ i. History.same s i.public_key p) ys)
+      taught : (p : C) → World.known_with_infos s (w.peer p).known (filter (λ i. History.same s i.public_key p) xs)
+          ≡ World.known_with_infos s (w.peer p).known (filter (λ i. History.same s i.public_key p) ys)
       taught p =
           Knowledge.updated_all_with_best s (w.peer p).known (filter (λ i. History.same s i.public_key p) xs)
           ∙ ap (Knowledge.with_best s (w.peer p).known) (same_greatest p xs ys have one)
           ∙ sym (Knowledge.updated_all_with_best s (w.peer p).known (filter (λ i. History.same s i.public_key p) ys))
 
-  taught-append : (k : Known C S) (xs ys : List (Info C S)) → Step.known_with_infos s k (xs ++ ys) ≡ Step.known_with_infos s (Step.known_with_infos s k xs) ys
+  taught-append : (k : Known C S) (xs ys : List (Info C S)) → World.known_with_infos s k (xs ++ ys) ≡ World.known_with_infos s (World.known_with_infos s k xs) ys
   taught-append k [] ys = refl
-  taught-append k (x ∷ xs) ys = taught-append (Step.known_with_info s k x k.info) xs ys
+  taught-append k (x ∷ xs) ys = taught-append (World.known_with_info s k x k.info) xs ys
 
   filter-append : {A : Type 0} (test : A → Bool) (xs ys : List A) → filter test (xs ++ ys) ≡ filter test xs ++ filter test ys
   filter-append test [] ys = refl
@@ -129,7 +128,7 @@ module _ {C S : Type 0} (s : Settings C S) where
       go false = refl
 
   -- two updates that follow each other are one
-  pub updates_join : (w : World C S) (xs ys : List (Info C S)) → Step.step s (Step.step s w (Update xs)) (Update ys) ≡ Step.step s w (Update (xs ++ ys))
+  pub updates_join : (w : World C S) (xs ys : List (Info C S)) → World.step s (World.step s w (Update xs)) (Update ys) ≡ World.step s w (Update (xs ++ ys))
   updates_join w xs ys = λ i. record {
     state = record {
       sets = w.sets;
@@ -142,18 +141,18 @@ module _ {C S : Type 0} (s : Settings C S) where
     where
       go : (p : C) (b own : Bool) →
           (if b then (if own
-          then (if b then (if own then (w.peer p).known else Step.known_with_infos s (w.peer p).known
-          (filter (λ i. History.same s i.public_key p) xs)) else Step.new_known s p)
-          else Step.known_with_infos s
-          (if b then (if own then (w.peer p).known else Step.known_with_infos s (w.peer p).known
-          (filter (λ i. History.same s i.public_key p) xs)) else Step.new_known s p)
-          (filter (λ i. History.same s i.public_key p) ys)) else Step.new_known s p)
-          ≡ (if b then (if own then (w.peer p).known else Step.known_with_infos s (w.peer p).known
-          (filter (λ i. History.same s i.public_key p) (xs ++ ys))) else Step.new_known s p)
+          then (if b then (if own then (w.peer p).known else World.known_with_infos s (w.peer p).known
+          (filter (λ i. History.same s i.public_key p) xs)) else World.new_known s p)
+          else World.known_with_infos s
+          (if b then (if own then (w.peer p).known else World.known_with_infos s (w.peer p).known
+          (filter (λ i. History.same s i.public_key p) xs)) else World.new_known s p)
+          (filter (λ i. History.same s i.public_key p) ys)) else World.new_known s p)
+          ≡ (if b then (if own then (w.peer p).known else World.known_with_infos s (w.peer p).known
+          (filter (λ i. History.same s i.public_key p) (xs ++ ys))) else World.new_known s p)
       go p false own = refl
       go p true true = refl
       go p true false =
-          sym (ap (Step.known_with_infos s (w.peer p).known) (filter-append (λ i. History.same s i.public_key p) xs ys)
+          sym (ap (World.known_with_infos s (w.peer p).known) (filter-append (λ i. History.same s i.public_key p) xs ys)
           ∙ taught-append (w.peer p).known (filter (λ i. History.same s i.public_key p) xs) (filter (λ i. History.same s i.public_key p) ys))
 
   -- worlds that are alike stay so
@@ -161,5 +160,5 @@ module _ {C S : Type 0} (s : Settings C S) where
       World.world_at s (World.past s (es ++ cs)) ≡ World.world_at s (World.past s (es ++ ds))
   later_alike some [] cs ds h = h
   later_alike some (e ∷ es) cs ds h =
-      Law.recomputed_is_one_step s some (es ++ cs) e ∙ ap (λ w. Step.step s w e) (later_alike some es cs ds h)
+      Law.recomputed_is_one_step s some (es ++ cs) e ∙ ap (λ w. World.step s w e) (later_alike some es cs ds h)
       ∙ sym (Law.recomputed_is_one_step s some (es ++ ds) e)

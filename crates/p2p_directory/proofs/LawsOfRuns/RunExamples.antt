@@ -11,7 +11,7 @@ use Rattle.p2p_directory.specs.declared.run.commands.Reply.{Reply}
 use Rattle.p2p_directory.specs.declared.run.commands.Reply.TheVariants as reply
 use Rattle.p2p_directory.specs.Laws.Bounds.{NamesAtMost}
 use Rattle.p2p_directory.specs.Laws.BoundRuns.{KeepBound}
-use Rattle.p2p_directory.specs.Laws.IsolationRuns.{KeepAlone}
+use Rattle.p2p_directory.specs.Laws.Isolation.{KeepAlone}
 use Rattle.p2p_directory.specs.Laws.Order.{Member, HaveSame, IsUnambiguous}
 use Rattle.p2p_directory.specs.Laws.OrderRuns.{KeepOrder}
 use Rattle.p2p_directory.proofs.Definitions.Setting.{sec, setup, info_at, track, listen}

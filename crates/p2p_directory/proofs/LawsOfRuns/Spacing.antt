@@ -14,13 +14,12 @@ use Rattle.p2p_tracker.specs.Moments.{cap}
 use Rattle.p2p_tracker.specs.History
 use Rattle.p2p_tracker.specs.History.{last_with, found_with, unless_ended}
 use Rattle.p2p_tracker.specs.World
-use Rattle.p2p_tracker.specs.Step
 use Rattle.p2p_tracker.specs.World.{World}
 use Rattle.p2p_directory.specs.Laws.Grants.{IsCooledAfter, IsCooledUnlessForgotten, IsSpaced, IsSpacedUnlessForgotten}
 use Rattle.p2p_directory.specs.Laws.Grants.{KeepsCooldown, KeepsCooldownUnlessForgotten, moment_or, NeverGoBack}
 use Rattle.p2p_directory.specs.Laws.Grants.{blocks_in, AreOver, IsOverAt, KeepsBlocks}
 use Rattle.p2p_directory.proofs.Definitions.Steps
-use Rattle.p2p_directory.proofs.Definitions.Makes.{Makes, makes, at_call}
+use Rattle.p2p_directory.proofs.Definitions.Steps.{Makes, makes, at_call}
 
 module _ {C S : Type 0} (s : Settings C S) where
   -- WHAT AN EVENT TELLS OF THE WORLD BEFORE IT
@@ -218,7 +217,7 @@ module _ {C S : Type 0} (s : Settings C S) where
       (limit_up t now (History.unblock_at s p h) le) over
 
   over_step : History.IsExact s → (p : C) (e : Event C S) (h : List (Event C S)) (t now : ℕ) → t ≤ now → Fits (World.world_at s h) t e → AreKnown p h t →
-      AreOver s (limit now (Step.unblock_after s p e (History.unblock_at s p h))) (blocks_in s p (e ∷ h))
+      AreOver s (limit now (World.unblock_after s p e (History.unblock_at s p h))) (blocks_in s p (e ∷ h))
   over_step exact p (Blocked q u) h t now le f over = go (History.same s q p) refl
     where
       go : (b : Bool) → History.same s q p ≡ b →
@@ -234,7 +233,7 @@ module _ {C S : Type 0} (s : Settings C S) where
       go false e = known_later p h t now le over
   over_step exact p (Expired u) h t now le f over = go (History.unblock_at s p h) over
     where
-      go : (o : Option ℕ) → AreOver s (limit t o) (blocks_in s p h) → AreOver s (limit now (Step.unblock_after s p (Expired u) o)) (blocks_in s p h)
+      go : (o : Option ℕ) → AreOver s (limit t o) (blocks_in s p h) → AreOver s (limit now (World.unblock_after s p (Expired u) o)) (blocks_in s p h)
       go None over = over_more (blocks_in s p h) t now le over
       go (Some m) over = gone (nat_le m u) refl
         where

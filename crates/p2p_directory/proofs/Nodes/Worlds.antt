@@ -12,8 +12,7 @@ use Rattle.p2p_tracker.specs.Seen.{DirectoryView}
 use Rattle.p2p_tracker.specs.Calls.{Call}
 use Rattle.p2p_tracker.specs.Calls.Call.{Update}
 use Rattle.p2p_tracker.specs.Calls.Event.{Updated}
-use Rattle.p2p_tracker.specs.World.{World}
-use Rattle.p2p_tracker.specs.Step.{world_with}
+use Rattle.p2p_tracker.specs.World.{World, world_with}
 use Rattle.p2p_tracker.specs.Directory.{Updates, bit_vec_at}
 use Rattle.p2p_directory.specs.Held.{held_of}
 use Rattle.p2p_directory.specs.Refinement.{Refines}
@@ -22,11 +21,8 @@ use Rattle.p2p_directory.specs.Received as frames
 use Rattle.p2p_directory.specs.Received.{Wire, Standing, FrameOutcome, received_at, received_by, frame_may_want_memory, frame_may_want_memory_by, ask_frame_at, applied_with, told_with}
 use Rattle.p2p_directory.specs.declared.node.exchanged.Exchanged.{Exchanged}
 use Rattle.p2p_directory.specs.Exchange as exchange
-use Rattle.p2p_directory.specs.Exchange.{exchanged_at, infos_applied, IsExchangedAt}
-use Rattle.p2p_directory.specs.Nodes.{Made, NodeView, NodeStandsAt, IsAnsweredAt, IsReceivedAt, IsReceivedByAt, IsAskedAt}
-use Rattle.p2p_directory.specs.Nodes.{standing_of, standing_in, calls_with, IsLeft, Answers}
-use Rattle.p2p_directory.specs.Nodes.{AsksWith, AreValues, StandsSomewhere, made_of}
-use Rattle.p2p_directory.specs.Exchange.{HasSpelling, ExchangeOutcome, IsCarried}
+use Rattle.p2p_directory.specs.Exchange.{exchanged_at, infos_applied, IsExchangedAt, HasSpelling, ExchangeOutcome, IsCarried}
+use Rattle.p2p_directory.specs.Nodes.{Made, NodeView, NodeStandsAt, IsAnsweredAt, IsReceivedAt, IsReceivedByAt, IsAskedAt, standing_of, standing_in, calls_with, IsLeft, Answers, AsksWith, AreValues, StandsSomewhere, made_of}
 use Rattle.p2p_directory.specs.Private.Slots.{contents, AreSlots}
 use Rattle.p2p_directory.proofs.Definitions.Law
 use Rattle.p2p_directory.proofs.LawsOfRuns.Forgotten

@@ -13,14 +13,11 @@ use Rattle.p2p_tracker.specs.Calls.Event.{Blocked, Expired}
 use Rattle.p2p_tracker.specs.Moments.{cap}
 use Rattle.p2p_tracker.specs.History.{same, is_own, is_persistent, is_named, is_entitled}
 use Rattle.p2p_tracker.specs.Status.{is_inert}
-use Rattle.p2p_tracker.specs.World.{World}
-use Rattle.p2p_tracker.specs.Step.{unblock_after, world_with}
-use Rattle.p2p_tracker.specs.Answers.{is_present_in, AreAll, IsLatestUpdate, is_blocked_at, AreBlocked, IsNextUnblock}
-use Rattle.p2p_tracker.specs.Answers.{IsAnyExpired, is_eligible_at, is_acceptable_at}
+use Rattle.p2p_tracker.specs.World.{World, unblock_after, world_with}
+use Rattle.p2p_tracker.specs.Answers.{is_present_in, AreAll, IsLatestUpdate, is_blocked_at, AreBlocked, IsNextUnblock, IsAnyExpired, is_eligible_at, is_acceptable_at}
 use Rattle.p2p_tracker.specs.Lists.{Lists, IsLeastOf}
 use Rattle.p2p_tracker.specs.Record.{is_myself, is_eligible, is_acceptable}
-use Rattle.p2p_tracker.specs.Directory.{is_blocked_in, may_block, if_later, is_free_and, AreAllOf}
-use Rattle.p2p_tracker.specs.Directory.{IsUpdateOf, BlocksUntil, EndsBlocks}
+use Rattle.p2p_tracker.specs.Directory.{is_blocked_in, may_block, if_later, is_free_and, AreAllOf, IsUpdateOf, BlocksUntil, EndsBlocks}
 use Rattle.p2p_tracker.specs.Seen.{DirectoryView, record_of, unblock_of}
 use Rattle.p2p_directory.specs.Refinement.{Refines}
 use Rattle.p2p_directory.specs.Run.{update_in}
@@ -28,6 +25,7 @@ use Rattle.p2p_tracker.proofs.Definitions.Listed
 use Rattle.p2p_tracker.proofs.Definitions.Listed.{lists_alike, somebody_alike}
 use Rattle.p2p_directory.proofs.Refinement.CallsRefine.{same_cooldowns, unchanged}
 use Rattle.p2p_directory.proofs.Refinement.RecordOfPeer.{record_with, shown_entitled, eligible_is_entitled, absent_not_entitled, myself_is_own}
+use Rattle.p2p_directory.specs.Laws.Refined.{BlocksAnswerAs}
 
 swap : (a b : Bool) → (a && b) ≡ (b && a)
 swap true true = refl
@@ -145,3 +143,15 @@ module _ {C S : Type 0} (s : Settings C S) where
       IsUpdateOf s.cmp d update → IsLatestUpdate s w (option_map update_in update)
   tie_update w d None stands told = sym (ap (last_or None) stands.sets) ∙ told
   tie_update w d (Some update) stands told = (sym (ap (last_or None) stands.sets) ∙ told.0, tie_all w d update.all stands told.1)
+
+  -- all answers of this file
+  pub answer : (w : World C S) (d : DirectoryView C S) → Refines s w d → BlocksAnswerAs s w d
+  answer w d refines = record {
+    next_unblock = λ moment. tie_next_unblock w d moment refines;
+    any_expired = λ t any. tie_any_expired w d t any refines;
+    blocked_peers = λ t ps. tie_blocked w d t ps refines;
+    latest_update = λ update. tie_update w d update refines;
+    all = λ all. tie_all w d all refines;
+    eligible = λ p t. tie_eligible w d p t refines;
+    acceptable = λ p t. tie_acceptable w d p t refines;
+  }

@@ -8,7 +8,7 @@ use Rattle.std.specs.List.{list_any, list_all, last_or}
 use Rattle.std.proofs.lemmas.Map.Views.{tells_apart}
 use Rattle.std.proofs.Math.Bool.{or-true}
 use Rattle.p2p_discovery.specs.declared.types.ingress.Ingress.{Ingress}
-use Rattle.p2p_tracker.specs.Blocks.{is_blocked}
+use Rattle.p2p_tracker.specs.Blocks.{is_blocked, unblock_in}
 use Rattle.p2p_tracker.specs.declared.record.Address.TheVariants.{Myself, Bootstrapper}
 use Rattle.p2p_tracker.specs.declared.record.Status.{Status}
 use Rattle.p2p_tracker.specs.declared.record.Status.TheVariants.{Inert, Reserved}
@@ -17,28 +17,22 @@ use Rattle.p2p_tracker.specs.Calls.Event.{SetTaken, Granted, Released, Forgot}
 use Rattle.p2p_tracker.specs.History.{same, is_own, is_persistent, is_named, is_present_with}
 use Rattle.p2p_tracker.specs.Status.{is_inert}
 use Rattle.p2p_tracker.specs.World
-use Rattle.p2p_tracker.specs.Step
-use Rattle.p2p_tracker.specs.World.{World, Known, Peer, may_listen}
+use Rattle.p2p_tracker.specs.World.{World, Known, Peer, may_listen, new_known, world_with}
 use Rattle.p2p_tracker.specs.Lists.{last_ingress_by, last_of}
 use Rattle.p2p_tracker.specs.Cooldowns.{reservable_from, cooldown_in, unless_cooled}
-use Rattle.p2p_tracker.specs.Step.{new_known, world_with}
 use Rattle.p2p_tracker.specs.Answers.{is_present_in, IsTeardown, status_in, is_cooled_by, is_cooled_at, IsNumberCooled}
 use Rattle.p2p_tracker.specs.Record.{new_record, with_cooldown, is_eligible, reserved_record, unless_deletable}
-use Rattle.p2p_tracker.specs.Seen.{RecordView, DirectoryView, unblock_of, cooldown_of, record_of}
+use Rattle.p2p_tracker.specs.Seen.{RecordView, DirectoryView, unblock_of, cooldown_of, record_of, peers_of}
 use Rattle.p2p_tracker.specs.Moments.{moments_after}
-use Rattle.p2p_tracker.specs.PeerSets.{latest_index, is_above}
-use Rattle.p2p_tracker.specs.Blocks.{unblock_in}
-use Rattle.p2p_tracker.specs.Directory.{is_cooled_in, IsNumberCooledIn, ForgetsCooled, first_record, kept_after_release}
-use Rattle.p2p_tracker.specs.Directory.{record_with_sets, is_connectable, ChangesRecord, Reserves, TakesSet}
-use Rattle.p2p_tracker.specs.Directory.{AreTornDown}
+use Rattle.p2p_tracker.specs.PeerSets.{latest_index, is_above, set_with}
+use Rattle.p2p_tracker.specs.Directory.{is_cooled_in, IsNumberCooledIn, ForgetsCooled, first_record, kept_after_release, record_with_sets, is_connectable, ChangesRecord, Reserves, TakesSet, AreTornDown}
 use Rattle.p2p_directory.specs.Refinement.{Refines, config_of, metadata_of, address_known}
-use Rattle.p2p_directory.proofs.Refinement.RecordOfPeer.{record_with, shown, shown_entitled}
-use Rattle.p2p_directory.proofs.Refinement.RecordOfPeer.{shown_busy, shown_with_sets, some_given}
-use Rattle.p2p_directory.proofs.Refinement.RecordOfPeer.{release_of_record, settled, failed_once}
+use Rattle.p2p_directory.proofs.Refinement.RecordOfPeer.{record_with, shown, shown_entitled, shown_busy, shown_with_sets, some_given, release_of_record, settled, failed_once}
 use Rattle.p2p_tracker.proofs.Definitions.Listed.{lists_alike}
 use Rattle.p2p_directory.proofs.Definitions.Start.{new_world, new_at_start}
 use Rattle.p2p_directory.proofs.Definitions.Latest
 use Rattle.p2p_directory.proofs.Definitions.Latest.{latest_decides}
+use Rattle.p2p_directory.specs.Laws.Refined.{CallsAnswerAs}
 
 above_latest : {C : Type 0} (index : ℕ) (o : Option (SetAt C)) → is_above index (option_map (λ set. set.index) o) ≡ Latest.is_above index o
 above_latest index None = refl
@@ -187,7 +181,7 @@ module _ {C S : Type 0} (s : Settings C S) where
 
         at : (q : C) (b : Bool) → is_at (s.cmp p) q ≡ b →
             (if is_at (s.cmp p) q then option_map (reserved_record t draw d.config.cooldown) (record_of s.cmp d q) else record_of s.cmp d q)
-            ≡ shown s q w.sets (Step.cooldown_after s q (Granted p grant) (w.cooldown q)) (Step.peer_after s q (Granted p grant) w.sets (w.peer q))
+            ≡ shown s q w.sets (World.cooldown_after s q (Granted p grant) (w.cooldown q)) (World.peer_after s q (Granted p grant) w.sets (w.peer q))
         at q b e = (λ i. changed (e i)) ∙ go b e ∙ (λ i. left (sym e i))
           where
             st : Status
@@ -238,7 +232,7 @@ module _ {C S : Type 0} (s : Settings C S) where
 
         at : (q : C) (b : Bool) → is_at (s.cmp p) q ≡ b →
             (if is_at (s.cmp p) q then ended (record_of s.cmp d q) else record_of s.cmp d q)
-            ≡ shown s q w.sets (w.cooldown q) (Step.peer_after s q (Released p direction) w.sets (w.peer q))
+            ≡ shown s q w.sets (w.cooldown q) (World.peer_after s q (Released p direction) w.sets (w.peer q))
         at q b e = (λ i. changed (e i)) ∙ go b e ∙ (λ i. left (sym e i))
           where
             st : Status
@@ -254,7 +248,7 @@ module _ {C S : Type 0} (s : Settings C S) where
             left same = shown s q w.sets (w.cooldown q) (record {
               status = if same then Inert else st;
               known = if is_present_with s q w.sets (if same then Inert else st)
-                  then (if same && Step.is_failed_dial s k.info direction then record k { fails = suc k.fails }
+                  then (if same && World.is_failed_dial s k.info direction then record k { fails = suc k.fails }
                   else k) else new_known s q;
             })
 
@@ -301,16 +295,16 @@ module _ {C S : Type 0} (s : Settings C S) where
         change.records q
         ∙ (λ i. if is_cooled_by t (stands.cooldowns q i) then option_map (with_cooldown None) (stands.records q i) else stands.records q i)
         ∙ at q (w.cooldown q) (is_present_in s w q)
-        ∙ unchanged q w.sets (Step.cooldown_after s q (Forgot t) (w.cooldown q)) (w.peer q);
+        ∙ unchanged q w.sets (World.cooldown_after s q (Forgot t) (w.cooldown q)) (w.peer q);
   }
     where
-      left : (q : C) (o : Option Cooldown) → unless_cooled t o ≡ Step.cooldown_after s q (Forgot t) o
+      left : (q : C) (o : Option Cooldown) → unless_cooled t o ≡ World.cooldown_after s q (Forgot t) o
       left q None = refl
       left q (Some c) = refl
 
       at : (q : C) (o : Option Cooldown) (b : Bool) →
           (if is_cooled_by t o then option_map (with_cooldown None) (kept w q o b) else kept w q o b)
-          ≡ kept w q (Step.cooldown_after s q (Forgot t) o) b
+          ≡ kept w q (World.cooldown_after s q (Forgot t) o) b
       at q None b = refl
       at q (Some c) b = go (nat_le c.dial_at t) b
         where
@@ -329,3 +323,12 @@ module _ {C S : Type 0} (s : Settings C S) where
         (λ q. ap (is_cooled_by t) (stands.cooldowns q)) lists,
     count,
   )
+
+  -- all answers of this file, and those that sets give
+  pub answer : (w : World C S) (d : DirectoryView C S) → Refines s w d → CallsAnswerAs s w d
+  answer w d refines = record {
+    status = λ p. tie_status w d p refines;
+    peer_set = λ index. ap (λ sets. option_map peers_of (set_with index sets)) refines.sets;
+    latest_set_index = ap latest_index refines.sets;
+    number_cooled = λ t n. tie_number_cooled w d t n refines;
+  }

@@ -29,6 +29,7 @@ use Rattle.p2p_tracker.proofs.SetsAndRecords.Dialables.{later_parts, later_momen
 use Rattle.p2p_directory.proofs.Definitions.Targets.{parts_of_target, dialled_is_target}
 use Rattle.p2p_directory.proofs.Refinement.RecordOfPeer.{record_with, shown, shown_may_come, absent_not_entitled}
 use Rattle.p2p_directory.proofs.Refinement.RecordOfPeer.{myself_is_own, is_granted}
+use Rattle.p2p_directory.specs.Laws.Refined.{DialsAnswerAs}
 
 module _ {C S : Type 0} (s : Settings C S) where
   -- ONE PEER
@@ -283,3 +284,11 @@ module _ {C S : Type 0} (s : Settings C S) where
     lists_alike s.cmp (is_dialable_in s.cmp d t) (is_dialable s w t) ps (tie_is_dialable w d t stands) told.0,
     Listed.least_alike (query_moment_in s.cmp d t) (query_moment s w t) next (λ p. sym (tie_query w d t stands p)) told.1,
   )
+
+  -- all answers of this file
+  pub answer : (w : World C S) (d : DirectoryView C S) → Refines s w d → DialsAnswerAs s w d
+  answer w d refines = record {
+    dialable = λ t ps next. tie_dialable w d t ps next refines;
+    listens = λ p t. tie_may_listen w d p t refines;
+    dials = λ p t. tie_may_dial w d p t refines;
+  }

@@ -1,6 +1,5 @@
 -- What is known of peers: that connects and updates are steps of the world that a directory refines, and what it tells of them.
-use Rattle.std.proofs.Common.{◌≡◌, ℕ, ◌-◌, ◌^◌, ◌<◌, min, Bool, true, false, ◌||◌, ◌&&◌, not, List, [], Option, Some}
-use Rattle.std.proofs.Common.{None, sym, ap, refl, ◌∙◌, length, map, arith, zip, filter_map, ◌==◌}
+use Rattle.std.proofs.Common.{◌≡◌, ℕ, ◌-◌, ◌^◌, ◌<◌, min, Bool, true, false, ◌||◌, ◌&&◌, not, List, [], Option, Some, None, sym, ap, refl, ◌∙◌, length, map, arith, zip, filter_map, ◌==◌}
 use Rattle.std.specs.Prelude.{if◌then◌else◌, nat_lt, nat_le, slice_get}
 use Rattle.std.specs.declared.cmp.Ordering.TheVariants.{Equal}
 use Rattle.std.specs.BTreeMap.{is_at}
@@ -19,28 +18,25 @@ use Rattle.p2p_tracker.specs.declared.record.Status.{Status}
 use Rattle.p2p_tracker.specs.declared.record.Status.TheVariants.{Inert, Reserved, Active}
 use Rattle.p2p_tracker.specs.Calls.{Settings, SetAt, Cooldown}
 use Rattle.p2p_tracker.specs.Calls.Event.{Connected, Updated}
-use Rattle.p2p_tracker.specs.History.{same, is_own, is_persistent, is_named, is_present_with, is_newer, primary_count}
-use Rattle.p2p_tracker.specs.History.{secondary_count}
+use Rattle.p2p_tracker.specs.History.{same, is_own, is_persistent, is_named, is_present_with, is_newer, primary_count, secondary_count}
 use Rattle.p2p_tracker.specs.Status.{is_inert, is_reserved}
 use Rattle.p2p_tracker.specs.Lists.{first_greatest}
-use Rattle.p2p_tracker.specs.World.{World, Known, Peer, last_ingress}
+use Rattle.p2p_tracker.specs.World.{World, Known, Peer, last_ingress, new_known, world_with, status_connected}
 use Rattle.p2p_tracker.specs.Cooldowns.{reservable_from, dialable_from}
-use Rattle.p2p_tracker.specs.Step
-use Rattle.p2p_tracker.specs.Step.{new_known, world_with, status_connected}
-use Rattle.p2p_tracker.specs.Answers.{is_present_in, wants, wants_with, active_info, sharable_of, sharable_info}
-use Rattle.p2p_tracker.specs.Answers.{shared_info, infos_for, IsNumberTracked}
+use Rattle.p2p_tracker.specs.World
+use Rattle.p2p_tracker.specs.Answers.{is_present_in, wants, wants_with, active_info, sharable_of, sharable_info, shared_info, infos_for, IsNumberTracked}
 use Rattle.p2p_tracker.specs.Moments.{epoch_millis}
 use Rattle.p2p_tracker.specs.PeerSets.{set_with}
 use Rattle.p2p_tracker.specs.Record.{is_myself, after_success, address_after_offer, address_after_infos, wants_by, sharable_by}
 use Rattle.p2p_tracker.specs.Seen.{RecordView, DirectoryView, record_of}
-use Rattle.p2p_tracker.specs.Directory.{connected_record, updated_record, infos_of, sharable_in, sharable_of_record}
-use Rattle.p2p_tracker.specs.Directory.{shared_at, infos_in, is_known, bit_vec_at, other_keys, Connects, Updates}
+use Rattle.p2p_tracker.specs.Directory.{connected_record, updated_record, infos_of, sharable_in, sharable_of_record, shared_at, infos_in, is_known, bit_vec_at, other_keys, Connects, Updates}
 use Rattle.p2p_directory.specs.Refinement.{Refines, address_given, address_known, address_of}
 use Rattle.p2p_directory.specs.Run.{bit_vec_of, bit_vec_in}
 use Rattle.p2p_tracker.proofs.SetsAndRecords.Listing.{listed_by_value}
 use Rattle.p2p_tracker.proofs.Definitions.Knowledge.{later, updated_all_with_best}
 use Rattle.p2p_directory.proofs.Refinement.RecordOfPeer.{record_with, shown, myself_is_own, absent_parts, inert_only}
 use Rattle.p2p_directory.proofs.Refinement.CallsRefine.{tie_status, same_blocks, same_cooldowns, unchanged, remains}
+use Rattle.p2p_directory.specs.Laws.Refined.{KnowledgeAnswersAs}
 
 -- the cap of failures is above each limit
 capped : (limit fails : ℕ) → limit < 2 ^ 64 → nat_le limit (min fails (2 ^ 64 - 1)) ≡ nat_le limit fails
@@ -94,7 +90,7 @@ module _ {C S : Type 0} (s : Settings C S) where
 
   -- what an update makes of what is known of p
   abbrev updated_known : C → List (Info C S) → Known C S → Known C S
-  updated_known p is k = if is_own s p then k else Step.known_with_infos s k is
+  updated_known p is k = if is_own s p then k else World.known_with_infos s k is
 
   updated_address : (p : C) (is : List (Info C S)) (k : Known C S) → address_after_infos is (address_of s p k) ≡ address_of s p (updated_known p is k)
   updated_address p is k = go (is_own s p)
@@ -103,7 +99,7 @@ module _ {C S : Type 0} (s : Settings C S) where
       given = last_ingress s p s.bootstrappers
 
       known : (own : Bool) → Known C S
-      known own = if own then k else Step.known_with_infos s k is
+      known own = if own then k else World.known_with_infos s k is
 
       go : (own : Bool) → address_after_infos is (if own then Myself s.own else address_known given k.fails k.info)
           ≡ (if own then Myself s.own else address_known given (known own).fails (known own).info)
@@ -202,7 +198,7 @@ module _ {C S : Type 0} (s : Settings C S) where
       where
         at : (q : C) (b : Bool) → is_at (s.cmp p) q ≡ b →
             (if is_at (s.cmp p) q then option_map (connected_record dialer) (record_of s.cmp d q) else record_of s.cmp d q)
-            ≡ shown s q w.sets (w.cooldown q) (Step.peer_after s q (Connected p dialer) w.sets (w.peer q))
+            ≡ shown s q w.sets (w.cooldown q) (World.peer_after s q (Connected p dialer) w.sets (w.peer q))
         at q b e = (λ i. changed (e i)) ∙ go b e ∙ (λ i. left (sym e i))
           where
             st : Status
@@ -376,3 +372,14 @@ module _ {C S : Type 0} (s : Settings C S) where
         },
         refl,
       )
+
+  -- all answers of this file
+  pub answer : IsTotalOrder s.cmp → s.dial_fail_limit < 2 ^ 64 → (w : World C S) (d : DirectoryView C S) →
+      ((p : C) → is_present_in s w p ≡ false → (w.peer p).known ≡ new_known s p) → Refines s w d →
+      KnowledgeAnswersAs s w d
+  answer total fits w d forgotten refines = record {
+    tracked = tie_tracked total w d refines;
+    info = λ p. tie_info w d p refines;
+    infos = λ index bits t. tie_infos w d index bits t refines;
+    bits = λ place. tie_bits fits w d place forgotten refines;
+  }

@@ -16,15 +16,12 @@ use Rattle.p2p_tracker.specs.declared.record.Status.TheVariants.{Inert, Reserved
 use Rattle.p2p_tracker.specs.declared.record.dialing.ReserveResult.TheVariants as reserve
 use Rattle.p2p_tracker.specs.Calls.{Settings, SetAt, Direction, Cooldown}
 use Rattle.p2p_tracker.specs.Calls.Direction.{Listener, Dialer}
-use Rattle.p2p_tracker.specs.History.{same, is_own, is_persistent, is_named, is_present_with}
-use Rattle.p2p_tracker.specs.History.{primary_count, secondary_count, is_entitled}
+use Rattle.p2p_tracker.specs.History.{same, is_own, is_persistent, is_named, is_present_with, primary_count, secondary_count, is_entitled}
 use Rattle.p2p_tracker.specs.Status.{is_inert}
 use Rattle.p2p_tracker.specs.World
-use Rattle.p2p_tracker.specs.Step
-use Rattle.p2p_tracker.specs.World.{Known, Peer, last_ingress}
+use Rattle.p2p_tracker.specs.World.{Known, Peer, last_ingress, new_known}
 use Rattle.p2p_tracker.specs.Lists.{last_ingress_by}
 use Rattle.p2p_tracker.specs.Cooldowns.{reservable_from, dialable_from}
-use Rattle.p2p_tracker.specs.Step.{new_known}
 use Rattle.p2p_tracker.specs.Record.{fresh, is_myself, is_eligible, is_grant, may_come, after_failure, with_counts, unless_deletable}
 use Rattle.p2p_tracker.specs.Seen.{RecordView}
 use Rattle.p2p_tracker.specs.Directory.{address_after_release, released_record, is_connectable, record_with_sets}
@@ -156,7 +153,7 @@ module _ {C S : Type 0} (s : Settings C S) where
   failed_given (Some ingress) a = refl
 
   failed_with : (given : Option Ingress) (fails : ℕ) (info : Option (Info C S)) (a : Ingress) →
-      after_failure a (address_known given fails info) ≡ address_known given (if Step.is_failed_dial s info (Dialer a) then suc fails else fails) info
+      after_failure a (address_known given fails info) ≡ address_known given (if World.is_failed_dial s info (Dialer a) then suc fails else fails) info
   failed_with given fails None a = failed_given given a
   failed_with given fails (Some info) a = go (same_ingress info.ingress a)
     where
@@ -165,23 +162,23 @@ module _ {C S : Type 0} (s : Settings C S) where
       go true = ap (Discovered info) (capped fails)
       go false = refl
 
-  not_failed : (info : Option (Info C S)) → Step.is_failed_dial s info Listener ≡ false
+  not_failed : (info : Option (Info C S)) → World.is_failed_dial s info Listener ≡ false
   not_failed None = refl
   not_failed (Some info) = refl
 
   abbrev pub failed_once : Known C S → Direction → Known C S
-  failed_once known direction = if Step.is_failed_dial s known.info direction then record known { fails = suc known.fails } else known
+  failed_once known direction = if World.is_failed_dial s known.info direction then record known { fails = suc known.fails } else known
 
   address_released : (key p : C) (known : Known C S) (direction : Direction) →
       address_after_release (metadata_of {S = S} key direction) (address_of s p known) ≡ address_of s p (failed_once known direction)
   address_released key p known Listener = ap (λ b. address_of s p (if b then record known { fails = suc known.fails } else known)) (sym (not_failed known.info))
-  address_released key p known (Dialer a) = go (is_own s p) ∙ out (Step.is_failed_dial s known.info (Dialer a))
+  address_released key p known (Dialer a) = go (is_own s p) ∙ out (World.is_failed_dial s known.info (Dialer a))
     where
       given : Option Ingress
       given = last_ingress s p s.bootstrappers
 
       go : (b : Bool) → after_failure a (if b then Myself s.own else address_known given known.fails known.info)
-          ≡ (if b then Myself s.own else address_known given (if Step.is_failed_dial s known.info (Dialer a) then suc known.fails else known.fails) known.info)
+          ≡ (if b then Myself s.own else address_known given (if World.is_failed_dial s known.info (Dialer a) then suc known.fails else known.fails) known.info)
       go true = refl
       go false = failed_with given known.fails known.info a
 

@@ -18,15 +18,12 @@ use Rattle.p2p_tracker.specs.Calls.Event.{Nothing, SetTaken, Granted, Connected,
 use Rattle.p2p_tracker.specs.History
 use Rattle.p2p_tracker.specs.Status.{is_inert, is_reserved}
 use Rattle.p2p_tracker.specs.World
-use Rattle.p2p_tracker.specs.World.{World, event_in}
-use Rattle.p2p_tracker.specs.Step.{world_with, new_known, status_connected}
+use Rattle.p2p_tracker.specs.World.{World, event_in, world_with, new_known, status_connected}
 use Rattle.p2p_tracker.specs.Moments.{cap}
 use Rattle.p2p_tracker.specs.Answers.{is_present_in, was_taken, was_blocked, granted_direction, IsTrackAnswer}
 use Rattle.p2p_tracker.specs.PeerSets.{set_of, latest_index, is_above}
 use Rattle.p2p_tracker.specs.Seen.{RecordView, DirectoryView, record_of}
-use Rattle.p2p_tracker.specs.Directory.{is_busy, first_record, kept_after_release, may_block, may_listen_in}
-use Rattle.p2p_tracker.specs.Directory.{may_dial_in, ingress_in, ChangesRecord, Reserves, Connects, Updates, TakesSet}
-use Rattle.p2p_tracker.specs.Directory.{AreTornDown, BlocksUntil, EndsBlocks, ForgetsCooled}
+use Rattle.p2p_tracker.specs.Directory.{is_busy, first_record, kept_after_release, may_block, may_listen_in, may_dial_in, ingress_in, ChangesRecord, Reserves, Connects, Updates, TakesSet, AreTornDown, BlocksUntil, EndsBlocks, ForgetsCooled}
 use Rattle.p2p_directory.specs.Held.{AreHeld}
 use Rattle.p2p_directory.specs.Refinement.{Refines, config_of, record_in, metadata_of}
 use Rattle.p2p_directory.specs.Run.{world_after, event_of, Holds}

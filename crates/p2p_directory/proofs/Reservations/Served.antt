@@ -10,10 +10,10 @@ use Rattle.p2p_discovery.specs.declared.discovery.Info.{Info}
 use Rattle.p2p_tracker.specs.declared.directory.Metadata.{Metadata}
 use Rattle.p2p_tracker.specs.declared.directory.Metadata.TheVariants as metadata
 use Rattle.p2p_directory.specs.declared.run.commands.Reply.TheVariants as reply
-use Rattle.p2p_tracker.specs.Calls.{Settings, Call, Event}
-use Rattle.p2p_tracker.specs.Calls.Call.{Track, Dial, Listen, Connect, Release, Update, Block, UnblockExpired, ForgetCooled}
+use Rattle.p2p_tracker.specs.Calls.{Settings, Question, Call, Event}
+use Rattle.p2p_tracker.specs.Calls.Call.{Track, Dial, Listen, Connect, Release, Update, Block, UnblockExpired, ForgetCooled, Ask}
 use Rattle.p2p_tracker.specs.Calls.Direction.{Listener, Dialer}
-use Rattle.p2p_tracker.specs.Calls.Event.{Nothing, SetTaken, Granted, Connected, Released, Updated, Blocked, Expired, Forgot}
+use Rattle.p2p_tracker.specs.Calls.Event.{Nothing, SetTaken, Granted, Blocked}
 use Rattle.p2p_tracker.specs.Status.{is_reserved}
 use Rattle.p2p_tracker.specs.World.{event_in}
 use Rattle.p2p_tracker.specs.Moments.{cap}
@@ -29,7 +29,7 @@ use Rattle.p2p_directory.specs.declared.run.commands.Reply.{Reply}
 use Rattle.p2p_directory.specs.Private.Serving.{ServerView, StandsAt, IsCallServedAt, IsCallSteppedAt}
 use Rattle.p2p_directory.specs.Private.Slots.{held_in}
 use Rattle.p2p_directory.specs.Refinement.{Refines, config_of, metadata_of}
-use Rattle.p2p_directory.specs.Run.{world_after, event_of, MayWantMemory}
+use Rattle.p2p_directory.specs.Run.{world_after, event_of, MayWantMemory, MayWantToTell, Informs, was_made}
 use Rattle.p2p_directory.proofs.Refinement.CallsRefine
 use Rattle.p2p_directory.proofs.Refinement.BlocksRefine
 use Rattle.p2p_directory.proofs.Refinement.KnowledgeRefines
@@ -38,15 +38,8 @@ pub use Rattle.p2p_directory.proofs.Reservations.Effects.{are_held}
 
 -- what is granted is some reservation
 granted_is : {C S : Type 0} (p : C) (e : Event C S) → is_some (option_map (metadata_of {C = C} {S = S} p) (granted_direction e)) ≡ was_granted e
-granted_is p Nothing = refl
-granted_is p (SetTaken taken) = refl
 granted_is p (Granted q grant) = refl
-granted_is p (Connected q dialer) = refl
-granted_is p (Released q direction) = refl
-granted_is p (Updated infos) = refl
-granted_is p (Blocked q t) = refl
-granted_is p (Expired t) = refl
-granted_is p (Forgot t) = refl
+granted_is p _ = refl
 
 module _ {C S : Type 0} (s : Settings C S) where
   -- where its directory stands, and what is held in its slots, a server does
@@ -75,6 +68,19 @@ module _ {C S : Type 0} (s : Settings C S) where
         stands (c ∷ cs) v2 at.limit_fits
         (Effects.idle s some exact cs v.directory v2.directory (held_in s.cmp v.slots) (record { refines = at.refines; holds = at.holds })
         c (held_in s.cmp v2.slots) is directory (λ q. ap (λ slots. held_in s.cmp slots q) slots))
+
+    -- ONE QUESTION: v before it and after it
+    module _ (cs : List (Call C S)) (v : ServerView C S) (at : StandsAt s cs v) where
+      -- its reply
+      pub informed : (question : Question C) (r : Reply C S) → was_made r ≡ true → Informs s (world_after s cs) question r → IsCallServedAt s cs (Ask question) r v
+      informed question r made is = record {
+        answer = inr is;
+        left = subst (λ made. StandsAt s (if made then Ask question ∷ cs else cs) v) (sym made) (idle cs (Ask question) v v refl refl refl at);
+      }
+
+      -- .. or memory is refused
+      pub uninformed : (question : Question C) → MayWantToTell s (world_after s cs) question → IsCallServedAt s cs (Ask question) reply.OutOfMemory v
+      uninformed question may = record { answer = inl (refl, may); left = at }
 
     -- ONE COMMAND: v before it, v2 after it
     module _ (cs : List (Call C S)) (v v2 : ServerView C S) (at : StandsAt s cs v) where

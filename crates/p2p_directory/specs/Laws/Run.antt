@@ -6,7 +6,7 @@ use Rattle.p2p_directory.specs.Laws.GrantRuns.{RunKeepsCooldownUnlessForgotten, 
 use Rattle.p2p_directory.specs.Laws.GrantRuns.{RunKeepsBlocks}
 use Rattle.p2p_directory.specs.Laws.BlockRuns.{KeepLastBlock}
 use Rattle.p2p_directory.specs.Laws.DialRuns.{KeepDialable}
-use Rattle.p2p_directory.specs.Laws.IsolationRuns.{KeepAlone}
+use Rattle.p2p_directory.specs.Laws.Isolation.{KeepAlone}
 use Rattle.p2p_directory.specs.Laws.OrderRuns.{KeepOrder}
 use Rattle.p2p_directory.specs.Laws.BoundRuns.{KeepBound}
 

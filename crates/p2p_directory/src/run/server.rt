@@ -1,28 +1,23 @@
 //! A directory that serves commands, and holds the reservations that it grants.
 
-ghost use Rattle.std.specs.Prelude.{◌≡◌, ◌<◌, true, false, None, OnErr, IfOk};
-ghost use Rattle.std.specs.Prelude.{length, option_map, is_some};
-ghost use Rattle.std.specs.Duration.{as_nanos};
-ghost use Rattle.std.specs.Option.{IsSomeAnd};
-ghost use Rattle.p2p_tracker.specs.Directory.{infos_in, Updates};
-ghost use Rattle.p2p_directory.specs.Held.{held_of, AreHeld};
+ghost use Rattle.std.specs.Prelude.{◌≡◌, true, false, None, is_some};
+ghost use Rattle.p2p_directory.specs.Held.{AreHeld};
 ghost use Rattle.p2p_directory.specs.Private.Slots.{has_slot, held_in, AreSlots};
 ghost use Rattle.p2p_directory.specs.Private.Serving.{has_slot_for, IsServed};
 ghost use Rattle.p2p_directory.specs.Nodes.{TearsDownFew};
 ghost use Rattle.p2p_directory.specs.Run.{was_made};
 
 use crate::run::commands::{Command, Reply};
-use crate::run::held::Held;
-use crate::run::outcome::Run;
 use crate::run::slots::Slots;
 use p2p_discovery::codec::PublicKey;
 use p2p_discovery::discovery::{BitVec, Info};
-use p2p_tracker::directory::{Directory, Metadata, TrackedPeers};
+use p2p_tracker::directory::{Directory, TrackedPeers};
+use p2p_tracker::record::Status;
 use std::alloc::AllocError;
 use std::marker::Model;
 use std::time::Duration;
 
-mod questions;
+mod parts;
 mod reservations;
 
 /// A directory, and slots with the reservations that it granted and that were not released: they
@@ -90,55 +85,6 @@ impl<C: PublicKey> Server<C> {
             Command::Dialable(now) => self.dialable(now),
             Command::Tracked => Reply::Tracked(self.tracked()),
         }
-    }
-
-    /// The directory of the server.
-    pub fn directory(&self) -> &Directory<C>
-        ensures { result.now ≡ self.now.directory }
-    {
-        &self.directory
-    }
-
-    /// Whom the reservation of the peer that the server holds is for, if it holds one. It doesn't
-    /// allocate.
-    pub fn held(&self, peer: &C) -> Option<&Metadata<C>>
-        ensures { option_map (λ m. m.now) result ≡ held_in C.cmp self.now.slots peer.now }
-    {
-        self.slots.held(peer)
-    }
-
-    /// The infos that [`Directory::infos`] of the server's directory returns. It looks only at who
-    /// is reserved or connected, if that is less work.
-    pub fn infos_for(
-        &self,
-        bit_vec: &BitVec,
-        now: Duration,
-    ) -> Result<Option<Vec<Info<C>>>, AllocError>
-        ensures infos { IfOk result (λ infos. option_map (λ v. v.items) infos ≡ infos_in C.cmp
-            self.now.directory bit_vec.now.index bit_vec.now.bits (as_nanos now)) }
-        ensures err { OnErr result (IsSomeAnd (infos_in C.cmp
-            self.now.directory bit_vec.now.index bit_vec.now.bits (as_nanos now))
-            (λ infos. 0 < length infos)) }
-    {
-        self.slots.infos(&self.directory, bit_vec, now)
-    }
-
-    /// Offers infos to the records of their peers in the server's directory. It doesn't allocate.
-    pub fn update(&mut self, infos: Vec<Info<C>>)
-        ensures updated { Updates C.cmp self.old.directory self.new.directory infos.items }
-        ensures slots { self.new.slots ≡ self.old.slots }
-    {
-        self.directory.update_peers(infos);
-    }
-
-    /// The directory of the server, and its reservations. It doesn't allocate.
-    pub fn into_parts(self) -> (Directory<C>, Held<C>)
-        ensures directory { result.0 ≡ self.directory }
-        ensures held { (q : C) → held_of C.cmp result.1 q ≡ held_in C.cmp self.slots q }
-        ensures agree { AreHeld C.cmp result.0 (held_of C.cmp result.1) }
-    {
-        let Server { directory, slots } = self;
-        (directory, slots.into_held())
     }
 
     /// Registers a peer set in the server's directory, and replies.
@@ -271,18 +217,132 @@ impl<C: PublicKey> Server<C> {
         self.directory.forget_cooled(now)
     }
 
-    /// The run that the server leaves: its directory, its reservations, and these replies. It
-    /// doesn't allocate.
-    pub fn into_run(self, replies: Vec<Reply<C>>) -> Run<C>
-        ensures directory { result.directory ≡ self.directory }
-        ensures held { (q : C) → held_of C.cmp result.held q ≡ held_in C.cmp self.slots q }
-        ensures replies { result.replies ≡ replies }
+    /// Asks the server's directory when the first block ends.
+    pub fn next_unblock(&self) -> Option<Duration>
+        ensures { IsServed C.cmp Command.NextUnblock (Reply.NextUnblock result)
+            self.now self.now }
     {
-        let Server { directory, slots } = self;
-        Run {
-            directory,
-            held: slots.into_held(),
-            replies,
+        self.directory.next_unblock()
+    }
+
+    // Asks the server's directory for the peers that are blocked at this time.
+    fn blocked_peers(&self, now: Duration) -> Reply<C>
+        ensures { IsServed C.cmp (Command.BlockedPeers now) result self.now self.now }
+    {
+        match self.directory.blocked_peers(now) {
+            Ok(peers) => Reply::BlockedPeers(peers),
+            Err(AllocError) => Reply::OutOfMemory,
         }
+    }
+
+    /// Asks the server's directory whether the peer is connected. It returns `None` if there is no
+    /// record of the peer.
+    pub fn status(&self, peer: &C) -> Option<Status>
+        ensures { IsServed C.cmp (Command.Status peer.now) (Reply.Status result)
+            self.now self.now }
+    {
+        self.directory.status(peer)
+    }
+
+    // Asks the server's directory for the peers of the retained set with this index.
+    fn get_peer_set(&self, index: u64) -> Reply<C>
+        ensures { IsServed C.cmp (Command.GetPeerSet index) result self.now self.now }
+    {
+        match self.directory.get_peer_set(index) {
+            Ok(peers) => Reply::GetPeerSet(peers),
+            Err(AllocError) => Reply::OutOfMemory,
+        }
+    }
+
+    /// Asks the server's directory for the index of the latest set.
+    pub fn latest_set_index(&self) -> Option<u64>
+        ensures { IsServed C.cmp Command.LatestSetIndex (Reply.LatestSetIndex result)
+            self.now self.now }
+    {
+        self.directory.latest_set_index()
+    }
+
+    // Asks the server's directory for the latest set, and all peers of the retained sets.
+    fn latest_update(&self) -> Reply<C>
+        ensures { IsServed C.cmp Command.LatestUpdate result self.now self.now }
+    {
+        match self.directory.latest_update() {
+            Ok(update) => Reply::LatestUpdate(update),
+            Err(AllocError) => Reply::OutOfMemory,
+        }
+    }
+
+    // Asks the server's directory for all peers of the retained sets.
+    fn all(&self) -> Reply<C>
+        ensures { IsServed C.cmp Command.All result self.now self.now }
+    {
+        match self.directory.all() {
+            Ok(peers) => Reply::All(peers),
+            Err(AllocError) => Reply::OutOfMemory,
+        }
+    }
+
+    // Asks the server's directory for the info of the peer that may be shared.
+    fn info(&self, peer: &C) -> Reply<C>
+        ensures { IsServed C.cmp (Command.Info peer.now) result self.now self.now }
+    {
+        match self.directory.info(peer) {
+            Ok(info) => Reply::Info(info),
+            Err(AllocError) => Reply::OutOfMemory,
+        }
+    }
+
+    // Asks the server's directory for the infos for a peer that sent the bits.
+    fn infos(&self, bit_vec: &BitVec, now: Duration) -> Reply<C>
+        ensures { IsServed C.cmp (Command.Infos bit_vec.now now) result self.now self.now }
+    {
+        match self.slots.infos(&self.directory, bit_vec, now) {
+            Ok(infos) => Reply::Infos(infos),
+            Err(AllocError) => Reply::OutOfMemory,
+        }
+    }
+
+    // Asks the server's directory for the bits of the retained set at the position.
+    fn get_random_bit_vec(&self, place: usize) -> Reply<C>
+        ensures { IsServed C.cmp (Command.GetRandomBitVec place) result self.now self.now }
+    {
+        match self.directory.get_random_bit_vec(place) {
+            Ok(bits) => Reply::GetRandomBitVec(bits),
+            Err(AllocError) => Reply::OutOfMemory,
+        }
+    }
+
+    /// Asks the server's directory whether the peer may be connected.
+    pub fn eligible(&self, peer: &C, now: Duration) -> bool
+        ensures { IsServed C.cmp (Command.Eligible peer.now now) (Reply.Eligible result)
+            self.now self.now }
+    {
+        self.directory.eligible(peer, now)
+    }
+
+    /// Asks the server's directory whether an inbound connection of the peer may be accepted.
+    pub fn acceptable(&self, peer: &C, now: Duration) -> bool
+        ensures { IsServed C.cmp (Command.Acceptable peer.now now) (Reply.Acceptable result)
+            self.now self.now }
+    {
+        self.directory.acceptable(peer, now)
+    }
+
+    // Asks the server's directory for the peers that may be dialled at this time, and when to ask
+    // again.
+    fn dialable(&self, now: Duration) -> Reply<C>
+        ensures { IsServed C.cmp (Command.Dialable now) result self.now self.now }
+    {
+        match self.directory.dialable(now) {
+            Ok(dialable) => Reply::Dialable(dialable),
+            Err(AllocError) => Reply::OutOfMemory,
+        }
+    }
+
+    /// Asks the server's directory how many peers have a record, not counting the local node.
+    pub fn tracked(&self) -> usize
+        ensures { IsServed C.cmp Command.Tracked (Reply.Tracked result) self.now self.now }
+    {
+        self.directory.tracked()
     }
 }

@@ -13,7 +13,6 @@ use Rattle.p2p_tracker.specs.Calls.Event.{Nothing, SetTaken, Granted, Connected,
 use Rattle.p2p_tracker.specs.History
 use Rattle.p2p_tracker.specs.Lists.{earlier_best, first_greatest}
 use Rattle.p2p_tracker.specs.World
-use Rattle.p2p_tracker.specs.Step
 use Rattle.p2p_tracker.specs.World.{Known, Peer, World}
 
 module _ {C S : Type 0} where
@@ -134,7 +133,7 @@ module _ {C S : Type 0} (s : Settings C S) where
       (later_assoc k.info x y)
       (either (History.is_newer (later k.info x) y) (History.is_newer k.info x) k.fails ∙ ap (λ b. if b then 0 else k.fails) (sym (newer_chain k.info x y)))
 
-  updated_with_best : (k : Known C S) (i : Info C S) (o : Option (Info C S)) → k.info ≡ o → Step.known_with_info s k i o ≡ with_best k (Some i)
+  updated_with_best : (k : Known C S) (i : Info C S) (o : Option (Info C S)) → k.info ≡ o → World.known_with_info s k i o ≡ with_best k (Some i)
   updated_with_best k i None e = known_path (sym (ap (λ x. later x (Some i)) e)) (sym (ap (λ x. if History.is_newer x (Some i) then 0 else k.fails) e))
   updated_with_best k i (Some j) e = go (nat_lt j.timestamp i.timestamp) refl
     where
@@ -147,10 +146,10 @@ module _ {C S : Type 0} (s : Settings C S) where
           (ap (λ x. if History.is_newer x (Some i) then 0 else k.fails) e ∙ ap (λ b. if b then 0 else k.fails) f))
 
   -- updated one by one, the best of them all is what comes
-  pub updated_all_with_best : (k : Known C S) (is : List (Info C S)) → Step.known_with_infos s k is ≡ with_best k (first_greatest is)
+  pub updated_all_with_best : (k : Known C S) (is : List (Info C S)) → World.known_with_infos s k is ≡ with_best k (first_greatest is)
   updated_all_with_best k [] = sym (with_best_none k)
   updated_all_with_best k (i ∷ is) =
-      ap (λ x. Step.known_with_infos s x is) (updated_with_best k i k.info refl)
+      ap (λ x. World.known_with_infos s x is) (updated_with_best k i k.info refl)
       ∙ updated_all_with_best (with_best k (Some i)) is ∙ with_best_twice k (Some i) (first_greatest is)
 
   -- INFO IN A LIFE
@@ -266,7 +265,7 @@ module _ {C S : Type 0} (s : Settings C S) where
 
   known_updated : (p : C) (infos : List (Info C S)) (l : List (Event C S)) (own : Bool) → History.is_own s p ≡ own →
       World.known_in s p (Updated infos ∷ l)
-      ≡ (if own then World.known_in s p l else Step.known_with_infos s (World.known_in s p l)
+      ≡ (if own then World.known_in s p l else World.known_with_infos s (World.known_in s p l)
       (filter (λ i. History.same s i.public_key p) infos))
   known_updated p infos l true own =
       let same : History.info_in s p (Updated infos ∷ l) ≡ History.info_in s p l = info_own p (Updated infos ∷ l) own ∙ sym (info_own p l own) in
@@ -277,7 +276,7 @@ module _ {C S : Type 0} (s : Settings C S) where
       ∙ sym (updated_all_with_best (World.known_in s p l) (filter (λ i. History.same s i.public_key p) infos))
 
   known_connected : (p q : C) (dialer : Bool) (l : List (Event C S)) →
-      World.known_in s p (Connected q dialer ∷ l) ≡ Step.known_after s p (Connected q dialer) (World.known_in s p l)
+      World.known_in s p (Connected q dialer ∷ l) ≡ World.known_after s p (Connected q dialer) (World.known_in s p l)
   known_connected p q dialer l =
       known_path same (fails_same p (Connected q dialer) l same (λ a. refl))
       ∙ go (History.same s q p && dialer)
@@ -294,7 +293,7 @@ module _ {C S : Type 0} (s : Settings C S) where
   -- how a release counts
   failure_counts : (p q : C) (direction : Direction) (k : Known C S) (o : Option (Info C S)) (n : ℕ) → k.info ≡ o → k.fails ≡ n →
       ◌≡◌ {A = Known C S} (record k { fails = one_failure p o (Released q direction) + n })
-      (if History.same s q p && Step.is_failed_dial s o direction then record k { fails = suc k.fails } else k)
+      (if History.same s q p && World.is_failed_dial s o direction then record k { fails = suc k.fails } else k)
   failure_counts p q direction k None n e f = go (History.same s q p)
     where
       go : (b : Bool) → ◌≡◌ {A = Known C S} (record k { fails = 0 + n }) (if b && false then record k { fails = suc k.fails } else k)
@@ -307,7 +306,7 @@ module _ {C S : Type 0} (s : Settings C S) where
       go false = known_path refl ((zero-add n) ∙ sym f)
 
   known_released : (p q : C) (direction : Direction) (l : List (Event C S)) →
-      World.known_in s p (Released q direction ∷ l) ≡ Step.known_after s p (Released q direction)
+      World.known_in s p (Released q direction ∷ l) ≡ World.known_after s p (Released q direction)
       (World.known_in s p l)
   known_released p q direction l =
       known_path same (fails_quiet p (Released q direction) l same)
@@ -316,7 +315,7 @@ module _ {C S : Type 0} (s : Settings C S) where
       same : History.info_in s p (Released q direction ∷ l) ≡ History.info_in s p l
       same = info_quiet p (Released q direction) l refl
 
-  pub known_step : (p : C) (e : Event C S) (l : List (Event C S)) → World.known_in s p (e ∷ l) ≡ Step.known_after s p e (World.known_in s p l)
+  pub known_step : (p : C) (e : Event C S) (l : List (Event C S)) → World.known_in s p (e ∷ l) ≡ World.known_after s p e (World.known_in s p l)
   known_step p (Updated infos) l = known_updated p infos l (History.is_own s p) refl
   known_step p (Granted q grant) l = nothing_known p (Granted q grant) l refl (λ a. refl) refl
   known_step p (Connected q dialer) l = known_connected p q dialer l
@@ -328,16 +327,16 @@ module _ {C S : Type 0} (s : Settings C S) where
   known_step p (Forgot t) l = nothing_known p (Forgot t) l refl (λ a. refl) refl
 
   -- what is known of a peer with no life
-  pub known_nothing : (p : C) → World.known_in s p [] ≡ Step.new_known s p
+  pub known_nothing : (p : C) → World.known_in s p [] ≡ World.new_known s p
   known_nothing p = known_path refl (failures_none p (History.info_in s p []))
 
   -- a life goes on or is emptied
   pub known_life : (p : C) (e : Event C S) (h : List (Event C S)) → World.known_in s p (History.life s p (e ∷ h))
-      ≡ (if History.is_present s p (e ∷ h) then Step.known_after s p e (World.known_in s p (History.life s p h)) else Step.new_known s p)
+      ≡ (if History.is_present s p (e ∷ h) then World.known_after s p e (World.known_in s p (History.life s p h)) else World.new_known s p)
   unfolding History.life
   known_life p e h = go (History.is_present s p (e ∷ h))
     where
       go : (b : Bool) → World.known_in s p (if b then e ∷ History.life s p h else [])
-          ≡ (if b then Step.known_after s p e (World.known_in s p (History.life s p h)) else Step.new_known s p)
+          ≡ (if b then World.known_after s p e (World.known_in s p (History.life s p h)) else World.new_known s p)
       go true = known_step p e (History.life s p h)
       go false = known_nothing p

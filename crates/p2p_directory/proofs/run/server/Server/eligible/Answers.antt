@@ -1,10 +1,15 @@
-use Rattle.std.proofs.Common.{refl}
+use Rattle.std.proofs.Common.{refl, ap, ◌∙◌}
 use Rattle.std.specs.Duration.{as_nanos}
-use Rattle.p2p_directory.specs.Run.{settings}
-use Rattle.p2p_directory.proofs.Reservations.Told
+use Rattle.p2p_tracker.specs.Calls.Question.{IsEligible}
+use Rattle.p2p_directory.specs.declared.run.commands.Reply.TheVariants as reply
+use Rattle.p2p_directory.specs.Run.{settings, world_after}
+use Rattle.p2p_directory.proofs.Refinement.BlocksRefine
+use Rattle.p2p_directory.proofs.Reservations.Served.{informed}
 use Rattle.p2p_directory.proofs.run.server.Server.eligible.Goals as goal
 
 pub returns : goal.returns
 returns g c = rw (← c.self.view_is) (λ bootstrappers myself cfg calls at.
-    Told.served_eligible (settings g.C.Ord.cmp bootstrappers myself cfg) cfg.max_sets.ok g.met.C.PublicKey.exact
-    calls _ _ at c.args.peer.now (as_nanos c.args.now) c.eligible.result c.eligible.ensures refl refl)
+    let s = settings g.C.Ord.cmp bootstrappers myself cfg in
+    informed s cfg.max_sets.ok g.met.C.PublicKey.exact calls _ at (IsEligible c.args.peer.now (as_nanos c.args.now)) (reply.Eligible c.eligible.result) refl
+    (ap reply.Eligible
+    (c.eligible.ensures ∙ BlocksRefine.tie_eligible s (world_after s calls) _ c.args.peer.now (as_nanos c.args.now) at.refines)))
