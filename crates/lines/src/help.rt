@@ -1,6 +1,7 @@
 //! What can be typed, as `--help` prints it.
 
-use crate::parse::{COMMANDS, SETTINGS};
+use crate::calls::COMMANDS;
+use crate::parse::SETTINGS;
 use std::fmt;
 
 /// What is typed instead of the words in capitals.

@@ -1,6 +1,7 @@
 //! The language of lines: what is typed of nodes, and what is printed of values.
 #![tactic(auto)]
 
+mod calls;
 pub mod examples;
 mod expected;
 mod fault;
@@ -13,10 +14,11 @@ mod tables;
 mod usage;
 mod value;
 
+pub use calls::COMMANDS;
 pub use expected::is_printed_as;
 pub use fault::Fault;
 pub use help::Help;
-pub use parse::{COMMANDS, default_setup, request};
+pub use parse::{default_setup, request};
 pub use printed::{Hex, Line};
 pub use requests::{Nodes, Request};
 pub use tables::{NAMESPACE, Unreadable, command, commands, info, pair_commands, setup};

@@ -3,13 +3,12 @@
 ghost use Rattle.std.specs.Prelude.{◌<◌, ◌-◌, IfOk};
 ghost use Rattle.lines.specs.Requests.{CanServe};
 
+use crate::calls::{command, usage_of};
 use crate::fault::Fault;
-use crate::parse::commands::{command, usage_of};
 use crate::parse::frames::{kind_and_bytes, payload};
 use crate::parse::nearest::nearest_command;
 use crate::parse::words::{Words, unhex};
 use crate::requests::{Nodes, Request};
-pub use commands::COMMANDS;
 pub use infos::info as parse_info;
 use p2p_directory::node::NetworkCommand;
 use p2p_directory::run::Command;
@@ -17,12 +16,11 @@ use p2p_discovery::codec::TestKey;
 pub use settings::{NAMESPACE, SETTINGS, default_setup, setup_of};
 use std::alloc::Global;
 
-mod commands;
 mod frames;
-mod infos;
-mod nearest;
+pub mod infos;
+pub mod nearest;
 mod settings;
-mod words;
+pub mod words;
 
 /// Parses a line as what it requests of these nodes.
 pub fn request<N: Nodes>(alloc: Global, line: &str, nodes: &N) -> Result<Request<TestKey>, Fault>

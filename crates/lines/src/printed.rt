@@ -7,7 +7,6 @@ ghost use Rattle.lines.specs.Printed.{info_text, data_text, bits_text, bit_vec_t
 use p2p_directory::directory::{PeerSetUpdate, TrackedPeers};
 use p2p_directory::node::{Exchanged, NetworkReply, PairReply, Received};
 use p2p_directory::record::Dialable;
-use p2p_directory::run::Reply;
 use p2p_discovery::codec::TestKey;
 use p2p_discovery::data::Data;
 use p2p_discovery::discovery::{BitVec, Info, Infos, Payload};
@@ -126,7 +125,7 @@ impl fmt::Display for Line<'_, Info<TestKey>> {
 
 /// Infos in brackets, separated by commas.
 #[derive(Drop)]
-struct InfoList<'a>(&'a [Info<TestKey>]);
+pub struct InfoList<'a>(pub &'a [Info<TestKey>]);
 
 impl fmt::Display for InfoList<'_> {
     fn fmt<W: fmt::Write>(&self, f: &mut fmt::Formatter<W>) -> fmt::Result {
@@ -219,46 +218,6 @@ impl fmt::Display for Line<'_, Dialable<TestKey>> {
         match &self.0.next_query_at {
             Some(moment) => write!(f, "{peers} Some({})", Line(moment)),
             None => write!(f, "{peers} None"),
-        }
-    }
-}
-
-impl fmt::Display for Line<'_, Reply<TestKey>> {
-    fn fmt<W: fmt::Write>(&self, f: &mut fmt::Formatter<W>) -> fmt::Result {
-        match self.0 {
-            Reply::Track(None)
-            | Reply::NextUnblock(None)
-            | Reply::Status(None)
-            | Reply::GetPeerSet(None)
-            | Reply::LatestSetIndex(None)
-            | Reply::LatestUpdate(None)
-            | Reply::Info(None)
-            | Reply::Infos(None)
-            | Reply::GetRandomBitVec(None) => f.write_str("None"),
-            Reply::Track(Some(torn)) => write!(f, "Some({})", Line(torn)),
-            Reply::Dial(granted) | Reply::Listen(granted) => {
-                f.write_str(if *granted { "granted" } else { "refused" })
-            }
-            Reply::Connect | Reply::Release | Reply::UpdatePeers => f.write_str("done"),
-            Reply::Block(answer)
-            | Reply::UnblockExpired(answer)
-            | Reply::Eligible(answer)
-            | Reply::Acceptable(answer) => write!(f, "{answer}"),
-            Reply::NextUnblock(Some(moment)) => write!(f, "Some({})", Line(moment)),
-            Reply::BlockedPeers(peers) => write!(f, "{}", Line(peers)),
-            Reply::Status(Some(status)) => write!(f, "{status:?}"),
-            Reply::GetPeerSet(Some(peers)) => write!(f, "Some({})", Line(peers)),
-            Reply::LatestSetIndex(Some(index)) => write!(f, "Some({index})"),
-            Reply::LatestUpdate(Some(update)) => write!(f, "Some({})", Line(update)),
-            Reply::All(peers) => write!(f, "{}", Line(peers)),
-            Reply::Info(Some(info)) => write!(f, "{}", Line(info)),
-            Reply::Infos(Some(infos)) => write!(f, "Some({})", InfoList(infos.as_slice())),
-            Reply::GetRandomBitVec(Some(bits)) => write!(f, "{}", Line(bits)),
-            Reply::Dialable(dialable) => write!(f, "{}", Line(dialable)),
-            Reply::ForgetCooled(count) | Reply::Tracked(count) => write!(f, "{count}"),
-            Reply::NotReserved => f.write_str("NotReserved"),
-            Reply::NotHeld => f.write_str("NotHeld"),
-            Reply::OutOfMemory => f.write_str("OutOfMemory"),
         }
     }
 }

@@ -1,7 +1,7 @@
 //! Words of frames: values as bytes, and bytes as values.
 
+use crate::calls::bit_vec;
 use crate::fault::Fault;
-use crate::parse::commands::bit_vec;
 use crate::parse::infos::{info, infos};
 use crate::parse::words::{Words, unhex};
 use crate::value::{Kind, Value};

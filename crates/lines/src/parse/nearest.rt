@@ -1,6 +1,6 @@
 //! The name that was meant.
 
-use crate::parse::commands::COMMANDS;
+use crate::calls::COMMANDS;
 use crate::parse::settings::SETTINGS;
 
 /// The nearest command to a mistyped word: that which shares the longest prefix with it, and of

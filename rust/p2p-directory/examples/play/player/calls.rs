@@ -1,11 +1,11 @@
-//! Calls of one node, or of two.
+//! The commands, and calls of one node, or of two.
 
 use super::Named;
 use super::fault::Fault;
 use super::printed::{
     bit_vec, data, dialable, hexadecimal, info, infos, keys, option, or_none, tracked, update,
 };
-use super::usage::nearest_command;
+use super::usage::{Usage, nearest};
 use super::words::Words;
 use p2p_directory::testing::verify;
 use p2p_directory::{Data, Moment, OutOfMemory, Payload, PayloadConfig, Received, Reservation};
@@ -21,6 +21,50 @@ const ALL: PayloadConfig = PayloadConfig {
     max_peers: usize::MAX,
     max_data_length: usize::MAX,
 };
+
+const COMMANDS: [Usage; 31] = [
+    Usage("node", "NAME [KEY=VALUE ..]"),
+    Usage("track", "I LIST [/ LIST]"),
+    Usage("dial", "P T [DRAW]"),
+    Usage("listen", "P T [DRAW]"),
+    Usage("connect", "P BOOL"),
+    Usage("release", "P"),
+    Usage("update", "INFOS"),
+    Usage("block", "P T"),
+    Usage("unblock_expired", "T"),
+    Usage("forget_cooled", "T"),
+    Usage("next_unblock", ""),
+    Usage("blocked_peers", "T"),
+    Usage("get_peer_set", "I"),
+    Usage("latest_update", ""),
+    Usage("latest_set_index", ""),
+    Usage("all", ""),
+    Usage("status", "P"),
+    Usage("info", "P"),
+    Usage("infos", "I BITS T"),
+    Usage("bits", "PLACE"),
+    Usage("eligible", "P T"),
+    Usage("acceptable", "P T"),
+    Usage("dialable", "T"),
+    Usage("tracked", ""),
+    Usage("ask", "PLACE"),
+    Usage("receive", "HEX T"),
+    Usage("exchange", "OTHER PLACE ASKER_T REPLIER_T"),
+    Usage("decode", "KIND HEX"),
+    Usage("recode", "KIND HEX"),
+    Usage("frame", "FORM"),
+    Usage("=", "TEXT"),
+];
+
+/// The command of this name.
+pub fn command_of(name: &str) -> Option<Usage> {
+    COMMANDS.into_iter().find(|usage| usage.0 == name)
+}
+
+/// The command that is nearest to the word.
+pub fn nearest_command(word: &str) -> &'static str {
+    nearest(word, COMMANDS.iter().map(|usage| usage.0))
+}
 
 /// Parses the arguments of the call of this name. Infos are signed in the namespace.
 pub fn parsed(name: &str, words: &mut Words<'_>, namespace: &[u8]) -> Result<Call, Fault> {

@@ -8,7 +8,7 @@ mod settings;
 mod usage;
 mod words;
 
-use calls::{exchanged, parsed};
+use calls::{command_of, exchanged, nearest_command, parsed};
 use fault::Fault;
 use p2p_directory::testing::sign;
 use p2p_directory::{
@@ -18,7 +18,6 @@ use p2p_directory::{
 use printed::{hexadecimal, info, ingress, payload};
 pub use script::{Mode, Tally, play};
 use std::collections::BTreeMap;
-use usage::{command_of, nearest_command};
 use words::Words;
 
 /// The key of a number, which is in its last bytes.

@@ -6,6 +6,7 @@ mod fields;
 #[path = "../../../tests/calls/model.rs"]
 #[allow(dead_code)]
 mod model;
+#[path = "../../../tests/calls/modelled.rs"]
 mod modelled;
 #[path = "../../../examples/play/player/mod.rs"]
 #[allow(dead_code)]

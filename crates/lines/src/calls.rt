@@ -1,14 +1,16 @@
-//! The commands by their names, and those of one directory.
+//! The commands: how each is typed, parsed, and its reply printed.
 
 use crate::fault::Fault;
 use crate::parse::infos::infos;
 use crate::parse::nearest::nearest_command;
 use crate::parse::words::{Words, bits};
+use crate::printed::{InfoList, Line};
 use crate::usage::Usage;
-use p2p_directory::run::Command;
+use p2p_directory::run::{Command, Reply};
 use p2p_discovery::codec::TestKey;
 use p2p_discovery::discovery::BitVec;
 use std::alloc::Global;
+use std::fmt;
 
 /// All commands: the name, what is typed after it, and the reply.
 pub static COMMANDS: [(&'static str, &'static str, &'static str); 31] = [
@@ -143,4 +145,44 @@ fn of_a_peer_and_more(name: &str, words: &mut Words<'_>) -> Result<Command<TestK
         },
         _ => return Err(Fault::Unknown("command", nearest_command(name))),
     })
+}
+
+impl fmt::Display for Line<'_, Reply<TestKey>> {
+    fn fmt<W: fmt::Write>(&self, f: &mut fmt::Formatter<W>) -> fmt::Result {
+        match self.0 {
+            Reply::Track(None)
+            | Reply::NextUnblock(None)
+            | Reply::Status(None)
+            | Reply::GetPeerSet(None)
+            | Reply::LatestSetIndex(None)
+            | Reply::LatestUpdate(None)
+            | Reply::Info(None)
+            | Reply::Infos(None)
+            | Reply::GetRandomBitVec(None) => f.write_str("None"),
+            Reply::Track(Some(torn)) => write!(f, "Some({})", Line(torn)),
+            Reply::Dial(granted) | Reply::Listen(granted) => {
+                f.write_str(if *granted { "granted" } else { "refused" })
+            }
+            Reply::Connect | Reply::Release | Reply::UpdatePeers => f.write_str("done"),
+            Reply::Block(answer)
+            | Reply::UnblockExpired(answer)
+            | Reply::Eligible(answer)
+            | Reply::Acceptable(answer) => write!(f, "{answer}"),
+            Reply::NextUnblock(Some(moment)) => write!(f, "Some({})", Line(moment)),
+            Reply::BlockedPeers(peers) => write!(f, "{}", Line(peers)),
+            Reply::Status(Some(status)) => write!(f, "{status:?}"),
+            Reply::GetPeerSet(Some(peers)) => write!(f, "Some({})", Line(peers)),
+            Reply::LatestSetIndex(Some(index)) => write!(f, "Some({index})"),
+            Reply::LatestUpdate(Some(update)) => write!(f, "Some({})", Line(update)),
+            Reply::All(peers) => write!(f, "{}", Line(peers)),
+            Reply::Info(Some(info)) => write!(f, "{}", Line(info)),
+            Reply::Infos(Some(infos)) => write!(f, "Some({})", InfoList(infos.as_slice())),
+            Reply::GetRandomBitVec(Some(bits)) => write!(f, "{}", Line(bits)),
+            Reply::Dialable(dialable) => write!(f, "{}", Line(dialable)),
+            Reply::ForgetCooled(count) | Reply::Tracked(count) => write!(f, "{count}"),
+            Reply::NotReserved => f.write_str("NotReserved"),
+            Reply::NotHeld => f.write_str("NotHeld"),
+            Reply::OutOfMemory => f.write_str("OutOfMemory"),
+        }
+    }
 }
