@@ -50,7 +50,7 @@ returns-clause-connected g c =
     let answers = c.refined_answers.ensures s refl (omega (arith, c.well_formed))
     (calls c.args.peer (as_nanos c.args.now) (as_nanos c.args.draw) c.args.peers.primary c.args.peers.secondary)
     c.connect.new.self (connected g c).refines in
-    c.status-connected.ensures ∙ answers.status c.args.peer
+    c.status-connected.ensures ∙ answers.calls.status c.args.peer
 
 pub returns-clause-afterwards : goal.returns-clause-afterwards
 returns-clause-afterwards g c =
@@ -68,4 +68,4 @@ returns-clause-afterwards g c =
     ∙ ap (λ o. if is_eq o then Some m else None) (tied_itself g.met.C.Ord.total p)) c.release.ensures.released (λ q. refl) in
     let answers = c.refined_answers.ensures s refl (omega (arith, c.well_formed)) (Release p ∷ before) c.release.new.self
     (subst (λ k. Refines s (world_after s (Release k ∷ before)) c.release.new.self) of_peer released.refines) in
-    c.status-afterwards.ensures ∙ answers.status p
+    c.status-afterwards.ensures ∙ answers.calls.status p
