@@ -1,6 +1,6 @@
 //! The examples that the documentation of the most used calls of a node links to.
 
-use crate::fixtures::node;
+use crate::fixtures::found_by;
 use bytes::Bytes;
 use lines::{command, info};
 use p2p_directory::node::{Node, Received};
@@ -41,22 +41,35 @@ fn greeting(alloc: Global) -> Result<Bytes, Fail> {
     Ok(Bytes::from_vec(bytes)?)
 }
 
+// Whether the tested node takes the set, admits peer 1 and not 3, and is greeted, and its reply to a
+// question.
+fn admits_and_answers(
+    node: &mut Node<TestKey>,
+    set: Command<TestKey>,
+    greets: Bytes,
+) -> (bool, Option<Bytes>) {
+    let now = Duration::from_secs(100);
+    let is_taken = matches!(node.step(set), Reply::Track(Some(_)));
+    let is_in = admit(node, TestKey(1), now, Duration::ZERO);
+    let is_out = !admit(node, TestKey(3), now, Duration::ZERO);
+    let is_greeted = answer(node, greets, now).is_none();
+    let is_reserved = node.directory().status(&TestKey(1)) == Some(Status::Reserved);
+    let told = answer(node, Bytes::from_static(b"\x02\0\x02\0"), now);
+    (
+        is_taken && is_in && is_out && is_greeted && is_reserved,
+        told,
+    )
+}
+
 #[test]
 fn a_peer_is_admitted_and_answered(rt: HostRuntime) -> Result<(), Fail> {
     let alloc = rt.alloc();
     let set = command(alloc, "track 0 1,2")?;
     let greets = greeting(alloc)?;
-    let now = Duration::from_secs(100);
-    let mut node = node(alloc, "")?;
-    let is_taken = matches!(node.step(set), Reply::Track(Some(_)));
-    let is_in = admit(&mut node, TestKey(1), now, Duration::ZERO);
-    let is_out = !admit(&mut node, TestKey(3), now, Duration::ZERO);
-    let greeted = answer(&mut node, greets, now).is_none();
-    let told = answer(&mut node, Bytes::from_static(b"\x02\0\x02\0"), now);
-    let status = node.directory().status(&TestKey(1));
-    node.finish();
-    assert!(rt; is_taken && is_in && is_out && greeted);
-    assert_eq!(rt; status, Some(Status::Reserved));
+    let (is_admitted, told) = found_by(alloc, "", &[], |node| {
+        admits_and_answers(node, set, greets)
+    })?;
+    assert!(rt; is_admitted);
     // No peer is connected, so no info is returned.
     assert!(rt; told.is_some_and(|frame| frame.as_slice() == b"\x03\x00".as_slice()));
     Ok(())

@@ -9,8 +9,7 @@ use p2p_discovery::codec::TestKey;
 use std::alloc::Global;
 use std::test::Fail;
 
-/// A node with these settings, a fixture of the directory's tests.
-pub fn node(alloc: Global, settings: &'static str) -> Result<Node<TestKey>, Fail> {
+fn node(alloc: Global, settings: &'static str) -> Result<Node<TestKey>, Fail> {
     Ok(Node::new(alloc, setup(alloc, settings)?)?)
 }
 
@@ -26,6 +25,23 @@ pub fn node_after(
         node.step(command);
     }
     Ok(node)
+}
+
+/// What is found by a node with these settings that served the lines, a fixture of the directory's
+/// tests. The node ends here alone: each place where a directory is dropped takes a check as long as
+/// that of a test.
+pub fn found_by<T, F: FnOnce(&mut Node<TestKey>) -> T>(
+    alloc: Global,
+    settings: &'static str,
+    lines: &[&'static str],
+    find: F,
+) -> Result<T, Fail>
+    requires { F.IsAlwaysCallable find }
+{
+    let mut node = node_after(alloc, settings, lines)?;
+    let found = find(&mut node);
+    node.finish();
+    Ok(found)
 }
 
 /// The run of the commands over the directory of a node with these settings, a fixture of the

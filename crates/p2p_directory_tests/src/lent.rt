@@ -5,7 +5,7 @@ ghost use Rattle.p2p_tracker.specs.Answers.{status_in};
 ghost use Rattle.p2p_directory.specs.Nodes.{StandsSomewhere, made_of};
 ghost use Rattle.p2p_directory.specs.Run.{call_of, next, world_after};
 
-use crate::fixtures::node_after;
+use crate::fixtures::found_by;
 use p2p_directory::node::Node;
 use p2p_directory::record::Status;
 use p2p_directory::run::{Command, Reply};
@@ -34,23 +34,36 @@ fn dial_and_look<C: PublicKey>(
     (reply, status)
 }
 
+// Whether the lent node of the test grants a dial of the peer at 100 s, `None` if it replies
+// otherwise, and how the peer stands then.
+fn dialled(node: &mut Node<TestKey>, peer: u64) -> (Option<bool>, Option<Status>) {
+    let now = Duration::from_secs(100);
+    match dial_and_look(node, &TestKey(peer), now, Duration::ZERO) {
+        (Reply::Dial(granted), status) => (Some(granted), status),
+        (_, status) => (None, status),
+    }
+}
+
 #[test]
 fn a_lent_node_says_whom_it_reserves(rt: HostRuntime) -> Result<(), Fail> {
     let alloc = rt.alloc();
-    let now = Duration::from_secs(100);
-    let mut node = node_after(alloc, "", &["track 0 1,2", "update 1@5"])?;
-    let (granted, reserved) = dial_and_look(&mut node, &TestKey(1), now, Duration::ZERO);
-    let (again, still) = dial_and_look(&mut node, &TestKey(1), now, Duration::ZERO);
-    let (refused, inert) = dial_and_look(&mut node, &TestKey(2), now, Duration::ZERO);
-    let (unknown, nothing) = dial_and_look(&mut node, &TestKey(3), now, Duration::ZERO);
-    node.finish();
-    assert!(rt; matches!(granted, Reply::Dial(true)));
-    assert_eq!(rt; reserved, Some(Status::Reserved));
-    assert!(rt; matches!(again, Reply::Dial(false)));
-    assert_eq!(rt; still, Some(Status::Reserved));
-    assert!(rt; matches!(refused, Reply::Dial(false)));
-    assert_eq!(rt; inert, Some(Status::Inert));
-    assert!(rt; matches!(unknown, Reply::Dial(false)));
-    assert_eq!(rt; nothing, None);
+    let dialled = found_by(alloc, "", &["track 0 1,2", "update 1@5"], |node| {
+        [
+            dialled(node, 1),
+            dialled(node, 1),
+            dialled(node, 2),
+            dialled(node, 3),
+        ]
+    })?;
+    let reserved = Some(Status::Reserved);
+    assert_eq!(rt;
+        dialled,
+        [
+            (Some(true), reserved),
+            (Some(false), reserved),
+            (Some(false), Some(Status::Inert)),
+            (Some(false), None),
+        ]
+    );
     Ok(())
 }

@@ -1,13 +1,12 @@
 //! Messages that share memory with their frames, and an exchange of two nodes.
 
-use crate::fixtures::{node, node_after};
+use crate::fixtures::found_by;
 use bytes::Bytes;
 use lines::command;
 use p2p_directory::node::{Exchanged, Node, Received, exchange};
 use p2p_directory::run::Command;
 use p2p_discovery::codec::TestKey;
 use std::alloc::Global;
-use std::process::Abort;
 use std::test::Fail;
 use std::time::Duration;
 
@@ -45,9 +44,9 @@ fn a_message_is_a_cut_of_its_frame(rt: HostRuntime) -> Result<(), Fail> {
     let alloc = rt.alloc();
     let frame = long_frame(alloc)?;
     let kept = frame.clone()?;
-    let mut node = node(alloc, "max_data_length=1048576")?;
-    let received = node.receive(frame, hundred());
-    node.finish();
+    let received = found_by(alloc, "max_data_length=1048576", &[], |node| {
+        node.receive(frame, hundred())
+    })?;
     assert!(rt; is_cut(received, &kept));
     Ok(())
 }
@@ -78,31 +77,19 @@ fn finds_no_set(asker: &mut Node<TestKey>, replier: &Node<TestKey>) -> bool {
     )
 }
 
-fn exchanges(
-    rt: &impl Abort,
-    set: Command<TestKey>,
-    mut asker: Node<TestKey>,
-    replier: Node<TestKey>,
-) {
-    let first = finds_no_set(&mut asker, &replier);
+fn exchanges(asker: &mut Node<TestKey>, replier: &Node<TestKey>, set: Command<TestKey>) -> bool {
+    let first = finds_no_set(asker, replier);
     asker.step(set);
-    let second = brings_one(&mut asker, &replier);
-    asker.finish();
-    replier.finish();
-    assert!(rt; first && second);
+    first && brings_one(asker, replier)
 }
 
 #[test]
 fn an_exchange_brings_what_is_wanted(rt: HostRuntime) -> Result<(), Fail> {
     let alloc = rt.alloc();
     let set = command(alloc, "track 0 1,2")?;
-    let asker = node(alloc, "")?;
-    match node_after(alloc, "own=8", &REPLIER) {
-        Ok(replier) => exchanges(&rt, set, asker, replier),
-        Err(error) => {
-            asker.finish();
-            return Err(error);
-        }
-    }
+    let exchanged = found_by(alloc, "own=8", &REPLIER, |replier| {
+        found_by(alloc, "", &[], |asker| exchanges(asker, replier, set))
+    })??;
+    assert!(rt; exchanged);
     Ok(())
 }

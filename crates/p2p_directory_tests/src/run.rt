@@ -35,17 +35,22 @@ fn is_told(place: usize, reply: &Reply<TestKey>) -> bool {
     }
 }
 
+// How many replies of the tested run are told as they should be.
+fn told(replies: &[Reply<TestKey>]) -> usize {
+    let mut told = 0usize;
+    for (place, reply) in replies.iter().enumerate() {
+        told = told.saturating_add(usize::from(is_told(place, reply)));
+    }
+    told
+}
+
 #[test]
 fn replies_to_ten_thousand_commands(rt: HostRuntime) -> Result<(), Fail> {
     let alloc = rt.alloc();
     let commands = commands(alloc)?;
     let left = run_from(alloc, "", commands)?;
-    let mut told = 0usize;
-    for (place, reply) in left.replies.iter().enumerate() {
-        told = told.saturating_add(usize::from(is_told(place, reply)));
-    }
-    assert_eq!(rt; (left.replies.len(), told), (10_001, 10_001));
-    assert_eq!(rt; left.held.first(), None);
+    let (count, told, held) = (left.replies.len(), told(&left.replies), left.held.first());
     left.finish();
+    assert_eq!(rt; (count, told, held), (10_001, 10_001, None));
     Ok(())
 }

@@ -5,6 +5,7 @@ ghost use Rattle.std.specs.Prelude.{◌<◌, ◌^◌};
 pub(crate) mod array_keys;
 pub(crate) mod small_keys;
 
+use crate::assertions::{assert_same, assert_same_for};
 use bytes::{Bytes, BytesMut};
 use p2p_discovery::codec::{
     CodecError, EncodeSize, FixedBytes, PublicKey, RangeCfg, Read, Reader, TestKey, TestSignature,
@@ -29,9 +30,9 @@ pub(crate) fn is_spelled<T: Write + Read<Cfg = ()> + PartialEq + Debug>(
     requires { T.CanSpell value.now }
 {
     let bytes = value.encode(alloc)?;
-    assert_eq!(rt; bytes.as_slice(), spelling);
-    assert_eq!(rt; value.encode_size(), spelling.len(), "{spelling:?}");
-    assert_eq!(rt; &T::decode(alloc, bytes)?, value);
+    assert_same(rt, bytes.as_slice(), spelling);
+    assert_same_for(rt, value.encode_size(), spelling.len(), spelling);
+    assert_same(rt, &T::decode(alloc, bytes)?, value);
     is_read_before_others(rt, alloc, value, spelling)
 }
 
@@ -45,12 +46,13 @@ fn is_read_before_others<T: Read<Cfg = ()> + PartialEq + Debug>(
     let mut longer = spelling.to_vec(alloc)?;
     longer.extend_from_slice(REST)?;
     let mut buf = Bytes::copy_from_slice(alloc, &longer)?;
-    assert_eq!(rt; &T::read_cfg(alloc, &mut buf, &())?, value);
-    assert_eq!(rt; buf.as_slice(), REST, "behind {spelling:?}");
-    assert_eq!(rt;
+    assert_same(rt, &T::read_cfg(alloc, &mut buf, &())?, value);
+    assert_same_for(rt, buf.as_slice(), REST, spelling);
+    assert_same_for(
+        rt,
         T::decode(alloc, Bytes::copy_from_slice(alloc, &longer)?).err(),
         Some(CodecError::ExtraData(2)),
-        "{longer:?}"
+        longer.as_slice(),
     );
     Ok(())
 }
@@ -64,17 +66,14 @@ pub(crate) fn is_refused<T: Read<Cfg = ()>>(
     fault: CodecError,
 ) -> Result<(), Fail> {
     let mut buf = Bytes::copy_from_slice(alloc, bytes)?;
-    assert_eq!(rt;
-        T::decode(alloc, buf.clone()?).err(),
-        Some(fault),
-        "{bytes:?}"
-    );
-    assert_eq!(rt;
+    assert_same_for(rt, T::decode(alloc, buf.clone()?).err(), Some(fault), bytes);
+    assert_same_for(
+        rt,
         T::read_cfg(alloc, &mut buf, &()).err(),
         Some(fault),
-        "{bytes:?}"
+        bytes,
     );
-    assert_eq!(rt; buf.as_slice(), bytes, "after a refusal");
+    assert_same_for(rt, buf.as_slice(), bytes, "after a refusal");
     Ok(())
 }
 
@@ -137,11 +136,11 @@ fn writes_behind_what_is_there(rt: HostRuntime) -> Result<(), Fail> {
     let mut buf = BytesMut::with_capacity(rt.alloc(), 16)?;
     300u64.write(&mut buf);
     7u32.write(&mut buf);
-    assert_eq!(rt; buf.as_slice(), b"\xac\x02\x07".as_slice());
-    assert_eq!(rt; bounded_size(&300u64), 2);
-    assert_eq!(rt; read_back(rt.alloc(), &300u64, &())?, 300);
+    assert_same(&rt, buf.as_slice(), b"\xac\x02\x07".as_slice());
+    assert_same(&rt, bounded_size(&300u64), 2);
+    assert_same(&rt, read_back(rt.alloc(), &300u64, &())?, 300);
     let cut = cut_short::<u64>(rt.alloc(), Bytes::from_static(b"\xac"), &());
-    assert_eq!(rt; cut.err(), Some(CodecError::EndOfBuffer));
+    assert_same(&rt, cut.err(), Some(CodecError::EndOfBuffer));
     Ok(())
 }
 
@@ -149,15 +148,15 @@ fn writes_behind_what_is_there(rt: HostRuntime) -> Result<(), Fail> {
 fn reads_from_left_to_right(rt: HostRuntime) -> Result<(), Fail> {
     let bytes = Bytes::from_static(b"\x05abc");
     let mut reader = Reader::new(&bytes);
-    assert_eq!(rt; reader.len(), 4);
-    assert_eq!(rt; reader.byte()?, 5);
-    assert_eq!(rt; reader.counted(4).err(), Some(CodecError::EndOfBuffer));
-    assert_eq!(rt; reader.counted(1)?, b"a".as_slice());
-    assert_eq!(rt; reader.rest(), b"bc".as_slice());
-    assert_eq!(rt; reader.cut(3).err(), Some(CodecError::EndOfBuffer));
-    assert_eq!(rt; reader.cut(2)?.as_slice(), b"bc".as_slice());
+    assert_same(&rt, reader.len(), 4);
+    assert_same(&rt, reader.byte()?, 5);
+    assert_same(&rt, reader.counted(4).err(), Some(CodecError::EndOfBuffer));
+    assert_same(&rt, reader.counted(1)?, b"a".as_slice());
+    assert_same(&rt, reader.rest(), b"bc".as_slice());
+    assert_same(&rt, reader.cut(3).err(), Some(CodecError::EndOfBuffer));
+    assert_same(&rt, reader.cut(2)?.as_slice(), b"bc".as_slice());
     assert!(rt; reader.is_empty());
-    assert_eq!(rt; reader.byte().err(), Some(CodecError::EndOfBuffer));
+    assert_same(&rt, reader.byte().err(), Some(CodecError::EndOfBuffer));
     Ok(())
 }
 
@@ -168,7 +167,7 @@ fn allows_both_ends_of_a_limit(rt: HostRuntime) {
         greatest: 4,
     };
     for (length, allowed) in [(1, false), (2, true), (4, true), (5, false)] {
-        assert_eq!(rt; limit.contains(length), allowed, "{length}");
+        assert_same_for(&rt, limit.contains(length), allowed, length);
     }
 }
 
@@ -176,14 +175,19 @@ fn allows_both_ends_of_a_limit(rt: HostRuntime) {
 fn spells_test_keys(rt: HostRuntime) -> Result<(), Fail> {
     let mut out = [0u8; 8];
     TestKey(0x0102_0304_0506_0708).write_fixed(&mut out);
-    assert_eq!(rt; out, [1, 2, 3, 4, 5, 6, 7, 8]);
-    assert_eq!(rt;
+    assert_same(&rt, out, [1, 2, 3, 4, 5, 6, 7, 8]);
+    assert_same(
+        &rt,
         TestKey::read_fixed(&out),
-        Some(TestKey(0x0102_0304_0506_0708))
+        Some(TestKey(0x0102_0304_0506_0708)),
     );
     TestSignature(256).write_fixed(&mut out);
-    assert_eq!(rt; out, [0, 0, 0, 0, 0, 0, 1, 0]);
-    assert_eq!(rt; TestSignature::read_fixed(&out), Some(TestSignature(256)));
+    assert_same(&rt, out, [0, 0, 0, 0, 0, 0, 1, 0]);
+    assert_same(
+        &rt,
+        TestSignature::read_fixed(&out),
+        Some(TestSignature(256)),
+    );
     Ok(())
 }
 
@@ -192,18 +196,24 @@ fn spells_test_keys(rt: HostRuntime) -> Result<(), Fail> {
 /// which is `2^64 - 1` modulo `2^64`.
 #[test]
 fn signs_by_the_bytes(rt: HostRuntime) {
-    assert_eq!(rt; TestKey(0).sign(b"", b""), TestSignature(0));
-    assert_eq!(rt; TestKey(1).sign(b"", b""), TestSignature(1));
-    assert_eq!(rt; TestKey(1).sign(b"rows", b""), TestSignature(6_321_977_040));
-    assert_eq!(rt;
-        TestKey(1).sign(b"r", b"ows"),
-        TestSignature(0x0000_0001_78d1_b6d0)
+    assert_same(&rt, TestKey(0).sign(b"", b""), TestSignature(0));
+    assert_same(&rt, TestKey(1).sign(b"", b""), TestSignature(1));
+    assert_same(
+        &rt,
+        TestKey(1).sign(b"rows", b""),
+        TestSignature(6_321_977_040),
     );
-    assert_eq!(rt; TestKey(1).sign(b"a", b"b"), TestSignature(91_334));
-    assert_eq!(rt; TestKey(1).sign(b"", b"ab"), TestSignature(91_334));
-    assert_eq!(rt;
+    assert_same(
+        &rt,
+        TestKey(1).sign(b"r", b"ows"),
+        TestSignature(0x0000_0001_78d1_b6d0),
+    );
+    assert_same(&rt, TestKey(1).sign(b"a", b"b"), TestSignature(91_334));
+    assert_same(&rt, TestKey(1).sign(b"", b"ab"), TestSignature(91_334));
+    assert_same(
+        &rt,
         TestKey(u64::MAX).sign(b"\xff", b""),
-        TestSignature(u64::MAX)
+        TestSignature(u64::MAX),
     );
     assert!(rt; TestKey(1).verify(b"a", b"b", &TestSignature(91_334)));
     assert!(rt; !TestKey(1).verify(b"a", b"b", &TestSignature(91_335)));
@@ -231,7 +241,7 @@ fn tells_why_bytes_are_refused(rt: HostRuntime) -> Result<(), Fail> {
     ];
     for (error, text) in cases {
         let told = format!(in rt.alloc(); "{error}")?;
-        assert_eq!(rt; told.as_str(), text);
+        assert_same(&rt, told.as_str(), text);
     }
     Ok(())
 }

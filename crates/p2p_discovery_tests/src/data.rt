@@ -3,6 +3,7 @@
 ghost use Rattle.std.specs.Prelude.{◌≡◌, ◌<◌, ◌^◌, length, IfOk};
 ghost use Rattle.std.specs.List.{concat};
 
+use crate::assertions::{assert_same, assert_same_for};
 use bytes::Bytes;
 use p2p_discovery::codec::{CodecError, EncodeSize, RangeCfg, Read, Write};
 use p2p_discovery::data::{Data, EncodedData, Upgrader, max_size};
@@ -59,23 +60,24 @@ pub(crate) fn buffers(alloc: Global, parts: &[&'static [u8]]) -> Result<VecDeque
 #[test]
 fn spells_data(rt: HostRuntime) -> Result<(), Fail> {
     let bytes = hello().encode(rt.alloc())?;
-    assert_eq!(rt; bytes.as_slice(), HELLO);
-    assert_eq!(rt; hello().encode_size(), 16);
+    assert_same(&rt, bytes.as_slice(), HELLO);
+    assert_same(&rt, hello().encode_size(), 16);
     for (least, greatest) in [(13, 13), (0, 13), (13, 4_294_967_295)] {
         let limit = RangeCfg { least, greatest };
         let read = Data::decode_cfg(rt.alloc(), bytes.clone()?, &limit);
-        assert_eq!(rt; read?, hello(), "{least} to {greatest}");
+        assert_same_for(&rt, &read?, &hello(), (least, greatest));
     }
     for (least, greatest) in [(0, 12), (14, 4_294_967_295), (14, 13)] {
         let limit = RangeCfg { least, greatest };
         let mut buf = bytes.clone()?;
         let read = Data::read_cfg(rt.alloc(), &mut buf, &limit);
-        assert_eq!(rt;
+        assert_same_for(
+            &rt,
             read.err(),
             Some(CodecError::InvalidLength(13)),
-            "{least} to {greatest}"
+            (least, greatest),
         );
-        assert_eq!(rt; buf.as_slice(), HELLO);
+        assert_same(&rt, buf.as_slice(), HELLO);
     }
     Ok(())
 }
@@ -84,13 +86,14 @@ fn spells_data(rt: HostRuntime) -> Result<(), Fail> {
 fn leaves_what_stands_behind_data(rt: HostRuntime) -> Result<(), Fail> {
     let mut buf: Bytes = Bytes::from_static(b"\x03\0\x01\x02\x03\x04\x05\x06\x07\x08\x09");
     let whole = Data::decode_cfg(rt.alloc(), buf.clone()?, &ANY);
-    assert_eq!(rt; whole.err(), Some(CodecError::ExtraData(9)));
+    assert_same(&rt, whole.err(), Some(CodecError::ExtraData(9)));
     let read = Data::read_cfg(rt.alloc(), &mut buf, &ANY)?;
-    assert_eq!(rt; read.channel, 3);
+    assert_same(&rt, read.channel, 3);
     assert!(rt; read.message.is_empty());
-    assert_eq!(rt;
+    assert_same(
+        &rt,
         buf.as_slice(),
-        b"\x01\x02\x03\x04\x05\x06\x07\x08\x09".as_slice()
+        b"\x01\x02\x03\x04\x05\x06\x07\x08\x09".as_slice(),
     );
     Ok(())
 }
@@ -117,12 +120,13 @@ fn refuses_data(rt: HostRuntime) -> Result<(), Fail> {
     for (bytes, fault) in REFUSED_DATA {
         let bytes = Bytes::copy_from_slice(rt.alloc(), bytes)?;
         let read = Data::decode_cfg(rt.alloc(), bytes, &limit);
-        assert_eq!(rt; read.err(), Some(fault));
+        assert_same(&rt, read.err(), Some(fault));
     }
     let widest = Bytes::from_static(b"\xff\xff\xff\xff\xff\xff\xff\xff\xff\x01\0");
-    assert_eq!(rt;
+    assert_same(
+        &rt,
         Data::decode_cfg(rt.alloc(), widest, &limit)?.channel,
-        u64::MAX
+        u64::MAX,
     );
     Ok(())
 }
@@ -136,10 +140,10 @@ fn cuts_messages_out_of_their_buffer(rt: HostRuntime) -> Result<(), Fail> {
     let mut buf = Bytes::from_vec(longer)?;
     let read = Data::read_cfg(rt.alloc(), &mut buf, &ANY)?;
     assert!(rt; !read.message.is_unique());
-    assert_eq!(rt; buf.as_slice(), [7].as_slice());
+    assert_same(&rt, buf.as_slice(), [7].as_slice());
     drop(buf);
     assert!(rt; read.message.is_unique());
-    assert_eq!(rt; read, hello());
+    assert_same(&rt, &read, &hello());
     Ok(())
 }
 
@@ -169,9 +173,9 @@ impl Upgrader for Wide {
 
 #[test]
 fn leaves_room_for_the_overhead(rt: HostRuntime) {
-    assert_eq!(rt; max_size::<Narrow>(), 0);
-    assert_eq!(rt; max_size::<Next>(), 1);
-    assert_eq!(rt; max_size::<Wide>(), 1_048_560);
+    assert_same(&rt, max_size::<Narrow>(), 0);
+    assert_same(&rt, max_size::<Next>(), 1);
+    assert_same(&rt, max_size::<Wide>(), 1_048_560);
 }
 
 /// Asserts that the data frame of a message on this channel has these buffers.
@@ -185,8 +189,8 @@ fn assert_framed(
     let want = buffers(alloc, framed)?;
     match EncodedData::new(alloc, channel, buffers(alloc, parts)?) {
         Ok(encoded) => {
-            assert_eq!(rt; encoded.channel, channel);
-            assert_eq!(rt; encoded.payload, want);
+            assert_same(rt, encoded.channel, channel);
+            assert_same(rt, &encoded.payload, &want);
             Ok(())
         }
         Err(_) => Err("no memory".into()),
@@ -220,16 +224,17 @@ fn puts_a_header_before_many_long_buffers(rt: HostRuntime) -> Result<(), Fail> {
     let encoded = EncodedData::new(alloc, u64::MAX, message)
         .ok()
         .ok_or("no memory")?;
-    assert_eq!(rt; encoded.payload.len(), 513);
+    assert_same(&rt, encoded.payload.len(), 513);
     let total = encoded
         .payload
         .iter()
         .fold(0usize, |total, buffer| total.saturating_add(buffer.len()));
-    assert_eq!(rt; total, 536_870_928);
+    assert_same(&rt, total, 536_870_928);
     let header = encoded.payload.front().ok_or("no header")?;
-    assert_eq!(rt;
+    assert_same(
+        &rt,
         header.as_slice(),
-        b"\x00\xff\xff\xff\xff\xff\xff\xff\xff\xff\x01\x80\x80\x80\x80\x02".as_slice()
+        b"\x00\xff\xff\xff\xff\xff\xff\xff\xff\xff\x01\x80\x80\x80\x80\x02".as_slice(),
     );
     Ok(())
 }

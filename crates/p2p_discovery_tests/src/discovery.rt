@@ -2,6 +2,7 @@
 
 ghost use Rattle.std.specs.Prelude.{◌<◌};
 
+use crate::assertions::{assert_same, assert_same_for};
 use crate::codec::array_keys::{ArrayKey, ArraySignature};
 use crate::codec::small_keys::Small;
 use bytes::Bytes;
@@ -50,8 +51,8 @@ fn a_copy_of_an_info_is_equal(rt: HostRuntime) -> Result<(), Fail> {
     };
     let copy = info.clone()?;
     assert!(rt; copy.ingress == info.ingress);
-    assert_eq!(rt; (copy.timestamp, copy.public_key), (1000, TestKey(7)));
-    assert_eq!(rt; copy.signature, TestSignature(5));
+    assert_same(&rt, (copy.timestamp, copy.public_key), (1000, TestKey(7)));
+    assert_same(&rt, copy.signature, TestSignature(5));
     Ok(())
 }
 
@@ -60,17 +61,17 @@ fn spells_infos(rt: HostRuntime) -> Result<(), Fail> {
     let alloc = rt.alloc();
     let info = info_in(ROWS, 1, 1000);
     let bytes = info.encode(alloc)?;
-    assert_eq!(rt; info.encode_size(), 26);
-    assert_eq!(rt; bytes.len(), 26);
+    assert_same(&rt, info.encode_size(), 26);
+    assert_same(&rt, bytes.len(), 26);
     assert!(rt;
         bytes.as_slice().starts_with(b"\0\x04\x01\x02\x03\x04\x1f\x41\xe8\x07\0\0\0\0\0\0\0\x01")
     );
     let read: Info<TestKey> = Info::decode(alloc, bytes)?;
     assert!(rt; read.ingress == info.ingress);
-    assert_eq!(rt; (read.timestamp, read.public_key), (1000, TestKey(1)));
-    assert_eq!(rt; read.signature, info.signature);
-    assert_eq!(rt; Info::<TestKey>::max_encode_size(), 287);
-    assert_eq!(rt; Info::<ArrayKey>::max_encode_size(), 367);
+    assert_same(&rt, (read.timestamp, read.public_key), (1000, TestKey(1)));
+    assert_same(&rt, read.signature, info.signature);
+    assert_same(&rt, Info::<TestKey>::max_encode_size(), 287);
+    assert_same(&rt, Info::<ArrayKey>::max_encode_size(), 367);
     Ok(())
 }
 
@@ -91,15 +92,16 @@ fn reads_lists_of_infos_under_a_limit(rt: HostRuntime) -> Result<(), Fail> {
         let bytes = Bytes::copy_from_slice(alloc, &bytes)?;
         match Infos::<TestKey>::decode_cfg(alloc, bytes, &limit) {
             Ok(read) => {
-                assert_eq!(rt; fault, None, "{least} to {greatest}");
+                assert_same_for(&rt, fault, None, (least, greatest));
                 let ports = read.as_slice().iter().map(|info| info.ingress.port());
-                assert_eq!(rt;
+                assert_same(
+                    &rt,
                     ports.collect::<Vec<u16>>(alloc)?.as_slice(),
-                    [8001, 8002, 8003].as_slice()
+                    [8001, 8002, 8003].as_slice(),
                 );
-                assert_eq!(rt; read.into_vec().len(), 3);
+                assert_same(&rt, read.into_vec().len(), 3);
             }
-            Err(error) => assert_eq!(rt; Some(error), fault, "{least} to {greatest}"),
+            Err(error) => assert_same_for(&rt, Some(error), fault, (least, greatest)),
         }
     }
     Ok(())
@@ -127,13 +129,14 @@ fn refuses_bytes_that_spell_no_key(rt: HostRuntime) -> Result<(), Fail> {
     for (bytes, fault) in SPELLED_KEYS {
         let mut buf = Bytes::copy_from_slice(rt.alloc(), bytes)?;
         let read = Info::<Small>::read_cfg(rt.alloc(), &mut buf, &());
-        assert_eq!(rt; read.err(), fault, "{bytes:?}");
+        assert_same_for(&rt, read.err(), fault, bytes);
     }
     let info = Info::sign(Small::new(5), b"", socket(1), 2, |_, _| Small::new(5));
     assert!(rt; info.verify(b""));
-    assert_eq!(rt;
+    assert_same(
+        &rt,
         info.encode(rt.alloc())?.as_slice(),
-        b"\0\x04\x01\x02\x03\x04\0\x01\x02\x05\x05".as_slice()
+        b"\0\x04\x01\x02\x03\x04\0\x01\x02\x05\x05".as_slice(),
     );
     Ok(())
 }
@@ -146,11 +149,12 @@ fn carries_keys_that_are_arrays(rt: HostRuntime) -> Result<(), Fail> {
     let info = Info::sign(key, ROWS, socket(80), 5, |_, _| ArraySignature([7; 64]));
     assert!(rt; info.verify(ROWS));
     let bytes = info.encode(alloc)?;
-    assert_eq!(rt; bytes.len(), 105);
+    assert_same(&rt, bytes.len(), 105);
     let read: Info<ArrayKey> = Info::decode(alloc, bytes)?;
-    assert_eq!(rt;
+    assert_same(
+        &rt,
         (read.public_key, read.signature),
-        (key, ArraySignature([7; 64]))
+        (key, ArraySignature([7; 64])),
     );
     let other = Info::sign(
         ArrayKey([8; 32]),
@@ -195,7 +199,7 @@ fn signs_a_long_name(rt: &impl Abort, alloc: Global) -> Result<(), Fail> {
         2,
         |namespace, message| { key.sign(namespace, message) },
     );
-    assert_eq!(rt; named.signature, key.sign(b"n", &message));
+    assert_same(rt, named.signature, key.sign(b"n", &message));
     assert!(rt; named.verify(b"n"));
     Ok(())
 }
@@ -213,8 +217,8 @@ fn signs_the_ingress_and_the_timestamp(rt: HostRuntime) -> Result<(), Fail> {
         1000,
         |namespace, message| key.sign(namespace, message),
     );
-    assert_eq!(rt; info.signature, key.sign(ROWS, signed));
-    assert_eq!(rt; (info.public_key, info.timestamp), (key, 1000));
+    assert_same(&rt, info.signature, key.sign(ROWS, signed));
+    assert_same(&rt, (info.public_key, info.timestamp), (key, 1000));
     assert!(rt; info.verify(ROWS));
     assert!(rt; !info.verify(b"other"));
     signs_a_long_name(&rt, alloc)
@@ -228,18 +232,19 @@ fn assert_judged(
     want: Result<(), Error>,
 ) {
     let one = [info];
-    assert_eq!(rt; verifier.validate_info(Duration::ZERO, &one[0]), want);
-    assert_eq!(rt; verifier.validate(Duration::ZERO, &one), want);
+    assert_same(rt, verifier.validate_info(Duration::ZERO, &one[0]), want);
+    assert_same(rt, verifier.validate(Duration::ZERO, &one), want);
 }
 
 /// Asserts that the verifier of discovery accepts the timestamp `u64::MAX` at `Duration::MAX`, and
 /// not at the epoch.
 fn judges_the_greatest_timestamp(rt: &impl Abort, verifier: &InfoVerifier<TestKey>) {
     let last = info_in(ROWS, 1, u64::MAX);
-    assert_eq!(rt; verifier.validate_info(Duration::MAX, &last), Ok(()));
-    assert_eq!(rt;
+    assert_same(rt, verifier.validate_info(Duration::MAX, &last), Ok(()));
+    assert_same(
+        rt,
         verifier.validate_info(Duration::ZERO, &last),
-        Err(Error::SynchronyBound)
+        Err(Error::SynchronyBound),
     );
 }
 
@@ -247,15 +252,17 @@ fn judges_the_greatest_timestamp(rt: &impl Abort, verifier: &InfoVerifier<TestKe
 /// none.
 fn judges_lists(rt: &impl Abort, verifier: &InfoVerifier<TestKey>, none: &InfoVerifier<TestKey>) {
     let two = [info_in(ROWS, 1, 0), info_in(ROWS, 2, 0)];
-    assert_eq!(rt;
+    assert_same(
+        rt,
         verifier.validate(Duration::ZERO, &two),
-        Err(Error::TooManyPeers(2))
+        Err(Error::TooManyPeers(2)),
     );
-    assert_eq!(rt; verifier.validate(Duration::ZERO, &[]), Ok(()));
-    assert_eq!(rt; none.validate_info(Duration::ZERO, &two[0]), Ok(()));
-    assert_eq!(rt;
+    assert_same(rt, verifier.validate(Duration::ZERO, &[]), Ok(()));
+    assert_same(rt, none.validate_info(Duration::ZERO, &two[0]), Ok(()));
+    assert_same(
+        rt,
         none.validate(Duration::ZERO, &two[..1]),
-        Err(Error::TooManyPeers(1))
+        Err(Error::TooManyPeers(1)),
     );
 }
 
@@ -289,7 +296,7 @@ fn tells_why_infos_are_refused(rt: HostRuntime) -> Result<(), Fail> {
     ];
     for (error, text) in cases {
         let told = format!(in rt.alloc(); "{error}")?;
-        assert_eq!(rt; told.as_str(), text);
+        assert_same(&rt, told.as_str(), text);
     }
     Ok(())
 }
@@ -300,13 +307,14 @@ fn spells_seventy_one_bits(rt: &impl Abort, alloc: Global) -> Result<(), Fail> {
         bits: BitMap::ones(alloc, 71)?,
     };
     let bytes = bits.encode(alloc)?;
-    assert_eq!(rt;
+    assert_same(
+        rt,
         bytes.as_slice(),
-        b"\xd2\x09\x47\xff\xff\xff\xff\xff\xff\xff\xff\x7f".as_slice()
+        b"\xd2\x09\x47\xff\xff\xff\xff\xff\xff\xff\xff\x7f".as_slice(),
     );
-    assert_eq!(rt; bits.encode_size(), 12);
+    assert_same(rt, bits.encode_size(), 12);
     let read = BitVec::decode_cfg(alloc, bytes, &71)?;
-    assert_eq!(rt; read.index, 1234);
+    assert_same(rt, read.index, 1234);
     assert!(rt; read == bits);
     let other = BitVec {
         index: 1235,
@@ -330,12 +338,13 @@ fn spells_bits(rt: HostRuntime) -> Result<(), Fail> {
     spells_seventy_one_bits(&rt, alloc)?;
     for (bytes, limit, fault) in REFUSED_BITS {
         let mut buf = Bytes::copy_from_slice(alloc, bytes)?;
-        assert_eq!(rt;
+        assert_same_for(
+            &rt,
             BitVec::read_cfg(alloc, &mut buf, &limit).err(),
             Some(fault),
-            "{bytes:?}"
+            bytes,
         );
-        assert_eq!(rt; buf.as_slice(), bytes, "after a refusal");
+        assert_same_for(&rt, buf.as_slice(), bytes, "after a refusal");
     }
     Ok(())
 }
@@ -362,9 +371,10 @@ fn spells_data(rt: &impl Abort, alloc: Global) -> Result<(), Fail> {
         channel: 1,
         message: Bytes::from_static(b"hello"),
     });
-    assert_eq!(rt;
+    assert_same(
+        rt,
         data.encode(alloc)?.as_slice(),
-        b"\0\x01\x05hello".as_slice()
+        b"\0\x01\x05hello".as_slice(),
     );
     Ok(())
 }
@@ -374,9 +384,10 @@ fn spells_nine_bits(rt: &impl Abort, alloc: Global) -> Result<(), Fail> {
         index: 5,
         bits: BitMap::ones(alloc, 9)?,
     });
-    assert_eq!(rt;
+    assert_same(
+        rt,
         bits.encode(alloc)?.as_slice(),
-        b"\x02\x05\x09\xff\x01".as_slice()
+        b"\x02\x05\x09\xff\x01".as_slice(),
     );
     Ok(())
 }
@@ -394,11 +405,11 @@ fn spells_payloads(rt: HostRuntime) -> Result<(), Fail> {
     spells_data(&rt, alloc)?;
     spells_nine_bits(&rt, alloc)?;
     let greeting = Payload::Greeting(info_in(ROWS, 1, 1000));
-    assert_eq!(rt; greeting.encode_size(), 27);
+    assert_same(&rt, greeting.encode_size(), 27);
     for (bytes, want) in SPELLED_PAYLOADS {
         let frame = Bytes::copy_from_slice(alloc, bytes)?;
         let read = Payload::<TestKey>::decode_cfg(alloc, frame, &LIMITS)?;
-        assert_eq!(rt; parts(&read), want, "{bytes:?}");
+        assert_same_for(&rt, parts(&read), want, bytes);
     }
     Ok(())
 }
@@ -419,17 +430,17 @@ fn refuses_payloads(rt: HostRuntime) -> Result<(), Fail> {
     for (bytes, fault) in REFUSED_PAYLOADS {
         let mut buf = Bytes::copy_from_slice(rt.alloc(), bytes)?;
         let read = Payload::<TestKey>::read_cfg(rt.alloc(), &mut buf, &LIMITS);
-        assert_eq!(rt; read.err(), Some(fault), "{bytes:?}");
-        assert_eq!(rt; buf.as_slice(), bytes, "after a refusal");
+        assert_same_for(&rt, read.err(), Some(fault), bytes);
+        assert_same_for(&rt, buf.as_slice(), bytes, "after a refusal");
     }
     Ok(())
 }
 
 #[test]
 fn bounds_gossip(rt: HostRuntime) -> Result<(), Fail> {
-    assert_eq!(rt; max_gossip_size::<TestKey>(0, 0), 288);
-    assert_eq!(rt; max_gossip_size::<TestKey>(0, 1), 293);
-    assert_eq!(rt; max_gossip_size::<TestKey>(1000, 32), 9190);
-    assert_eq!(rt; max_gossip_size::<TestKey>(100_000, 0), 12_514);
+    assert_same(&rt, max_gossip_size::<TestKey>(0, 0), 288);
+    assert_same(&rt, max_gossip_size::<TestKey>(0, 1), 293);
+    assert_same(&rt, max_gossip_size::<TestKey>(1000, 32), 9190);
+    assert_same(&rt, max_gossip_size::<TestKey>(100_000, 0), 12_514);
     Ok(())
 }

@@ -2,6 +2,7 @@
 
 ghost use Rattle.p2p_discovery.specs.Payload.{CanSpell};
 
+use crate::assertions::{assert_holds, assert_same, assert_same_for};
 use bytes::Bytes;
 use failing_alloc::FailingAlloc;
 use p2p_discovery::codec::{CodecError, Read, TestKey, What, Write};
@@ -75,13 +76,13 @@ fn assert_judged(rt: &impl Abort, alloc: Global, bytes: &[u8]) -> Result<bool, F
         Ok(payload) => {
             let rest = buf.len();
             let (read, left) = bytes.split_at(bytes.len().saturating_sub(rest));
-            assert!(rt; is_spelled_by(alloc, &payload, read)?, "{bytes:?}");
-            assert_eq!(rt; buf.as_slice(), left, "{bytes:?}");
+            assert_holds(rt, is_spelled_by(alloc, &payload, read)?, bytes);
+            assert_same_for(rt, buf.as_slice(), left, bytes);
             Ok(rest == 0)
         }
         Err(fault) => {
-            assert!(rt; fault != CodecError::Memory, "{bytes:?}");
-            assert_eq!(rt; buf.as_slice(), bytes, "after {fault:?}");
+            assert_holds(rt, fault != CodecError::Memory, bytes);
+            assert_same_for(rt, buf.as_slice(), bytes, fault);
             Ok(false)
         }
     }
@@ -93,7 +94,7 @@ fn assert_decoded(rt: &impl Abort, alloc: Global, bytes: Vec<u8>) -> Result<(), 
     let whole = assert_judged(rt, alloc, &bytes)?;
     let frame = Bytes::from_vec(bytes)?;
     let decoded = Payload::<TestKey>::decode_cfg(alloc, frame, &LIMITS);
-    assert_eq!(rt; decoded.is_ok(), whole);
+    assert_same(rt, decoded.is_ok(), whole);
     Ok(())
 }
 
@@ -128,7 +129,7 @@ fn assert_each_byte(rt: &impl Abort, alloc: Global, frame: &[u8]) -> Result<(), 
 fn each_byte_of_each_frame_is_judged(rt: HostRuntime) -> Result<(), Fail> {
     let alloc = rt.alloc();
     for frame in FRAMES {
-        assert!(rt; assert_judged(&rt, alloc, frame)?, "{frame:?}");
+        assert_holds(&rt, assert_judged(&rt, alloc, frame)?, frame);
         assert_each_byte(&rt, alloc, frame)?;
     }
     Ok(())
@@ -141,11 +142,7 @@ fn each_proper_front_ends_too_early(rt: HostRuntime) -> Result<(), Fail> {
         for at in 0..frame.len() {
             let front = Bytes::copy_from_slice(alloc, &frame[..at])?;
             let read = Payload::<TestKey>::decode_cfg(alloc, front, &LIMITS);
-            assert_eq!(rt;
-                read.err(),
-                Some(CodecError::EndOfBuffer),
-                "{at} of {frame:?}"
-            );
+            assert_same_for(&rt, read.err(), Some(CodecError::EndOfBuffer), (at, frame));
         }
     }
     Ok(())
@@ -225,8 +222,8 @@ fn hostile_counts_ask_for_no_memory(rt: HostRuntime) -> Result<(), Fail> {
         memory.limit(alloc, 0)?;
         let scarce = Payload::<TestKey>::decode_cfg(alloc, Bytes::from_static(bytes), &limits);
         memory.lift();
-        assert_eq!(rt; ample.err(), Some(fault), "{bytes:?}");
-        assert_eq!(rt; scarce.err(), Some(fault), "{bytes:?} without memory");
+        assert_same_for(&rt, ample.err(), Some(fault), bytes);
+        assert_same_for(&rt, scarce.err(), Some(fault), bytes);
     }
     Ok(())
 }
@@ -235,6 +232,6 @@ fn hostile_counts_ask_for_no_memory(rt: HostRuntime) -> Result<(), Fail> {
 fn a_byte_too_many_is_told(rt: HostRuntime) -> Result<(), Fail> {
     let frame = Bytes::from_static(b"\x02\x05\x09\xff\x01\0");
     let read = Payload::<TestKey>::decode_cfg(rt.alloc(), frame, &NINE);
-    assert_eq!(rt; read.err(), Some(CodecError::ExtraData(1)));
+    assert_same(&rt, read.err(), Some(CodecError::ExtraData(1)));
     Ok(())
 }

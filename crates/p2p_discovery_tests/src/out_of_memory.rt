@@ -1,5 +1,6 @@
 //! What each call leaves if an allocation fails.
 
+use crate::assertions::{assert_holds, assert_same, assert_same_for};
 use bytes::Bytes;
 use failing_alloc::{FailingAlloc, STEP};
 use p2p_discovery::codec::{CodecError, RangeCfg, Read, TestKey, Write};
@@ -55,13 +56,13 @@ fn is_unread<T: PartialEq + Drop>(
 ) -> bool {
     match read {
         Ok(read) => {
-            assert!(rt; read == *value, "step {step}");
-            assert!(rt; buf.is_empty(), "step {step}");
+            assert_holds(rt, read == *value, step);
+            assert_holds(rt, buf.is_empty(), step);
             false
         }
         Err(error) => {
-            assert_eq!(rt; error, CodecError::Memory, "step {step}");
-            assert_eq!(rt; buf.as_slice(), frame, "step {step}");
+            assert_same_for(rt, error, CodecError::Memory, step);
+            assert_same_for(rt, buf.as_slice(), frame, step);
             true
         }
     }
@@ -76,11 +77,11 @@ fn is_undecoded<T: PartialEq + Drop>(
 ) -> bool {
     match decoded {
         Ok(decoded) => {
-            assert!(rt; decoded == *value, "step {step}");
+            assert_holds(rt, decoded == *value, step);
             false
         }
         Err(error) => {
-            assert_eq!(rt; error, CodecError::Memory, "step {step}");
+            assert_same_for(rt, error, CodecError::Memory, step);
             true
         }
     }
@@ -95,7 +96,7 @@ fn is_unencoded(
 ) -> bool {
     match encoded {
         Ok(encoded) => {
-            assert_eq!(rt; encoded.as_slice(), frame, "step {step}");
+            assert_same_for(rt, encoded.as_slice(), frame, step);
             false
         }
         Err(_) => true,
@@ -185,11 +186,11 @@ fn is_unnamed(
 ) -> bool {
     match named {
         Ok(named) => {
-            assert!(rt; named == *host, "step {step}");
+            assert_holds(rt, named == *host, step);
             false
         }
         Err(error) => {
-            assert_eq!(rt; error, CodecError::Memory, "step {step}");
+            assert_same_for(rt, error, CodecError::Memory, step);
             true
         }
     }
@@ -205,10 +206,10 @@ fn assert_copies(
     step: usize,
 ) -> Result<(), AllocError> {
     if let Ok(copy) = copy {
-        assert!(rt; copy == *address, "step {step}");
+        assert_holds(rt, copy == *address, step);
     }
     if let Ok(ingress) = ingress {
-        assert!(rt; ingress == address.ingress()?, "step {step}");
+        assert_holds(rt, ingress == address.ingress()?, step);
     }
     Ok(())
 }
@@ -229,7 +230,7 @@ fn names_within(
     let copy = address.clone();
     let ingress = address.ingress();
     memory.lift();
-    assert!(rt; no_name != Some(CodecError::Memory), "step {step}");
+    assert_holds(rt, no_name != Some(CodecError::Memory), step);
     let refused = is_unnamed(rt, host, named, step);
     assert_copies(rt, address, copy, ingress, step)?;
     Ok(refused)
@@ -261,7 +262,7 @@ fn reads_sockets_with_no_memory(rt: HostRuntime) -> Result<(), Fail> {
     let encoded = 7u64.encode(alloc).is_ok();
     memory.lift();
     assert!(rt; !encoded);
-    assert_eq!(rt; read?.port(), 8080);
+    assert_same(&rt, read?.port(), 8080);
     assert!(rt; faulty.err() != Some(CodecError::Memory));
     Ok(())
 }
@@ -277,12 +278,12 @@ fn assert_message(
 ) {
     match read {
         Ok(read) => {
-            assert_eq!(rt; read.message.as_slice(), b"hello".as_slice(), "step {step}");
-            assert_eq!(rt; buf.as_slice(), b"!".as_slice(), "step {step}");
+            assert_same_for(rt, read.message.as_slice(), b"hello".as_slice(), step);
+            assert_same_for(rt, buf.as_slice(), b"!".as_slice(), step);
         }
         Err(error) => {
-            assert_eq!(rt; error, CodecError::Memory, "step {step}");
-            assert_eq!(rt; buf.as_slice(), spelled, "step {step}");
+            assert_same_for(rt, error, CodecError::Memory, step);
+            assert_same_for(rt, buf.as_slice(), spelled, step);
         }
     }
 }
@@ -311,7 +312,7 @@ fn messages_within(
     };
     let encoded = other.encode(alloc);
     memory.lift();
-    assert!(rt; none.is_ok(), "no bytes take no memory, step {step}");
+    assert_holds(rt, none.is_ok(), step);
     assert_message(rt, read, &buf, spelled, step);
     Ok(encoded.is_err())
 }
@@ -357,7 +358,7 @@ fn judges_with_no_memory(rt: HostRuntime) -> Result<(), Fail> {
         &limit,
     );
     memory.lift();
-    assert_eq!(rt; judged, Ok(()));
-    assert_eq!(rt; none.err(), Some(CodecError::EndOfBuffer));
+    assert_same(&rt, judged, Ok(()));
+    assert_same(&rt, none.err(), Some(CodecError::EndOfBuffer));
     Ok(())
 }

@@ -1,5 +1,6 @@
 //! No size alone makes a call run out of memory, and no more is allocated than the bytes can hold.
 
+use crate::assertions::assert_same;
 use bytes::Bytes;
 use failing_alloc::FailingAlloc;
 use p2p_discovery::codec::{CodecError, RangeCfg, TestKey};
@@ -23,7 +24,7 @@ fn no_number_of_bits_wants_memory(rt: HostRuntime) -> Result<(), Fail> {
     let bools: Vec<bool> = (0..MANY).map(|_place| true).collect(alloc)?;
     assert!(rt; ones.len() == MANY && ones.clone()? == ones);
     assert!(rt; BitMap::from_bools(alloc, &bools)? == ones);
-    assert_eq!(rt; BitMap::zeroes(alloc, MANY)?.len(), MANY);
+    assert_same(&rt, BitMap::zeroes(alloc, MANY)?.len(), MANY);
     Ok(())
 }
 
@@ -38,15 +39,15 @@ fn asks_for_no_more_room_than_bytes_can_hold(rt: HostRuntime) -> Result<(), Fail
     let mut frame = [3u8].as_slice().to_vec(alloc)?;
     frame.extend_from_slice(SHORT_LIST)?;
     let payload = bounded_payload::<TestKey>(alloc, Bytes::from_vec(frame)?, &LIMITS);
-    assert_eq!(rt; payload.err(), Some(CodecError::EndOfBuffer));
+    assert_same(&rt, payload.err(), Some(CodecError::EndOfBuffer));
     let mut list = Bytes::copy_from_slice(alloc, SHORT_LIST)?;
     let limit = RangeCfg {
         least: 0,
         greatest: LIMITS.max_peers,
     };
     let infos = bounded_infos::<TestKey>(alloc, &mut list, &limit);
-    assert_eq!(rt; infos.err(), Some(CodecError::EndOfBuffer));
-    assert_eq!(rt; list.as_slice(), SHORT_LIST);
+    assert_same(&rt, infos.err(), Some(CodecError::EndOfBuffer));
+    assert_same(&rt, list.as_slice(), SHORT_LIST);
     Ok(())
 }
 

@@ -1,5 +1,6 @@
 //! Sizes.
 
+use crate::assertions::assert_same;
 use p2p_discovery::codec::TestKey;
 use p2p_discovery::sizing::{max_message_size, max_retained_peers, peer_set_limit, peer_set_size};
 use std::num::NonZeroUsize;
@@ -7,21 +8,22 @@ use std::test::Fail;
 
 #[test]
 fn admits_the_greatest_message(rt: HostRuntime) {
-    assert_eq!(rt; max_message_size(&[]), 0);
-    assert_eq!(rt; max_message_size(&[0]), 0);
-    assert_eq!(rt; max_message_size(&[3, 7, 5]), 7);
-    assert_eq!(rt; max_message_size(&[0, 4_294_967_295]), u32::MAX);
+    assert_same(&rt, max_message_size(&[]), 0);
+    assert_same(&rt, max_message_size(&[0]), 0);
+    assert_same(&rt, max_message_size(&[3, 7, 5]), 7);
+    assert_same(&rt, max_message_size(&[0, 4_294_967_295]), u32::MAX);
 }
 
 #[test]
 fn counts_the_local_peer_once(rt: HostRuntime) {
     let participants = [TestKey(1), TestKey(2)];
-    assert_eq!(rt; peer_set_limit(&participants, &TestKey(1)).get(), 2);
-    assert_eq!(rt; peer_set_limit(&participants, &TestKey(3)).get(), 3);
-    assert_eq!(rt; peer_set_limit(&[], &TestKey(3)).get(), 1);
-    assert_eq!(rt;
+    assert_same(&rt, peer_set_limit(&participants, &TestKey(1)).get(), 2);
+    assert_same(&rt, peer_set_limit(&participants, &TestKey(3)).get(), 3);
+    assert_same(&rt, peer_set_limit(&[], &TestKey(3)).get(), 1);
+    assert_same(
+        &rt,
         peer_set_limit(&[TestKey(2), TestKey(2)], &TestKey(2)).get(),
-        2
+        2,
     );
 }
 
@@ -30,7 +32,7 @@ fn bounds_retained_peers(rt: HostRuntime) -> Result<(), Fail> {
     let peers = NonZeroUsize::new(3).ok_or("0")?;
     let sets = NonZeroUsize::new(4).ok_or("0")?;
     let most = max_retained_peers(peers, sets, 2);
-    assert_eq!(rt; most.get(), 14);
+    assert_same(&rt, most.get(), 14);
     Ok(())
 }
 
@@ -46,7 +48,7 @@ fn size_with(extension: Option<&TestKey>) -> usize {
 
 #[test]
 fn counts_each_peer_once(rt: HostRuntime) {
-    assert_eq!(rt; size_with(None), 3);
-    assert_eq!(rt; size_with(Some(&TestKey(2))), 3);
-    assert_eq!(rt; size_with(Some(&TestKey(4))), 4);
+    assert_same(&rt, size_with(None), 3);
+    assert_same(&rt, size_with(Some(&TestKey(2))), 3);
+    assert_same(&rt, size_with(Some(&TestKey(4))), 4);
 }

@@ -36,10 +36,7 @@ pub fn tracked(alloc: Global, numbers: &[u64]) -> Result<TrackedPeers<TestKey>, 
 
 /// A directory that retains one set and requests an info again after one failed dial, a fixture of
 /// the tracker's tests. Its bootstrappers are given as keys and ports.
-pub fn directory_from(
-    alloc: Global,
-    peers: &[(u64, u16)],
-) -> Result<Directory<TestKey>, AllocError> {
+fn directory_from(alloc: Global, peers: &[(u64, u16)]) -> Result<Directory<TestKey>, AllocError> {
     let mut bootstrappers = Vec::new(alloc);
     for (key, port) in peers {
         bootstrappers.push((TestKey(*key), ingress(*port)))?;
@@ -53,4 +50,17 @@ pub fn directory_from(
         block_duration: Duration::from_secs(60),
     };
     Directory::init(alloc, bootstrappers, info(9, 8000, 0), config)
+}
+
+/// What is found in such a directory, which is dropped here alone, a fixture of the tracker's tests:
+/// each place where one is dropped takes a check as long as that of a test.
+pub fn found_in<T, F: FnOnce(&mut Directory<TestKey>) -> Result<T, AllocError>>(
+    alloc: Global,
+    peers: &[(u64, u16)],
+    find: F,
+) -> Result<T, AllocError>
+    requires { F.IsAlwaysCallable find }
+{
+    let mut directory = directory_from(alloc, peers)?;
+    find(&mut directory)
 }

@@ -3,6 +3,7 @@
 use crate::fixtures::{info, ingress};
 use p2p_discovery::codec::TestKey;
 use p2p_discovery::discovery::Info;
+use p2p_discovery::types::Ingress;
 use p2p_tracker::record::{Address, DialStatus, Dialable, Record, ReserveResult, Status};
 use std::process::Abort;
 use std::test::Fail;
@@ -28,45 +29,58 @@ fn reserve(record: &mut Record<TestKey>) -> ReserveResult {
 fn nobody_is_dialable_at_first(rt: HostRuntime) {
     let dialable: Dialable<TestKey> = Dialable::new(rt.alloc());
     assert!(rt; dialable.peers.is_empty());
-    assert_eq!(rt; dialable.next_query_at, None);
+    assert!(rt; dialable.next_query_at == None);
+}
+
+fn begins_unknown(record: &Record<TestKey>) -> bool {
+    matches!(record.address(), Address::Unknown)
+        && record.ingress().is_none()
+        && record.deletable()
+        && record.is_blockable()
+        && !record.eligible()
+}
+
+fn begins_at(record: &Record<TestKey>, at: &Ingress) -> bool {
+    let is_at = match record.address() {
+        Address::Bootstrapper(given) => *given == *at,
+        _ => false,
+    };
+    is_at
+        && record.ingress() == Some(at)
+        && !record.deletable()
+        && record.is_blockable()
+        && record.eligible()
+}
+
+fn begins_as_myself(record: &Record<TestKey>, own: &Info<TestKey>) -> bool {
+    let is_own = match record.address() {
+        Address::Myself(given) => is_same(given, own),
+        _ => false,
+    };
+    is_own
+        && record.is_outbound_target()
+        && !record.deletable()
+        && !record.is_blockable()
+        && !record.eligible()
 }
 
 #[test]
 fn records_begin_so(rt: HostRuntime) {
-    let unknown: Record<TestKey> = Record::unknown();
-    assert!(rt; matches!(unknown.address(), Address::Unknown));
-    assert!(rt; unknown.ingress().is_none());
-    assert!(rt; unknown.deletable() && unknown.is_blockable() && !unknown.eligible());
-    let bootstrapper: Record<TestKey> = Record::bootstrapper(ingress(8001));
-    assert!(rt;
-        matches!(bootstrapper.address(), Address::Bootstrapper(given) if *given == ingress(8001))
-    );
-    assert!(rt;
-        bootstrapper
-            .ingress()
-            .is_some_and(|known| *known == ingress(8001))
-    );
-    assert!(rt;
-        !bootstrapper.deletable() && bootstrapper.is_blockable() && bootstrapper.eligible()
-    );
-    let myself = Record::myself(info(9, 8009, 5));
-    assert!(rt;
-        matches!(myself.address(), Address::Myself(own) if is_same(own, &info(9, 8009, 5)))
-    );
-    assert!(rt; !myself.deletable() && !myself.is_blockable() && !myself.eligible());
-    assert!(rt; myself.is_outbound_target());
+    assert!(rt; begins_unknown(&Record::unknown()));
+    assert!(rt; begins_at(&Record::bootstrapper(ingress(8001)), &ingress(8001)));
+    assert!(rt; begins_as_myself(&Record::myself(info(9, 8009, 5)), &info(9, 8009, 5)));
 }
 
 #[test]
 fn a_record_counts_its_sets(rt: HostRuntime) {
     let mut record: Record<TestKey> = Record::unknown();
     record.increment_primary();
-    assert_eq!(rt; (record.primary_sets(), record.secondary_sets()), (1, 0));
+    assert!(rt; (record.primary_sets(), record.secondary_sets()) == (1, 0));
     assert!(rt; record.is_outbound_target());
     record.increment_secondary();
-    assert_eq!(rt; (record.primary_sets(), record.secondary_sets()), (1, 1));
+    assert!(rt; (record.primary_sets(), record.secondary_sets()) == (1, 1));
     record.decrement_primary();
-    assert_eq!(rt; (record.primary_sets(), record.secondary_sets()), (0, 1));
+    assert!(rt; (record.primary_sets(), record.secondary_sets()) == (0, 1));
     assert!(rt; record.eligible() && !record.is_outbound_target());
     record.decrement_secondary();
     assert!(rt; record.deletable());
@@ -76,35 +90,35 @@ fn a_record_counts_its_sets(rt: HostRuntime) {
 fn a_record_is_reserved_connected_and_released(rt: HostRuntime) {
     let mut record: Record<TestKey> = Record::bootstrapper(ingress(8001));
     assert!(rt; record.acceptable());
-    assert_eq!(rt; reserve(&mut record), ReserveResult::Reserved);
-    assert_eq!(rt; reserve(&mut record), ReserveResult::Unavailable);
+    assert!(rt; reserve(&mut record) == ReserveResult::Reserved);
+    assert!(rt; reserve(&mut record) == ReserveResult::Unavailable);
     assert!(rt; record.status() == Status::Reserved);
     record.connect();
     assert!(rt; record.eligible() && !record.acceptable() && !record.needs_teardown());
     assert!(rt; record.status() == Status::Active);
     record.release();
-    assert_eq!(rt; record.status(), Status::Inert);
-    assert_eq!(rt; reserve(&mut record), ReserveResult::RateLimited);
+    assert!(rt; record.status() == Status::Inert);
+    assert!(rt; reserve(&mut record) == ReserveResult::RateLimited);
 }
 
 #[test]
 fn who_is_in_no_set_any_more_is_torn_down(rt: HostRuntime) {
     let mut record: Record<TestKey> = Record::unknown();
     assert!(rt; !record.needs_teardown());
-    assert_eq!(rt; reserve(&mut record), ReserveResult::Reserved);
+    assert!(rt; reserve(&mut record) == ReserveResult::Reserved);
     assert!(rt; record.needs_teardown());
 }
 
 #[test]
 fn a_cooldown_is_told_and_set(rt: HostRuntime) {
     let mut record: Record<TestKey> = Record::unknown();
-    assert_eq!(rt; record.cooldown(), (Duration::ZERO, Duration::ZERO));
-    assert_eq!(rt; reserve(&mut record), ReserveResult::Reserved);
-    assert_eq!(rt; record.cooldown(), (seconds(110), seconds(114)));
+    assert!(rt; record.cooldown() == (Duration::ZERO, Duration::ZERO));
+    assert!(rt; reserve(&mut record) == ReserveResult::Reserved);
+    assert!(rt; record.cooldown() == (seconds(110), seconds(114)));
     assert!(rt; record.status() == Status::Reserved);
     record.release();
     record.set_cooldown(seconds(7), seconds(8));
-    assert_eq!(rt; record.cooldown(), (seconds(7), seconds(8)));
+    assert!(rt; record.cooldown() == (seconds(7), seconds(8)));
 }
 
 #[test]
@@ -112,9 +126,9 @@ fn a_bootstrapper_is_dialable_from_its_dial_moment_on(rt: HostRuntime) {
     let mut record: Record<TestKey> = Record::bootstrapper(ingress(8001));
     record.set_cooldown(seconds(110), seconds(114));
     let before = record.dialable(seconds(113), true, false);
-    assert_eq!(rt; before, DialStatus::After(seconds(114)));
-    assert_eq!(rt; record.dialable(seconds(114), true, false), DialStatus::Now);
-    assert_eq!(rt; reserve(&mut record), ReserveResult::RateLimited);
+    assert!(rt; before == DialStatus::After(seconds(114)));
+    assert!(rt; record.dialable(seconds(114), true, false) == DialStatus::Now);
+    assert!(rt; reserve(&mut record) == ReserveResult::RateLimited);
 }
 
 // Whether the info of the tested record, of peer 1, is known, with this number of failed dials.

@@ -1,13 +1,12 @@
 //! Frames that are decoded before they are processed.
 
-use crate::fixtures::{node, node_after};
+use crate::fixtures::found_by;
 use crate::node::{REPLIER, hundred};
 use bytes::Bytes;
 use p2p_directory::node::{Answer, Miscounted, Node, Received};
 use p2p_discovery::codec::{CodecError, TestKey};
 use p2p_discovery::discovery::Payload;
 use std::alloc::{AllocError, Global};
-use std::process::Abort;
 use std::test::Fail;
 
 // The bits of the two peers of the set at index 0, none of whom is known.
@@ -53,15 +52,13 @@ fn copies(alloc: Global) -> Result<(Bytes, Bytes, Bytes), AllocError> {
 fn a_question_is_answered_with_infos_before_they_are_encoded(rt: HostRuntime) -> Result<(), Fail> {
     let alloc = rt.alloc();
     let (one, two, three) = copies(alloc)?;
-    let mut replier = node_after(alloc, "own=8", &REPLIER)?;
-    let decoded = decodes_and_answers(&mut replier, one);
-    let by_bytes = is_of_peer_one(replier.answer_with_verdicts(two, hundred(), &[]));
-    let counted = matches!(
-        replier.answer_with_verdicts(three, hundred(), &[true]),
-        Err(Miscounted)
-    );
-    replier.finish();
-    assert!(rt; decoded && by_bytes && counted);
+    let told = found_by(alloc, "own=8", &REPLIER, |replier| {
+        let decoded = decodes_and_answers(replier, one);
+        let by_bytes = is_of_peer_one(replier.answer_with_verdicts(two, hundred(), &[]));
+        let counted = replier.answer_with_verdicts(three, hundred(), &[true]);
+        decoded && by_bytes && matches!(counted, Err(Miscounted))
+    })?;
+    assert!(rt; told);
     Ok(())
 }
 
@@ -82,18 +79,11 @@ fn a_frame_that_was_decoded_under_other_limits_is_decoded_anew(
 ) -> Result<(), Fail> {
     let alloc = rt.alloc();
     let message = Bytes::copy_from_slice(alloc, &MESSAGE)?;
-    let decoder = node(alloc, "own=8 max_data_length=2")?;
-    match node(alloc, "max_data_length=1") {
-        Ok(mut receiver) => {
-            let refused = is_too_long(&decoder, &mut receiver, message);
-            receiver.finish();
-            decoder.finish();
-            assert!(rt; refused);
-        }
-        Err(error) => {
-            decoder.finish();
-            return Err(error);
-        }
-    }
+    let refused = found_by(alloc, "own=8 max_data_length=2", &[], |decoder| {
+        found_by(alloc, "max_data_length=1", &[], |receiver| {
+            is_too_long(decoder, receiver, message)
+        })
+    })??;
+    assert!(rt; refused);
     Ok(())
 }

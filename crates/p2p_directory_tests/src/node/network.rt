@@ -85,6 +85,21 @@ fn a_run_of_a_network_replies_to_each_command(rt: HostRuntime) -> Result<(), Fai
     Ok(())
 }
 
+// Replaces a node of the tested network, and returns the status of peer 8 in its directory; `None`
+// if there is no such node.
+fn replaced(
+    alloc: Global,
+    nodes: &mut Network<TestKey>,
+    node: usize,
+    settings: &'static str,
+) -> Result<Option<Option<Status>>, Unreadable> {
+    let setup = setup(alloc, settings)?;
+    match nodes.replace(alloc, node, setup)? {
+        Some(old) => Ok(Some(old.status(&TestKey(8)))),
+        None => Ok(None),
+    }
+}
+
 // Asserts of a tested network that replacing a node releases its reservation of peer 8, and that
 // replacing a node that does not exist returns `None`.
 fn is_replaced(
@@ -93,7 +108,7 @@ fn is_replaced(
     nodes: &mut Network<TestKey>,
 ) -> Result<(), Unreadable> {
     nodes.add(alloc, setup(alloc, "own=9")?)?;
-    let absent = nodes.replace(alloc, 1, setup(alloc, "own=6")?)?;
+    let absent = replaced(alloc, nodes, 1, "own=6")?;
     assert!(rt; absent.is_none());
     for line in ["track 0 7,8", "listen 8 100"] {
         nodes.serve(NetworkCommand::Call(0, command(alloc, line)?));
@@ -102,9 +117,8 @@ fn is_replaced(
         .directory(0)
         .and_then(|directory| directory.status(&TestKey(8)));
     assert_eq!(rt; held, Some(Status::Reserved));
-    let old = nodes.replace(alloc, 0, setup(alloc, "own=7")?)?;
-    let left = old.and_then(|directory| directory.status(&TestKey(8)));
-    assert_eq!(rt; left, Some(Status::Inert));
+    let left = replaced(alloc, nodes, 0, "own=7")?;
+    assert_eq!(rt; left, Some(Some(Status::Inert)));
     Ok(())
 }
 

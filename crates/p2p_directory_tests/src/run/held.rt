@@ -20,11 +20,18 @@ fn takes_only_what_is_held(rt: HostRuntime) -> Result<(), Fail> {
         None => {}
         Some(_reservation) => panic!(rt; "nothing was granted of 2"),
     }
-    assert_eq!(rt; left.held.first(), Some(TestKey(1)));
-    assert_eq!(rt; left.directory.status(&TestKey(3)), Some(Status::Reserved));
+    let first = left.held.first();
+    let held = left.directory.status(&TestKey(3));
     let directory = left.finish();
-    assert_eq!(rt; directory.status(&TestKey(1)), Some(Status::Inert));
-    assert_eq!(rt; directory.status(&TestKey(3)), Some(Status::Inert));
+    let released = [directory.status(&TestKey(1)), directory.status(&TestKey(3))];
+    assert_eq!(rt;
+        (first, held, released),
+        (
+            Some(TestKey(1)),
+            Some(Status::Reserved),
+            [Some(Status::Inert); 2]
+        )
+    );
     Ok(())
 }
 
@@ -96,9 +103,9 @@ fn the_very_address_that_was_dialled_is_held(rt: HostRuntime) -> Result<(), Fail
         held,
         replies,
     };
-    assert_eq!(rt; dialled, [Some(true), Some(true), None]);
-    assert_eq!(rt; left.held.first(), None);
+    let first = left.held.first();
     left.finish();
+    assert_eq!(rt; (dialled, first), ([Some(true), Some(true), None], None));
     Ok(())
 }
 
@@ -114,8 +121,10 @@ fn a_node_hands_out_what_it_holds(rt: HostRuntime) -> Result<(), Fail> {
     let (mut directory, held) = node.parts();
     let first = held.first();
     held.release_all(&mut directory);
-    assert!(rt; is_done);
-    assert_eq!(rt; first, Some(TestKey(1)));
-    assert_eq!(rt; directory.status(&TestKey(1)), Some(Status::Inert));
+    let status = directory.status(&TestKey(1));
+    assert_eq!(rt;
+        (is_done, first, status),
+        (true, Some(TestKey(1)), Some(Status::Inert))
+    );
     Ok(())
 }

@@ -1,6 +1,6 @@
 //! A node keeps no room for a peer of whom it holds nothing, however often calls are refused.
 
-use crate::fixtures::node;
+use crate::fixtures::found_by;
 use crate::node::hundred;
 use failing_alloc::FailingAlloc;
 use p2p_directory::node::Node;
@@ -66,9 +66,7 @@ fn refuses_within_few(alloc: Global, node: &mut Node<TestKey>) -> Result<u64, Fa
 #[test]
 fn a_node_keeps_no_slot_of_whom_it_refused(rt: HostRuntime) -> Result<(), Fail> {
     let alloc = rt.alloc();
-    let mut node = node(alloc, "")?;
-    let done = refuses_within_few(alloc, &mut node);
-    node.finish();
-    assert_eq!(rt; done?, ROUNDS);
+    let done = found_by(alloc, "", &[], |node| refuses_within_few(alloc, node))??;
+    assert_eq!(rt; done, ROUNDS);
     Ok(())
 }

@@ -1,5 +1,6 @@
 //! Lists of bits.
 
+use crate::assertions::assert_holds;
 use crate::out_of_memory::{STEPS, Tally};
 use failing_alloc::{FailingAlloc, STEP};
 use p2p_discovery::sets::BitMap;
@@ -38,7 +39,7 @@ fn a_copy_of_bits_is_whole_or_refused_for_memory(rt: HostRuntime) -> Result<(), 
         memory.lift();
         tally.count(copy.is_err());
         if let Ok(bits) = copy {
-            assert!(rt; bits == whole, "step {step}");
+            assert_holds(&rt, bits == whole, step);
         }
     }
     tally.is_mixed(&rt);

@@ -1,5 +1,6 @@
 //! Peers with a bit for each.
 
+use crate::assertions::assert_same;
 use p2p_discovery::codec::TestKey;
 use p2p_discovery::sets::{BitMap, BitSet, OrderedSet};
 use std::alloc::{AllocError, Global};
@@ -38,17 +39,18 @@ fn changes_the_bit_of_a_peer(rt: HostRuntime) -> Result<(), Fail> {
 #[test]
 fn walks_the_peers_of_bits_in_order(rt: HostRuntime) -> Result<(), Fail> {
     let set = three(rt.alloc())?;
-    assert_eq!(rt; set.ordered().position(&TestKey(3)), Some(2));
+    assert_same(&rt, set.ordered().position(&TestKey(3)), Some(2));
     let mut walked = Vec::new(rt.alloc());
     for peer in &set {
         walked.push(*peer)?;
     }
-    assert_eq!(rt;
+    assert_same(
+        &rt,
         walked.as_slice(),
-        [TestKey(1), TestKey(2), TestKey(3)].as_slice()
+        [TestKey(1), TestKey(2), TestKey(3)].as_slice(),
     );
     if set.len() > 1 {
-        assert_eq!(rt; set[1], TestKey(2));
+        assert_same(&rt, set[1], TestKey(2));
     }
     Ok(())
 }

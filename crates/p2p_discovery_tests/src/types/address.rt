@@ -1,5 +1,6 @@
 //! Addresses: their encoding, its bounds, and their parts.
 
+use crate::assertions::assert_same;
 use crate::codec::{is_refused, is_spelled};
 use crate::types::fixtures::{LOCAL_V6, dns, labels, v4};
 use p2p_discovery::codec::{CodecError, EncodeSize, MaxEncodeSize};
@@ -57,51 +58,52 @@ fn spells_addresses(rt: HostRuntime) -> Result<(), Fail> {
 #[test]
 fn bounds_spellings(rt: HostRuntime) -> Result<(), Fail> {
     let alloc = rt.alloc();
-    assert_eq!(rt; SocketAddr::MAX_ENCODE_SIZE, 19);
-    assert_eq!(rt; Hostname::MAX_ENCODE_SIZE, 258);
-    assert_eq!(rt; Ingress::MAX_ENCODE_SIZE, 261);
-    assert_eq!(rt; Address::MAX_ENCODE_SIZE, 281);
+    assert_same(&rt, SocketAddr::MAX_ENCODE_SIZE, 19);
+    assert_same(&rt, Hostname::MAX_ENCODE_SIZE, 258);
+    assert_same(&rt, Ingress::MAX_ENCODE_SIZE, 261);
+    assert_same(&rt, Address::MAX_ENCODE_SIZE, 281);
     let text = labels(alloc, &[63, 63, 63, 61])?;
     let widest = dns(alloc, text.as_str(), u16::MAX)?;
-    assert_eq!(rt; Hostname::new(alloc, text.as_str())?.encode_size(), 255);
-    assert_eq!(rt; widest.encode_size(), 258);
+    assert_same(&rt, Hostname::new(alloc, text.as_str())?.encode_size(), 255);
+    assert_same(&rt, widest.encode_size(), 258);
     let egress = SocketAddr::new(LOCAL_V6, u16::MAX);
-    assert_eq!(rt; egress.encode_size(), 19);
-    assert_eq!(rt; Ingress::Socket(egress).encode_size(), 20);
-    assert_eq!(rt; Address::Symmetric(egress).encode_size(), 20);
+    assert_same(&rt, egress.encode_size(), 19);
+    assert_same(&rt, Ingress::Socket(egress).encode_size(), 20);
+    assert_same(&rt, Address::Symmetric(egress).encode_size(), 20);
     let address = Address::Asymmetric {
         ingress: widest,
         egress,
     };
-    assert_eq!(rt; address.encode_size(), 278);
+    assert_same(&rt, address.encode_size(), 278);
     Ok(())
 }
 
 fn gives_the_parts_of_sockets(rt: &impl Abort) {
     let socket = v4(127, 0, 0, 1, 8080);
-    assert_eq!(rt; socket.ip(), IpAddr::V4([127, 0, 0, 1]));
-    assert_eq!(rt; socket.port(), 8080);
+    assert_same(rt, socket.ip(), IpAddr::V4([127, 0, 0, 1]));
+    assert_same(rt, socket.port(), 8080);
     let ingress = Ingress::from(socket);
-    assert_eq!(rt; ingress, Ingress::Socket(socket));
-    assert_eq!(rt; ingress.port(), 8080);
-    assert_eq!(rt; ingress.ip(), Some(IpAddr::V4([127, 0, 0, 1])));
+    assert_same(rt, &ingress, &Ingress::Socket(socket));
+    assert_same(rt, ingress.port(), 8080);
+    assert_same(rt, ingress.ip(), Some(IpAddr::V4([127, 0, 0, 1])));
 }
 
 fn gives_the_parts_of_a_name(rt: &impl Abort, named: &Ingress) -> Result<(), Fail> {
-    assert_eq!(rt; named.port(), 443);
-    assert_eq!(rt; named.ip(), None);
-    assert_eq!(rt; &named.clone()?, named);
+    assert_same(rt, named.port(), 443);
+    assert_same(rt, named.ip(), None);
+    assert_same(rt, &named.clone()?, named);
     Ok(())
 }
 
 fn gives_the_parts_of_the_symmetric(rt: &impl Abort, symmetric: &Address) -> Result<(), Fail> {
-    assert_eq!(rt; *symmetric, Address::Symmetric(v4(10, 0, 0, 1, 8080)));
-    assert_eq!(rt;
-        symmetric.ingress()?,
-        Ingress::Socket(v4(10, 0, 0, 1, 8080))
+    assert_same(rt, symmetric, &Address::Symmetric(v4(10, 0, 0, 1, 8080)));
+    assert_same(
+        rt,
+        &symmetric.ingress()?,
+        &Ingress::Socket(v4(10, 0, 0, 1, 8080)),
     );
-    assert_eq!(rt; symmetric.egress_ip(), IpAddr::V4([10, 0, 0, 1]));
-    assert_eq!(rt; symmetric.egress(), v4(10, 0, 0, 1, 8080));
+    assert_same(rt, symmetric.egress_ip(), IpAddr::V4([10, 0, 0, 1]));
+    assert_same(rt, symmetric.egress(), v4(10, 0, 0, 1, 8080));
     Ok(())
 }
 
@@ -110,10 +112,10 @@ fn gives_the_parts_of_the_asymmetric(
     asymmetric: &Address,
     named: &Ingress,
 ) -> Result<(), Fail> {
-    assert_eq!(rt; &asymmetric.ingress()?, named);
-    assert_eq!(rt; asymmetric.egress_ip(), IpAddr::V4([192, 168, 1, 1]));
-    assert_eq!(rt; asymmetric.egress(), v4(192, 168, 1, 1, 9090));
-    assert_eq!(rt; &asymmetric.clone()?, asymmetric);
+    assert_same(rt, &asymmetric.ingress()?, named);
+    assert_same(rt, asymmetric.egress_ip(), IpAddr::V4([192, 168, 1, 1]));
+    assert_same(rt, asymmetric.egress(), v4(192, 168, 1, 1, 9090));
+    assert_same(rt, &asymmetric.clone()?, asymmetric);
     Ok(())
 }
 

@@ -1,5 +1,6 @@
 //! Which addresses are global.
 
+use crate::assertions::{assert_holds, assert_same_for};
 use p2p_discovery::types::IpAddr;
 
 // The ranges that are not global, each as the numbers of its first and its last address. No two
@@ -65,23 +66,23 @@ fn is_global_6(number: u128) -> bool {
 #[test]
 fn knows_both_ends_of_each_range(rt: HostRuntime) {
     for (first, last) in RANGES_4 {
-        assert!(rt; !is_global_4(first), "the first, {first}");
-        assert!(rt; !is_global_4(last), "the last, {last}");
+        assert_holds(&rt, !is_global_4(first), ("the first", first));
+        assert_holds(&rt, !is_global_4(last), ("the last", last));
         if let Some(before) = first.checked_sub(1) {
-            assert!(rt; is_global_4(before), "before {first}");
+            assert_holds(&rt, is_global_4(before), ("before", first));
         }
         if let Some(behind) = last.checked_add(1) {
-            assert!(rt; is_global_4(behind), "behind {last}");
+            assert_holds(&rt, is_global_4(behind), ("behind", last));
         }
     }
     for (first, last) in RANGES_6 {
-        assert!(rt; !is_global_6(first), "the first, {first}");
-        assert!(rt; !is_global_6(last), "the last, {last}");
+        assert_holds(&rt, !is_global_6(first), ("the first", first));
+        assert_holds(&rt, !is_global_6(last), ("the last", last));
         if let Some(before) = first.checked_sub(1) {
-            assert!(rt; is_global_6(before), "before {first}");
+            assert_holds(&rt, is_global_6(before), ("before", first));
         }
         if let Some(behind) = last.checked_add(1) {
-            assert!(rt; is_global_6(behind), "behind {last}");
+            assert_holds(&rt, is_global_6(behind), ("behind", last));
         }
     }
 }
@@ -171,9 +172,9 @@ static GLOBAL_6: [([u8; 16], bool); 20] = [
 #[test]
 fn knows_global_addresses(rt: HostRuntime) {
     for (address, want) in GLOBAL_4 {
-        assert_eq!(rt; IpAddr::V4(address).is_global(), want, "{address:?}");
+        assert_same_for(&rt, IpAddr::V4(address).is_global(), want, address);
     }
     for (address, want) in GLOBAL_6 {
-        assert_eq!(rt; IpAddr::V6(address).is_global(), want, "{address:?}");
+        assert_same_for(&rt, IpAddr::V6(address).is_global(), want, address);
     }
 }

@@ -1,5 +1,6 @@
 //! Host names.
 
+use crate::assertions::{assert_same, assert_same_for};
 use crate::codec::is_refused;
 use crate::types::fixtures::labels;
 use p2p_discovery::codec::{CodecError, What};
@@ -11,15 +12,15 @@ fn names_machines(rt: HostRuntime) -> Result<(), Fail> {
     let alloc = rt.alloc();
     for text in ["a", "A-1.b", "127.0.0.1", "xn--abc.example", "example.COM"] {
         let name = Hostname::new(alloc, text)?;
-        assert_eq!(rt; name.as_str(), text);
-        assert_eq!(rt; &name.clone()?, &name, "{text}");
+        assert_same(&rt, name.as_str(), text);
+        assert_same_for(&rt, &name.clone()?, &name, text);
         is_refused::<Hostname>(&rt, alloc, b"\x03ab", CodecError::EndOfBuffer)?;
     }
     let no_name = CodecError::Invalid(What::Hostname);
     for text in [
         "-a", "a-", "a..b", ".a", "a.", ".", "a b", "a_b", "\u{e9}", "a.-b.c",
     ] {
-        assert_eq!(rt; Hostname::new(alloc, text).err(), Some(no_name), "{text}");
+        assert_same_for(&rt, Hostname::new(alloc, text).err(), Some(no_name), text);
     }
     let cases = [
         ([63, 63, 63, 61].as_slice(), None),
@@ -33,7 +34,12 @@ fn names_machines(rt: HostRuntime) -> Result<(), Fail> {
     ];
     for (lengths, fault) in cases {
         let text = labels(alloc, lengths)?;
-        assert_eq!(rt; Hostname::new(alloc, text.as_str()).err(), fault, "{text}");
+        assert_same_for(
+            &rt,
+            Hostname::new(alloc, text.as_str()).err(),
+            fault,
+            text.as_str(),
+        );
     }
     Ok(())
 }

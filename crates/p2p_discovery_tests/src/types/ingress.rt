@@ -1,5 +1,6 @@
 //! Where a peer listens: its encoding, and which may be dialled.
 
+use crate::assertions::{assert_same, assert_same_for};
 use crate::codec::{is_refused, is_spelled};
 use crate::types::fixtures::{LOCAL_V6, dns, v4};
 use bytes::Bytes;
@@ -63,9 +64,10 @@ fn refuses_ingresses(rt: HostRuntime) -> Result<(), Fail> {
         is_refused::<Ingress>(&rt, rt.alloc(), bytes, fault)?;
     }
     let bytes = Bytes::from_static(b"\0\x04\x7f\0\0\x01\x1f\x90\0");
-    assert_eq!(rt;
+    assert_same(
+        &rt,
         Ingress::decode(rt.alloc(), bytes).err(),
-        Some(CodecError::ExtraData(1))
+        Some(CodecError::ExtraData(1)),
     );
     Ok(())
 }
@@ -87,7 +89,7 @@ fn judges_what_may_be_dialled(rt: HostRuntime) -> Result<(), Fail> {
             private.is_valid(private_ips, names),
             named.is_valid(private_ips, names),
         ];
-        assert_eq!(rt; given, want, "{private_ips} {names}");
+        assert_same_for(&rt, given, want, (private_ips, names));
     }
     Ok(())
 }

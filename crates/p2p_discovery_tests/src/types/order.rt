@@ -1,5 +1,6 @@
 //! The order of addresses.
 
+use crate::assertions::assert_holds;
 use crate::types::fixtures::{LOCAL_V6, dns, v4};
 use p2p_discovery::types::{Address, Ingress, SocketAddr};
 use std::alloc::Global;
@@ -29,7 +30,7 @@ fn orders_addresses(rt: HostRuntime) -> Result<(), Fail> {
     let rising = rising(alloc)?;
     for pair in rising.as_slice().windows(2) {
         if let [low, high] = pair {
-            assert!(rt; low < high, "{low:?} {high:?}");
+            assert_holds(&rt, low < high, (low, high));
         }
     }
     let symmetric = Address::Symmetric(SocketAddr::new(LOCAL_V6, 1));
