@@ -1,6 +1,6 @@
 //! Two nodes: a run of both, and one exchange.
 
-use crate::told::{compares, mark, tells, words_of};
+use crate::told::{compares, end, mark, tells, words_of};
 use lines::examples::all_lines;
 use lines::examples::exchanges::PARTS;
 use lines::{Line, Unreadable, commands, pair_commands, setup};
@@ -36,8 +36,8 @@ fn finish(ended: PairRun<TestKey>) {
         right,
         replies: _,
     } = ended;
-    left.finish();
-    right.finish();
+    end(left.finish());
+    end(right.finish());
 }
 
 // The replies of a pair but those that say that memory was refused.
@@ -199,12 +199,12 @@ pub fn exchanged(alloc: Global, text: &mut String) -> Result<bool, Unreadable> {
     let replier = match prepared(alloc, "own=8", &lines) {
         Ok(replier) => replier,
         Err(error) => {
-            asker.finish();
+            end(asker.finish());
             return Err(error);
         }
     };
     let told = tells_of_exchange(alloc, text, &mut asker, &replier);
-    asker.finish();
-    replier.finish();
+    end(asker.finish());
+    end(replier.finish());
     Ok(told?)
 }

@@ -4,7 +4,7 @@
 ghost use Rattle.std.specs.Prelude.{◌<◌, ◌-◌, ◌^◌};
 ghost use Rattle.std.specs.Int.NonZero.{non_zero_usize_get};
 
-use crate::told::{compares, mark, words_of};
+use crate::told::{compares, end, mark, words_of};
 use lines::examples::{Row, all_lines};
 use lines::{Line, Unreadable, commands, examples, setup};
 use p2p_directory::node::Setup;
@@ -82,7 +82,7 @@ fn run_over(alloc: Global, row: &Row, lines: &[&'static str]) -> Result<Run<Test
 fn words_over(alloc: Global, row: &Row, lines: &[&'static str]) -> Result<Words, Unreadable> {
     let left = run_over(alloc, row, lines)?;
     let words = read_words(alloc, &left);
-    left.finish();
+    end(left.finish());
     Ok(words?)
 }
 
@@ -90,7 +90,7 @@ fn words_over(alloc: Global, row: &Row, lines: &[&'static str]) -> Result<Words,
 fn may_be_refused(alloc: Global, row: &Row, lines: &[&'static str]) -> Result<bool, Unreadable> {
     let left = run_over(alloc, row, lines)?;
     let wants = left.replies.last().is_some_and(may_want_memory);
-    left.finish();
+    end(left.finish());
     Ok(wants)
 }
 
@@ -152,7 +152,7 @@ fn told(alloc: Global, text: &mut String, row: &Row) -> Result<bool, Unreadable>
     match ended {
         Ok(left) => {
             let told = tells(alloc, text, row, lines.as_slice(), &left);
-            left.finish();
+            end(left.finish());
             told
         }
         Err(AllocError) => {

@@ -3,7 +3,7 @@
 ghost use Rattle.std.specs.Prelude.{◌<◌, ◌-◌, ◌^◌};
 ghost use Rattle.std.specs.Int.NonZero.{non_zero_usize_get};
 
-use crate::told::{compares, mark, words_of};
+use crate::told::{compares, end, mark, words_of};
 use lines::{Unreadable, setup};
 use p2p_directory::directory::Directory;
 use p2p_directory::node::{Node, Setup};
@@ -22,20 +22,20 @@ const SETTINGS: &str = "boot=1@1.2.3.4:8001,2@1.2.3.4:8002,3@1.2.3.4:8003,4@1.2.
 fn compares_with(
     alloc: Global,
     text: &mut String,
-    made: Result<Directory<TestKey>, AllocError>,
-    again: Directory<TestKey>,
+    made: Option<&Directory<TestKey>>,
+    again: &Directory<TestKey>,
 ) -> Result<bool, AllocError> {
     match made {
-        Ok(directory) => {
-            let words = words_of(alloc, &directory)?;
+        Some(directory) => {
+            let words = words_of(alloc, directory)?;
             compares(
                 text,
                 "made and made again",
                 &words,
-                &words_of(alloc, &again)?,
+                &words_of(alloc, again)?,
             )
         }
-        Err(AllocError) => {
+        None => {
             write!(
                 text,
                 "out of memory\nmade again: {} peers\n",
@@ -44,6 +44,26 @@ fn compares_with(
             Ok(again.tracked() == 16)
         }
     }
+}
+
+// Tells what was started, and ends it and what was made again.
+fn tells_and_ends(
+    alloc: Global,
+    text: &mut String,
+    made: Result<Directory<TestKey>, AllocError>,
+    again: Result<Directory<TestKey>, AllocError>,
+) -> Result<bool, AllocError> {
+    let told = match &again {
+        Ok(again) => compares_with(alloc, text, made.as_ref().ok(), again),
+        Err(AllocError) => Err(AllocError),
+    };
+    if let Ok(made) = made {
+        end(made);
+    }
+    if let Ok(again) = again {
+        end(again);
+    }
+    told
 }
 
 // Starts the directory of a node with this setup, to which memory may be refused.
@@ -62,11 +82,12 @@ fn init(alloc: Global, setup: Setup<TestKey>) -> Result<Directory<TestKey>, Allo
 /// Starts a directory by `Directory::init` while memory may be refused.
 pub fn directory(alloc: Global, text: &mut String) -> Result<bool, Unreadable> {
     let given = setup(alloc, SETTINGS)?;
+    let other = setup(alloc, SETTINGS)?;
     mark(alloc);
     let made = init(alloc, given);
     mark(alloc);
-    let again = init(alloc, setup(alloc, SETTINGS)?)?;
-    Ok(compares_with(alloc, text, made, again)?)
+    let again = init(alloc, other);
+    Ok(tells_and_ends(alloc, text, made, again)?)
 }
 
 // The directory that remains of a node that was started unless memory was refused.
@@ -80,10 +101,10 @@ fn finished(made: Result<Node<TestKey>, AllocError>) -> Result<Directory<TestKey
 /// Starts a node by `Node::new` while memory may be refused.
 pub fn node(alloc: Global, text: &mut String) -> Result<bool, Unreadable> {
     let given = setup(alloc, SETTINGS)?;
+    let other = setup(alloc, SETTINGS)?;
     mark(alloc);
     let made = Node::new(alloc, given);
     mark(alloc);
-    let made = finished(made);
-    let again = Node::new(alloc, setup(alloc, SETTINGS)?)?;
-    Ok(compares_with(alloc, text, made, again.finish())?)
+    let again = finished(Node::new(alloc, other));
+    Ok(tells_and_ends(alloc, text, finished(made), again)?)
 }

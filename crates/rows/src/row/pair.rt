@@ -7,7 +7,9 @@ use crate::row::{Stop, print};
 use lines::examples::exchanges::PARTS;
 use lines::examples::{Part, all_lines};
 use lines::{Line, pair_commands, setup};
-use p2p_directory::node::{Exchanged, PairCommand, PairReply, PairRun, Received, Setup, run_pair};
+use p2p_directory::node::{
+    Exchanged, Node, PairCommand, PairReply, PairRun, Received, Setup, run_pair,
+};
 use p2p_directory::run::Reply;
 use p2p_discovery::codec::TestKey;
 use std::alloc::{AllocError, Global};
@@ -74,7 +76,12 @@ fn replies(
         right,
         replies,
     } = run_pair(alloc, left, right, commands)?;
-    left.finish();
-    right.finish();
+    end(left);
+    end(right);
     Ok(replies)
+}
+
+// Ends a node of the pair of a row, and drops its directory.
+fn end(node: Node<TestKey>) {
+    node.finish();
 }
