@@ -91,6 +91,12 @@ fn setup(
     })
 }
 
+/// Ends a node on which calls were timed, and drops its directory. It is dropped here alone: a place
+/// where one is takes a check as long as that of a whole function.
+pub(crate) fn end(node: Node<Key32>) {
+    node.finish();
+}
+
 /// Makes, for timing, a node of this number, which accepts so many infos at a time.
 pub(crate) fn node(
     alloc: Global,

@@ -1,7 +1,7 @@
 //! An hour of a tracker within Rattle.
 
 use crate::keys::{Key32, keys};
-use crate::made::{info_of, node, tracked};
+use crate::made::{end, info_of, node, tracked};
 use crate::stop::Stop;
 use crate::times::Times;
 use bytes::Bytes;
@@ -421,7 +421,7 @@ fn hour(rt: &HostRuntime, count: usize) -> Result<(Duration, usize), Stop> {
         slots: _slots,
         done,
     } = tracker;
-    node.finish();
+    end(node);
     Ok((time?, done))
 }
 

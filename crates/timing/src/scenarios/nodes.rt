@@ -3,7 +3,7 @@
 ghost use Rattle.std.specs.Prelude.{◌<◌};
 
 use crate::keys::{Key32, keys};
-use crate::made::{SETS, infos_of, node, tracked};
+use crate::made::{SETS, end, infos_of, node, tracked};
 use crate::stop::Stop;
 use crate::times::Times;
 use bytes::Bytes;
@@ -217,14 +217,14 @@ pub(crate) fn of_nodes(
     let replier = match node(rt.alloc(), 8, 1, count) {
         Ok(replier) => replier,
         Err(AllocError) => {
-            asker.finish();
+            end(asker);
             return Err(Stop::Memory);
         }
     };
     let mut nodes = Nodes { asker, replier };
     let times = time(rt, &mut nodes, count, samples, call);
     let Nodes { asker, replier } = nodes;
-    asker.finish();
-    replier.finish();
+    end(asker);
+    end(replier);
     times
 }

@@ -8,7 +8,7 @@ use crate::stop::Stop;
 use crate::times::Times;
 use bytes::Bytes;
 use p2p_discovery::codec::{Read, Write as _};
-use p2p_discovery::discovery::{BitVec, Info, Infos, Payload, PayloadConfig};
+use p2p_discovery::discovery::{BitVec, Info, InfoVerifier, Infos, Payload, PayloadConfig};
 use p2p_discovery::sets::BitMap;
 use p2p_discovery::types::{Hostname, Ingress};
 use std::alloc::Global;
@@ -81,6 +81,23 @@ fn decodings<T: Read<Cfg = ()> + Drop>(
     Ok(times)
 }
 
+// Times the encoding of values for the wire, each by itself.
+fn encodings<F: Fn() -> Result<Vec<Bytes>, Stop>>(
+    rt: &HostRuntime,
+    samples: usize,
+    encode: F,
+) -> Result<Times, Stop>
+    requires { F.IsAlwaysCallable encode }
+{
+    let mut times = Times::new(rt.alloc());
+    for _ in 0..samples {
+        let start = Instant::now(rt)?;
+        let written = encode()?;
+        times.add(start.elapsed(rt)?, written.len())?;
+    }
+    Ok(times)
+}
+
 /// Times the encoding of addresses for the wire, or the decoding, each by itself.
 pub(crate) fn ingresses(
     rt: &HostRuntime,
@@ -91,16 +108,10 @@ pub(crate) fn ingresses(
 ) -> Result<Times, Stop> {
     let alloc = rt.alloc();
     let all = addresses(alloc, count, are_names)?;
-    if let Way::Decode = way {
-        return decodings::<Ingress>(rt, &encode_addresses(alloc, &all)?, samples);
+    match way {
+        Way::Encode => encodings(rt, samples, || encode_addresses(alloc, &all)),
+        Way::Decode => decodings::<Ingress>(rt, &encode_addresses(alloc, &all)?, samples),
     }
-    let mut times = Times::new(alloc);
-    for _ in 0..samples {
-        let start = Instant::now(rt)?;
-        let written = encode_addresses(alloc, &all)?;
-        times.add(start.elapsed(rt)?, written.len())?;
-    }
-    Ok(times)
 }
 
 /// Times the encoding of infos for the wire, or the decoding, each by itself.
@@ -112,16 +123,10 @@ pub(crate) fn infos(
 ) -> Result<Times, Stop> {
     let alloc = rt.alloc();
     let infos = infos_of(alloc, &keys(alloc, count)?, 1000)?;
-    if let Way::Decode = way {
-        return decodings::<Info<Key32>>(rt, &encode_infos(alloc, &infos)?, samples);
+    match way {
+        Way::Encode => encodings(rt, samples, || encode_infos(alloc, &infos)),
+        Way::Decode => decodings::<Info<Key32>>(rt, &encode_infos(alloc, &infos)?, samples),
     }
-    let mut times = Times::new(alloc);
-    for _ in 0..samples {
-        let start = Instant::now(rt)?;
-        let written = encode_infos(alloc, &infos)?;
-        times.add(start.elapsed(rt)?, written.len())?;
-    }
-    Ok(times)
 }
 
 // Limits that no payload here comes near.
@@ -130,6 +135,34 @@ const WIDE: PayloadConfig = PayloadConfig {
     max_peers: 1_000_000,
     max_data_length: 1_000_000,
 };
+
+// Times the encoding of one payload for the wire.
+fn payload_encodings(
+    rt: &HostRuntime,
+    payload: &Payload<Key32>,
+    samples: usize,
+) -> Result<Times, Stop>
+    requires { CanSpell payload.now }
+{
+    let mut times = Times::new(rt.alloc());
+    for _ in 0..samples {
+        let start = Instant::now(rt)?;
+        let written = payload.encode(rt.alloc())?;
+        times.add(start.elapsed(rt)?, written.len())?;
+    }
+    Ok(times)
+}
+
+// Times the decoding of one payload from the wire.
+fn payload_decodings(rt: &HostRuntime, frame: &Bytes, samples: usize) -> Result<Times, Stop> {
+    let mut times = Times::new(rt.alloc());
+    for _ in 0..samples {
+        let start = Instant::now(rt)?;
+        let read = Payload::<Key32>::decode_cfg(rt.alloc(), frame.clone()?, &WIDE);
+        times.add(start.elapsed(rt)?, usize::from(read.is_ok()))?;
+    }
+    Ok(times)
+}
 
 // Times the encoding of one payload for the wire, or the decoding.
 fn payload(
@@ -140,23 +173,10 @@ fn payload(
 ) -> Result<Times, Stop>
     requires { CanSpell payload }
 {
-    let alloc = rt.alloc();
-    let frame = payload.encode(alloc)?;
-    let mut times = Times::new(alloc);
-    for _ in 0..samples {
-        let start = Instant::now(rt)?;
-        match way {
-            Way::Encode => {
-                let written = payload.encode(alloc)?;
-                times.add(start.elapsed(rt)?, written.len())?;
-            }
-            Way::Decode => {
-                let read = Payload::<Key32>::decode_cfg(alloc, frame.clone()?, &WIDE);
-                times.add(start.elapsed(rt)?, usize::from(read.is_ok()))?;
-            }
-        }
+    match way {
+        Way::Encode => payload_encodings(rt, &payload, samples),
+        Way::Decode => payload_decodings(rt, &payload.encode(rt.alloc())?, samples),
     }
-    Ok(times)
 }
 
 /// Times the encoding of a payload of infos for the wire, or the decoding.
@@ -185,6 +205,23 @@ pub(crate) fn bits(
     payload(rt, Payload::BitVec(BitVec { index: 3, bits }), samples, way)
 }
 
+// Times the verification of these infos, which came over the wire.
+fn verifications(
+    rt: &HostRuntime,
+    verifier: &InfoVerifier<Key32>,
+    infos: &[Info<Key32>],
+    samples: usize,
+) -> Result<Times, Stop> {
+    let now = Duration::from_secs(100);
+    let mut times = Times::new(rt.alloc());
+    for _ in 0..samples {
+        let start = Instant::now(rt)?;
+        let is_valid = verifier.validate(now, infos).is_ok();
+        times.add(start.elapsed(rt)?, if is_valid { infos.len() } else { 0 })?;
+    }
+    Ok(times)
+}
+
 /// Times the verification of a list of infos that came over the wire.
 pub(crate) fn judgements(rt: &HostRuntime, count: usize, samples: usize) -> Result<Times, Stop> {
     let alloc = rt.alloc();
@@ -192,12 +229,5 @@ pub(crate) fn judgements(rt: &HostRuntime, count: usize, samples: usize) -> Resu
     let namespace = NAMESPACE.to_vec(alloc)?;
     let bound = Duration::from_secs(30);
     let verifier = Info::<Key32>::verifier(Key32::numbered(9), count, bound, namespace);
-    let now = Duration::from_secs(100);
-    let mut times = Times::new(alloc);
-    for _ in 0..samples {
-        let start = Instant::now(rt)?;
-        let is_valid = verifier.validate(now, &infos).is_ok();
-        times.add(start.elapsed(rt)?, if is_valid { count } else { 0 })?;
-    }
-    Ok(times)
+    verifications(rt, &verifier, &infos, samples)
 }
