@@ -10,7 +10,7 @@ tools/clone.sh "$folder/clone"
 path=$(dirname "$(command -v cargo)"):/usr/bin:/bin
 alone() {
     env -i PATH="$path" HOME="$HOME" RUSTUP_HOME="${RUSTUP_HOME:-$HOME/.rustup}" CARGO_HOME="$folder/cargo" \
-        CARGO_NET_OFFLINE=true "$@"
+        CARGO_NET_OFFLINE=true CARGO_PROFILE_DEV_DEBUG=0 "$@"
 }
 ! alone sh -c 'command -v rt' || { echo "rt is on the path $path" >&2; exit 1; }
 

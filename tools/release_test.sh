@@ -13,7 +13,7 @@ prebuilt=rust/p2p-directory-sys/prebuilt/x86_64-unknown-linux-gnu
 path=$(dirname "$(command -v cargo)"):/usr/bin:/bin
 alone() {
     env -i PATH="$path" HOME="$HOME" RUSTUP_HOME="${RUSTUP_HOME:-$HOME/.rustup}" CARGO_HOME="$folder/cargo" \
-        CARGO_NET_OFFLINE=true "$@"
+        CARGO_NET_OFFLINE=true CARGO_PROFILE_DEV_DEBUG=0 "$@"
 }
 ! alone sh -c 'command -v rt' || { echo "rt is on the path $path" >&2; exit 1; }
 
@@ -143,8 +143,9 @@ END
     echo 'two_nodes runs by pkg-config'
 }
 
-# The two commands of README, in a folder with only what the release holds, or in a fresh clone.
-rust() {
+# The two commands of README, in a folder with only what the release holds; the first in a fresh clone, too, whose tests
+# are those of the checkout.
+runs_two_nodes() {
     (
         cd "$folder/$1/rust"
         begun=$(date +%s)
@@ -152,6 +153,11 @@ rust() {
         ! grep '^warning' "$folder/told" || exit 1
         [ "$(grep -c 'knows the infos of 4 of 5 peers' "$folder/two_nodes")" = 2 ]
         echo "cargo run --example two_nodes in the $1: $(($(date +%s) - begun)) seconds"
+    )
+}
+passes_tests() {
+    (
+        cd "$folder/$1/rust"
         begun=$(date +%s)
         alone cargo test > "$folder/told" 2>&1 || { cat "$folder/told" >&2; exit 1; }
         echo "cargo test in the $1: $(($(date +%s) - begun)) seconds, $(grep -c '^test .* ok$' "$folder/told") tests"
@@ -201,5 +207,6 @@ twice
 verified
 c_hosts "$PWD"
 installed
-rust release
-rust clone
+runs_two_nodes release
+passes_tests release
+runs_two_nodes clone
