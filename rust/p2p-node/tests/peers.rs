@@ -355,7 +355,7 @@ fn questions_are_of_each_retained_set() {
     let stream = node.dial(2);
     send(&stream, &greeting(2));
     // One of three sets is left out of 60 questions in about one of ten thousand million runs.
-    node.until_count("frames_out", 61);
+    node.until_at_least("frames_out", 61);
     drop(node);
     let limits = limits();
     let questions = frames(&stream).into_iter();

@@ -279,6 +279,14 @@ impl Running {
         });
     }
 
+    /// Waits until a count that goes on is at least so great.
+    pub fn until_at_least(&self, name: &str, least: u64) {
+        until(&format!("at least {least} {name}"), || {
+            let count: u64 = member(&self.status()?, name)?.parse().ok()?;
+            (count >= least).then_some(())
+        });
+    }
+
     /// The lines of the ledger of this event, in order.
     pub fn events(&self, event: &str) -> Vec<String> {
         let text = fs::read_to_string(&self.ledger).unwrap_or_default();
