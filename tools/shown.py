@@ -61,7 +61,8 @@ def show(row):
         shutil.copytree(ROOT / "crates", copy / "crates", ignore=shutil.ignore_patterns("out"))
         for file in ("crates.txt", "HANDLES"):
             shutil.copy(ROOT / file, copy)
-        edit = ROOT / f"crates/{crate}/must-fail/{name}.edit"
+        places = (ROOT / f"crates/{crate}/must-fail/{name}.edit", ROOT / f"mutants/{crate}/{name}.edit")
+        edit = next((it for it in places if it.is_file()), places[0])
         texts, fault = wrong_bodies.applied(edit, copy / "crates" / crate)
         if fault:
             raise RuntimeError(f"{edit}: {fault}")
