@@ -9,13 +9,12 @@ tools/clone.sh "$copy"
 rm -rf "$copy/.git"
 document=SECURITY.md
 cp "$copy/$document" "$copy.md"
-trap 'rm -rf "$copy" "$copy.md" "$copy.told"' EXIT
-end=$(($(wc -l < "$copy/$document") + 2))
+trap 'rm -rf "$copy" "$copy.md" "$copy.told" "$copy.planted"' EXIT
 
 checked() {
     "$copy/tools/documents.py" --check > "$copy.told" 2>&1
 }
-# Puts text at the end of the document, whose first line then has the number $end.
+# Puts text at the end of the document, after an empty line.
 plant() {
     printf '\n%s\n' "$1" >> "$copy/$document"
 }
@@ -27,12 +26,24 @@ fail() {
     echo "$1" >&2
     exit 1
 }
-refuses() {
+# Plants a fault to be refused with others, each by its own line.
+plants() {
+    at=$(($(wc -l < "$copy/$document") + 2))
     plant "$2"
-    ! checked || fail "not refused: $2"
-    grep -qF "$document:$end: $1" "$copy.told" || fail "not refused as '$1': $2"
+    echo "$document:$at: $1" >> "$copy.planted"
+}
+all_refused() {
+    ! checked || fail "not refused: $(cat "$copy.planted")"
+    while read -r fault; do
+        grep -qF "$fault" "$copy.told" || fail "not refused: $fault"
+        echo "refused: ${fault#*:*: }"
+    done < "$copy.planted"
+    rm "$copy.planted"
     restore
-    echo "refused: $1"
+}
+refuses() {
+    plants "$@"
+    all_refused
 }
 passes() {
     plant "$1"
@@ -41,23 +52,24 @@ passes() {
     restore
 }
 
-refuses 'broken link: docs/NOWHERE.md' '[a page](docs/NOWHERE.md)'
-refuses 'broken link: ../README.md' '[outside](../README.md)'
-refuses 'broken anchor: README.md#nowhere' '[a heading](README.md#nowhere)'
-refuses 'broken anchor: #nowhere' '[a heading](#nowhere)'
-refuses 'broken anchor: crates.txt#L1000' '[a line](crates.txt#L1000)'
-refuses 'unknown file: docs/NOWHERE.md' 'See `docs/NOWHERE.md`.'
-refuses 'unknown file: nowhere.rs' 'See `nowhere.rs`.'
-refuses 'unknown file: crates/NAME/nowhere' 'See `crates/NAME/nowhere`.'
-refuses 'unknown identifier: Directory::nowhere' 'Call `Directory::nowhere`.'
-refuses 'unknown identifier: nowhere()' 'Call `nowhere()`.'
-refuses 'unknown identifier: NoWhere' 'A `NoWhere` is made.'
-refuses 'private word: spelled' 'A key is spelled in 32 bytes.'
-refuses 'private word: want of memory' 'It fails for want
+plants 'broken link: docs/NOWHERE.md' '[a page](docs/NOWHERE.md)'
+plants 'broken link: ../README.md' '[outside](../README.md)'
+plants 'broken anchor: README.md#nowhere' '[a heading](README.md#nowhere)'
+plants 'broken anchor: #nowhere' '[a heading](#nowhere)'
+plants 'broken anchor: crates.txt#L1000' '[a line](crates.txt#L1000)'
+plants 'unknown file: docs/NOWHERE.md' 'See `docs/NOWHERE.md`.'
+plants 'unknown file: nowhere.rs' 'See `nowhere.rs`.'
+plants 'unknown file: crates/NAME/nowhere' 'See `crates/NAME/nowhere`.'
+plants 'unknown identifier: Directory::nowhere' 'Call `Directory::nowhere`.'
+plants 'unknown identifier: nowhere()' 'Call `nowhere()`.'
+plants 'unknown identifier: NoWhere' 'A `NoWhere` is made.'
+plants 'private word: spelled' 'A key is spelled in 32 bytes.'
+plants 'private word: want of memory' 'It fails for want
 of memory.'
-refuses 'private word: Beside' '| Beside | it |'
-refuses 'wrong number: worked-examples is ' '<!-- count:worked-examples -->1<!-- /count -->'
-refuses 'unknown count: nowhere' '<!-- count:nowhere -->1<!-- /count -->'
+plants 'private word: Beside' '| Beside | it |'
+plants 'wrong number: worked-examples is ' '<!-- count:worked-examples -->1<!-- /count -->'
+plants 'unknown count: nowhere' '<!-- count:nowhere -->1<!-- /count -->'
+all_refused
 
 refuses 'no row: docs/' '<!-- folders -->'
 refuses 'row of nothing: nowhere/' '<!-- folders -->
@@ -70,9 +82,10 @@ second=$(sed -n 2p "$copy/$example")
 excerpt() {
     printf '<!-- excerpt: %s %s -->\n```rust\n%s\n```' "$example" "$1" "$2"
 }
-refuses "changed excerpt: not lines 2..2 of $example" "$(excerpt 2..2 'fn nowhere() {}')"
-refuses "changed excerpt: not lines 3..3 of $example; the lines stand at 2..2" "$(excerpt 3..3 "$second")"
-refuses "changed excerpt: $example has no lines 1..100000" "$(excerpt 1..100000 "$second")"
+plants "changed excerpt: not lines 2..2 of $example" "$(excerpt 2..2 'fn nowhere() {}')"
+plants "changed excerpt: not lines 3..3 of $example; the lines stand at 2..2" "$(excerpt 3..3 "$second")"
+plants "changed excerpt: $example has no lines 1..100000" "$(excerpt 1..100000 "$second")"
+all_refused
 
 passes "$(excerpt 2..2 "$second")"
 passes '[a page](https://example.invalid/NOWHERE.md), `crates/NAME/src`, `crates/*/src`, `record.rt`'
