@@ -39,7 +39,7 @@ def exports(root):
 
 
 def worked(root):
-    text = (root / "crates/rows/src/row/tests.rt").read_text(encoding="utf-8")
+    text = (root / "crates/rows/src/tests.rt").read_text(encoding="utf-8")
     return int(re.search(r"static ROWS: .*; (\d+)\]", text)[1])
 
 

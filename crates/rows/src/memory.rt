@@ -1,11 +1,11 @@
 //! What an example prints if an allocation fails.
 
-use crate::row::run_rows;
-use crate::row::tests::ROWS;
+use crate::tests::ROWS;
 use failing_alloc::{FailingAlloc, STEP};
 use std::alloc::Global;
 use std::process::Abort;
 use std::test::Fail;
+use worked_examples::run_rows;
 
 const ROW_STEPS: usize = 2_048;
 

@@ -1,11 +1,11 @@
 use Rattle.std.proofs.Common.{◌≡◌, ◌≤◌, ◌<◌, ℕ, List, [], ◌∷◌, length, codes, map, string_bytes, slice_index_or, sym, refl, ap, ◌∙◌, arith}
 use Rattle.std.specs.Prelude.{String}
-use Rattle.rows.specs.Words.{IsRow, rows}
-use Rattle.rows.proofs.row.run_rows.Goals as goal
-use Rattle.rows.proofs.row.run_rows.Goals.{in-text, in-text-2, in-text-3, in-text-4, in-text-5, in-text-6, in-text-7}
-use Rattle.rows.proofs.row.run_rows.Goals.{in-text-8, in-text-9, in-text-10, in-text-11, in-text-12, in-text-13}
-use Rattle.rows.proofs.row.run_rows.Goals.{in-text-14, in-text-15, in-text-16, in-text-17, in-text-18, in-text-19}
-use Rattle.rows.proofs.row.run_rows.Goals.{in-text-20, in-text-21, in-text-22, in-text-23, in-text-24}
+use Rattle.worked_examples.specs.Words.{IsRow, rows}
+use Rattle.worked_examples.proofs.row.run_rows.Goals as goal
+use Rattle.worked_examples.proofs.row.run_rows.Goals.{in-text, in-text-2, in-text-3, in-text-4, in-text-5, in-text-6, in-text-7}
+use Rattle.worked_examples.proofs.row.run_rows.Goals.{in-text-8, in-text-9, in-text-10, in-text-11, in-text-12, in-text-13}
+use Rattle.worked_examples.proofs.row.run_rows.Goals.{in-text-14, in-text-15, in-text-16, in-text-17, in-text-18, in-text-19}
+use Rattle.worked_examples.proofs.row.run_rows.Goals.{in-text-20, in-text-21, in-text-22, in-text-23, in-text-24}
 
 -- a word that is the number at this place names a row
 is_row : {Z : Type 0} (words : List (String Z)) (word : String Z) (text number : List ℕ) (place : ℕ) → 1 ≤ length words → length words < 2 →

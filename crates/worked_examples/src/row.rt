@@ -2,7 +2,7 @@
 
 ghost use Rattle.std.specs.Prelude.{◌≤◌, ◌≡◌, Ok, Err, codes, map, string_bytes};
 ghost use Rattle.std.specs.Io.KnownBytes.{Appends};
-ghost use Rattle.rows.specs.Words.{IsRow};
+ghost use Rattle.worked_examples.specs.Words.{IsRow};
 
 use lines::{Fault, Unreadable, examples};
 use std::alloc::{AllocError, AllocFailed, Global};
@@ -154,8 +154,3 @@ fn status_after<W: Write>(ended: Result<(), Stop>, out: &mut W) -> u8
         Err(Stop::Memory) => out_of_memory(out),
     }
 }
-
-#[cfg(test)]
-mod memory;
-#[cfg(test)]
-mod tests;

@@ -3,7 +3,7 @@ use Rattle.std.specs.List.Sorted.{IsStrictlySortedBy}
 use Rattle.std.specs.Option.{option_copied}
 use Rattle.p2p_discovery.specs.Laws.Keys.{key_total, exact_key}
 use Rattle.p2p_discovery.proofs.Unions.{union_short}
-use Rattle.rows.proofs.row.sizes.set_size.Goals as goal
+use Rattle.worked_examples.proofs.row.sizes.set_size.Goals as goal
 
 pub peer_set_size-requires-clause-primary : goal.peer_set_size-requires-clause-primary
 unfolding IsStrictlySortedBy

@@ -1,9 +1,10 @@
 //! The worked examples, rejected words, and writers that fail.
 
-use super::*;
-use std::io::ErrorKind;
+use std::alloc::Global;
+use std::io::{self, ErrorKind, Write};
 use std::process::Abort;
 use std::test::Fail;
+use worked_examples::run_rows;
 
 /// A writer that accepts so many bytes and then fails.
 #[derive(Drop)]
