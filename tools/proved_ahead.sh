@@ -1,8 +1,8 @@
 #!/bin/sh
 # Proves the libraries of the archive in a new folder, without their wrong bodies, and builds the archive there. They
-# stand one on the other. What passed is kept for any other `rt ci` on this machine, by the checksums of what was read:
-# one of the checkout that runs at the same time waits for each proof and takes it, and spends its own processors on what
-# stands beside.
+# stand one on the other; lines, for which tests and programs wait, is proved there, too. What passed is kept for any
+# other `rt ci` on this machine, by the checksums of what was read: one of the checkout that runs at the same time waits
+# for each proof and takes it, and spends its own processors on what stands beside.
 #
 # `rt ci` gives a proof the processors that no other proof waits for, if there is memory. It counts proofs of tests,
 # also where a crate has none, and these wait for memory that the proof before has. So that p2p_directory, which takes
@@ -30,20 +30,21 @@ done
 for name in p2p_discovery p2p_tracker p2p_directory p2p_session; do
     copy "$1" "$name"
 done
+cp "$1/crates.txt" "$1/archive.txt"
+copy "$1" lines
 empty=$1/crates/empty
 mkdir -p "$empty/src"
 printf '//! Nothing.\n#![tactic(auto)]\n' > "$empty/src/lib.rt"
-cp "$1/crates.txt" "$1/named.txt"
 echo 'empty: p2p_discovery' >> "$1/crates.txt"
 prove "$first" &
 proved=$!
 sleep 5
 prove "$1"
 wait "$proved"
-rm -r "$empty"
-mv "$1/named.txt" "$1/crates.txt"
-# This one is proved as it is built.
+rm -r "$empty" "$1/crates/lines"
+mv "$1/archive.txt" "$1/crates.txt"
+# This one is proved as it is built, with as many jobs as there are processors, so it gives way.
 copy "$1" p2p_session_c
 cd "$1"
 cat "$first/proved.log" proved.log > both.log
-tools/archive.sh --after-ci both.log
+nice tools/archive.sh --after-ci both.log
