@@ -23,16 +23,24 @@ fn changes_the_bit_at_a_place(rt: HostRuntime) -> Result<(), Fail> {
     Ok(())
 }
 
+// The bits after the one of the second peer was set, and after it was cleared again.
+fn set_and_cleared(set: &mut BitSet<TestKey>) -> Result<[BitMap; 2], AllocError> {
+    set.update(&TestKey(2), true);
+    let bits = set.clone()?.knowledge()?;
+    set.update(&TestKey(2), false);
+    Ok([bits, set.knowledge()?])
+}
+
 #[test]
 fn changes_the_bit_of_a_peer(rt: HostRuntime) -> Result<(), Fail> {
     let alloc = rt.alloc();
     let mut set = three(alloc)?;
-    assert!(rt; set.update(&TestKey(2), true));
-    assert!(rt; !set.update(&TestKey(4), true));
-    let want = BitMap::from_bools(alloc, &[false, true, false])?;
-    assert!(rt; set.clone()?.knowledge()? == want);
-    assert!(rt; set.update(&TestKey(2), false));
-    assert!(rt; set.knowledge()? == BitMap::zeroes(alloc, 3)?);
+    let want = [
+        BitMap::from_bools(alloc, &[false, true, false])?,
+        BitMap::zeroes(alloc, 3)?,
+    ];
+    assert!(rt; set_and_cleared(&mut set)? == want);
+    assert!(rt; set.update(&TestKey(3), true) && !set.update(&TestKey(4), true));
     Ok(())
 }
 
