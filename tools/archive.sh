@@ -26,7 +26,7 @@ if [ "${1:-}" = --after-ci ]; then
     done
     set -- "$@" --links p2p_session_c=
     set -- "$@" --antt-project "$kit/rattle/logic/antt-project.json" --logic-built "$kit/logic_built"
-    set -- "$@" --jobs "$(nproc)" --toolchain "$kit/toolchain" --backend llvm
+    set -- "$@" --jobs "${RT_JOBS:-$(nproc)}" --toolchain "$kit/toolchain" --backend llvm
     mkdir -p "$folder/out"
     set -- "$kit/bin/rattle" build "$@" -o out/libp2p_session_c.a
 else

@@ -9,10 +9,14 @@
 # longest, has two processors, there are two runs: the first proves two crates, the second takes these and goes on. An
 # empty crate in the second makes it take p2p_tracker with the memory of one processor.
 #
+# Two jobs take an eighth more of processors for a proof than one. On two processors none would be idle, so there each
+# proof is by one job.
+#
 # usage: tools/proved_ahead.sh FOLDER
 set -eu
 cd "$(dirname "$0")/.."
 first=$1.first
+[ "$(nproc)" -gt 2 ] || export RT_JOBS=1
 copy() {
     mkdir -p "$1/crates/$2"
     for part in src specs proofs; do
@@ -43,8 +47,8 @@ prove "$1"
 wait "$proved"
 rm -r "$empty" "$1/crates/lines"
 mv "$1/archive.txt" "$1/crates.txt"
-# This one is proved as it is built, with as many jobs as there are processors, so it gives way.
+# This one is proved as it is built. Nothing but its comparison waits for it, so it is by one job, and gives way.
 copy "$1" p2p_session_c
 cd "$1"
 cat "$first/proved.log" proved.log > both.log
-nice tools/archive.sh --after-ci both.log
+RT_JOBS=1 nice tools/archive.sh --after-ci both.log

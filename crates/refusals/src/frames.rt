@@ -3,8 +3,8 @@
 ghost use Rattle.std.specs.Prelude.{◌<◌, ◌^◌, length, IfOk};
 ghost use Rattle.std.specs.List.{concat};
 
+use crate::told::mark;
 use bytes::Bytes;
-use operations::mark;
 use p2p_discovery::data::EncodedData;
 use std::alloc::{AllocError, Global};
 use std::collections::VecDeque;

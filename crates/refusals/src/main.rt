@@ -8,6 +8,11 @@
 #![tactic(auto)]
 
 mod frames;
+mod networks;
+mod pairs;
+mod runs;
+mod starts;
+mod told;
 
 use lines::{Fault, Unreadable};
 use std::alloc::Global;
@@ -27,13 +32,13 @@ fn word(rt: &HostRuntime) -> Option<String> {
 // comes of it. Returns whether everything is as it should be.
 fn is_as_before(alloc: Global, name: &str, text: &mut String) -> Result<bool, Unreadable> {
     match name {
-        "init" => operations::directory(alloc, text),
-        "node" => operations::node(alloc, text),
+        "init" => starts::directory(alloc, text),
+        "node" => starts::node(alloc, text),
         "encoded" => Ok(frames::encoded(alloc, text)?),
-        "exchange" => operations::exchanged(alloc, text),
-        "pair16a" => operations::run_of_two(alloc, text),
-        "network" => operations::three(alloc, text),
-        _ => operations::row_called(alloc, name, text),
+        "exchange" => pairs::exchanged(alloc, text),
+        "pair16a" => pairs::run_of_two(alloc, text),
+        "network" => networks::three(alloc, text),
+        _ => runs::row_called(alloc, name, text),
     }
 }
 
