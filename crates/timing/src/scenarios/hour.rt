@@ -110,20 +110,15 @@ impl Tracker {
         }
     }
 
-    fn free_slot(&self) -> usize {
-        for place in 0..CONNECTIONS {
-            if self.held(place).is_none() {
-                return place;
-            }
-        }
-        CONNECTIONS
+    fn free_slot(&self) -> Option<usize> {
+        self.slots.iter().position(|slot| slot.is_none())
     }
 
     // Connects a peer that was reserved during the timed hour if it may stay and a slot is free,
     // and else releases it.
     fn keep(&mut self, peer: Key32, is_dialer: bool, may_stay: bool) {
         self.count(1);
-        let place = self.free_slot();
+        let place = self.free_slot().unwrap_or(CONNECTIONS);
         if let Some(slot) = self.slots.get_mut(place) {
             if may_stay {
                 *slot = Some(peer);

@@ -151,19 +151,20 @@ fn make(nodes: &mut Nodes, keys: &[Key32], ready: Ready) -> usize {
     }
 }
 
-// Fills two timed nodes with sets of all these peers, as many as are retained; the replier is
-// connected with each.
-fn fill(alloc: Global, nodes: &mut Nodes, keys: &[Key32]) -> Result<(), Stop> {
-    let Nodes { asker, replier } = nodes;
+// Fills a timed node with sets of all these peers, as many as are retained.
+fn fill(alloc: Global, node: &mut Node<Key32>, keys: &[Key32]) -> Result<(), AllocError> {
     for index in 0..SETS {
-        let _ = asker.track(index as u64, tracked(alloc, keys)?);
-        let _ = replier.track(index as u64, tracked(alloc, keys)?);
-    }
-    for key in keys {
-        let _ = replier.listen(key, Duration::from_secs(100), Duration::ZERO);
-        let _ = replier.connect(key, false);
+        let _ = node.track(index as u64, tracked(alloc, keys)?);
     }
     Ok(())
+}
+
+// Connects a timed node with each of these peers.
+fn connect(node: &mut Node<Key32>, keys: &[Key32]) {
+    for key in keys {
+        let _ = node.listen(key, Duration::from_secs(100), Duration::ZERO);
+        let _ = node.connect(key, false);
+    }
 }
 
 // Times a call of nodes so many times.
@@ -196,7 +197,9 @@ fn time(
         return time_each(rt, nodes, &all, samples, call);
     }
     let all = keys(rt.alloc(), count)?;
-    fill(rt.alloc(), nodes, &all)?;
+    fill(rt.alloc(), &mut nodes.asker, &all)?;
+    fill(rt.alloc(), &mut nodes.replier, &all)?;
+    connect(&mut nodes.replier, &all);
     if let Call::Dialable = call {
         let infos = infos_of(rt.alloc(), &all, 0)?;
         nodes.asker.step(Command::UpdatePeers(infos));
