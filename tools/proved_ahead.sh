@@ -47,8 +47,11 @@ prove "$1"
 wait "$proved"
 rm -r "$empty" "$1/crates/lines"
 mv "$1/archive.txt" "$1/crates.txt"
-# This one is proved as it is built. Nothing but its comparison waits for it, so it is by one job, and gives way.
+# This one is proved as it is built, and gives way. It is by one job unless the others were all kept, for then little else
+# is proved.
+jobs=1
+! grep -q 'done in this run: 0 of' "$1/proved.log" || jobs=$(nproc)
 copy "$1" p2p_session_c
 cd "$1"
 cat "$first/proved.log" proved.log > both.log
-RT_JOBS=1 nice tools/archive.sh --after-ci both.log
+RT_JOBS=$jobs nice tools/archive.sh --after-ci both.log
