@@ -10,6 +10,23 @@ from pathlib import Path
 ROOT = Path(__file__).resolve().parent.parent
 
 
+def crate_of(edit):
+    """Returns the name of the crate that an edit is of."""
+    return edit.parent.name if edit.parent.name != "must-fail" else edit.parent.parent.name
+
+
+def pairs_of(edit):
+    """Returns the pairs of texts of an edit that applies, each with its file, the old text and the new one."""
+    path, old = None, None
+    for line in Path(edit).read_text(encoding="utf-8").splitlines():
+        if line.startswith("file: "):
+            path = line[len("file: ") :].strip()
+        elif line.startswith("old: "):
+            old = line[len("old: ") :]
+        elif line.startswith("new:"):
+            yield path, old, line[len("new:") :].removeprefix(" ")
+
+
 def applied(edit, crate):
     """Returns the texts of the files that the edit changes, by their paths in the crate, and why it can't be applied, or
     None."""
@@ -47,9 +64,9 @@ def main():
     edits = sorted([*ROOT.glob("crates/*/must-fail/*.edit"), *ROOT.glob("mutants/*/*.edit")])
     faults = 0
     for edit in edits:
-        crate = edit.parent.name if edit.parent.name != "must-fail" else edit.parent.parent.name
-        _, fault = applied(edit, ROOT / "crates" / crate)
-        if not fault and (wanted := misnamed(edit, ROOT / "crates" / crate)):
+        crate = ROOT / "crates" / crate_of(edit)
+        _, fault = applied(edit, crate)
+        if not fault and (wanted := misnamed(edit, crate)):
             fault = f"its name has to begin with {wanted}-"
         if fault:
             faults += 1

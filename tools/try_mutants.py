@@ -1,0 +1,180 @@
+#!/usr/bin/env python3
+"""Tries mutants function by function: applies each to a copy of its crate, and has the prover check the functions that it
+changes, with those that these call, over the libraries below the crate. `rt ci` and `rt must-fail` have the whole crate
+proved once more for the first mutant of each crate. Prints the clause that refused each, and fails where one is not
+refused, does not apply or compile, or is refused for another reason than a contract.
+
+usage: tools/try_mutants.py [--jobs N] [--log FILE] [FILE..], by default those of crates/*/must-fail/, as many crates at a
+time as there are processors. The libraries are those that `rt ci` or `rt check` left in crates/*/out/rlib. With --log they
+are waited for, until FILE, which `rt ci` writes, says that they are proved, or that it has ended.
+"""
+
+import argparse
+import os
+import re
+import shutil
+import subprocess
+import sys
+import tempfile
+import time
+from concurrent.futures import ThreadPoolExecutor
+from pathlib import Path
+
+sys.dont_write_bytecode = True
+ROOT = Path(__file__).resolve().parent.parent
+sys.path.insert(0, str(ROOT / "tools"))
+
+from wrong_bodies import applied, crate_of, pairs_of  # noqa: E402
+
+# An error at a place of a file, with the goal that it is of, if it is of one.
+ERROR = re.compile(r"(?:\./)?(\S+?):\d+:\d+: error: (?:(`[^`]*`): )?(.*)")
+# What the prover says of a text that it can't read.
+UNREAD = re.compile(r"is not in scope|has no field|is no name|operand is missing|expected the end|cannot continue")
+# What it says of a file of proofs that names what a mutant took away.
+MOVED = re.compile(r"(?:\./)?proofs/.*(?:has no field|is not in scope|has no `|was not admitted)")
+
+
+def functions_of(edit, crate):
+    """Returns the functions that an edit changes, each by as much of its path as tells it from others: its type or trait,
+    or its module."""
+    found = []
+    for file, old, _ in pairs_of(edit):
+        text = (crate / file).read_text(encoding="utf-8")
+        before = text[: text.index(old)]
+        line = before[before.rfind("\n") + 1 :] + old
+        if not line.startswith(" "):
+            continue
+        name = re.findall(r"\bfn (\w+)", before + old)[-1]
+        module = "::".join(Path(file).with_suffix("").parts[1:])
+        path = f"{block(before) or module}::{name}"
+        if path not in found:
+            found.append(path)
+    return found
+
+
+def block(before):
+    """Returns the type or trait in whose block a text ends, a type with the trait that it implements there, if any."""
+    found = None
+    for line in before.splitlines():
+        if line.startswith("}"):
+            found = None
+        elif head := re.match(r"impl(?:<.*?>(?= ))? (?:(\w+).* for )?(\w+)|(?:pub )?trait (\w+)", line):
+            found = head[3] or head[2] + (head[1] or "")
+    return found
+
+
+def libraries():
+    """Returns the libraries that each crate names in crates.txt, in their order."""
+    lines = (line.partition(":") for line in (ROOT / "crates.txt").read_text(encoding="utf-8").splitlines())
+    return {name.split()[0]: below.split() for name, _, below in lines if name.strip() and not name.startswith("#")}
+
+
+def below(crate, named):
+    """Returns all libraries of the repository that stand below a crate."""
+    own = [name for name in named[crate] if name in named]
+    return {*own, *(it for name in own for it in below(name, named))}
+
+
+def command(crate, functions, kept, named, kit):
+    """Returns the command that checks these functions of a crate over what it kept of others."""
+    root = "src/main.rt" if (crate / "src/main.rt").is_file() else "src/lib.rt"
+    words = ["--crate-name", crate.name, root, "-L", f"dependency={kit}/rlibs", "--extern", f"std={kit}/rlibs/std.rlib"]
+    for name in named[crate.name]:
+        folder = ROOT / "crates" / name / "out/rlib" if name in named else kit / "rlibs"
+        words += ["--extern", f"{name}={folder}/{name}.rlib"]
+    for name in sorted(below(crate.name, named)):
+        words += ["-L", f"dependency={ROOT}/crates/{name}/out/rlib"]
+    words += ["--antt-project", f"{kit}/rattle/logic/antt-project.json", "--logic-built", f"{kit}/logic_built"]
+    words += ["--incremental", kept, "--jobs", "1", "--links", f"{crate.name}="]
+    return [f"{kit}/bin/rattle", "check", *words, *(word for it in functions for word in ("--only", it))]
+
+
+def checked(edit, crate, texts, kept, named, kit):
+    """Checks the functions that an edit changes in a copy of the crate that has these texts in place of its own."""
+    with tempfile.TemporaryDirectory() as copy:
+        for part in ("src", "specs", "proofs"):
+            if (crate / part).is_dir():
+                shutil.copytree(crate / part, f"{copy}/{part}")
+        for path, text in texts.items():
+            Path(copy, path.relative_to(crate)).write_text(text, encoding="utf-8")
+        words = command(crate, functions_of(edit, crate), kept, named, kit)
+        ran = subprocess.run(words, cwd=copy, stdout=subprocess.PIPE, stderr=subprocess.STDOUT, text=True, errors="replace")
+        return ran.returncode, ran.stdout.rstrip("\n").split("\n")
+
+
+def is_unread(line):
+    """Whether a line says that a text of the code or of the specification can't be read."""
+    error = ERROR.match(line)
+    if not error or not error[1].startswith(("src/", "specs/")):
+        return False
+    return not error[2] or bool(UNREAD.search(re.sub(r"`[^`]*`", "", error[3])))
+
+
+def refusal(status, lines):
+    """Returns the goal by which the prover refused a function, and why it didn't, of which one is None."""
+    if status == 0:
+        return None, "it is proved"
+    unread = next((line for line in lines if is_unread(line)), None)
+    if unread:
+        return None, f"the prover can't read it: {unread}"
+    counts = re.fullmatch(r"only=(\d+) proved=(\d+)", lines[-1])
+    if status != 1 or not counts or int(counts[2]) >= int(counts[1]):
+        return None, "\n".join(["the prover didn't judge it:", *lines[-6:]])
+    told = [line for line in lines if line.startswith("note: src/") or ERROR.match(line)]
+    by_goal = [line for line in told if not MOVED.match(line)]
+    if not by_goal:
+        return None, "\n".join(["only a file of proofs names what it took away:", *(told or lines[-6:])])
+    return next((line for line in by_goal if line.startswith("note: ")), by_goal[0]), None
+
+
+def tried(edit, kept, named, kit):
+    """Returns whether the prover refuses a mutant, and what to say of it."""
+    crate = ROOT / "crates" / crate_of(edit)
+    texts, fault = applied(edit, crate)
+    goal = None
+    if not fault:
+        goal, fault = refusal(*checked(edit, crate, texts, kept, named, kit))
+    return not fault, f"{crate.name}/{edit.stem}: {f'NOT REFUSED: {fault}' if fault else f'refused: {goal[:200]}'}"
+
+
+def tried_in_turn(edits, named, kit):
+    """Tries the mutants of a crate in turn, each over what the checks of those before it kept."""
+    with tempfile.TemporaryDirectory() as kept:
+        return [tried(edit, kept, named, kit) for edit in edits]
+
+
+def wait_for(names, log):
+    """Waits until the log of `rt ci` says that these libraries are proved, or that it has ended."""
+    while True:
+        lines = log.read_text(encoding="utf-8", errors="replace").splitlines() if log.is_file() else []
+        proved = {match[1] for line in lines if (match := re.match(r"rt: (\w+) (?:proved|kept)", line))}
+        if names <= proved or any(re.fullmatch(r"\d+ passed, \d+ failed", line) for line in lines[-3:]):
+            return
+        time.sleep(5)
+
+
+def main():
+    parser = argparse.ArgumentParser()
+    parser.add_argument("--jobs", type=int, default=len(os.sched_getaffinity(0)))
+    parser.add_argument("--log", type=Path)
+    parser.add_argument("files", nargs="*", type=Path)
+    given = parser.parse_args()
+    guide = subprocess.run(["rt", "doc"], check=True, capture_output=True, text=True).stdout.strip()
+    named, tries = libraries(), []
+    edits = [it.resolve() for it in given.files] or sorted(ROOT.glob("crates/*/must-fail/*.edit"))
+    with ThreadPoolExecutor(given.jobs) as pool:
+        for name in (it for it in named if it in map(crate_of, edits)):
+            if given.log:
+                wait_for(below(name, named), given.log)
+            of_crate = [it for it in edits if crate_of(it) == name]
+            tries.append(pool.submit(tried_in_turn, of_crate, named, Path(guide).parent))
+        said = [it for each in tries for it in each.result()]
+    for _, text in said:
+        print(text)
+    refused = sum(well for well, _ in said)
+    print(f"{refused} of {len(said)} mutants refused")
+    return 0 if said and refused == len(said) else 1
+
+
+if __name__ == "__main__":
+    sys.exit(main())
