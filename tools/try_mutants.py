@@ -124,7 +124,8 @@ def refusal(status, lines):
     by_goal = [line for line in told if not MOVED.match(line)]
     if not by_goal:
         return None, "\n".join(["only a file of proofs names what it took away:", *(told or lines[-6:])])
-    return next((line for line in by_goal if line.startswith("note: ")), by_goal[0]), None
+    by_clause = [line for line in by_goal if "what the function ensures" in line]
+    return [*by_clause, *by_goal][0], None
 
 
 def tried(edit, kept, named, kit):
