@@ -4,9 +4,9 @@ changes, with those that these call, over the libraries below the crate. `rt ci`
 proved once more for the first mutant of each crate. Prints the clause that refused each, and fails where one is not
 refused, does not apply or compile, or is refused for another reason than a contract.
 
-usage: tools/try_mutants.py [--jobs N] [--log FILE] [FILE..], by default those of crates/*/must-fail/, as many crates at a
-time as there are processors. The libraries are those that `rt ci` or `rt check` left in crates/*/out/rlib. With --log they
-are waited for, until FILE, which `rt ci` writes, says that they are proved, or that it has ended.
+usage: tools/try_mutants.py [--jobs N] [--until END] [FILE..], by default those of crates/*/must-fail/, as many crates at a
+time as there are processors. The libraries are those that `rt ci` or `rt check` left in crates/*/out/rlib. With --until
+they are waited for, if `rt ci` is proving them, until there is a file END.
 """
 
 import argparse
@@ -36,17 +36,16 @@ MOVED = re.compile(r"(?:\./)?proofs/.*(?:has no field|is not in scope|has no `|w
 
 def functions_of(edit, crate):
     """Returns the functions that an edit changes, each by as much of its path as tells it from others: its type or trait,
-    or its module."""
+    or its module. Of a constant it returns the module."""
     found = []
     for file, old, _ in pairs_of(edit):
         text = (crate / file).read_text(encoding="utf-8")
         before = text[: text.index(old)]
-        line = before[before.rfind("\n") + 1 :] + old
-        if not line.startswith(" "):
+        names = re.findall(r"\bfn (\w+)", before + old)
+        if names and not (before[before.rfind("\n") + 1 :] + old).startswith(" "):
             continue
-        name = re.findall(r"\bfn (\w+)", before + old)[-1]
-        module = "::".join(Path(file).with_suffix("").parts[1:])
-        path = f"{block(before) or module}::{name}"
+        module = "::".join(it for it in Path(file).with_suffix("").parts[1:] if it not in ("lib", "main"))
+        path = "::".join(it for it in (block(before) or module, *names[-1:]) if it)
         if path not in found:
             found.append(path)
     return found
@@ -59,7 +58,8 @@ def block(before):
         if line.startswith("}"):
             found = None
         elif head := re.match(r"impl(?:<.*?>(?= ))? (?:(\w+).* for )?(\w+)|(?:pub )?trait (\w+)", line):
-            found = head[3] or head[2] + (head[1] or "")
+            name = head[3] or head[2] + (head[1] or "")
+            found = name[0].upper() + name[1:]
     return found
 
 
@@ -139,25 +139,42 @@ def tried(edit, kept, named, kit):
 
 
 def tried_in_turn(edits, named, kit):
-    """Tries the mutants of a crate in turn, each over what the checks of those before it kept."""
+    """Tries the mutants of a crate in turn, each over what the checks of those before it kept, and returns how many were
+    refused."""
+    refused = 0
     with tempfile.TemporaryDirectory() as kept:
-        return [tried(edit, kept, named, kit) for edit in edits]
+        for edit in edits:
+            well, text = tried(edit, kept, named, kit)
+            print(text, flush=True)
+            refused += well
+    return refused
 
 
-def wait_for(names, log):
-    """Waits until the log of `rt ci` says that these libraries are proved, or that it has ended."""
-    while True:
-        lines = log.read_text(encoding="utf-8", errors="replace").splitlines() if log.is_file() else []
-        proved = {match[1] for line in lines if (match := re.match(r"rt: (\w+) (?:proved|kept)", line))}
-        if names <= proved or any(re.fullmatch(r"\d+ passed, \d+ failed", line) for line in lines[-3:]):
+def size(name):
+    """Returns how many files a library has, and their bytes, or None if it isn't there."""
+    folder = ROOT / "crates" / name / f"out/rlib/{name}.rlib"
+    try:
+        sizes = [it.stat().st_size for it in folder.rglob("*") if it.is_file()]
+    except OSError:
+        return None
+    return (len(sizes), sum(sizes)) if (folder / "format").is_file() else None
+
+
+def wait_for(names, end):
+    """Waits until these libraries are there and no longer written, or the file `end` is."""
+    before = None
+    while not end.exists():
+        sizes = [size(name) for name in sorted(names)]
+        if None not in sizes and sizes == before:
             return
-        time.sleep(5)
+        before = sizes
+        time.sleep(10)
 
 
 def main():
     parser = argparse.ArgumentParser()
     parser.add_argument("--jobs", type=int, default=len(os.sched_getaffinity(0)))
-    parser.add_argument("--log", type=Path)
+    parser.add_argument("--until", type=Path)
     parser.add_argument("files", nargs="*", type=Path)
     given = parser.parse_args()
     guide = subprocess.run(["rt", "doc"], check=True, capture_output=True, text=True).stdout.strip()
@@ -165,16 +182,13 @@ def main():
     edits = [it.resolve() for it in given.files] or sorted(ROOT.glob("crates/*/must-fail/*.edit"))
     with ThreadPoolExecutor(given.jobs) as pool:
         for name in (it for it in named if it in map(crate_of, edits)):
-            if given.log:
-                wait_for(below(name, named), given.log)
+            if given.until:
+                wait_for(below(name, named), given.until)
             of_crate = [it for it in edits if crate_of(it) == name]
             tries.append(pool.submit(tried_in_turn, of_crate, named, Path(guide).parent))
-        said = [it for each in tries for it in each.result()]
-    for _, text in said:
-        print(text)
-    refused = sum(well for well, _ in said)
-    print(f"{refused} of {len(said)} mutants refused")
-    return 0 if said and refused == len(said) else 1
+        refused = sum(it.result() for it in tries)
+    print(f"{refused} of {len(edits)} mutants refused")
+    return 0 if edits and refused == len(edits) else 1
 
 
 if __name__ == "__main__":
