@@ -4,12 +4,14 @@ changes, with those that these call, over the libraries below the crate. `rt ci`
 proved once more for the first mutant of each crate. Prints the clause that refused each, and fails where one is not
 refused, does not apply or compile, or is refused for another reason than a contract.
 
-usage: tools/try_mutants.py [--jobs N] [--until END] [FILE..], by default those of crates/*/must-fail/, as many crates at a
-time as there are processors. The libraries are those that `rt ci` or `rt check` left in crates/*/out/rlib. With --until
-they are waited for, if `rt ci` is proving them, until there is a file END.
+usage: tools/try_mutants.py [--jobs N] [--until END] [--keep FOLDER] [FILE..], by default those of crates/*/must-fail/, as
+many crates at a time as there are processors. The libraries are those that `rt ci` or `rt check` left in crates/*/out/rlib.
+With --until they are waited for, if `rt ci` is proving them, until there is a file END. With --keep a refusal is kept in
+FOLDER, and not tried again while the kit, the mutant, and what the crate and those below it have are the same.
 """
 
 import argparse
+import hashlib
 import os
 import re
 import shutil
@@ -75,8 +77,8 @@ def below(crate, named):
     return {*own, *(it for name in own for it in below(name, named))}
 
 
-def command(crate, functions, kept, named, kit):
-    """Returns the command that checks these functions of a crate over what it kept of others."""
+def command(crate, functions, work, named, kit):
+    """Returns the command that checks these functions of a crate over the work of earlier checks."""
     root = "src/main.rt" if (crate / "src/main.rt").is_file() else "src/lib.rt"
     words = ["--crate-name", crate.name, root, "-L", f"dependency={kit}/rlibs", "--extern", f"std={kit}/rlibs/std.rlib"]
     for name in named[crate.name]:
@@ -85,11 +87,11 @@ def command(crate, functions, kept, named, kit):
     for name in sorted(below(crate.name, named)):
         words += ["-L", f"dependency={ROOT}/crates/{name}/out/rlib"]
     words += ["--antt-project", f"{kit}/rattle/logic/antt-project.json", "--logic-built", f"{kit}/logic_built"]
-    words += ["--incremental", kept, "--jobs", "1", "--links", f"{crate.name}="]
+    words += ["--incremental", work, "--jobs", "1", "--links", f"{crate.name}="]
     return [f"{kit}/bin/rattle", "check", *words, *(word for it in functions for word in ("--only", it))]
 
 
-def checked(edit, crate, texts, kept, named, kit):
+def checked(edit, crate, texts, work, named, kit):
     """Checks the functions that an edit changes in a copy of the crate that has these texts in place of its own."""
     with tempfile.TemporaryDirectory() as copy:
         for part in ("src", "specs", "proofs"):
@@ -97,7 +99,7 @@ def checked(edit, crate, texts, kept, named, kit):
                 shutil.copytree(crate / part, f"{copy}/{part}")
         for path, text in texts.items():
             Path(copy, path.relative_to(crate)).write_text(text, encoding="utf-8")
-        words = command(crate, functions_of(edit, crate), kept, named, kit)
+        words = command(crate, functions_of(edit, crate), work, named, kit)
         ran = subprocess.run(words, cwd=copy, stdout=subprocess.PIPE, stderr=subprocess.STDOUT, text=True, errors="replace")
         return ran.returncode, ran.stdout.rstrip("\n").split("\n")
 
@@ -128,26 +130,41 @@ def refusal(status, lines):
     return [*by_clause, *by_goal][0], None
 
 
-def tried(edit, kept, named, kit):
+def tried(edit, work, named, kit):
     """Returns whether the prover refuses a mutant, and what to say of it."""
     crate = ROOT / "crates" / crate_of(edit)
     texts, fault = applied(edit, crate)
     goal = None
     if not fault:
-        goal, fault = refusal(*checked(edit, crate, texts, kept, named, kit))
+        goal, fault = refusal(*checked(edit, crate, texts, work, named, kit))
     return not fault, f"{crate.name}/{edit.stem}: {f'NOT REFUSED: {fault}' if fault else f'refused: {goal[:200]}'}"
 
 
-def tried_in_turn(edits, named, kit):
-    """Tries the mutants of a crate in turn, each over what the checks of those before it kept, and returns how many were
-    refused."""
+def tried_in_turn(edits, places, named, kit):
+    """Tries the mutants of a crate in turn, each over what the checks of those before it left, keeps each refusal at its
+    place, if there are any, and returns how many were refused."""
     refused = 0
-    with tempfile.TemporaryDirectory() as kept:
+    with tempfile.TemporaryDirectory() as work:
         for edit in edits:
-            well, text = tried(edit, kept, named, kit)
+            well, text = tried(edit, work, named, kit)
             print(text, flush=True)
             refused += well
+            if well and places:
+                places[edit].parent.mkdir(parents=True, exist_ok=True)
+                places[edit].write_text(text, encoding="utf-8")
     return refused
+
+
+def place_of(edit, folder, named, version):
+    """Returns the file in which the refusal of a mutant is kept, named by the hash of all that it rests on."""
+    said = hashlib.sha256(version.encode())
+    for file in (edit, ROOT / "crates.txt", Path(__file__)):
+        said.update(hashlib.sha256(file.read_bytes()).digest())
+    for name in sorted({crate_of(edit), *below(crate_of(edit), named)}):
+        parts = (ROOT / "crates" / name / part for part in ("src", "specs", "proofs"))
+        for file in sorted(it for part in parts for it in part.rglob("*") if it.is_file()):
+            said.update(f"{file.relative_to(ROOT)}\n".encode() + hashlib.sha256(file.read_bytes()).digest())
+    return folder / said.hexdigest()
 
 
 def size(name):
@@ -171,22 +188,31 @@ def wait_for(names, end):
         time.sleep(10)
 
 
+def told(word):
+    """Returns what `rt` prints for a word."""
+    return subprocess.run(["rt", word], check=True, capture_output=True, text=True).stdout.strip()
+
+
 def main():
     parser = argparse.ArgumentParser()
     parser.add_argument("--jobs", type=int, default=len(os.sched_getaffinity(0)))
     parser.add_argument("--until", type=Path)
+    parser.add_argument("--keep", type=Path)
     parser.add_argument("files", nargs="*", type=Path)
     given = parser.parse_args()
-    guide = subprocess.run(["rt", "doc"], check=True, capture_output=True, text=True).stdout.strip()
-    named, tries = libraries(), []
+    named, kit, tries = libraries(), Path(told("doc")).parent, []
     edits = [it.resolve() for it in given.files] or sorted(ROOT.glob("crates/*/must-fail/*.edit"))
+    places = {it: place_of(it, given.keep, named, told("version")) for it in edits} if given.keep else {}
+    left = [it for it in edits if not (places and places[it].is_file())]
+    for edit in (it for it in edits if it not in left):
+        print(f"{places[edit].read_text(encoding='utf-8')} (kept)")
     with ThreadPoolExecutor(given.jobs) as pool:
-        for name in (it for it in named if it in map(crate_of, edits)):
+        for name in (it for it in named if it in map(crate_of, left)):
             if given.until:
                 wait_for(below(name, named), given.until)
-            of_crate = [it for it in edits if crate_of(it) == name]
-            tries.append(pool.submit(tried_in_turn, of_crate, named, Path(guide).parent))
-        refused = sum(it.result() for it in tries)
+            of_crate = [it for it in left if crate_of(it) == name]
+            tries.append(pool.submit(tried_in_turn, of_crate, places, named, kit))
+        refused = len(edits) - len(left) + sum(it.result() for it in tries)
     print(f"{refused} of {len(edits)} mutants refused")
     return 0 if edits and refused == len(edits) else 1
 
