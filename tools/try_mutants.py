@@ -38,7 +38,7 @@ MOVED = re.compile(r"(?:\./)?proofs/.*(?:has no field|is not in scope|has no `|w
 
 def functions_of(edit, crate):
     """Returns the functions that an edit changes, each by as much of its path as tells it from others: its type or trait,
-    or its module. Of a constant it returns the module."""
+    or its module. Of a constant it returns the module, and of another item nothing: then the whole crate is checked."""
     found = []
     for file, old, _ in pairs_of(edit):
         text = (crate / file).read_text(encoding="utf-8")
@@ -88,6 +88,8 @@ def command(crate, functions, work, named, kit):
         words += ["-L", f"dependency={ROOT}/crates/{name}/out/rlib"]
     words += ["--antt-project", f"{kit}/rattle/logic/antt-project.json", "--logic-built", f"{kit}/logic_built"]
     words += ["--incremental", work, "--jobs", "1", "--links", f"{crate.name}="]
+    if re.search(rf"^{crate.name} staticlib", (ROOT / "crates.txt").read_text(encoding="utf-8"), re.M):
+        words += ["--crate-type", "staticlib"]
     return [f"{kit}/bin/rattle", "check", *words, *(word for it in functions for word in ("--only", it))]
 
 
@@ -120,7 +122,8 @@ def refusal(status, lines):
     if unread:
         return None, f"the prover can't read it: {unread}"
     counts = re.fullmatch(r"only=(\d+) proved=(\d+)", lines[-1])
-    if status != 1 or not counts or int(counts[2]) >= int(counts[1]):
+    is_judged = int(counts[2]) < int(counts[1]) if counts else lines[-1].startswith("logic=not-proved")
+    if status != 1 or not is_judged:
         return None, "\n".join(["the prover didn't judge it:", *lines[-6:]])
     told = [line for line in lines if line.startswith("note: src/") or ERROR.match(line)]
     by_goal = [line for line in told if not MOVED.match(line)]
