@@ -32,8 +32,8 @@ from wrong_bodies import applied, crate_of, pairs_of  # noqa: E402
 ERROR = re.compile(r"(?:\./)?(\S+?):\d+:\d+: error: (?:(`[^`]*`): )?(.*)")
 # What the prover says of a text that it can't read.
 UNREAD = re.compile(r"is not in scope|has no field|is no name|operand is missing|expected the end|cannot continue")
-# What it says of a file of proofs that names what a mutant took away.
-MOVED = re.compile(r"(?:\./)?proofs/.*(?:has no field|is not in scope|has no `|was not admitted)")
+# What it says of a file of proofs that names what a mutant took away, or what rests on such a name.
+MOVED = re.compile(r"(?:\./)?proofs/.*(?:has no field|is not in scope|has no `|was not admitted|were? not checked)")
 
 
 def functions_of(edit, crate):
@@ -129,8 +129,9 @@ def refusal(status, lines):
     by_goal = [line for line in told if not MOVED.match(line)]
     if not by_goal:
         return None, "\n".join(["only a file of proofs names what it took away:", *(told or lines[-6:])])
-    by_clause = [line for line in by_goal if "what the function ensures" in line]
-    return [*by_clause, *by_goal][0], None
+    notes = [line for line in by_goal if line.startswith("note: ")]
+    by_clause = [line for line in notes if "what the function ensures" in line]
+    return [*by_clause, *notes, *by_goal][0], None
 
 
 def tried(edit, work, named, kit):
