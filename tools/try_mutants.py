@@ -2,7 +2,8 @@
 """Tries mutants function by function: applies each to a copy of its crate, and has the prover check the functions that it
 changes, with those that these call, over the libraries below the crate. `rt ci` and `rt must-fail` have the whole crate
 proved once more for the first mutant of each crate. Prints the clause that refused each, and fails where one is not
-refused, does not apply or compile, or is refused for another reason than a contract.
+refused, does not apply or compile, or is refused for another reason than a contract. As a control, the same functions of
+each crate are checked first as they are: if they are not proved, no mutant of that crate counts.
 
 usage: tools/try_mutants.py [--jobs N] [--until END] [--keep FOLDER] [FILE..], by default those of crates/*/must-fail/, as
 many crates at a time as there are processors. The libraries are those that `rt ci` or `rt check` left in crates/*/out/rlib.
@@ -93,17 +94,28 @@ def command(crate, functions, work, named, kit):
     return [f"{kit}/bin/rattle", "check", *words, *(word for it in functions for word in ("--only", it))]
 
 
-def checked(edit, crate, texts, work, named, kit):
-    """Checks the functions that an edit changes in a copy of the crate that has these texts in place of its own."""
+def checked(functions, crate, texts, work, named, kit):
+    """Checks these functions in a copy of the crate that has these texts in place of its own."""
     with tempfile.TemporaryDirectory() as copy:
         for part in ("src", "specs", "proofs"):
             if (crate / part).is_dir():
                 shutil.copytree(crate / part, f"{copy}/{part}")
         for path, text in texts.items():
             Path(copy, path.relative_to(crate)).write_text(text, encoding="utf-8")
-        words = command(crate, functions_of(edit, crate), work, named, kit)
+        words = command(crate, functions, work, named, kit)
         ran = subprocess.run(words, cwd=copy, stdout=subprocess.PIPE, stderr=subprocess.STDOUT, text=True, errors="replace")
         return ran.returncode, ran.stdout.rstrip("\n").split("\n")
+
+
+def control(edits, crate, work, named, kit):
+    """Checks the functions that these edits change as they are, and returns why they are not proved, or None."""
+    of_each = [functions_of(edit, crate) for edit in edits if not applied(edit, crate)[1]]
+    functions = list(dict.fromkeys(it for of_one in of_each for it in of_one)) if all(of_each) else []
+    status, lines = checked(functions, crate, {}, work, named, kit)
+    counts = re.fullmatch(r"only=(\d+) proved=(\d+)", lines[-1])
+    if status == 0 and (counts[1] == counts[2] if counts else lines[-1].startswith("logic=proved")):
+        return None
+    return "\n".join([f"{crate.name}, unchanged, is not proved:", *(told_of(lines) or lines[-6:])])
 
 
 def is_unread(line):
@@ -112,6 +124,11 @@ def is_unread(line):
     if not error or not error[1].startswith(("src/", "specs/")):
         return False
     return not error[2] or bool(UNREAD.search(re.sub(r"`[^`]*`", "", error[3])))
+
+
+def told_of(lines):
+    """Returns the lines of a check that name a goal or an error, each with its place."""
+    return [line for line in lines if line.startswith("note: src/") or ERROR.match(line)]
 
 
 def refusal(status, lines):
@@ -125,7 +142,7 @@ def refusal(status, lines):
     is_judged = int(counts[2]) < int(counts[1]) if counts else lines[-1].startswith("logic=not-proved")
     if status != 1 or not is_judged:
         return None, "\n".join(["the prover didn't judge it:", *lines[-6:]])
-    told = [line for line in lines if line.startswith("note: src/") or ERROR.match(line)]
+    told = told_of(lines)
     by_goal = [line for line in told if not MOVED.match(line)]
     if not by_goal:
         return None, "\n".join(["only a file of proofs names what it took away:", *(told or lines[-6:])])
@@ -140,15 +157,19 @@ def tried(edit, work, named, kit):
     texts, fault = applied(edit, crate)
     goal = None
     if not fault:
-        goal, fault = refusal(*checked(edit, crate, texts, work, named, kit))
+        goal, fault = refusal(*checked(functions_of(edit, crate), crate, texts, work, named, kit))
     return not fault, f"{crate.name}/{edit.stem}: {f'NOT REFUSED: {fault}' if fault else f'refused: {goal[:200]}'}"
 
 
 def tried_in_turn(edits, places, named, kit):
-    """Tries the mutants of a crate in turn, each over what the checks of those before it left, keeps each refusal at its
-    place, if there are any, and returns how many were refused."""
+    """Tries the mutants of a crate in turn, each over what the checks before it left, the first of which is the control.
+    Keeps each refusal at its place, if there are any, and returns how many were refused."""
     refused = 0
     with tempfile.TemporaryDirectory() as work:
+        fault = control(edits, ROOT / "crates" / crate_of(edits[0]), work, named, kit)
+        if fault:
+            print(fault, flush=True)
+            return 0
         for edit in edits:
             well, text = tried(edit, work, named, kit)
             print(text, flush=True)
@@ -192,7 +213,7 @@ def wait_for(names, end):
         time.sleep(10)
 
 
-def told(word):
+def printed(word):
     """Returns what `rt` prints for a word."""
     return subprocess.run(["rt", word], check=True, capture_output=True, text=True).stdout.strip()
 
@@ -204,9 +225,9 @@ def main():
     parser.add_argument("--keep", type=Path)
     parser.add_argument("files", nargs="*", type=Path)
     given = parser.parse_args()
-    named, kit, tries = libraries(), Path(told("doc")).parent, []
+    named, kit, tries = libraries(), Path(printed("doc")).parent, []
     edits = [it.resolve() for it in given.files] or sorted(ROOT.glob("crates/*/must-fail/*.edit"))
-    places = {it: place_of(it, given.keep, named, told("version")) for it in edits} if given.keep else {}
+    places = {it: place_of(it, given.keep, named, printed("version")) for it in edits} if given.keep else {}
     left = [it for it in edits if not (places and places[it].is_file())]
     for edit in (it for it in edits if it not in left):
         print(f"{places[edit].read_text(encoding='utf-8')} (kept)")
