@@ -1,5 +1,6 @@
 -- Keys, as they are read one after the other.
-use Rattle.std.proofs.Common.{◌≡◌, ℕ, ◌+◌, ◌≤◌, ◌<◌, List, [], ◌∷◌, ◌++◌, length, drop, take, sym, ap, ◌∙◌, arith, refl, zero, suc}
+use Rattle.std.proofs.Common.{◌≡◌, ℕ, ◌+◌, ◌*◌, ◌/◌, ◌≤◌, ◌<◌, List, [], ◌∷◌, ◌++◌, length, drop, take, sym, ap, ◌∙◌, arith, refl, zero, suc}
+use Rattle.std.proofs.Math.Nat.{le-div_iff_mul-le}
 use Rattle.std.proofs.Math.Seq.{drop-append_seam, take-add, take-append_seam}
 use Rattle.std.proofs.lemmas.List.{append-nil, length-take-le, length-drop, take-append-drop, drop-drop}
 use Rattle.std.proofs.lemmas.Grind.{flat_map-append}
@@ -10,6 +11,13 @@ use Rattle.p2p_session.specs.Answers.{keys_bytes}
 use Rattle.p2p_session.specs.Given.{AreKeys, AreKeysOf}
 use Rattle.p2p_session.specs.Schemes.{Scheme}
 use Rattle.p2p_session.proofs.Bootstrappers.{all_with}
+
+-- there is room for one key more, where there is for as many as fit the bytes
+pub one_more_fits : (size count at total room : ℕ) → 0 < size → count * size ≡ at → at + size ≤ total →
+    total / size ≤ room → count < room
+one_more_fits size count at total room positive is fits most =
+    let k : count + 1 ≤ total / size = (le-div_iff_mul-le positive).1 (omega (arith, is, fits)) in
+    omega (arith, k, most)
 
 -- bytes are left behind a place before their end
 pub some_behind : (bytes : List ℕ) (at : ℕ) → at < length bytes → drop at bytes ≡ [] → ⊥

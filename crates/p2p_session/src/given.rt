@@ -85,7 +85,7 @@ fn keys<C: PublicKey>(alloc: Global, bytes: &[u8]) -> Result<Vec<C>, AllocError>
         let Some(key) = key_in(bytes, at) else {
             unreachable!();
         };
-        keys.push(key)?;
+        keys.push_reserved(key);
         at += C::SIZE;
     }
     Ok(keys)

@@ -5,6 +5,8 @@ ghost use Rattle.std.specs.Prelude.{IfOk, OnOk, IfErr};
 ghost use Rattle.std.specs.List.{AllByRecursion};
 ghost use Rattle.p2p_discovery.specs.declared.codec.error.CodecError.TheVariants as fault;
 ghost use Rattle.p2p_discovery.specs.Info.{info_spelling};
+ghost use Rattle.p2p_discovery.specs.Ingress.{IsIngress, ingress_spelling};
+ghost use Rattle.p2p_discovery.specs.Reading.{Leaves};
 ghost use Rattle.p2p_discovery.specs.declared.types.ingress.Ingress.{Ingress};
 ghost use Rattle.std.specs.Duration.{as_nanos};
 ghost use Rattle.std.specs.Int.NonZero.{non_zero_usize_get};
@@ -16,12 +18,12 @@ ghost use Rattle.p2p_session.specs.Given.{SpellInfo, are_settings, numbers_at, m
 ghost use Rattle.p2p_session.specs.Given.{IsSetupRead};
 ghost use Rattle.p2p_session.specs.declared.refusal.Refusal.TheVariants.{Memory, BadInfo};
 
-use crate::given::{key_in, moment};
+use crate::given::{are_bytes, key_in, moment};
 use crate::refusal::Refusal;
 use bytes::Bytes;
 use p2p_directory::directory::Config;
 use p2p_directory::node::Setup;
-use p2p_discovery::codec::{CodecError, PublicKey, Read};
+use p2p_discovery::codec::{CodecError, PublicKey, Read, Reader};
 use p2p_discovery::discovery::{Info, PayloadConfig};
 use p2p_discovery::types::Ingress;
 use std::alloc::Global;
@@ -140,7 +142,8 @@ fn bootstrappers_of<C: PublicKey>(alloc: Global, bytes: &[u8]) -> Result<Vec<(C,
     ensures refused { IfErr result (λ why. (why ≡ Memory) ⊎ ((why ≡ BadInfo)
         × (¬ SpellBootstrappers (scheme C.PublicKey C.Signature.FixedBytes) bytes.now))) }
 {
-    let mut left = Bytes::copy_from_slice(alloc, bytes)?;
+    let bytes = Bytes::copy_from_slice(alloc, bytes)?;
+    let mut left = Reader::new(&bytes);
     let mut read = Vec::new(alloc);
     while !left.is_empty() {
         let one = bootstrapper(alloc, &mut left)?;
@@ -150,7 +153,7 @@ fn bootstrappers_of<C: PublicKey>(alloc: Global, bytes: &[u8]) -> Result<Vec<(C,
 }
 
 // A bootstrapper of a session's setup, a key and an ingress.
-fn bootstrapper<C: PublicKey>(alloc: Global, left: &mut Bytes) -> Result<(C, Ingress), Refusal>
+fn bootstrapper<C: PublicKey>(alloc: Global, left: &mut Reader<'_>) -> Result<(C, Ingress), Refusal>
     ensures is { IfOk result (IsBootstrapper (scheme C.PublicKey C.Signature.FixedBytes)) }
     ensures spelled { IfOk result (λ b. left.old
         ≡ bootstrapper_spelling (scheme C.PublicKey C.Signature.FixedBytes) b ++ left.new) }
@@ -165,22 +168,37 @@ fn bootstrapper<C: PublicKey>(alloc: Global, left: &mut Bytes) -> Result<(C, Ing
         ≡ bootstrapper_spelling (scheme C.PublicKey C.Signature.FixedBytes) b ++ rest)))) }
 {
     let key = front_key(left)?;
-    match Ingress::read_cfg(alloc, left, &()) {
+    match front_ingress(alloc, left) {
         Ok(ingress) => Ok((key, ingress)),
         Err(error) => Err(undecoded(error)),
     }
 }
 
 // The key with which the bytes of a session's setup begin. They then begin after it.
-fn front_key<C: PublicKey>(left: &mut Bytes) -> Result<C, Refusal>
+fn front_key<C: PublicKey>(left: &mut Reader<'_>) -> Result<C, Refusal>
     ensures is { IfOk result C.IsValue }
     ensures spelled { IfOk result (λ key. left.old ≡ C.spelled key ++ left.new) }
     ensures refused { IfErr result (λ why. (why ≡ BadInfo) × ((key : C) (rest : List ℕ) →
         C.IsValue key → ¬ (left.old ≡ C.spelled key ++ rest))) }
 {
-    let Some(key) = key_in(left.as_slice(), 0) else {
+    let Some(key) = key_in(left.rest(), 0) else {
         return Err(Refusal::BadInfo);
     };
-    left.advance(C::SIZE);
-    Ok(key)
+    match left.counted(C::SIZE) {
+        Ok(_bytes) => Ok(key),
+        Err(_) => unreachable!(),
+    }
+}
+
+// The ingress with which the bytes of a session's setup begin. They then begin after it.
+// Always inlined: a call would return the ingress in memory, from where it is copied.
+#[inline(always)]
+fn front_ingress(alloc: Global, left: &mut Reader<'_>) -> Result<Ingress, CodecError>
+    ensures found { IfOk result (λ i. IsIngress i × (left.old ≡ ingress_spelling i ++ left.new)) }
+    ensures only { (i : Ingress) (rest : List ℕ) → IsIngress i →
+        left.old ≡ ingress_spelling i ++ rest → Leaves result left.new i rest }
+{
+    // For the proof: what is left are bytes.
+    are_bytes(left.rest());
+    Ingress::read(alloc, left, &())
 }

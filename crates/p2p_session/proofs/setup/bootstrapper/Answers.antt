@@ -13,7 +13,7 @@ returns-in_err-key-clause-refused g c =
 pub returns-in-Ok-clause-rest : goal.returns-in-Ok-clause-rest
 returns-in-Ok-clause-rest g c = λ b rest is e.
     let key = c.in_ok-key.ensures in
-    (c.in-Ok.ensures.only b.1 rest is.1 tt
+    (c.in-Ok.ensures.only b.1 rest is.1
     (behind_key (scheme_by g.C.PartialOrd g.C.Ord g.C.PartialEq g.C.FixedBytes g.C.PublicKey g.C.Signature.PartialEq g.C.Signature.FixedBytes) g.met.C.FixedBytes.fixed c.args.left.now c.in_ok-key.key c.front_key.new.left b rest key.spelled is e)).1
 
 pub returns-in-Err : goal.returns-in-Err
@@ -24,6 +24,6 @@ returns-in-Err g c = record {
   rest = tt;
   refused = unread (scheme_by g.C.PartialOrd g.C.Ord g.C.PartialEq g.C.FixedBytes g.C.PublicKey g.C.Signature.PartialEq g.C.Signature.FixedBytes) g.met.C.FixedBytes.fixed c.undecoded.ensures (λ b rest is e.
       let key = c.in_ok-key.ensures in
-      c.in-Err.ensures.only b.1 rest is.1 tt
+      c.in-Err.ensures.only b.1 rest is.1
       (behind_key (scheme_by g.C.PartialOrd g.C.Ord g.C.PartialEq g.C.FixedBytes g.C.PublicKey g.C.Signature.PartialEq g.C.Signature.FixedBytes) g.met.C.FixedBytes.fixed c.args.left.now c.in_ok-key.key c.front_key.new.left b rest key.spelled is e));
 }
