@@ -14,10 +14,10 @@ use crate::given::are_bytes;
 use p2p_discovery::codec::{FixedBytes, PublicKey, read_array, write_array};
 use std::cmp::Ordering;
 
-/// How many bytes a key has. For keys of another size edit this line.
+/// How many bytes a [`Key`] has. Keys of other sizes are types of `p2p_session_c`.
 pub const KEY_SIZE: usize = 32;
 
-/// How many bytes a signature has. For signatures of another size edit this line.
+/// How many bytes a [`Signature`] has. Signatures of other sizes are types of `p2p_session_c`.
 pub const SIGNATURE_SIZE: usize = 64;
 
 /// A key: its bytes, by which it is ordered.

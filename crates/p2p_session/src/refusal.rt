@@ -22,9 +22,9 @@ pub enum Refusal {
     NotReserved,
     /// No reservation of the peer to release is held.
     NotHeld,
-    /// The bytes are no key: their number is wrong.
+    /// The bytes are no key: their number is wrong, or they begin with a byte that no key has.
     BadKey,
-    /// The bytes are no list of keys: their number is no multiple of a key's size.
+    /// The bytes are no keys, one after the other.
     BadKeys,
     /// The bytes encode no info, no list of infos, no address, or no bootstrappers.
     BadInfo,

@@ -31,9 +31,9 @@ pub const NO_ROOM: u64 = u64::MAX - 3;
 pub const NOT_RESERVED: u64 = u64::MAX - 4;
 /// There is no reservation to release.
 pub const NOT_HELD: u64 = u64::MAX - 5;
-/// Another number of bytes than a key's.
+/// Bytes that are no key: another number of bytes, or a first byte that no key of these sizes has.
 pub const BAD_KEY: u64 = u64::MAX - 6;
-/// A number of bytes that is no multiple of a key's.
+/// Bytes that are no keys, one after the other.
 pub const BAD_KEYS: u64 = u64::MAX - 7;
 /// No info, no list of infos, no address, or no bootstrappers.
 pub const BAD_INFO: u64 = u64::MAX - 8;
