@@ -1,12 +1,15 @@
 //! The types of the interface apart from the results of a directory: times, texts and conversions.
 
-use p2p_directory::testing::{self, config, directory, info, key};
-use p2p_directory::{
+use crate::pair::testing::{self, config, directory, info, key};
+use crate::pair::{
     BeforeEpochError, BitVec, CodecError, Config, ConnectError, Data, Directory, EncodedData,
-    Hostname, Info, Ingress, Key, MAX_PAYLOAD_OVERHEAD, Metadata, Moment, Node, OrderedSet,
-    ParseError, Payload, PayloadConfig, Received, RefusedError, SetupError, Signature, Status,
-    ValidateError, What, max_gossip_size, max_size,
+    Hostname, Info, Ingress, KEY_SIZE, Key, MAX_PAYLOAD_OVERHEAD, Metadata, Moment, Node,
+    OrderedSet, ParseError, Payload, PayloadConfig, Received, RefusedError, SIGNATURE_SIZE,
+    SetupError, Signature, Status, ValidateError, What, max_gossip_size, max_size,
 };
+// Where another file has this one as a module, the pair of sizes is that of the other.
+#[allow(unused_imports)]
+use p2p_directory as pair;
 use std::cmp::Ordering;
 use std::collections::HashSet;
 use std::error::Error;
@@ -15,6 +18,11 @@ use std::net::{Ipv6Addr, SocketAddr, SocketAddrV6};
 use std::time::{Duration, SystemTime, UNIX_EPOCH};
 
 const NANO: Duration = Duration::from_nanos(1);
+
+/// The first byte of the keys of `testing`, and another with which a key may begin. Keys of 33 bytes
+/// begin with 2 or 3.
+const LEAST_FIRST: u8 = if KEY_SIZE == 33 { 2 } else { 0 };
+const GREAT_FIRST: u8 = if KEY_SIZE == 33 { 3 } else { 0xcd };
 
 #[test]
 fn moments_are_times_since_the_epoch() {
@@ -73,14 +81,16 @@ fn draws_are_taken_up_to_the_end_of_their_range() {
 
 #[test]
 fn keys_and_signatures_are_read_from_their_text() {
-    let mut bytes = [0; 32];
-    bytes[0] = 0xab;
-    bytes[31] = 0x0f;
+    let mut bytes = [0; KEY_SIZE];
+    bytes[0] = GREAT_FIRST;
+    bytes[1] = 0xab;
+    bytes[KEY_SIZE - 1] = 0x0f;
+    let middle = "0".repeat(2 * KEY_SIZE - 6);
     let (lower, upper) = (
-        format!("ab{}0f", "0".repeat(60)),
-        format!("AB{}0F", "0".repeat(60)),
+        format!("{GREAT_FIRST:02x}ab{middle}0f"),
+        format!("{GREAT_FIRST:02X}AB{middle}0F"),
     );
-    let key = Key::from(bytes);
+    let key = Key::from_slice(&bytes).unwrap();
     assert_eq!(key.to_string(), lower);
     assert_eq!(
         (format!("{key:x}"), format!("{key:X}")),
@@ -94,9 +104,9 @@ fn keys_and_signatures_are_read_from_their_text() {
     assert_eq!(Key::try_from(&bytes[..]).unwrap(), key);
     assert!(Key::try_from(&bytes[1..]).is_err());
 
-    let signature = Signature([0x5c; 64]);
-    assert_eq!("5c".repeat(64).parse(), Ok(signature));
-    assert_eq!(format!("{signature:X}"), "5C".repeat(64));
+    let signature = Signature([0x5c; SIGNATURE_SIZE]);
+    assert_eq!("5c".repeat(SIGNATURE_SIZE).parse(), Ok(signature));
+    assert_eq!(format!("{signature:X}"), "5C".repeat(SIGNATURE_SIZE));
     assert_eq!(Signature::try_from(signature.as_ref()).unwrap(), signature);
 }
 
@@ -104,12 +114,13 @@ fn keys_and_signatures_are_read_from_their_text() {
 fn texts_that_are_no_keys_are_refused() {
     let refused = |text: &str| text.parse::<Key>().unwrap_err();
     assert_eq!(refused(""), ParseError::Length(0));
-    assert_eq!(refused(&"0".repeat(63)), ParseError::Length(63));
-    assert_eq!(refused(&"0".repeat(65)), ParseError::Length(65));
-    assert_eq!(refused(&"0".repeat(66)), ParseError::Length(66));
+    let digits = 2 * KEY_SIZE;
+    for other in [digits - 1, digits + 1, digits + 2] {
+        assert_eq!(refused(&"0".repeat(other)), ParseError::Length(other));
+    }
     for other in ["g0", "0g", "+1", "\u{e9}"] {
         assert_eq!(
-            refused(&format!("{other}{}", "0".repeat(62))),
+            refused(&format!("{other}{}", "0".repeat(digits - 2))),
             ParseError::Digit
         );
     }
@@ -184,7 +195,7 @@ fn sets_are_ordered_as_lists_and_given_back_as_such() {
 
 #[test]
 fn answers_have_a_text_of_one_line() {
-    let one = format!("{}01", "0".repeat(62));
+    let one = format!("{LEAST_FIRST:02x}{}01", "0".repeat(2 * KEY_SIZE - 4));
     let known = info(1, 1000);
     assert_eq!(
         known.to_string(),
@@ -256,7 +267,7 @@ fn refusals_name_their_causes() {
         texts(&RefusedError::Malformed),
         ["the frame has another number of bits"]
     );
-    let invalid = ValidateError::Invalid(p2p_directory::Error::SynchronyBound);
+    let invalid = ValidateError::Invalid(crate::pair::Error::SynchronyBound);
     let why = ["the infos are invalid", "synchrony bound violated"];
     assert_eq!(texts(&invalid), why);
     let why = ["the infos could not be validated", "memory was refused"];
@@ -342,7 +353,9 @@ fn long_info(host: usize, groups: u32) -> Info {
         Err(_) => SocketAddr::from(([1, 2, 3, 4], 8000)).into(),
     };
     let timestamp = 1 << (7 * (groups - 1));
-    Info::sign(key(1), b"", ingress, timestamp, |_, _| Signature([0; 64]))
+    Info::sign(key(1), b"", ingress, timestamp, |_, _| {
+        Signature([0; SIGNATURE_SIZE])
+    })
 }
 
 #[test]
@@ -386,13 +399,18 @@ fn sizes_are_those_of_what_is_spelled() {
 
 #[test]
 fn what_a_transport_carries_is_told() {
-    // Worked example 17, with keys of 32 bytes and signatures of 64: an info has at most 261 + 10 +
-    // 32 + 64 bytes.
-    assert_eq!(max_gossip_size(1000, 32), Some(1 + 32 * 367 + 5));
+    // Worked example 17: an info has at most 261 + 10 bytes, its key and its signature.
+    let longest = match (KEY_SIZE, SIGNATURE_SIZE) {
+        (32, 64) => 367,
+        (33, 64) => 368,
+        (48, 96) | (96, 48) => 415,
+        other => panic!("{other:?}"),
+    };
+    assert_eq!(max_gossip_size(1000, 32), Some(1 + 32 * longest + 5));
     assert_eq!(max_gossip_size(100_000, 0), Some(12_514));
-    assert_eq!(max_gossip_size(0, 0), Some(1 + 367));
+    assert_eq!(max_gossip_size(0, 0), Some(1 + longest));
     assert_eq!(max_gossip_size(u64::MAX, 0), Some(1 + 10 + 10 + (1 << 61)));
-    assert_eq!(max_gossip_size(0, usize::MAX / 367 + 1), None);
+    assert_eq!(max_gossip_size(0, usize::MAX / longest + 1), None);
     assert_eq!(max_size(MAX_PAYLOAD_OVERHEAD), Some(0));
     assert_eq!(max_size(MAX_PAYLOAD_OVERHEAD - 1), None);
     for (channel, size) in [(0, 0), (1, 5), (127, 127), (128, 128), (u64::MAX, 16_384)] {

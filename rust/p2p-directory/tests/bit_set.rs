@@ -1,8 +1,11 @@
 //! The original's tests of its bit set, under their names, as far as the bits of a retained set can
 //! express them.
 
-use p2p_directory::testing::{config, info, key};
-use p2p_directory::{Config, Directory, Key, OrderedSet};
+use crate::pair::testing::{config, info, key};
+use crate::pair::{Config, Directory, Key, OrderedSet};
+// Where another file has this one as a module, the pair of sizes is that of the other.
+#[allow(unused_imports)]
+use p2p_directory as pair;
 use std::num::NonZeroUsize;
 
 fn tracked(sets: &[&[u16]]) -> Directory {

@@ -80,16 +80,13 @@ fn the_corpus_is_small() {
 
 #[test]
 fn valgrind_finds_nothing() {
-    let names = [
-        "each_frame_is_read_alike",
-        "each_list_of_calls_is_answered_as_by_the_model",
-    ];
-    let module = module_path!().split_once("::");
-    let names = names.map(|name| match module {
-        Some((_, module)) => format!("{module}::{name}"),
-        None => name.to_owned(),
-    });
-    valgrind::finds_nothing(&names.each_ref().map(String::as_str));
+    valgrind::finds_nothing(
+        module_path!(),
+        &[
+            "each_frame_is_read_alike",
+            "each_list_of_calls_is_answered_as_by_the_model",
+        ],
+    );
 }
 
 /// Writes the initial corpus for fuzzing into the folder that `FUZZ_SEEDS` names, for

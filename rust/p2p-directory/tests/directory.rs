@@ -1,11 +1,14 @@
 //! The original's tests of its directory, under their names, and worked examples of this
 //! repository.
 
-use p2p_directory::testing::{self, config, directory, info, info_at, key};
-use p2p_directory::{
+use crate::pair::testing::{self, config, directory, info, info_at, key};
+use crate::pair::{
     BitVec, Config, Directory, Ingress, Key, Metadata, Moment, NotReservedError, OrderedSet,
     Reservation, Status, TrackedPeers,
 };
+// Where another file has this one as a module, the pair of sizes is that of the other.
+#[allow(unused_imports)]
+use p2p_directory as pair;
 use std::net::SocketAddr;
 use std::num::NonZeroUsize;
 use std::time::Duration;

@@ -1,10 +1,13 @@
 //! Two nodes that exchange infos over frames.
 
-use p2p_directory::testing::{self, info, key, setup, verify};
-use p2p_directory::{
+use crate::pair::testing::{self, info, key, setup, verify};
+use crate::pair::{
     BitVec, Data, Error, Info, Key, Moment, Node, OrderedSet, Payload, Received, Reservation,
-    Setup, Signature, TrackedPeers,
+    SIGNATURE_SIZE, Setup, Signature, TrackedPeers,
 };
+// Where another file has this one as a module, the pair of sizes is that of the other.
+#[allow(unused_imports)]
+use p2p_directory as pair;
 use std::mem;
 use std::num::NonZeroUsize;
 use std::panic::{AssertUnwindSafe, catch_unwind};
@@ -166,17 +169,20 @@ fn what_is_refused_changes_nothing() {
 
 #[test]
 fn a_scheme_of_ones_own_judges() {
-    // A signature is the key twice.
+    // A signature is the key again and again, as far as it has room.
+    let repeated = |key: &Key| -> Vec<u8> {
+        let bytes = key.as_bytes().iter().cycle();
+        bytes.take(SIGNATURE_SIZE).copied().collect()
+    };
     let signed = |number: u16| {
         let mut info = info(number, 5);
-        let twice = [info.public_key.0, info.public_key.0].concat();
-        info.signature = Signature::from_slice(&twice).unwrap();
+        info.signature = Signature::from_slice(&repeated(&info.public_key)).unwrap();
         info
     };
     let mut node = node(9, &[1]);
     let greeting = Payload::Greeting(signed(1)).encode();
     let answer = node.receive(&greeting, seconds(1), |key, _, _, signature| {
-        signature.0[..32] == key.0 && signature.0[32..] == key.0
+        signature.0[..] == repeated(key)
     });
     assert_eq!(answer, Received::Greeted(key(1)));
     assert_eq!(bits(&node), [true]);

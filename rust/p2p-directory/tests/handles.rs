@@ -3,8 +3,11 @@
 
 mod valgrind;
 
-use p2p_directory::testing::{config, info, key, setup, verify};
-use p2p_directory::{Directory, Moment, Node, OrderedSet, Payload, Received};
+use crate::pair::testing::{config, info, key, setup, verify};
+use crate::pair::{Directory, Moment, Node, OrderedSet, Payload, Received};
+// Where another file has this one as a module, the pair of sizes is that of the other.
+#[allow(unused_imports)]
+use p2p_directory as pair;
 use std::time::Duration;
 
 const NOW: Moment = Moment::from_secs(100);
@@ -54,8 +57,11 @@ fn nodes_answer_frames_of_each_other() {
 
 #[test]
 fn valgrind_finds_nothing() {
-    valgrind::finds_nothing(&[
-        "directories_live_beside_each_other",
-        "nodes_answer_frames_of_each_other",
-    ]);
+    valgrind::finds_nothing(
+        module_path!(),
+        &[
+            "directories_live_beside_each_other",
+            "nodes_answer_frames_of_each_other",
+        ],
+    );
 }

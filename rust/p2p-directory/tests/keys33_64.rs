@@ -1,4 +1,5 @@
-//! The comparisons with the model and of both decoders, and the corpus, with keys of 33 bytes.
+//! The suite, the comparisons with the model and of both decoders, and the corpus, with keys of 33
+//! bytes and signatures of 64.
 
 // These files are also test programs of their own, with modules of their own.
 #![allow(clippy::duplicate_mod)]
@@ -9,5 +10,6 @@ mod corpus;
 mod model;
 #[path = "spoilt_frames.rs"]
 mod spoilt_frames;
+mod suite;
 
 use p2p_directory::keys33_64 as pair;

@@ -214,6 +214,16 @@ fn keys_of_33_bytes_begin_with_2_or_3() {
     assert_eq!("x".repeat(66).parse::<Key>(), Err(ParseError::Digit));
 }
 
+#[test]
+fn any_bytes_are_a_key_of_another_size() {
+    use p2p_directory::{Key, keys48_96, keys96_48};
+    for first in 0..=255 {
+        assert_eq!(Key::from([first; 32]).as_bytes(), &[first; 32]);
+        assert_eq!(keys48_96::Key::from([first; 48]).as_bytes(), &[first; 48]);
+        assert_eq!(keys96_48::Key::from([first; 96]).as_bytes(), &[first; 96]);
+    }
+}
+
 // The answer of a node with keys of 33 bytes for a frame, which is that of `decode` if the frame
 // can't be decoded.
 fn fault(frame: &[u8]) -> CodecError {

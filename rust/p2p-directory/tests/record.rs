@@ -1,10 +1,13 @@
 //! The original's tests of its record, under their names, as far as calls of a directory can
 //! express them.
 
-use p2p_directory::testing::{config, directory, info, info_at, key};
-use p2p_directory::{
+use crate::pair::testing::{config, directory, info, info_at, key};
+use crate::pair::{
     Config, Directory, Ingress, Metadata, Moment, NotReservedError, OrderedSet, Reservation, Status,
 };
+// Where another file has this one as a module, the pair of sizes is that of the other.
+#[allow(unused_imports)]
+use p2p_directory as pair;
 use std::net::SocketAddr;
 use std::time::Duration;
 

@@ -1,11 +1,14 @@
 //! Reservations that are dropped: the next call of their directory, whichever it is, returns what
 //! it would after `release`.
 
-use p2p_directory::testing::{self, config, info, key, setup, verify};
-use p2p_directory::{
+use crate::pair::testing::{self, config, info, key, setup, verify};
+use crate::pair::{
     BitVec, ConnectError, Directory, Key, Moment, Node, OrderedSet, Payload, Received,
     ReleaseError, Reservation, Status,
 };
+// Where another file has this one as a module, the pair of sizes is that of the other.
+#[allow(unused_imports)]
+use p2p_directory as pair;
 use std::panic::{AssertUnwindSafe, catch_unwind};
 use std::thread;
 use std::time::Duration;
@@ -198,6 +201,8 @@ fn one_may_outlive_its_directory() {
     assert_eq!(next.status(&key(1)), Some(Status::Inert));
 }
 
+// The error has the reservation, which is large with keys of 96 bytes.
+#[allow(clippy::result_large_err)]
 fn gives_to(other: &mut Directory, held: Reservation) -> Result<(), ReleaseError> {
     other.release(held)?;
     Ok(())

@@ -1,11 +1,14 @@
 //! The original's tests of its addresses, infos and payloads, under their names.
 
-use p2p_directory::testing::{NAMESPACE, config, info, key, setup, sign, verify};
-use p2p_directory::{
+use crate::pair::testing::{NAMESPACE, config, info, key, setup, sign, verify};
+use crate::pair::{
     BitVec, CodecError, Config, Data, Directory, EncodedData, Error, Hostname, Info, Ingress,
     MAX_PAYLOAD_OVERHEAD, Moment, Node, OrderedSet, Payload, PayloadConfig, Received,
     ValidateError, What, max_gossip_size, max_size,
 };
+// Where another file has this one as a module, the pair of sizes is that of the other.
+#[allow(unused_imports)]
+use p2p_directory as pair;
 use std::net::{IpAddr, Ipv4Addr, Ipv6Addr, SocketAddr};
 use std::time::Duration;
 

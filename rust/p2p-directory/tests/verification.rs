@@ -1,11 +1,14 @@
 //! Frames in two steps: the node returns the signatures to verify, and later processes the frame
 //! with the results.
 
-use p2p_directory::testing::{self, info, key, setup, verify};
-use p2p_directory::{
+use crate::pair::testing::{self, info, key, setup, verify};
+use crate::pair::{
     BitVec, Data, Error, Judged, Moment, Node, OrderedSet, Payload, Question, Questions, Received,
     WrongVerdictsError,
 };
+// Where another file has this one as a module, the pair of sizes is that of the other.
+#[allow(unused_imports)]
+use p2p_directory as pair;
 use std::sync::Mutex;
 use std::thread;
 use std::time::Duration;
@@ -113,7 +116,7 @@ fn an_info_from_the_future_is_never_applied_unverified() {
     let early = Received::Invalid(Error::SynchronyBound);
     assert_eq!(
         node.directory().status(&key(2)),
-        Some(p2p_directory::Status::Inert)
+        Some(crate::pair::Status::Inert)
     );
     let judged = questions.judged([true]).unwrap();
     assert_eq!(taken(&mut node, judged), early);

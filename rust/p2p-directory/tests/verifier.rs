@@ -1,7 +1,10 @@
 //! Infos that are validated without a directory.
 
-use p2p_directory::testing::{self, NAMESPACE, info, key, verify};
-use p2p_directory::{Error, Info, InfoVerifier, Key, Moment, Signature, ValidateError};
+use crate::pair::testing::{self, NAMESPACE, info, key, verify};
+use crate::pair::{Error, Info, InfoVerifier, Key, Moment, Signature, ValidateError};
+// Where another file has this one as a module, the pair of sizes is that of the other.
+#[allow(unused_imports)]
+use p2p_directory as pair;
 use std::panic::{AssertUnwindSafe, catch_unwind};
 use std::thread;
 use std::time::Duration;

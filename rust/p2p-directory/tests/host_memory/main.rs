@@ -13,16 +13,19 @@ mod questions;
 #[path = "../refused/state.rs"]
 mod state;
 
-use crate::heap::{Refused, held, while_refused};
-use crate::questions::told;
-use crate::state::{
-    State, dialling, empty, introduced, known, named_info, new, peers, retaining, seconds,
-};
-use p2p_directory::testing::{NAMESPACE, config, info, key, setup, verify};
-use p2p_directory::{
+use crate::pair::testing::{NAMESPACE, config, info, key, setup, verify};
+use crate::pair::{
     BitVec, Data, Directory, Info, Ingress, Key, Metadata, Moment, OutOfMemory, Payload, Received,
     SetupError, TrackedPeers, ValidateError,
 };
+use heap::{Refused, held, while_refused};
+use questions::told;
+use state::{
+    State, dialling, empty, introduced, known, named_info, new, peers, retaining, seconds,
+};
+// Where another file has this one as a module, the pair of sizes is that of the other.
+#[allow(unused_imports)]
+use p2p_directory as pair;
 use std::fmt::Debug;
 use std::sync::{Mutex, MutexGuard, PoisonError};
 use std::time::Duration;
@@ -172,7 +175,7 @@ fn dropping_takes_no_memory() {
         drop(granted);
         [1, 2].map(|number| directory.status(&key(number)))
     });
-    assert_eq!(statuses, [Some(p2p_directory::Status::Inert); 2]);
+    assert_eq!(statuses, [Some(crate::pair::Status::Inert); 2]);
     assert_eq!(refused, 0);
 }
 
@@ -355,7 +358,7 @@ fn buffers_are_given_back_after_a_large_set() {
     let taken = state.directory_mut().track(0, &set.clone()).unwrap();
     assert!(taken.is_some());
     assert_eq!(state.directory().get_peer_set(0), Ok(Some(set)));
-    // The returned set has 128,000 bytes, and so do the argument and the result.
+    // The returned set has the bytes of 4,000 keys, and so do the argument and the result.
     let kept = held() - before;
     assert!(kept <= KEPT, "{kept} bytes");
 }

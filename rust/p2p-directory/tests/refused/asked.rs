@@ -1,9 +1,9 @@
 //! Queries whose results are allocated.
 
-use crate::Case;
-use crate::state::{known, named_info, peers, said, seconds, set, text};
-use p2p_directory::testing::{info, key};
-use p2p_directory::{BitVec, Moment};
+use super::state::{known, named_info, peers, said, seconds, set, text};
+use super::{Case, LONGER_INFO, LONGER_KEY};
+use crate::pair::testing::{info, key};
+use crate::pair::{BitVec, Moment};
 
 fn bit_vec(index: u64, bits: &[bool]) -> BitVec {
     BitVec {
@@ -23,7 +23,7 @@ pub const QUESTIONS: &[Case] = &[
         answer: || text(Some([info(1, 1000), named_info(2, 1000, "a.b")])),
         requests: 5,
         // Space for four infos (576), the name, and the bits.
-        bytes: 592,
+        bytes: 592 + 4 * LONGER_INFO,
     },
     Case {
         name: "infos of an unknown set",
@@ -59,7 +59,7 @@ pub const QUESTIONS: &[Case] = &[
         answer: || text((vec![key(5)], None::<Moment>)),
         requests: 1,
         // Space for four keys.
-        bytes: 128,
+        bytes: 128 + 4 * LONGER_KEY,
     },
     Case {
         name: "blocked_peers",
@@ -68,7 +68,7 @@ pub const QUESTIONS: &[Case] = &[
         answer: || text(set(&[4, 6])),
         requests: 1,
         // Space for four keys.
-        bytes: 128,
+        bytes: 128 + 4 * LONGER_KEY,
     },
     Case {
         name: "info at a socket",
@@ -95,7 +95,7 @@ pub const QUESTIONS: &[Case] = &[
         answer: || text(Some(peers(&[1, 2, 3, 5], &[4]))),
         requests: 2,
         // Two lists with space for four keys each.
-        bytes: 256,
+        bytes: 256 + 8 * LONGER_KEY,
     },
     Case {
         name: "all",
@@ -104,7 +104,7 @@ pub const QUESTIONS: &[Case] = &[
         answer: || text(peers(&[1, 2, 3, 5], &[4])),
         requests: 2,
         // Two lists with space for four keys each.
-        bytes: 256,
+        bytes: 256 + 8 * LONGER_KEY,
     },
     Case {
         name: "latest_update",
@@ -119,7 +119,7 @@ pub const QUESTIONS: &[Case] = &[
         },
         requests: 4,
         // Four lists with space for four keys each.
-        bytes: 512,
+        bytes: 512 + 16 * LONGER_KEY,
     },
     Case {
         name: "get_random_bit_vec",

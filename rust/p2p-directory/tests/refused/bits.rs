@@ -1,9 +1,9 @@
 //! The bits of sets that are retained if a further set was refused.
 
-use crate::heap::{Refused, while_refused};
-use crate::state::{State, peers, seconds, two_sets};
-use p2p_directory::testing::key;
-use p2p_directory::{BitVec, OutOfMemory};
+use super::heap::{Refused, while_refused};
+use super::state::{State, peers, seconds, two_sets};
+use crate::pair::testing::key;
+use crate::pair::{BitVec, OutOfMemory};
 
 // The bits of the sets, in order of their indices, from 0 on.
 fn assert_bits(state: &State, bits: &[&[bool]]) {

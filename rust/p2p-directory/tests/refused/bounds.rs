@@ -1,9 +1,9 @@
 //! How much memory is held after many calls, and how much a frame can make a node allocate.
 
-use crate::heap::{Refused, held, while_refused};
-use crate::state::{State, empty, seconds};
-use p2p_directory::testing::{info, key, setup, verify};
-use p2p_directory::{
+use super::heap::{Refused, held, while_refused};
+use super::state::{State, empty, seconds};
+use crate::pair::testing::{info, key, setup, verify};
+use crate::pair::{
     Hostname, Ingress, Moment, Node, OrderedSet, OutOfMemory, Payload, Received, Reservation,
 };
 use std::time::Duration;

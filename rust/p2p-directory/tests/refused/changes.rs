@@ -1,12 +1,12 @@
 //! Calls that change something, one after the other, in the states that `state` prepares.
 
-use crate::Case;
-use crate::state::{
+use super::state::{
     State, blocking, dialling, empty, introduced, known, named_info, new, peers, retaining, said,
     seconds, set, text, two_sets,
 };
-use p2p_directory::testing::{info, key, setup};
-use p2p_directory::{Ingress, Key, OutOfMemory};
+use super::{Case, LONGER_INFO, LONGER_KEY};
+use crate::pair::testing::{info, key, setup};
+use crate::pair::{Ingress, Key, OutOfMemory};
 use std::net::SocketAddr;
 
 // So many bootstrappers with sockets, with the local key among them, one with a name, and one that
@@ -54,7 +54,7 @@ pub const CHANGES: &[Case] = &[
         requests: 6,
         // A node of records (3,968), the namespace, the encoding of the local info and its control
         // block.
-        bytes: 4112,
+        bytes: 4112 + 15 * LONGER_KEY + 16 * LONGER_INFO,
     },
     Case {
         name: "init with bootstrappers",
@@ -68,7 +68,7 @@ pub const CHANGES: &[Case] = &[
         requests: 15,
         // Two nodes of records (3,968 each) and one with edges (4,096), the list of bootstrappers
         // (2,304).
-        bytes: 14_496,
+        bytes: 14_496 + 77 * LONGER_KEY + 46 * LONGER_INFO,
     },
     Case {
         name: "track the first set",
@@ -78,7 +78,7 @@ pub const CHANGES: &[Case] = &[
         requests: 8,
         // The window (352) and its links (128), the primary keys (64), the secondary ones that
         // aren't primary (128), their positions before (32) and now (96), bits.
-        bytes: 801,
+        bytes: 801 + 8 * LONGER_KEY,
     },
     Case {
         name: "track a set for which another goes",
@@ -88,7 +88,7 @@ pub const CHANGES: &[Case] = &[
         requests: 7,
         // The lists of keys (192), the list of peers that must be disconnected (160), their
         // positions before (32), the positions of five peers (240), bits.
-        bytes: 625,
+        bytes: 625 + 16 * LONGER_KEY,
     },
     Case {
         name: "track a set of many peers",
@@ -98,7 +98,7 @@ pub const CHANGES: &[Case] = &[
         requests: 10,
         // Two nodes of records (3,968 each) and one with edges (4,096), the lists of keys (768),
         // the positions of each before (16), and those of all (48 each).
-        bytes: 13_603,
+        bytes: 13_603 + 95 * LONGER_KEY + 45 * LONGER_INFO,
     },
     Case {
         name: "track a third set of three",
@@ -108,7 +108,7 @@ pub const CHANGES: &[Case] = &[
         requests: 4,
         // The keys (256), their positions before (128), the positions of eight peers (384), the
         // bits.
-        bytes: 769,
+        bytes: 769 + 16 * LONGER_KEY,
     },
     Case {
         name: "track a fourth set, for which the window grows",
@@ -118,7 +118,7 @@ pub const CHANGES: &[Case] = &[
         requests: 5,
         // A window with space for eight sets (704), and the key. No peer is new, so there are no
         // new positions.
-        bytes: 737,
+        bytes: 737 + LONGER_KEY,
     },
     Case {
         name: "track a set that isn't above the latest",
@@ -127,7 +127,7 @@ pub const CHANGES: &[Case] = &[
         answer: || text(None::<()>),
         requests: 1,
         // Its key.
-        bytes: 32,
+        bytes: 32 + LONGER_KEY,
     },
     Case {
         name: "track a set of nobody that isn't above the latest",
@@ -144,7 +144,7 @@ pub const CHANGES: &[Case] = &[
         answer: || text(true),
         requests: 2,
         // A node of slots (1,808), and one of times (968).
-        bytes: 2784,
+        bytes: 2784 + 45 * LONGER_KEY,
     },
     Case {
         name: "listen where there is room",
@@ -165,7 +165,7 @@ pub const CHANGES: &[Case] = &[
         answer: || text(true),
         requests: 4,
         // A second node of slots (1,808) and one with edges (1,936), and of times (968 and 1,096).
-        bytes: 5808,
+        bytes: 5808 + 90 * LONGER_KEY,
     },
     Case {
         name: "dial the first, at a socket",
@@ -174,7 +174,7 @@ pub const CHANGES: &[Case] = &[
         answer: || text(true),
         requests: 2,
         // As for an inbound peer.
-        bytes: 2784,
+        bytes: 2784 + 45 * LONGER_KEY,
     },
     Case {
         name: "dial the first, at a name",
@@ -183,7 +183,7 @@ pub const CHANGES: &[Case] = &[
         answer: || text(true),
         requests: 3,
         // As for an inbound peer, and the name.
-        bytes: 2784,
+        bytes: 2784 + 45 * LONGER_KEY,
     },
     Case {
         name: "dial a second, at a name",
@@ -209,7 +209,7 @@ pub const CHANGES: &[Case] = &[
         answer: || text(false),
         requests: 1,
         // A node of slots, which is emptied again.
-        bytes: 1808,
+        bytes: 1808 + 30 * LONGER_KEY,
     },
     Case {
         name: "listen to a stranger where there is room",
@@ -226,7 +226,7 @@ pub const CHANGES: &[Case] = &[
         answer: || text(false),
         requests: 1,
         // A node of slots, which is emptied again.
-        bytes: 1808,
+        bytes: 1808 + 30 * LONGER_KEY,
     },
     Case {
         name: "dial a stranger where there is room",
@@ -243,7 +243,7 @@ pub const CHANGES: &[Case] = &[
         answer: || text(true),
         requests: 2,
         // A node of blocks (728), and one of their ends (736).
-        bytes: 1472,
+        bytes: 1472 + 30 * LONGER_KEY,
     },
     Case {
         name: "block a sixteenth",
@@ -253,7 +253,7 @@ pub const CHANGES: &[Case] = &[
         requests: 4,
         // A second node of blocks (728) and one with edges (856), and the same of their ends (736,
         // 864).
-        bytes: 3184,
+        bytes: 3184 + 60 * LONGER_KEY,
     },
     Case {
         name: "block one that is blocked",
@@ -278,7 +278,7 @@ pub const CHANGES: &[Case] = &[
         answer: || text(true),
         requests: 2,
         // Two more nodes of ends, the new one in addition to the old.
-        bytes: 1600,
+        bytes: 1600 + 30 * LONGER_KEY,
     },
     Case {
         name: "update_peers at a socket and at a name",
@@ -290,7 +290,7 @@ pub const CHANGES: &[Case] = &[
         answer: || text(()),
         requests: 4,
         // The copy of the list (318), three infos (432), the name.
-        bytes: 800,
+        bytes: 800 + 6 * LONGER_INFO,
     },
     Case {
         name: "update_peers with no infos",

@@ -1,10 +1,12 @@
 //! Frames of each kind, and each refusal of them: first the results of `check`, with enough memory,
 //! then those of `receive`.
 
-use crate::Case;
-use crate::state::{State, empty, known, named_info, new, said, seconds, text};
-use p2p_directory::testing::{NAMESPACE, info, key, setup};
-use p2p_directory::{CodecError, Error, Info, OutOfMemory, Payload, Received, Signature, What};
+use super::state::{State, empty, known, named_info, new, said, seconds, text};
+use super::{Case, LONGER_INFO};
+use crate::pair::testing::{NAMESPACE, info, key, setup};
+use crate::pair::{
+    CodecError, Error, Info, OutOfMemory, Payload, Received, SIGNATURE_SIZE, Signature, What,
+};
 
 fn greeting(state: &mut State, info: Info, now: u64) -> Result<String, OutOfMemory> {
     said(state.receives(Payload::Greeting(info), now))
@@ -22,7 +24,7 @@ fn frame(state: &mut State, frame: &[u8]) -> Result<String, OutOfMemory> {
 fn forged(number: u16) -> Info {
     let ingress = info(number, 0).ingress;
     Info::sign(key(number), NAMESPACE, ingress, 2000, |_, _| {
-        Signature([7; 64])
+        Signature([7; SIGNATURE_SIZE])
     })
 }
 
@@ -49,7 +51,7 @@ pub const FRAMES: &[Case] = &[
         answer: || text(Received::Greeted(key(2))),
         requests: 5,
         // A list of one info (144), and the name; before that the copy of the frame.
-        bytes: 160,
+        bytes: 160 + LONGER_INFO,
     },
     Case {
         name: "a greeting from a socket",
@@ -58,7 +60,7 @@ pub const FRAMES: &[Case] = &[
         answer: || text(Received::Greeted(key(1))),
         requests: 4,
         // A list of one info (144), and the verification result; before that the copy of the frame.
-        bytes: 160,
+        bytes: 160 + LONGER_INFO,
     },
     Case {
         name: "a greeting of the own key",
@@ -67,7 +69,7 @@ pub const FRAMES: &[Case] = &[
         answer: || invalid(Error::ReceivedSelf),
         requests: 3,
         // The copy of the frame, with its control block.
-        bytes: 144,
+        bytes: 144 + LONGER_INFO,
     },
     Case {
         name: "a greeting from the future",
@@ -76,7 +78,7 @@ pub const FRAMES: &[Case] = &[
         answer: || invalid(Error::SynchronyBound),
         requests: 3,
         // The copy of the frame, with its control block.
-        bytes: 144,
+        bytes: 144 + LONGER_INFO,
     },
     Case {
         name: "a greeting whose signature isn't right",
@@ -85,7 +87,7 @@ pub const FRAMES: &[Case] = &[
         answer: || invalid(Error::InvalidSignature),
         requests: 3,
         // The copy of the frame, with its control block.
-        bytes: 144,
+        bytes: 144 + LONGER_INFO,
     },
     Case {
         name: "bits, which are replied to",
@@ -97,7 +99,7 @@ pub const FRAMES: &[Case] = &[
         },
         requests: 4,
         // Space for four infos (576), and the bits.
-        bytes: 584,
+        bytes: 584 + 4 * LONGER_INFO,
     },
     Case {
         name: "bits of an unknown set",
@@ -125,7 +127,7 @@ pub const FRAMES: &[Case] = &[
         requests: 4,
         // A list of two infos (288), the copy of the frame (214), its control block, the
         // verification results.
-        bytes: 544,
+        bytes: 544 + 4 * LONGER_INFO,
     },
     Case {
         name: "infos, which are applied in two steps",
@@ -137,7 +139,7 @@ pub const FRAMES: &[Case] = &[
         answer: || text(Received::Applied(2)),
         requests: 4,
         // The same as in one step.
-        bytes: 544,
+        bytes: 544 + 4 * LONGER_INFO,
     },
     Case {
         name: "infos at names",
@@ -149,7 +151,7 @@ pub const FRAMES: &[Case] = &[
         answer: || text(Received::Applied(2)),
         requests: 6,
         // As before, and two names.
-        bytes: 544,
+        bytes: 544 + 4 * LONGER_INFO,
     },
     Case {
         name: "no infos",
@@ -167,7 +169,7 @@ pub const FRAMES: &[Case] = &[
         answer: || invalid(Error::ReceivedSelf),
         requests: 4,
         // As for two infos.
-        bytes: 544,
+        bytes: 544 + 4 * LONGER_INFO,
     },
     Case {
         name: "infos with one from the future",
@@ -176,7 +178,7 @@ pub const FRAMES: &[Case] = &[
         answer: || invalid(Error::SynchronyBound),
         requests: 4,
         // As for two infos.
-        bytes: 544,
+        bytes: 544 + 4 * LONGER_INFO,
     },
     Case {
         name: "infos with one whose signature isn't right",
@@ -185,7 +187,7 @@ pub const FRAMES: &[Case] = &[
         answer: || invalid(Error::InvalidSignature),
         requests: 4,
         // As for two infos.
-        bytes: 544,
+        bytes: 544 + 4 * LONGER_INFO,
     },
     Case {
         name: "infos that are too many",
@@ -194,7 +196,7 @@ pub const FRAMES: &[Case] = &[
         answer: || invalid(Error::TooManyPeers(2)),
         requests: 4,
         // As for two infos.
-        bytes: 544,
+        bytes: 544 + 4 * LONGER_INFO,
     },
     Case {
         name: "data",
@@ -284,6 +286,6 @@ pub const FRAMES: &[Case] = &[
         answer: || fault(CodecError::EndOfBuffer),
         requests: 8,
         // As for two infos, with a name and without verification results.
-        bytes: 544,
+        bytes: 544 + 4 * LONGER_INFO,
     },
 ];

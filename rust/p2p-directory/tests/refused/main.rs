@@ -14,13 +14,24 @@ mod heap;
 mod questions;
 mod state;
 
-use crate::asked::QUESTIONS;
-use crate::changes::CHANGES;
-use crate::frames::FRAMES;
-use crate::heap::{Refused, held, while_refused};
-use crate::questions::{QUIET, quiet_answers, told, told_at_the_end};
-use crate::state::{State, known};
-use p2p_directory::OutOfMemory;
+use crate::pair::{KEY_SIZE, OutOfMemory, SIGNATURE_SIZE};
+use asked::QUESTIONS;
+use changes::CHANGES;
+use frames::FRAMES;
+use heap::{Refused, held, while_refused};
+use questions::{QUIET, quiet_answers, told, told_at_the_end};
+use state::{State, known};
+// Where another file has this one as a module, the pair of sizes is that of the other.
+#[allow(unused_imports)]
+use p2p_directory as pair;
+
+/// By how many bytes a key is longer than one of 32 where it is kept, before what may be aligned to
+/// 16 bytes.
+const LONGER_KEY: usize = KEY_SIZE.next_multiple_of(16) - 32;
+
+/// By how many bytes an info is longer than one of such a key and a signature of 64 where it is
+/// kept.
+const LONGER_INFO: usize = (KEY_SIZE + SIGNATURE_SIZE).next_multiple_of(8) - 96;
 
 /// A call, in a state.
 struct Case {
@@ -31,7 +42,8 @@ struct Case {
     answer: fn() -> String,
     /// How many allocations it makes then.
     requests: u64,
-    /// The maximum number of bytes that it allocates at a time.
+    /// The maximum number of bytes that it allocates at a time: a number for keys of 32 bytes and
+    /// signatures of 64, and by how much the keys and infos among them are longer.
     bytes: usize,
 }
 
@@ -40,6 +52,8 @@ impl Case {
     fn made(&self) -> [Vec<String>; 2] {
         let Case { name, bytes, .. } = self;
         let mut state = (self.prepared)();
+        // As before a refusal: queries leave longer buffers, so that none is asked twice.
+        told(&state);
         let (answer, asked) = while_refused(Refused::None, || (self.call)(&mut state));
         assert_eq!(answer, Ok((self.answer)()), "{name}");
         assert_eq!(asked.requests, self.requests, "{name}: {asked:?}");

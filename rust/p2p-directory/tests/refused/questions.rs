@@ -1,9 +1,9 @@
 //! The results of all queries of a node, as texts that are compared, and the calls that don't
 //! allocate.
 
-use crate::state::{State, seconds, set, text};
-use p2p_directory::testing::key;
-use p2p_directory::{BitVec, Directory, NotReservedError, OutOfMemory};
+use super::state::{State, seconds, set, text};
+use crate::pair::testing::key;
+use crate::pair::{BitVec, Directory, NotReservedError, OutOfMemory};
 use std::fmt::Debug;
 
 // Queries are made for the peers with numbers below this.
@@ -112,7 +112,7 @@ pub const QUIET: &[Quiet] = &[
     Quiet {
         name: "status",
         call: |state| text(state.directory().status(&key(1))),
-        answer: || text(Some(p2p_directory::Status::Active)),
+        answer: || text(Some(crate::pair::Status::Active)),
     },
     Quiet {
         name: "eligible",
@@ -197,7 +197,7 @@ pub const QUIET: &[Quiet] = &[
     Quiet {
         name: "status of the released",
         call: |state| text(state.directory().status(&key(1))),
-        answer: || text(Some(p2p_directory::Status::Inert)),
+        answer: || text(Some(crate::pair::Status::Inert)),
     },
     Quiet {
         name: "next_unblock after a block ended",
@@ -210,7 +210,7 @@ pub const QUIET: &[Quiet] = &[
             state.drops(3);
             text(state.directory().status(&key(3)))
         },
-        answer: || text(Some(p2p_directory::Status::Inert)),
+        answer: || text(Some(crate::pair::Status::Inert)),
     },
 ];
 

@@ -1,8 +1,8 @@
 //! The states of nodes before a call: with key 9, one retained set unless said otherwise, a
 //! cooldown of ten seconds and blocks of a minute.
 
-use p2p_directory::testing::{NAMESPACE, info, key, setup, sign, verify};
-use p2p_directory::{
+use crate::pair::testing::{NAMESPACE, info, key, setup, sign, verify};
+use crate::pair::{
     Directory, Hostname, Info, Ingress, Key, Moment, Node, OrderedSet, OutOfMemory, Payload,
     Received, Reservation, Setup, TrackedPeers,
 };
@@ -72,7 +72,7 @@ impl State {
                 Ok(())
             }
             Err(refused) => {
-                assert_eq!(refused, p2p_directory::SetupError::OutOfMemory);
+                assert_eq!(refused, crate::pair::SetupError::OutOfMemory);
                 Err(OutOfMemory)
             }
         }

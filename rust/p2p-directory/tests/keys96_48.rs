@@ -1,0 +1,8 @@
+//! The suite with keys of 96 bytes and signatures of 48.
+
+// These files are also test programs of their own.
+#![allow(clippy::duplicate_mod)]
+
+mod suite;
+
+use p2p_directory::keys96_48 as pair;
