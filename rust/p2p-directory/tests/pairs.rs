@@ -1,6 +1,6 @@
 //! The same small run with keys and signatures of each pair of sizes.
 
-use p2p_directory::{CodecError, KeyError, ParseError, Received, What, keys33_64};
+use p2p_directory::{KeyError, ParseError, Received, keys33_64};
 
 // The tests of a pair of sizes: its module, the sizes, and the first byte of its keys here.
 macro_rules! pair {
@@ -222,61 +222,6 @@ fn any_bytes_are_a_key_of_another_size() {
         assert_eq!(keys48_96::Key::from([first; 48]).as_bytes(), &[first; 48]);
         assert_eq!(keys96_48::Key::from([first; 96]).as_bytes(), &[first; 96]);
     }
-}
-
-// The answer of a node with keys of 33 bytes for a frame, which is that of `decode` if the frame
-// can't be decoded.
-fn fault(frame: &[u8]) -> CodecError {
-    use keys33_64::{Node, Payload, testing};
-    let setup = testing::setup(9);
-    let mut node = Node::new(&setup).expect("memory for a node");
-    let now = p2p_directory::Moment::from_secs(100);
-    let received = node.receive(frame, now, testing::verify);
-    let decoded = Payload::decode(frame, &setup.payload).expect_err("no payload");
-    assert_eq!(received, keys33_64::Received::Codec(decoded), "{frame:?}");
-    decoded
-}
-
-#[test]
-fn a_frame_with_a_bad_key_is_refused() {
-    use keys33_64::{Payload, testing};
-    let bad_key = CodecError::Invalid(What::Key);
-    let info = testing::info(1, 0).encode();
-    // An ingress of 8 bytes and a timestamp of one precede the key.
-    let bad = |first: u8| {
-        let mut bad = info.clone();
-        assert_eq!(bad[9], 2);
-        bad[9] = first;
-        bad
-    };
-    for first in [0, 1, 4, 0x82, 0xff] {
-        assert_eq!(fault(&[&[1][..], &bad(first)].concat()), bad_key);
-        assert_eq!(fault(&[&[3, 2][..], &info, &bad(first)].concat()), bad_key);
-    }
-    let greeting = [&[1][..], &bad(4)].concat();
-    // Faults behind the key: fewer bytes of the signature, more bytes, a bad info.
-    assert_eq!(fault(&greeting[..10 + 33]), bad_key);
-    assert_eq!(fault(&greeting[..greeting.len() - 1]), bad_key);
-    assert_eq!(fault(&[&greeting[..], &[0]].concat()), bad_key);
-    assert_eq!(fault(&[&[3, 2][..], &bad(4), &[9]].concat()), bad_key);
-    // Faults before it: too few bytes of the key itself, a bad address, a bad timestamp, too many
-    // infos.
-    for length in 10..10 + 33 {
-        assert_eq!(fault(&greeting[..length]), CodecError::EndOfBuffer);
-    }
-    let mut no_address = greeting.clone();
-    no_address[1] = 9;
-    assert_eq!(fault(&no_address), CodecError::InvalidEnum(9));
-    let mut no_time = greeting.clone();
-    no_time.splice(9..10, [0x80, 0]);
-    assert_eq!(fault(&no_time), CodecError::InvalidVarint(10));
-    let many = [&[3, 0x81, 0x02][..], &bad(4)].concat();
-    assert_eq!(fault(&many), CodecError::InvalidLength(257));
-    let whole = Payload::Greeting(testing::info(1, 0)).encode();
-    assert_eq!(
-        fault(&[&whole[..], &[0]].concat()),
-        CodecError::ExtraData(1)
-    );
 }
 
 #[test]

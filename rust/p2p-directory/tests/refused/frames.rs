@@ -5,7 +5,8 @@ use super::state::{State, empty, known, named_info, new, said, seconds, text};
 use super::{Case, LONGER_INFO};
 use crate::pair::testing::{NAMESPACE, info, key, setup};
 use crate::pair::{
-    CodecError, Error, Info, OutOfMemory, Payload, Received, SIGNATURE_SIZE, Signature, What,
+    CodecError, Error, Info, KEY_SIZE, OutOfMemory, Payload, Received, SIGNATURE_SIZE, Signature,
+    What,
 };
 
 fn greeting(state: &mut State, info: Info, now: u64) -> Result<String, OutOfMemory> {
@@ -289,3 +290,39 @@ pub const FRAMES: &[Case] = &[
         bytes: 544 + 4 * LONGER_INFO,
     },
 ];
+
+/// Frames with a key that begins with 4, if none can.
+pub const BAD_KEYS: &[Case] = match KEY_SIZE {
+    33 => &[
+        Case {
+            name: "a greeting of a bad key",
+            prepared: known,
+            call: |state| frame(state, &spoilt(Payload::Greeting(info(1, 2000)))),
+            answer: || fault(CodecError::Invalid(What::Key)),
+            requests: 4,
+            // The copy of the frame, with its control block.
+            bytes: 144 + LONGER_INFO,
+        },
+        Case {
+            name: "infos of which the second has a bad key",
+            prepared: known,
+            call: |state| {
+                let two = vec![info(1, 2000), info(3, 2000)];
+                frame(state, &spoilt(Payload::Peers(two)))
+            },
+            answer: || fault(CodecError::Invalid(What::Key)),
+            requests: 6,
+            // As for two infos.
+            bytes: 544 + 4 * LONGER_INFO,
+        },
+    ],
+    _ => &[],
+};
+
+// The frame, with another first byte of the key at its end.
+fn spoilt(payload: Payload) -> Vec<u8> {
+    let mut frame = payload.encode();
+    let place = frame.len() - KEY_SIZE - SIGNATURE_SIZE;
+    frame[place] = 4;
+    frame
+}

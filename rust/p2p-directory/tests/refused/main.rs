@@ -17,7 +17,7 @@ mod state;
 use crate::pair::{KEY_SIZE, OutOfMemory, SIGNATURE_SIZE};
 use asked::QUESTIONS;
 use changes::CHANGES;
-use frames::FRAMES;
+use frames::{BAD_KEYS, FRAMES};
 use heap::{Refused, held, while_refused};
 use questions::{QUIET, quiet_answers, told, told_at_the_end};
 use state::{State, known};
@@ -135,6 +135,7 @@ fn questions_are_answered_or_refused() {
 #[test]
 fn frames_are_taken_or_refused() {
     refuse_each(FRAMES);
+    refuse_each(BAD_KEYS);
 }
 
 #[test]
