@@ -49,7 +49,8 @@ impl Draws {
     fn no_key(&mut self) -> Vec<u8> {
         if LEAST_FIRST != 0 && self.below(2) == 0 {
             let mut bytes = self.bytes(KEY_SIZE as u64);
-            bytes[0] = self.below(LEAST_FIRST.into()) as u8;
+            // All but the two with which keys begin: from the one behind them on, and around.
+            bytes[0] = (LEAST_FIRST + 2).wrapping_add(self.below(254) as u8);
             return bytes;
         }
         let count = self.below(3 * KEY_SIZE as u64);
