@@ -7,7 +7,7 @@
 pub mod call;
 mod draws;
 #[allow(dead_code)]
-mod model;
+pub mod model;
 #[allow(dead_code)]
 mod real;
 

@@ -1,12 +1,12 @@
 //! Recorded calls, answered by the model.
 
-use crate::fields::{Fields, Outcome, key_bytes, moment_bytes, set_bytes};
-use crate::model::Model;
-use p2p_directory::record::{Answer, Call};
-use p2p_directory::{
+use super::fields::{Fields, Outcome, key_bytes, moment_bytes, set_bytes};
+use super::model::Model;
+use crate::pair::{
     CodecError, Error, Info, KEY_SIZE, Metadata, Moment, Payload, PayloadConfig, Received, Status,
     What,
 };
+use p2p_directory::record::{Answer, Call};
 use p2p_directory_sys as exports;
 
 /// The model, and the limits of its node.

@@ -1,10 +1,10 @@
 //! What the arguments of a recorded call stand for.
 
-use p2p_directory::record::{Argument, Call};
-use p2p_directory::{
+use crate::pair::{
     BitVec, Config, Info, Ingress, KEY_SIZE, Key, Moment, OrderedSet, Payload, PayloadConfig,
     Setup, TrackedPeers,
 };
+use p2p_directory::record::{Argument, Call};
 use std::error::Error;
 use std::num::NonZeroUsize;
 use std::time::Duration;
