@@ -99,6 +99,34 @@ macro_rules! pair {
             }
 
             #[test]
+            fn frames_of_nodes_have_the_bytes_of_the_formats() {
+                // The info of 2 at 1.2.3.4:8002 with the timestamp 0, and what is signed of it.
+                let ingress = [0, 4, 1, 2, 3, 4, 0x1f, 0x42];
+                let message = [ingress, [0; 8]].concat();
+                let signature = testing::sign(&key(2), testing::NAMESPACE, &message);
+                let info = [&ingress[..], &[0], &key_bytes(2), signature.as_ref()].concat();
+                let greeting = [&[1][..], &info].concat();
+                let reply = [&[3, 1][..], &info].concat();
+
+                let mut nodes = [1, 2].map(|number| Node::new(&testing::setup(number)).unwrap());
+                for node in &mut nodes {
+                    node.directory_mut().track(0, &set(&[1, 2])).unwrap();
+                }
+                let [asker, replier] = &mut nodes;
+                // Each knows itself: the bit of 1 is the lowest.
+                let question = [2, 0, 2, 0b01];
+                assert_eq!(asker.ask(0), Ok(Some(question.to_vec())));
+                let replied = replier.receive(&question, NOW, testing::verify);
+                assert_eq!(replied, Received::Reply(reply.clone()));
+                assert_eq!(replier.greeting(), greeting);
+                let mut received = |frame: &[u8]| asker.receive(frame, NOW, testing::verify);
+                assert_eq!(received(&reply), Received::Applied(1));
+                assert_eq!(received(&greeting), Received::Greeted(key(2)));
+                let data = Received::Data { channel: 1, message: 3..8 };
+                assert_eq!(received(b"\0\x01\x05hello"), data);
+            }
+
+            #[test]
             fn a_peer_is_reserved_connected_and_released() {
                 let mut directory = testing::directory();
                 let peer = key(1);
