@@ -1,59 +1,133 @@
 #!/bin/sh
-# Compiles examples/session.c as C11 and as C++17 without a warning, links it with the archive and runs both, also under
-# valgrind, and with keys of each other pair of sizes. Then runs it where an export that is handed a null pointer ends the program, and, with calls for 1,000 peers,
-# in threads with half of the stack that the header tells of.
+# Compiles examples/session.c as C++17 without a warning, links it with the archive and runs it under valgrind. For each
+# pair of sizes in tools/exports/session.table the same as C11, and
+# - looks that the program has the code of its pair alone;
+# - runs it where an export that is handed a null pointer ends the program;
+# - runs it, and calls with 1,000 peers, in threads with half of the stack that the header tells of.
+#
+# Then it runs a program that uses all pairs, sees that the compiler refuses a session of one pair to the calls of another,
+# and that no host links that was compiled for another interface.
 #
 # usage: tools/host_c.sh [FOLDER], the folder with libp2p_session.a, or libp2p_session_c.a and liblibc_c.a, by default
 # the one in which the Rust crates carry it
 set -eu
 cd "$(dirname "$0")/.."
 archives=${1:-rust/p2p-directory-sys/prebuilt/x86_64-unknown-linux-gnu}
-tools/installed.sh cc:gcc g++ valgrind
+tools/installed.sh cc:gcc g++ nm:binutils python3 valgrind
 folder=$(mktemp -d)
 trap 'rm -rf "$folder"' EXIT
+export LC_ALL=C
 
+table=tools/exports/session.table
 strict='-g -Wall -Wextra -pedantic -Werror'
-linked="-L $archives -lp2p_session"
-[ -f "$archives/libp2p_session.a" ] || linked="-L $archives -lp2p_session_c -llibc_c"
-# shellcheck disable=SC2086 # lists of words
-compile() {
-    cc -std=c11 $strict -I include examples/session.c $linked -o "$folder/c11"
-    g++ -std=c++17 $strict -I include -x c++ examples/session.c -x none $linked -o "$folder/c++17"
-    sed '/^static inline/,$!s/);$/) __attribute__((nonnull));/' include/p2p_session.h > "$folder/p2p_session.h"
-    cc -std=c11 $strict -fsanitize=nonnull-attribute -fsanitize-undefined-trap-on-error -I "$folder" examples/session.c \
-        $linked -o "$folder/nonnull"
-    cc -std=c11 $strict -I include -D main=session_main -c examples/session.c -o "$folder/session.o"
-    cc -std=c11 $strict -I include tools/host_stack.c "$folder/session.o" $linked -pthread -o "$folder/stack"
+linked="-L $archives -lp2p_session -Wl,--gc-sections"
+[ -f "$archives/libp2p_session.a" ] || linked="-L $archives -lp2p_session_c -llibc_c -Wl,--gc-sections"
+
+fail() {
+    echo "$1" >&2
+    exit 1
+}
+under_valgrind() {
+    valgrind --quiet --error-exitcode=9 --leak-check=full --errors-for-leak-kinds=definite,indirect "$1"
 }
 
-compile
-for language in c11 c++17; do
-    echo "examples/session.c as $language:"
-    "$folder/$language"
-    valgrind --quiet --error-exitcode=9 --leak-check=full --errors-for-leak-kinds=definite,indirect \
-        "$folder/$language" > "$folder/lines"
-done
-# The same with keys of each other pair of sizes: its calls and sizes have them in their names.
-grep '^pair ' tools/exports/session.table | tail -n +2 | sed 's/:.*//' | while read -r _ key signature firsts; do
-    pair=${key}_$signature
-    first=${firsts:+-D FIRST_BYTE=${firsts##* }}
-    sed -e "s/p2p_session_\([a-z_]*\)(/p2p_session_${pair}_\1(/g" -e "s/p2p_session_${pair}_is_/p2p_session_is_/g" \
-        -e "s/struct p2p_session\b/struct p2p_session_$pair/g" \
-        -e "s/P2P_SESSION_\(KEY_SIZE\|SIGNATURE_SIZE\|RECEIVE_ROOM\)/P2P_SESSION_${pair}_\1/g" \
-        examples/session.c > "$folder/$pair.c"
-    # shellcheck disable=SC2086 # lists of words
-    cc -std=c11 $strict $first -I include "$folder/$pair.c" $linked -o "$folder/$pair"
-    echo "examples/session.c with keys of $key bytes and signatures of $signature:"
-    valgrind --quiet --error-exitcode=9 --leak-check=full --errors-for-leak-kinds=definite,indirect "$folder/$pair"
-done
-# A host that was compiled for another interface doesn't link.
-sed 's/interface_[0-9a-f]*/interface_0123456789abcdef/' include/p2p_session.h > "$folder/p2p_session.h"
+# The pairs of sizes: what their calls begin with, the sizes, and the first bytes that a key may have.
+sed -n -e 's/:.*//' -e 's/ first / /g' -e 's/^pair \([0-9]*\) \([0-9]*\)/p2p_session_\1_\2 \1 \2/p' $table |
+    sed '1s/^[^ ]*/p2p_session/' > "$folder/pairs"
+
+# A source that is written for the first pair, for another: its calls, type and sizes have these in their names.
+of_pair() {
+    [ "$2" != p2p_session ] || { cat "$1"; return; }
+    sed -e "s/p2p_session_\([a-z_]*\)(/$2_\1(/g" -e "s/$2_is_/p2p_session_is_/g" -e "s/struct p2p_session\b/struct $2/g" \
+        -e "s/P2P_SESSION_\(KEY_SIZE\|SIGNATURE_SIZE\|RECEIVE_ROOM\)/$(echo "$2" | tr a-z A-Z)_\1/g" "$1"
+}
+
+# Whether a program has calls of this pair, and neither a call nor any other code of another one.
+has_only() {
+    own="^$2_"
+    [ "$2" != p2p_session ] || own='^p2p_session_[a-z]'
+    nm "$1" | sed -n -e 's/.* T p2p_session_/p2p_session_/p' -e 's/.*\bkeys\([0-9]*_[0-9]*\)::.*/p2p_session_\1_keys/p' \
+        > "$folder/symbols"
+    grep -q "$own" "$folder/symbols" || fail "a program of $2 has no symbol of it"
+    ! grep -v -e "$own" -e '^p2p_session_interface_' -e '^p2p_session_is_' "$folder/symbols" ||
+        fail "a program of $2 has these of another pair"
+}
+
 # shellcheck disable=SC2086 # lists of words
-if cc -std=c11 -I "$folder" examples/session.c $linked -o "$folder/other" 2> "$folder/lines"; then
-    echo 'a host that was compiled for another interface links' >&2
-    exit 1
-fi
-grep -q 'p2p_session_interface_0123456789abcdef' "$folder/lines"
-"$folder/nonnull" > "$folder/lines" || { echo 'an export is handed a null pointer' >&2; exit 1; }
-"$folder/stack" > "$folder/lines"
-grep 'bytes of stack' "$folder/lines"
+g++ -std=c++17 $strict -I include -x c++ examples/session.c -x none $linked -o "$folder/c++17"
+echo 'examples/session.c as C++17:'
+under_valgrind "$folder/c++17"
+
+mkdir "$folder/nonnull"
+sed '/^static inline/,$!s/);$/) __attribute__((nonnull));/' include/p2p_session.h > "$folder/nonnull/p2p_session.h"
+while read -r pair key signature firsts; do
+    first=${firsts:+-D FIRST_BYTE=${firsts##* }}
+    of_pair examples/session.c "$pair" > "$folder/session.c"
+    of_pair tools/host_stack.c "$pair" > "$folder/stack.c"
+    # shellcheck disable=SC2086 # lists of words
+    {
+        cc -std=c11 $strict $first -I include "$folder/session.c" $linked -o "$folder/session"
+        cc -std=c11 $strict $first -fsanitize=nonnull-attribute -fsanitize-undefined-trap-on-error -I "$folder/nonnull" \
+            "$folder/session.c" $linked -o "$folder/nonnull/session"
+        cc -std=c11 $strict $first -I include -D main=session_main -c "$folder/session.c" -o "$folder/session.o"
+        cc -std=c11 $strict $first -I include "$folder/stack.c" "$folder/session.o" $linked -pthread -o "$folder/stack"
+    }
+    echo "examples/session.c as C11 with keys of $key bytes and signatures of $signature:"
+    under_valgrind "$folder/session"
+    has_only "$folder/session" "$pair"
+    "$folder/nonnull/session" > "$folder/lines" || fail "an export of $pair is handed a null pointer"
+    "$folder/stack" > "$folder/lines" || fail "the stack is not enough for $pair"
+    grep 'bytes of stack' "$folder/lines"
+done < "$folder/pairs"
+
+# All pairs at once.
+while read -r pair _ _ first _; do
+    echo "PAIR($pair, $(echo "$pair" | tr a-z A-Z), ${first:-0})"
+done < "$folder/pairs" > "$folder/pairs.h"
+# shellcheck disable=SC2086 # lists of words
+cc -std=c11 $strict -I include -I "$folder" tools/host_pairs.c $linked -o "$folder/all"
+under_valgrind "$folder/all"
+
+# A session of one pair doesn't go where one of another is wanted.
+compiles() {
+    printf '#include "p2p_session.h"\nuint64_t mixed(struct %s *session) { return %s_%s; }\n' "$1" "$2" "$3" > "$folder/mixed.c"
+    cc -std=c11 -Werror=incompatible-pointer-types -I include -c "$folder/mixed.c" -o "$folder/mixed.o" \
+        2> "$folder/c11.told" && echo c11
+    g++ -std=c++17 -I include -x c++ -c "$folder/mixed.c" -o "$folder/mixed.o" 2> "$folder/c++17.told" && echo c++17
+}
+while read -r given _; do
+    while read -r wanted _; do
+        for call in 'tracked(session)' 'ask(session, 0, NULL, 0)'; do
+            taken=$(compiles "$given" "$wanted" "$call" || true)
+            if [ "$given" = "$wanted" ]; then
+                [ "$taken" = "$(printf 'c11\nc++17')" ] || fail "$call of $wanted doesn't compile"
+            else
+                [ -z "$taken" ] || fail "a session of $given is taken by a call of $wanted"
+                grep -q 'incompatible-pointer-types' "$folder/c11.told"
+                grep -q 'cannot convert' "$folder/c++17.told"
+            fi
+        done
+    done < "$folder/pairs"
+done < "$folder/pairs"
+echo 'a session of one pair of sizes is refused by the calls of each other one'
+
+# A host that was compiled for another interface doesn't link: the name with the hash is all that it lacks.
+refuses() {
+    sed "$2" $table > "$folder/session.table"
+    ! cmp -s $table "$folder/session.table" || fail "the table is the same: $1"
+    python3 tools/exports/exports.py "$folder/session.table" "$folder/other"
+    hash=$(grep -o 'p2p_session_interface_[0-9a-f]*' "$folder/other/include/p2p_session.h" | sort -u)
+    # shellcheck disable=SC2086 # lists of words
+    ! cc -std=c11 -I "$folder/other/include" examples/session.c $linked -o "$folder/host" 2> "$folder/lines" ||
+        fail "a host links that was compiled for $1"
+    grep 'undefined reference' "$folder/lines" | grep -q "$hash" || { cat "$folder/lines" >&2; exit 1; }
+    ! grep 'undefined reference' "$folder/lines" | grep -v "$hash" >&2 || exit 1
+    rm -r "$folder/other"
+    echo "does not link: a host that was compiled for $1"
+}
+last=$(grep -n '^pair ' $table | tail -n 1 | cut -d : -f 1)
+refuses 'one pair of sizes more' "${last}a pair 40 64: Another."
+refuses 'one pair of sizes less' "${last}d"
+refuses 'other first bytes' 's/^\(pair .*\) first [0-9]*:/\1:/'
+refuses 'a call with one more argument' 's/^next_cooled(/next_cooled(seconds: u64, /'
+refuses 'one refusal less' '/^refusal BAD_VERDICTS:/d'

@@ -27,6 +27,15 @@ static uint64_t need(const char *call, uint64_t answer) {
     return answer;
 }
 
+// Gives a key its first byte, where a key begins with a given one.
+static void begin_key(uint8_t *key) {
+#ifdef FIRST_BYTE
+    key[0] = FIRST_BYTE;
+#else
+    (void)key;
+#endif
+}
+
 // The first infos of the peers, at 1.2.3.4:8000 and a timestamp, behind the head of a frame.
 static void spell_frame(uint8_t timestamp) {
     const uint8_t head[] = {3, 0x80, 2}, ingress[] = {0, 4, 1, 2, 3, 4, 0x1f, 0x40};
@@ -48,6 +57,7 @@ static struct p2p_session *make_node(void) {
     p2p_session_new(session);
     // The info of a key that no peer has.
     memset(keys, 0xff, KEY);
+    begin_key(keys);
     spell_frame(0);
     need("init", p2p_session_init(session, true, true, 2, 1, 10, 0, 60, 0, PEERS, INFOS, ROOM, INFOS, 30, 0, NULL, 0,
         NULL, 0, frame + 3, INFO));
@@ -57,6 +67,7 @@ static struct p2p_session *make_node(void) {
         key[0] = (uint8_t)(i * 37);
         key[1] = (uint8_t)(i >> 8);
         key[2] = (uint8_t)i;
+        begin_key(key);
     }
     return session;
 }
