@@ -637,7 +637,8 @@ static inline void p2p_session_new_guarded(struct p2p_session *at)
 
 // ---- Keys of 33 bytes with signatures of 64: secp256k1 and secp256r1, compressed.
 //
-// Each call does what the one above does whose name has no sizes in it.
+// Each call does what the one above does whose name has no sizes in it. A key begins with 2 or 3;
+// bytes that begin otherwise are no key.
 #define P2P_SESSION_33_64_KEY_SIZE 33
 #define P2P_SESSION_33_64_SIGNATURE_SIZE 64
 #define P2P_SESSION_33_64_RECEIVE_ROOM (1 + P2P_SESSION_33_64_KEY_SIZE)

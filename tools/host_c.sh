@@ -39,7 +39,7 @@ sed -n -e 's/:.*//' -e 's/ first / /g' -e 's/^pair \([0-9]*\) \([0-9]*\)/p2p_ses
 of_pair() {
     [ "$2" != p2p_session ] || { cat "$1"; return; }
     sed -e "s/p2p_session_\([a-z_]*\)(/$2_\1(/g" -e "s/$2_is_/p2p_session_is_/g" -e "s/struct p2p_session\b/struct $2/g" \
-        -e "s/P2P_SESSION_\(KEY_SIZE\|SIGNATURE_SIZE\|RECEIVE_ROOM\)/$(echo "$2" | tr a-z A-Z)_\1/g" "$1"
+        -e "s/P2P_SESSION_\(KEY_SIZE\|SIGNATURE_SIZE\|RECEIVE_ROOM\)/$(echo "$2" | tr '[:lower:]' '[:upper:]')_\1/g" "$1"
 }
 
 # Whether a program has calls of this pair, and neither a call nor any other code of another one.
@@ -82,7 +82,7 @@ done < "$folder/pairs"
 
 # All pairs at once.
 while read -r pair _ _ first _; do
-    echo "PAIR($pair, $(echo "$pair" | tr a-z A-Z), ${first:-0})"
+    echo "PAIR($pair, $(echo "$pair" | tr '[:lower:]' '[:upper:]'), ${first:-0})"
 done < "$folder/pairs" > "$folder/pairs.h"
 # shellcheck disable=SC2086 # lists of words
 cc -std=c11 $strict -I include -I "$folder" tools/host_pairs.c $linked -o "$folder/all"

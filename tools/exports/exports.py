@@ -5,8 +5,10 @@
 
 Under ROOT it writes crates/CRATE/src and proofs, include/PREFIX.h, and rust/p2p-directory-sys/src/exports.rs with the
 folder beside it, and rust/p2p-directory/src/pairs.rs, likewise, and there what recorded.py says. The table has lines
-NAME: VALUE for crate, lib, type, words and prefix; a line `refusal NAME: WHEN` for each number that is no answer, from
-UINT64_MAX downwards; and then a line for each export, below lines with /// that say what it answers:
+NAME: VALUE for crate, lib, type, words and prefix; a line `pair KEY SIGNATURE: SCHEMES.` for each pair of sizes of keys
+and signatures, with `first BYTE` before the colon for each first byte of a key, rising, where not all are allowed; a line
+`refusal NAME: WHEN` for each number that is no answer, from UINT64_MAX downwards; and then a line for each export, below
+lines with /// that say what it answers:
 
     add(x: u64) -> bool = Adds
 
@@ -276,15 +278,11 @@ def read_table(path):
         export = re.fullmatch(r'(fn )?(\w+)\((.*)\) -> (\w+) = ([\w.]+)', line)
         refusal = re.fullmatch(r'refusal (\w+): (.*)', line)
         pair = re.fullmatch(r'pair (\d+) (\d+)((?: first \d+)*): (.*)', line)
+        named = re.fullmatch(r'(crate|lib|type|words|prefix): (\w+)', line)
         if line.startswith('///'):
             doc.append(line[3:].strip())
         elif pair:
-            key, signature, firsts, said = pair.groups()
-            firsts = firsts.replace('first', '').split()
-            assert firsts == sorted(firsts, key=int), 'first bytes rise'
-            if not (4 <= int(key) <= 65535 and 4 <= int(signature) <= 65535) or any(int(first) > 255 for first in firsts):
-                sys.exit(f'{line}: keys and signatures have 4 to 65535 bytes, and a first byte is below 256')
-            names.setdefault('pairs', []).append((key, signature, firsts, said))
+            names.setdefault('pairs', []).append(read_pair(line, *pair.groups()))
         elif refusal:
             refusals[refusal.group(1)] = refusal.group(2)
         elif export:
@@ -295,10 +293,43 @@ def read_table(path):
                 params.insert(place, Param('at', '*mut Handle'))
             exports.append((method, params, result, word, ' '.join(doc)))
             doc = []
+        elif named:
+            names[named.group(1)] = named.group(2)
         else:
-            key, value = line.split(': ')
-            names[key] = value
+            sys.exit(f'{line}: this is no line of a table, as exports.py says them')
+    check_pairs(names)
     return names, exports
+
+
+def read_pair(line, key, signature, firsts, said):
+    """A pair of sizes: how many bytes keys and signatures have, the first bytes of a key, if not all are allowed, and for
+    what it is."""
+    key, signature, *firsts = (str(int(number)) for number in [key, signature, *firsts.replace('first', '').split()])
+    if not (4 <= int(key) <= 65535 and 4 <= int(signature) <= 65535):
+        sys.exit(f'{line}: keys and signatures have 4 to 65,535 bytes.')
+    if any(int(first) > 255 for first in firsts):
+        sys.exit(f'{line}: a first byte is at most 255.')
+    if any(int(a) >= int(b) for a, b in zip(firsts, firsts[1:])):
+        sys.exit(f'{line}: each first byte is above the one before.')
+    return key, signature, firsts, said
+
+
+def check_pairs(names):
+    """Refuses pairs that have the same names, and a first one that isn't that of the library, whose keys it has."""
+    pairs = names.get('pairs', [])
+    if not pairs:
+        sys.exit('There is no pair of sizes.')
+    sizes = [pair[:2] for pair in pairs]
+    for key, signature in sizes:
+        if sizes.count((key, signature)) > 1:
+            sys.exit(f'pair {key} {signature}: it stands there twice.')
+    source = f"crates/{names['lib']}/src/key.rt"
+    text = open(os.path.join(HERE, '../..', source)).read()
+    own = tuple(re.search(rf'(?m)^pub const {name}: usize = (\d+);$', text).group(1) for name in ('KEY_SIZE', 'SIGNATURE_SIZE'))
+    if sizes[0] != own:
+        sys.exit(f"pair {' '.join(sizes[0])}: the first pair is that of {source}, {' '.join(own)}.")
+    if pairs[0][2]:
+        sys.exit(f"pair {' '.join(sizes[0])}: the first pair has no first bytes, since {source} takes any.")
 
 
 def is_apart(params):
@@ -627,10 +658,12 @@ def other_pair(names, place, calls):
     upper = pair['prefix'].upper()
     own = [call for call in calls if call[0] in ('size', 'new') or not is_apart(call[1])]
     declarations, nullable = declared_in_c(pair, own, documented=False)
+    firsts = f" A key begins with {pair['firsts']}; bytes that begin otherwise are no key." if pair['all_firsts'] else ''
+    said = wrapped(f"Each call does what the one above does whose name has no sizes in it.{firsts}", '// ')
     return f"""
 // ---- Keys of {pair['key']} bytes with signatures of {pair['signature']}: {names['pairs'][place][3]}
 //
-// Each call does what the one above does whose name has no sizes in it.
+{said}
 #define {upper}_KEY_SIZE {pair['key']}
 #define {upper}_SIGNATURE_SIZE {pair['signature']}
 #define {upper}_RECEIVE_ROOM (1 + {upper}_KEY_SIZE)
