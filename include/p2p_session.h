@@ -23,7 +23,7 @@
 //   that has threads.
 // - Stack: P2P_SESSION_STACK bytes of the thread's stack are free at each call.
 //   That is measured, not proved: threads with half as much, the least that glibc grants, run
-//   examples/session.c and calls with 1,000 peers (tools/host_stack.c).
+//   examples/session.c and calls with 1,000 peers (tools/host_stack.c), with each pair of sizes.
 // - Processor: it has all of x86-64-v2. The library doesn't ask it; on an older one the program
 //   dies of an illegal instruction.
 //

@@ -254,7 +254,7 @@ union unsigned using virtual void volatile wchar_t while xor xor_eq""".split())
 # The least stack of a thread with which tools/host_stack.c passed. glibc grants no less.
 STACK = 16384
 STACK_MEASURED = """That is measured, not proved: threads with half as much, the least that glibc grants, run examples/session.c and
-calls with 1,000 peers (tools/host_stack.c)."""
+calls with 1,000 peers (tools/host_stack.c), with each pair of sizes."""
 
 
 def wrapped(text, before, width=100):
