@@ -32,10 +32,20 @@ def played(root, place):
     return sum(int(numbers[place]) for numbers in found)
 
 
-def exports(root):
-    """Returns how many calls the archive exports: those of the table, and size, new and free."""
+def table(root, wanted):
+    """Returns how many lines of the table of exports read so from their beginning."""
     text = (root / "tools/exports/session.table").read_text(encoding="utf-8")
-    return 3 + len(re.findall(r"^(?:fn )?\w+\(.*\) -> \w+ = [\w.]+$", text, re.M))
+    return len(re.findall(rf"^{wanted}", text, re.M))
+
+
+def pair_exports(root):
+    """Returns how many calls each pair of sizes has: those of the table on a session, and size, new and free."""
+    return 3 + table(root, r"\w+\(.*\) -> \w+ = [\w.]+$")
+
+
+def exports(root):
+    """Returns how many calls the archive exports: those of each pair, and those of functions that need no session."""
+    return table(root, "pair ") * pair_exports(root) + table(root, r"fn \w+\(.*\) -> \w+ = [\w.]+$")
 
 
 def worked(root):
@@ -57,6 +67,7 @@ def reached_number(root, function, place):
 
 COUNTS = {
     "exports": exports,
+    "pair-exports": pair_exports,
     "worked-examples": worked,
     "replies": lambda root: played(root, 1),
     "all-replies": lambda root: played(root, 0),
