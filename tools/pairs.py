@@ -9,7 +9,7 @@ import subprocess
 import sys
 
 TURNS = 20
-PEERS = (100, 1_000)
+PEERS = (100, 1_000, 10_000)
 SCENARIOS = ("init", "track", "dial", "listen", "connect", "connect_dialer", "update_1", "update_100", "block", "unblock_expired",
     "forget_cooled", "blocked_peers", "status", "eligible", "acceptable", "info", "infos", "bits", "get_peer_set", "all",
     "latest_update", "dialable", "receive", "data")
@@ -27,7 +27,7 @@ def main():
     print("scenario,peers,before_ns,now_ns,ratio,keys_of_33_ns,ratio_to_32")
     for scenario in SCENARIOS:
         for peers in PEERS:
-            words = (scenario, peers, (30_000 if scenario in SHORT else 6_000) // (peers // 10))
+            words = (scenario, peers, max(40, (30_000 if scenario in SHORT else 6_000) // (peers // 10)))
             runs = ((before, words), (now, words), (now, (*words, 33)))
             times = [min(column) for column in zip(*([median(program, processor, it) for program, it in runs] for _ in range(TURNS)))]
             print(f"{scenario},{peers},{times[0]},{times[1]},{times[1] / times[0]:.3f},{times[2]},{times[2] / times[1]:.3f}", flush=True)
