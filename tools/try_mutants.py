@@ -49,6 +49,8 @@ def functions_of(edit, crate):
             continue
         module = "::".join(it for it in Path(file).with_suffix("").parts[1:] if it not in ("lib", "main"))
         path = "::".join(it for it in (block(before) or module, *names[-1:]) if it)
+        # Else the crate's name would be taken for that of its module.
+        path = f"{crate.name}::{path}" if path.startswith(f"{crate.name}::") else path
         if path not in found:
             found.append(path)
     return found
