@@ -27,14 +27,14 @@ fn given() -> Setup {
 // The least and the mean time of a `receive`.
 fn measured(node: &mut Node) -> Result<(u128, u128), Box<dyn Error>> {
     let peers = OrderedSet::from_iter_dedup((1..=INFOS).map(key));
-    node.directory_mut().track(0, &peers.into())?;
+    let _ = node.directory_mut().track(0, &peers.into())?;
     let frame = Payload::Peers((1..=INFOS).map(|number| info(number, 1_000)).collect()).encode();
     let (mut least, mut all) = (u128::MAX, 0);
     for _ in 0..TURNS {
         let begun = Instant::now();
-        let received = node.receive(&frame, Moment::from_secs(100), |_, _, _, _| true);
+        let received = node.receive(&frame, Moment::from_secs(100), |_| true);
         let taken = begun.elapsed().as_nanos();
-        received.accepted()?;
+        let _ = received.accepted()?;
         (least, all) = (least.min(taken), all + taken);
     }
     Ok((least, all / TURNS as u128))

@@ -3,12 +3,13 @@
 //!
 //! `cargo run --example two_nodes`
 
-use p2p_directory::testing::{info, key, setup, verify};
-use p2p_directory::{Key, Moment, Node, OrderedSet, Received, Reservation};
+use p2p_directory::testing::{config, info, key, setup, verify};
+use p2p_directory::{Key, Moment, Node, OrderedSet, Received, Reservation, Tracked};
+use std::collections::hash_map::RandomState;
 use std::error::Error;
+use std::hash::{BuildHasher, Hasher};
 use std::sync::mpsc::{Receiver, Sender, channel};
 use std::thread;
-use std::time::Duration;
 
 /// The time of everything that happens here.
 const NOW: Moment = Moment::from_secs(100);
@@ -22,16 +23,25 @@ struct Connected {
     held: Vec<Reservation>,
 }
 
+/// A random number. Use your generator.
+fn random() -> u64 {
+    RandomState::new().build_hasher().finish()
+}
+
 /// A node with the key of a number. It is connected with the other node, and with another peer
 /// whose info it knows.
 fn connected(number: u16, other: u16, known: u16) -> Result<Connected, Box<dyn Error>> {
     let mut node = Node::new(&setup(number))?;
     let mut held = Vec::new();
+    let peers = OrderedSet::from_iter_dedup(PEERS.map(key)).into();
+    let Tracked::Accepted(to_disconnect) = node.track(0, &peers)? else {
+        return Err("a later set is registered".into());
+    };
+    assert!(to_disconnect.is_empty(), "nobody is connected yet");
     let directory = node.directory_mut();
-    directory.track(0, &OrderedSet::from_iter_dedup(PEERS.map(key)).into())?;
     directory.update_peers(&[info(known, 1000)])?;
     for peer in [other, known] {
-        let granted = directory.listen(&key(peer), NOW, Duration::ZERO)?;
+        let granted = directory.listen(&key(peer), NOW, config().draw(random()))?;
         let reservation = granted.ok_or("the peer may not come")?;
         // If an error drops the reservation, it is released, and so are those before it.
         directory.connect_reserved(&reservation)?;

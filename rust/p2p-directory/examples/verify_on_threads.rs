@@ -3,7 +3,7 @@
 //! `cargo run --release --example verify_on_threads`
 
 use p2p_directory::testing::{info, key, setup, verify};
-use p2p_directory::{Key, Moment, Node, OrderedSet, Payload, Questions, Received, Signature};
+use p2p_directory::{Moment, Node, OrderedSet, Payload, Question, Questions, Received};
 use std::error::Error;
 use std::sync::Mutex;
 use std::thread;
@@ -20,9 +20,9 @@ const NOW: Moment = Moment::from_secs(100);
 /// How long the verification of a real signature takes, unlike one of `testing`.
 const ONE_SIGNATURE: Duration = Duration::from_micros(50);
 
-fn is_right(key: &Key, namespace: &[u8], message: &[u8], signature: &Signature) -> bool {
+fn is_right(question: Question<'_>) -> bool {
     let start = Instant::now();
-    let is_right = verify(key, namespace, message, signature);
+    let is_right = verify(question);
     while start.elapsed() < ONE_SIGNATURE {
         std::hint::spin_loop();
     }
@@ -31,7 +31,6 @@ fn is_right(key: &Key, namespace: &[u8], message: &[u8], signature: &Signature) 
 
 /// A verification result for each question, from four threads. Meanwhile the node isn't locked.
 fn verdicts(questions: &Questions<'_>, node: &Mutex<Node>) -> Vec<bool> {
-    let namespace = questions.namespace();
     let asked: Vec<_> = questions.iter().collect();
     let mut verdicts = vec![false; asked.len()];
     let share = asked.len().div_ceil(THREADS).max(1);
@@ -39,8 +38,7 @@ fn verdicts(questions: &Questions<'_>, node: &Mutex<Node>) -> Vec<bool> {
         for (asked, verdicts) in asked.chunks(share).zip(verdicts.chunks_mut(share)) {
             scope.spawn(move || {
                 for (asked, verdict) in asked.iter().zip(verdicts) {
-                    let (key, signature) = (&asked.public_key, &asked.signature);
-                    *verdict = is_right(key, namespace, asked.message, signature);
+                    *verdict = is_right(*asked);
                 }
             });
         }
@@ -54,7 +52,8 @@ fn verdicts(questions: &Questions<'_>, node: &Mutex<Node>) -> Vec<bool> {
 fn node() -> Result<Node, Box<dyn Error>> {
     let mut node = Node::new(&setup(INFOS + 1))?;
     let peers = OrderedSet::from_iter_dedup((1..=INFOS).map(key));
-    node.directory_mut().track(0, &peers.into())?;
+    let to_disconnect = node.track(0, &peers.into())?.accepted();
+    assert_eq!(to_disconnect, Some(OrderedSet::default()));
     Ok(node)
 }
 

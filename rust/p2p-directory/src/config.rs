@@ -38,6 +38,34 @@ pub struct Config {
     pub block_duration: Duration,
 }
 
+impl Config {
+    /// The jitter of a reservation, for [`Directory::dial`](crate::Directory::dial) and
+    /// [`Directory::listen`](crate::Directory::listen), from a random number: `random` modulo the
+    /// number of nanoseconds from zero to twice the half of the cooldown, both included. The half is
+    /// rounded down.
+    ///
+    /// If `random` is drawn uniformly from all numbers, once for each call, the jitter is uniform
+    /// over that range. For cooldowns above 584 years it is at most `u64::MAX` nanoseconds.
+    ///
+    /// # Examples
+    ///
+    /// ```
+    /// # let cfg = p2p_directory::testing::config();
+    /// use std::time::Duration;
+    ///
+    /// assert_eq!(cfg.peer_connection_cooldown, Duration::from_secs(10));
+    /// assert_eq!(cfg.draw(4_711), Duration::from_nanos(4_711));
+    /// assert_eq!(cfg.draw(10_000_000_000), Duration::from_secs(10));
+    /// assert_eq!(cfg.draw(10_000_000_001), Duration::ZERO);
+    /// ```
+    #[must_use]
+    pub fn draw(&self, random: u64) -> Duration {
+        let half = self.peer_connection_cooldown.as_nanos() / 2;
+        let jitter = u128::from(random) % (2 * half + 1);
+        Duration::from_nanos(jitter as u64)
+    }
+}
+
 /// The limits under which frames are decoded.
 ///
 /// # Examples

@@ -34,6 +34,36 @@ pub enum SetupError {
     Processor,
 }
 
+/// The reason why a node didn't register a peer set. Nothing has changed.
+///
+/// # Examples
+///
+/// ```
+/// # use p2p_directory::*;
+/// # let mut setup = testing::setup(9);
+/// setup.payload.max_bit_vec = 3;
+/// let mut node = Node::new(&setup)?;
+/// let set = OrderedSet::from_iter_dedup((1..=4).map(testing::key)).into();
+/// let refused = node.track(0, &set).unwrap_err();
+/// assert_eq!(refused, TrackError::TooLarge { primary: 4, limit: 3 });
+/// assert_eq!(refused.to_string(), "4 primary peers, and frames may have 3 bits");
+/// # Ok::<(), SetupError>(())
+/// ```
+#[derive(Clone, Copy, Debug, PartialEq, Eq, Hash)]
+#[non_exhaustive]
+pub enum TrackError {
+    /// An allocation failed.
+    OutOfMemory,
+    /// There are more primary peers than [`PayloadConfig::max_bit_vec`](crate::PayloadConfig). The
+    /// node would refuse each question about the set, and block correct peers for it.
+    TooLarge {
+        /// How many primary peers there are.
+        primary: usize,
+        /// The limit: the maximum number of bits.
+        limit: u64,
+    },
+}
+
 /// The peer isn't reserved, so it can't be connected. Nothing has changed.
 ///
 /// # Examples
@@ -161,11 +191,12 @@ pub struct DuplicateKeyError;
 /// # Examples
 ///
 /// ```
-/// # use p2p_directory::*; use std::time::Duration;
+/// # use p2p_directory::*;
+/// # let (cfg, random) = (testing::config(), || 4_711);
 /// # let (mut directory, mut other) = (testing::directory(), testing::directory());
 /// # let (peer, now) = (testing::key(1), Moment::from_secs(1));
-/// # directory.track(0, &OrderedSet::from_iter_dedup([peer]).into())?;
-/// let reservation = directory.listen(&peer, now, Duration::ZERO)?.expect("in a set");
+/// # let _ = directory.track(0, &OrderedSet::from_iter_dedup([peer]).into())?;
+/// let reservation = directory.listen(&peer, now, cfg.draw(random()))?.expect("in a set");
 /// let refused = other.connect_reserved(&reservation).unwrap_err();
 /// assert_eq!(refused, ConnectError::OfAnotherDirectory);
 /// assert_eq!(refused.to_string(), "the reservation is of another directory");
@@ -276,6 +307,20 @@ impl fmt::Display for SetupError {
     }
 }
 
+impl fmt::Display for TrackError {
+    fn fmt(&self, f: &mut fmt::Formatter<'_>) -> fmt::Result {
+        match self {
+            TrackError::OutOfMemory => f.write_str("the set could not be registered"),
+            TrackError::TooLarge { primary, limit } => {
+                write!(
+                    f,
+                    "{primary} primary peers, and frames may have {limit} bits"
+                )
+            }
+        }
+    }
+}
+
 impl fmt::Display for NotReservedError {
     fn fmt(&self, f: &mut fmt::Formatter<'_>) -> fmt::Result {
         f.write_str("the peer is not reserved")
@@ -349,6 +394,15 @@ impl error::Error for SetupError {
     }
 }
 
+impl error::Error for TrackError {
+    fn source(&self) -> Option<&(dyn error::Error + 'static)> {
+        match self {
+            TrackError::OutOfMemory => Some(&OutOfMemory),
+            TrackError::TooLarge { .. } => None,
+        }
+    }
+}
+
 impl error::Error for NotReservedError {}
 impl error::Error for Error {}
 impl error::Error for CodecError {}
@@ -362,6 +416,12 @@ impl From<TryReserveError> for OutOfMemory {
 impl From<OutOfMemory> for SetupError {
     fn from(_refused: OutOfMemory) -> SetupError {
         SetupError::OutOfMemory
+    }
+}
+
+impl From<OutOfMemory> for TrackError {
+    fn from(_refused: OutOfMemory) -> TrackError {
+        TrackError::OutOfMemory
     }
 }
 

@@ -50,7 +50,7 @@
 //! let (own, peer) = (Key::new([2; 33])?, Key::new([3; 33])?);
 //! let myself = Info::sign(own, b"net", ingress, 0, |_, _| Signature([0; 64]));
 //! let mut directory = Directory::init(&[], &myself, cfg)?;
-//! directory.track(0, &OrderedSet::from_iter_dedup([peer]).into())?;
+//! assert!(directory.track(0, &OrderedSet::from_iter_dedup([peer]).into())?.accepted().is_some());
 //! assert_eq!(directory.status(&peer), Some(Status::Inert));
 //! # Ok::<(), Box<dyn std::error::Error>>(())
 //! ```
@@ -80,15 +80,21 @@
 //! # Examples
 //!
 //! ```
-//! # use p2p_directory::*; use std::time::Duration;
+//! # use p2p_directory::*;
+//! # let (cfg, random) = (testing::config(), || 4_711);
+//! # let disconnect = |_: &Key| ();
 //! let mut directory = testing::directory();
 //! let peer = testing::key(1);
-//! directory.track(0, &OrderedSet::from_iter_dedup([peer]).into())?;
+//! let peers = OrderedSet::from_iter_dedup([peer]).into();
+//! if let Tracked::Accepted(to_disconnect) = directory.track(0, &peers)? {
+//!     to_disconnect.iter().for_each(disconnect);
+//! }
 //! directory.update_peers(&[testing::info(1, 1000)])?;
 //!
 //! let now = Moment::from_secs(100);
 //! for peer in directory.dialable(now)?.peers {
-//!     if let Some(reservation) = directory.dial(&peer, now, Duration::ZERO)? {
+//!     // `random()` is a random `u64` of your generator.
+//!     if let Some(reservation) = directory.dial(&peer, now, cfg.draw(random()))? {
 //!         // A reservation that is dropped by an error is released.
 //!         directory.connect_reserved(&reservation)?;
 //!         // .. the connection ..
@@ -123,7 +129,7 @@ pub use config::{Config, PayloadConfig};
 pub use data::{BitVec, Data};
 pub use error::{
     CodecError, ConnectError, DuplicateKeyError, Error, KeyError, NotReservedError, OutOfMemory,
-    ParseError, RefusedError, SetupError, ValidateError, What, WrongVerdictsError,
+    ParseError, RefusedError, SetupError, TrackError, ValidateError, What, WrongVerdictsError,
 };
 pub use ingress::{Hostname, Ingress, is_global};
 #[cfg(feature = "record")]
@@ -133,7 +139,8 @@ pub use keys32_64::testing;
 pub use keys32_64::{
     Dialable, Directory, Info, InfoVerifier, Judged, KEY_SIZE, Key, Metadata, Node, OrderedSet,
     Payload, PeerSetUpdate, Question, Questions, QuestionsIter, ReceiveError, Received,
-    ReleaseError, Reservation, SIGNATURE_SIZE, Setup, Signature, TrackedPeers, max_gossip_size,
+    ReleaseError, Reservation, SIGNATURE_SIZE, Setup, Signature, Tracked, TrackedPeers,
+    max_gossip_size,
 };
 pub use moment::{BeforeEpochError, Moment};
 pub use pairs::*;

@@ -6,5 +6,5 @@ pub use crate::{
     BeforeEpochError, BitVec, CodecError, Config, ConnectError, Data, DuplicateKeyError,
     EncodedData, Error, Hostname, Ingress, KeyError, MAX_PAYLOAD_OVERHEAD, Moment,
     NotReservedError, OutOfMemory, ParseError, PayloadConfig, RefusedError, SetupError, Status,
-    ValidateError, What, WrongVerdictsError, is_global, max_size,
+    TrackError, ValidateError, What, WrongVerdictsError, is_global, max_size,
 };

@@ -5,7 +5,7 @@ use crate::pair::{
     BeforeEpochError, BitVec, CodecError, Config, ConnectError, Data, Directory, EncodedData,
     Hostname, Info, Ingress, KEY_SIZE, Key, MAX_PAYLOAD_OVERHEAD, Metadata, Moment, Node,
     OrderedSet, ParseError, Payload, PayloadConfig, Received, RefusedError, SIGNATURE_SIZE,
-    SetupError, Signature, Status, ValidateError, What, max_gossip_size, max_size,
+    SetupError, Signature, Status, TrackError, ValidateError, What, max_gossip_size, max_size,
 };
 // Where another file has this one as a module, the pair of sizes is that of the other.
 #[allow(unused_imports)]
@@ -59,7 +59,7 @@ fn dial_moment(draw: Duration) -> Option<Moment> {
     };
     let mut directory = Directory::init(&[], &info(9, 0), cfg).unwrap();
     let peers = OrderedSet::from_iter_dedup([key(1)]);
-    directory.track(0, &peers.into()).unwrap();
+    let _ = directory.track(0, &peers.into()).unwrap();
     directory.update_peers(&[info(1, 1000)]).unwrap();
     let granted = directory.listen(&key(1), Moment::from_secs(100), draw);
     directory.release(granted.unwrap().unwrap()).unwrap();
@@ -77,6 +77,54 @@ fn draws_are_taken_up_to_the_end_of_their_range() {
     assert_eq!(dial_moment(4 * NANO), after(9));
     assert_eq!(dial_moment(5 * NANO), after(9));
     assert_eq!(dial_moment(9 * NANO), after(9));
+}
+
+// A draw from this word under a cooldown of so many nanoseconds.
+fn drawn(cooldown: u64, random: u64) -> Duration {
+    let peer_connection_cooldown = Duration::from_nanos(cooldown);
+    let cfg = Config {
+        peer_connection_cooldown,
+        ..config()
+    };
+    cfg.draw(random)
+}
+
+// A draw is the word modulo (twice the half of the cooldown in nanoseconds, plus one).
+#[test]
+fn a_draw_has_each_jitter_up_to_twice_the_half_of_the_cooldown() {
+    let all = |cooldown| (0..12).map(move |random| drawn(cooldown, random).as_nanos());
+    assert!(all(0).eq([0; 12]));
+    assert!(all(1).eq([0; 12]));
+    assert!(all(2).eq([0, 1, 2].into_iter().cycle().take(12)));
+    assert!(all(5).eq([0, 1, 2, 3, 4].into_iter().cycle().take(12)));
+    assert_eq!(drawn(u64::MAX, u64::MAX), Duration::ZERO);
+    assert_eq!(
+        drawn(u64::MAX, u64::MAX - 1),
+        Duration::from_nanos(u64::MAX - 1)
+    );
+    let longest = Config {
+        peer_connection_cooldown: Duration::MAX,
+        ..config()
+    };
+    assert_eq!(longest.draw(u64::MAX), Duration::from_nanos(u64::MAX));
+}
+
+#[test]
+fn a_directory_is_formatted_without_a_call() {
+    let mut directory = directory();
+    let peers = OrderedSet::from_iter_dedup([key(1), key(2)]).into();
+    let _ = directory.track(0, &peers).unwrap();
+    let granted = directory.listen(&key(1), Moment::from_secs(1), Duration::ZERO);
+    drop(granted.unwrap().unwrap());
+    let wanted = format!(
+        "Directory {{ key_size: {KEY_SIZE}, signature_size: {SIGNATURE_SIZE}, reservations: 1, .. }}"
+    );
+    assert_eq!(format!("{directory:?}"), wanted);
+    // The dropped reservation is still out, until the next call.
+    assert_eq!(format!("{directory:?}"), wanted);
+    assert_eq!(directory.status(&key(1)), Some(Status::Inert));
+    let released = wanted.replace("reservations: 1", "reservations: 0");
+    assert_eq!(format!("{directory:?}"), released);
 }
 
 #[test]
@@ -235,6 +283,9 @@ fn errors_name_their_causes() {
     assert_eq!(texts(&SetupError::Setting), ["a setting is out of range"]);
     let lacks = "the processor lacks instructions of x86-64-v2";
     assert_eq!(texts(&SetupError::Processor), [lacks]);
+    let not_registered = texts(&TrackError::OutOfMemory);
+    let said = ["the set could not be registered", "memory was refused"];
+    assert_eq!(not_registered, said);
     let connected = texts(&ConnectError::NotReserved);
     assert_eq!(
         connected,
@@ -293,9 +344,8 @@ fn what_is_accepted_is_handed_on() {
 #[test]
 fn an_error_of_a_reservation_names_its_peer() {
     let mut directory = directory();
-    directory
-        .track(0, &OrderedSet::from_iter_dedup([key(1)]).into())
-        .unwrap();
+    let peers = OrderedSet::from_iter_dedup([key(1)]);
+    let _ = directory.track(0, &peers.into()).unwrap();
     let granted = directory.listen(&key(1), Moment::from_secs(1), Duration::ZERO);
     let refused = testing::directory()
         .release(granted.unwrap().unwrap())

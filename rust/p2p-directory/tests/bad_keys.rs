@@ -25,7 +25,7 @@ fn node() -> Node {
     };
     let mut node = Node::new(&setup).expect("memory for a node");
     let peers = OrderedSet::from_iter_dedup([testing::key(1)]).into();
-    node.directory_mut().track(0, &peers).expect("memory");
+    let _ = node.directory_mut().track(0, &peers).expect("memory");
     node
 }
 

@@ -17,7 +17,7 @@ fn tracked(sets: &[&[u16]]) -> Directory {
     for (index, numbers) in (0..).zip(sets) {
         let keys = numbers.iter().map(|number| key(*number));
         let peers = OrderedSet::from_iter_dedup(keys).into();
-        directory.track(index, &peers).unwrap().unwrap();
+        directory.track(index, &peers).unwrap().accepted().unwrap();
     }
     directory
 }

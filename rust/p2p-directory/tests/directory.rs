@@ -40,7 +40,8 @@ fn with_sets(max_sets: usize) -> Directory {
 
 // Registers the set, and returns the peers that must be disconnected.
 fn track(directory: &mut Directory, index: u64, primary: &[u16]) -> Option<OrderedSet> {
-    directory.track(index, &set(primary).into()).unwrap()
+    let tracked = directory.track(index, &set(primary).into()).unwrap();
+    tracked.accepted()
 }
 
 fn listen(directory: &mut Directory, number: u16, now: Moment) -> Option<Reservation> {
@@ -77,11 +78,23 @@ fn test_block_myself_no_panic_on_expiry() {
 fn test_secondary_sets_remain_until_eviction() {
     let mut directory = with_sets(2);
     let now = seconds(100);
-    directory.track(0, &peers(&[1], &[4])).unwrap().unwrap();
+    directory
+        .track(0, &peers(&[1], &[4]))
+        .unwrap()
+        .accepted()
+        .unwrap();
     assert!(directory.eligible(&key(4), now));
-    directory.track(1, &peers(&[2], &[5])).unwrap().unwrap();
+    directory
+        .track(1, &peers(&[2], &[5]))
+        .unwrap()
+        .accepted()
+        .unwrap();
     assert!(directory.eligible(&key(4), now) && directory.eligible(&key(5), now));
-    directory.track(2, &peers(&[3], &[])).unwrap().unwrap();
+    directory
+        .track(2, &peers(&[3], &[]))
+        .unwrap()
+        .accepted()
+        .unwrap();
     assert_eq!(directory.status(&key(4)), None);
     assert!(directory.eligible(&key(5), now));
 }
@@ -92,6 +105,7 @@ fn test_track_primary_secondary_overlap_deduplicates() {
     directory
         .track(0, &peers(&[1, 2], &[2, 3]))
         .unwrap()
+        .accepted()
         .unwrap();
     assert_eq!(
         directory.get_peer_set(0).unwrap(),
@@ -105,11 +119,23 @@ fn test_track_primary_secondary_overlap_deduplicates() {
 #[test]
 fn test_demotion_from_primary_to_secondary() {
     let mut directory = with_sets(2);
-    directory.track(0, &peers(&[1], &[2])).unwrap().unwrap();
-    directory.track(1, &peers(&[2], &[1])).unwrap().unwrap();
+    directory
+        .track(0, &peers(&[1], &[2]))
+        .unwrap()
+        .accepted()
+        .unwrap();
+    directory
+        .track(1, &peers(&[2], &[1]))
+        .unwrap()
+        .accepted()
+        .unwrap();
     // A peer that is primary in some set is primary.
     assert_eq!(directory.all().unwrap(), peers(&[1, 2], &[]));
-    directory.track(2, &peers(&[2], &[1])).unwrap().unwrap();
+    directory
+        .track(2, &peers(&[2], &[1]))
+        .unwrap()
+        .accepted()
+        .unwrap();
     // The only set in which peer 1 was primary was dropped.
     assert_eq!(directory.all().unwrap(), peers(&[2], &[1]));
 }
@@ -117,10 +143,15 @@ fn test_demotion_from_primary_to_secondary() {
 #[test]
 fn test_all_cross_index_primary_wins_for_overlap_peer() {
     let mut directory = with_sets(3);
-    directory.track(0, &peers(&[31, 33], &[])).unwrap().unwrap();
+    directory
+        .track(0, &peers(&[31, 33], &[]))
+        .unwrap()
+        .accepted()
+        .unwrap();
     directory
         .track(1, &peers(&[32], &[33, 34]))
         .unwrap()
+        .accepted()
         .unwrap();
     assert_eq!(directory.all().unwrap(), peers(&[31, 32, 33], &[34]));
 }
@@ -289,7 +320,11 @@ fn edges_of_indices_and_of_what_is_refused() {
 #[test]
 fn secondary_peers_come_but_are_not_dialled() {
     let mut directory = with_sets(2);
-    directory.track(0, &peers(&[1], &[1, 2])).unwrap().unwrap();
+    directory
+        .track(0, &peers(&[1], &[1, 2]))
+        .unwrap()
+        .accepted()
+        .unwrap();
     directory.update_peers(&[info(2, 1000)]).unwrap();
     assert!(dial(&mut directory, 2, seconds(100)).is_none());
     let reservation = listen(&mut directory, 2, seconds(100)).unwrap();
@@ -307,7 +342,11 @@ fn secondary_peers_come_but_are_not_dialled() {
 #[test]
 fn a_blocked_peer_is_asked_for_again_at_its_end() {
     let mut directory = directory();
-    directory.track(0, &peers(&[1], &[2])).unwrap().unwrap();
+    directory
+        .track(0, &peers(&[1], &[2]))
+        .unwrap()
+        .accepted()
+        .unwrap();
     directory.update_peers(&[info(1, 1000)]).unwrap();
     assert!(directory.block(&key(2), seconds(100)).unwrap());
     let dialable = |now| directory.dialable(now).unwrap();
@@ -334,7 +373,11 @@ fn answers_longer_than_their_room_come_whole() {
     let mut directory = with_sets(4);
     let many: Vec<Key> = (1..=5000).map(key).collect();
     let many = OrderedSet::try_from(many).unwrap();
-    directory.track(0, &many.clone().into()).unwrap().unwrap();
+    directory
+        .track(0, &many.clone().into())
+        .unwrap()
+        .accepted()
+        .unwrap();
     assert_eq!(directory.tracked(), 4999);
     assert_eq!(directory.all().unwrap().primary, many);
     let bits = directory.get_random_bit_vec(0).unwrap().unwrap();

@@ -2,8 +2,8 @@
 
 use crate::pair::testing::{self, info, key, setup, verify};
 use crate::pair::{
-    BitVec, Data, Error, Info, Key, Moment, Node, OrderedSet, Payload, Received, Reservation,
-    SIGNATURE_SIZE, Setup, Signature, TrackedPeers,
+    BitVec, CodecError, Data, Error, Info, Key, Moment, Node, OrderedSet, Payload, Received,
+    Reservation, SIGNATURE_SIZE, Setup, Signature, TrackError, Tracked, TrackedPeers,
 };
 // Where another file has this one as a module, the pair of sizes is that of the other.
 #[allow(unused_imports)]
@@ -17,7 +17,11 @@ fn node(number: u16, numbers: &[u16]) -> Node {
     let mut node = Node::new(&setup(number)).unwrap();
     let keys = numbers.iter().map(|number| key(*number));
     let peers = OrderedSet::from_iter_dedup(keys).into();
-    node.directory_mut().track(0, &peers).unwrap().unwrap();
+    node.directory_mut()
+        .track(0, &peers)
+        .unwrap()
+        .accepted()
+        .unwrap();
     node
 }
 
@@ -97,7 +101,7 @@ fn a_message_is_handed_on() {
         message: vec![1; 4000],
     };
     let frame = Payload::Data(data).encode();
-    let answer = node.receive(&frame, seconds(1), |_, _, _, _| unreachable!());
+    let answer = node.receive(&frame, seconds(1), |_| unreachable!());
     let message = Received::Data {
         channel: 7,
         message: 4..4004,
@@ -130,10 +134,10 @@ fn signatures_are_asked_for_in_order_and_no_more_than_decide() {
     let infos = vec![info(1, 0), info(2, 0), info(9, 0), info(3, 0)];
     let frame = Payload::Peers(infos).encode();
     let mut asked = Vec::new();
-    let answer = node.receive(&frame, seconds(1), |key, namespace, message, signature| {
-        assert_eq!(namespace, testing::NAMESPACE);
-        asked.push(*key);
-        verify(key, namespace, message, signature)
+    let answer = node.receive(&frame, seconds(1), |question| {
+        assert_eq!(question.namespace, testing::NAMESPACE);
+        asked.push(question.public_key);
+        verify(question)
     });
     assert_eq!(answer, Received::Invalid(Error::ReceivedSelf));
     assert_eq!(asked, [key(1), key(2)]);
@@ -144,8 +148,8 @@ fn no_signature_is_asked_for_behind_one_that_is_not_right() {
     let mut node = node(9, &[1, 2, 3]);
     let frame = Payload::Peers(vec![info(1, 0), info(2, 0), info(3, 0)]).encode();
     let mut asked = Vec::new();
-    let answer = node.receive(&frame, seconds(1), |key, _, _, _| {
-        asked.push(*key);
+    let answer = node.receive(&frame, seconds(1), |question| {
+        asked.push(question.public_key);
         false
     });
     assert_eq!(answer, Received::Invalid(Error::InvalidSignature));
@@ -157,7 +161,7 @@ fn no_signature_is_asked_for_behind_one_that_is_not_right() {
 fn what_is_refused_changes_nothing() {
     let mut node = node(9, &[1, 2]);
     let frame = Payload::Peers(vec![info(1, 0), info(2, 0)]).encode();
-    let refused = node.receive(&frame, seconds(1), |signer, _, _, _| *signer == key(1));
+    let refused = node.receive(&frame, seconds(1), |asked| asked.public_key == key(1));
     assert_eq!(refused, Received::Invalid(Error::InvalidSignature));
     assert_eq!(bits(&node), [false, false]);
     assert_eq!(
@@ -181,8 +185,8 @@ fn a_scheme_of_ones_own_judges() {
     };
     let mut node = node(9, &[1]);
     let greeting = Payload::Greeting(signed(1)).encode();
-    let answer = node.receive(&greeting, seconds(1), |key, _, _, signature| {
-        signature.0[..] == repeated(key)
+    let answer = node.receive(&greeting, seconds(1), |question| {
+        question.signature.0[..] == repeated(&question.public_key)
     });
     assert_eq!(answer, Received::Greeted(key(1)));
     assert_eq!(bits(&node), [true]);
@@ -195,13 +199,60 @@ fn bits_beyond_the_limit_of_frames_may_be_asked_for() {
     let mut node = Node::new(&setup).unwrap();
     let numbers = [key(1), key(2)];
     let peers = OrderedSet::try_from(numbers).unwrap().into();
-    node.directory_mut().track(0, &peers).unwrap().unwrap();
+    node.directory_mut()
+        .track(0, &peers)
+        .unwrap()
+        .accepted()
+        .unwrap();
     let bits = BitVec {
         index: 0,
         bits: vec![false, false],
     };
     let infos = node.directory().infos(&bits, seconds(1));
     assert_eq!(infos.unwrap(), Some(Vec::new()));
+}
+
+// The set has this many primary peers, and frames may have three bits.
+fn track_of_three(primary: u16, index: u64, node: &mut Node) -> Result<Tracked, TrackError> {
+    let primary = OrderedSet::from_iter_dedup((1..=primary).map(key));
+    let secondary = OrderedSet::from_iter_dedup((11..=20).map(key));
+    node.track(index, &TrackedPeers::new(primary, secondary))
+}
+
+#[test]
+fn a_set_about_which_a_node_could_not_be_asked_is_refused() {
+    let mut setup = setup(9);
+    setup.payload.max_bit_vec = 3;
+    let mut node = Node::new(&setup).unwrap();
+    let too_large = Err(TrackError::TooLarge {
+        primary: 4,
+        limit: 3,
+    });
+    let nobody = Tracked::Accepted(OrderedSet::default());
+    assert_eq!(track_of_three(4, 0, &mut node), too_large);
+    assert_eq!(node.directory().latest_set_index(), None);
+    assert_eq!(node.directory().tracked(), 0);
+    assert_eq!(track_of_three(3, 7, &mut node), Ok(nobody));
+    assert_eq!(track_of_three(2, 7, &mut node), Ok(Tracked::Stale));
+    // It is refused for its size also where its index isn't above.
+    assert_eq!(track_of_three(4, 7, &mut node), too_large);
+    assert_eq!(node.directory().latest_set_index(), Some(7));
+    assert_eq!(bits(&node).len(), 3);
+}
+
+// What happens without that refusal: the question of a correct node is no frame within the limits.
+#[test]
+fn a_set_above_the_limit_makes_a_correct_node_look_like_a_hostile_one() {
+    let asker = node(8, &[1, 2, 3, 4]);
+    let mut setup = setup(9);
+    setup.payload.max_bit_vec = 3;
+    let mut replier = Node::new(&setup).unwrap();
+    let peers = OrderedSet::from_iter_dedup((1..=4).map(key)).into();
+    let tracked = replier.directory_mut().track(0, &peers).unwrap();
+    assert_eq!(tracked, Tracked::Accepted(OrderedSet::default()));
+    let question = asker.ask(0).unwrap().unwrap();
+    let refused = Received::Codec(CodecError::InvalidLength(4));
+    assert_eq!(replier.receive(&question, seconds(1), verify), refused);
 }
 
 #[test]
@@ -212,17 +263,20 @@ fn a_node_takes_no_frame_for_another_directory() {
     let judged = judged.judged([true]).unwrap();
     mem::swap(one.directory_mut(), &mut other);
     let receives = catch_unwind(AssertUnwindSafe(|| {
-        one.receive(&greeting, seconds(1), |_, _, _, _| true)
+        one.receive(&greeting, seconds(1), |_| true)
     }));
     let checks = catch_unwind(AssertUnwindSafe(|| {
         one.check(&greeting, seconds(1)).is_ok()
     }));
     let asks = catch_unwind(AssertUnwindSafe(|| one.ask(0)));
+    let empty = TrackedPeers::default();
+    let tracks = catch_unwind(AssertUnwindSafe(|| one.track(9, &empty).is_ok()));
     let nothing = nothing_known(0, 2);
     let replies = catch_unwind(AssertUnwindSafe(|| {
         one.reply_at_most(&nothing, seconds(1), 1, 0)
     }));
     assert!(receives.is_err() && checks.is_err() && asks.is_err() && replies.is_err());
+    assert!(tracks.is_err());
     assert_eq!(one.directory().tracked(), 0);
     mem::swap(one.directory_mut(), &mut other);
     assert_eq!(
@@ -237,8 +291,8 @@ fn a_closure_that_panics_changes_nothing() {
     let mut node = node(9, &[1, 2]);
     let frame = Payload::Peers(vec![info(1, 0), info(2, 0)]).encode();
     let panicked = catch_unwind(AssertUnwindSafe(|| {
-        node.receive(&frame, seconds(1), |signer, _, _, _| {
-            assert_ne!(*signer, key(2));
+        node.receive(&frame, seconds(1), |question| {
+            assert_ne!(question.public_key, key(2));
             true
         })
     }));
@@ -331,7 +385,11 @@ fn sets_are_counted_while_they_are_retained() {
     let mut node = Node::new(&setup).unwrap();
     let set = TrackedPeers::from(OrderedSet::from_iter_dedup([key(1)]));
     let counts = [0, 1, 2].map(|index| {
-        node.directory_mut().track(index, &set).unwrap().unwrap();
+        node.directory_mut()
+            .track(index, &set)
+            .unwrap()
+            .accepted()
+            .unwrap();
         let retained = node.directory().retained();
         assert!(node.ask(retained - 1).unwrap().is_some());
         assert_eq!(node.ask(retained), Ok(None));

@@ -19,7 +19,7 @@ fn directories_live_beside_each_other() {
         .collect();
     for (index, directory) in (0..).zip(&mut directories) {
         let peers = OrderedSet::from_iter_dedup((1..=30).map(key)).into();
-        directory.track(index, &peers).unwrap().unwrap();
+        directory.track(index, &peers).unwrap().accepted().unwrap();
         assert_eq!(directory.tracked(), 29);
         let granted = directory.listen(&key(30), NOW, Duration::ZERO).unwrap();
         let reservation = granted.unwrap();
@@ -38,7 +38,11 @@ fn nodes_answer_frames_of_each_other() {
     let mut nodes = [1, 2].map(|number| Node::new(&setup(number)).unwrap());
     for node in &mut nodes {
         let peers = OrderedSet::from_iter_dedup((1..=30).map(key)).into();
-        node.directory_mut().track(0, &peers).unwrap().unwrap();
+        node.directory_mut()
+            .track(0, &peers)
+            .unwrap()
+            .accepted()
+            .unwrap();
     }
     let [asker, replier] = &mut nodes;
     let question = asker.ask(0).unwrap().unwrap();

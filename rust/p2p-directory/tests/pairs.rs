@@ -15,8 +15,8 @@ macro_rules! pair {
                 Node, NotReservedError, OrderedSet, OutOfMemory, ParseError, Payload,
                 PayloadConfig, PeerSetUpdate, Question, Questions, QuestionsIter, ReceiveError,
                 Received, RefusedError, ReleaseError, Reservation, SIGNATURE_SIZE, Setup,
-                SetupError, Signature, Status, TrackedPeers, ValidateError, What,
-                WrongVerdictsError, is_global, max_gossip_size, max_size, testing,
+                SetupError, Signature, Status, TrackError, Tracked, TrackedPeers, ValidateError,
+                What, WrongVerdictsError, is_global, max_gossip_size, max_size, testing,
             };
             use std::time::Duration;
 
@@ -110,7 +110,7 @@ macro_rules! pair {
 
                 let mut nodes = [1, 2].map(|number| Node::new(&testing::setup(number)).unwrap());
                 for node in &mut nodes {
-                    node.directory_mut().track(0, &set(&[1, 2])).unwrap();
+                    let _ = node.track(0, &set(&[1, 2])).unwrap();
                 }
                 let [asker, replier] = &mut nodes;
                 // Each knows itself: the bit of 1 is the lowest.
@@ -132,7 +132,7 @@ macro_rules! pair {
                 let peer = key(1);
                 assert_eq!(directory.status(&peer), None);
                 let torn = directory.track(0, &set(&[1, 2])).unwrap();
-                assert_eq!(torn, Some(OrderedSet::default()));
+                assert_eq!(torn, Tracked::Accepted(OrderedSet::default()));
                 assert_eq!(directory.get_peer_set(0).unwrap(), Some(set(&[2, 1])));
                 assert_eq!(directory.all().unwrap(), set(&[1, 2]));
                 let update = directory.latest_update().unwrap().expect("a set");
@@ -146,8 +146,9 @@ macro_rules! pair {
                 assert_eq!(directory.status(&peer), Some(Status::Reserved));
                 assert_eq!(directory.connect_reserved(&reservation), Ok(()));
                 assert_eq!(directory.status(&peer), Some(Status::Active));
-                let torn = directory.track(1, &set(&[2])).unwrap().expect("a later set");
-                assert_eq!(torn.to_vec(), [peer]);
+                let torn = directory.track(1, &set(&[2])).unwrap();
+                assert_eq!(torn, Tracked::Accepted(OrderedSet::from_iter_dedup([peer])));
+                assert_eq!(directory.track(1, &set(&[1])).unwrap(), Tracked::Stale);
                 assert!(directory.release(reservation).is_ok());
                 assert_eq!(directory.status(&peer), None);
 
@@ -163,7 +164,7 @@ macro_rules! pair {
                 let mut directory = testing::directory();
                 let (peer, info) = (testing::key(1), testing::info(1, 1000));
                 let peers = OrderedSet::from_iter_dedup([peer]).into();
-                directory.track(0, &peers).unwrap();
+                let _ = directory.track(0, &peers).unwrap();
                 directory.update_peers(std::slice::from_ref(&info)).unwrap();
                 assert_eq!(directory.dialable(NOW).unwrap().peers, [peer]);
                 let reservation = directory.dial(&peer, NOW, Duration::ZERO).unwrap();
@@ -181,7 +182,7 @@ macro_rules! pair {
                 let mut replier = Node::new(&testing::setup(2)).unwrap();
                 for node in [&mut asker, &mut replier] {
                     let peers = OrderedSet::from_iter_dedup([one, two]).into();
-                    node.directory_mut().track(0, &peers).unwrap();
+                    let _ = node.track(0, &peers).unwrap();
                 }
                 let question = asker.ask(0).unwrap().expect("a set");
                 let reply = replier.receive(&question, NOW, testing::verify);

@@ -16,7 +16,7 @@ const NOW: Moment = Moment::from_secs(100);
 fn track(directory: &mut Directory, index: u64, numbers: &[u16]) {
     let keys = numbers.iter().map(|number| key(*number));
     let peers = OrderedSet::from_iter_dedup(keys).into();
-    directory.track(index, &peers).unwrap().unwrap();
+    directory.track(index, &peers).unwrap().accepted().unwrap();
 }
 
 fn listen(directory: &mut Directory, number: u16, now: Moment) -> Option<Reservation> {
@@ -192,7 +192,7 @@ fn test_needs_teardown_after_losing_eligibility() {
     let connected = listen(&mut directory, 2, NOW).unwrap();
     directory.connect(&key(2), false).unwrap();
     let peers = OrderedSet::from_iter_dedup([key(3)]).into();
-    let torn = directory.track(1, &peers).unwrap().unwrap();
+    let torn = directory.track(1, &peers).unwrap().accepted().unwrap();
     assert_eq!(torn.to_vec(), [key(1), key(2)]);
     for held in [reserved, connected] {
         directory.release(held).unwrap();

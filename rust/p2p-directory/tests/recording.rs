@@ -108,7 +108,7 @@ fn a_log_has_each_call_and_its_answer() {
         Directory::init_recorded(&[], &setup.myself, setup.cfg, recorder).expect("a directory");
     let peer = testing::key(1);
     let set = OrderedSet::from_iter_dedup([peer]);
-    directory.track(7, &set.into()).expect("memory");
+    let _ = directory.track(7, &set.into()).expect("memory");
     let held = directory.listen(&peer, Moment::from_secs(100), std::time::Duration::ZERO);
     drop(held.expect("memory").expect("a grant"));
     assert_eq!(directory.recording(), Some(Recording::Going));

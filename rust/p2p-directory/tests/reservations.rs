@@ -4,7 +4,7 @@
 use crate::pair::testing::{self, config, info, key, setup, verify};
 use crate::pair::{
     BitVec, ConnectError, Directory, Key, Moment, Node, OrderedSet, Payload, Received,
-    ReleaseError, Reservation, Status,
+    ReleaseError, Reservation, Status, Tracked,
 };
 // Where another file has this one as a module, the pair of sizes is that of the other.
 #[allow(unused_imports)]
@@ -26,7 +26,7 @@ fn set(numbers: &[u16]) -> OrderedSet {
 fn directory() -> Directory {
     let mut directory = testing::directory();
     let taken = directory.track(0, &set(&[1, 2]).into()).unwrap();
-    assert_eq!(taken, Some(set(&[])));
+    assert_eq!(taken, Tracked::Accepted(set(&[])));
     directory.update_peers(&[info(1, 1000)]).unwrap();
     directory
 }
@@ -91,7 +91,7 @@ fn track_tears_down_nobody_who_is_released() {
     drop(listened(&mut directory, 1));
     // Both leave the only retained set, and 2 is still reserved.
     let torn = directory.track(1, &set(&[3]).into());
-    assert_eq!(torn, Ok(Some(set(&[2]))));
+    assert_eq!(torn, Ok(Tracked::Accepted(set(&[2]))));
     assert_eq!(directory.status(&key(1)), None);
     directory.release(held).unwrap();
 }
@@ -100,7 +100,7 @@ fn track_tears_down_nobody_who_is_released() {
 fn receive_replies_without_the_released() {
     let mut node = Node::new(&setup(9)).unwrap();
     let directory = node.directory_mut();
-    directory.track(0, &set(&[1, 2]).into()).unwrap();
+    let _ = directory.track(0, &set(&[1, 2]).into()).unwrap();
     directory.update_peers(&[info(1, 1000)]).unwrap();
     let held = dialled(directory);
     directory.connect_reserved(&held).unwrap();
@@ -132,7 +132,7 @@ fn a_dial_that_is_dropped_has_failed() {
 fn many_are_dropped_in_whatever_order() {
     let numbers: Vec<u16> = (10..60).collect();
     let mut directory = testing::directory();
-    directory.track(0, &set(&numbers).into()).unwrap();
+    let _ = directory.track(0, &set(&numbers).into()).unwrap();
     for now in [NOW, LATER, Moment::from_secs(220)] {
         let mut held: Vec<_> = numbers
             .iter()
@@ -164,7 +164,7 @@ fn one_may_be_dropped_on_another_thread() {
 fn threads_may_drop_while_calls_are_made() {
     let numbers: Vec<u16> = (10..42).collect();
     let mut directory = testing::directory();
-    directory.track(0, &set(&numbers).into()).unwrap();
+    let _ = directory.track(0, &set(&numbers).into()).unwrap();
     thread::scope(|scope| {
         for number in &numbers {
             let held = listened(&mut directory, *number);
@@ -254,7 +254,7 @@ fn a_dialer_and_a_listener_are_connected_as_such() {
     limit.dial_fail_limit = 2;
     let told = [false, true].map(|is_connected| {
         let mut directory = Directory::init(&[], &info(9, 0), limit).unwrap();
-        directory.track(0, &set(&[1]).into()).unwrap();
+        let _ = directory.track(0, &set(&[1]).into()).unwrap();
         directory.update_peers(&[info(1, 1000)]).unwrap();
         drop(dialled(&mut directory));
         let dial = directory.dial(&key(1), LATER, Duration::ZERO);

@@ -3,7 +3,7 @@
 
 use crate::pair::testing::{self, info, key, setup, verify};
 use crate::pair::{
-    BitVec, Data, Error, Judged, Moment, Node, OrderedSet, Payload, Question, Questions, Received,
+    BitVec, Data, Error, Judged, Moment, Node, OrderedSet, Payload, Questions, Received,
     WrongVerdictsError,
 };
 // Where another file has this one as a module, the pair of sizes is that of the other.
@@ -18,7 +18,11 @@ const NOW: Moment = Moment::from_secs(100);
 fn node(number: u16) -> Node {
     let mut node = Node::new(&setup(number)).unwrap();
     let peers = OrderedSet::from_iter_dedup((1..=3).map(key)).into();
-    node.directory_mut().track(0, &peers).unwrap().unwrap();
+    node.directory_mut()
+        .track(0, &peers)
+        .unwrap()
+        .accepted()
+        .unwrap();
     node
 }
 
@@ -34,18 +38,8 @@ fn bits(node: &Node) -> Vec<bool> {
     bits.unwrap().bits
 }
 
-fn is_right(namespace: &[u8], asked: Question<'_>) -> bool {
-    verify(
-        &asked.public_key,
-        namespace,
-        asked.message,
-        &asked.signature,
-    )
-}
-
 fn verdicts(questions: &Questions<'_>) -> Vec<bool> {
-    let namespace = questions.namespace();
-    let verdicts = questions.iter().map(|asked| is_right(namespace, asked));
+    let verdicts = questions.iter().map(verify);
     verdicts.collect()
 }
 
@@ -122,7 +116,7 @@ fn an_info_from_the_future_is_never_applied_unverified() {
     assert_eq!(taken(&mut node, judged), early);
     assert_eq!(bits(&node), [false; 3]);
 
-    let received = node.receive(&frame, later, |signer, _, _, _| *signer == key(1));
+    let received = node.receive(&frame, later, |asked| asked.public_key == key(1));
     assert_eq!(received, Received::Invalid(Error::InvalidSignature));
     assert_eq!(bits(&node), [false; 3]);
 }
@@ -181,7 +175,11 @@ fn a_node_may_change_between_the_steps() {
     let frame = peers(&[(1, 5), (2, 5)]);
     let judged = node.check(&frame, NOW).unwrap().judged([true; 2]).unwrap();
     let others = OrderedSet::from_iter_dedup([key(2), key(3)]).into();
-    node.directory_mut().track(1, &others).unwrap().unwrap();
+    node.directory_mut()
+        .track(1, &others)
+        .unwrap()
+        .accepted()
+        .unwrap();
     // 1 has no record any more.
     assert_eq!(taken(&mut node, judged), Received::Applied(2));
     assert_eq!(bits(&node), [true, false]);
@@ -198,10 +196,10 @@ fn threads_verify_while_the_node_is_used() {
         let threads: Vec<_> = questions
             .iter()
             .map(|asked| {
-                let (questions, node) = (&questions, &node);
+                let node = &node;
                 scope.spawn(move || {
                     assert_eq!(node.lock().unwrap().directory().tracked(), 3);
-                    is_right(questions.namespace(), asked)
+                    verify(asked)
                 })
             })
             .collect();

@@ -1,7 +1,7 @@
 //! Infos that are validated without a directory.
 
 use crate::pair::testing::{self, NAMESPACE, info, key, verify};
-use crate::pair::{Error, Info, InfoVerifier, Key, Moment, Signature, ValidateError};
+use crate::pair::{Error, Info, InfoVerifier, Key, Moment, Question, ValidateError};
 // Where another file has this one as a module, the pair of sizes is that of the other.
 #[allow(unused_imports)]
 use p2p_directory as pair;
@@ -61,10 +61,10 @@ fn the_closure_is_asked_up_to_the_first_refusal() {
     let verifier = verifier(4);
     let mut asked: Vec<Key> = Vec::new();
     let infos = [1, 2, 3].map(|number| info(number, 0));
-    let judged = verifier.validate(Moment::EPOCH, &infos, |signer, namespace, _, _| {
-        assert_eq!(namespace, NAMESPACE);
-        asked.push(*signer);
-        *signer != key(2)
+    let judged = verifier.validate(Moment::EPOCH, &infos, |question| {
+        assert_eq!(question.namespace, NAMESPACE);
+        asked.push(question.public_key);
+        question.public_key != key(2)
     });
     let refused = ValidateError::Invalid(Error::InvalidSignature);
     assert_eq!(judged, Err(refused));
@@ -75,15 +75,13 @@ fn the_closure_is_asked_up_to_the_first_refusal() {
 fn it_is_not_locked_while_signatures_are_verified() {
     let verifier = verifier(4);
     let one = info(1, 0);
-    let within = |signer: &Key, namespace: &[u8], message: &[u8], signature: &Signature| {
+    let within = |question: Question<'_>| {
         let other = verifier.validate_info(Moment::EPOCH, &info(2, 0), verify);
-        other == Ok(()) && verify(signer, namespace, message, signature)
+        other == Ok(()) && verify(question)
     };
     assert_eq!(verifier.validate_info(Moment::EPOCH, &one, within), Ok(()));
     let panicked = catch_unwind(AssertUnwindSafe(|| {
-        verifier.validate_info(Moment::EPOCH, &one, |_, _, _, _| {
-            panic!("a scheme that fails")
-        })
+        verifier.validate_info(Moment::EPOCH, &one, |_| panic!("a scheme that fails"))
     }));
     assert!(panicked.is_err());
     thread::scope(|scope| {

@@ -12,7 +12,7 @@
 
 use crate::identity::{Identity, verify};
 use crate::sodium::Sodium;
-use p2p_directory::{KEY_SIZE, Key, SIGNATURE_SIZE, Signature};
+use p2p_directory::{KEY_SIZE, Key, Question, SIGNATURE_SIZE, Signature};
 use std::error;
 use std::fmt;
 use std::io::{self, Read, Write};
@@ -137,13 +137,15 @@ impl Own<'_> {
     }
 
     fn judge(&self, role: Role, parties: &Parties, signature: &Signature) -> bool {
-        let key = match role {
-            Role::Dialer => &parties.dialer_key,
-            Role::Listener => &parties.listener_key,
-        };
-        let message = signed_bytes(role, parties);
-        let namespace = handshake_namespace(self.namespace);
-        verify(key, &namespace, &message, signature)
+        verify(Question {
+            public_key: match role {
+                Role::Dialer => parties.dialer_key,
+                Role::Listener => parties.listener_key,
+            },
+            namespace: &handshake_namespace(self.namespace),
+            message: &signed_bytes(role, parties),
+            signature: *signature,
+        })
     }
 
     /// Proves the own key to a listener, which has to have the key of the peer.

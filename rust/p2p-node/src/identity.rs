@@ -1,7 +1,7 @@
 //! The keys of a node, the file that keeps them, and signatures that bind a namespace.
 
 use crate::sodium::{self, SEED_SIZE, SecretKey, Sodium};
-use p2p_directory::{Key, Signature};
+use p2p_directory::{Key, Question, Signature};
 use std::fs::{File, OpenOptions};
 use std::io::{ErrorKind, Read, Write};
 use std::os::unix::fs::{MetadataExt, OpenOptionsExt};
@@ -99,11 +99,17 @@ impl Identity {
     }
 }
 
-/// Whether this is a signature of the key over a message in a namespace, as
-/// [`Node::check`](p2p_directory::Node::check) wants it to be verified.
+/// Whether the signature of a question is the key's over the message in the namespace.
 #[must_use]
-pub fn verify(key: &Key, namespace: &[u8], message: &[u8], signature: &Signature) -> bool {
-    sodium::verify(key.as_bytes(), &bound(namespace, message), &signature.0)
+pub fn verify(question: Question<'_>) -> bool {
+    let Question {
+        public_key,
+        namespace,
+        message,
+        signature,
+    } = question;
+    let signed = bound(namespace, message);
+    sodium::verify(public_key.as_bytes(), &signed, &signature.0)
 }
 
 /// The bytes that are signed: the length of the namespace in eight bytes, the namespace, and the
@@ -126,7 +132,12 @@ mod tests {
         let (one, two) = (identity(1), identity(2));
         let signature = one.sign(b"net", b"hello");
         let is_of = |identity: &Identity, namespace: &[u8], message: &[u8]| {
-            verify(&identity.public_key(), namespace, message, &signature)
+            verify(Question {
+                public_key: identity.public_key(),
+                namespace,
+                message,
+                signature,
+            })
         };
         assert!(is_of(&one, b"net", b"hello"));
         assert!(!is_of(&two, b"net", b"hello"));
@@ -140,6 +151,11 @@ mod tests {
     fn the_signed_bytes_are_those_that_the_documentation_says() {
         assert_eq!(bound(b"net", b"hi"), *b"\0\0\0\0\0\0\0\x03nethi");
         let signature = Signature(identity(1).secret_key.sign(b"\0\0\0\0\0\0\0\x03nethi"));
-        assert!(verify(&identity(1).public_key(), b"net", b"hi", &signature));
+        assert!(verify(Question {
+            public_key: identity(1).public_key(),
+            namespace: b"net",
+            message: b"hi",
+            signature,
+        }));
     }
 }

@@ -3,7 +3,7 @@
 mod common;
 
 use common::{Folder, NAMESPACE, QUICK, Running, identity, info, key, milliseconds, own, timed};
-use p2p_directory::{Key, Signature};
+use p2p_directory::{Key, Question, Signature};
 use p2p_node::handshake::{
     HandshakeError, NONCE_SIZE, Nonce, Parties, Role, handshake_namespace, signed_bytes,
 };
@@ -101,12 +101,12 @@ fn forge(stream: &TcpStream, attack: &Attack) {
     // The listener has proved its key already.
     let signature = Signature(read(&mut stream));
     let message = signed_bytes(Role::Listener, &parties);
-    assert!(verify(
-        &listener_key,
-        &handshake_namespace(NAMESPACE),
-        &message,
-        &signature
-    ));
+    assert!(verify(Question {
+        public_key: listener_key,
+        namespace: &handshake_namespace(NAMESPACE),
+        message: &message,
+        signature,
+    }));
     stream.write_all((attack.sign)(&parties).as_ref()).unwrap();
 }
 

@@ -3,7 +3,8 @@
 use super::Session;
 use super::info::{Info, try_write_infos};
 use super::key::{KEY_SIZE, Key};
-use super::sets::{OrderedSet, TrackedPeers};
+use super::sets::{OrderedSet, Tracked, TrackedPeers};
+use super::signature::SIGNATURE_SIZE;
 use crate::answer::{Kind, OWN, Room, answered, certain, is_certain, is_done, is_true, unknown};
 use crate::codec::{ReadError, Reader};
 use crate::config::{Config, Limits, is_supported};
@@ -33,7 +34,7 @@ pub use reservation::{Metadata, ReleaseError, Reservation};
 /// # use p2p_directory::*;
 /// # let mut directory = testing::directory();
 /// let set = OrderedSet::from_iter_dedup([testing::key(1)]);
-/// directory.track(7, &set.into())?;
+/// assert!(directory.track(7, &set.into())?.accepted().is_some());
 /// let PeerSetUpdate { index, latest, all, .. } = directory.latest_update()?.expect("a set");
 /// assert_eq!(index, 7);
 /// assert_eq!(latest, all);
@@ -97,10 +98,11 @@ pub struct Dialable {
 /// let myself = Info::sign(Key([9; 32]), b"net", ingress, 0, |_, _| Signature([0; 64]));
 /// let mut directory = Directory::init(&[], &myself, cfg)?;
 ///
+/// # let random = || 4_711;
 /// let peer = Key([1; 32]);
-/// directory.track(0, &OrderedSet::from_iter_dedup([peer]).into())?;
+/// assert!(directory.track(0, &OrderedSet::from_iter_dedup([peer]).into())?.accepted().is_some());
 /// let now = Moment::from_secs(100);
-/// let reservation = directory.listen(&peer, now, Duration::ZERO)?.expect("the peer is acceptable");
+/// let reservation = directory.listen(&peer, now, cfg.draw(random()))?.expect("the peer is acceptable");
 /// assert_eq!(directory.status(&peer), Some(Status::Reserved));
 /// // .. the connection ..
 /// directory.release(reservation).expect("it is this directory's");
@@ -250,8 +252,10 @@ impl Directory {
     /// Registers a peer set if its index is above that of each set registered before.
     ///
     /// If more than [`Config::max_sets`] sets are retained then, the oldest is dropped. Returns the
-    /// peers that must be disconnected: those that are reserved or connected, were eligible and no
-    /// longer are. If the index isn't above, returns `None` and changes nothing.
+    /// peers that must be disconnected, or [`Tracked::Stale`] if the index isn't above.
+    ///
+    /// A directory by itself takes sets of any size. [`Node::track`](super::Node::track) refuses one
+    /// about which the node could not be asked.
     ///
     /// # Errors
     ///
@@ -262,27 +266,25 @@ impl Directory {
     /// ```
     /// # use p2p_directory::*;
     /// # let mut directory = testing::directory();
+    /// # let draw = testing::config().draw(4_711);
     /// let set = |key| OrderedSet::from_iter_dedup([testing::key(key)]).into();
-    /// assert!(directory.track(7, &set(1))?.is_some());
-    /// assert!(directory.track(7, &set(2))?.is_none());
+    /// assert_eq!(directory.track(7, &set(1))?, Tracked::Accepted(OrderedSet::default()));
+    /// assert_eq!(directory.track(7, &set(2))?, Tracked::Stale);
+    /// let (peer, now) = (testing::key(1), Moment::from_secs(100));
+    /// let reservation = directory.listen(&peer, now, draw)?.expect("in a set");
+    /// let Tracked::Accepted(to_disconnect) = directory.track(8, &set(2))? else { panic!() };
+    /// assert_eq!(to_disconnect.to_vec(), [peer]);
+    /// # directory.release(reservation).expect("its own");
     /// # Ok::<(), OutOfMemory>(())
     /// ```
-    pub fn track(
-        &mut self,
-        index: u64,
-        peers: &TrackedPeers,
-    ) -> Result<Option<OrderedSet>, OutOfMemory> {
-        let torn = self.try_track(index, peers);
+    pub fn track(&mut self, index: u64, peers: &TrackedPeers) -> Result<Tracked, OutOfMemory> {
+        let tracked = self.try_track(index, peers);
         give_back_large(self.input.get_mut());
         self.output.get_mut().give_back();
-        torn
+        tracked
     }
 
-    fn try_track(
-        &mut self,
-        index: u64,
-        peers: &TrackedPeers,
-    ) -> Result<Option<OrderedSet>, OutOfMemory> {
+    fn try_track(&mut self, index: u64, peers: &TrackedPeers) -> Result<Tracked, OutOfMemory> {
         let keys = self.input.get_mut();
         keys.clear();
         peers.primary.write(keys)?;
@@ -297,7 +299,8 @@ impl Directory {
         let mut torn = Vec::new();
         torn.try_reserve_exact(self.held.count())?;
         let length = answered(session.track(index, primary, secondary, out))?;
-        Ok(length.map(|length| OrderedSet::read_into(torn, &out[..length as usize])))
+        let torn = length.map(|length| OrderedSet::read_into(torn, &out[..length as usize]));
+        Ok(torn.map_or(Tracked::Stale, Tracked::Accepted))
     }
 
     /// Reserves the peer for a dial at the time `now`, at its known address.
@@ -306,10 +309,11 @@ impl Directory {
     /// and neither reserved nor connected. In addition, its address must be known and allowed, and
     /// its cooldown must be over.
     ///
-    /// `draw` is jitter: how much later than reservable the peer is dialable again. It should be
-    /// drawn uniformly from `Duration::ZERO..=2 * (cooldown / 2)`, where `cooldown` is
-    /// [`Config::peer_connection_cooldown`] and the half is rounded down to nanoseconds. A larger
-    /// value counts as the end of that range.
+    /// `draw` is jitter: how much later than reservable the peer is dialable again. Draw one for
+    /// each call, by [`Config::draw`] from a random number. With a jitter that is always zero, nodes
+    /// that start together dial each other at the same times: each dial meets the other node's, both
+    /// are refused, and that goes on. A jitter above twice the half of
+    /// [`Config::peer_connection_cooldown`] counts as that.
     ///
     /// # Errors
     ///
@@ -318,12 +322,19 @@ impl Directory {
     /// # Examples
     ///
     /// ```
-    /// # use p2p_directory::*; use std::time::Duration;
+    /// # use p2p_directory::*;
+    /// # let cfg = testing::config();
     /// # let mut directory = testing::directory();
-    /// let peer = testing::key(1);
-    /// directory.track(0, &OrderedSet::from_iter_dedup([peer]).into())?;
+    /// # let (peer, now) = (testing::key(1), Moment::from_secs(1));
+    /// # let random = || 4_711;
+    /// # let _ = directory.track(0, &OrderedSet::from_iter_dedup([peer]).into())?;
     /// // Its address is not known yet.
-    /// assert!(directory.dial(&peer, Moment::from_secs(1), Duration::ZERO)?.is_none());
+    /// assert!(directory.dial(&peer, now, cfg.draw(random()))?.is_none());
+    ///
+    /// directory.update_peers(&[testing::info(1, 1000)])?;
+    /// let reservation = directory.dial(&peer, now, cfg.draw(random()))?.expect("may be dialled");
+    /// assert_eq!(reservation.public_key(), &peer);
+    /// # directory.release(reservation).expect("its own");
     /// # Ok::<(), OutOfMemory>(())
     /// ```
     #[inline]
@@ -365,8 +376,7 @@ impl Directory {
     /// Returns `None` and changes nothing unless the peer is eligible, not blocked and neither
     /// reserved nor connected, and its cooldown is over.
     ///
-    /// `draw` should be drawn uniformly from `Duration::ZERO..=2 * (cooldown / 2)`, as for
-    /// [`Directory::dial`].
+    /// `draw` is jitter, drawn for each call by [`Config::draw`], as for [`Directory::dial`].
     ///
     /// # Errors
     ///
@@ -375,12 +385,15 @@ impl Directory {
     /// # Examples
     ///
     /// ```
-    /// # use p2p_directory::*; use std::time::Duration;
+    /// # use p2p_directory::*;
+    /// # let cfg = testing::config();
     /// # let mut directory = testing::directory();
+    /// # let random = || 4_711;
     /// let (peer, now) = (testing::key(1), Moment::from_secs(1));
-    /// assert!(directory.listen(&peer, now, Duration::ZERO)?.is_none());
-    /// directory.track(0, &OrderedSet::from_iter_dedup([peer]).into())?;
-    /// let reservation = directory.listen(&peer, now, Duration::ZERO)?.expect("in a set");
+    /// assert!(directory.listen(&peer, now, cfg.draw(random()))?.is_none());
+    /// let to_disconnect = directory.track(0, &OrderedSet::from_iter_dedup([peer]).into())?;
+    /// assert_eq!(to_disconnect, Tracked::Accepted(OrderedSet::default()));
+    /// let reservation = directory.listen(&peer, now, cfg.draw(random()))?.expect("in a set");
     /// assert_eq!(reservation.public_key(), &peer);
     /// # directory.release(reservation).expect("its own");
     /// # Ok::<(), OutOfMemory>(())
@@ -434,11 +447,12 @@ impl Directory {
     /// # Examples
     ///
     /// ```
-    /// # use p2p_directory::*; use std::time::Duration;
+    /// # use p2p_directory::*;
+    /// # let (cfg, random) = (testing::config(), || 4_711);
     /// # let mut directory = testing::directory();
     /// # let (peer, now) = (testing::key(1), Moment::from_secs(1));
-    /// # directory.track(0, &OrderedSet::from_iter_dedup([peer]).into())?;
-    /// let reservation = directory.listen(&peer, now, Duration::ZERO)?.expect("in a set");
+    /// # let _ = directory.track(0, &OrderedSet::from_iter_dedup([peer]).into())?;
+    /// let reservation = directory.listen(&peer, now, cfg.draw(random()))?.expect("in a set");
     /// directory.connect_reserved(&reservation)?;
     /// assert_eq!(directory.status(&peer), Some(Status::Active));
     /// assert_eq!(directory.connect_reserved(&reservation), Err(ConnectError::NotReserved));
@@ -467,11 +481,12 @@ impl Directory {
     /// # Examples
     ///
     /// ```
-    /// # use p2p_directory::*; use std::time::Duration;
+    /// # use p2p_directory::*;
+    /// # let (cfg, random) = (testing::config(), || 4_711);
     /// # let (mut directory, mut other) = (testing::directory(), testing::directory());
     /// # let (peer, now) = (testing::key(1), Moment::from_secs(1));
-    /// # directory.track(0, &OrderedSet::from_iter_dedup([peer]).into())?;
-    /// let reservation = directory.listen(&peer, now, Duration::ZERO)?.expect("in a set");
+    /// # let _ = directory.track(0, &OrderedSet::from_iter_dedup([peer]).into())?;
+    /// let reservation = directory.listen(&peer, now, cfg.draw(random()))?.expect("in a set");
     /// let refused = other.release(reservation).unwrap_err();
     /// directory.release(refused.reservation).expect("its own");
     /// # Ok::<(), OutOfMemory>(())
@@ -507,7 +522,7 @@ impl Directory {
     /// # use p2p_directory::*;
     /// # let mut directory = testing::directory();
     /// let peer = testing::key(1);
-    /// directory.track(0, &OrderedSet::from_iter_dedup([peer]).into())?;
+    /// assert!(directory.track(0, &OrderedSet::from_iter_dedup([peer]).into())?.accepted().is_some());
     /// directory.update_peers(&[testing::info(1, 1000)])?;
     /// assert_eq!(directory.dialable(Moment::from_secs(1))?.peers, [peer]);
     /// # Ok::<(), OutOfMemory>(())
@@ -665,11 +680,14 @@ impl Directory {
     }
 }
 
+/// Formats the sizes of keys and signatures, and how many reservations are out, dropped ones that
+/// aren't released yet among them. It makes no call, so it stands in no log and releases nothing.
 impl fmt::Debug for Directory {
     fn fmt(&self, f: &mut fmt::Formatter<'_>) -> fmt::Result {
         f.debug_struct("Directory")
-            .field("tracked", &self.tracked())
-            .field("latest_set_index", &self.latest_set_index())
+            .field("key_size", &KEY_SIZE)
+            .field("signature_size", &SIGNATURE_SIZE)
+            .field("reservations", &self.held.count())
             .finish_non_exhaustive()
     }
 }

@@ -305,7 +305,7 @@ fn handles_come_and_go() {
         let mut directory: Directory = testing::directory();
         let keys = (1..=40).map(testing::key);
         let peers = OrderedSet::from_iter_dedup(keys).into();
-        directory.track(round, &peers).unwrap();
+        assert!(directory.track(round, &peers).unwrap().accepted().is_some());
         let infos: Vec<Info> = (1..=40).map(|number| testing::info(number, 5)).collect();
         directory.update_peers(&infos).unwrap();
         let now = crate::Moment::from_secs(1);

@@ -2,6 +2,7 @@
 
 use super::key::{KEY_SIZE, Key};
 use super::signature::{SIGNATURE_SIZE, Signature};
+use super::verification::Question;
 use crate::codec::{MAX_VARINT_SIZE, ReadError, Reader, varint_size, write_length, write_varint};
 use crate::error::{CodecError, OutOfMemory};
 use crate::ingress::Ingress;
@@ -41,6 +42,9 @@ pub struct Info {
 impl Info {
     /// Creates an info with the signature that `sign` returns. It is called once, with the
     /// namespace and the [signed bytes](Info::signed_bytes).
+    ///
+    /// The signed bytes have no tag that says what they are. So sign nothing else with this key under
+    /// this namespace: not the handshake of a connection, nor a message of the application.
     ///
     /// # Examples
     ///
@@ -92,8 +96,8 @@ impl Info {
         signed_bytes(&self.ingress, self.timestamp)
     }
 
-    /// Returns what `verify` returns for the key, the namespace, the signed bytes and the
-    /// signature.
+    /// Returns what `verify` returns for the question whether the signature is valid, in this
+    /// namespace.
     ///
     /// # Examples
     ///
@@ -102,21 +106,15 @@ impl Info {
     /// # use std::net::SocketAddr;
     /// # let ingress = Ingress::from(SocketAddr::from(([127, 0, 0, 1], 8080)));
     /// let info = Info::sign(Key([1; 32]), b"net", ingress, 1000, |_, _| Signature([1; 64]));
-    /// assert!(info.verify(b"net", |key, _namespace, _message, signature| {
-    ///     signature.0[..32] == key.0
-    /// }));
+    /// assert!(info.verify(b"net", |question| question.signature.0[..32] == question.public_key.0));
     /// ```
-    pub fn verify(
-        &self,
-        namespace: &[u8],
-        verify: impl FnOnce(&Key, &[u8], &[u8], &Signature) -> bool,
-    ) -> bool {
-        verify(
-            &self.public_key,
+    pub fn verify(&self, namespace: &[u8], verify: impl FnOnce(Question<'_>) -> bool) -> bool {
+        verify(Question {
+            public_key: self.public_key,
             namespace,
-            &self.signed_bytes(),
-            &self.signature,
-        )
+            message: &self.signed_bytes(),
+            signature: self.signature,
+        })
     }
 
     /// The maximum encoded size of an info.

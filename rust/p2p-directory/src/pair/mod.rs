@@ -31,7 +31,7 @@ pub use node::{Node, Received, Setup};
 pub use payload::{Payload, max_gossip_size};
 #[cfg(feature = "record")]
 pub use replay::Replay;
-pub use sets::{OrderedSet, TrackedPeers};
+pub use sets::{OrderedSet, Tracked, TrackedPeers};
 pub use signature::{SIGNATURE_SIZE, Signature};
 pub use verification::{Judged, Question, Questions, QuestionsIter, ReceiveError};
 pub use verifier::InfoVerifier;

@@ -5,15 +5,15 @@ use super::directory::{Directory, new_session};
 use super::info::Info;
 use super::key::Key;
 use super::payload::{Payload, greeting_of, reply_of};
-use super::signature::Signature;
+use super::sets::{Tracked, TrackedPeers};
 use super::verification::{
-    Judged, NOTHING_TOLD, Questions, ReceiveError, read_told, write_verdicts,
+    Judged, NOTHING_TOLD, Question, Questions, ReceiveError, read_told, write_verdicts,
 };
 use crate::answer::{Kind, OWN, Room, own, unknown};
 use crate::codec::{ReadError, Reader};
 use crate::config::{Config, Limits, PayloadConfig};
 use crate::data::BitVec;
-use crate::error::{CodecError, Error, OutOfMemory, RefusedError, SetupError, What};
+use crate::error::{CodecError, Error, OutOfMemory, RefusedError, SetupError, TrackError, What};
 use crate::ingress::Ingress;
 use crate::memory::{copied, give_back_large, lengthen};
 use crate::moment::Moment;
@@ -58,7 +58,28 @@ pub struct Setup {
 /// let answer = Received::Codec(CodecError::EndOfBuffer);
 /// assert_ne!(answer, Received::Malformed);
 /// ```
+///
+/// A result that isn't looked at is a warning:
+///
+/// ```compile_fail
+/// #![deny(unused_must_use)]
+/// # use p2p_directory::*;
+/// fn receive(node: &mut Node, frame: &[u8], now: Moment) {
+///     node.receive(frame, now, |_| false);
+/// }
+/// ```
+///
+/// This compiles, and drops it:
+///
+/// ```
+/// #![deny(unused_must_use)]
+/// # use p2p_directory::*;
+/// fn receive(node: &mut Node, frame: &[u8], now: Moment) {
+///     let _ = node.receive(frame, now, |_| false);
+/// }
+/// ```
 #[derive(Clone, Debug, PartialEq, Eq, Hash)]
+#[must_use = "a reply has to be sent back, and the key of a greeting compared"]
 #[non_exhaustive]
 pub enum Received {
     /// A message on a channel. Nothing has changed.
@@ -166,6 +187,8 @@ pub struct Node {
     greeting: Vec<u8>,
     // The number of the directory that was created with the limits of this node.
     id: u64,
+    // How many bits a frame may have.
+    max_bit_vec: u64,
     // The verification results for the infos of a frame.
     verdicts: Vec<u8>,
     // The buffer for what the library returns for a frame.
@@ -240,6 +263,7 @@ impl Node {
         let directory = Directory::with_limits(session, bootstrappers, myself, cfg, limits)?;
         Ok(Node {
             id: directory.id(),
+            max_bit_vec: setup.payload.max_bit_vec,
             public_key: myself.public_key,
             greeting,
             directory,
@@ -294,21 +318,61 @@ impl Node {
     /// Its directory, for calls that change it.
     ///
     /// No other directory has the limits and the namespace of the node. If another one is put in
-    /// its place, by `mem::swap` or an assignment, calls of the node with frames panic.
+    /// its place, by `mem::swap` or an assignment, calls of the node with frames or sets panic.
     ///
     /// # Examples
     ///
     /// ```
     /// # use p2p_directory::*;
     /// let mut node = Node::new(&testing::setup(9)).unwrap();
-    /// let peers = OrderedSet::from_iter_dedup([testing::key(1)]);
-    /// node.directory_mut().track(3, &peers.into())?;
-    /// assert_eq!(node.directory().latest_set_index(), Some(3));
-    /// # Ok::<(), OutOfMemory>(())
+    /// # let peers = OrderedSet::from_iter_dedup([testing::key(1)]);
+    /// # let _ = node.track(3, &peers.into())?;
+    /// node.directory_mut().update_peers(&[testing::info(1, 1000)])?;
+    /// assert_eq!(node.directory().tracked(), 1);
+    /// # Ok::<(), Box<dyn std::error::Error>>(())
     /// ```
     #[must_use]
     pub fn directory_mut(&mut self) -> &mut Directory {
         &mut self.directory
+    }
+
+    /// Registers a peer set in the directory as [`Directory::track`] does, unless it has more
+    /// primary peers than frames may have bits.
+    ///
+    /// Such a set would make correct nodes block each other: those with higher limits ask about it,
+    /// and this node refuses their questions. So give all nodes the same limits, above the largest
+    /// set that is to come.
+    ///
+    /// # Errors
+    ///
+    /// [`TrackError::TooLarge`] if there are more primary peers than
+    /// [`PayloadConfig::max_bit_vec`], whatever the index is, and [`TrackError::OutOfMemory`] if an
+    /// allocation fails; then nothing has changed.
+    ///
+    /// # Panics
+    ///
+    /// Panics if another directory was put in the place of the node's own.
+    ///
+    /// # Examples
+    ///
+    /// ```
+    /// # use p2p_directory::*;
+    /// let mut setup = testing::setup(9);
+    /// setup.payload.max_bit_vec = 3;
+    /// let mut node = Node::new(&setup)?;
+    /// let set = |keys| OrderedSet::from_iter_dedup((1..=keys).map(testing::key)).into();
+    /// assert_eq!(node.track(0, &set(3))?, Tracked::Accepted(OrderedSet::default()));
+    /// assert_eq!(node.track(1, &set(4)), Err(TrackError::TooLarge { primary: 4, limit: 3 }));
+    /// assert_eq!(node.directory().latest_set_index(), Some(0));
+    /// # Ok::<(), Box<dyn std::error::Error>>(())
+    /// ```
+    pub fn track(&mut self, index: u64, peers: &TrackedPeers) -> Result<Tracked, TrackError> {
+        self.expect_own_directory();
+        let (primary, limit) = (peers.primary.len(), self.max_bit_vec);
+        if primary as u64 > limit {
+            return Err(TrackError::TooLarge { primary, limit });
+        }
+        Ok(self.directory.track(index, peers)?)
     }
 
     /// The frame that asks for the wanted infos of the retained set at a position, counted from 0
@@ -366,7 +430,7 @@ impl Node {
     /// # let limits = testing::setup(9).payload;
     /// # let mut node = Node::new(&testing::setup(9)).unwrap();
     /// # let set = OrderedSet::from_iter_dedup([1, 9].map(testing::key));
-    /// # node.directory_mut().track(0, &set.into())?;
+    /// # let _ = node.directory_mut().track(0, &set.into())?;
     /// let (now, draw) = (Moment::from_secs(1), 4_711);
     /// let question = [2, 0, 2, 0b00];
     /// let Ok(Payload::BitVec(bits)) = Payload::decode(&question, &limits) else { panic!() };
@@ -399,12 +463,11 @@ impl Node {
     /// It isn't known who sent the frame: [`Received::Greeted`] has the key that the host must
     /// compare.
     ///
-    /// `verify` returns whether a signature is valid. Its arguments are a key, the namespace, the
-    /// signed bytes and the signature. It is called for each info, in the order of the frame and
-    /// before anything changes, up to the first info that is refused. It isn't called for an info
-    /// that is refused for another reason than its signature, nor if there are too many infos. To
-    /// verify signatures while the node does something else, use [`Node::check`] and
-    /// [`Node::receive_judged`].
+    /// `verify` returns whether the signature of a question is valid. It is called for each info, in
+    /// the order of the frame and before anything changes, up to the first info that is refused. It
+    /// isn't called for an info that is refused for another reason than its signature, nor if there
+    /// are too many infos. To verify signatures while the node does something else, use
+    /// [`Node::check`] and [`Node::receive_judged`].
     ///
     /// # Panics
     ///
@@ -421,7 +484,7 @@ impl Node {
     /// let now = Moment::from_secs(1);
     /// assert_eq!(node.receive(&greeting, now, testing::verify), Received::Greeted(testing::key(1)));
     /// assert_eq!(
-    ///     node.receive(&greeting, now, |_, _, _, _| false),
+    ///     node.receive(&greeting, now, |_| false),
     ///     Received::Invalid(Error::InvalidSignature)
     /// );
     /// ```
@@ -429,7 +492,7 @@ impl Node {
         &mut self,
         frame: &[u8],
         now: Moment,
-        verify: impl FnMut(&Key, &[u8], &[u8], &Signature) -> bool,
+        verify: impl FnMut(Question<'_>) -> bool,
     ) -> Received {
         self.expect_own_directory();
         let received = self.try_receive(frame, now, verify);
@@ -452,7 +515,7 @@ impl Node {
         &mut self,
         frame: &[u8],
         now: Moment,
-        verify: impl FnMut(&Key, &[u8], &[u8], &Signature) -> bool,
+        verify: impl FnMut(Question<'_>) -> bool,
     ) -> Result<Received, OutOfMemory> {
         let Node {
             directory,
@@ -490,13 +553,7 @@ impl Node {
     /// # let mut node = Node::new(&testing::setup(9)).unwrap();
     /// let frame = Payload::Peers(vec![testing::info(1, 0), testing::info(2, 0)]).encode();
     /// let questions = node.check(&frame, Moment::from_secs(1))?;
-    /// let verdicts: Vec<bool> = questions
-    ///     .iter()
-    ///     .map(|asked| {
-    ///         let Question { public_key, message, signature, .. } = asked;
-    ///         testing::verify(&public_key, questions.namespace(), message, &signature)
-    ///     })
-    ///     .collect();
+    /// let verdicts: Vec<bool> = questions.iter().map(testing::verify).collect();
     /// let judged = questions.judged(verdicts)?;
     /// assert_eq!(node.receive_judged(judged).unwrap(), Received::Applied(2));
     /// # Ok::<(), Box<dyn std::error::Error>>(())
@@ -598,13 +655,13 @@ fn received(
 fn judge(
     told: &[u8],
     namespace: &[u8],
-    verify: impl FnMut(&Key, &[u8], &[u8], &Signature) -> bool,
+    verify: impl FnMut(Question<'_>) -> bool,
     verdicts: &mut Vec<u8>,
 ) -> Result<(), ReadError> {
-    let (infos, questions) = read_told(told)?;
+    let (infos, questions) = read_told(namespace, told)?;
     verdicts.clear();
     lengthen(verdicts, infos)?;
-    write_verdicts(verdicts, namespace, questions, verify);
+    write_verdicts(verdicts, questions, verify);
     Ok(())
 }
 

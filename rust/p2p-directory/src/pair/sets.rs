@@ -1,4 +1,4 @@
-//! Sorted sets of keys, and the peers of a set by role.
+//! Sorted sets of keys, the peers of a set by role, and what registering them returns.
 
 use super::key::{KEY_SIZE, Key};
 use crate::error::{DuplicateKeyError, OutOfMemory};
@@ -191,5 +191,70 @@ impl From<OrderedSet> for TrackedPeers {
     /// Creates a value with these primary peers and no secondary ones.
     fn from(primary: OrderedSet) -> TrackedPeers {
         TrackedPeers::new(primary, OrderedSet::default())
+    }
+}
+
+/// Whether a peer set was registered, and whom to disconnect then.
+///
+/// # Examples
+///
+/// ```
+/// # use p2p_directory::*;
+/// # let mut directory = testing::directory();
+/// # let set = OrderedSet::from_iter_dedup([testing::key(1)]).into();
+/// match directory.track(7, &set)? {
+///     Tracked::Accepted(to_disconnect) => assert!(to_disconnect.is_empty()),
+///     Tracked::Stale => unreachable!("it is the first set"),
+/// }
+/// assert_eq!(directory.track(7, &set)?, Tracked::Stale);
+/// # Ok::<(), OutOfMemory>(())
+/// ```
+///
+/// A result that isn't looked at is a warning:
+///
+/// ```compile_fail
+/// #![deny(unused_must_use)]
+/// # use p2p_directory::*;
+/// fn track(directory: &mut Directory, peers: &TrackedPeers) -> Result<(), OutOfMemory> {
+///     directory.track(0, peers)?;
+///     Ok(())
+/// }
+/// ```
+///
+/// This compiles, and drops it:
+///
+/// ```
+/// #![deny(unused_must_use)]
+/// # use p2p_directory::*;
+/// fn track(directory: &mut Directory, peers: &TrackedPeers) -> Result<(), OutOfMemory> {
+///     let _ = directory.track(0, peers)?;
+///     Ok(())
+/// }
+/// ```
+#[derive(Clone, Debug, PartialEq, Eq, Hash)]
+#[must_use = "it says which peers must be disconnected"]
+pub enum Tracked {
+    /// The set is retained. These peers must be disconnected: they are reserved or connected, were
+    /// eligible before, and no longer are.
+    Accepted(OrderedSet),
+    /// The index isn't above that of each set registered before. Nothing has changed.
+    Stale,
+}
+
+impl Tracked {
+    /// The peers that must be disconnected, or `None` if the set isn't registered.
+    ///
+    /// # Examples
+    ///
+    /// ```
+    /// # use p2p_directory::*;
+    /// assert_eq!(Tracked::Stale.accepted(), None);
+    /// ```
+    #[must_use = "these peers must be disconnected"]
+    pub fn accepted(self) -> Option<OrderedSet> {
+        match self {
+            Tracked::Accepted(to_disconnect) => Some(to_disconnect),
+            Tracked::Stale => None,
+        }
     }
 }

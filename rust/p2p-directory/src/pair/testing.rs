@@ -16,6 +16,7 @@ use super::info::Info;
 use super::key::{KEY_SIZE, Key, LEAST_FIRST};
 use super::node::Setup;
 use super::signature::{SIGNATURE_SIZE, Signature};
+use super::verification::Question;
 use crate::config::{Config, PayloadConfig};
 use crate::ingress::Ingress;
 use std::net::SocketAddr;
@@ -78,15 +79,23 @@ pub fn sign(key: &Key, namespace: &[u8], message: &[u8]) -> Signature {
 /// # Examples
 ///
 /// ```
-/// use p2p_directory::testing::{key, sign, verify};
+/// use p2p_directory::{Question, testing};
 ///
-/// let signature = sign(&key(1), b"net", b"hello");
-/// assert!(verify(&key(1), b"net", b"hello", &signature));
-/// assert!(!verify(&key(2), b"net", b"hello", &signature));
+/// let (public_key, namespace, message) = (testing::key(1), b"net".as_slice(), b"hello".as_slice());
+/// let signature = testing::sign(&public_key, namespace, message);
+/// let question = Question { public_key, namespace, message, signature };
+/// assert!(testing::verify(question));
+/// assert!(!testing::verify(Question { public_key: testing::key(2), ..question }));
 /// ```
 #[must_use]
-pub fn verify(key: &Key, namespace: &[u8], message: &[u8], signature: &Signature) -> bool {
-    sign(key, namespace, message) == *signature
+pub fn verify(question: Question<'_>) -> bool {
+    let Question {
+        public_key,
+        namespace,
+        message,
+        signature,
+    } = question;
+    sign(&public_key, namespace, message) == signature
 }
 
 /// The info of the key of a number, at the address 1.2.3.4 and the port 8000 plus the number.

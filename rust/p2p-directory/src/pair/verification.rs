@@ -22,15 +22,28 @@ use std::fmt;
 /// let questions = node.check(&frame, Moment::from_secs(1))?;
 /// let question = questions.iter().next().expect("the info is signed");
 /// assert_eq!(question.public_key, info.public_key);
+/// assert_eq!(question.namespace, testing::NAMESPACE);
 /// assert_eq!(question.message, info.signed_bytes());
 /// assert_eq!(question.signature, info.signature);
 /// # Ok::<(), OutOfMemory>(())
 /// ```
+///
+/// A function that verifies signatures can be tested with questions of one's own:
+///
+/// ```
+/// # use p2p_directory::{Question, testing};
+/// let (public_key, namespace, message) = (testing::key(1), b"net".as_slice(), b"hello".as_slice());
+/// let signature = testing::sign(&public_key, namespace, message);
+/// let question = Question { public_key, namespace, message, signature };
+/// assert!(testing::verify(question));
+/// assert!(!testing::verify(Question { message: b"hullo", ..question }));
+/// ```
 #[derive(Clone, Copy, Debug, PartialEq, Eq, Hash)]
-#[non_exhaustive]
 pub struct Question<'q> {
     /// The key that has to have made the signature.
     pub public_key: Key,
+    /// The namespace in which infos are signed.
+    pub namespace: &'q [u8],
     /// The signed bytes.
     pub message: &'q [u8],
     /// The signature.
@@ -51,11 +64,7 @@ pub struct Question<'q> {
 /// # let frame = Payload::Greeting(testing::info(1, 1000)).encode();
 /// # let now = Moment::from_secs(1);
 /// let questions = node.lock().unwrap().check(&frame, now)?;
-/// let mut verdicts = Vec::new();
-/// for question in &questions {
-///     let Question { public_key, message, signature, .. } = question;
-///     verdicts.push(testing::verify(&public_key, questions.namespace(), message, &signature));
-/// }
+/// let verdicts: Vec<bool> = questions.iter().map(testing::verify).collect();
 /// let judged = questions.judged(verdicts)?;
 /// let received = node.lock().unwrap().receive_judged(judged).unwrap();
 /// assert_eq!(received, Received::Greeted(testing::key(1)));
@@ -140,23 +149,34 @@ pub struct ReceiveError<'f> {
 
 /// An iterator over the questions that the library wrote one after the other.
 #[derive(Clone, Debug)]
-pub(crate) struct Asked<'q>(&'q [u8]);
+pub(crate) struct Asked<'q> {
+    namespace: &'q [u8],
+    bytes: &'q [u8],
+}
 
 /// What the library writes about a frame without infos.
 pub(crate) const NOTHING_TOLD: [u8; 8] = [0; 8];
 
 /// Reads what the library wrote about a frame: how many infos it has, and the questions.
-pub(crate) fn read_told(told: &[u8]) -> Result<(usize, Asked<'_>), CodecError> {
+pub(crate) fn read_told<'q>(
+    namespace: &'q [u8],
+    told: &'q [u8],
+) -> Result<(usize, Asked<'q>), CodecError> {
     let mut reader = Reader::new(told);
     let infos = reader.number()? as usize;
-    Ok((infos, Asked(reader.rest())))
+    let bytes = reader.rest();
+    Ok((infos, Asked { namespace, bytes }))
 }
 
 #[inline]
-fn read_question<'q>(reader: &mut Reader<'q>) -> Result<Question<'q>, CodecError> {
+fn read_question<'q>(
+    namespace: &'q [u8],
+    reader: &mut Reader<'q>,
+) -> Result<Question<'q>, CodecError> {
     let length = reader.number()? as usize;
     Ok(Question {
         public_key: Key::of_library(reader.array()?),
+        namespace,
         message: reader.take(length)?,
         signature: Signature::read(reader)?,
     })
@@ -167,12 +187,12 @@ impl<'q> Iterator for Asked<'q> {
 
     #[inline]
     fn next(&mut self) -> Option<Question<'q>> {
-        if self.0.is_empty() {
+        if self.bytes.is_empty() {
             return None;
         }
-        let mut reader = Reader::new(self.0);
-        let question = read_question(&mut reader).expect(OWN);
-        self.0 = reader.rest();
+        let mut reader = Reader::new(self.bytes);
+        let question = read_question(self.namespace, &mut reader).expect(OWN);
+        self.bytes = reader.rest();
         Some(question)
     }
 }
@@ -181,17 +201,11 @@ impl<'q> Iterator for Asked<'q> {
 /// stay as they are.
 pub(crate) fn write_verdicts(
     verdicts: &mut [u8],
-    namespace: &[u8],
     questions: Asked<'_>,
-    mut verify: impl FnMut(&Key, &[u8], &[u8], &Signature) -> bool,
+    mut verify: impl FnMut(Question<'_>) -> bool,
 ) {
     for (verdict, question) in verdicts.iter_mut().zip(questions) {
-        let Question {
-            public_key,
-            message,
-            signature,
-        } = question;
-        let is_right = verify(&public_key, namespace, message, &signature);
+        let is_right = verify(question);
         *verdict = is_right.into();
         if !is_right {
             break;
@@ -209,11 +223,11 @@ impl<'f> Questions<'f> {
         namespace: &[u8],
         told: &[u8],
     ) -> Result<Questions<'f>, ReadError> {
-        let (infos, asked) = read_told(told)?;
+        let (infos, asked) = read_told(namespace, told)?;
         let mut bytes = Vec::new();
-        bytes.try_reserve_exact(namespace.len() + asked.0.len())?;
+        bytes.try_reserve_exact(namespace.len() + asked.bytes.len())?;
         bytes.extend_from_slice(namespace);
-        bytes.extend_from_slice(asked.0);
+        bytes.extend_from_slice(asked.bytes);
         Ok(Questions {
             frame,
             now,
@@ -290,8 +304,9 @@ impl<'f> Questions<'f> {
     /// ```
     #[must_use]
     pub fn iter(&self) -> QuestionsIter<'_> {
+        let (namespace, bytes) = self.bytes.split_at(self.namespace);
         QuestionsIter {
-            asked: Asked(&self.bytes[self.namespace..]),
+            asked: Asked { namespace, bytes },
             count: self.count,
         }
     }
@@ -340,9 +355,9 @@ impl<'f> Questions<'f> {
         })
     }
 
-    /// The frame with the verification results of `verify`, which returns whether a signature is
-    /// valid. Its arguments are a key, the namespace, a message and the signature. It is called
-    /// once for each question, in order, up to the first false result. It doesn't allocate.
+    /// The frame with the verification results of `verify`, which returns whether the signature of
+    /// a question is valid. It is called once for each question, in order, up to the first false
+    /// result. It doesn't allocate.
     ///
     /// # Panics
     ///
@@ -359,13 +374,10 @@ impl<'f> Questions<'f> {
     /// # Ok::<(), OutOfMemory>(())
     /// ```
     #[must_use]
-    pub fn judged_by(
-        self,
-        verify: impl FnMut(&Key, &[u8], &[u8], &Signature) -> bool,
-    ) -> Judged<'f> {
+    pub fn judged_by(self, verify: impl FnMut(Question<'_>) -> bool) -> Judged<'f> {
         let mut verdicts = self.verdicts;
-        let (namespace, asked) = self.bytes.split_at(self.namespace);
-        write_verdicts(&mut verdicts, namespace, Asked(asked), verify);
+        let (namespace, bytes) = self.bytes.split_at(self.namespace);
+        write_verdicts(&mut verdicts, Asked { namespace, bytes }, verify);
         Judged {
             frame: self.frame,
             now: self.now,

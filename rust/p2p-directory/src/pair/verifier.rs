@@ -5,6 +5,7 @@ use super::key::Key;
 use super::node::{Node, Received, Setup};
 use super::payload::{greeting_of, reply_of};
 use super::signature::{SIGNATURE_SIZE, Signature};
+use super::verification::Question;
 use crate::config::{Config, PayloadConfig};
 use crate::error::{SetupError, ValidateError};
 use crate::ingress::Ingress;
@@ -132,7 +133,7 @@ impl InfoVerifier {
         &self,
         now: Moment,
         infos: &[Info],
-        verify: impl FnMut(&Key, &[u8], &[u8], &Signature) -> bool,
+        verify: impl FnMut(Question<'_>) -> bool,
     ) -> Result<(), ValidateError> {
         self.judge(&reply_of(infos)?, now, verify)
     }
@@ -166,7 +167,7 @@ impl InfoVerifier {
         &self,
         now: Moment,
         info: &Info,
-        verify: impl FnMut(&Key, &[u8], &[u8], &Signature) -> bool,
+        verify: impl FnMut(Question<'_>) -> bool,
     ) -> Result<(), ValidateError> {
         self.judge(&greeting_of(info)?, now, verify)
     }
@@ -175,7 +176,7 @@ impl InfoVerifier {
         &self,
         frame: &[u8],
         now: Moment,
-        verify: impl FnMut(&Key, &[u8], &[u8], &Signature) -> bool,
+        verify: impl FnMut(Question<'_>) -> bool,
     ) -> Result<(), ValidateError> {
         let questions = self.node().check(frame, now)?;
         let judged = questions.judged_by(verify);

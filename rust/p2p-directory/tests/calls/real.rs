@@ -40,7 +40,8 @@ impl Real {
             Call::Track(index, primary, secondary) => {
                 let set = |peers: &[Key]| OrderedSet::from_iter_dedup(peers.iter().copied());
                 let peers = TrackedPeers::new(set(primary), set(secondary));
-                shown(directory.track(*index, &peers).expect(MEMORY))
+                let tracked = directory.track(*index, &peers).expect(MEMORY);
+                shown(tracked.accepted())
             }
             Call::Dial(peer, now, draw) => {
                 let granted = directory.dial(peer, *now, *draw).expect(MEMORY);

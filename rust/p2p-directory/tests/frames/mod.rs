@@ -105,8 +105,8 @@ impl Informed {
         let received = self.node.receive_judged(judged).expect("its own frame");
         assert_eq!(received, wanted);
         let mut signatures = Vec::new();
-        let received = self.node.receive(frame, NOW, |_, _, _, signature| {
-            signatures.push(*signature);
+        let received = self.node.receive(frame, NOW, |question| {
+            signatures.push(question.signature);
             false
         });
         assert_eq!(received, wanted);
@@ -138,7 +138,7 @@ fn compare_changes(frame: &[u8], payload: &Payload) {
     let keys = || infos.iter().map(|info| info.public_key);
     let mut node = new_node(LIMITS[0]);
     let _held = meet(&mut node, keys(), keys());
-    let received = node.receive(frame, NOW, |_, _, _, signature| is_right(signature));
+    let received = node.receive(frame, NOW, |asked| is_right(&asked.signature));
     assert_eq!(received, answer(payload, is_right));
     let mut newest: BTreeMap<Key, &Info> = BTreeMap::new();
     if matches!(received, Received::Greeted(_) | Received::Applied(_)) {
@@ -177,7 +177,7 @@ fn meet(
 ) -> Vec<Reservation> {
     let directory = node.directory_mut();
     let peers = TrackedPeers::from(OrderedSet::from_iter_dedup(peers));
-    directory.track(INDEX, &peers).expect(MEMORY);
+    let _ = directory.track(INDEX, &peers).expect(MEMORY);
     let mut held = Vec::new();
     for peer in connected {
         let granted = directory.listen(&peer, NOW, Duration::ZERO).expect(MEMORY);

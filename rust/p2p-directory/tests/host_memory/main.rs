@@ -356,7 +356,7 @@ fn buffers_are_given_back_after_a_large_set() {
     let mut state = empty();
     let before = held();
     let taken = state.directory_mut().track(0, &set.clone()).unwrap();
-    assert!(taken.is_some());
+    assert!(taken.accepted().is_some());
     assert_eq!(state.directory().get_peer_set(0), Ok(Some(set)));
     // The returned set has the bytes of 4,000 keys, and so do the argument and the result.
     let kept = held() - before;

@@ -32,7 +32,7 @@ fn follows(state: &mut State) {
     const SECOND: &[bool] = &[true, false];
     connects(state, 100, &[FIRST, SECOND], &[&[false; 3], &[false; 2]]);
     let taken = state.directory_mut().track(2, &peers(&[2], &[])).unwrap();
-    assert!(taken.is_some());
+    assert!(taken.accepted().is_some());
     connects(
         state,
         200,

@@ -23,7 +23,7 @@ const FEW: usize = 4_096;
 fn many() -> State {
     let mut state = empty();
     let peers = OrderedSet::from_iter_dedup((10..10 + ROUNDS).map(key)).into();
-    state.directory_mut().track(0, &peers).unwrap();
+    let _ = state.directory_mut().track(0, &peers).unwrap();
     state
 }
 

@@ -6,7 +6,7 @@ use super::state::{
 };
 use super::{Case, LONGER_INFO, LONGER_KEY};
 use crate::pair::testing::{info, key, setup};
-use crate::pair::{Ingress, Key, OutOfMemory};
+use crate::pair::{Ingress, Key, OutOfMemory, Tracked};
 use std::net::SocketAddr;
 
 // So many bootstrappers with sockets, with the local key among them, one with a name, and one that
@@ -33,7 +33,7 @@ fn tracked(
 }
 
 fn nobody() -> String {
-    text(Some(set(&[])))
+    text(Tracked::Accepted(set(&[])))
 }
 
 fn block(state: &mut State, number: u16, now: u64) -> Result<String, OutOfMemory> {
@@ -84,7 +84,7 @@ pub const CHANGES: &[Case] = &[
         name: "track a set for which another goes",
         prepared: known,
         call: |state| tracked(state, 1, &[1, 7], &[11]),
-        answer: || text(Some(set(&[2, 3]))),
+        answer: || text(Tracked::Accepted(set(&[2, 3]))),
         requests: 7,
         // The lists of keys (192), the list of peers that must be disconnected (160), their
         // positions before (32), the positions of five peers (240), bits.
@@ -124,7 +124,7 @@ pub const CHANGES: &[Case] = &[
         name: "track a set that isn't above the latest",
         prepared: known,
         call: |state| tracked(state, 0, &[1], &[]),
-        answer: || text(None::<()>),
+        answer: || text(Tracked::Stale),
         requests: 1,
         // Its key.
         bytes: 32 + LONGER_KEY,
@@ -133,7 +133,7 @@ pub const CHANGES: &[Case] = &[
         name: "track a set of nobody that isn't above the latest",
         prepared: known,
         call: |state| tracked(state, 0, &[], &[]),
-        answer: || text(None::<()>),
+        answer: || text(Tracked::Stale),
         requests: 0,
         bytes: 0,
     },

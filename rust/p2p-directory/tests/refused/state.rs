@@ -177,7 +177,7 @@ impl State {
             .directory_mut()
             .track(index, &peers(primary, secondary))
             .unwrap();
-        assert!(taken.is_some(), "set {index}");
+        assert!(taken.accepted().is_some(), "set {index}");
         self
     }
 

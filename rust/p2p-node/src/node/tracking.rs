@@ -6,7 +6,7 @@ use crate::broken::Rule;
 use crate::counts::Event;
 use crate::ledger::Entry;
 use crate::sets::{Loaded, PeerSet, SetFiles};
-use p2p_directory::OutOfMemory;
+use p2p_directory::{OutOfMemory, Tracked};
 
 /// Why a set was not registered.
 enum Refused {
@@ -57,7 +57,7 @@ fn register(shared: &Shared, set: &PeerSet) -> Result<(), Refused> {
         }
         None => {}
     }
-    let Some(to_disconnect) = state.node.directory_mut().track(*index, peers)? else {
+    let Tracked::Accepted(to_disconnect) = state.node.directory_mut().track(*index, peers)? else {
         let latest = state.node.directory().latest_set_index().unwrap_or(0);
         let why = format!("the index {index} isn't above the latest one, {latest}");
         return Err(Refused::Wrong(why));

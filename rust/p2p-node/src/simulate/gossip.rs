@@ -5,7 +5,7 @@ use super::events::{Event, Link};
 use super::members::{key_of, limits, node_of};
 use super::network::Network;
 use p2p_directory::testing::verify;
-use p2p_directory::{Key, Received, Signature};
+use p2p_directory::{Question, Received};
 
 /// The first byte of a greeting.
 const GREETING: u8 = 1;
@@ -95,11 +95,12 @@ impl Network {
         let now = self.moment();
         let running = self.places[node].running.as_mut()?;
         let mut infos: Vec<(usize, u64)> = Vec::new();
-        let judge = |key: &Key, namespace: &[u8], message: &[u8], signature: &Signature| {
-            if let Some(timestamp) = message.last_chunk() {
-                infos.push((node_of(key), u64::from_be_bytes(*timestamp)));
+        let judge = |question: Question<'_>| {
+            if let Some(timestamp) = question.message.last_chunk() {
+                let peer = node_of(&question.public_key);
+                infos.push((peer, u64::from_be_bytes(*timestamp)));
             }
-            verify(key, namespace, message, signature)
+            verify(question)
         };
         let received = running.node.receive(frame, now, judge);
         if matches!(received, Received::Greeted(_) | Received::Applied(_)) {

@@ -170,8 +170,10 @@ impl Member {
         };
         let mut node = Node::new(&setup).map_err(|error| error.to_string())?;
         for group in &self.groups {
-            let tracked = node.directory_mut().track(group.index, &group.peers);
-            tracked.map_err(|error| error.to_string())?;
+            // Nobody is connected yet, so nobody has to be disconnected.
+            let _ = node
+                .track(group.index, &group.peers)
+                .map_err(|error| error.to_string())?;
         }
         Ok(node)
     }

@@ -16,7 +16,8 @@ const QUESTIONS: u128 = 100;
 fn full(sets: usize, count: usize) -> Outcome<Directory> {
     let mut directory = directory(sets)?;
     for index in 0..sets {
-        directory.track(index as u64, &tracked(&keys(index * count / 4, count)))?;
+        let tracked = directory.track(index as u64, &tracked(&keys(index * count / 4, count)))?;
+        tracked.accepted().ok_or("the index is above")?;
     }
     Ok(directory)
 }
@@ -29,7 +30,7 @@ fn tracks(sets: usize, count: usize) -> Outcome<Times> {
         let peers = tracked(&keys(index * count / 4, count));
         let start = Instant::now();
         let torn = directory.track(index as u64, &peers)?;
-        times.add(start.elapsed(), torn.is_some().into());
+        times.add(start.elapsed(), torn.accepted().is_some().into());
     }
     Ok(times)
 }

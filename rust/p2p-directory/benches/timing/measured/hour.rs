@@ -102,7 +102,8 @@ impl Tracker {
 
     fn track(&mut self, index: u64, peers: &TrackedPeers, now: Moment) -> Outcome<()> {
         let directory = self.node.directory_mut();
-        let torn = directory.track(index, peers)?.ok_or("the index is above")?;
+        let torn = directory.track(index, peers)?.accepted();
+        let torn = torn.ok_or("the index is above")?;
         directory.forget_cooled(now);
         self.done += self.release_each(|peer| torn.binary_search(peer).is_ok())?;
         Ok(())

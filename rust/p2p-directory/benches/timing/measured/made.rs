@@ -2,7 +2,7 @@
 
 use super::pair::{
     BitVec, Config, Directory, Info, Ingress, KEY_SIZE, Key, Node, OrderedSet, Payload,
-    PayloadConfig, SIGNATURE_SIZE, Setup, Signature, TrackedPeers,
+    PayloadConfig, Question, SIGNATURE_SIZE, Setup, Signature, TrackedPeers,
 };
 use crate::Outcome;
 use std::net::SocketAddr;
@@ -61,8 +61,8 @@ fn signed(key: Key, ingress: Ingress, timestamp: u64) -> Info {
 }
 
 /// Whether a signature is valid: it begins with the key.
-pub(crate) fn verify(key: &Key, _: &[u8], _: &[u8], signature: &Signature) -> bool {
-    signature.0[..COMPARED] == key.as_bytes()[..COMPARED]
+pub(crate) fn verify(question: Question<'_>) -> bool {
+    question.signature.0[..COMPARED] == question.public_key.as_bytes()[..COMPARED]
 }
 
 /// The info of a peer.
@@ -109,7 +109,8 @@ pub(crate) fn directory(sets: usize) -> Outcome<Directory> {
 // Registers sets of all these peers, as many as are retained.
 fn fill(directory: &mut Directory, keys: &[Key]) -> Outcome<()> {
     for index in 0..SETS as u64 {
-        directory.track(index, &tracked(keys))?;
+        let tracked = directory.track(index, &tracked(keys))?;
+        tracked.accepted().ok_or("the index is above")?;
     }
     Ok(())
 }

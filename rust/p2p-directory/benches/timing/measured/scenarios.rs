@@ -120,7 +120,7 @@ fn tracks(count: usize, samples: usize) -> Outcome<Times> {
         let peers = tracked(&all[from..from + count]);
         let start = Instant::now();
         let torn = directory.track(index as u64, &peers)?;
-        times.add(start.elapsed(), torn.is_some().into());
+        times.add(start.elapsed(), torn.accepted().is_some().into());
     }
     Ok(times)
 }

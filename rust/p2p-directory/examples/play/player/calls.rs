@@ -85,7 +85,7 @@ fn sets(name: &str, words: &mut Words<'_>) -> Result<Call, Fault> {
         "track" => {
             let (index, peers) = (words.number()?, words.tracked()?);
             Box::new(move |named| {
-                let torn = named.directory().track(index, &peers)?;
+                let torn = named.directory().track(index, &peers)?.accepted();
                 Ok(option(torn.map(|torn| keys(&torn))))
             })
         }

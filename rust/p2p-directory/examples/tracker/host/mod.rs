@@ -8,8 +8,8 @@ pub mod wire;
 
 use p2p_directory::testing::{NAMESPACE, sign};
 use p2p_directory::{
-    Config, Data, Directory, Info, Ingress, Key, Moment, Node, OutOfMemory, PayloadConfig, Setup,
-    TrackedPeers,
+    Config, Data, Directory, Info, Ingress, Key, Moment, Node, PayloadConfig, Setup, TrackError,
+    Tracked, TrackedPeers,
 };
 use shared::{Outgoing, Shared, State};
 use std::error::Error;
@@ -187,10 +187,11 @@ impl Host {
     ///
     /// # Errors
     ///
-    /// [`OutOfMemory`] if an allocation fails; then nothing has changed.
-    pub fn track(&self, index: u64, peers: &TrackedPeers) -> Result<bool, OutOfMemory> {
+    /// [`TrackError`] if the set is larger than the limits of the node, or an allocation fails; then
+    /// nothing has changed.
+    pub fn track(&self, index: u64, peers: &TrackedPeers) -> Result<bool, TrackError> {
         let mut state = self.shared.lock();
-        let Some(to_disconnect) = state.node.directory_mut().track(index, peers)? else {
+        let Tracked::Accepted(to_disconnect) = state.node.track(index, peers)? else {
             return Ok(false);
         };
         state.disconnect(&to_disconnect);

@@ -1,7 +1,7 @@
 //! Frames on a stream, and the handshake before them.
 
 use super::shared::random;
-use p2p_directory::testing::{sign, verify};
+use p2p_directory::testing::sign;
 use p2p_directory::{
     KEY_SIZE, Key, MAX_PAYLOAD_OVERHEAD, PayloadConfig, SIGNATURE_SIZE, Signature, max_gossip_size,
 };
@@ -90,7 +90,7 @@ pub fn handshake_as_dialer(
     let key = Key(read_array::<KEY_SIZE>(&mut reader)?);
     let to_sign = read_array::<CHALLENGE_SIZE>(&mut reader)?;
     let signature = Signature(read_array::<SIGNATURE_SIZE>(&mut reader)?);
-    if key != *peer || !verify(&key, HANDSHAKE, &challenge, &signature) {
+    if key != *peer || signature != sign(&key, HANDSHAKE, &challenge) {
         return Err(ErrorKind::PermissionDenied.into());
     }
     stream.write_all(sign(own, HANDSHAKE, &to_sign).as_ref())
@@ -113,7 +113,7 @@ pub fn handshake_as_listener(
     let signed = sign(own, HANDSHAKE, &to_sign);
     stream.write_all(&[own.as_ref(), &challenge, signed.as_ref()].concat())?;
     let signature = Signature(read_array::<SIGNATURE_SIZE>(&mut reader)?);
-    if !verify(&key, HANDSHAKE, &challenge, &signature) {
+    if signature != sign(&key, HANDSHAKE, &challenge) {
         return Err(ErrorKind::PermissionDenied.into());
     }
     Ok(key)

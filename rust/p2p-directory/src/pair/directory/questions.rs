@@ -70,7 +70,7 @@ impl Directory {
     /// # use p2p_directory::*;
     /// # let mut directory = testing::directory();
     /// let peers = TrackedPeers::from(OrderedSet::from_iter_dedup([testing::key(1)]));
-    /// directory.track(5, &peers.clone())?;
+    /// assert!(directory.track(5, &peers.clone())?.accepted().is_some());
     /// assert_eq!(directory.get_peer_set(5)?, Some(peers));
     /// # Ok::<(), OutOfMemory>(())
     /// ```
@@ -242,7 +242,7 @@ impl Directory {
     /// ```
     /// # use p2p_directory::*;
     /// # let mut directory = testing::directory();
-    /// directory.track(5, &OrderedSet::from_iter_dedup([testing::key(1)]).into())?;
+    /// assert!(directory.track(5, &OrderedSet::from_iter_dedup([testing::key(1)]).into())?.accepted().is_some());
     /// let bits = BitVec { index: 5, bits: vec![false] };
     /// assert_eq!(directory.get_random_bit_vec(0)?, Some(bits));
     /// # Ok::<(), OutOfMemory>(())
@@ -326,7 +326,7 @@ impl Directory {
     /// # use p2p_directory::*;
     /// # let mut directory = testing::directory();
     /// assert_eq!(directory.retained(), 0);
-    /// directory.track(5, &OrderedSet::from_iter_dedup([testing::key(1)]).into())?;
+    /// assert!(directory.track(5, &OrderedSet::from_iter_dedup([testing::key(1)]).into())?.accepted().is_some());
     /// assert_eq!(directory.retained(), 1);
     /// # Ok::<(), OutOfMemory>(())
     /// ```
@@ -345,7 +345,7 @@ impl Directory {
     /// # use p2p_directory::*; use std::time::Duration;
     /// # let mut directory = testing::directory();
     /// # let (peer, now) = (testing::key(1), Moment::from_secs(1));
-    /// # directory.track(0, &OrderedSet::from_iter_dedup([peer]).into())?;
+    /// # let _ = directory.track(0, &OrderedSet::from_iter_dedup([peer]).into())?;
     /// assert_eq!(directory.next_cooled(), None);
     /// // Its cooldown is ten seconds.
     /// let reservation = directory.listen(&peer, now, Duration::from_secs(2))?;

@@ -17,17 +17,18 @@ use std::fmt;
 /// # Examples
 ///
 /// ```
-/// # use p2p_directory::*; use std::time::Duration;
+/// # use p2p_directory::*;
+/// # let (cfg, random) = (testing::config(), || 4_711);
 /// # let mut directory = testing::directory();
 /// # let (peer, now) = (testing::key(1), Moment::from_secs(1));
-/// # directory.track(0, &OrderedSet::from_iter_dedup([peer]).into())?;
-/// let reservation = directory.listen(&peer, now, Duration::ZERO)?.expect("in a set");
-/// assert!(directory.listen(&peer, now, Duration::ZERO)?.is_none());
+/// # let _ = directory.track(0, &OrderedSet::from_iter_dedup([peer]).into())?;
+/// let reservation = directory.listen(&peer, now, cfg.draw(random()))?.expect("in a set");
+/// assert!(directory.listen(&peer, now, cfg.draw(random()))?.is_none());
 /// directory.release(reservation).expect("its own");
 ///
 /// // After its cooldown it is accepted again, and this time the reservation is dropped.
 /// let later = Moment::from_secs(11);
-/// let reservation = directory.listen(&peer, later, Duration::ZERO)?.expect("not reserved");
+/// let reservation = directory.listen(&peer, later, cfg.draw(random()))?.expect("not reserved");
 /// drop(reservation);
 /// assert_eq!(directory.status(&peer), Some(Status::Inert));
 /// # Ok::<(), OutOfMemory>(())
@@ -65,11 +66,12 @@ pub enum Metadata {
 /// # Examples
 ///
 /// ```
-/// # use p2p_directory::*; use std::time::Duration;
+/// # use p2p_directory::*;
+/// # let (cfg, random) = (testing::config(), || 4_711);
 /// # let (mut directory, mut other) = (testing::directory(), testing::directory());
 /// # let (peer, now) = (testing::key(1), Moment::from_secs(1));
-/// # directory.track(0, &OrderedSet::from_iter_dedup([peer]).into())?;
-/// let reservation = directory.listen(&peer, now, Duration::ZERO)?.expect("in a set");
+/// # let _ = directory.track(0, &OrderedSet::from_iter_dedup([peer]).into())?;
+/// let reservation = directory.listen(&peer, now, cfg.draw(random()))?.expect("in a set");
 /// let ReleaseError { reservation, .. } = other.release(reservation).unwrap_err();
 /// assert!(directory.release(reservation).is_ok());
 /// # Ok::<(), OutOfMemory>(())
@@ -96,12 +98,13 @@ impl Reservation {
     /// # Examples
     ///
     /// ```
-    /// # use p2p_directory::*; use std::time::Duration;
+    /// # use p2p_directory::*;
+    /// # let (cfg, random) = (testing::config(), || 4_711);
     /// # let mut directory = testing::directory();
     /// let (peer, now) = (testing::key(1), Moment::from_secs(1));
-    /// directory.track(0, &OrderedSet::from_iter_dedup([peer]).into())?;
+    /// assert!(directory.track(0, &OrderedSet::from_iter_dedup([peer]).into())?.accepted().is_some());
     /// directory.update_peers(&[testing::info(1, 1000)])?;
-    /// let reservation = directory.dial(&peer, now, Duration::ZERO)?.expect("its address is known");
+    /// let reservation = directory.dial(&peer, now, cfg.draw(random()))?.expect("its address is known");
     /// let Metadata::Dialer(key, ingress) = reservation.metadata() else { panic!() };
     /// assert_eq!((key, ingress), (&peer, &testing::info(1, 1000).ingress));
     /// # directory.release(reservation).expect("its own");
@@ -118,11 +121,12 @@ impl Reservation {
     /// # Examples
     ///
     /// ```
-    /// # use p2p_directory::*; use std::time::Duration;
+    /// # use p2p_directory::*;
+    /// # let (cfg, random) = (testing::config(), || 4_711);
     /// # let mut directory = testing::directory();
     /// # let (peer, now) = (testing::key(1), Moment::from_secs(1));
-    /// # directory.track(0, &OrderedSet::from_iter_dedup([peer]).into())?;
-    /// let reservation = directory.listen(&peer, now, Duration::ZERO)?.expect("in a set");
+    /// # let _ = directory.track(0, &OrderedSet::from_iter_dedup([peer]).into())?;
+    /// let reservation = directory.listen(&peer, now, cfg.draw(random()))?.expect("in a set");
     /// assert_eq!(reservation.public_key(), &peer);
     /// # directory.release(reservation).expect("its own");
     /// # Ok::<(), OutOfMemory>(())
