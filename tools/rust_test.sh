@@ -7,7 +7,7 @@ tools/linked_test.sh
 tools/host_c.sh
 cd rust
 cargo test --offline
-cargo test --offline -p p2p-directory --features record,testing --test 'recording*'
+cargo test --offline -p p2p-directory --features record,testing --test 'record*'
 cargo test --offline -p p2p-directory --features record,testing --doc record
 cargo clippy --offline --all-targets -- -D warnings
 cargo clippy --offline --all-targets --features p2p-directory/record,p2p-directory/testing -- -D warnings

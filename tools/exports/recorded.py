@@ -52,6 +52,13 @@ impl Session {{
         }}
     }}
 
+    /// Ends the recording, whose log is whole then.
+    pub(crate) fn end_record(&self) {{
+        if let Some(recorder) = self.recorder.borrow_mut().as_mut() {{
+            recorder.end();
+        }}
+    }}
+
 {methods}}}
 """
 
@@ -59,7 +66,7 @@ REPLAY = """//! Makes recorded calls anew, on another session.
 // Written by tools/exports.sh from tools/exports/session.table.
 
 use super::exports::Session;
-use crate::record::{{Answer, Arguments, Call, ReplayError}};
+use crate::record::{{Answer, Arguments, Call, MOST_ROOM, ReplayError}};
 
 /// A session on which the calls of a log are made anew.
 ///
@@ -70,10 +77,13 @@ use crate::record::{{Answer, Arguments, Call, ReplayError}};
 /// ```
 pub struct Replay {{
     session: Session,
+    // How many bytes a call may ask for.
+    most: u64,
 }}
 
 impl Replay {{
-    /// A session with no node, or `None` if the allocation fails.
+    /// A session with no node, or `None` if the allocation fails. It refuses a call that asks for
+    /// more than [`MOST_ROOM`] bytes.
     ///
     /// # Examples
     ///
@@ -81,8 +91,22 @@ impl Replay {{
     /// assert!(p2p_directory::Replay::new().is_some());
     /// ```
     pub fn new() -> Option<Replay> {{
+        Replay::with_room(MOST_ROOM)
+    }}
+
+    /// A session with no node, or `None` if the allocation fails. It refuses a call that asks for
+    /// more than so many bytes, for the buffer that it writes or for a message: a log may ask for
+    /// any number.
+    ///
+    /// # Examples
+    ///
+    /// ```
+    /// assert!(p2p_directory::Replay::with_room(1 << 30).is_some());
+    /// ```
+    pub fn with_room(most: u64) -> Option<Replay> {{
         Some(Replay {{
             session: Session::new()?,
+            most,
         }})
     }}
 
@@ -90,8 +114,8 @@ impl Replay {{
     ///
     /// # Errors
     ///
-    /// [`ReplayError`] if the arguments aren't those of the call, or there is no memory for the
-    /// bytes that it may write.
+    /// [`ReplayError`] if the arguments aren't those of the call, or it asks for more bytes than are
+    /// allowed or there are.
     ///
     /// # Examples
     ///
@@ -109,7 +133,7 @@ impl Replay {{
     /// ```
     pub fn make(&mut self, call: &Call<'_>) -> Result<Answer, ReplayError> {{
         let session = &self.session;
-        let mut given = Arguments::of(call);
+        let mut given = Arguments::of(call, self.most);
         match call.name() {{
 {arms}            other => Err(ReplayError::Unknown(other)),
         }}
@@ -154,7 +178,7 @@ def session(exports):
         passed = ', '.join(p.name for p in own)
         lines = []
         for p in own:
-            lines.append({'shr': f'entry.bytes({p.name});', 'mut': f'entry.number({p.name}.len() as u64);',
+            lines.append({'shr': f'entry.{"frame" if p.name == "frame" else "bytes"}({p.name});', 'mut': f'entry.number({p.name}.len() as u64);',
                           'bool': f'entry.number(u64::from({p.name}));', 'int': f'entry.number(u64::from({p.name}));'}[p.kind]
                          .replace(f'u64::from({p.name})' if p.text == 'u64' else '\0', p.name))
         out = next((p.name for p in own if p.kind == 'mut'), None)
@@ -182,7 +206,7 @@ def replay(exports):
             take = {'shr': 'bytes()', 'mut': 'room()', 'bool': 'flag()'}.get(p.kind, {'u64': 'number()', 'u32': 'small()'}.get(p.text))
             arms += f"                let {'mut ' if p.kind == 'mut' else ''}{p.name} = given.{take}?;\n"
         out = next((p.name for p in own if p.kind == 'mut'), None)
-        passed = ', '.join(f'&mut {p.name}' if p.kind == 'mut' else p.name for p in own)
+        passed = ', '.join({'mut': '&mut ', 'shr': '&'}.get(p.kind, '') + p.name for p in own)
         arms += f"                let number = session.{method}({passed});\n                Ok(Answer::of(number, {out or 'Vec::new()'}))\n            }}\n"
     return REPLAY.format(arms=arms)
 

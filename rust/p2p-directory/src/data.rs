@@ -4,6 +4,9 @@ use crate::codec::{MAX_VARINT_SIZE, ReadError, Reader, write_length, write_varin
 use crate::error::{CodecError, OutOfMemory, What};
 use crate::memory::copied;
 
+/// The first byte of a frame with a message.
+pub(crate) const DATA_PREFIX: u8 = 0;
+
 /// A message on a channel.
 ///
 /// # Examples

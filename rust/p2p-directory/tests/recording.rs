@@ -10,14 +10,19 @@ mod modelled;
 mod player;
 mod random;
 
-use crate::pair::{Directory, KEY_SIZE, Key, Moment, Node, OrderedSet, SIGNATURE_SIZE, testing};
+use crate::pair::{
+    CodecError, Data, Directory, KEY_SIZE, Key, Moment, Node, OrderedSet, Payload, Received,
+    Replay, SIGNATURE_SIZE, testing,
+};
 // The model answers recorded calls by this name.
 use calls::model;
 use modelled::Modelled;
 // Where another file has this one as a module, the pair of sizes is that of the other.
 #[allow(unused_imports)]
 use p2p_directory as pair;
-use p2p_directory::record::{Call, Log, LogError, Recorder, Recording};
+use p2p_directory::record::{
+    Argument, Call, Log, LogError, MOST_ROOM, Recorder, Recording, ReplayError,
+};
 use player::{Mode, Tally, play};
 use std::io::{self, Write};
 use std::path::{Path, PathBuf};
@@ -85,7 +90,8 @@ fn replayed(words: &[&str], file: &Path) -> Output {
 /// `None` if it refuses these words for keys of this size, as it says.
 fn replayed_if_offered(words: &[&str], file: &Path) -> Option<Output> {
     let output = replayed(words, file);
-    if words.is_empty() || KEY_SIZE == 32 {
+    let is_of_32 = |word: &&str| ["--model", "--script", "--play"].contains(word);
+    if KEY_SIZE == 32 || !words.iter().any(is_of_32) {
         return Some(output);
     }
     let told = String::from_utf8_lossy(&output.stderr);
@@ -190,14 +196,41 @@ fn play_replies_as_the_library_did() {
     assert!(replies > 2_000 || KEY_SIZE != 32, "{replies}");
 }
 
-/// The places in a log where its records begin, and its end.
-fn places(log: &[u8]) -> Vec<usize> {
-    let mut places = vec![41];
-    while let Some(front) = log[places[places.len() - 1]..].first_chunk() {
-        let last = places[places.len() - 1];
-        places.push(last + 4 + u32::from_be_bytes(*front) as usize);
+/// How many bytes a log begins with before its records.
+const HEAD: usize = 41;
+
+/// How many bytes the last record has.
+const LAST: usize = 17;
+
+/// The head of a log and its records, without the last, which says that it is whole.
+fn parts(log: &[u8]) -> (&[u8], Vec<&[u8]>) {
+    let (head, mut rest) = log.split_at(HEAD);
+    let mut records = Vec::new();
+    while let Some(front) = rest.first_chunk() {
+        let (record, after) = rest.split_at(4 + u32::from_be_bytes(*front) as usize);
+        records.push(record);
+        rest = after;
     }
-    places
+    let last = records.pop().expect("a last record");
+    assert_eq!(last[..5], [0, 0, 0, 13, 255]);
+    (head, records)
+}
+
+/// The CRC-32 of zlib, bit by bit.
+fn checksum(bytes: &[u8]) -> u32 {
+    let bits = |left: u32, _| (left >> 1) ^ (0xedb8_8320 * (left & 1));
+    let each = |sum: u32, byte: &u8| (0..8).fold(sum ^ u32::from(*byte), bits);
+    !bytes.iter().fold(u32::MAX, each)
+}
+
+/// A whole log of these records.
+fn whole(head: &[u8], records: &[&[u8]]) -> Vec<u8> {
+    let mut log = [head, &records.concat()].concat();
+    let sum = checksum(&log);
+    log.extend([0, 0, 0, 13, 255]);
+    log.extend((records.len() as u64).to_be_bytes());
+    log.extend(sum.to_be_bytes());
+    log
 }
 
 // The place of the first grant of a log whose peer is connected by the next call.
@@ -232,66 +265,141 @@ fn differs_at(name: &str, log: &[u8], place: usize) {
 
 #[test]
 fn a_changed_answer_is_named() {
-    let mut log = random_log(3);
+    let log = random_log(3);
+    let (head, mut records) = parts(&log);
     let place = granted(&log);
     // The number comes last.
-    let end = places(&log)[place + 1];
-    log[end - 1] = 0;
-    differs_at("changed", &log, place);
+    let mut changed = records[place].to_vec();
+    *changed.last_mut().expect("an answer") = 0;
+    records[place] = &changed;
+    differs_at("changed", &whole(head, &records), place);
 }
 
 #[test]
 fn a_call_that_is_left_out_is_named() {
     let log = random_log(3);
-    let (place, places) = (granted(&log), places(&log));
-    let left = [&log[..places[place]], &log[places[place + 1]..]];
+    let (head, mut records) = parts(&log);
+    let place = granted(&log);
+    records.remove(place);
     // The connection has its place then, and finds no reservation.
-    differs_at("left-out", &left.concat(), place);
+    differs_at("left-out", &whole(head, &records), place);
 }
 
 #[test]
 fn calls_that_are_swapped_are_named() {
     let log = random_log(3);
-    let (place, places) = (granted(&log), places(&log));
-    let swapped = [
-        &log[..places[place]],
-        &log[places[place + 1]..places[place + 2]],
-        &log[places[place]..places[place + 1]],
-        &log[places[place + 2]..],
-    ];
-    differs_at("swapped", &swapped.concat(), place);
+    let (head, mut records) = parts(&log);
+    let place = granted(&log);
+    records.swap(place, place + 1);
+    differs_at("swapped", &whole(head, &records), place);
+}
+
+// The log with a record of a call that was refused for want of memory, before one that was made.
+fn with_a_refusal(log: &[u8]) -> Vec<u8> {
+    let (head, mut records) = parts(log);
+    let place = granted(log);
+    let mut refused = records[place].to_vec();
+    let number = refused.len() - 8;
+    refused[number..].fill(0xff);
+    records.insert(place, &refused);
+    whole(head, &records)
 }
 
 #[test]
-fn a_call_that_ran_out_of_memory_counts_as_not_made() {
-    let log = random_log(3);
-    let (place, places) = (granted(&log), places(&log));
-    let mut refused = log[places[place]..places[place + 1]].to_vec();
-    let number = refused.len() - 8;
-    refused[number..].fill(0xff);
-    let parts = [&log[..places[place]], &refused, &log[places[place]..]];
-    let file = Scratch::of("out-of-memory", &parts.concat());
-    for words in [&[][..], &["--model"], &["--play"]] {
-        if let Some(output) = replayed_if_offered(words, &file.0) {
-            assert!(output.status.success(), "{words:?}: {}", said(&output));
+fn a_call_that_ran_out_of_memory_is_counted_as_not_checked() {
+    let log = with_a_refusal(&random_log(3));
+    let file = Scratch::of("out-of-memory", &log);
+    let not_checked = "1 refused for want of memory, not checked";
+    for way in [&[][..], &["--model"], &["--play"]] {
+        let none = [way, &["--unchecked", "0"]].concat();
+        for words in [way, &none] {
+            if let Some(output) = replayed_if_offered(words, &file.0) {
+                assert_eq!(output.status.code(), Some(1), "{words:?}");
+                assert!(said(&output).contains(not_checked), "{}", said(&output));
+            }
+        }
+        let many = [way, &["--unchecked", "1000000"]].concat();
+        if let Some(output) = replayed_if_offered(&many, &file.0) {
+            assert!(output.status.success(), "{way:?}: {}", said(&output));
+            assert!(said(&output).contains(not_checked), "{}", said(&output));
         }
     }
 }
 
+// An answer that there is none, made one of want of memory by a changed bit, is no answer as in the
+// log.
 #[test]
-fn a_record_that_is_cut_off_ends_the_log() {
+fn no_answer_is_hidden_by_a_changed_bit() {
+    let log = random_log(3);
+    let (head, records) = parts(&log);
+    let none = p2p_directory_sys::NONE.to_be_bytes();
+    let places = 0..records.len();
+    let places = places.filter(|place| records[*place].last_chunk() == Some(&none));
+    let places: Vec<usize> = places.take(40).collect();
+    assert!(places.len() > 10, "{places:?}");
+    for place in places {
+        let mut changed = records[place].to_vec();
+        *changed.last_mut().expect("an answer") ^= 2;
+        assert_eq!(changed.last_chunk(), Some(&[0xff; 8]));
+        let mut records = records.clone();
+        records[place] = &changed;
+        let file = Scratch::of(&format!("hidden-{place}"), &whole(head, &records));
+        assert_eq!(replayed(&[], &file.0).status.code(), Some(1), "{place}");
+    }
+}
+
+#[test]
+fn a_log_whose_end_is_missing_has_a_status_of_its_own() {
     let log = random_log(5);
-    let whole = places(&log);
-    for length in [log.len() - 1, whole[10] + 3, whole[10] + 4] {
-        let read = Log::read(log[..length].to_vec()).expect("a log");
-        assert!(read.is_cut());
-        let file = Scratch::of(&format!("cut-{length}"), &log[..length]);
+    let (head, records) = parts(&log);
+    let ten = [head, &records[..10].concat()].concat();
+    let more = [&ten, &records[10][..3]].concat();
+    let last = log.len() - LAST;
+    for cut in [&log[..log.len() - 1], &log[..last], &ten, &more] {
+        let read = Log::read(cut.to_vec()).expect("a log");
+        assert!(read.is_cut() && !read.is_full());
+        let file = Scratch::of(&format!("cut-{}", cut.len()), cut);
         let output = replayed(&[], &file.0);
-        assert!(output.status.success(), "{}", said(&output));
+        assert_eq!(output.status.code(), Some(3), "{}", said(&output));
         assert!(said(&output).contains("cut off"), "{}", said(&output));
     }
-    let read = Log::read(log[..whole[10]].to_vec()).expect("a log");
-    assert_eq!((read.calls().count(), read.is_cut()), (10, false));
+    assert_eq!(Log::read(ten).expect("a log").calls().count(), 10);
+    let file = Scratch::of("whole", &log);
+    assert_eq!(replayed(&[], &file.0).status.code(), Some(0));
+}
+
+#[test]
+fn a_changed_byte_of_a_log_is_noticed() {
+    let log = random_log(5);
+    assert!(Log::read(log.clone()).is_ok_and(|log| !log.is_cut()));
+    let tail = log.len() - LAST;
+    for place in (5..log.len()).step_by(7).chain(tail..log.len()) {
+        let mut changed = log.clone();
+        changed[place] ^= 1 << (place % 8);
+        // Where the last record can't be told any more, the log counts as cut off.
+        let is_noticed = Log::read(changed).map_or(true, |log| log.is_cut() && place >= tail);
+        assert!(is_noticed, "byte {place}");
+    }
+}
+
+#[test]
+fn a_last_record_has_the_number_of_records_and_stands_last() {
+    let log = random_log(5);
+    let (head, records) = parts(&log);
+    let mut other = whole(head, &records);
+    let count = other.len() - 5;
+    other[count] ^= 1;
+    assert_eq!(Log::read(other).err(), Some(LogError::Checksum));
+    let inner = whole(head, &records[..10]);
+    let (_, last) = inner.split_at(inner.len() - LAST);
+    for number in [0, 255] {
+        let mut last = last.to_vec();
+        last[4] = number;
+        let mut twice = records.clone();
+        twice.insert(10, &last);
+        let read = Log::read(whole(head, &twice)).err();
+        assert_eq!(read, Some(LogError::Checksum));
+    }
 }
 
 #[test]
@@ -306,9 +414,14 @@ fn a_log_ends_at_its_bound_and_says_so() {
         let bytes = kept.bytes();
         assert!(bytes.len() as u64 <= limit && limit < unbounded);
         let log = Log::read(bytes).expect("a log");
-        assert!(log.is_full());
+        assert!(log.is_full() && !log.is_cut());
         let file = Scratch::of(&format!("full-{limit}"), &kept.bytes());
-        assert!(said(&replayed(&[], &file.0)).contains("the log is full"));
+        let output = replayed(&[], &file.0);
+        assert!(said(&output).contains("the log is full"));
+        assert_eq!(output.status.code(), Some(3));
+        let mut spoilt = kept.bytes();
+        spoilt[30] ^= 1;
+        assert_eq!(Log::read(spoilt).err(), Some(LogError::Checksum));
     }
 }
 
@@ -350,13 +463,186 @@ fn other_bytes_are_no_log() {
     let error = |bytes: &[u8]| Log::read(bytes.to_vec()).err();
     assert_eq!(error(b""), Some(LogError::NoLog));
     assert_eq!(error(&log[..40]), Some(LogError::NoLog));
-    let mut later = log.clone();
-    later[4] = 2;
-    assert_eq!(error(&later), Some(LogError::Version(2)));
-    let mut unknown = log.clone();
-    unknown[41 + 4] = 255;
+    for version in [0, 3] {
+        let mut other = log.clone();
+        other[4] = version;
+        assert_eq!(error(&other), Some(LogError::Version(version)));
+    }
+    let (head, mut records) = parts(&log);
+    let mut first = records[0].to_vec();
+    first[4] = 254;
+    records[0] = &first;
+    let unknown = whole(head, &records);
     assert_eq!(error(&unknown), Some(LogError::Record(0)));
     let file = Scratch::of("unknown", &unknown);
     let output = replayed(&[], &file.0);
     assert_eq!(output.status.code(), Some(2));
+}
+// A log of version 1, which an earlier version of this crate wrote: it has messages in full, and no
+// last record.
+#[test]
+fn a_log_of_version_1_is_read() {
+    let path = Path::new(env!("CARGO_MANIFEST_DIR")).join("tests/logs/version_1.log");
+    let bytes = fs::read(&path).expect("a log");
+    let log = Log::read(bytes.clone()).expect("a log");
+    assert_eq!(log.header().version, 1);
+    assert_eq!(log.calls().count(), 12);
+    assert!(!log.is_cut() && !log.is_full());
+    let frames = log.calls().filter_map(|call| call.argument("frame"));
+    let messages = frames.filter(|frame| matches!(frame, Argument::Bytes([0, ..])));
+    assert_eq!(messages.count(), 1);
+    for words in [&[][..], &["--model"], &["--play"]] {
+        let output = replayed(words, &path);
+        assert!(output.status.success(), "{words:?}: {}", said(&output));
+    }
+    let cut = Log::read(bytes[..bytes.len() - 1].to_vec()).expect("a log");
+    assert!(cut.is_cut());
+    let full = [&bytes[..], &[0, 0, 0, 1, 0]].concat();
+    assert!(Log::read(full.clone()).is_ok_and(|log| log.is_full()));
+    // The record of a log that is full is the last.
+    let error = Log::read([full, bytes[HEAD..].to_vec()].concat()).err();
+    assert_eq!(error, Some(LogError::Record(12)));
+}
+
+// What a node recorded that made the calls of the closure.
+fn recorded(calls: impl FnOnce(&mut Node)) -> Vec<u8> {
+    let kept = Kept::default();
+    let recorder = Recorder::new(kept.clone(), 1 << 20);
+    let mut node = Node::new_recorded(&testing::setup(9), recorder).expect("a node");
+    calls(&mut node);
+    drop(node);
+    kept.bytes()
+}
+
+#[test]
+fn of_a_message_the_head_the_length_and_a_checksum_are_recorded() {
+    let now = Moment::from_secs(1);
+    let secret = *b"a message that stands in no log";
+    for count in [1, 100] {
+        let data = Data {
+            channel: 300,
+            message: secret.repeat(count),
+        };
+        let frame = Payload::Data(data).encode();
+        let length = frame.len() as u64;
+        let received = Received::Data {
+            channel: 300,
+            message: frame.len() - secret.len() * count..frame.len(),
+        };
+        let bytes = recorded(|node| {
+            assert_eq!(node.receive(&frame, now, testing::verify), received);
+            // It is longer than it says: the answer is by its header and its length.
+            let longer = [&frame[..], &[0]].concat();
+            let refused = Received::Codec(CodecError::ExtraData(1));
+            assert_eq!(node.receive(&longer, now, testing::verify), refused);
+        });
+        assert!(!bytes.windows(20).any(|part| secret.starts_with(part)));
+        let log = Log::read(bytes.clone()).expect("a log");
+        let call = log.calls().nth(1).expect("a call");
+        let wanted = Argument::Message {
+            head: &frame[..16],
+            length,
+            checksum: checksum(&frame[16..]),
+        };
+        assert_eq!(call.argument("frame"), Some(wanted));
+        let zeros = [&frame[..16], &vec![0; frame.len() - 16]].concat();
+        assert_eq!(wanted.bytes(length).expect("its bytes")[..], zeros);
+        let most = length - 1;
+        let refused = Err(ReplayError::TooLarge { length, most });
+        assert_eq!(wanted.bytes(most), refused);
+        let file = Scratch::of(&format!("message-{count}"), &bytes);
+        for words in [&[][..], &["--model"], &["--play"]] {
+            if let Some(output) = replayed_if_offered(words, &file.0) {
+                assert!(output.status.success(), "{words:?}: {}", said(&output));
+            }
+        }
+    }
+}
+
+#[test]
+fn a_frame_that_is_no_message_is_recorded_whole() {
+    let infos: Vec<_> = (1..=5).map(|number| testing::info(number, 0)).collect();
+    let short = Payload::Data(Data {
+        channel: 0,
+        message: vec![7; 12],
+    });
+    let frames = [Payload::Peers(infos).encode(), short.encode(), vec![9; 300]];
+    let bytes = recorded(|node| {
+        for frame in &frames {
+            let _ = node.receive(frame, Moment::from_secs(1), testing::verify);
+        }
+    });
+    let log = Log::read(bytes).expect("a log");
+    let received = log.calls().filter(|call| call.name() == "receive");
+    let told: Vec<Vec<u8>> = received
+        .map(|call| match call.argument("frame") {
+            Some(Argument::Bytes(frame)) => frame.to_vec(),
+            other => panic!("{other:?}"),
+        })
+        .collect();
+    assert_eq!(told, frames);
+}
+
+// A log in which a call has so much room for its answer.
+fn roomy(room: u64) -> Vec<u8> {
+    let log = recorded(|node| assert_eq!(node.ask(0), Ok(None)));
+    let (head, mut records) = parts(&log);
+    let mut asked = records[1].to_vec();
+    // The room stands before the answer's number.
+    let place = asked.len() - 16;
+    asked[place..place + 8].copy_from_slice(&room.to_be_bytes());
+    records[1] = &asked;
+    whole(head, &records)
+}
+
+#[test]
+fn a_log_that_asks_for_too_much_room_is_refused() {
+    assert_eq!(MOST_ROOM, 256 << 20);
+    let length = MOST_ROOM + 1;
+    let bytes = roomy(length);
+    assert!(bytes.len() < 1024);
+    let log = Log::read(bytes.clone()).expect("a log");
+    let call = log.calls().nth(1).expect("a call");
+    let made = |replay: Option<Replay>| {
+        let mut replay = replay.expect("memory");
+        let init = log.calls().next().expect("a call");
+        assert_eq!(replay.make(&init), Ok(init.answer));
+        replay.make(&call)
+    };
+    let most = MOST_ROOM;
+    let refused = Err(ReplayError::TooLarge { length, most });
+    assert_eq!(made(Replay::new()), refused);
+    let most = 1 << 10;
+    let refused = Err(ReplayError::TooLarge { length, most });
+    assert_eq!(made(Replay::with_room(most)), refused);
+    assert_eq!(made(Replay::with_room(length)), Ok(call.answer.clone()));
+
+    let file = Scratch::of("room", &bytes);
+    let output = replayed(&[], &file.0);
+    assert_eq!(output.status.code(), Some(2));
+    let told = String::from_utf8_lossy(&output.stderr).into_owned();
+    let why = "record 1: the call asks for 268435457 bytes, and 268435456 are allowed";
+    assert!(told.contains(why), "{told}");
+    let output = replayed(&["--room", "268435457"], &file.0);
+    assert!(output.status.success(), "{}", said(&output));
+}
+
+#[test]
+fn calls_without_a_command_of_play_are_counted() {
+    let log = recorded(|node| {
+        assert_eq!(node.directory().retained(), 0);
+        assert_eq!(node.directory().tracked(), 0);
+    });
+    let file = Scratch::of("without-command", &log);
+    let told = "3 calls, 2 answered as in the log, 1 without a command of play, not checked";
+    for (words, status) in [
+        (&["--play"][..], 0),
+        (&["--play", "--unchecked", "1"], 0),
+        (&["--play", "--unchecked", "0"], 1),
+    ] {
+        if let Some(output) = replayed_if_offered(words, &file.0) {
+            assert_eq!(output.status.code(), Some(status), "{words:?}");
+            assert!(said(&output).contains(told), "{}", said(&output));
+        }
+    }
 }

@@ -622,6 +622,27 @@ impl Directory {
         self.session().flush_record();
     }
 
+    /// Ends the recording with the record that says that the log is whole, and flushes it. Later calls
+    /// aren't recorded. A directory that is dropped does this by itself; a process that ends otherwise
+    /// leaves a log whose end is missing. Never allocates by itself.
+    ///
+    /// # Examples
+    ///
+    /// ```
+    /// # use p2p_directory::{*, record::{Recorder, Recording}};
+    /// # let setup = testing::setup(9);
+    /// # let (myself, cfg) = (setup.myself, setup.cfg);
+    /// let recorder = Recorder::new(std::io::sink(), 1 << 20);
+    /// let directory = Directory::init_recorded(&[], &myself, cfg, recorder)?;
+    /// directory.end_record();
+    /// assert_eq!(directory.recording(), Some(Recording::Ended));
+    /// # Ok::<(), SetupError>(())
+    /// ```
+    #[cfg(feature = "record")]
+    pub fn end_record(&self) {
+        self.session().end_record();
+    }
+
     // The session, after each dropped reservation is released.
     #[inline]
     pub(crate) fn session(&self) -> &Session {

@@ -3,11 +3,10 @@
 use super::info::{Info, MIN_INFO_SIZE, read_infos, try_write_infos, write_infos};
 use crate::codec::{ReadError, Reader, varint_size};
 use crate::config::PayloadConfig;
-use crate::data::{BitVec, Data};
+use crate::data::{BitVec, DATA_PREFIX, Data};
 use crate::error::{CodecError, OutOfMemory};
 use crate::sizes::longest_gossip;
 
-const DATA_PREFIX: u8 = 0;
 const GREETING_PREFIX: u8 = 1;
 const BIT_VEC_PREFIX: u8 = 2;
 const PEERS_PREFIX: u8 = 3;

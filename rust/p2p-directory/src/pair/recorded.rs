@@ -38,6 +38,13 @@ impl Session {
         }
     }
 
+    /// Ends the recording, whose log is whole then.
+    pub(crate) fn end_record(&self) {
+        if let Some(recorder) = self.recorder.borrow_mut().as_mut() {
+            recorder.end();
+        }
+    }
+
     #[allow(clippy::too_many_arguments)]
     #[inline]
     pub(crate) fn init(&self, allow_private_ips: bool, allow_dns: bool, max_sets: u64, dial_fail_limit: u64, cooldown_seconds: u64, cooldown_nanos: u32, block_seconds: u64, block_nanos: u32, max_bit_vec: u64, max_peers: u64, max_data_length: u64, peer_gossip_max_count: u64, bound_seconds: u64, bound_nanos: u32, namespace: &[u8], bootstrappers: &[u8], myself: &[u8]) -> u64 {
@@ -405,7 +412,7 @@ impl Session {
         let answer = self.session.check(frame, seconds, nanos, out);
         if let Some(recorder) = self.recorder.borrow_mut().as_mut() {
             recorder.call(30, answer, out, |entry| {
-                entry.bytes(frame);
+                entry.frame(frame);
                 entry.number(seconds);
                 entry.number(u64::from(nanos));
                 entry.number(out.len() as u64);
@@ -419,7 +426,7 @@ impl Session {
         let answer = self.session.receive(frame, seconds, nanos, verdicts, out);
         if let Some(recorder) = self.recorder.borrow_mut().as_mut() {
             recorder.call(31, answer, out, |entry| {
-                entry.bytes(frame);
+                entry.frame(frame);
                 entry.number(seconds);
                 entry.number(u64::from(nanos));
                 entry.bytes(verdicts);

@@ -2,7 +2,7 @@
 // Written by tools/exports.sh from tools/exports/session.table.
 
 use super::exports::Session;
-use crate::record::{Answer, Arguments, Call, ReplayError};
+use crate::record::{Answer, Arguments, Call, MOST_ROOM, ReplayError};
 
 /// A session on which the calls of a log are made anew.
 ///
@@ -13,10 +13,13 @@ use crate::record::{Answer, Arguments, Call, ReplayError};
 /// ```
 pub struct Replay {
     session: Session,
+    // How many bytes a call may ask for.
+    most: u64,
 }
 
 impl Replay {
-    /// A session with no node, or `None` if the allocation fails.
+    /// A session with no node, or `None` if the allocation fails. It refuses a call that asks for
+    /// more than [`MOST_ROOM`] bytes.
     ///
     /// # Examples
     ///
@@ -24,8 +27,22 @@ impl Replay {
     /// assert!(p2p_directory::Replay::new().is_some());
     /// ```
     pub fn new() -> Option<Replay> {
+        Replay::with_room(MOST_ROOM)
+    }
+
+    /// A session with no node, or `None` if the allocation fails. It refuses a call that asks for
+    /// more than so many bytes, for the buffer that it writes or for a message: a log may ask for
+    /// any number.
+    ///
+    /// # Examples
+    ///
+    /// ```
+    /// assert!(p2p_directory::Replay::with_room(1 << 30).is_some());
+    /// ```
+    pub fn with_room(most: u64) -> Option<Replay> {
         Some(Replay {
             session: Session::new()?,
+            most,
         })
     }
 
@@ -33,8 +50,8 @@ impl Replay {
     ///
     /// # Errors
     ///
-    /// [`ReplayError`] if the arguments aren't those of the call, or there is no memory for the
-    /// bytes that it may write.
+    /// [`ReplayError`] if the arguments aren't those of the call, or it asks for more bytes than are
+    /// allowed or there are.
     ///
     /// # Examples
     ///
@@ -52,7 +69,7 @@ impl Replay {
     /// ```
     pub fn make(&mut self, call: &Call<'_>) -> Result<Answer, ReplayError> {
         let session = &self.session;
-        let mut given = Arguments::of(call);
+        let mut given = Arguments::of(call, self.most);
         match call.name() {
             "init" => {
                 let allow_private_ips = given.flag()?;
@@ -72,7 +89,7 @@ impl Replay {
                 let namespace = given.bytes()?;
                 let bootstrappers = given.bytes()?;
                 let myself = given.bytes()?;
-                let number = session.init(allow_private_ips, allow_dns, max_sets, dial_fail_limit, cooldown_seconds, cooldown_nanos, block_seconds, block_nanos, max_bit_vec, max_peers, max_data_length, peer_gossip_max_count, bound_seconds, bound_nanos, namespace, bootstrappers, myself);
+                let number = session.init(allow_private_ips, allow_dns, max_sets, dial_fail_limit, cooldown_seconds, cooldown_nanos, block_seconds, block_nanos, max_bit_vec, max_peers, max_data_length, peer_gossip_max_count, bound_seconds, bound_nanos, &namespace, &bootstrappers, &myself);
                 Ok(Answer::of(number, Vec::new()))
             }
             "track" => {
@@ -80,7 +97,7 @@ impl Replay {
                 let primary = given.bytes()?;
                 let secondary = given.bytes()?;
                 let mut torn = given.room()?;
-                let number = session.track(index, primary, secondary, &mut torn);
+                let number = session.track(index, &primary, &secondary, &mut torn);
                 Ok(Answer::of(number, torn))
             }
             "track_room" => {
@@ -93,7 +110,7 @@ impl Replay {
                 let nanos = given.small()?;
                 let draw_seconds = given.number()?;
                 let draw_nanos = given.small()?;
-                let number = session.dial(peer, seconds, nanos, draw_seconds, draw_nanos);
+                let number = session.dial(&peer, seconds, nanos, draw_seconds, draw_nanos);
                 Ok(Answer::of(number, Vec::new()))
             }
             "listen" => {
@@ -102,36 +119,36 @@ impl Replay {
                 let nanos = given.small()?;
                 let draw_seconds = given.number()?;
                 let draw_nanos = given.small()?;
-                let number = session.listen(peer, seconds, nanos, draw_seconds, draw_nanos);
+                let number = session.listen(&peer, seconds, nanos, draw_seconds, draw_nanos);
                 Ok(Answer::of(number, Vec::new()))
             }
             "reservation" => {
                 let peer = given.bytes()?;
                 let mut out = given.room()?;
-                let number = session.reservation(peer, &mut out);
+                let number = session.reservation(&peer, &mut out);
                 Ok(Answer::of(number, out))
             }
             "connect" => {
                 let peer = given.bytes()?;
                 let dialer = given.flag()?;
-                let number = session.connect(peer, dialer);
+                let number = session.connect(&peer, dialer);
                 Ok(Answer::of(number, Vec::new()))
             }
             "release" => {
                 let peer = given.bytes()?;
-                let number = session.release(peer);
+                let number = session.release(&peer);
                 Ok(Answer::of(number, Vec::new()))
             }
             "update_peers" => {
                 let infos = given.bytes()?;
-                let number = session.update_peers(infos);
+                let number = session.update_peers(&infos);
                 Ok(Answer::of(number, Vec::new()))
             }
             "block" => {
                 let peer = given.bytes()?;
                 let seconds = given.number()?;
                 let nanos = given.small()?;
-                let number = session.block(peer, seconds, nanos);
+                let number = session.block(&peer, seconds, nanos);
                 Ok(Answer::of(number, Vec::new()))
             }
             "unblock_expired" => {
@@ -160,7 +177,7 @@ impl Replay {
             }
             "status" => {
                 let peer = given.bytes()?;
-                let number = session.status(peer);
+                let number = session.status(&peer);
                 Ok(Answer::of(number, Vec::new()))
             }
             "get_peer_set" => {
@@ -187,7 +204,7 @@ impl Replay {
             "info" => {
                 let peer = given.bytes()?;
                 let mut out = given.room()?;
-                let number = session.info(peer, &mut out);
+                let number = session.info(&peer, &mut out);
                 Ok(Answer::of(number, out))
             }
             "infos" => {
@@ -195,7 +212,7 @@ impl Replay {
                 let seconds = given.number()?;
                 let nanos = given.small()?;
                 let mut out = given.room()?;
-                let number = session.infos(bits, seconds, nanos, &mut out);
+                let number = session.infos(&bits, seconds, nanos, &mut out);
                 Ok(Answer::of(number, out))
             }
             "get_random_bit_vec" => {
@@ -208,14 +225,14 @@ impl Replay {
                 let peer = given.bytes()?;
                 let seconds = given.number()?;
                 let nanos = given.small()?;
-                let number = session.eligible(peer, seconds, nanos);
+                let number = session.eligible(&peer, seconds, nanos);
                 Ok(Answer::of(number, Vec::new()))
             }
             "acceptable" => {
                 let peer = given.bytes()?;
                 let seconds = given.number()?;
                 let nanos = given.small()?;
-                let number = session.acceptable(peer, seconds, nanos);
+                let number = session.acceptable(&peer, seconds, nanos);
                 Ok(Answer::of(number, Vec::new()))
             }
             "dialable" => {
@@ -249,7 +266,7 @@ impl Replay {
                 let seconds = given.number()?;
                 let nanos = given.small()?;
                 let mut out = given.room()?;
-                let number = session.check(frame, seconds, nanos, &mut out);
+                let number = session.check(&frame, seconds, nanos, &mut out);
                 Ok(Answer::of(number, out))
             }
             "receive" => {
@@ -258,7 +275,7 @@ impl Replay {
                 let nanos = given.small()?;
                 let verdicts = given.bytes()?;
                 let mut out = given.room()?;
-                let number = session.receive(frame, seconds, nanos, verdicts, &mut out);
+                let number = session.receive(&frame, seconds, nanos, &verdicts, &mut out);
                 Ok(Answer::of(number, out))
             }
             other => Err(ReplayError::Unknown(other)),

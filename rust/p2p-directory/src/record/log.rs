@@ -1,9 +1,15 @@
 //! What is read of a log.
 
 use super::calls::CALLS;
-use super::{Answer, FULL, MAGIC, REPEATED, VERSION};
+use super::checksum::Checksum;
+use super::{
+    Answer, FULL, LAST_RECORD, MAGIC, MESSAGE_HEAD, REPEATED, ReplayError, SHORTENED, VERSION,
+    WHOLE,
+};
 use crate::codec::Reader;
 use crate::error::CodecError;
+use crate::memory::zeros;
+use std::borrow::Cow;
 use std::fmt;
 
 /// What a parameter of a call has in a log.
@@ -41,8 +47,56 @@ pub enum Argument<'a> {
     Number(u64),
     /// A slice.
     Bytes(&'a [u8]),
+    /// A frame with a message, of which only a part is recorded.
+    Message {
+        /// Its first sixteen bytes, which have the header of the message.
+        head: &'a [u8],
+        /// How many bytes it has.
+        length: u64,
+        /// The CRC-32 of its other bytes.
+        checksum: u32,
+    },
     /// How long the buffer is for what is written.
     Room(u64),
+}
+
+impl<'a> Argument<'a> {
+    /// The bytes of a slice. For what isn't recorded of a message there are zeros: the library
+    /// answers by the header and the length alone.
+    ///
+    /// # Errors
+    ///
+    /// [`ReplayError::Argument`] if it is no slice, [`ReplayError::TooLarge`] if it is a message of
+    /// more than `most` bytes, and [`ReplayError::OutOfMemory`] if an allocation fails.
+    ///
+    /// # Examples
+    ///
+    /// ```
+    /// # use p2p_directory::record::Argument;
+    /// assert_eq!(Argument::Bytes(&[1, 2]).bytes(0)?[..], [1, 2]);
+    /// assert!(Argument::Number(1).bytes(0).is_err());
+    /// # Ok::<(), p2p_directory::record::ReplayError>(())
+    /// ```
+    pub fn bytes(&self, most: u64) -> Result<Cow<'a, [u8]>, ReplayError> {
+        let (head, length) = match *self {
+            Argument::Bytes(bytes) => return Ok(Cow::Borrowed(bytes)),
+            Argument::Message { head, length, .. } => (head, length),
+            Argument::Number(_) | Argument::Room(_) => return Err(ReplayError::Argument),
+        };
+        let mut bytes = room(length, most)?;
+        let front = bytes.get_mut(..head.len());
+        front.ok_or(ReplayError::Argument)?.copy_from_slice(head);
+        Ok(Cow::Owned(bytes))
+    }
+}
+
+/// So many zeros, if that isn't more than `most`.
+pub(super) fn room(length: u64, most: u64) -> Result<Vec<u8>, ReplayError> {
+    if length > most {
+        return Err(ReplayError::TooLarge { length, most });
+    }
+    let length = usize::try_from(length).map_err(|_| ReplayError::Argument)?;
+    zeros(length).map_err(|_| ReplayError::OutOfMemory)
 }
 
 impl fmt::Debug for Argument<'_> {
@@ -51,9 +105,21 @@ impl fmt::Debug for Argument<'_> {
             Argument::Number(number) => write!(f, "{number}"),
             Argument::Room(length) => write!(f, "{length} bytes of room"),
             Argument::Bytes([]) => write!(f, "no bytes"),
-            Argument::Bytes(bytes) => bytes.iter().try_for_each(|byte| write!(f, "{byte:02x}")),
+            Argument::Bytes(bytes) => hexadecimal(f, bytes),
+            Argument::Message {
+                head,
+                length,
+                checksum,
+            } => {
+                hexadecimal(f, head)?;
+                write!(f, ".. ({length} bytes, checksum {checksum:08x})")
+            }
         }
     }
+}
+
+fn hexadecimal(f: &mut fmt::Formatter<'_>, bytes: &[u8]) -> fmt::Result {
+    bytes.iter().try_for_each(|byte| write!(f, "{byte:02x}"))
 }
 
 /// A recorded call.
@@ -90,7 +156,7 @@ impl<'a> Call<'a> {
     pub fn room(&self) -> Option<u64> {
         let mut rooms = self.arguments.iter().filter_map(|argument| match argument {
             Argument::Room(length) => Some(*length),
-            Argument::Number(_) | Argument::Bytes(_) => None,
+            Argument::Number(_) | Argument::Bytes(_) | Argument::Message { .. } => None,
         });
         rooms.next()
     }
@@ -116,6 +182,8 @@ impl fmt::Debug for Call<'_> {
 #[derive(Clone, Copy, Debug, PartialEq, Eq)]
 #[non_exhaustive]
 pub struct Header {
+    /// The version of the form of the log.
+    pub version: u8,
     /// How many bytes a key has.
     pub key_size: usize,
     /// How many bytes a signature has.
@@ -130,11 +198,13 @@ pub struct Header {
 pub enum LogError {
     /// They don't begin as a log does.
     NoLog,
-    /// The log has another version of the form.
+    /// The log has a version of the form that isn't known.
     Version(u8),
-    /// This record is of no call, or its arguments and answer are not those of its call. Records
-    /// are counted from 0.
+    /// This record is of no call, or its arguments and answer are not those of its call, or it is a
+    /// last record and others follow it. Records are counted from 0.
     Record(usize),
+    /// The checksum or the number of records of the last record is not that of the log.
+    Checksum,
 }
 
 impl fmt::Display for LogError {
@@ -142,9 +212,13 @@ impl fmt::Display for LogError {
         match self {
             LogError::NoLog => write!(f, "these bytes don't begin as a log does"),
             LogError::Version(version) => {
-                write!(f, "the log has version {version}, this is {VERSION}")
+                write!(
+                    f,
+                    "the log has version {version}, this reads 1 to {VERSION}"
+                )
             }
             LogError::Record(place) => write!(f, "record {place} is damaged"),
+            LogError::Checksum => write!(f, "the log is damaged: its checksum is another one"),
         }
     }
 }
@@ -175,7 +249,8 @@ impl Log {
     ///
     /// # Errors
     ///
-    /// [`LogError`] if the bytes are no log, or one of its records is damaged.
+    /// [`LogError`] if the bytes are no log, or it is damaged. Damage of a log that is whole or full
+    /// is found by its checksum, but for logs of version 1, which have none.
     pub fn read(bytes: Vec<u8>) -> Result<Log, LogError> {
         let header = header(&bytes)?;
         let mut log = Log {
@@ -184,17 +259,45 @@ impl Log {
             is_full: false,
             is_cut: false,
         };
+        let sum = log.checksum()?;
         let mut calls = log.calls();
-        let mut place = 0;
         let end = loop {
             match calls.read() {
-                Ok(Next::Call(_)) => place += 1,
+                Ok(Next::Call(_)) => {}
                 Ok(end) => break end,
-                Err(CodecError::EndOfBuffer) | Err(_) => return Err(LogError::Record(place)),
+                Err(_damaged) => return Err(LogError::Record(calls.place)),
             }
         };
-        (log.is_full, log.is_cut) = (matches!(end, Next::Full), matches!(end, Next::Cut));
+        let is_last = calls.reader.is_empty();
+        (log.is_full, log.is_cut) = match (end, sum) {
+            (Next::Full, None) if is_last && header.version == 1 => (true, false),
+            (Next::End, None) => (false, header.version > 1),
+            (Next::Cut, None) => (false, true),
+            (Next::Full, Some(count)) if is_last && count == calls.place as u64 => (true, false),
+            (Next::Whole, Some(count)) if is_last && count == calls.place as u64 => (false, false),
+            (_, None) => return Err(LogError::Record(calls.place)),
+            (_, Some(_)) => return Err(LogError::Checksum),
+        };
         Ok(log)
+    }
+
+    // The number of records that the last record has, if the log ends with one and its checksum is
+    // that of the bytes before it. Logs of version 1 have none.
+    fn checksum(&self) -> Result<Option<u64>, LogError> {
+        let Some((before, last)) = self.bytes.split_last_chunk::<LAST_RECORD>() else {
+            return Ok(None);
+        };
+        let is_last = last[..3] == [0; 3] && usize::from(last[3]) == LAST_RECORD - 4;
+        let is_last = is_last && matches!(last[4], FULL | WHOLE);
+        if self.header.version == 1 || before.len() < HEADER_LENGTH || !is_last {
+            return Ok(None);
+        }
+        let mut reader = Reader::new(&last[5..]);
+        let told = (reader.number(), reader.array().map(u32::from_be_bytes));
+        match told {
+            (Ok(count), Ok(sum)) if sum == Checksum::of(before) => Ok(Some(count)),
+            _ => Err(LogError::Checksum),
+        }
     }
 
     /// With what it begins.
@@ -207,7 +310,8 @@ impl Log {
         self.is_full
     }
 
-    /// Whether its last record is cut off.
+    /// Whether its end is missing: the last record, which says that the log is whole or full. In a
+    /// log of version 1, which has none, whether the last record is cut off.
     pub fn is_cut(&self) -> bool {
         self.is_cut
     }
@@ -237,13 +341,14 @@ fn header(bytes: &[u8]) -> Result<Header, LogError> {
     if reader.array() != Ok(MAGIC) {
         return Err(LogError::NoLog);
     }
-    match reader.byte() {
-        Ok(VERSION) => {}
+    let version = match reader.byte() {
+        Ok(version @ 1..=VERSION) => version,
         Ok(other) => return Err(LogError::Version(other)),
         Err(_) => return Err(LogError::NoLog),
-    }
+    };
     let mut sizes = || -> Result<Header, CodecError> {
         Ok(Header {
+            version,
             key_size: usize::from(reader.short()?),
             signature_size: usize::from(reader.short()?),
             archive: reader.array()?,
@@ -264,8 +369,10 @@ pub struct Calls<'a> {
 /// What comes next in a log.
 enum Next<'a> {
     Call(Call<'a>),
-    /// The record of a log that ended at its bound.
+    /// The last record of a log that ended at its bound.
     Full,
+    /// The last record of a log that is whole.
+    Whole,
     /// A record whose end is missing.
     Cut,
     End,
@@ -286,6 +393,7 @@ impl<'a> Calls<'a> {
         let number = record.byte()?;
         match number {
             FULL => Ok(Next::Full),
+            WHOLE => Ok(Next::Whole),
             _ => self.call(number, &mut record).map(Next::Call),
         }
     }
@@ -300,9 +408,12 @@ impl<'a> Calls<'a> {
                 Form::Flag | Form::Number => Argument::Number(record.number()?),
                 Form::Room => Argument::Room(record.number()?),
                 Form::Bytes => {
-                    let bytes = self.slice(record, first.is_none())?;
-                    first.get_or_insert(bytes);
-                    Argument::Bytes(bytes)
+                    let slice = self.slice(record, first.is_none())?;
+                    first.get_or_insert(match slice {
+                        Argument::Bytes(bytes) => bytes,
+                        _ => &[],
+                    });
+                    slice
                 }
             });
         }
@@ -321,11 +432,16 @@ impl<'a> Calls<'a> {
         })
     }
 
-    fn slice(&self, record: &mut Reader<'a>, is_first: bool) -> Result<&'a [u8], CodecError> {
-        match record.array().map(u32::from_be_bytes)? {
-            REPEATED if is_first => Ok(self.last),
-            length => record.take(length as usize),
-        }
+    fn slice(&self, record: &mut Reader<'a>, is_first: bool) -> Result<Argument<'a>, CodecError> {
+        Ok(match record.array().map(u32::from_be_bytes)? {
+            REPEATED if is_first => Argument::Bytes(self.last),
+            SHORTENED => Argument::Message {
+                length: record.number()?,
+                head: record.take(MESSAGE_HEAD)?,
+                checksum: u32::from_be_bytes(record.array()?),
+            },
+            length => Argument::Bytes(record.take(length as usize)?),
+        })
     }
 }
 

@@ -9,38 +9,54 @@
 //! A [`Log`] is read back call by call, and [`Replay`](crate::Replay) makes each on a session of
 //! its own. The program `p2p-replay` compares the answers.
 //!
-//! A log has the keys, addresses and messages that the calls had. It has no secret key, since the
-//! library is given none.
+//! A log has the keys and addresses that the calls had. Of a message it has the first bytes, the
+//! length and a checksum. It has no secret key, since the library is given none.
 
 #[rustfmt::skip]
 pub(crate) mod calls;
+mod checksum;
 mod log;
 mod replay;
 
 pub use log::{Argument, Call, Calls, Header, Log, LogError};
 pub(crate) use replay::Arguments;
-pub use replay::{Answer, ReplayError};
+pub use replay::{Answer, MOST_ROOM, ReplayError};
 
+use crate::data::DATA_PREFIX;
 use crate::memory::give_back_large;
+use crate::sizes::MAX_PAYLOAD_OVERHEAD;
+use checksum::Checksum;
 pub use p2p_directory_sys::ARCHIVE;
 use p2p_directory_sys::BAD_VERDICTS;
 use std::fmt;
-use std::io::{self, Write};
+use std::io::{self, ErrorKind, Write};
+use std::mem;
+use std::panic::{AssertUnwindSafe, catch_unwind};
 
 /// With what a log begins.
 pub(crate) const MAGIC: [u8; 4] = *b"P2PL";
 
-/// The version of the form of a log.
-pub(crate) const VERSION: u8 = 1;
+/// The version of the form of a log that is written. Earlier ones are read, too.
+pub(crate) const VERSION: u8 = 2;
 
 /// The number in place of a call's, if the log ends at its bound.
 pub(crate) const FULL: u8 = 0;
 
+/// The number in place of a call's, if the log is whole.
+pub(crate) const WHOLE: u8 = u8::MAX;
+
 /// The length in place of a slice's, if the slice is that of the call before.
 pub(crate) const REPEATED: u32 = u32::MAX;
 
-/// How many bytes the record has that says that the log is full.
-const LAST_RECORD: u64 = 5;
+/// The length in place of a slice's, if the slice is a message of which only a part is recorded.
+pub(crate) const SHORTENED: u32 = u32::MAX - 1;
+
+/// How many bytes of a message are recorded: its header, which decides what is answered.
+pub(crate) const MESSAGE_HEAD: usize = MAX_PAYLOAD_OVERHEAD as usize;
+
+/// How many bytes the last record has, which says that the log is whole or full: its length, its
+/// number, the number of records before it, and the checksum of all bytes before it.
+pub(crate) const LAST_RECORD: usize = 4 + 1 + 8 + 4;
 
 /// How a recording stands.
 #[derive(Clone, Copy, Debug, PartialEq, Eq)]
@@ -50,7 +66,10 @@ pub enum Recording {
     Going,
     /// The bound was reached. The last record says so.
     Full,
-    /// The log couldn't be written. It has the calls before.
+    /// It was [ended](crate::Directory::end_record). The last record says that the log is whole.
+    Ended,
+    /// The log couldn't be written, or what writes it panicked, which is
+    /// [`Other`](io::ErrorKind::Other). It has the calls before.
     Failed(io::ErrorKind),
     /// There was no memory for a record. The log has the calls before.
     OutOfMemory,
@@ -87,6 +106,9 @@ pub struct Recorder {
     // How many bytes the log has, and may have.
     length: u64,
     limit: u64,
+    // How many records it has, and the checksum of all its bytes.
+    count: u64,
+    checksum: Checksum,
     recording: Recording,
     // The record that is made.
     entry: Entry,
@@ -106,6 +128,12 @@ pub(crate) struct Entry {
 impl Recorder {
     /// A recorder to a file, or to whatever takes bytes, of at most so many bytes.
     ///
+    /// The sink is called within each call of the directory or node, after the library has answered,
+    /// and once more when the directory is dropped. So a sink that blocks delays the call, and all
+    /// who wait for the directory; one that must not hands the bytes on, and returns an error if it
+    /// can't. If it panics, the recording ends as failed, and the call returns what it always does.
+    /// It may drop reservations. It can't make calls of the directory that it records.
+    ///
     /// Bytes are written as they come, so a [`BufWriter`](io::BufWriter) around a file is faster.
     /// What is in it when the process is killed is lost, and the log ends before.
     ///
@@ -122,6 +150,8 @@ impl Recorder {
             sink: Box::new(sink),
             length: 0,
             limit,
+            count: 0,
+            checksum: Checksum::new(),
             recording: Recording::Going,
             entry: Entry::default(),
         }
@@ -159,6 +189,7 @@ impl Recorder {
         self.entry.raw(written(answer, out));
         self.entry.set_length();
         self.write_entry();
+        self.count += 1;
     }
 
     /// How the recording stands.
@@ -166,11 +197,31 @@ impl Recorder {
         self.recording
     }
 
-    /// Flushes what takes the bytes.
-    pub(crate) fn flush(&mut self) {
-        if let Err(error) = self.sink.flush() {
-            self.fail(&error);
+    /// Ends a recording that is going on, by the record which says that the log is whole.
+    pub(crate) fn end(&mut self) {
+        if self.recording == Recording::Going {
+            self.last(WHOLE, Recording::Ended);
         }
+    }
+
+    /// Flushes what takes the bytes, unless it failed before.
+    pub(crate) fn flush(&mut self) {
+        self.sink(|sink| sink.flush());
+    }
+
+    // Calls the sink, unless it failed before. If it fails or panics, the recording ends.
+    fn sink(&mut self, call: impl FnOnce(&mut dyn Write) -> io::Result<()>) {
+        if matches!(self.recording, Recording::Failed(_)) {
+            return;
+        }
+        let sink = &mut self.sink;
+        let called = catch_unwind(AssertUnwindSafe(|| call(sink.as_mut())));
+        let failed = match called {
+            Ok(Ok(())) => return,
+            Ok(Err(error)) => error.kind(),
+            Err(_panicked) => ErrorKind::Other,
+        };
+        self.recording = Recording::Failed(failed);
     }
 
     // Writes the record, or one that says that the log is full.
@@ -180,33 +231,35 @@ impl Recorder {
             return;
         }
         let length = self.length + self.entry.bytes.len() as u64;
-        if length.saturating_add(LAST_RECORD) > self.limit {
-            self.end();
+        if length.saturating_add(LAST_RECORD as u64) > self.limit {
+            self.last(FULL, Recording::Full);
             return;
         }
         self.length = length;
-        if let Err(error) = self.sink.write_all(&self.entry.bytes) {
-            self.fail(&error);
-        }
+        self.checksum.add(&self.entry.bytes);
+        let bytes = mem::take(&mut self.entry.bytes);
+        self.sink(|sink| sink.write_all(&bytes));
+        self.entry.bytes = bytes;
         give_back_large(&mut self.entry.bytes);
         give_back_large(&mut self.entry.last);
     }
 
-    // Ends a log that is full, which says so unless its bound leaves no room for that.
-    fn end(&mut self) {
-        self.recording = Recording::Full;
-        if self.length + LAST_RECORD > self.limit {
+    // Writes the last record, unless the bound leaves no room for it, and flushes.
+    fn last(&mut self, number: u8, ended: Recording) {
+        self.recording = ended;
+        if self.length + LAST_RECORD as u64 > self.limit {
             return;
         }
-        let last = [0, 0, 0, 1, FULL];
-        match self.sink.write_all(&last).and_then(|()| self.sink.flush()) {
-            Ok(()) => self.length += LAST_RECORD,
-            Err(error) => self.fail(&error),
-        }
-    }
-
-    fn fail(&mut self, error: &io::Error) {
-        self.recording = Recording::Failed(error.kind());
+        let mut last = [0; LAST_RECORD];
+        last[3] = (LAST_RECORD - 4) as u8;
+        last[4] = number;
+        last[5..13].copy_from_slice(&self.count.to_be_bytes());
+        last[13..].copy_from_slice(&self.checksum.value().to_be_bytes());
+        self.length += LAST_RECORD as u64;
+        self.sink(|sink| {
+            sink.write_all(&last)?;
+            sink.flush()
+        });
     }
 }
 
@@ -222,7 +275,13 @@ impl fmt::Debug for Recorder {
 
 impl Drop for Recorder {
     fn drop(&mut self) {
-        self.flush();
+        match self.recording {
+            Recording::Going => self.end(),
+            _ => self.flush(),
+        }
+        let sink = mem::replace(&mut self.sink, Box::new(io::sink()));
+        // A sink may panic while it is dropped, too.
+        let _ = catch_unwind(AssertUnwindSafe(|| drop(sink)));
     }
 }
 
@@ -252,20 +311,36 @@ impl Entry {
 
     /// Appends a slice, behind its length.
     pub(crate) fn bytes(&mut self, bytes: &[u8]) {
-        let is_first = !std::mem::replace(&mut self.has_slice, true);
+        let is_first = !mem::replace(&mut self.has_slice, true);
         let is_long = bytes.len() >= SHORTEST_REPEATED;
         if is_first && is_long && bytes == self.last {
             self.raw(&REPEATED.to_be_bytes());
             return;
         }
         match u32::try_from(bytes.len()) {
-            Ok(length) if length != REPEATED => self.raw(&length.to_be_bytes()),
+            Ok(length) if length < SHORTENED => self.raw(&length.to_be_bytes()),
             _ => self.is_short = true,
         }
         self.raw(bytes);
         if is_first {
             self.remember(if is_long { bytes } else { &[] });
         }
+    }
+
+    /// Appends a frame. If it is a message, its first bytes, its length and the checksum of the
+    /// other bytes stand for it: a library answers by the header and the length alone.
+    pub(crate) fn frame(&mut self, frame: &[u8]) {
+        let (head, rest) = match frame.split_at_checked(MESSAGE_HEAD) {
+            Some(parts) if frame[0] == DATA_PREFIX => parts,
+            _ => return self.bytes(frame),
+        };
+        if !mem::replace(&mut self.has_slice, true) {
+            self.remember(&[]);
+        }
+        self.raw(&SHORTENED.to_be_bytes());
+        self.number(frame.len() as u64);
+        self.raw(head);
+        self.raw(&Checksum::of(rest).to_be_bytes());
     }
 
     fn remember(&mut self, bytes: &[u8]) {

@@ -1,10 +1,14 @@
 //! Arguments of a recorded call, and its answer.
 
-use super::log::{Argument, Call};
+use super::log::{Argument, Call, room};
 use super::written;
-use crate::memory::zeros;
 use p2p_directory_sys::BAD_VERDICTS;
+use std::borrow::Cow;
 use std::fmt;
+
+/// How many bytes a recorded call may ask for unless said otherwise: for the buffer that it writes,
+/// and for the bytes of a message that weren't recorded.
+pub const MOST_ROOM: u64 = 256 << 20;
 
 /// What a call answered: a number, and the bytes that it wrote.
 #[derive(Clone, PartialEq, Eq)]
@@ -54,6 +58,14 @@ pub enum ReplayError {
     Unknown(&'static str),
     /// An argument is none that the call takes.
     Argument,
+    /// The call asks for more bytes than are allowed, for the buffer that it writes or for a
+    /// message.
+    TooLarge {
+        /// How many it asks for.
+        length: u64,
+        /// How many are allowed.
+        most: u64,
+    },
     /// There is no memory for what the call may write.
     OutOfMemory,
 }
@@ -63,6 +75,12 @@ impl fmt::Display for ReplayError {
         match self {
             ReplayError::Unknown(name) => write!(f, "there is no call {name}"),
             ReplayError::Argument => write!(f, "an argument is none that the call takes"),
+            ReplayError::TooLarge { length, most } => {
+                write!(
+                    f,
+                    "the call asks for {length} bytes, and {most} are allowed"
+                )
+            }
             ReplayError::OutOfMemory => write!(f, "out of memory"),
         }
     }
@@ -73,12 +91,15 @@ impl std::error::Error for ReplayError {}
 /// The arguments of a call, which are taken in their order.
 pub(crate) struct Arguments<'a> {
     left: std::vec::IntoIter<Argument<'a>>,
+    // How many bytes the call may ask for.
+    most: u64,
 }
 
 impl<'a> Arguments<'a> {
-    pub(crate) fn of(call: &Call<'a>) -> Arguments<'a> {
+    pub(crate) fn of(call: &Call<'a>, most: u64) -> Arguments<'a> {
         Arguments {
             left: call.arguments().to_vec().into_iter(),
+            most,
         }
     }
 
@@ -101,19 +122,14 @@ impl<'a> Arguments<'a> {
         }
     }
 
-    pub(crate) fn bytes(&mut self) -> Result<&'a [u8], ReplayError> {
-        match self.left.next() {
-            Some(Argument::Bytes(bytes)) => Ok(bytes),
-            _ => Err(ReplayError::Argument),
-        }
+    pub(crate) fn bytes(&mut self) -> Result<Cow<'a, [u8]>, ReplayError> {
+        let argument = self.left.next().ok_or(ReplayError::Argument)?;
+        argument.bytes(self.most)
     }
 
     pub(crate) fn room(&mut self) -> Result<Vec<u8>, ReplayError> {
         match self.left.next() {
-            Some(Argument::Room(length)) => {
-                let length = usize::try_from(length).map_err(|_| ReplayError::Argument)?;
-                zeros(length).map_err(|_| ReplayError::OutOfMemory)
-            }
+            Some(Argument::Room(length)) => room(length, self.most),
             _ => Err(ReplayError::Argument),
         }
     }

@@ -213,7 +213,7 @@ fn infos_of(frame: &[u8], limits: &PayloadConfig) -> Result<Vec<Info>, CodecErro
 // The signatures to verify: each that decides, up to the first info that is refused without.
 fn checked(model: &Model, limits: &PayloadConfig, fields: &Fields<'_, '_>) -> Outcome<Told> {
     let (frame, now) = (fields.bytes("frame")?, fields.now()?);
-    let infos = infos_of(frame, limits).unwrap_or_default();
+    let infos = infos_of(&frame, limits).unwrap_or_default();
     let mut told = (infos.len() as u64).to_be_bytes().to_vec();
     let is_list = frame.first() == Some(&3);
     if is_list && model.all_judged(&infos, now, &|_, _| true) == Err(too_many(&infos)) {
@@ -239,7 +239,7 @@ fn too_many(infos: &[Info]) -> Error {
 fn received(model: &mut Model, limits: &PayloadConfig, fields: &Fields<'_, '_>) -> Outcome<Told> {
     let (frame, now) = (fields.bytes("frame")?, fields.now()?);
     let verdicts = fields.bytes("verdicts")?;
-    let payload = match Payload::decode(frame, limits) {
+    let payload = match Payload::decode(&frame, limits) {
         Ok(payload) => payload,
         Err(error) => return Ok(Told::Bytes([&[4][..], &codec_error(error)?].concat())),
     };

@@ -211,7 +211,7 @@ fn end(shared: &Shared) {
         warn(&format_args!("{held} connections had not ended"));
     }
     shared.record(now, &Entry::Stopped(held));
-    state.node.directory().flush_record();
+    state.node.directory().end_record();
 }
 
 /// Says something on the standard error output. Nobody may read it.

@@ -4,7 +4,8 @@ use crate::pair::{
     BitVec, Config, Info, Ingress, KEY_SIZE, Key, Moment, OrderedSet, Payload, PayloadConfig,
     Setup, TrackedPeers,
 };
-use p2p_directory::record::{Argument, Call};
+use p2p_directory::record::{Argument, Call, MOST_ROOM};
+use std::borrow::Cow;
 use std::error::Error;
 use std::num::NonZeroUsize;
 use std::time::Duration;
@@ -41,15 +42,14 @@ impl<'b> Fields<'_, 'b> {
         Ok(usize::try_from(self.number(name)?)?)
     }
 
-    pub fn bytes(&self, name: &str) -> Outcome<&'b [u8]> {
-        match self.0.argument(name) {
-            Some(Argument::Bytes(bytes)) => Ok(bytes),
-            _ => Err(self.missing(name)),
-        }
+    /// The bytes of a slice, with zeros for what isn't recorded of a message.
+    pub fn bytes(&self, name: &str) -> Outcome<Cow<'b, [u8]>> {
+        let argument = self.0.argument(name).ok_or_else(|| self.missing(name))?;
+        Ok(argument.bytes(MOST_ROOM)?)
     }
 
     pub fn peer(&self) -> Outcome<Key> {
-        key(self.bytes("peer")?)
+        key(&self.bytes("peer")?)
     }
 
     pub fn keys(&self, name: &str) -> Outcome<Vec<Key>> {
@@ -68,21 +68,21 @@ impl<'b> Fields<'_, 'b> {
     }
 
     pub fn bit_vec(&self) -> Outcome<BitVec> {
-        match tagged(2, self.bytes("bits")?)? {
+        match tagged(2, &self.bytes("bits")?)? {
             Payload::BitVec(bits) => Ok(bits),
             other => Err(format!("{other:?} is no bits").into()),
         }
     }
 
     pub fn infos(&self) -> Outcome<Vec<Info>> {
-        infos(self.bytes("infos")?)
+        infos(&self.bytes("infos")?)
     }
 
     pub fn setup(&self) -> Outcome<Setup> {
         let max_sets = NonZeroUsize::new(self.size("max_sets")?);
         Ok(Setup {
-            bootstrappers: bootstrappers(self.bytes("bootstrappers")?)?,
-            myself: Info::decode(self.bytes("myself")?)?,
+            bootstrappers: bootstrappers(&self.bytes("bootstrappers")?)?,
+            myself: Info::decode(&self.bytes("myself")?)?,
             cfg: Config {
                 allow_private_ips: self.flag("allow_private_ips")?,
                 allow_dns: self.flag("allow_dns")?,

@@ -20,7 +20,7 @@ mod call;
 
 use modelled::Modelled;
 use p2p_directory as pair;
-use p2p_directory::record::{Answer, Call, Log, ReplayError};
+use p2p_directory::record::{Answer, Call, Log, MOST_ROOM, ReplayError};
 use p2p_directory::{Replay, keys33_64, keys48_96, keys96_48};
 use player::{Mode, Tally, play};
 use script::Script;
@@ -29,37 +29,67 @@ use std::process::ExitCode;
 use std::{env, fs, io, process};
 
 const HELP: &str = "\
-p2p-replay [--model | --script | --play] FILE
+p2p-replay [--model | --script | --play] [--unchecked N] [--room BYTES] FILE
 
-Makes the calls of a log on a new node, and compares each answer with the one of the log.
-It ends at the first that differs, prints its record and both answers, and ends with status 1.
-A call that was refused for want of memory counts as not made.
+Makes the calls of a log on a new node, and compares each answer with the one of the log. It ends at
+the first that differs, and prints its record and both answers. A call that was refused for want of
+memory counts as not made, and isn't checked.
 
-  --model   on a model of maps and lists, which shares no code with the library
-  --script  prints the calls as a script of `play`, with the replies that it expects: keys are
-            numbered in the order of their bytes, infos are signed anew
-  --play    plays that script, and prints each reply that isn't as expected
+  --model        on a model of maps and lists, which shares no code with the library
+  --script       prints the calls as a script of `play`, with the replies that it expects: keys are
+                 numbered in the order of their bytes, infos are signed anew
+  --play         plays that script, and prints each reply that isn't as expected. It has no command
+                 for some calls, such as `check` and `get_peer_set`: these are counted
+  --unchecked N  fails if more than N calls weren't checked; without it, if one was refused for want
+                 of memory
+  --room BYTES   how many bytes a call of the library may ask for, in place of 268435456, for the
+                 buffer that it writes and for a message: the log has its first bytes and a checksum,
+                 and zeros stand for the others
 
-All three are for keys of 32 bytes.";
+--model, --script and --play are for keys of 32 bytes.
+
+Status: 0 if all is as in the log; 1 if an answer differs, or too many calls weren't checked; 2 if the
+log can't be read or made; 3 if all is as in the log, but its end is missing, or it reached its bound.";
+
+/// What is done with the calls of a log.
+#[derive(Clone, Copy, PartialEq)]
+enum Way {
+    Library,
+    Model,
+    Script,
+    Play,
+}
+
+struct Options {
+    way: Way,
+    // How many calls may be left unchecked, if that was said.
+    unchecked: Option<u64>,
+    room: u64,
+    file: String,
+}
+
+/// What became of the calls of a log whose answers don't differ.
+#[derive(Default)]
+struct Checked {
+    calls: u64,
+    out_of_memory: u64,
+    without_command: u64,
+}
+
+/// The status for a log whose end is missing, or which reached its bound.
+const NOT_WHOLE: u8 = 3;
 
 fn main() -> ExitCode {
     let words: Vec<String> = env::args().skip(1).collect();
-    let words: Vec<&str> = words.iter().map(String::as_str).collect();
-    let ended = match words[..] {
-        ["--help"] => {
-            println!("{HELP}");
-            return ExitCode::SUCCESS;
-        }
-        ["--model", file] => on_the_model(file),
-        ["--script", file] => as_script(file),
-        ["--play", file] => by_play(file),
-        [file] if !file.starts_with('-') => on_the_library(file),
-        _ => {
-            eprintln!("{HELP}");
-            process::exit(2);
-        }
+    if words == ["--help"] {
+        println!("{HELP}");
+        return ExitCode::SUCCESS;
+    }
+    let Some(options) = options(words) else {
+        eprintln!("{HELP}");
+        process::exit(2);
     };
-    match ended {
+    match run(&options) {
         Ok(code) => code,
         Err(error) => {
             eprintln!("p2p-replay: {error}");
@@ -68,72 +98,143 @@ fn main() -> ExitCode {
     }
 }
 
-fn read(file: &str) -> Result<Log, Box<dyn Error>> {
-    let bytes = fs::read(file).map_err(|error| format!("{file}: {error}"))?;
-    Ok(Log::read(bytes).map_err(|error| format!("{file}: {error}"))?)
+fn options(words: Vec<String>) -> Option<Options> {
+    let mut options = Options {
+        way: Way::Library,
+        unchecked: None,
+        room: MOST_ROOM,
+        file: String::new(),
+    };
+    let mut words = words.into_iter();
+    while let Some(word) = words.next() {
+        match word.as_str() {
+            "--model" => options.way = Way::Model,
+            "--script" => options.way = Way::Script,
+            "--play" => options.way = Way::Play,
+            "--unchecked" => options.unchecked = Some(words.next()?.parse().ok()?),
+            "--room" => options.room = words.next()?.parse().ok()?,
+            other if other.starts_with('-') || !options.file.is_empty() => return None,
+            _ => options.file = word,
+        }
+    }
+    (!options.file.is_empty()).then_some(options)
 }
 
-// Makes each call by the closure, up to the first whose answer differs.
+fn run(options: &Options) -> Result<ExitCode, Box<dyn Error>> {
+    let file = &options.file;
+    let bytes = fs::read(file).map_err(|error| format!("{file}: {error}"))?;
+    let log = Log::read(bytes).map_err(|error| format!("{file}: {error}"))?;
+    if options.way != Way::Library {
+        of_32_bytes(&log)?;
+    }
+    let checked = match options.way {
+        Way::Library => on_the_library(&log, options.room)?,
+        Way::Model => {
+            let mut modelled = Modelled::new();
+            compare(&log, |call| modelled.answer(call))?
+        }
+        Way::Script => Some(as_script(&log)?),
+        Way::Play => by_play(&log)?,
+    };
+    Ok(match checked {
+        Some(checked) => ended(&log, options, &checked),
+        None => ExitCode::FAILURE,
+    })
+}
+
+// Says what was checked, and whether that is enough.
+fn ended(log: &Log, options: &Options, checked: &Checked) -> ExitCode {
+    let unchecked = checked.out_of_memory + checked.without_command;
+    let mut told = vec![format!("{} calls", checked.calls)];
+    if options.way != Way::Script {
+        told.push(format!(
+            "{} answered as in the log",
+            checked.calls - unchecked
+        ));
+    }
+    let whys = [
+        (checked.out_of_memory, "refused for want of memory"),
+        (checked.without_command, "without a command of play"),
+    ];
+    let whys = whys.iter().filter(|(count, _)| *count > 0);
+    told.extend(whys.map(|(count, why)| format!("{count} {why}, not checked")));
+    if log.is_full() {
+        told.push("then the log is full".into());
+    }
+    if log.is_cut() {
+        told.push("then its end is missing: it is cut off".into());
+    }
+    let told = told.join(", ");
+    match options.way {
+        Way::Script => eprintln!("{told}"),
+        _ => println!("{told}"),
+    }
+    let is_enough = match options.unchecked {
+        Some(most) => unchecked <= most,
+        None => checked.out_of_memory == 0,
+    };
+    match (is_enough, log.is_full() || log.is_cut()) {
+        (false, _) => ExitCode::FAILURE,
+        (true, true) => ExitCode::from(NOT_WHOLE),
+        (true, false) => ExitCode::SUCCESS,
+    }
+}
+
+// Makes each call by the closure. Returns nothing if an answer differs, which it prints.
 fn compare(
     log: &Log,
     mut make: impl FnMut(&Call<'_>) -> Result<Answer, Box<dyn Error>>,
-) -> Result<ExitCode, Box<dyn Error>> {
-    let mut count = 0;
+) -> Result<Option<Checked>, Box<dyn Error>> {
+    let mut checked = Checked::default();
     for call in log.calls() {
-        count += 1;
+        checked.calls += 1;
         if call.answer.is_out_of_memory() {
+            checked.out_of_memory += 1;
             continue;
         }
         let now = make(&call).map_err(|error| format!("record {}: {error}", call.place))?;
         if now != call.answer {
             println!("{call:?}");
             println!("is answered {now:?} now");
-            return Ok(ExitCode::FAILURE);
+            return Ok(None);
         }
     }
-    let ends = match (log.is_full(), log.is_cut()) {
-        (true, _) => ", then the log is full",
-        (_, true) => ", then a record is cut off",
-        _ => "",
-    };
-    println!("{count} calls, answered as in the log{ends}");
-    Ok(ExitCode::SUCCESS)
+    Ok(Some(checked))
 }
 
 /// What makes a call anew.
 type Maker = Box<dyn FnMut(&Call<'_>) -> Result<Answer, ReplayError>>;
 
 /// What makes calls anew, for the sizes of the log.
-fn maker(log: &Log) -> Option<Maker> {
+fn maker(log: &Log, room: u64) -> Option<Maker> {
     let header = log.header();
     Some(match (header.key_size, header.signature_size) {
         (32, 64) => {
-            let mut replay = Replay::new()?;
+            let mut replay = Replay::with_room(room)?;
             Box::new(move |call| replay.make(call))
         }
         (33, 64) => {
-            let mut replay = keys33_64::Replay::new()?;
+            let mut replay = keys33_64::Replay::with_room(room)?;
             Box::new(move |call| replay.make(call))
         }
         (48, 96) => {
-            let mut replay = keys48_96::Replay::new()?;
+            let mut replay = keys48_96::Replay::with_room(room)?;
             Box::new(move |call| replay.make(call))
         }
         (96, 48) => {
-            let mut replay = keys96_48::Replay::new()?;
+            let mut replay = keys96_48::Replay::with_room(room)?;
             Box::new(move |call| replay.make(call))
         }
         _ => return None,
     })
 }
 
-fn on_the_library(file: &str) -> Result<ExitCode, Box<dyn Error>> {
-    let log = read(file)?;
-    let mut make = maker(&log).ok_or("no memory, or no library for keys of this size")?;
+fn on_the_library(log: &Log, room: u64) -> Result<Option<Checked>, Box<dyn Error>> {
+    let mut make = maker(log, room).ok_or("no memory, or no library for keys of this size")?;
     if log.header().archive != p2p_directory::record::ARCHIVE {
         eprintln!("p2p-replay: another archive of the library answered when this was recorded");
     }
-    compare(&log, |call| Ok(make(call)?))
+    compare(log, |call| Ok(make(call)?))
 }
 
 fn of_32_bytes(log: &Log) -> Result<(), Box<dyn Error>> {
@@ -143,30 +244,28 @@ fn of_32_bytes(log: &Log) -> Result<(), Box<dyn Error>> {
     }
 }
 
-fn on_the_model(file: &str) -> Result<ExitCode, Box<dyn Error>> {
-    let log = read(file)?;
-    of_32_bytes(&log)?;
-    let mut modelled = Modelled::new();
-    compare(&log, |call| modelled.answer(call))
+// What a script has of the calls of a log.
+fn scripted(log: &Log, script: &Script) -> Checked {
+    let out_of_memory = log.calls().filter(|call| call.answer.is_out_of_memory());
+    Checked {
+        calls: log.calls().count() as u64,
+        out_of_memory: out_of_memory.count() as u64,
+        without_command: script.without_command(),
+    }
 }
 
-fn as_script(file: &str) -> Result<ExitCode, Box<dyn Error>> {
-    let log = read(file)?;
-    of_32_bytes(&log)?;
-    for line in Script::of(&log)?.lines() {
+fn as_script(log: &Log) -> Result<Checked, Box<dyn Error>> {
+    let script = Script::of(log)?;
+    for line in script.lines() {
         println!("{line}");
     }
-    Ok(ExitCode::SUCCESS)
+    Ok(scripted(log, &script))
 }
 
-fn by_play(file: &str) -> Result<ExitCode, Box<dyn Error>> {
-    let log = read(file)?;
-    of_32_bytes(&log)?;
-    let script = Script::of(&log)?.lines().join("\n") + "\n";
-    let tally: Tally = play(script.as_bytes(), &mut io::stdout().lock(), Mode::Checks)?;
+fn by_play(log: &Log) -> Result<Option<Checked>, Box<dyn Error>> {
+    let script = Script::of(log)?;
+    let lines = script.lines().join("\n") + "\n";
+    let tally: Tally = play(lines.as_bytes(), &mut io::stdout().lock(), Mode::Checks)?;
     println!("{tally}");
-    Ok(match tally.is_good() {
-        true => ExitCode::SUCCESS,
-        false => ExitCode::FAILURE,
-    })
+    Ok(tally.is_good().then(|| scripted(log, &script)))
 }

@@ -20,6 +20,7 @@ pub struct Script {
     numbers: BTreeMap<Key, u64>,
     limits: PayloadConfig,
     lines: Vec<String>,
+    without_command: u64,
 }
 
 impl Script {
@@ -32,6 +33,7 @@ impl Script {
             numbers: all.into_iter().zip(1..).collect(),
             limits: NO_LIMITS,
             lines: Vec::new(),
+            without_command: 0,
         };
         for call in log.calls() {
             if !call.answer.is_out_of_memory() {
@@ -43,6 +45,11 @@ impl Script {
 
     pub fn lines(&self) -> &[String] {
         &self.lines
+    }
+
+    /// How many calls of the log `play` has no command for, so that the script lacks them.
+    pub fn without_command(&self) -> u64 {
+        self.without_command
     }
 
     // Appends the command of a call and its reply, if there is a command.
@@ -63,9 +70,9 @@ impl Script {
                 None => self.asked(name, &fields)?,
             },
         };
-        if let Some((command, reply)) = told {
-            self.lines.push(command);
-            self.lines.push(format!("= {reply}"));
+        match told {
+            Some((command, reply)) => self.lines.extend([command, format!("= {reply}")]),
+            None => self.without_command += 1,
         }
         Ok(())
     }
@@ -257,7 +264,7 @@ impl Script {
             });
             signed.collect()
         };
-        let frame = match Payload::decode(frame, &self.limits) {
+        let frame = match Payload::decode(&frame, &self.limits) {
             Ok(Payload::Greeting(info)) => {
                 let mut one = judged(&[info]);
                 one.pop()
@@ -354,7 +361,7 @@ fn keys_of(call: &Call<'_>) -> Outcome<Vec<Key>> {
         }
         "track" => [fields.keys("primary")?, fields.keys("secondary")?].concat(),
         "update_peers" => named(fields.infos()?),
-        "receive" => match Payload::decode(fields.bytes("frame")?, &NO_LIMITS) {
+        "receive" => match Payload::decode(&fields.bytes("frame")?, &NO_LIMITS) {
             Ok(Payload::Greeting(info)) => vec![info.public_key],
             Ok(Payload::Peers(all)) => named(all),
             Ok(Payload::Data(_) | Payload::BitVec(_)) | Err(_) => Vec::new(),

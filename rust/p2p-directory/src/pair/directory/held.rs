@@ -88,6 +88,14 @@ impl Slot {
         Ok(slot)
     }
 
+    // Takes a key of a dropped reservation.
+    fn take_left(&self) -> Option<Key> {
+        let mut left = locked(&self.left);
+        let peer = left.peers.pop();
+        self.count.store(left.peers.len(), Ordering::Relaxed);
+        peer
+    }
+
     // The next directory must not see the reservations of this one, which have no effect from now
     // on.
     fn put_back(&'static self) {
@@ -152,11 +160,11 @@ impl Held {
         &self.session
     }
 
+    // One after the other, and the slot isn't locked meanwhile: a release may call the sink of a
+    // log, which may drop reservations.
     #[cold]
     fn release_left(&self) {
-        let mut left = locked(&self.origin.slot.left);
-        self.origin.slot.count.store(0, Ordering::Relaxed);
-        for peer in left.peers.drain(..) {
+        while let Some(peer) = self.origin.slot.take_left() {
             self.count.set(self.count.get() - 1);
             release(&self.session, &peer);
         }
