@@ -1,5 +1,5 @@
 // A node in C: it tracks a set of two peers, lets one of them come, which greets, asks for the infos of both, and takes
-// them from a frame whose signatures it verifies. C11 and C++17. tools/host_c.sh builds and runs it over the archive.
+// them from a frame whose signatures it verifies. C99 and C++11. tools/host_c.sh builds and runs it over the archive.
 #include "p2p_session.h"
 
 #include <inttypes.h>
@@ -13,6 +13,9 @@ enum { INGRESS = 8, SIGNED = INGRESS + 8, INFO = INGRESS + 1 + KEY + SIGNATURE }
 
 static const uint8_t NET[] = {'n', 'e', 't'};
 static const uint64_t NOW = 100;
+
+// In nanoseconds. The cooldown is that of init below.
+static const uint64_t SECOND = 1000000000, COOLDOWN = 10000000000;
 
 // Ends the program where a call answers something else.
 static void expect(const char *call, uint64_t answer, uint64_t expected) {
@@ -41,6 +44,20 @@ static uint64_t read_number(const uint8_t *bytes) {
     for (int i = 0; i < 8; i++)
         number = number << 8 | bytes[i];
     return number;
+}
+
+// The jitter of a reservation: a random number of nanoseconds from 0 to twice the half of the cooldown. Draw one for each
+// reservation: nodes that always pass 0 dial each other at the same times, and are refused each time. A host has a better
+// generator than rand.
+static uint64_t draw(void) {
+    uint64_t random = (uint64_t)rand() << 42 ^ (uint64_t)rand() << 21 ^ (uint64_t)rand();
+    return random % (2 * (COOLDOWN / 2) + 1);
+}
+
+// Reserves an inbound peer.
+static uint64_t listen_to(struct p2p_session *session, const uint8_t *key, size_t length) {
+    uint64_t jitter = draw();
+    return p2p_session_listen(session, key, length, NOW, 0, jitter / SECOND, (uint32_t)(jitter % SECOND));
 }
 
 // The scheme of this example: a sum, which is no protection at all. A host has its own.
@@ -72,9 +89,8 @@ static void spell_info(uint8_t number, uint8_t timestamp, uint8_t *info) {
 
 // A session with a node whose key has bytes 9, or null where memory is refused.
 static struct p2p_session *make_node(void) {
-    size_t size = p2p_session_size();
-    size += (P2P_SESSION_ALIGNMENT - size % P2P_SESSION_ALIGNMENT) % P2P_SESSION_ALIGNMENT;
-    struct p2p_session *session = (struct p2p_session *)aligned_alloc(P2P_SESSION_ALIGNMENT, size);
+    // Here malloc returns multiples of 16, as P2P_SESSION_ALIGNMENT asks for.
+    struct p2p_session *session = (struct p2p_session *)malloc(p2p_session_size());
     if (session == NULL)
         return NULL;
     p2p_session_new(session);
@@ -101,13 +117,15 @@ static struct p2p_session *make_node(void) {
     return session;
 }
 
-// Tracks a set without secondary peers, with room for whom it may tear down.
+// Tracks a set without secondary peers, with room for whom it may tear down. A host disconnects these.
 static uint64_t track(struct p2p_session *session, uint64_t index, const uint8_t *primary, size_t length) {
     uint64_t room = p2p_session_track_room(session);
-    uint8_t *torn = (uint8_t *)calloc(room, 1);
-    if (torn == NULL)
+    uint8_t *torn = NULL;
+    if (room > 0 && (torn = (uint8_t *)calloc(room, 1)) == NULL)
         exit(3);
     uint64_t answer = p2p_session_track(session, index, primary, length, NULL, 0, torn, room);
+    for (uint64_t i = 0; answer <= room && i < answer; i += KEY)
+        print_bytes("disconnect", torn + i, KEY);
     free(torn);
     return answer;
 }
@@ -122,12 +140,12 @@ static void track_and_connect(struct p2p_session *session) {
     expect("track without room", p2p_session_track(session, 1, NULL, 0, NULL, 0, NULL, 0), P2P_SESSION_NO_ROOM);
     expect("tracked", p2p_session_tracked(session), 2);
 
-    expect("listen", p2p_session_listen(session, peers, KEY, NOW, 0, 0, 0), 1);
-    expect("listen again", p2p_session_listen(session, peers, KEY, NOW, 0, 0, 0), 0);
-    expect("listen without a key", p2p_session_listen(session, NULL, 0, NOW, 0, 0, 0), P2P_SESSION_BAD_KEY);
+    expect("listen", listen_to(session, peers, KEY), 1);
+    expect("listen again", listen_to(session, peers, KEY), 0);
+    expect("listen without a key", listen_to(session, NULL, 0), P2P_SESSION_BAD_KEY);
 #ifdef FIRST_BYTE
     uint8_t other[KEY] = {0};
-    expect("listen to no key", p2p_session_listen(session, other, KEY, NOW, 0, 0, 0), P2P_SESSION_BAD_KEY);
+    expect("listen to no key", listen_to(session, other, KEY), P2P_SESSION_BAD_KEY);
     expect("track of no keys", track(session, 1, other, KEY), P2P_SESSION_BAD_KEYS);
 #endif
     expect("connect", p2p_session_connect(session, peers, KEY, false), 1);

@@ -123,6 +123,12 @@ refuses 'tools/archive.sh failed' "$prove"
 # Of the targets whose standard library isn't installed the build script runs first.
 other="CARGO_BUILD_TARGET=aarch64-unknown-linux-gnu"
 refuses "no archive for aarch64-unknown-linux-gnu in this package, only for $target" "$other"
+musl=x86_64-unknown-linux-musl
+build "CARGO_BUILD_TARGET=$musl" || grep -q "can't find crate for" "$copy/told" || fail "$musl is refused"
+cat "$CARGO_TARGET_DIR/$musl"/debug/build/p2p-directory-sys-*/output "$CARGO_TARGET_DIR"/debug/build/p2p-directory-sys-*/output \
+    2> /dev/null > "$copy/told" || true
+grep -q "rustc-link-search=native=.*prebuilt/$target" "$copy/told" || fail "$musl links nothing"
+echo "$musl links the archive of $target"
 ! build "$other" "P2P_SESSION_LIB=$copy/folder" || fail 'another target is built'
 ! grep -q 'no archive for' "$copy/told" || fail 'another target is refused where an archive is named'
 ! build "$other" DOCS_RS=1 || fail 'another target is built'

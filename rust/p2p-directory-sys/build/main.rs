@@ -156,7 +156,7 @@ fn installed() -> Result<(), String> {
 /// proved.
 fn packaged() -> Result<(), String> {
     let target = env::var("TARGET").expect("cargo sets it");
-    let folder = manifest().join("prebuilt").join(&target);
+    let folder = manifest().join("prebuilt").join(built_for(&target));
     if !folder.is_dir() {
         return Err(format!(
             "there is no archive for {target} in this package, only for {}. Set P2P_SESSION_LIB to a folder with one, \
@@ -179,6 +179,15 @@ fn packaged() -> Result<(), String> {
         }
     }
     link_and_track(&folder)
+}
+
+/// The target whose archive serves a target. It calls `malloc`, `realloc`, `free`, `memcpy`, `memmove`
+/// and `memset` of the C library and nothing else, so that of glibc serves musl.
+fn built_for(target: &str) -> &str {
+    match target {
+        "x86_64-unknown-linux-musl" => "x86_64-unknown-linux-gnu",
+        other => other,
+    }
 }
 
 /// The repository, if this package is in a clone of it.
