@@ -114,6 +114,23 @@ fn test_track_primary_secondary_overlap_deduplicates() {
     let update = directory.latest_update().unwrap().unwrap();
     assert_eq!(update.latest, peers(&[1, 2], &[3]));
     assert_eq!(directory.all().unwrap(), peers(&[1, 2], &[3]));
+    assert_eq!(counts(&directory, 1, 2), (1, 0));
+    assert_eq!(counts(&directory, 1, 3), (0, 1));
+}
+
+// In how many sets of the indices below this one a peer is primary, and secondary.
+fn counts(directory: &Directory, end: u64, number: u16) -> (usize, usize) {
+    let sets = (0..end).filter_map(|index| directory.get_peer_set(index).unwrap());
+    let roles = sets.map(|set| {
+        let is_in = |peers: &OrderedSet| peers.position(&key(number)).is_some();
+        (
+            usize::from(is_in(&set.primary)),
+            usize::from(is_in(&set.secondary)),
+        )
+    });
+    roles.fold((0, 0), |sum, (primary, secondary)| {
+        (sum.0 + primary, sum.1 + secondary)
+    })
 }
 
 #[test]
@@ -124,11 +141,19 @@ fn test_demotion_from_primary_to_secondary() {
         .unwrap()
         .accepted()
         .unwrap();
+    assert_eq!(
+        [1, 2].map(|number| counts(&directory, 3, number)),
+        [(1, 0), (0, 1)]
+    );
     directory
         .track(1, &peers(&[2], &[1]))
         .unwrap()
         .accepted()
         .unwrap();
+    assert_eq!(
+        [1, 2].map(|number| counts(&directory, 3, number)),
+        [(1, 1), (1, 1)]
+    );
     // A peer that is primary in some set is primary.
     assert_eq!(directory.all().unwrap(), peers(&[1, 2], &[]));
     directory
@@ -137,7 +162,21 @@ fn test_demotion_from_primary_to_secondary() {
         .accepted()
         .unwrap();
     // The only set in which peer 1 was primary was dropped.
+    assert_eq!(
+        [1, 2].map(|number| counts(&directory, 3, number)),
+        [(0, 2), (2, 0)]
+    );
     assert_eq!(directory.all().unwrap(), peers(&[2], &[1]));
+    // Its record counts both: it stays until the second of these sets is dropped, too.
+    for (index, status) in [(3, Some(Status::Inert)), (4, None)] {
+        directory
+            .track(index, &peers(&[3], &[]))
+            .unwrap()
+            .accepted()
+            .unwrap();
+        assert_eq!(directory.status(&key(1)), status);
+        assert_eq!(directory.status(&key(2)), status);
+    }
 }
 
 #[test]

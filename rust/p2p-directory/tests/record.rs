@@ -154,6 +154,12 @@ fn test_increment_decrement_and_deletable() {
     assert_eq!(directory.status(&key(1)), Some(Status::Inert));
     track(&mut directory, 3, &[]);
     assert_eq!(directory.status(&key(9)), Some(Status::Inert));
+    // An unknown peer comes and goes with its set.
+    track(&mut directory, 4, &[3]);
+    assert_eq!(directory.status(&key(3)), Some(Status::Inert));
+    track(&mut directory, 5, &[]);
+    assert_eq!(directory.status(&key(3)), None);
+    assert_eq!(directory.status(&key(1)), Some(Status::Inert));
 }
 
 #[test]
@@ -247,6 +253,7 @@ fn test_reserved_status_check() {
 
 #[test]
 fn test_dial_failure_and_dial_success() {
+    failures_are_counted_of_the_address_of_the_info();
     let mut directory = quick();
     track(&mut directory, 0, &[1]);
     directory.update_peers(&[info(1, 1000)]).unwrap();
@@ -264,6 +271,43 @@ fn test_dial_failure_and_dial_success() {
     let held = listen(&mut directory, 1, NOW).unwrap();
     directory.release(held).unwrap();
     assert_eq!(bits(&directory), "1");
+}
+
+// Dials of a bootstrapper before its info comes are no failures of it. Of its address two are too
+// few, three are enough; a dial of another address counts none, and one that succeeds begins anew.
+fn failures_are_counted_of_the_address_of_the_info() {
+    let cfg = Config {
+        dial_fail_limit: 3,
+        peer_connection_cooldown: Duration::ZERO,
+        ..config()
+    };
+    let at = Ingress::from(SocketAddr::from(([127, 0, 0, 1], 8080)));
+    let mut directory = Directory::init(&[(key(1), at)], &info(9, 0), cfg).unwrap();
+    track(&mut directory, 0, &[1]);
+    let fail = |directory: &mut Directory| {
+        let failed = dial(directory, 1, NOW).unwrap();
+        directory.release(failed).unwrap();
+        bits(directory)
+    };
+    for _ in 0..3 {
+        assert_eq!(fail(&mut directory), "0");
+    }
+    directory.update_peers(&[info(1, 1000)]).unwrap();
+    assert_eq!(bits(&directory), "1");
+    assert_eq!(fail(&mut directory), "1");
+    assert_eq!(fail(&mut directory), "1");
+    // Its reservation is of the address before the info that comes meanwhile.
+    let held = dial(&mut directory, 1, NOW).unwrap();
+    directory.update_peers(&[info_at(1, 1001, 80)]).unwrap();
+    directory.release(held).unwrap();
+    assert_eq!(bits(&directory), "1");
+    assert_eq!([fail(&mut directory), fail(&mut directory)], ["1", "1"]);
+    // It succeeds, and its release is the first failure again.
+    let held = dial(&mut directory, 1, NOW).unwrap();
+    directory.connect(&key(1), true).unwrap();
+    directory.release(held).unwrap();
+    assert_eq!(bits(&directory), "1");
+    assert_eq!([fail(&mut directory), fail(&mut directory)], ["1", "0"]);
 }
 
 // The release of a dialled connection is a failure: the first one again after a dial that
@@ -324,9 +368,21 @@ fn test_want_logic_with_min_fails() {
     assert_eq!(bits(&directory), "11");
     directory.release(held).unwrap();
     assert_eq!(bits(&directory), "01");
-    // A newer info has no failures yet.
+    // A newer info has no failures yet, and they count again.
     directory.update_peers(&[info(1, 1001)]).unwrap();
     assert_eq!(bits(&directory), "11");
+    for known in ["11", "01"] {
+        let held = dial(&mut directory, 1, NOW).unwrap();
+        directory.release(held).unwrap();
+        assert_eq!(bits(&directory), known);
+    }
+    // While it is reserved it is still wanted, and not while it is connected.
+    let held = dial(&mut directory, 1, NOW).unwrap();
+    assert_eq!(bits(&directory), "01");
+    directory.connect(&key(1), false).unwrap();
+    assert_eq!(bits(&directory), "11");
+    directory.release(held).unwrap();
+    assert_eq!(bits(&directory), "01");
 }
 
 #[test]

@@ -267,6 +267,20 @@ fn a_dialer_and_a_listener_are_connected_as_such() {
     });
     // A connection that was dialled resets the failures before it.
     assert_eq!(told, [[false], [true]]);
+    // One that came resets nothing: the failure before it counts with the one after it.
+    let mut directory = Directory::init(&[], &info(9, 0), limit).unwrap();
+    let _ = directory.track(0, &set(&[1]).into()).unwrap();
+    directory.update_peers(&[info(1, 1000)]).unwrap();
+    drop(dialled(&mut directory));
+    let listen = directory.listen(&key(1), LATER, Duration::ZERO);
+    let held = listen.unwrap().expect("it is acceptable");
+    directory.connect_reserved(&held).unwrap();
+    assert_eq!(directory.status(&key(1)), Some(Status::Active));
+    directory.release(held).unwrap();
+    assert_eq!(bits(&directory), [true]);
+    let dial = directory.dial(&key(1), Moment::from_secs(300), Duration::ZERO);
+    drop(dial.unwrap().expect("it is dialable"));
+    assert_eq!(bits(&directory), [false]);
 }
 
 #[test]

@@ -239,11 +239,20 @@ fn test_max_gossip_size_bounds_payloads() {
 
 #[test]
 fn test_encoded_data_new_matches_data_encode() {
-    let message = b"hello".to_vec();
-    let header = EncodedData::new(300, message.len() as u32);
-    let frame = [header.as_bytes(), &message].concat();
-    let channel = 300;
-    assert_eq!(frame, Payload::Data(Data { channel, message }).encode());
+    for chunks in [
+        &[b"hello".as_slice()][..],
+        &[b"hello ", b"world", b"!"],
+        &[],
+    ] {
+        let (channel, message) = (12345, chunks.concat());
+        let header = EncodedData::new(channel, message.len() as u32);
+        // The chunks are sent behind the header as they are.
+        let mut frame = header.as_bytes().to_vec();
+        chunks
+            .iter()
+            .for_each(|chunk| frame.extend_from_slice(chunk));
+        assert_eq!(frame, Payload::Data(Data { channel, message }).encode());
+    }
 }
 
 #[test]
