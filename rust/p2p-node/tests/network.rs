@@ -2,8 +2,11 @@
 
 mod common;
 
-use common::{Folder, QUICK, Running, frames_of, key, member, until};
-use std::net::TcpListener;
+use common::{
+    Folder, NAMESPACE, QUICK, Running, frames_of, info, key, member, milliseconds, send, until,
+};
+use p2p_directory::Payload;
+use std::net::{TcpListener, TcpStream};
 use std::time::Duration;
 
 /// Starts three nodes, of which two know the first only.
@@ -179,20 +182,25 @@ fn a_signal_ends_a_node_within_two_seconds() {
     }
 }
 
+/// A listener whose backlog is full, so that a dial waits for an answer. It is full as long as these
+/// streams are open.
+fn silent_listener() -> (TcpListener, Vec<TcpStream>) {
+    let listener = TcpListener::bind("127.0.0.1:0").unwrap();
+    let address = listener.local_addr().unwrap();
+    let mut backlog = Vec::new();
+    while let Ok(stream) = TcpStream::connect_timeout(&address, Duration::from_millis(200)) {
+        backlog.push(stream);
+        assert!(backlog.len() < 10_000);
+    }
+    (listener, backlog)
+}
+
 #[test]
 fn a_node_that_dials_in_vain_ends_in_time() {
     let folder = Folder::new();
     folder.set(0, &[1, 2]);
-    // The backlog of this listener is filled, so that a dial waits for an answer.
-    let listener = TcpListener::bind("127.0.0.1:0").unwrap();
+    let (listener, _backlog) = silent_listener();
     let address = listener.local_addr().unwrap();
-    let mut backlog = Vec::new();
-    while let Ok(stream) =
-        std::net::TcpStream::connect_timeout(&address, Duration::from_millis(200))
-    {
-        backlog.push(stream);
-        assert!(backlog.len() < 10_000);
-    }
     let words = format!("{QUICK} --bootstrapper {}@{address}", key(2));
     let node = Running::start(&folder, 1, &words);
     node.until_event("grant", &key(2));
@@ -200,6 +208,49 @@ fn a_node_that_dials_in_vain_ends_in_time() {
     let (status, passed) = node.terminate();
     assert_eq!(status.code(), Some(0));
     assert!(passed < Duration::from_secs(2), "{passed:?}");
+}
+
+#[test]
+fn a_peer_behind_forty_that_do_not_answer_is_dialled() {
+    let folder = Folder::new();
+    let mut numbers: Vec<u8> = (1..=42).collect();
+    numbers.sort_by_key(|number| key(*number));
+    folder.set(0, &numbers);
+    let (silent, _backlog) = silent_listener();
+    let answers = TcpListener::bind("127.0.0.1:0").unwrap();
+    let mut words = format!("{QUICK} --max-connections 16 --handshake 1 --cooldown 0.05");
+    // A dial takes longer than the cooldown, so those that were dialled first may be dialled again.
+    for (place, number) in numbers.iter().enumerate().skip(1) {
+        let listener = if place < 41 { &silent } else { &answers };
+        let address = listener.local_addr().unwrap();
+        words += &format!(" --bootstrapper {}@{address}", key(*number));
+    }
+    let node = Running::start(&folder, numbers[0], &words);
+    node.until_event("grant", &key(numbers[41]));
+    answers.accept().unwrap();
+}
+
+#[test]
+fn a_peer_rests_where_nobody_answered() {
+    let folder = Folder::new();
+    folder.set(0, &[1, 2]);
+    let node = Running::start(&folder, 1, "--cooldown 0.4 --tick 0.2");
+    // Its info has an address at which nobody listens.
+    let stream = node.dial(2);
+    let info = info(2, NAMESPACE, milliseconds());
+    send(&stream, &Payload::Greeting(info).encode());
+    node.until_event("info", &key(2));
+    drop(stream);
+    let dials = until("three dials", || {
+        let granted = node.events("grant").into_iter();
+        let dials = granted.filter(|line| member(line, "by") == Some("dial"));
+        let times = dials.map(|line| member(&line, "at").unwrap().parse().unwrap());
+        let times: Vec<u128> = times.collect();
+        (times.len() == 3).then_some(times)
+    });
+    for pair in dials.windows(2) {
+        assert!(pair[1] - pair[0] >= 1_600_000_000, "{dials:?}");
+    }
 }
 
 #[test]

@@ -17,6 +17,10 @@ use std::time::{Duration, Instant};
 /// The maximum number of dials that a round starts.
 const DIALS: usize = 16;
 
+/// For so many cooldowns a peer isn't dialled after nobody answered at its address. Each dial begins
+/// a cooldown in which the peer would be refused, and it may be at another address now.
+const REST_OF_PEER: u32 = 4;
+
 /// The minimum and the maximum time from one round to the next, unless it is woken.
 pub const WAITS: (Duration, Duration) = (Duration::from_millis(20), Duration::from_secs(10));
 
@@ -48,16 +52,19 @@ pub fn round(shared: &Arc<Shared>) -> Duration {
         let started = shared.spawn(move |shared| perform(shared, dial));
         if let Err(error) = started {
             // The reservation was dropped with the closure, and is released by the next call.
-            let now = shared.lock().now();
+            let mut state = shared.lock();
+            state.turns.end(&peer);
+            let now = state.now();
             shared.record(now, &Entry::NotConnected(&peer, &error));
         }
     }
     wait
 }
 
-/// Ends blocks and cooldowns that are over.
+/// Ends blocks, cooldowns and rests that are over.
 fn expire(shared: &Shared, state: &mut State) {
     let now = state.now();
+    state.turns.expire(now);
     let directory = state.node.directory_mut();
     let is_over = |end: Option<Moment>| end.is_some_and(|end| end <= now);
     if is_over(directory.next_cooled()) {
@@ -73,7 +80,8 @@ fn grant(shared: &Shared) -> Result<(Vec<Dial>, Duration), OutOfMemory> {
     let mut granted = Vec::new();
     let mut state = shared.lock();
     let look = state.time_to_look(&shared.settings);
-    let dialable = state.node.directory().dialable(look)?;
+    let mut dialable = state.node.directory().dialable(look)?;
+    state.turns.order(&mut dialable.peers);
     for peer in dialable.peers.iter().take(DIALS) {
         let Some(slot) = shared.connections.take() else {
             return Ok((granted, REST));
@@ -92,6 +100,7 @@ fn grant(shared: &Shared) -> Result<(Vec<Dial>, Duration), OutOfMemory> {
         dialable.next_query_at,
         directory.next_unblock(),
         directory.next_cooled(),
+        state.turns.next_end(),
     ];
     let wait = match times.into_iter().flatten().min() {
         _ if dialable.peers.len() > DIALS => WAITS.0,
@@ -117,6 +126,7 @@ fn grant_one(
     let Metadata::Dialer(_, Ingress::Socket(address)) = *reservation.metadata() else {
         return Ok(None);
     };
+    state.turns.dial(*peer, address);
     shared.record(now, &Entry::Grant(peer, Direction::Dial));
     Ok(Some(Dial {
         reservation,
@@ -133,7 +143,13 @@ fn perform(shared: &Arc<Shared>, dial: Dial) {
         slot,
     } = dial;
     let peer = *reservation.public_key();
-    match authenticate(shared, &peer, address) {
+    let begin = Instant::now();
+    let connected = connect(shared, address, shared.settings.handshake);
+    answered(shared, &peer, address, connected.is_ok());
+    let listed = connected
+        .map_err(HandshakeError::Stream)
+        .and_then(|stream| authenticate(shared, &peer, stream, begin));
+    match listed {
         Ok(listed) => connection::run(shared, listed, reservation, slot),
         Err(error) => {
             // A peer that can't be reached breaks no rule, and one that isn't the peer isn't known.
@@ -141,7 +157,7 @@ fn perform(shared: &Arc<Shared>, dial: Dial) {
             if !matches!(error, HandshakeError::Stream(_)) {
                 shared.counts.refusal(refused_handshake(&error));
             }
-            let mut state = shared.lock();
+            let state = shared.lock();
             drop(reservation);
             let now = state.now();
             shared.record(now, &Entry::NotConnected(&peer, &error));
@@ -150,15 +166,29 @@ fn perform(shared: &Arc<Shared>, dial: Dial) {
     shared.wake();
 }
 
-/// Connects to an address, and makes sure that the peer is there.
+/// Lets the peer rest if nobody answered at its address. A bootstrapper that starts again may know
+/// nobody, so it is looked for where it is configured to be.
+pub fn answered(shared: &Shared, peer: &Key, address: SocketAddr, is_answered: bool) {
+    let bootstrapper = (*peer, Ingress::Socket(address));
+    let mut state = shared.lock();
+    if is_answered || shared.settings.bootstrappers.contains(&bootstrapper) {
+        state.turns.end(peer);
+    } else {
+        let rest = shared.settings.cooldown.saturating_mul(REST_OF_PEER);
+        let until = state.now().saturating_add(rest);
+        state.turns.rest(peer, until);
+    }
+}
+
+/// Makes sure that the peer is at the other end of a stream.
 fn authenticate(
     shared: &Arc<Shared>,
     peer: &Key,
-    address: SocketAddr,
+    stream: TcpStream,
+    begin: Instant,
 ) -> Result<Listed, HandshakeError> {
-    let begin = Instant::now();
     let within = shared.settings.handshake;
-    let listed = Listed::new(shared, connect(shared, address, within)?, Some(*peer))?;
+    let listed = Listed::new(shared, stream, Some(*peer))?;
     let own = Own {
         identity: &shared.identity,
         namespace: shared.settings.namespace.as_bytes(),

@@ -1,12 +1,16 @@
 //! A node that runs: its start, its ticks and its end.
 
+mod clock;
 mod connection;
 mod dialer;
 mod listener;
 mod received;
 mod shared;
 mod status;
+#[cfg(test)]
+mod tests;
 mod tracking;
+mod turns;
 
 use crate::broken::Rule;
 use crate::counts::{Event, Refusal};
@@ -16,6 +20,7 @@ use crate::ledger::{Entry, Ledger};
 use crate::sets::SetFiles;
 use crate::settings::Settings;
 use crate::sodium::{Sodium, stop_on_signals};
+use clock::Clock;
 use p2p_directory::record::Recorder;
 use p2p_directory::{Info, Ingress, Moment, Node, Setup};
 use shared::{Parts, Shared};
@@ -70,6 +75,7 @@ pub fn run(settings: Settings) -> Result<(), String> {
         sodium,
         identity,
         stop,
+        clock: Clock::new(SystemTime::now),
     };
     let (wakes, woken) = sync_channel(1);
     let shared = Arc::new(Shared::new(parts, node, wakes));
@@ -167,9 +173,7 @@ fn tick(shared: &Arc<Shared>, files: &mut SetFiles, woken: &Receiver<()>) {
             shared.lock().node.directory().flush_record();
         }
         if now >= next_round {
-            next_round = now + dialer::round(shared);
-            // What woke this round is done.
-            let _ = woken.try_recv();
+            next_round = now + woken_round(woken, || dialer::round(shared));
         }
         let next = next_tick.min(next_round);
         let wait = next.saturating_duration_since(Instant::now()).min(POLL);
@@ -177,6 +181,13 @@ fn tick(shared: &Arc<Shared>, files: &mut SetFiles, woken: &Receiver<()>) {
             next_round = next_round.min(now + dialer::WAITS.0);
         }
     }
+}
+
+/// Makes a round, and returns how long to wait for the next one. What woke this round is done; what
+/// wakes the node meanwhile may have come too late for this round, and begins the next one.
+fn woken_round(woken: &Receiver<()>, round: impl FnOnce() -> Duration) -> Duration {
+    let _ = woken.try_recv();
+    round()
 }
 
 /// Blocks a peer that broke no rule, if the node breaks the rule that it doesn't.
@@ -204,7 +215,7 @@ fn end(shared: &Shared) {
     while shared.threads() > 0 && begin.elapsed() < PATIENCE {
         thread::sleep(Duration::from_millis(5));
     }
-    let mut state = shared.lock();
+    let state = shared.lock();
     let now = state.now();
     let held = shared.connections.taken();
     if held > 0 {

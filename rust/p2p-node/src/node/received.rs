@@ -17,7 +17,7 @@ pub fn process(
     outbox: &SyncSender<Vec<u8>>,
     frame: &[u8],
 ) -> Result<Option<Key>, End> {
-    let (received, now) = match receive(shared, frame) {
+    let (received, wall) = match receive(shared, frame) {
         Ok(received) => received,
         Err(OutOfMemory) => (Received::Memory, Moment::EPOCH),
     };
@@ -25,17 +25,17 @@ pub fn process(
         Received::Data { .. } => shared.counts.event(Event::Message),
         // An address that can be dialled may be new.
         Received::Greeted(greeter) => {
-            record(shared, now, peer, frame);
+            learn(shared, peer, frame);
             shared.wake();
             return Ok(Some(greeter));
         }
         Received::Applied(count) => {
-            record(shared, now, peer, frame);
             if count > 0 {
+                learn(shared, peer, frame);
                 shared.wake();
             }
         }
-        Received::Reply(reply) => send(shared, outbox, cut(shared, now, frame, reply)),
+        Received::Reply(reply) => send(shared, outbox, cut(shared, wall, frame, reply)),
         Received::Codec(fault) => return Err(End::Broken(Breach::Codec(fault))),
         Received::Malformed => return Err(End::Broken(Breach::Malformed)),
         // The local clock may be the wrong one.
@@ -50,17 +50,17 @@ pub fn process(
     Ok(None)
 }
 
-/// The result of the node for a frame, and its time. Signatures are verified while the node isn't
-/// locked.
+/// The result of the node for a frame, and its time by the wall clock. Signatures are verified while
+/// the node isn't locked.
 fn receive(shared: &Shared, frame: &[u8]) -> Result<(Received, Moment), OutOfMemory> {
-    let (questions, now) = {
-        let mut state = shared.lock();
-        let now = state.now();
-        (state.node.check(frame, now)?, now)
+    let (questions, wall) = {
+        let state = shared.lock();
+        let wall = state.wall();
+        (state.node.check(frame, wall)?, wall)
     };
     let judged = questions.judged_by(verify);
     match shared.lock().node.receive_judged(judged) {
-        Ok(received) => Ok((received, now)),
+        Ok(received) => Ok((received, wall)),
         // It can't be that another node checked the frame. If it were, the frame would be dropped.
         Err(_) => Err(OutOfMemory),
     }
@@ -78,7 +78,7 @@ fn send(shared: &Shared, outbox: &SyncSender<Vec<u8>>, reply: Option<Vec<u8>>) {
 
 /// The reply itself, or one with fewer infos if peers don't accept so many, or `None` if there is
 /// no memory.
-fn cut(shared: &Shared, now: Moment, frame: &[u8], reply: Vec<u8>) -> Option<Vec<u8>> {
+fn cut(shared: &Shared, wall: Moment, frame: &[u8], reply: Vec<u8>) -> Option<Vec<u8>> {
     let most = shared.settings.gossip_count();
     if count_of_infos(&reply) <= most as u64 {
         return Some(reply);
@@ -89,7 +89,7 @@ fn cut(shared: &Shared, now: Moment, frame: &[u8], reply: Vec<u8>) -> Option<Vec
     };
     let draw = shared.sodium.number();
     let state = shared.lock();
-    let reply = state.node.reply_at_most(&bits, now, most, draw);
+    let reply = state.node.reply_at_most(&bits, wall, most, draw);
     // The set may have gone since.
     reply.ok().flatten()
 }
@@ -106,16 +106,18 @@ fn count_of_infos(reply: &[u8]) -> u64 {
     count
 }
 
-/// Writes the infos of a frame that was accepted to the ledger.
-fn record(shared: &Shared, now: Moment, peer: Key, frame: &[u8]) {
-    if !shared.has_ledger() {
-        return;
-    }
+/// Tells the infos of a frame that was accepted to the dialer and the ledger.
+fn learn(shared: &Shared, peer: Key, frame: &[u8]) {
     let payload = Payload::decode(frame, &shared.settings.payload());
     let infos = match &payload {
         Ok(Payload::Greeting(info)) => slice::from_ref(info),
         Ok(Payload::Peers(infos)) => infos,
         _ => return,
+    };
+    let now = {
+        let mut state = shared.lock();
+        infos.iter().for_each(|info| state.turns.learn(info));
+        state.now()
     };
     for info in infos {
         shared.record(now, &Entry::Info(&peer, info));

@@ -1,5 +1,7 @@
 //! What the threads of a node share: one lock around the directory and the list of open streams.
 
+use super::clock::Clock;
+use super::turns::Turns;
 use super::warn;
 use crate::broken::Rule;
 use crate::counts::{Counts, Event};
@@ -16,7 +18,7 @@ use std::sync::atomic::{AtomicBool, Ordering};
 use std::sync::mpsc::SyncSender;
 use std::sync::{Arc, Mutex, MutexGuard, PoisonError};
 use std::thread;
-use std::time::{Duration, SystemTime};
+use std::time::Duration;
 
 /// The stack of each thread, in bytes. Calls of the directory need 32 KiB of it.
 const STACK: usize = 256 << 10;
@@ -53,7 +55,9 @@ pub struct Shared {
 pub struct State {
     /// The node.
     pub node: Node,
-    latest: Moment,
+    /// Whose turn it is to be dialled.
+    pub turns: Turns,
+    clock: Clock,
     // How far ahead of time grants are asked for, by the rule that grants early.
     ahead: Duration,
     open: HashMap<u64, Open>,
@@ -76,11 +80,12 @@ impl Open {
 }
 
 impl State {
-    /// The state of a node that starts.
-    pub fn new(node: Node) -> State {
+    /// The state of a node with this key that starts.
+    pub fn new(node: Node, own: Key, clock: Clock) -> State {
         State {
             node,
-            latest: Moment::EPOCH,
+            turns: Turns::new(own),
+            clock,
             ahead: Duration::ZERO,
             open: HashMap::new(),
             next: 0,
@@ -88,11 +93,14 @@ impl State {
         }
     }
 
-    /// The present time. It never goes backwards: if the system's clock does, it stays the same.
-    pub fn now(&mut self) -> Moment {
-        let system = Moment::try_from(SystemTime::now()).unwrap_or(Moment::EPOCH);
-        self.latest = self.latest.max(system);
-        self.latest
+    /// The present time for cooldowns, blocks and dials. It never goes backwards.
+    pub fn now(&self) -> Moment {
+        self.clock.now()
+    }
+
+    /// The present time for frames and infos, which is that of the wall clock.
+    pub fn wall(&self) -> Moment {
+        self.clock.wall()
     }
 
     /// The time at which it is asked who may be granted a connection.
@@ -165,6 +173,8 @@ pub struct Parts {
     pub ledger: Option<Ledger>,
     /// Whether the node has to end.
     pub stop: &'static AtomicBool,
+    /// The clock.
+    pub clock: Clock,
 }
 
 impl Shared {
@@ -174,6 +184,7 @@ impl Shared {
             true => usize::MAX,
             false => most,
         };
+        let own = parts.identity.public_key();
         Shared {
             connections: Slots::new(limit(parts.settings.max_connections)),
             handshakes: Slots::new(limit(parts.settings.max_handshakes)),
@@ -189,7 +200,7 @@ impl Shared {
             threads: Slots::new(usize::MAX),
             ledger: parts.ledger,
             has_lost_lines: AtomicBool::new(false),
-            state: Mutex::new(State::new(node)),
+            state: Mutex::new(State::new(node, own, parts.clock)),
             wakes,
             kept: Mutex::new(Vec::new()),
         }
@@ -228,11 +239,6 @@ impl Shared {
             Some(count) => Duration::from_nanos(self.sodium.number() % count),
             None => Duration::from_nanos(self.sodium.number()),
         }
-    }
-
-    /// Whether there is a ledger.
-    pub fn has_ledger(&self) -> bool {
-        self.ledger.is_some()
     }
 
     /// Writes an event to the ledger, if there is one. What can't be written is counted, and said

@@ -27,8 +27,8 @@ pub fn run(shared: &Arc<Shared>, address: &Ingress) {
 /// The status of the node at present.
 fn line(shared: &Shared, address: &Ingress) -> String {
     let line = {
-        let mut state = shared.lock();
-        gauges(shared, &mut state, address)
+        let state = shared.lock();
+        gauges(shared, &state, address)
     };
     let line = line
         .number("handshakes", shared.handshakes.taken() as u64)
@@ -37,7 +37,7 @@ fn line(shared: &Shared, address: &Ingress) -> String {
     shared.counts.write(line).end()
 }
 
-fn gauges(shared: &Shared, state: &mut State, address: &Ingress) -> Object {
+fn gauges(shared: &Shared, state: &State, address: &Ingress) -> Object {
     let now = state.now();
     let connected = state.connected().count();
     let directory = state.node.directory();
