@@ -7,18 +7,20 @@
 #[path = "../examples/tracker/host/mod.rs"]
 mod host;
 
-use host::shared::draw;
+use host::shared::random;
+use host::turns::Turns;
 use host::wire::{DATA, FrameLimits, handshake_as_dialer, read_frame, write_frame};
 use host::{Event, Host, Settings};
-use p2p_directory::testing::{NAMESPACE, key, sign};
+use p2p_directory::testing::{NAMESPACE, info_at, key, sign};
 use p2p_directory::{
-    BitVec, Data, Info, Ingress, Key, MAX_PAYLOAD_OVERHEAD, OrderedSet, Payload, Signature, Status,
-    TrackedPeers, max_gossip_size,
+    BitVec, Data, Info, Ingress, Key, MAX_PAYLOAD_OVERHEAD, Moment, OrderedSet, Payload, Signature,
+    Status, TrackedPeers, max_gossip_size,
 };
 use std::collections::BTreeSet;
 use std::io::{self, Read, Write};
 use std::net::{Ipv4Addr, SocketAddr, TcpStream};
 use std::num::NonZeroUsize;
+use std::sync::atomic::{AtomicU64, Ordering};
 use std::sync::mpsc::{Receiver, RecvTimeoutError, sync_channel};
 use std::thread;
 use std::time::{Duration, Instant, SystemTime, UNIX_EPOCH};
@@ -239,9 +241,13 @@ fn read(stream: &mut TcpStream) -> io::Result<Vec<u8>> {
 
 /// The info of a peer that nobody can dial, signed by the key of a number.
 fn greeting_of(number: u16) -> Info {
+    greeting_at(number, 0)
+}
+
+fn greeting_at(number: u16, timestamp: u64) -> Info {
     let own = key(number);
     let nowhere = Ingress::from(SocketAddr::from((Ipv4Addr::LOCALHOST, 1)));
-    Info::sign(own, NAMESPACE, nowhere, 0, |namespace, message| {
+    Info::sign(own, NAMESPACE, nowhere, timestamp, |namespace, message| {
         sign(&own, namespace, message)
     })
 }
@@ -376,12 +382,11 @@ fn who_asks_too_often_is_not_answered() {
 
 #[test]
 fn draws_are_all_those_of_their_range() {
-    let drawn: BTreeSet<_> = (0..1000).map(|_| draw(Duration::from_nanos(5))).collect();
+    let mut cfg = settings(1).cfg;
+    cfg.peer_connection_cooldown = Duration::from_nanos(5);
+    let drawn: BTreeSet<_> = (0..1000).map(|_| cfg.draw(random())).collect();
     let range: BTreeSet<_> = (0..=4).map(Duration::from_nanos).collect();
     assert_eq!(drawn, range);
-    assert_eq!(draw(Duration::from_nanos(1)), Duration::ZERO);
-    // The longest cooldown has draws, too, without a panic.
-    let _ = draw(Duration::MAX);
 }
 
 /// How many bytes the host sends to a dialer that claims the key of a number and proves nothing.
@@ -416,5 +421,126 @@ fn only_peers_of_a_set_are_connected_and_each_once() {
     assert_eq!(running.status(2), None);
     assert!(connect(&running, 2).is_err(), "its set is gone");
     assert!(connect(&running, 3).is_ok(), "it is in a set");
+    running.end(&deadline);
+}
+
+#[test]
+fn a_peer_rests_where_nobody_answered() {
+    let deadline = Deadline::new();
+    let running = Running::with_set(hasty(1, None), &[1, 2]);
+    let stream = connect(&running, 2).expect("it is in a set");
+    greet(&stream, 2);
+    deadline.until("its address is known", || running.address_of(2).is_some());
+    let begin = Instant::now();
+    drop(stream);
+    for _ in 0..3 {
+        running.wait(&deadline, "a dial in vain", |event| {
+            matches!(event, Event::DialFailed(peer, _) if *peer == key(2)).then_some(())
+        });
+    }
+    // There are two rests between them.
+    let passed = begin.elapsed();
+    assert!(passed >= 8 * SOON, "{passed:?}");
+    running.end(&deadline);
+}
+
+#[test]
+fn forty_that_do_not_answer_leave_one_behind_them_its_turn() {
+    let peers: Vec<Key> = (1..=41).map(key).collect();
+    let nowhere = SocketAddr::from((Ipv4Addr::LOCALHOST, 1));
+    let mut turns = Turns::new(key(20));
+    let mut dialled = Vec::new();
+    for _ in 0..3 {
+        // All may be dialled again at once.
+        let mut peers = peers.clone();
+        turns.order(&mut peers);
+        for peer in peers.into_iter().take(16) {
+            turns.dial(peer, nowhere);
+            turns.end(&peer);
+            dialled.push(peer);
+        }
+    }
+    let round = [&peers[20..], &peers[..20]].concat();
+    assert_eq!(dialled[..41], round);
+}
+
+#[test]
+fn another_address_ends_a_rest_and_the_same_one_does_not() {
+    let may_dial = |turns: &Turns| {
+        let mut peers = vec![key(2)];
+        turns.order(&mut peers);
+        !peers.is_empty()
+    };
+    let address = SocketAddr::from(([1, 2, 3, 4], 5));
+    let at = Moment::from_secs(8);
+    let mut turns = Turns::new(key(1));
+    turns.dial(key(2), address);
+    turns.rest(&key(2), at);
+    turns.learn(&info_at(2, 7, 5));
+    turns.learn(&info_at(3, 7, 6));
+    turns.expire(Moment::from_secs(7));
+    assert!(!may_dial(&turns));
+    assert_eq!(turns.next_end(), Some(at));
+    turns.learn(&info_at(2, 7, 6));
+    assert!(may_dial(&turns));
+    turns.dial(key(2), address);
+    turns.rest(&key(2), at);
+    turns.expire(at);
+    assert!(may_dial(&turns));
+}
+
+#[test]
+fn a_wall_clock_that_was_an_hour_ahead_shuts_nobody_out() {
+    static AHEAD: AtomicU64 = AtomicU64::new(0);
+    let deadline = Deadline::new();
+    let mut settings = hasty(1, None);
+    settings.wall = || SystemTime::now() + Duration::from_secs(AHEAD.load(Ordering::Relaxed));
+    let running = Running::with_set(settings, &[1, 2]);
+    for ahead in [0, LATE.as_secs(), 0] {
+        AHEAD.store(ahead, Ordering::Relaxed);
+        deadline.until("it comes again", || connect(&running, 2).is_ok());
+    }
+    running.end(&deadline);
+}
+
+#[test]
+fn infos_go_by_the_wall_clock() {
+    static AHEAD: AtomicU64 = AtomicU64::new(0);
+    let deadline = Deadline::new();
+    let mut settings = settings(1);
+    settings.wall = || SystemTime::now() + Duration::from_secs(AHEAD.load(Ordering::Relaxed));
+    let running = Running::with_set(settings, &[1, 2, 3]);
+    let in_an_hour = u64::try_from(millis() + LATE.as_millis()).expect("it fits");
+    let greet = |number: u16| {
+        let stream = connect(&running, number).expect("it is in a set");
+        let greeting = Payload::Greeting(greeting_at(number, in_an_hour)).encode();
+        write_frame(&stream, &[&greeting]).expect("the host reads");
+        stream
+    };
+    assert!(is_closed(greet(2)), "its info is of the future");
+    AHEAD.store(LATE.as_secs(), Ordering::Relaxed);
+    let _stream = greet(3);
+    deadline.until("its info is known", || running.address_of(3).is_some());
+    assert!(running.blocked().is_empty());
+    running.end(&deadline);
+}
+
+#[test]
+fn a_frame_that_comes_byte_by_byte_comes_too_late() {
+    let deadline = Deadline::new();
+    let mut settings = settings(1);
+    settings.silence = Duration::from_secs(1);
+    let running = Running::with_set(settings, &[1, 2]);
+    let mut stream = connect(&running, 2).expect("it is in a set");
+    greet(&stream, 2);
+    deadline.until("its address is known", || running.address_of(2).is_some());
+    let length = 1u32 << 20;
+    let front = [&length.to_be_bytes()[..], &[DATA]].concat();
+    stream.write_all(&front).expect("the host reads");
+    // The peer isn't silent, but all of its bytes would take more than an hour.
+    deadline.until("the stream is closed", || stream.write_all(&[0]).is_err());
+    running.wait(&deadline, "its connection ends", |event| {
+        matches!(event, Event::Ended(peer, _) if *peer == key(2)).then_some(())
+    });
     running.end(&deadline);
 }

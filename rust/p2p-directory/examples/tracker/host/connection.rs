@@ -2,9 +2,9 @@
 
 use super::Event;
 use super::shared::{Listed, Outgoing, Shared, random};
-use super::wire::{DATA, GREETING, read_frame, write_frame};
+use super::wire::{DATA, GREETING, Until, read_frame, write_frame};
 use p2p_directory::testing::verify;
-use p2p_directory::{Data, EncodedData, Error, Key, OutOfMemory, Received, Reservation};
+use p2p_directory::{Data, EncodedData, Error, Key, OutOfMemory, Payload, Received, Reservation};
 use std::convert::Infallible;
 use std::fmt;
 use std::io::{self, BufReader, ErrorKind};
@@ -193,8 +193,8 @@ fn read(
     peer: Key,
     outbox: &SyncSender<Outgoing>,
 ) -> Result<Infallible, End> {
-    stream.set_read_timeout(Some(shared.settings.silence))?;
-    let mut reader = BufReader::new(stream);
+    let silence = shared.settings.silence;
+    let mut reader = BufReader::new(Until::new(stream, silence));
     let greeting = read_frame(&mut reader, shared.limits)?;
     let greets = greeting.first() == Some(&GREETING);
     if !greets || take(shared, peer, outbox, &greeting)? != Some(peer) {
@@ -202,6 +202,8 @@ fn read(
     }
     let mut allowance = Allowance::new();
     loop {
+        // A frame has to arrive whole before the peer counts as silent.
+        reader.get_mut().renew(silence);
         let frame = read_frame(&mut reader, shared.limits)?;
         match frame.first() {
             Some(&GREETING) => return Err(End::Broken("a second greeting".to_owned())),
@@ -231,10 +233,10 @@ fn take(
         }
         // An address that can be dialled may be new.
         Received::Greeted(greeter) => {
-            shared.wake();
+            learn(shared, frame);
             return Ok(Some(greeter));
         }
-        Received::Applied(_) => shared.wake(),
+        Received::Applied(_) => learn(shared, frame),
         // A peer that doesn't read its replies misses them: it asks again.
         Received::Reply(reply) => {
             let _ = outbox.try_send(Outgoing::Frame(reply));
@@ -247,12 +249,24 @@ fn take(
     Ok(None)
 }
 
+/// Ends the rests of peers of which the infos of this frame have another address.
+fn learn(shared: &Shared, frame: &[u8]) {
+    let infos = match Payload::decode(frame, &shared.settings.payload) {
+        Ok(Payload::Greeting(info)) => vec![info],
+        Ok(Payload::Peers(infos)) => infos,
+        _ => return,
+    };
+    let mut state = shared.lock();
+    infos.iter().for_each(|info| state.turns.learn(info));
+    drop(state);
+    shared.wake();
+}
+
 /// The result of the node for a frame. Signatures are verified while it isn't locked.
 fn receive(shared: &Shared, frame: &[u8]) -> Result<Received, End> {
     let questions = {
-        let mut state = shared.lock();
-        let now = state.now();
-        state.node.check(frame, now)?
+        let state = shared.lock();
+        state.node.check(frame, state.wall())?
     };
     let judged = questions.judged_by(verify);
     let received = shared.lock().node.receive_judged(judged);

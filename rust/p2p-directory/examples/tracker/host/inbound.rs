@@ -1,7 +1,7 @@
 //! Inbound connections.
 
 use super::connection;
-use super::shared::{Listed, Shared, draw};
+use super::shared::{Listed, Shared};
 use super::wire::handshake_as_listener;
 use super::{Event, Failure};
 use p2p_directory::Key;
@@ -40,17 +40,16 @@ pub fn run(shared: &Arc<Shared>, listener: &TcpListener) {
 fn accept(shared: &Arc<Shared>, listed: Listed) -> Result<(), Failure> {
     let (own, time) = (&shared.settings.own, shared.settings.handshake);
     let is_acceptable = |peer: &Key| {
-        let mut state = shared.lock();
-        let now = state.now();
-        state.node.directory().acceptable(peer, now)
+        let state = shared.lock();
+        state.node.directory().acceptable(peer, state.now())
     };
     let peer = handshake_as_listener(&listed.stream, own, time, is_acceptable)?;
     // During the handshake the peer may have been dialled, blocked or accepted on another connection.
     let granted = {
         let mut state = shared.lock();
         let now = state.now();
-        let draw = draw(shared.settings.cfg.peer_connection_cooldown);
-        state.node.directory_mut().listen(&peer, now, draw)?
+        let directory = state.node.directory_mut();
+        directory.listen(&peer, now, shared.draw())?
     };
     let reservation = granted.ok_or("the peer may not connect now")?;
     connection::run(shared, listed, reservation);

@@ -1,11 +1,14 @@
 //! A host of a node over TCP: it dials, listens, greets, asks, replies, blocks and ends.
 
+mod clock;
 mod connection;
 mod inbound;
 mod rounds;
 pub mod shared;
+pub mod turns;
 pub mod wire;
 
+use clock::Clock;
 use p2p_directory::testing::{NAMESPACE, sign};
 use p2p_directory::{
     Config, Data, Directory, Info, Ingress, Key, Moment, Node, PayloadConfig, Setup, TrackError,
@@ -48,6 +51,8 @@ pub struct Settings {
     pub silence: Duration,
     /// The maximum number of inbound handshakes at a time.
     pub handshakes: usize,
+    /// The wall clock.
+    pub wall: fn() -> SystemTime,
 }
 
 impl Settings {
@@ -76,6 +81,7 @@ impl Settings {
             handshake: Duration::from_secs(5),
             silence: Duration::from_secs(120),
             handshakes: 64,
+            wall: SystemTime::now,
         }
     }
 
@@ -154,10 +160,11 @@ impl Host {
         let listener = TcpListener::bind(settings.listen_at)?;
         let address = listener.local_addr()?;
         let limits = FrameLimits::new(&settings.payload).ok_or("limits too large")?;
-        let node = Node::new(&settings.setup(address, Moment::try_from(SystemTime::now())?)?)?;
+        let clock = Clock::new(settings.wall);
+        let node = Node::new(&settings.setup(address, clock.wall())?)?;
         let (alive, ended) = channel();
         let (wakes, woken) = sync_channel(1);
-        let state = State::new(node, alive);
+        let state = State::new(node, settings.own, clock, alive);
         let shared = Arc::new(Shared::new(settings, limits, state, events, wakes));
         shared.spawn(move |shared| rounds::run(shared, &woken))?;
         let host = Host {
@@ -203,7 +210,7 @@ impl Host {
     /// Calls the closure with the directory and the time, and returns its result. The node is
     /// locked meanwhile, so it should be short.
     pub fn ask<T>(&self, question: impl FnOnce(&Directory, Moment) -> T) -> T {
-        let mut state = self.shared.lock();
+        let state = self.shared.lock();
         let now = state.now();
         question(state.node.directory(), now)
     }

@@ -1,5 +1,7 @@
 //! What the threads of a host share: one lock around the node and the list of its streams.
 
+use super::clock::Clock;
+use super::turns::Turns;
 use super::wire::FrameLimits;
 use super::{Event, Settings};
 use p2p_directory::{Key, Moment, Node};
@@ -10,20 +12,12 @@ use std::net::{Shutdown, TcpStream};
 use std::sync::mpsc::{Sender, SyncSender};
 use std::sync::{Arc, Mutex, MutexGuard, PoisonError};
 use std::thread;
-use std::time::{Duration, SystemTime};
+use std::time::Duration;
 
 /// Bits that a peer can't predict, from the hash seeds of the standard library, which has no random
 /// generator to call. Keys and challenges of a real scheme need a cryptographic generator.
 pub fn random() -> u64 {
     RandomState::new().hash_one(0)
-}
-
-/// A draw for `dial` and `listen`: how much later than reservable a peer is dialable again. There
-/// is a new one for each grant.
-pub fn draw(cooldown: Duration) -> Duration {
-    let end = (2 * (cooldown / 2)).as_nanos();
-    let end = u64::try_from(end).unwrap_or(u64::MAX);
-    Duration::from_nanos(random() % end.saturating_add(1))
 }
 
 /// What is queued for a peer.
@@ -50,7 +44,9 @@ pub struct Shared {
 pub struct State {
     /// The node.
     pub node: Node,
-    latest: Moment,
+    /// Whose turn it is to be dialled.
+    pub turns: Turns,
+    clock: Clock,
     open: HashMap<u64, Open>,
     // Each thread has a clone. After this one is dropped, the channel ends with the last thread.
     alive: Option<Sender<()>>,
@@ -64,21 +60,26 @@ struct Open {
 }
 
 impl State {
-    /// The state of a host that starts. All its threads have ended when `alive` has no clone left.
-    pub fn new(node: Node, alive: Sender<()>) -> State {
+    /// The state of a host with this key that starts. All its threads have ended when `alive` has no
+    /// clone left.
+    pub fn new(node: Node, own: Key, clock: Clock, alive: Sender<()>) -> State {
         State {
             node,
-            latest: Moment::EPOCH,
+            turns: Turns::new(own),
+            clock,
             open: HashMap::new(),
             alive: Some(alive),
         }
     }
 
-    /// The present time. It never goes backwards: if the system's clock does, it stays the same.
-    pub fn now(&mut self) -> Moment {
-        let system = Moment::try_from(SystemTime::now()).unwrap_or(Moment::EPOCH);
-        self.latest = self.latest.max(system);
-        self.latest
+    /// The present time for cooldowns, blocks and dials. It never goes backwards.
+    pub fn now(&self) -> Moment {
+        self.clock.now()
+    }
+
+    /// The present time for frames and infos, which is that of the wall clock.
+    pub fn wall(&self) -> Moment {
+        self.clock.wall()
     }
 
     /// Whether threads have to end.
@@ -136,6 +137,12 @@ impl Shared {
             events,
             wakes,
         }
+    }
+
+    /// A draw for `dial` and `listen`: how much later than reservable a peer is dialable again. There
+    /// is a new one for each grant.
+    pub fn draw(&self) -> Duration {
+        self.settings.cfg.draw(random())
     }
 
     /// Locks the node. A thread that panicked while it held the lock left the state consistent.

@@ -120,15 +120,21 @@ pub fn handshake_as_listener(
 }
 
 /// A reader of a stream with a deadline, however few bytes arrive at once.
-struct Until<'s> {
+pub struct Until<'s> {
     stream: &'s TcpStream,
     end: Instant,
 }
 
 impl Until<'_> {
-    fn new(stream: &TcpStream, time: Duration) -> Until<'_> {
+    /// What arrives of a stream within this time.
+    pub fn new(stream: &TcpStream, time: Duration) -> Until<'_> {
         let end = Instant::now() + time;
         Until { stream, end }
+    }
+
+    /// Sets the deadline anew.
+    pub fn renew(&mut self, time: Duration) {
+        self.end = Instant::now() + time;
     }
 }
 
