@@ -25,12 +25,12 @@ pub struct PeerSet {
 }
 
 impl PeerSet {
-    /// Reads the text of a file, with at most so many primary peers.
+    /// Reads the text of a file.
     ///
     /// # Errors
     ///
     /// Names the line that is refused, and why.
-    pub fn parse(text: &str, largest: usize) -> Result<PeerSet, String> {
+    pub fn parse(text: &str) -> Result<PeerSet, String> {
         let mut index = None;
         let (mut primary, mut secondary) = (Vec::new(), Vec::new());
         for (number, line) in (1..).zip(text.lines()) {
@@ -53,12 +53,6 @@ impl PeerSet {
         }
         let index = index.ok_or("no line with the index")?;
         let primary = OrderedSet::from_iter_dedup(primary);
-        if primary.len() > largest {
-            let count = primary.len();
-            return Err(format!(
-                "{count} primary peers, and --largest-set is {largest}"
-            ));
-        }
         let others = secondary.into_iter();
         let others = others.filter(|key| primary.position(key).is_none());
         let secondary = OrderedSet::from_iter_dedup(others);
@@ -93,7 +87,6 @@ impl Stamp {
 #[derive(Debug)]
 pub struct SetFiles {
     path: PathBuf,
-    largest: usize,
     seen: BTreeMap<PathBuf, Stamp>,
     // What was said last of the path itself, so that it is said once.
     said: Option<String>,
@@ -109,13 +102,11 @@ pub struct Loaded {
 }
 
 impl SetFiles {
-    /// The file or folder at a path, of which nothing was read. Sets have at most so many primary
-    /// peers.
+    /// The file or folder at a path, of which nothing was read.
     #[must_use]
-    pub fn new(path: PathBuf, largest: usize) -> SetFiles {
+    pub fn new(path: PathBuf) -> SetFiles {
         SetFiles {
             path,
-            largest,
             seen: BTreeMap::new(),
             said: None,
         }
@@ -136,7 +127,7 @@ impl SetFiles {
         for (path, stamp) in files {
             if self.seen.get(&path) != Some(&stamp) {
                 self.seen.insert(path.clone(), stamp);
-                let set = self.read(&path);
+                let set = SetFiles::read(&path);
                 loaded.push(Loaded { path, set });
             }
         }
@@ -185,12 +176,12 @@ impl SetFiles {
         Ok(files)
     }
 
-    fn read(&self, path: &Path) -> Result<PeerSet, String> {
+    fn read(path: &Path) -> Result<PeerSet, String> {
         let mut text = String::new();
         let file = File::open(path).map_err(|error| error.to_string())?;
         let read = file.take(LONGEST_FILE).read_to_string(&mut text);
         read.map_err(|error| error.to_string())?;
-        PeerSet::parse(&text, self.largest)
+        PeerSet::parse(&text)
     }
 }
 
@@ -199,17 +190,13 @@ mod tests {
     use super::*;
     use p2p_directory::testing::key;
 
-    fn parse(text: &str) -> Result<PeerSet, String> {
-        PeerSet::parse(text, 2)
-    }
-
     #[test]
     fn reads_the_peers_of_both_roles() {
         let (one, two, three) = (key(1), key(2), key(3));
         let text = format!(
             "# a set\nindex 7\n\nprimary {two}\nprimary {one}\nsecondary {three}\nsecondary {two}\n"
         );
-        let set = parse(&text).unwrap();
+        let set = PeerSet::parse(&text).unwrap();
         assert_eq!(set.index, 7);
         assert_eq!(set.peers.primary.to_vec(), [one, two]);
         assert_eq!(set.peers.secondary.to_vec(), [three]);
@@ -228,16 +215,8 @@ mod tests {
             ),
             (format!("index 1\n\npeer {one}"), "line 3: neither index"),
             ("index".to_owned(), "line 1: not of the form"),
-            (
-                format!(
-                    "index 1\nprimary {one}\nprimary {}\nprimary {}",
-                    key(2),
-                    key(3)
-                ),
-                "3 primary peers, and --largest-set is 2",
-            ),
         ] {
-            let error = parse(&text).unwrap_err();
+            let error = PeerSet::parse(&text).unwrap_err();
             assert!(error.starts_with(why), "{text}: {error}");
         }
     }
@@ -246,7 +225,7 @@ mod tests {
     fn a_file_is_read_when_it_changes_and_refused_once() {
         let folder = std::env::temp_dir().join(format!("p2p-node-sets-{}", std::process::id()));
         fs::create_dir_all(&folder).unwrap();
-        let mut files = SetFiles::new(folder.clone(), 2);
+        let mut files = SetFiles::new(folder.clone());
         assert!(files.load().is_empty());
         let place = |name: &str, text: &str| {
             let hidden = folder.join(".new");

@@ -134,6 +134,18 @@ fn an_index_keeps_its_peers() {
 }
 
 #[test]
+fn a_set_above_the_limits_of_the_node_is_refused() {
+    let folder = Folder::new();
+    folder.set(0, &[1, 2, 3, 4]);
+    let node = Running::start(&folder, 1, &format!("{QUICK} --largest-set 3"));
+    node.until_count("set_refusals", 1);
+    node.until_count("retained", 0);
+    folder.set(0, &[1, 2, 3]);
+    node.until_count("retained", 1);
+    node.until_count("set_refusals", 1);
+}
+
+#[test]
 fn a_folder_has_many_sets() {
     let folder = Folder::new();
     let sets = folder.path("sets");

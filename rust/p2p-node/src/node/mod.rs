@@ -66,7 +66,7 @@ pub fn run(settings: Settings) -> Result<(), String> {
         None => Node::new(&setup),
     };
     let node = node.map_err(|error| format!("settings: {error}"))?;
-    let mut files = SetFiles::new(settings.sets.clone(), settings.largest_set);
+    let mut files = SetFiles::new(settings.sets.clone());
     let stop = stop_on_signals().map_err(|error| format!("signals: {error}"))?;
     let parts = Parts {
         frame_limit: settings.frame_limit().ok_or("settings: frames too long")?,

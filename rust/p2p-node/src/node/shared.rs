@@ -233,12 +233,7 @@ impl Shared {
 
     /// A draw for `dial` and `listen`, uniform over the range that they document.
     pub fn draw(&self) -> Duration {
-        let end = (2 * (self.settings.cooldown / 2)).as_nanos();
-        let end = u64::try_from(end).unwrap_or(u64::MAX);
-        match end.checked_add(1) {
-            Some(count) => Duration::from_nanos(self.sodium.number() % count),
-            None => Duration::from_nanos(self.sodium.number()),
-        }
+        self.settings.directory().draw(self.sodium.number())
     }
 
     /// Writes an event to the ledger, if there is one. What can't be written is counted, and said

@@ -7,7 +7,7 @@ use super::{dialer, own_info, received, setup, woken_round};
 use crate::identity::Identity;
 use crate::settings::Settings;
 use crate::sodium::Sodium;
-use p2p_directory::{Info, Ingress, Key, Moment, Node, OrderedSet, Payload};
+use p2p_directory::{Info, Ingress, Key, Moment, Node, OrderedSet, Payload, Tracked};
 use std::net::SocketAddr;
 use std::sync::atomic::{AtomicBool, AtomicU64, Ordering};
 use std::sync::mpsc::sync_channel;
@@ -55,7 +55,8 @@ fn shared(wall: fn() -> SystemTime) -> Shared {
     let myself = own_info(&settings, &identity, Ingress::from(address(1))).unwrap();
     let mut node = Node::new(&setup(&settings, myself)).unwrap();
     let peers = OrderedSet::from_iter_dedup([1, 2, 3].map(key));
-    node.directory_mut().track(0, &peers.into()).unwrap();
+    let tracked = node.track(0, &peers.into());
+    assert_eq!(tracked, Ok(Tracked::Accepted(OrderedSet::default())));
     let parts = Parts {
         frame_limit: settings.frame_limit().unwrap(),
         settings,

@@ -6,7 +6,7 @@ use crate::broken::Rule;
 use crate::counts::Event;
 use crate::ledger::Entry;
 use crate::sets::{Loaded, PeerSet, SetFiles};
-use p2p_directory::{OutOfMemory, Tracked};
+use p2p_directory::{OutOfMemory, TrackError, Tracked};
 
 /// Why a set was not registered.
 enum Refused {
@@ -19,6 +19,15 @@ enum Refused {
 impl From<OutOfMemory> for Refused {
     fn from(_: OutOfMemory) -> Refused {
         Refused::OutOfMemory
+    }
+}
+
+impl From<TrackError> for Refused {
+    fn from(error: TrackError) -> Refused {
+        match error {
+            TrackError::OutOfMemory => Refused::OutOfMemory,
+            error => Refused::Wrong(format!("{error}: see --largest-set")),
+        }
     }
 }
 
@@ -57,7 +66,7 @@ fn register(shared: &Shared, set: &PeerSet) -> Result<(), Refused> {
         }
         None => {}
     }
-    let Tracked::Accepted(to_disconnect) = state.node.directory_mut().track(*index, peers)? else {
+    let Tracked::Accepted(to_disconnect) = state.node.track(*index, peers)? else {
         let latest = state.node.directory().latest_set_index().unwrap_or(0);
         let why = format!("the index {index} isn't above the latest one, {latest}");
         return Err(Refused::Wrong(why));

@@ -6,7 +6,7 @@ use super::network::{Network, Running};
 use p2p_directory::{Ingress, Metadata, Reservation};
 use std::time::Duration;
 
-/// How many dials a node may begin in a tick, as in the guide.
+/// How many dials a node may begin in a tick. A host of the guide may begin so many in each round.
 const DIALS: usize = 16;
 
 /// How long a dial takes that doesn't arrive: the time of a handshake, as in the guide.
@@ -92,7 +92,8 @@ impl Network {
         held.map_or(0, |held| self.parameters.connections.saturating_sub(held))
     }
 
-    // The jitter of a grant, as the directory documents it.
+    // The jitter of a grant, over the range of `Config::draw`. The generator's own rule for a bound
+    // gives other numbers than that one, and they are those of the stored runs.
     fn draw(&mut self) -> Duration {
         let end = (2 * (self.parameters.cooldown / 2)).as_nanos() as u64;
         Duration::from_nanos(self.random.below(end.saturating_add(1)))

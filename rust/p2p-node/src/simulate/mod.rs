@@ -1,8 +1,10 @@
 //! A simulation of networks on virtual time: how gossip behaves where no test network reaches.
 //!
-//! Each simulated node is a [`Node`](p2p_directory::Node) of the crate. It dials, listens, greets,
-//! asks and replies as the host of the guide does. The network between them delivers frames after a
-//! latency, or loses them. Nothing depends on a clock, so the same parameters give the same bytes.
+//! Each simulated node is a [`Node`](p2p_directory::Node) of the crate, in a host of its own kind: it
+//! dials once in each tick, peers that are drawn at random, and may end connections after some time.
+//! `p2p-node run` dials as soon as it may, in the order of keys, and ends none: it comes to know
+//! less. The network between them delivers frames after a latency, or loses them. Nothing depends on
+//! a clock, so the same parameters give the same bytes.
 
 mod behaviour;
 mod chart;
