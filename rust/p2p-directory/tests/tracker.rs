@@ -544,3 +544,28 @@ fn a_frame_that_comes_byte_by_byte_comes_too_late() {
     });
     running.end(&deadline);
 }
+
+#[test]
+fn a_peer_that_reads_too_slowly_is_disconnected() {
+    let deadline = Deadline::new();
+    let mut settings = settings(1);
+    settings.silence = Duration::from_secs(1);
+    let most = settings.payload.max_data_length;
+    let running = Running::with_set(settings, &[1, 2]);
+    let mut stream = connect(&running, 2).expect("it is in a set");
+    greet(&stream, 2);
+    deadline.until("its address is known", || running.address_of(2).is_some());
+    while running.host.send(&key(2), 0, vec![7; most]) {}
+    // It is neither silent nor does it stop reading, but a frame takes four seconds.
+    let mut some = vec![0; most / 40];
+    deadline.until("the stream is closed", || {
+        thread::sleep(Duration::from_millis(100));
+        let sent = write_frame(&stream, &[&[DATA, 0, 0]]);
+        sent.is_err() || stream.read_exact(&mut some).is_err()
+    });
+    running.wait(&deadline, "its connection ends", |event| {
+        matches!(event, Event::Ended(peer, _) if *peer == key(2)).then_some(())
+    });
+    assert!(running.blocked().is_empty());
+    running.end(&deadline);
+}

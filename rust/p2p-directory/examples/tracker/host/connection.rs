@@ -115,7 +115,8 @@ fn connect(
         listed.connect(&mut state, peer, outbox.clone());
         state.node.greeting().to_vec()
     };
-    write_frame(&listed.stream, &[&greeting])?;
+    let timed = Until::new(&listed.stream, shared.settings.silence);
+    write_frame(timed, &[&greeting])?;
     shared.tell(Event::Connected(peer));
     let stream = listed.stream.try_clone()?;
     shared.spawn(move |shared| {
@@ -128,19 +129,21 @@ fn connect(
 
 /// Writes the queued frames, and asks at regular intervals, until no sender is left.
 fn write(shared: &Shared, stream: &TcpStream, outgoing: &Receiver<Outgoing>) -> io::Result<()> {
+    // A frame has to be read whole before the peer counts as silent.
+    let timed = || Until::new(stream, shared.settings.silence);
     let mut ask_at = Instant::now();
     loop {
         if Instant::now() >= ask_at {
-            ask(shared, stream)?;
+            ask(shared, timed())?;
             ask_at = Instant::now() + shared.settings.gossip;
         }
         let wait = ask_at.saturating_duration_since(Instant::now());
         match outgoing.recv_timeout(wait) {
-            Ok(Outgoing::Frame(frame)) => write_frame(stream, &[&frame])?,
+            Ok(Outgoing::Frame(frame)) => write_frame(timed(), &[&frame])?,
             Ok(Outgoing::Message(channel, message)) => {
                 let size = u32::try_from(message.len()).map_err(|_| ErrorKind::InvalidInput)?;
                 let header = EncodedData::new(channel, size);
-                write_frame(stream, &[header.as_bytes(), &message])?;
+                write_frame(timed(), &[header.as_bytes(), &message])?;
             }
             Err(RecvTimeoutError::Timeout) => {}
             Err(RecvTimeoutError::Disconnected) => return Ok(()),
@@ -149,7 +152,7 @@ fn write(shared: &Shared, stream: &TcpStream, outgoing: &Receiver<Outgoing>) -> 
 }
 
 /// Asks for the wanted infos of a random set.
-fn ask(shared: &Shared, stream: &TcpStream) -> io::Result<()> {
+fn ask(shared: &Shared, stream: Until<'_>) -> io::Result<()> {
     let question = {
         let state = shared.lock();
         let place = random() as usize % state.node.directory().retained().max(1);

@@ -40,7 +40,7 @@ impl FrameLimits {
 }
 
 /// Writes the length of a frame in four bytes, and then its parts, one after the other.
-pub fn write_frame(stream: &TcpStream, parts: &[&[u8]]) -> io::Result<()> {
+pub fn write_frame(stream: impl Write, parts: &[&[u8]]) -> io::Result<()> {
     let length: usize = parts.iter().map(|part| part.len()).sum();
     let length = u32::try_from(length).map_err(|_| ErrorKind::InvalidInput)?;
     let mut out = BufWriter::new(stream);
@@ -119,14 +119,14 @@ pub fn handshake_as_listener(
     Ok(key)
 }
 
-/// A reader of a stream with a deadline, however few bytes arrive at once.
+/// A stream with a deadline, however few bytes are read or written at once.
 pub struct Until<'s> {
     stream: &'s TcpStream,
     end: Instant,
 }
 
 impl Until<'_> {
-    /// What arrives of a stream within this time.
+    /// A stream that is read or written within this time.
     pub fn new(stream: &TcpStream, time: Duration) -> Until<'_> {
         let end = Instant::now() + time;
         Until { stream, end }
@@ -136,16 +136,30 @@ impl Until<'_> {
     pub fn renew(&mut self, time: Duration) {
         self.end = Instant::now() + time;
     }
+
+    fn left(&self) -> io::Result<Duration> {
+        match self.end.saturating_duration_since(Instant::now()) {
+            Duration::ZERO => Err(ErrorKind::TimedOut.into()),
+            left => Ok(left),
+        }
+    }
 }
 
 impl Read for Until<'_> {
     fn read(&mut self, bytes: &mut [u8]) -> io::Result<usize> {
-        let left = self.end.saturating_duration_since(Instant::now());
-        if left.is_zero() {
-            return Err(ErrorKind::TimedOut.into());
-        }
-        self.stream.set_read_timeout(Some(left))?;
+        self.stream.set_read_timeout(Some(self.left()?))?;
         self.stream.read(bytes)
+    }
+}
+
+impl Write for Until<'_> {
+    fn write(&mut self, bytes: &[u8]) -> io::Result<usize> {
+        self.stream.set_write_timeout(Some(self.left()?))?;
+        self.stream.write(bytes)
+    }
+
+    fn flush(&mut self) -> io::Result<()> {
+        self.stream.flush()
     }
 }
 
