@@ -172,12 +172,11 @@ pub fn answered(shared: &Shared, peer: &Key, address: SocketAddr, is_answered: b
     let bootstrapper = (*peer, Ingress::Socket(address));
     let mut state = shared.lock();
     if is_answered || shared.settings.bootstrappers.contains(&bootstrapper) {
-        state.turns.end(peer);
-    } else {
-        let rest = shared.settings.cooldown.saturating_mul(REST_OF_PEER);
-        let until = state.now().saturating_add(rest);
-        state.turns.rest(peer, until);
+        return state.turns.end(peer);
     }
+    let rest = shared.settings.cooldown.saturating_mul(REST_OF_PEER);
+    let until = state.now().saturating_add(rest);
+    state.turns.rest(peer, until);
 }
 
 /// Makes sure that the peer is at the other end of a stream.

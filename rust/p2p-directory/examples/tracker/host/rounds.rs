@@ -116,10 +116,9 @@ fn answered(shared: &Shared, peer: &Key, address: SocketAddr, is_answered: bool)
     let bootstrapper = (*peer, Ingress::Socket(address));
     let mut state = shared.lock();
     if is_answered || shared.settings.bootstrappers.contains(&bootstrapper) {
-        state.turns.end(peer);
-    } else {
-        let cooldown = shared.settings.cfg.peer_connection_cooldown;
-        let until = state.now().saturating_add(cooldown.saturating_mul(REST));
-        state.turns.rest(peer, until);
+        return state.turns.end(peer);
     }
+    let cooldown = shared.settings.cfg.peer_connection_cooldown;
+    let until = state.now().saturating_add(cooldown.saturating_mul(REST));
+    state.turns.rest(peer, until);
 }

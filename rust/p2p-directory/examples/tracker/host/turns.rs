@@ -8,16 +8,8 @@ use std::net::SocketAddr;
 #[derive(Debug)]
 pub struct Turns {
     last: Key,
-    // Each peer that is dialled or rests.
-    dialled: HashMap<Key, Dialled>,
-}
-
-/// A peer that is dialled, until it answers. If nobody does, the peer rests.
-#[derive(Debug)]
-struct Dialled {
-    address: SocketAddr,
-    // `None` while it is dialled.
-    rests_until: Option<Moment>,
+    // The address of each peer that is dialled or rests, and until when it rests.
+    dialled: HashMap<Key, (SocketAddr, Option<Moment>)>,
 }
 
 impl Turns {
@@ -40,14 +32,7 @@ impl Turns {
     pub fn dial(&mut self, peer: Key, address: SocketAddr) {
         self.last = peer;
         if self.dialled.try_reserve(1).is_ok() {
-            let rests_until = None;
-            self.dialled.insert(
-                peer,
-                Dialled {
-                    address,
-                    rests_until,
-                },
-            );
+            self.dialled.insert(peer, (address, None));
         }
     }
 
@@ -59,34 +44,30 @@ impl Turns {
     /// Nobody answered at the address of the peer, which rests until this time, unless another
     /// address of it has been learnt meanwhile.
     pub fn rest(&mut self, peer: &Key, until: Moment) {
-        if let Some(dialled) = self.dialled.get_mut(peer) {
-            dialled.rests_until = Some(until);
+        if let Some((_, rests_until)) = self.dialled.get_mut(peer) {
+            *rests_until = Some(until);
         }
     }
 
     /// An info was accepted. If it has another address, its peer doesn't rest.
     pub fn learn(&mut self, info: &Info) {
-        let Info {
-            public_key,
-            ingress,
-            ..
-        } = info;
-        let dialled = self.dialled.get(public_key);
-        if dialled.is_some_and(|dialled| *ingress != Ingress::Socket(dialled.address)) {
-            self.end(public_key);
+        if let Some((address, _)) = self.dialled.get(&info.public_key)
+            && info.ingress != Ingress::Socket(*address)
+        {
+            self.end(&info.public_key);
         }
     }
 
     /// Ends the rests that are over.
     pub fn expire(&mut self, now: Moment) {
         self.dialled
-            .retain(|_, dialled| dialled.rests_until.is_none_or(|end| end > now));
+            .retain(|_, (_, rests_until)| rests_until.is_none_or(|end| end > now));
     }
 
     /// When the next rest ends.
     pub fn next_end(&self) -> Option<Moment> {
         let ends = self.dialled.values();
-        ends.filter_map(|dialled| dialled.rests_until).min()
+        ends.filter_map(|(_, rests_until)| *rests_until).min()
     }
 }
 
