@@ -40,7 +40,7 @@ Required:
 Addresses:
   --listen HOST:PORT          where it listens               [127.0.0.1:0]
   --address HOST:PORT         where peers reach it     [what it listens at]
-  --bootstrapper KEY@HOST:PORT  a peer whose address is known; may be repeated
+  --bootstrapper KEY@IP:PORT  a peer whose address is known; may be repeated
   --allow-private-ips BOOL    whether to dial private addresses      [false]
 
 Times, in seconds:
@@ -360,14 +360,16 @@ fn positive(text: &str) -> Result<Duration, String> {
     }
 }
 
-/// A key and an address, as `KEY@HOST:PORT`.
+/// A key and an address, as `KEY@IP:PORT`.
 fn bootstrapper(text: &str) -> Result<(Key, Ingress), String> {
-    let (key, ingress) = text
-        .split_once('@')
-        .ok_or("not of the form KEY@HOST:PORT")?;
+    let (key, ingress) = text.split_once('@').ok_or("not of the form KEY@IP:PORT")?;
     let key = parsed(key).map_err(|why| format!("the key: {why}"))?;
-    let ingress = parsed(ingress).map_err(|why| format!("the address: {why}"))?;
-    Ok((key, ingress))
+    match parsed(ingress).map_err(|why| format!("the address: {why}"))? {
+        Ingress::Dns { .. } => Err(format!(
+            "{ingress} is a name, and names aren't dialled: it takes KEY@IP:PORT"
+        )),
+        ingress @ Ingress::Socket(_) => Ok((key, ingress)),
+    }
 }
 
 #[cfg(test)]
@@ -435,7 +437,7 @@ mod tests {
             ("--tick soon", "--tick soon: invalid float"),
             ("--max-sets 0", "--max-sets 0: number would be zero"),
             ("--listen here", "--listen here: invalid socket address"),
-            ("--bootstrapper 12", "not of the form KEY@HOST:PORT"),
+            ("--bootstrapper 12", "not of the form KEY@IP:PORT"),
             (
                 "--bootstrapper 12@1.2.3.4:5",
                 "the key: invalid number of digits",
@@ -461,6 +463,19 @@ mod tests {
             let error = parse(&format!("{REQUIRED} {words}")).unwrap_err();
             assert!(error.contains(why), "{words}: {error}");
         }
+    }
+
+    #[test]
+    fn a_bootstrapper_has_no_name() {
+        let key = Key([7; 32]);
+        let of = |address: &str| parse(&format!("{REQUIRED} --bootstrapper {key}@{address}"));
+        for address in ["1.2.3.4:5", "[2001:db8::1]:5"] {
+            let settings = of(address).unwrap().unwrap();
+            assert_eq!(settings.bootstrappers.len(), 1);
+        }
+        let error = of("localhost:5").unwrap_err();
+        let why = "localhost:5 is a name, and names aren't dialled: it takes KEY@IP:PORT";
+        assert!(error.contains(why), "{error}");
     }
 
     #[test]
